@@ -1,0 +1,10 @@
+pub mod Seen
+pub mod Walk
+pub mod Letters
+pub mod Scopes
+pub mod Looks
+pub mod Passing
+pub mod WireForms
+pub mod Ends
+pub mod Looking
+pub mod ReadBack

@@ -1,0 +1,9 @@
+use Rattle.std.proofs.Common.{◌+◌, ◌≤◌, length}
+use Rattle.nbt_name.specs.Reading.{LettersAt}
+use Rattle.nbt_name.proofs.reader.expect_letters.Given as goal
+
+abbrev pub invariant-loop-k : goal.invariant-loop-k
+invariant-loop-k l = record {
+  fits : l.place + l.k ≤ length l.octets;
+  letters : LettersAt l.octets l.place l.k;
+}

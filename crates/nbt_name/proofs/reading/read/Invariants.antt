@@ -1,0 +1,14 @@
+use Rattle.std.proofs.Common.{◌≤◌, length}
+use Rattle.nbt_name.specs.Reading.{Path, start}
+use Rattle.nbt_name.specs.Reader.{spot_of}
+use Rattle.nbt_name.proofs.Ends.{work}
+use Rattle.nbt_name.proofs.reading.read.Given as goal
+
+abbrev pub invariant-steps : goal.invariant-steps
+invariant-steps l = record {
+  path : Path l.form l.octets (start l.place) (spot_of l.reader);
+  within : l.reader.place ≤ length l.octets;
+}
+
+abbrev pub decreases-steps : goal.decreases-steps
+decreases-steps l = work l.octets (spot_of l.reader)

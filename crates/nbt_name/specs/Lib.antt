@@ -1,0 +1,5 @@
+pub mod Scope
+pub mod Wire
+pub mod Numbers
+pub mod Reading
+pub mod Reader

@@ -1,0 +1,21 @@
+//! NetBIOS names and their wire form (RFC 1001 section 14, RFC 1002 section 4.1).
+//!
+//! A name is sixteen octets and a scope. On the wire it is a label of 32 letters, the scope's labels and a closing
+//! zero: at most 255 octets. In a packet a name may end in a pointer to a smaller place. No call takes memory.
+#![tactic(auto)]
+
+mod addr;
+mod fault;
+mod form;
+pub mod laws;
+mod name;
+mod reader;
+mod reading;
+
+pub use addr::{Addr, Kind};
+pub use fault::{NameFault, NameFaultKind, NameRefusal};
+pub use name::Name;
+pub use reading::{read_in, read_plain};
+
+#[cfg(test)]
+mod tests;

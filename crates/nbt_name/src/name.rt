@@ -1,0 +1,172 @@
+//! A NetBIOS name: sixteen octets and a scope.
+
+ghost use Rattle.std.specs.Prelude.{◌≡◌, ◌≢◌, ◌+◌, ◌<◌, ◌≤◌, ◌↔◌, List, [], ◌∷◌, ◌++◌, length, slice_index, replicate, IsTrue, IsOk, IfOk, IsErrOf};
+ghost use Rattle.nbt_name.specs.Scope.{IsScope};
+ghost use Rattle.nbt_name.specs.Wire.{IsName, name_of, wire};
+
+use crate::fault::NameRefusal;
+use arrayvec::ArrayVec;
+use std::marker::Model;
+
+/// A NetBIOS name (RFC 1001 section 14): sixteen octets, the last of them mostly a service's number, and a scope of
+/// at most 221 octets. Two names are equal where their octets are, and their scopes' octets; the order is that of the
+/// sixteen octets, then of the scope's.
+#[derive(Debug, PartialEq, Eq, PartialOrd, Ord, Hash, Drop)]
+pub struct Name {
+    octets: [u8; 16],
+    scope: ArrayVec<u8, 221>,
+}
+
+impl Model for Name {
+    ghost use Rattle.nbt_name.specs.Wire.{NameValue, IsName};
+
+    ghost Value = { NameValue };
+
+    ghost view = { λ n. record { octets = n.octets; scope = n.scope.items } };
+
+    ghost invariant = { λ n. IsName (record { octets = n.octets; scope = n.scope.items }) };
+
+    ghost inverse = { λ v. record { octets = v.octets; scope = record { items = v.scope } } };
+}
+
+/// The length octet of the first label, which is 32 letters (RFC 1001 section 14.1).
+const LETTERS: u8 = 0x20;
+
+/// The most octets of a scope: with 34 for the sixteen octets and the closing zero, the wire form has 255.
+const SCOPE_MOST: usize = 221;
+
+/// The most octets of a label (RFC 1002 section 4.1).
+const LABEL_MOST: usize = 63;
+
+impl Name {
+    /// The first octet of the name that stands for all names, `*` (RFC 1002 section 4.2.17).
+    const STAR: u8 = 0x2A;
+
+    /// The name of sixteen octets and a scope, given as its labels, each behind its length octet, without the closing
+    /// zero. Refused in this order: `Star` (1) where the first octet is 0x2A; `ScopeLong` (2) where the scope has more
+    /// than 221 octets; `BadLabel` (3) where it is no row of labels of 1 to 63 octets. Our profile's order; RFC 1002
+    /// section 4.1.
+    pub fn new(octets: &[u8; 16], scope: &[u8]) -> Result<Name, NameRefusal>
+        ensures found { IsOk result ↔ ((slice_index octets.now 0 ≢ 0x2A) × (length scope.now ≤ 221) × IsScope scope.now) }
+        ensures name { IfOk result (λ name. name ≡ name_of octets.now scope.now) }
+
+        // Which refusal it is.
+        ensures star { IsErrOf result NameRefusal.Star ↔ (slice_index octets.now 0 ≡ 0x2A) }
+        ensures long { IsErrOf result NameRefusal.ScopeLong ↔ ((slice_index octets.now 0 ≢ 0x2A) × (221 < length scope.now)) }
+        ensures bad { IsErrOf result NameRefusal.BadLabel ↔ ((slice_index octets.now 0 ≢ 0x2A) × (length scope.now ≤ 221) × (¬ IsScope scope.now)) }
+    {
+        if octets[0] == Name::STAR {
+            return Err(NameRefusal::Star);
+        }
+        Name::with_scope(*octets, scope)
+    }
+
+    /// The name that stands for all names of a scope: 0x2A and fifteen zero octets (RFC 1002 section 4.2.17). Refused
+    /// as by `new`, with `ScopeLong` (2) and `BadLabel` (3).
+    pub fn any(scope: &[u8]) -> Result<Name, NameRefusal>
+        ensures found { IsOk result ↔ ((length scope.now ≤ 221) × IsScope scope.now) }
+        ensures name { IfOk result (λ name. name ≡ name_of (0x2A ∷ replicate 15 0) scope.now) }
+        ensures long { IsErrOf result NameRefusal.ScopeLong ↔ (221 < length scope.now) }
+        ensures bad { IsErrOf result NameRefusal.BadLabel ↔ ((length scope.now ≤ 221) × (¬ IsScope scope.now)) }
+    {
+        let mut octets = [0; 16];
+        octets[0] = Name::STAR;
+        Name::with_scope(octets, scope)
+    }
+
+    fn with_scope(octets: [u8; 16], scope: &[u8]) -> Result<Name, NameRefusal>
+        ensures found { IsOk result ↔ ((length scope.now ≤ 221) × IsScope scope.now) }
+        ensures name { IfOk result (λ name. name ≡ name_of octets scope.now) }
+        ensures long { IsErrOf result NameRefusal.ScopeLong ↔ (221 < length scope.now) }
+        ensures bad { IsErrOf result NameRefusal.BadLabel ↔ ((length scope.now ≤ 221) × (¬ IsScope scope.now)) }
+        ensures not_star { result ≢ Err NameRefusal.Star }
+    {
+        if scope.len() > SCOPE_MOST {
+            return Err(NameRefusal::ScopeLong);
+        }
+        if !is_scope(scope) {
+            return Err(NameRefusal::BadLabel);
+        }
+        Ok(Name::from_parts(octets, scope_of(scope)))
+    }
+
+    /// The name of sixteen octets and a scope, also one that begins with 0x2A.
+    pub(crate) fn from_parts(octets: [u8; 16], scope: ArrayVec<u8, 221>) -> Name
+        requires { IsName (name_of octets scope.items) }
+        ensures { result ≡ name_of octets scope.items }
+    {
+        Name { octets, scope }
+    }
+
+    /// The sixteen octets.
+    pub fn octets(&self) -> &[u8; 16]
+        ensures value { result.now ≡ self.now.octets }
+        ensures name { IsName self.now }
+    {
+        &self.octets
+    }
+
+    /// The scope: its labels, each behind its length octet, without the closing zero; at most 221 octets.
+    pub fn scope(&self) -> &[u8]
+        ensures value { result.now ≡ self.now.scope }
+        ensures name { IsName self.now }
+    {
+        self.scope.as_slice()
+    }
+
+    /// Whether the first octet is `*` (0x2A).
+    pub fn is_star(&self) -> bool
+        ensures { IsTrue result ↔ (slice_index self.now.octets 0 ≡ 0x2A) }
+    {
+        self.octets[0] == Name::STAR
+    }
+
+    /// An equal name.
+    pub fn copy(&self) -> Name
+        ensures { result ≡ self.now }
+    {
+        Name {
+            octets: self.octets,
+            scope: scope_of(self.scope.as_slice()),
+        }
+    }
+
+    /// Leaves in `out` the wire form and nothing else: 34 to 255 octets (RFC 1001 section 14, RFC 1002 section 4.1).
+    pub fn to_wire(&self, out: &mut ArrayVec<u8, 255>)
+        ensures form { out.new.items ≡ wire self.now }
+        ensures name { IsName self.now }
+    {
+        out.clear();
+        out.push(LETTERS);
+        for octet in &self.octets {
+            out.push(b'A' + *octet / 16);
+            out.push(b'A' + *octet % 16);
+        }
+        out.try_extend_from_slice(self.scope.as_slice()).unwrap();
+        out.push(0);
+    }
+}
+
+/// Whether these are labels of 1 to 63 octets, each behind its length octet (RFC 1002 section 4.1).
+fn is_scope(scope: &[u8]) -> bool
+    ensures { IsTrue result ↔ IsScope scope.now }
+{
+    let mut rest = scope;
+    while let Some((&count, labels)) = rest.split_first() {
+        let count = usize::from(count);
+        if count == 0 || count > LABEL_MOST || count > labels.len() {
+            return false;
+        }
+        rest = &labels[count..];
+    }
+    true
+}
+
+fn scope_of(scope: &[u8]) -> ArrayVec<u8, 221>
+    requires { length scope.now ≤ 221 }
+    ensures { result.items ≡ scope.now }
+{
+    let mut copy = ArrayVec::new();
+    copy.try_extend_from_slice(scope).unwrap();
+    copy
+}
