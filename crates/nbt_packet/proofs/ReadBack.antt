@@ -1,0 +1,162 @@
+-- The written form of each message that fits is a packet that spells it.
+use Rattle.std.proofs.Common.{◌≡◌, ℕ, ◌+◌, ◌*◌, ◌-◌, ◌/◌, ◌%◌, ◌<◌, ◌≤◌, ◌^◌, List, [], ◌∷◌, ◌++◌, length, replicate, Some, None, refl, sym, arith, inl}
+use Rattle.std.specs.Prelude.{slice_range}
+use Rattle.std.proofs.lemmas.List.{length-append, take_at}
+use Rattle.byteorder.specs.Numbers.{big_number-reads_back}
+use Rattle.nbt_name.specs.declared.addr.Kind.{Kind}
+use Rattle.nbt_name.specs.declared.addr.Kind.TheVariants.{Unique, Group}
+use Rattle.nbt_name.specs.Wire.{NameValue}
+use Rattle.nbt_packet.specs.declared.message.Registration.{Registration}
+use Rattle.nbt_packet.specs.Packet.{PacketValue, PacketIs}
+use Rattle.nbt_packet.specs.Message.{MessageValue, registration, overwrite, refresh, release, query, status_request, registered, released, found, not_found, status, wait, nb, nbstat, null, opcode_of, broadcast, rcode_of, recursion_available, IsResponse, IsEntry, Claims, Tells, TellsEntry, HoldsNumbers, Fits, MessageIs}
+use Rattle.nbt_packet.specs.Text.{entry, text}
+use Rattle.nbt_packet.proofs.Words.{NameLaws}
+use Rattle.nbt_packet.proofs.Shapes.{asked_packet, bare_packet, answer_packet, claim_packet, asking_is, bare_is, answering_is, claiming_is}
+
+-- ---- the parts of the table
+
+entry_is : (kind : Kind) (addr : ℕ) → addr < 2 ^ 32 → IsEntry (entry kind addr) kind addr
+entry_is Unique addr fits = record { six = refl; kind_is = refl; addr_is = sym (big_number-reads_back 4 addr [] fits) }
+entry_is Group addr fits = record { six = refl; kind_is = refl; addr_is = sym (big_number-reads_back 4 addr [] fits) }
+
+entry_short : (kind : Kind) (addr : ℕ) → length (entry kind addr) < 2 ^ 16
+entry_short Unique addr = omega arith
+entry_short Group addr = omega arith
+
+claims_it : (flags : ℕ) (r : Registration) → r.addr < 2 ^ 32 → Claims (claim_packet flags r) r
+claims_it flags r fits = record { rdata = entry r.kind r.addr; id = refl; question = refl; no_answer = refl; additional = refl; entry = entry_is r.kind r.addr fits }
+
+tells_it : (id flags : ℕ) (name : NameValue) (rtype ttl : ℕ) (rdata : List ℕ) → Tells (answer_packet id flags name rtype ttl rdata) name rtype ttl rdata
+tells_it id flags name rtype ttl rdata = record { answers = record { no_question = refl; answer_is = refl; no_additional = refl } }
+
+tells_entry : (id flags : ℕ) (name : NameValue) (ttl : ℕ) (kind : Kind) (addr : ℕ) → addr < 2 ^ 32 → TellsEntry (answer_packet id flags name nb ttl (entry kind addr)) name ttl kind addr
+tells_entry id flags name ttl kind addr fits = record { rdata = entry kind addr; tells = tells_it id flags name nb ttl (entry kind addr); entry = entry_is kind addr fits }
+
+-- ---- flags with an RCODE
+
+record FlagsAre (flags opcode rcode : ℕ) : Type 0 where
+  small : flags < 2 ^ 16
+  response : 0x8000 ≤ flags
+  opcode_is : opcode_of flags ≡ opcode
+  unicast : broadcast flags ≡ 0
+  rcode_is : rcode ≡ rcode_of flags
+
+registered_flags : (rcode : ℕ) → rcode ≤ 15 → FlagsAre (0xAD80 + rcode) 5 rcode
+registered_flags rcode most = record { small = omega arith; response = omega arith; opcode_is = omega arith; unicast = omega arith; rcode_is = omega arith }
+
+released_flags : (rcode : ℕ) → rcode ≤ 15 → FlagsAre (0xB400 + rcode) 6 rcode
+released_flags rcode most = record { small = omega arith; response = omega arith; opcode_is = omega arith; unicast = omega arith; rcode_is = omega arith }
+
+queried_flags : (rcode : ℕ) → rcode ≤ 15 → FlagsAre (0x8580 + rcode) 0 rcode
+queried_flags rcode most = record { small = omega arith; response = omega arith; opcode_is = omega arith; unicast = omega arith; rcode_is = omega arith }
+
+responds : (p : PacketValue) (opcode rcode : ℕ) → FlagsAre p.flags opcode rcode → IsResponse p opcode
+responds p opcode rcode f = record { response = f.response; opcode_is = f.opcode_is; unicast = f.unicast }
+
+no_challenge : (rcode : ℕ) → rcode ≤ 15 → recursion_available (0xAD80 + rcode) ≡ 1
+no_challenge rcode most = omega arith
+
+-- ---- the names of a node status
+
+names_of : List ℕ → List ℕ
+names_of names = length names / 18 ∷ names ++ replicate 46 0
+
+whole_names : (names : List ℕ) → length names % 18 ≡ 0 → 18 * (length names / 18) ≡ length names
+whole_names names whole = omega arith
+
+names_short : (names : List ℕ) → length names ≤ 4590 → length (names_of names) < 2 ^ 16
+unfolding names_of
+names_short names most = omega (arith, length-append names (replicate 46 0))
+
+names_within : (names : List ℕ) → length names % 18 ≡ 0 → 1 + 18 * (length names / 18) ≤ length (names_of names)
+unfolding names_of
+names_within names whole = omega (arith, whole_names names whole, length-append names (replicate 46 0))
+
+names_are : (names : List ℕ) → length names % 18 ≡ 0 → names ≡ slice_range (names_of names) 1 (1 + 18 * (length names / 18))
+unfolding names_of
+names_are names whole =
+    let count : (1 + 18 * (length names / 18)) - 1 ≡ length names = omega (arith, whole_names names whole) in
+    rw count (sym (take_at names (replicate 46 0) (length names) refl))
+
+-- ---- the table
+
+pub text_is_read : NameLaws → (m : MessageValue) (rest : List ℕ) → HoldsNumbers m → Fits m → (p : PacketValue) × PacketIs (text m ++ rest) p (length (text m)) × MessageIs p m
+unfolding names_of
+text_is_read names (registration r) rest (id, name, addr, ttl) fits = (
+  claim_packet 0x2900 r,
+  claiming_is names 0x2900 r rest id (omega arith) name ttl (entry_short r.kind r.addr),
+  (record { request = omega arith; opcode_is = refl; unicast = refl }, refl, claims_it 0x2900 r addr),
+)
+text_is_read names (overwrite r) rest (id, name, addr, ttl) fits = (
+  claim_packet 0x2800 r,
+  claiming_is names 0x2800 r rest id (omega arith) name ttl (entry_short r.kind r.addr),
+  (record { request = omega arith; opcode_is = refl; unicast = refl }, refl, claims_it 0x2800 r addr),
+)
+text_is_read names (refresh r) rest (id, name, addr, ttl) fits = (
+  claim_packet 0x4000 r,
+  claiming_is names 0x4000 r rest id (omega arith) name ttl (entry_short r.kind r.addr),
+  (inl (record { request = omega arith; opcode_is = refl; unicast = refl }), claims_it 0x4000 r addr),
+)
+text_is_read names (release id name kind addr) rest (id_fits, is_name, addr_fits) fits =
+    let r : Registration = record { id = id; name = name; kind = kind; addr = addr; ttl = 0 } in
+    (claim_packet 0x3000 r, claiming_is names 0x3000 r rest id_fits (omega arith) is_name (omega arith) (entry_short kind addr), (record { request = omega arith; opcode_is = refl; unicast = refl }, 0, claims_it 0x3000 r addr_fits))
+text_is_read names (query id name) rest (id_fits, is_name) fits = (
+  asked_packet id 0x0100 nb name,
+  asking_is names id 0x0100 nb name rest id_fits (omega arith) (omega arith) is_name,
+  (refl, record { request = omega arith; opcode_is = refl; unicast = refl }, record { question = refl; no_answer = refl; no_additional = refl }),
+)
+text_is_read names (status_request id name) rest (id_fits, is_name) fits = (
+  asked_packet id 0 nbstat name,
+  asking_is names id 0 nbstat name rest id_fits (omega arith) (omega arith) is_name,
+  (refl, omega arith, refl, record { question = refl; no_answer = refl; no_additional = refl }),
+)
+text_is_read names (registered rcode r) rest (id, name, addr, ttl) fits =
+    let flags = registered_flags rcode fits in
+    let p : PacketValue = answer_packet r.id (0xAD80 + rcode) r.name nb r.ttl (entry r.kind r.addr) in (
+      p,
+      answering_is names r.id (0xAD80 + rcode) r.name nb r.ttl (entry r.kind r.addr) rest id flags.small name (omega arith) ttl (entry_short r.kind r.addr),
+      (refl, inl (responds p 5 rcode flags), λ a b. no_challenge rcode fits, flags.rcode_is, tells_entry r.id (0xAD80 + rcode) r.name r.ttl r.kind r.addr addr),
+    )
+text_is_read names (released id rcode name kind addr) rest (id_fits, is_name, addr_fits) fits =
+    let flags = released_flags rcode fits in
+    let p : PacketValue = answer_packet id (0xB400 + rcode) name nb 0 (entry kind addr) in (
+      p,
+      answering_is names id (0xB400 + rcode) name nb 0 (entry kind addr) rest id_fits flags.small is_name (omega arith) (omega arith) (entry_short kind addr),
+      (refl, responds p 6 rcode flags, flags.rcode_is, 0, tells_entry id (0xB400 + rcode) name 0 kind addr addr_fits),
+    )
+text_is_read names (found id name ttl entries) rest (id_fits, is_name, ttl_fits, octets) (some, most, whole) = (
+  answer_packet id 0x8580 name nb ttl entries,
+  answering_is names id 0x8580 name nb ttl entries rest id_fits (omega arith) is_name (omega arith) ttl_fits (omega arith),
+  (refl, record { response = omega arith; opcode_is = refl; unicast = refl }, refl, tells_it id 0x8580 name nb ttl entries, some, whole),
+)
+text_is_read names (not_found id rcode None) rest id_fits (low, most) =
+    let flags = queried_flags rcode most in
+    let p : PacketValue = bare_packet id (0x8580 + rcode) in
+    (p, bare_is id (0x8580 + rcode) rest id_fits flags.small, (refl, responds p 0 rcode flags, flags.rcode_is, λ none. omega arith, record { no_question = refl; no_answer = refl; no_additional = refl }))
+text_is_read names (not_found id rcode (Some name)) rest (id_fits, is_name) (low, most) =
+    let flags = queried_flags rcode most in
+    let p : PacketValue = answer_packet id (0x8580 + rcode) name null 0 [] in (
+      p,
+      answering_is names id (0x8580 + rcode) name null 0 [] rest id_fits flags.small is_name (omega arith) (omega arith) (omega arith),
+      (refl, responds p 0 rcode flags, flags.rcode_is, λ none. omega arith, _, record { no_question = refl; answer_is = refl; no_additional = refl }, refl),
+    )
+text_is_read names (status id name entries) rest (id_fits, is_name, octets) (most, whole) = (
+  answer_packet id 0x8400 name nbstat 0 (names_of entries),
+  answering_is names id 0x8400 name nbstat 0 (names_of entries) rest id_fits (omega arith) is_name (omega arith) (omega arith) (names_short entries most),
+  (
+    refl,
+    record { response = omega arith; opcode_is = refl; unicast = refl },
+    refl,
+    0,
+    names_of entries,
+    tells_it id 0x8400 name nbstat 0 (names_of entries),
+    omega arith,
+    names_within entries whole,
+    names_are entries whole,
+  ),
+)
+text_is_read names (wait id name ttl) rest (id_fits, is_name, ttl_fits) fits = (
+  answer_packet id 0xBC00 name nb ttl (0x29 ∷ 0x00 ∷ []),
+  answering_is names id 0xBC00 name nb ttl (0x29 ∷ 0x00 ∷ []) rest id_fits (omega arith) is_name (omega arith) ttl_fits (omega arith),
+  (refl, record { response = omega arith; opcode_is = refl; unicast = refl }, _, record { no_question = refl; answer_is = refl; no_additional = refl }, refl, refl),
+)

@@ -1,0 +1,5 @@
+use Rattle.nbt_packet.proofs.Table.{one_line}
+use Rattle.nbt_packet.proofs.laws.one_message.Goals as goal
+
+pub returns : goal.returns
+returns c = one_line

@@ -1,0 +1,7 @@
+pub mod Numbers
+pub mod Fields
+pub mod Packet
+pub mod Decoding
+pub mod Message
+pub mod Text
+pub mod Lines

@@ -1,0 +1,46 @@
+-- The one written form of each message: RFC 1002 sections 4.2.2 to 4.2.18.
+use Rattle.std.specs.Prelude.{ℕ, ◌+◌, ◌/◌, List, [], ◌∷◌, ◌++◌, length, Some, None, replicate}
+use Rattle.nbt_name.specs.declared.addr.Kind.{Kind}
+use Rattle.nbt_name.specs.declared.addr.Kind.TheVariants.{Unique, Group}
+use Rattle.nbt_name.specs.Wire.{NameValue, wire}
+use Rattle.nbt_packet.specs.declared.message.Registration.{Registration}
+use Rattle.nbt_packet.specs.Fields.{word, long}
+use Rattle.nbt_packet.specs.Message.{MessageValue, registration, overwrite, refresh, release, query, status_request, registered, released, found, not_found, status, wait, nb, nbstat, null, internet}
+
+-- the six words
+abbrev pub header : (id flags questions answers additionals : ℕ) → List ℕ
+header id flags questions answers additionals = word id ++ word flags ++ word questions ++ word answers ++ word 0 ++ word additionals
+
+-- a type, the class IN, a TTL, and RDATA behind its length
+abbrev pub fields : (rtype ttl : ℕ) → List ℕ → List ℕ
+fields rtype ttl rdata = word rtype ++ word internet ++ long ttl ++ word (length rdata) ++ rdata
+
+-- an entry of a P node
+abbrev pub entry : Kind → ℕ → List ℕ
+entry Unique addr = 0x20 ∷ 0 ∷ long addr
+entry Group addr = 0xA0 ∷ 0 ∷ long addr
+
+abbrev pub asking : (id flags rtype : ℕ) → NameValue → List ℕ
+asking id flags rtype name = header id flags 1 0 0 ++ (wire name ++ word rtype ++ word internet)
+
+-- a question, and an additional record whose name is a pointer to the question's
+abbrev pub claiming : (flags : ℕ) → Registration → List ℕ
+claiming flags r = header r.id flags 1 0 1 ++ (wire r.name ++ word nb ++ word internet) ++ (0xC0 ∷ 0x0C ∷ fields nb r.ttl (entry r.kind r.addr))
+
+abbrev pub answering : (id flags : ℕ) → NameValue → (rtype ttl : ℕ) → List ℕ → List ℕ
+answering id flags name rtype ttl rdata = header id flags 0 1 0 ++ (wire name ++ fields rtype ttl rdata)
+
+abbrev pub text : MessageValue → List ℕ
+text (registration r) = claiming 0x2900 r
+text (overwrite r) = claiming 0x2800 r
+text (refresh r) = claiming 0x4000 r
+text (release id name kind addr) = claiming 0x3000 (record { id = id; name = name; kind = kind; addr = addr; ttl = 0 })
+text (query id name) = asking id 0x0100 nb name
+text (status_request id name) = asking id 0 nbstat name
+text (registered rcode r) = answering r.id (0xAD80 + rcode) r.name nb r.ttl (entry r.kind r.addr)
+text (released id rcode name kind addr) = answering id (0xB400 + rcode) name nb 0 (entry kind addr)
+text (found id name ttl entries) = answering id 0x8580 name nb ttl entries
+text (not_found id rcode None) = header id (0x8580 + rcode) 0 0 0
+text (not_found id rcode (Some name)) = answering id (0x8580 + rcode) name null 0 []
+text (status id name names) = answering id 0x8400 name nbstat 0 (length names / 18 ∷ names ++ replicate 46 0)
+text (wait id name ttl) = answering id 0xBC00 name nb ttl (0x29 ∷ 0x00 ∷ [])

@@ -1,0 +1,21 @@
+//! NetBIOS name service packets and the messages that they spell (RFC 1002 section 4.2). No call takes memory.
+#![tactic(auto)]
+
+mod classifying;
+mod decoding;
+mod fault;
+mod flags;
+pub mod laws;
+mod message;
+mod packet;
+mod writing;
+
+pub use classifying::classify;
+pub use decoding::decode;
+pub use fault::{Fault, FaultKind, Full};
+pub use message::{Message, Registration};
+pub use packet::{Packet, Question, Record};
+pub use writing::encode;
+
+#[cfg(test)]
+mod tests;

@@ -1,0 +1,354 @@
+//! Writing a message's one written form (RFC 1002 section 4.2).
+
+ghost use Rattle.std.specs.Prelude.{◌≡◌, ◌+◌, ◌<◌, ◌≤◌, ◌↔◌, [], ◌++◌, length, OnOk, OnErr, IsErr};
+ghost use Rattle.nbt_name.specs.Wire.{wire};
+ghost use Rattle.nbt_packet.specs.Fields.{word, long};
+ghost use Rattle.nbt_packet.specs.Message.{Fits, message_of, not_found, status, nb, internet};
+ghost use Rattle.nbt_packet.specs.Text as spec;
+ghost use Rattle.nbt_packet.specs.Text.{text, entry, asking, claiming, answering};
+
+use crate::fault::Full;
+use crate::message::{Message, Registration};
+use arrayvec::ArrayVec;
+use byteorder::{BigEndian, ByteOrder};
+use nbt_name::{Kind, Name};
+
+/// NAME REGISTRATION REQUEST: OPCODE 5, RD (RFC 1002 section 4.2.2).
+const REGISTRATION: u16 = 0x2900;
+/// NAME OVERWRITE REQUEST and DEMAND: OPCODE 5 (RFC 1002 section 4.2.3).
+const OVERWRITE: u16 = 0x2800;
+/// NAME REFRESH REQUEST: OPCODE 8 (RFC 1002 section 4.2.4).
+const REFRESH: u16 = 0x4000;
+/// NAME RELEASE REQUEST and DEMAND: OPCODE 6 (RFC 1002 section 4.2.9).
+const RELEASE: u16 = 0x3000;
+/// NAME QUERY REQUEST: OPCODE 0, RD (RFC 1002 section 4.2.12).
+const QUERY: u16 = 0x0100;
+/// NODE STATUS REQUEST: OPCODE 0 (RFC 1002 section 4.2.17).
+const STATUS_REQUEST: u16 = 0;
+/// NAME REGISTRATION RESPONSE, without its RCODE: OPCODE 5, AA, RD, RA (RFC 1002 sections 4.2.5 and 4.2.6).
+const REGISTERED: u16 = 0xAD80;
+/// NAME RELEASE RESPONSE, without its RCODE: OPCODE 6, AA (RFC 1002 sections 4.2.10 and 4.2.11).
+const RELEASED: u16 = 0xB400;
+/// NAME QUERY RESPONSE, without its RCODE: OPCODE 0, AA, RD, RA (RFC 1002 sections 4.2.13 and 4.2.14).
+const QUERIED: u16 = 0x8580;
+/// NODE STATUS RESPONSE: OPCODE 0, AA (RFC 1002 section 4.2.18).
+const STATUS: u16 = 0x8400;
+/// WAIT FOR ACKNOWLEDGEMENT RESPONSE: OPCODE 7, AA (RFC 1002 section 4.2.16).
+const WAIT: u16 = 0xBC00;
+
+/// Type NB (RFC 1002 section 4.2.1.3).
+const NB: u16 = 0x0020;
+/// Type NBSTAT (RFC 1002 section 4.2.1.3).
+const NBSTAT: u16 = 0x0021;
+/// Type NULL (RFC 1002 section 4.2.1.3).
+const NULL: u16 = 0x000A;
+/// Class IN (RFC 1002 section 4.2.1.3).
+const IN: u16 = 0x0001;
+
+/// A pointer to the question's name, which stands behind the header (RFC 1002 section 4.2.2).
+const QUESTION_NAME: u16 = 0xC00C;
+/// The first octet of NB_FLAGS of a P node: ONT 01 (RFC 1002 section 4.2.2).
+const P_NODE: u8 = 0x20;
+/// The same with G.
+const P_NODE_GROUP: u8 = 0xA0;
+/// RDATA of WAIT FOR ACKNOWLEDGEMENT RESPONSE: the flags of the request that waits (RFC 1002 section 4.2.16).
+const WAITS: [u8; 2] = [0x29, 0x00];
+
+/// How many octets an entry has.
+const ENTRY: u16 = 6;
+/// How many octets each name of a node status has.
+const NAME_ENTRY: usize = 18;
+/// How many octets the statistics of a node status have.
+const STATISTICS: usize = 46;
+
+/// Leaves in `out` the message's one written form and nothing else (RFC 1002 section 4.2). `Full` (7) exactly where
+/// that form is longer than 576 octets; `out` is then empty. That the message fits is the caller's: `Message::fits`
+/// tests it.
+pub fn encode(message: &Message<'_>, out: &mut ArrayVec<u8, 576>) -> Result<(), Full>
+    requires { Fits (message_of message.now) }
+    ensures ok { OnOk result (out.new.items ≡ text (message_of message.now)) }
+    ensures full { IsErr result ↔ (576 < length (text (message_of message.now))) }
+    ensures empty { OnErr result (out.new.items ≡ []) }
+{
+    out.clear();
+    match message {
+        Message::Registration(r) => put_claim(out, REGISTRATION, r),
+        Message::Overwrite(r) => put_claim(out, OVERWRITE, r),
+        Message::Refresh(r) => put_claim(out, REFRESH, r),
+        Message::Release {
+            id,
+            name,
+            kind,
+            addr,
+        } => put_release(out, *id, name, *kind, *addr),
+        Message::Query { id, name } => put_asking(out, *id, QUERY, name, NB),
+        Message::StatusRequest { id, name } => put_asking(out, *id, STATUS_REQUEST, name, NBSTAT),
+        Message::Registered(rcode, r) => return put_registered(out, *rcode, r),
+        Message::Released {
+            id,
+            rcode,
+            name,
+            kind,
+            addr,
+        } => return put_released(out, *id, *rcode, name, *kind, *addr),
+        Message::Found {
+            id,
+            name,
+            ttl,
+            entries,
+        } => return put_answer(out, *id, QUERIED, name, NB, *ttl, entries),
+        Message::NotFound { id, rcode, name } => return put_not_found(out, *id, *rcode, name),
+        Message::Status { id, name, names } => return put_status(out, *id, name, names),
+        Message::Wait { id, name, ttl } => return put_answer(
+            out, *id, WAIT, name, NB, *ttl, &WAITS,
+        ),
+    }
+    Ok(())
+}
+
+/// A request that is its question alone (RFC 1002 sections 4.2.12 and 4.2.17).
+fn put_asking(out: &mut ArrayVec<u8, 576>, id: u16, flags: u16, name: &Name, rtype: u16)
+    requires { out.old.items ≡ [] }
+    ensures form { out.new.items ≡ asking id flags rtype name.now }
+    ensures fits { length (asking id flags rtype name.now) ≤ 576 }
+{
+    put_header(out, id, flags, 1, 0, 0);
+    put_question(out, name, rtype);
+}
+
+/// A request with a question, and an additional record whose name is a pointer to the question's (RFC 1002 sections
+/// 4.2.2 to 4.2.4 and 4.2.9).
+fn put_claim(out: &mut ArrayVec<u8, 576>, flags: u16, r: &Registration)
+    requires { out.old.items ≡ [] }
+    ensures form { out.new.items ≡ claiming flags r.now }
+    ensures fits { length (claiming flags r.now) ≤ 576 }
+{
+    put_header(out, r.id, flags, 1, 0, 1);
+    put_question(out, &r.name, NB);
+    put_word(out, QUESTION_NAME);
+    put_fields(out, NB, r.ttl, ENTRY);
+    let rdata = entry_of(r.kind, r.addr);
+    out.try_extend_from_slice(&rdata).unwrap();
+}
+
+/// A release's claim, whose TTL is 0 (RFC 1002 section 4.2.9).
+fn put_release(out: &mut ArrayVec<u8, 576>, id: u16, name: &Name, kind: Kind, addr: u32)
+    requires { out.old.items ≡ [] }
+    ensures form { out.new.items ≡ claiming 0x3000 (record { id = id; name = name.now; kind = kind; addr = addr; ttl = 0 }) }
+    ensures fits { length (claiming 0x3000 (record { id = id; name = name.now; kind = kind; addr = addr; ttl = 0 })) ≤ 576 }
+{
+    let claim = Registration {
+        id,
+        name: name.copy(),
+        kind,
+        addr,
+        ttl: 0,
+    };
+    put_claim(out, RELEASE, &claim);
+}
+
+/// A registration's response, with its one entry (RFC 1002 sections 4.2.5 and 4.2.6).
+fn put_registered(out: &mut ArrayVec<u8, 576>, rcode: u8, r: &Registration) -> Result<(), Full>
+    requires empty { out.old.items ≡ [] }
+    requires rcode { rcode ≤ 15 }
+    ensures ok { OnOk result (out.new.items ≡ answering r.now.id (0xAD80 + rcode) r.now.name nb r.now.ttl (entry r.now.kind r.now.addr)) }
+    ensures full { IsErr result ↔ (576 < length (answering r.now.id (0xAD80 + rcode) r.now.name nb r.now.ttl (entry r.now.kind r.now.addr))) }
+    ensures empty { OnErr result (out.new.items ≡ []) }
+{
+    let flags = REGISTERED + u16::from(rcode);
+    let rdata = entry_of(r.kind, r.addr);
+    put_answer(out, r.id, flags, &r.name, NB, r.ttl, &rdata)
+}
+
+/// A release's response, with its one entry and a TTL of 0 (RFC 1002 sections 4.2.10 and 4.2.11).
+fn put_released(
+    out: &mut ArrayVec<u8, 576>,
+    id: u16,
+    rcode: u8,
+    name: &Name,
+    kind: Kind,
+    addr: u32,
+) -> Result<(), Full>
+    requires empty { out.old.items ≡ [] }
+    requires rcode { rcode ≤ 15 }
+    ensures ok { OnOk result (out.new.items ≡ answering id (0xB400 + rcode) name.now nb 0 (entry kind addr)) }
+    ensures full { IsErr result ↔ (576 < length (answering id (0xB400 + rcode) name.now nb 0 (entry kind addr))) }
+    ensures empty { OnErr result (out.new.items ≡ []) }
+{
+    let flags = RELEASED + u16::from(rcode);
+    let rdata = entry_of(kind, addr);
+    put_answer(out, id, flags, name, NB, 0, &rdata)
+}
+
+/// A negative name query response: with its record, which has no RDATA, or the header alone (RFC 1002 section 4.2.14).
+fn put_not_found(
+    out: &mut ArrayVec<u8, 576>,
+    id: u16,
+    rcode: u8,
+    name: &Option<Name>,
+) -> Result<(), Full>
+    requires empty { out.old.items ≡ [] }
+    requires rcode { rcode ≤ 15 }
+    ensures ok { OnOk result (out.new.items ≡ text (not_found id rcode name.now)) }
+    ensures full { IsErr result ↔ (576 < length (text (not_found id rcode name.now))) }
+    ensures empty { OnErr result (out.new.items ≡ []) }
+{
+    let flags = QUERIED + u16::from(rcode);
+    match name {
+        Some(name) => put_answer(out, id, flags, name, NULL, 0, &[]),
+        None => {
+            put_header(out, id, flags, 0, 0, 0);
+            Ok(())
+        }
+    }
+}
+
+/// A node status response: the count of its names, the names, and statistics that are all zero (RFC 1002 section
+/// 4.2.18).
+fn put_status(out: &mut ArrayVec<u8, 576>, id: u16, name: &Name, names: &[u8]) -> Result<(), Full>
+    requires empty { out.old.items ≡ [] }
+    requires most { length names.now ≤ 4590 }
+    ensures ok { OnOk result (out.new.items ≡ text (status id name.now names.now)) }
+    ensures full { IsErr result ↔ (576 < length (text (status id name.now names.now))) }
+    ensures empty { OnErr result (out.new.items ≡ []) }
+{
+    let rdlength = 1 + names.len() + STATISTICS;
+    put_answer_head(out, id, STATUS, name, NBSTAT, 0, rdlength as u16);
+    if out.remaining_capacity() < rdlength {
+        out.clear();
+        return Err(Full);
+    }
+    out.push((names.len() / NAME_ENTRY) as u8);
+    out.try_extend_from_slice(names).unwrap();
+    out.try_extend_from_slice(&[0; STATISTICS]).unwrap();
+    Ok(())
+}
+
+/// A response with one answer. `Full` where it is longer than 576 octets.
+fn put_answer(
+    out: &mut ArrayVec<u8, 576>,
+    id: u16,
+    flags: u16,
+    name: &Name,
+    rtype: u16,
+    ttl: u32,
+    rdata: &[u8],
+) -> Result<(), Full>
+    requires empty { out.old.items ≡ [] }
+    requires most { length rdata.now < 65536 }
+    ensures ok { OnOk result (out.new.items ≡ answering id flags name.now rtype ttl rdata.now) }
+    ensures full { IsErr result ↔ (576 < length (answering id flags name.now rtype ttl rdata.now)) }
+    ensures empty { OnErr result (out.new.items ≡ []) }
+{
+    put_answer_head(out, id, flags, name, rtype, ttl, rdata.len() as u16);
+    if out.remaining_capacity() < rdata.len() {
+        out.clear();
+        return Err(Full);
+    }
+    out.try_extend_from_slice(rdata).unwrap();
+    Ok(())
+}
+
+/// A response up to the RDATA of its one answer.
+fn put_answer_head(
+    out: &mut ArrayVec<u8, 576>,
+    id: u16,
+    flags: u16,
+    name: &Name,
+    rtype: u16,
+    ttl: u32,
+    rdlength: u16,
+)
+    requires { out.old.items ≡ [] }
+    ensures { out.new.items ≡ spec.header id flags 0 1 0 ++ (wire name.now ++ (word rtype ++ word internet ++ long ttl ++ word rdlength)) }
+{
+    put_header(out, id, flags, 0, 1, 0);
+    put_name(out, name);
+    put_fields(out, rtype, ttl, rdlength);
+}
+
+/// The six words of the header; NSCOUNT is 0 (RFC 1002 section 4.2.1.1).
+fn put_header(
+    out: &mut ArrayVec<u8, 576>,
+    id: u16,
+    flags: u16,
+    questions: u16,
+    answers: u16,
+    additionals: u16,
+)
+    requires { out.old.items ≡ [] }
+    ensures { out.new.items ≡ spec.header id flags questions answers additionals }
+{
+    put_word(out, id);
+    put_word(out, flags);
+    put_word(out, questions);
+    put_word(out, answers);
+    put_word(out, 0);
+    put_word(out, additionals);
+}
+
+/// A name, a type and the class IN (RFC 1002 section 4.2.1.2).
+fn put_question(out: &mut ArrayVec<u8, 576>, name: &Name, rtype: u16)
+    requires { length out.old.items ≤ 12 }
+    ensures form { out.new.items ≡ out.old.items ++ (wire name.now ++ word rtype ++ word internet) }
+    ensures fits { length (wire name.now) ≤ 255 }
+{
+    put_name(out, name);
+    put_word(out, rtype);
+    put_word(out, IN);
+}
+
+/// What stands between a record's name and its RDATA: type, the class IN, TTL and RDLENGTH (RFC 1002 section 4.2.1.3).
+fn put_fields(out: &mut ArrayVec<u8, 576>, rtype: u16, ttl: u32, rdlength: u16)
+    requires { length out.old.items ≤ 560 }
+    ensures { out.new.items ≡ out.old.items ++ (word rtype ++ word internet ++ long ttl ++ word rdlength) }
+{
+    put_word(out, rtype);
+    put_word(out, IN);
+    put_long(out, ttl);
+    put_word(out, rdlength);
+}
+
+/// An entry of a P node: NB_FLAGS and NB_ADDRESS (RFC 1002 section 4.2.2).
+fn entry_of(kind: Kind, addr: u32) -> [u8; 6]
+    ensures { result ≡ entry kind addr }
+{
+    let mut octets = [0; 6];
+    octets[0] = match kind {
+        Kind::Unique => P_NODE,
+        Kind::Group => P_NODE_GROUP,
+    };
+    BigEndian::write_u32(&mut octets[2..], addr);
+    octets
+}
+
+/// A name's wire form (RFC 1002 section 4.1).
+fn put_name(out: &mut ArrayVec<u8, 576>, name: &Name)
+    requires { length out.old.items ≤ 300 }
+    ensures form { out.new.items ≡ out.old.items ++ wire name.now }
+    ensures fits { length (wire name.now) ≤ 255 }
+{
+    let mut form = ArrayVec::new();
+    name.to_wire(&mut form);
+    out.try_extend_from_slice(form.as_slice()).unwrap();
+}
+
+/// Two octets, most significant octet first (RFC 1002 section 4.2.1).
+fn put_word(out: &mut ArrayVec<u8, 576>, x: u16)
+    requires { length out.old.items ≤ 574 }
+    ensures { out.new.items ≡ out.old.items ++ word x }
+{
+    let mut octets = [0; 2];
+    BigEndian::write_u16(&mut octets, x);
+    out.try_extend_from_slice(&octets).unwrap();
+}
+
+/// Four octets, most significant octet first (RFC 1002 section 4.2.1).
+fn put_long(out: &mut ArrayVec<u8, 576>, x: u32)
+    requires { length out.old.items ≤ 572 }
+    ensures { out.new.items ≡ out.old.items ++ long x }
+{
+    let mut octets = [0; 4];
+    BigEndian::write_u32(&mut octets, x);
+    out.try_extend_from_slice(&octets).unwrap();
+}
