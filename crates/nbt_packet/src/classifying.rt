@@ -107,16 +107,16 @@ fn is_claiming(packet: &Packet<'_>, question: &Question, additional: &Record<'_>
 }
 
 /// What a record of one entry says.
-fn claim_in(packet: &Packet<'_>, record: &Record<'_>) -> Registration
-    requires { length record.now.rdata.now ≡ 6 }
-    ensures { result ≡ claim_of (packet_of packet.now) (record_of record.now) }
+fn claim_in(packet: &Packet<'_>, resource: &Record<'_>) -> Registration
+    requires { length resource.now.rdata.now ≡ 6 }
+    ensures { result ≡ claim_of (packet_of packet.now) (record_of resource.now) }
 {
     Registration {
         id: packet.id,
-        name: record.name.copy(),
-        kind: kind_of(record.rdata),
-        addr: address_of(record.rdata),
-        ttl: record.ttl,
+        name: resource.name.copy(),
+        kind: kind_of(resource.rdata),
+        addr: address_of(resource.rdata),
+        ttl: resource.ttl,
     }
 }
 
@@ -295,11 +295,11 @@ fn released<'a>(packet: &Packet<'a>, answer: &Record<'_>) -> Option<Message<'a>>
 
 /// Whether a record is of type NB and class IN, with one entry.
 #[tactic(auto, unfolding(crate::specs::Lines::gives_entry))]
-fn has_entry(record: &Record<'_>) -> bool
-    ensures entry { result ≡ gives_entry (record_of record.now) }
-    ensures six { IsTrue result → length record.now.rdata.now ≡ 6 }
+fn has_entry(resource: &Record<'_>) -> bool
+    ensures entry { result ≡ gives_entry (record_of resource.now) }
+    ensures six { IsTrue result → length resource.now.rdata.now ≡ 6 }
 {
-    record.rtype == NB && record.class == INTERNET && record.rdata.len() == 6
+    resource.rtype == NB && resource.class == INTERNET && resource.rdata.len() == 6
 }
 
 /// The kind of an entry: G of its NB_FLAGS.

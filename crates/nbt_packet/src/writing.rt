@@ -288,12 +288,12 @@ fn put_header(
 }
 
 /// A name, a type and the class IN (RFC 1002 section 4.2.1.2).
-fn put_question(out: &mut ArrayVec<u8, 576>, name: &Name, rtype: u16)
+fn put_question(out: &mut ArrayVec<u8, 576>, asked: &Name, rtype: u16)
     requires { length out.old.items ≤ 12 }
-    ensures form { out.new.items ≡ out.old.items ++ (wire name.now ++ word rtype ++ word internet) }
-    ensures fits { length (wire name.now) ≤ 255 }
+    ensures form { out.new.items ≡ out.old.items ++ (wire asked.now ++ word rtype ++ word internet) }
+    ensures fits { length (wire asked.now) ≤ 255 }
 {
-    put_name(out, name);
+    put_name(out, asked);
     put_word(out, rtype);
     put_word(out, IN);
 }
