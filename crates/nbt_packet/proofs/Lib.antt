@@ -5,3 +5,4 @@ pub mod Written
 pub mod Words
 pub mod Shapes
 pub mod ReadBack
+pub mod Sizes

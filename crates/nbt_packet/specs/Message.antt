@@ -141,7 +141,7 @@ MessageIs p (wait id name ttl) = (p.id ≡ id) × IsResponse p 7 × (answer : Re
 
 -- ---- which messages have a written form
 
--- the numbers that a message holds are an id, an address and a TTL, and its octets are octets
+-- the numbers that a message holds are an id, an address and a TTL, its name is a name, and its octets are octets
 abbrev pub IsRegistration : Registration → Type 0
 IsRegistration r = (r.id < 2 ^ 16) × IsName r.name × (r.addr < 2 ^ 32) × (r.ttl < 2 ^ 32)
 
@@ -159,6 +159,22 @@ HoldsNumbers (not_found id rcode None) = id < 2 ^ 16
 HoldsNumbers (not_found id rcode (Some name)) = (id < 2 ^ 16) × IsName name
 HoldsNumbers (status id name names) = (id < 2 ^ 16) × IsName name × AreOctets names
 HoldsNumbers (wait id name ttl) = (id < 2 ^ 16) × IsName name × (ttl < 2 ^ 32)
+
+-- its name, where it has one, is a name
+abbrev pub IsNamed : MessageValue → Type 0
+IsNamed (registration r) = IsName r.name
+IsNamed (overwrite r) = IsName r.name
+IsNamed (refresh r) = IsName r.name
+IsNamed (release id name kind addr) = IsName name
+IsNamed (query id name) = IsName name
+IsNamed (status_request id name) = IsName name
+IsNamed (registered rcode r) = IsName r.name
+IsNamed (released id rcode name kind addr) = IsName name
+IsNamed (found id name ttl entries) = IsName name
+IsNamed (not_found id rcode None) = Unit {0}
+IsNamed (not_found id rcode (Some name)) = IsName name
+IsNamed (status id name names) = IsName name
+IsNamed (wait id name ttl) = IsName name
 
 -- an RCODE of four bits, one to 10,922 entries, and at most 255 names
 abbrev pub Fits : MessageValue → Type 0

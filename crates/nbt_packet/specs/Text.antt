@@ -44,3 +44,23 @@ text (not_found id rcode None) = header id (0x8580 + rcode) 0 0 0
 text (not_found id rcode (Some name)) = answering id (0x8580 + rcode) name null 0 []
 text (status id name names) = answering id 0x8400 name nbstat 0 (length names / 18 ∷ names ++ replicate 46 0)
 text (wait id name ttl) = answering id 0xBC00 name nb ttl (0x29 ∷ 0x00 ∷ [])
+
+-- ---- how long a written form is
+
+abbrev pub wire_size : NameValue → ℕ
+wire_size name = 34 + length name.scope
+
+abbrev pub size_of : MessageValue → ℕ
+size_of (registration r) = 34 + wire_size r.name
+size_of (overwrite r) = 34 + wire_size r.name
+size_of (refresh r) = 34 + wire_size r.name
+size_of (release id name kind addr) = 34 + wire_size name
+size_of (query id name) = 16 + wire_size name
+size_of (status_request id name) = 16 + wire_size name
+size_of (registered rcode r) = 28 + wire_size r.name
+size_of (released id rcode name kind addr) = 28 + wire_size name
+size_of (found id name ttl entries) = 22 + wire_size name + length entries
+size_of (not_found id rcode None) = 12
+size_of (not_found id rcode (Some name)) = 22 + wire_size name
+size_of (status id name names) = 69 + wire_size name + length names
+size_of (wait id name ttl) = 24 + wire_size name

@@ -2,8 +2,8 @@
 
 ghost use Rattle.std.specs.Prelude.{◌≡◌, ℕ, List, ◌++◌, length};
 ghost use Rattle.nbt_packet.specs.Packet.{PacketValue, PacketIs};
-ghost use Rattle.nbt_packet.specs.Message.{MessageValue, HoldsNumbers, Fits, MessageIs};
-ghost use Rattle.nbt_packet.specs.Text.{text};
+ghost use Rattle.nbt_packet.specs.Message.{MessageValue, HoldsNumbers, IsNamed, Fits, MessageIs};
+ghost use Rattle.nbt_packet.specs.Text.{text, size_of};
 
 /// The written form of each message that fits, followed by any octets, is read as that message, and takes its own
 /// length.
@@ -18,4 +18,9 @@ pub fn written_form_is_read()
 /// No packet meets two lines of the table of messages.
 pub fn one_message()
     ensures { (p : PacketValue) (m n : MessageValue) → MessageIs p m → MessageIs p n → m ≡ n }
+{}
+
+/// How long a written form is: so only `Found` and `Status` can be longer than the 576 octets of a datagram.
+pub fn written_length()
+    ensures { (m : MessageValue) → IsNamed m → length (text m) ≡ size_of m }
 {}

@@ -1,0 +1,59 @@
+-- How long written forms are.
+use Rattle.std.proofs.Common.{◌≡◌, ℕ, ◌+◌, ◌*◌, ◌/◌, List, [], ◌∷◌, ◌++◌, length, Option, Some, None, refl, sym, ap, ◌∙◌, arith}
+use Rattle.std.specs.Prelude.{replicate}
+use Rattle.std.specs.List.{flat_map}
+use Rattle.std.proofs.lemmas.List.{length-append, length-replicate}
+use Rattle.nbt_name.specs.declared.addr.Kind.{Kind}
+use Rattle.nbt_name.specs.declared.addr.Kind.TheVariants.{Unique, Group}
+use Rattle.nbt_name.specs.Wire.{NameValue, IsName, letters, wire}
+use Rattle.nbt_packet.specs.declared.message.Registration.{Registration}
+use Rattle.nbt_packet.specs.Fields.{word, long}
+use Rattle.nbt_packet.specs.Message.{MessageValue, IsNamed, registration, overwrite, refresh, release, query, status_request, registered, released, found, not_found, status, wait, nb, nbstat, null, internet}
+use Rattle.nbt_packet.specs.Text.{header, fields, entry, asking, claiming, answering, text, wire_size, size_of}
+
+length-letters : (os : List ℕ) → length (letters os) ≡ 2 * length os
+length-letters [] = refl
+length-letters (o ∷ os) = omega (arith, length-letters os)
+
+length-wire : (n : NameValue) → IsName n → length (wire n) ≡ wire_size n
+length-wire n is = omega (arith, length-append (letters n.octets ++ n.scope) (0 ∷ []), length-append (letters n.octets) n.scope, length-letters n.octets, is.sixteen)
+
+length-entry : (kind : Kind) (addr : ℕ) → length (entry kind addr) ≡ 6
+length-entry Unique addr = refl
+length-entry Group addr = refl
+
+length-asking : (id flags rtype : ℕ) (n : NameValue) → IsName n → length (asking id flags rtype n) ≡ 16 + wire_size n
+length-asking id flags rtype n is =
+    omega (arith, length-append (header id flags 1 0 0) (wire n ++ word rtype ++ word internet), length-append (wire n ++ word rtype) (word internet), length-append (wire n) (word rtype), length-wire n is)
+
+length-claiming : (flags : ℕ) (r : Registration) → IsName r.name → length (claiming flags r) ≡ 34 + wire_size r.name
+length-claiming flags r is =
+    omega (
+      arith,
+      length-append (header r.id flags 1 0 1 ++ (wire r.name ++ word nb ++ word internet)) (0xC0 ∷ 0x0C ∷ fields nb r.ttl (entry r.kind r.addr)),
+      length-append (header r.id flags 1 0 1) (wire r.name ++ word nb ++ word internet),
+      length-append (wire r.name ++ word nb) (word internet),
+      length-append (wire r.name) (word nb),
+      length-wire r.name is,
+      length-entry r.kind r.addr,
+    )
+
+length-answering : (id flags : ℕ) (n : NameValue) (rtype ttl : ℕ) (rdata : List ℕ) → IsName n → length (answering id flags n rtype ttl rdata) ≡ 22 + wire_size n + length rdata
+length-answering id flags n rtype ttl rdata is =
+    omega (arith, length-append (header id flags 0 1 0) (wire n ++ fields rtype ttl rdata), length-append (wire n) (fields rtype ttl rdata), length-wire n is)
+
+pub length-text : (m : MessageValue) → IsNamed m → length (text m) ≡ size_of m
+length-text (registration r) is = length-claiming 0x2900 r is
+length-text (overwrite r) is = length-claiming 0x2800 r is
+length-text (refresh r) is = length-claiming 0x4000 r is
+length-text (release id name kind addr) is = length-claiming 0x3000 (record { id = id; name = name; kind = kind; addr = addr; ttl = 0 }) is
+length-text (query id name) is = length-asking id 0x0100 nb name is
+length-text (status_request id name) is = length-asking id 0 nbstat name is
+length-text (registered rcode r) is = omega (arith, length-answering r.id (0xAD80 + rcode) r.name nb r.ttl (entry r.kind r.addr) is, length-entry r.kind r.addr)
+length-text (released id rcode name kind addr) is = omega (arith, length-answering id (0xB400 + rcode) name nb 0 (entry kind addr) is, length-entry kind addr)
+length-text (found id name ttl entries) is = length-answering id 0x8580 name nb ttl entries is
+length-text (not_found id rcode None) is = refl
+length-text (not_found id rcode (Some name)) is = omega (arith, length-answering id (0x8580 + rcode) name null 0 [] is)
+length-text (status id name names) is =
+    omega (arith, length-answering id 0x8400 name nbstat 0 (length names / 18 ∷ names ++ replicate 46 0) is, length-append (length names / 18 ∷ names) (replicate 46 0))
+length-text (wait id name ttl) is = omega (arith, length-answering id 0xBC00 name nb ttl (0x29 ∷ 0x00 ∷ []) is)
