@@ -1,5 +1,6 @@
 //! Packets and messages from outside: the vectors of our profile over RFC 1002's layouts.
 
+use crate::laws::{one_message, written_form_is_read, written_length};
 use crate::{Fault, FaultKind, Full, Message, Registration, classify, decode, encode};
 use arrayvec::ArrayVec;
 use nbt_name::{Kind, Name};
@@ -106,6 +107,7 @@ fn registration_of_fred(rt: HostRuntime) -> Result<(), Fail> {
 
 #[test]
 fn requests_are_written_and_read(rt: HostRuntime) -> Result<(), Fail> {
+    written_form_is_read();
     let overwrite = patched(&rt, REGISTRATION, &[(2, 0x28)])?;
     written_and_read(&rt, &Message::Overwrite(registration()?), &overwrite)?;
     let refresh = patched(&rt, REGISTRATION, &[(2, 0x40)])?;
@@ -267,6 +269,7 @@ fn another_additional_name_is_no_message(rt: HostRuntime) -> Result<(), Fail> {
 
 #[test]
 fn lines_of_the_table(rt: HostRuntime) -> Result<(), Fail> {
+    one_message();
     for (octets, patches, word) in [
         (QUERY.as_slice(), [(3, 0x10), (0, 0)].as_slice(), "none"),
         (
@@ -313,6 +316,7 @@ fn lines_of_the_table(rt: HostRuntime) -> Result<(), Fail> {
 
 #[test]
 fn a_written_form_of_576_octets_and_one_longer(rt: HostRuntime) -> Result<(), Fail> {
+    written_length();
     let entries = [0x20; 522];
     for (count, length) in [(86, 576), (87, 0)] {
         let end = 6 * count;

@@ -1,0 +1,18 @@
+//! Runs one command of `nbt`, on the program's words and over its standard input and output.
+#![tactic(auto)]
+
+use std::env::Env;
+use std::process::ExitCode;
+use std::{env, io};
+
+fn words(rt: &(impl Env + AllocGlobal)) -> io::Result<Vec<String>> {
+    Ok(env::args(rt)?.collect(rt.alloc())?)
+}
+
+fn main(rt: HostRuntime) -> ExitCode {
+    let mut writer = io::writer(&rt);
+    ExitCode::from(match words(&rt) {
+        Ok(words) => nbt_prog::command(rt.alloc(), words.as_slice(), &mut rt.reader(), &mut writer),
+        Err(error) => nbt_prog::command_without_words(rt.alloc(), error, &mut writer),
+    })
+}

@@ -1,0 +1,9 @@
+-- How a command ends that did its work.
+use Rattle.std.specs.Prelude.{ℕ}
+use Rattle.nbt_prog.specs.declared.printed.Ending.{Ending}
+use Rattle.nbt_prog.specs.declared.printed.Ending.TheVariants.{Done, Refused}
+
+-- the status with which the program ends
+abbrev pub ending_status : Ending → ℕ
+ending_status Done = 0
+ending_status Refused = 1

@@ -1,0 +1,5 @@
+//! What each command does with its arguments, and what it prints.
+
+pub mod answer;
+pub mod check;
+pub mod show;

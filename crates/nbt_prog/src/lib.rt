@@ -1,0 +1,115 @@
+//! The command line of `nbt`: what each command reads, does and prints, and how it ends.
+//!
+//! A program passes its words, its standard input and its standard output to [`command`], and exits
+//! with the status that it returns.
+#![tactic(auto)]
+
+ghost use Rattle.std.specs.Prelude.{◌≡◌, ◌≢◌, ◌≤◌, ◌⊎◌, OnOk, IfSome, codes};
+ghost use Rattle.std.specs.IoError.{error_kind};
+ghost use Rattle.std.specs.declared.io.ErrorKind.TheVariants.{InvalidData};
+ghost use Rattle.std.specs.Io.KnownBytes.{Appends};
+ghost use Rattle.nbt_prog.specs.Fault.{line};
+ghost use Rattle.nbt_prog.specs.Outcome.{status_of_outcome, text_of_outcome};
+
+mod address;
+mod arguments;
+mod commands;
+mod fault;
+mod hexadecimal;
+mod input;
+pub mod laws;
+mod name_text;
+mod number;
+mod pieces;
+mod printed;
+mod serving;
+#[cfg(test)]
+mod tests;
+mod usage;
+mod vector;
+
+use arguments::Request;
+use fault::Fault;
+use printed::Printed;
+pub use serving::answer;
+use std::alloc::Global;
+use std::convert::AsStr;
+use std::io;
+use std::io::{Read, Write};
+
+/// Runs the command that `words` name, of which the first is the program's own name, and returns
+/// the exit status. All that is printed goes to `writer`, at once: the command's output, the help
+/// that was asked for, or a text that says what is wrong.
+///
+/// - 0: done.
+/// - 1: an address, a hexadecimal text or the input can't be read: prints `unreadable`. Or `show` met a fault, which it
+///   prints, or `check` has vectors that failed.
+/// - 2: wrong usage; prints what is wrong and how to call the program.
+/// - 3: `reader` or `writer` failed; prints `device`, unless it was the writer.
+/// - 4: an allocation was refused; prints `memory`.
+pub fn command<S: AsStr, R: Read, W: Write>(
+    alloc: Global,
+    words: &[S],
+    reader: &mut R,
+    writer: &mut W,
+) -> u8
+    ensures bound { result ≤ 4 }
+    ensures memory { result ≡ 4
+        → Appends (W.contents writer.old) (W.contents writer.new) (line (codes "memory")) }
+{
+    conclude(run(alloc, words, reader), writer)
+}
+
+/// Ends a program whose words could not be had, as [`command`] would: a word that is no UTF-8 is wrong usage, status 2;
+/// any other error is 3, prints `device`, or 4, prints `memory`.
+pub fn command_without_words<W: Write>(alloc: Global, error: io::Error, writer: &mut W) -> u8
+    ensures bound { result ≤ 4 }
+    ensures usage { error_kind error ≡ InvalidData → (result ≡ 2) ⊎ (3 ≤ result) }
+    ensures failed { error_kind error ≢ InvalidData → 3 ≤ result }
+    ensures memory { result ≡ 4
+        → Appends (W.contents writer.old) (W.contents writer.new) (line (codes "memory")) }
+{
+    let fault = match error.kind() {
+        io::ErrorKind::InvalidData => usage::no_text(alloc).into(),
+        _ => Fault::from(error),
+    };
+    conclude(Err(fault), writer)
+}
+
+// The whole output of the command that `words` name.
+fn run<S: AsStr, R: Read>(alloc: Global, words: &[S], reader: &mut R) -> Result<Printed, Fault> {
+    match arguments::parse(alloc, words)? {
+        Request::Answer(arguments) => commands::answer::run(alloc, &arguments),
+        Request::Show(arguments) => commands::show::run(alloc, &arguments),
+        Request::Check => commands::check::run(alloc, reader),
+    }
+}
+
+// Prints the output, or the text of the fault, and returns the status.
+fn conclude<W: Write>(outcome: Result<Printed, Fault>, writer: &mut W) -> u8
+    ensures bound { result ≤ 4 }
+    ensures told { (result ≡ 3) ⊎ ((result ≡ status_of_outcome outcome)
+        × IfSome (text_of_outcome outcome)
+        (Appends (W.contents writer.old) (W.contents writer.new))) }
+{
+    let status = match &outcome {
+        Ok(printed) => printed.ending.status(),
+        Err(fault) => fault.status(),
+    };
+    match print(&outcome, writer) {
+        Ok(()) => status,
+        Err(_) => Fault::Device.status(),
+    }
+}
+
+fn print<W: Write>(outcome: &Result<Printed, Fault>, writer: &mut W) -> io::Result<()>
+    ensures { OnOk result (IfSome (text_of_outcome outcome.now)
+        (Appends (W.contents writer.old) (W.contents writer.new))) }
+{
+    match outcome {
+        Ok(printed) => writer.write_all(printed.text.as_bytes())?,
+        Err(Fault::Usage(error)) => write!(writer, "{error}")?,
+        Err(fault) => writer.write_all(fault.line().as_bytes())?,
+    }
+    writer.flush()
+}

@@ -1,0 +1,182 @@
+//! The commands and arguments, and the help on them.
+ghost use Rattle.std.specs.Prelude.{◌≡◌, ◌⊎◌, IfOk};
+ghost use Rattle.clap.specs.Words.{kind_of};
+
+use clap::builder::ValueParser;
+use clap::error::ErrorKind;
+use clap::{Arg, Command, Error};
+use std::alloc::{AllocError, Global};
+
+const ABOUT: &str =
+    "NetBIOS over TCP and UDP, as RFC 1001 and RFC 1002 specify it: names, packets and a name server";
+
+const PROGRAM_HELP: &str = "\
+Example:
+  nbt answer 127.0.0.2:137 0001290000010000000000012045474643454645454341434143414341434143414341434143414341434143410000200001c00c002000010000003c000620007f000002
+
+Exit status:
+  0  done
+  1  an address, a hexadecimal text or the input can't be read (prints `unreadable`), or octets are refused
+  2  wrong usage
+  3  input or output failed; prints `device` where it can
+  4  an allocation was refused; prints `memory`";
+
+const ANSWER_ABOUT: &str =
+    "Answers one packet to the name service, as a new server would, and prints the reply in hexadecimal";
+
+const ANSWER_HELP: &str = "\
+Prints the reply in lower-case hexadecimal on one line, or the line `none` where the server sends no reply.
+
+Example:
+  nbt answer 127.0.0.2:137 0001290000010000000000012045474643454645454341434143414341434143414341434143414341434143410000200001c00c002000010000003c000620007f000002
+
+Exit status:
+  0  done
+  1  an address or a hexadecimal text can't be read; prints `unreadable`
+  2  wrong usage
+  3  output failed; prints `device` where it can
+  4  an allocation was refused; prints `memory`";
+
+const SHOW_ABOUT: &str = "Shows what the octets of one packet say";
+
+const SHOW_HELP: &str = "\
+Prints a line for the header and for each section, then the message that the packet spells, or `none`, and how many
+octets it takes. Octets that are no packet print `fault WORD at PLACE`, where places count octets from 0.
+
+Example:
+  nbt show name 0001290000010000000000012045474643454645454341434143414341434143414341434143414341434143410000200001c00c002000010000003c000620007f000002
+
+Exit status:
+  0  done
+  1  the octets are no packet, or HEX can't be read; then prints `unreadable`
+  2  wrong usage
+  3  output failed; prints `device` where it can
+  4  an allocation was refused; prints `memory`";
+
+const CHECK_ABOUT: &str =
+    "Checks vectors from standard input: octets, and what is expected of their reader";
+
+const CHECK_HELP: &str = "\
+Each line of standard input is `name HEX ok N`, for a packet that takes N octets, or `name HEX fault WORD PLACE`, in
+words between spaces. Empty HEX is `-`. Blank lines and lines that begin with `#` are passed over. Prints `pass`,
+`fail` or `unreadable` for each other line, last how many passed and failed. At most 1048576 octets are taken.
+
+Example:
+  printf 'name 000101000002 fault TooMany 4\\n' | nbt check
+
+Exit status:
+  0  all passed
+  1  a vector failed, or a line or the input can't be read; for the input prints `unreadable`
+  2  wrong usage
+  3  input or output failed; prints `device` where it can
+  4  an allocation was refused; prints `memory`";
+
+/// The name of the command that answers one packet.
+pub const ANSWER: &str = "answer";
+
+/// The name of the command that shows one packet.
+pub const SHOW: &str = "show";
+
+/// The name of the command that checks vectors.
+pub const CHECK: &str = "check";
+
+/// The argument that names the sender.
+pub const FROM: &str = "from";
+
+/// The argument that has the packet.
+pub const HEX: &str = "hex";
+
+/// The argument that says of which service a packet is.
+const KIND: &str = "kind";
+
+/// The kinds of packets that can be shown.
+const KINDS: [&str; 1] = ["name"];
+
+/// The option that tells the time.
+pub const AT: &str = "at";
+
+/// The program with each of its commands.
+pub fn program<'a>(alloc: Global) -> Result<Command<'a>, AllocError> {
+    Command::new(alloc, "nbt")
+        .bin_name("nbt")?
+        .version("0.1.0")
+        .about(ABOUT)
+        .after_help(PROGRAM_HELP)
+        .subcommand_required(true)
+        .arg_required_else_help(true)
+        .subcommand(answer(alloc)?)?
+        .subcommand(show(alloc)?)?
+        .subcommand(check(alloc))
+}
+
+fn answer<'a>(alloc: Global) -> Result<Command<'a>, AllocError> {
+    let from = Arg::new(alloc, FROM).value_name("FROM").required(true).help(
+        "The packet's sender, as A.B.C.D:PORT in decimal with no leading zeros",
+    );
+    let hex = Arg::new(alloc, HEX).value_name("HEX").required(true).help(
+        "The packet: an even number of hexadecimal digits of either case, or none",
+    );
+    let at = Arg::new(alloc, AT)
+        .long("at")
+        .value_name("MS")
+        .default_value("60000")
+        .help("The time, in milliseconds since the server began: from 0 to 1152921504606846976");
+    Command::new(alloc, ANSWER)
+        .about(ANSWER_ABOUT)
+        .after_help(ANSWER_HELP)
+        .arg(from)?
+        .arg(hex)?
+        .arg(at)
+}
+
+fn show<'a>(alloc: Global) -> Result<Command<'a>, AllocError> {
+    let kind = Arg::new(alloc, KIND)
+        .value_name("KIND")
+        .required(true)
+        .value_parser(ValueParser::Names(&KINDS))
+        .help("The packet's service");
+    let hex = Arg::new(alloc, HEX).value_name("HEX").required(true).help(
+        "The packet: an even number of hexadecimal digits of either case, or none",
+    );
+    Command::new(alloc, SHOW)
+        .about(SHOW_ABOUT)
+        .after_help(SHOW_HELP)
+        .arg(kind)?
+        .arg(hex)
+}
+
+fn check<'a>(alloc: Global) -> Command<'a> {
+    Command::new(alloc, CHECK)
+        .about(CHECK_ABOUT)
+        .after_help(CHECK_HELP)
+}
+
+/// The error of a time that is not as the help says, with clap's own text around it.
+pub fn bad_time(alloc: Global, value: &str) -> Result<Error, AllocError>
+    ensures { IfOk result (λ e. kind_of e ≡ ErrorKind.ValueValidation) }
+{
+    let message = format!(in alloc;
+        "invalid value '{value}' for '--at <MS>': not a whole number from 0 to 1152921504606846976"
+    )?;
+    let mut command = answer(alloc)?.bin_name("nbt answer")?;
+    command.error(ErrorKind::ValueValidation, message.as_str())
+}
+
+/// The error of a word that is no UTF-8, with clap's own text around it, or the one of memory.
+pub fn no_text(alloc: Global) -> Error
+    ensures { (kind_of result ≡ ErrorKind.InvalidValue) ⊎ (kind_of result ≡ ErrorKind.OutOfMemory) }
+{
+    match no_text_error(alloc) {
+        Ok(error) => error,
+        Err(error) => Error::from(error),
+    }
+}
+
+fn no_text_error(alloc: Global) -> Result<Error, AllocError>
+    ensures { IfOk result (λ e. kind_of e ≡ ErrorKind.InvalidValue) }
+{
+    program(alloc)?.error(
+        ErrorKind::InvalidValue,
+        "invalid UTF-8 was detected in an argument",
+    )
+}
