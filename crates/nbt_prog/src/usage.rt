@@ -8,7 +8,7 @@ use clap::{Arg, Command, Error};
 use std::alloc::{AllocError, Global};
 
 const ABOUT: &str =
-    "NetBIOS over TCP and UDP, as RFC 1001 and RFC 1002 specify it: names, packets and a name server";
+    "NetBIOS over TCP and UDP, as RFC 1001 and RFC 1002 specify it: names, and the packets of the name service";
 
 const PROGRAM_HELP: &str = "\
 Example:
