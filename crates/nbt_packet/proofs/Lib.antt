@@ -6,3 +6,6 @@ pub mod Words
 pub mod Shapes
 pub mod ReadBack
 pub mod Sizes
+pub mod OnePacket
+pub mod Deciding
+pub mod Writable

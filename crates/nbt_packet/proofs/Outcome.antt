@@ -219,11 +219,11 @@ one_packet : (octets : List ℕ) → NameLaw octets → (p q : PacketValue) (n m
 one_packet octets law p q n m a b =
     let e = sym (packet_read octets _ (gives_by octets law) p n a) ∙ packet_read octets _ (gives_by octets law) q m b in cc
 
-one_fault : (octets : List ℕ) → NameLaw octets → (f g : Fault) → PacketFault octets f → PacketFault octets g → f ≡ g
+pub one_fault : (octets : List ℕ) → NameLaw octets → (f g : Fault) → PacketFault octets f → PacketFault octets g → f ≡ g
 one_fault octets law f g a b =
     let e = sym (packet_fails octets _ (gives_by octets law) f a) ∙ packet_fails octets _ (gives_by octets law) g b in cc
 
-not_both : (octets : List ℕ) → NameLaw octets → (p : PacketValue) (n : ℕ) (f : Fault) → PacketIs octets p n → PacketFault octets f → ⊥
+pub not_both : (octets : List ℕ) → NameLaw octets → (p : PacketValue) (n : ℕ) (f : Fault) → PacketIs octets p n → PacketFault octets f → ⊥
 not_both octets law p n f a b =
     let e = sym (packet_read octets _ (gives_by octets law) p n a) ∙ packet_fails octets _ (gives_by octets law) f b in cc
 

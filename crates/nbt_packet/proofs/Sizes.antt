@@ -1,15 +1,15 @@
 -- How long written forms are.
-use Rattle.std.proofs.Common.{◌≡◌, ℕ, ◌+◌, ◌*◌, ◌/◌, List, [], ◌∷◌, ◌++◌, length, Option, Some, None, refl, sym, ap, ◌∙◌, arith}
+use Rattle.std.proofs.Common.{◌≡◌, ◌≤◌, ℕ, ◌+◌, ◌*◌, ◌/◌, List, [], ◌∷◌, ◌++◌, length, Some, None, refl, arith}
 use Rattle.std.specs.Prelude.{replicate}
-use Rattle.std.specs.List.{flat_map}
-use Rattle.std.proofs.lemmas.List.{length-append, length-replicate}
+use Rattle.std.proofs.lemmas.List.{length-append}
 use Rattle.nbt_name.specs.declared.addr.Kind.{Kind}
 use Rattle.nbt_name.specs.declared.addr.Kind.TheVariants.{Unique, Group}
 use Rattle.nbt_name.specs.Wire.{NameValue, IsName, letters, wire}
 use Rattle.nbt_packet.specs.declared.message.Registration.{Registration}
-use Rattle.nbt_packet.specs.Fields.{word, long}
-use Rattle.nbt_packet.specs.Message.{MessageValue, IsNamed, registration, overwrite, refresh, release, query, status_request, registered, released, found, not_found, status, wait, nb, nbstat, null, internet}
+use Rattle.nbt_packet.specs.Fields.{word}
+use Rattle.nbt_packet.specs.Message.{MessageValue, HoldsNumbers, IsNamed, registration, overwrite, refresh, release, query, status_request, registered, released, found, not_found, status, wait, nb, nbstat, null, internet}
 use Rattle.nbt_packet.specs.Text.{header, fields, entry, asking, claiming, answering, text, wire_size, size_of}
+use Rattle.nbt_packet.specs.Spelling.{HasFewRows}
 
 length-letters : (os : List ℕ) → length (letters os) ≡ 2 * length os
 length-letters [] = refl
@@ -57,3 +57,18 @@ length-text (not_found id rcode (Some name)) is = omega (arith, length-answering
 length-text (status id name names) is =
     omega (arith, length-answering id 0x8400 name nbstat 0 (length names / 18 ∷ names ++ replicate 46 0) is, length-append (length names / 18 ∷ names) (replicate 46 0))
 length-text (wait id name ttl) is = omega (arith, length-answering id 0xBC00 name nb ttl (0x29 ∷ 0x00 ∷ []) is)
+
+pub few_rows : (m : MessageValue) → HoldsNumbers m → HasFewRows m → length (text m) ≤ 576
+few_rows (registration r) holds few = omega (arith, length-text (registration r) holds.1, holds.1.fits)
+few_rows (overwrite r) holds few = omega (arith, length-text (overwrite r) holds.1, holds.1.fits)
+few_rows (refresh r) holds few = omega (arith, length-text (refresh r) holds.1, holds.1.fits)
+few_rows (release id name kind addr) holds few = omega (arith, length-text (release id name kind addr) holds.1, holds.1.fits)
+few_rows (query id name) holds few = omega (arith, length-text (query id name) holds.1, holds.1.fits)
+few_rows (status_request id name) holds few = omega (arith, length-text (status_request id name) holds.1, holds.1.fits)
+few_rows (registered rcode r) holds few = omega (arith, length-text (registered rcode r) holds.1, holds.1.fits)
+few_rows (released id rcode name kind addr) holds few = omega (arith, length-text (released id rcode name kind addr) holds.1, holds.1.fits)
+few_rows (found id name ttl entries) holds few = omega (arith, length-text (found id name ttl entries) holds.1, holds.1.fits, few)
+few_rows (not_found id rcode None) holds few = omega (arith, length-text (not_found id rcode None) tt)
+few_rows (not_found id rcode (Some name)) holds few = omega (arith, length-text (not_found id rcode (Some name)) holds.1, holds.1.fits)
+few_rows (status id name names) holds few = omega (arith, length-text (status id name names) holds.1, holds.1.fits, few)
+few_rows (wait id name ttl) holds few = omega (arith, length-text (wait id name ttl) holds.1, holds.1.fits)

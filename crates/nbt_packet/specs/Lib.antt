@@ -4,4 +4,5 @@ pub mod Packet
 pub mod Decoding
 pub mod Message
 pub mod Text
+pub mod Spelling
 pub mod Lines

@@ -20,6 +20,11 @@ abbrev pub entry : Kind → ℕ → List ℕ
 entry Unique addr = 0x20 ∷ 0 ∷ long addr
 entry Group addr = 0xA0 ∷ 0 ∷ long addr
 
+-- an active name of a P node, in a node status
+abbrev pub status_name : List ℕ → Kind → List ℕ
+status_name octets Unique = octets ++ 0x24 ∷ 0 ∷ []
+status_name octets Group = octets ++ 0xA4 ∷ 0 ∷ []
+
 abbrev pub asking : (id flags rtype : ℕ) → NameValue → List ℕ
 asking id flags rtype name = header id flags 1 0 0 ++ (wire name ++ word rtype ++ word internet)
 

@@ -8,6 +8,7 @@ mod flags;
 pub mod laws;
 mod message;
 mod packet;
+mod reading;
 mod writing;
 
 pub use classifying::classify;
@@ -15,7 +16,8 @@ pub use decoding::decode;
 pub use fault::{Fault, FaultKind, Full};
 pub use message::{Message, Registration};
 pub use packet::{Packet, Question, Record};
-pub use writing::encode;
+pub use reading::read;
+pub use writing::{encode, entry_octets, status_name_octets};
 
 #[cfg(test)]
 mod tests;

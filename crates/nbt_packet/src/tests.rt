@@ -1,7 +1,13 @@
 //! Packets and messages from outside: the vectors of our profile over RFC 1002's layouts.
 
-use crate::laws::{one_message, written_form_is_read, written_length};
-use crate::{Fault, FaultKind, Full, Message, Registration, classify, decode, encode};
+use crate::laws::{
+    few_rows_are_written, one_message, one_message_spelled, one_packet_or_fault,
+    spelled_message_fits, written_form_is_read, written_length,
+};
+use crate::{
+    Fault, FaultKind, Full, Message, Registration, classify, decode, encode, entry_octets, read,
+    status_name_octets,
+};
 use arrayvec::ArrayVec;
 use nbt_name::{Kind, Name};
 use std::process::Abort;
@@ -79,9 +85,9 @@ fn written_and_read(rt: &impl Abort, message: &Message<'_>, octets: &[u8]) -> Re
         encode(message, &mut out)?;
     }
     assert!(rt; out.as_slice() == octets);
-    let (packet, length) = decode(octets)?;
+    let (_, length) = decode(octets)?;
     assert_eq!(rt; length, octets.len());
-    let read = classify(&packet).ok_or("no message")?;
+    let read = read(octets).ok_or("no message")?;
     let mut again = ArrayVec::new();
     if read.fits() {
         encode(&read, &mut again)?;
@@ -228,7 +234,9 @@ fn faults_and_their_places(rt: HostRuntime) -> Result<(), Fail> {
         assert_eq!(rt; decode(&octets).err(), fault(kind, place));
     }
     assert_eq!(rt; FaultKind::TooMany.number(), 6);
+    one_packet_or_fault();
     for length in 0..68 {
+        assert!(rt; read(&REGISTRATION[..length]).is_none());
         assert_eq!(rt;
             decode(&REGISTRATION[..length]).err(),
             fault(FaultKind::Short, length)
@@ -238,6 +246,20 @@ fn faults_and_their_places(rt: HostRuntime) -> Result<(), Fail> {
     more.extend_from_slice(b"\xFF\xFF\xFF")?;
     let (_, length) = decode(&more)?;
     assert_eq!(rt; length, 68);
+    one_message_spelled();
+    assert!(rt; matches!(read(&more), Some(Message::Registration(_))));
+    Ok(())
+}
+
+#[test]
+fn entries_and_status_names(rt: HostRuntime) -> Result<(), Fail> {
+    spelled_message_fits();
+    assert!(rt; entry_octets(Kind::Unique, 0x7F000002) == *b"\x20\x00\x7F\x00\x00\x02");
+    assert!(rt; entry_octets(Kind::Group, 0xC0000201) == *b"\xA0\x00\xC0\x00\x02\x01");
+    let unique = status_name_octets(b"FRED            ", Kind::Unique);
+    assert!(rt; unique == *b"FRED            \x24\x00");
+    let group = status_name_octets(b"TEAM            ", Kind::Group);
+    assert!(rt; group == *b"TEAM            \xA4\x00");
     Ok(())
 }
 
@@ -317,6 +339,7 @@ fn lines_of_the_table(rt: HostRuntime) -> Result<(), Fail> {
 #[test]
 fn a_written_form_of_576_octets_and_one_longer(rt: HostRuntime) -> Result<(), Fail> {
     written_length();
+    few_rows_are_written();
     let entries = [0x20; 522];
     for (count, length) in [(86, 576), (87, 0)] {
         let end = 6 * count;

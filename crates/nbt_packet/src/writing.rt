@@ -5,7 +5,7 @@ ghost use Rattle.nbt_name.specs.Wire.{wire};
 ghost use Rattle.nbt_packet.specs.Fields.{word, long};
 ghost use Rattle.nbt_packet.specs.Message.{Fits, message_of, not_found, status, nb, internet};
 ghost use Rattle.nbt_packet.specs.Text as spec;
-ghost use Rattle.nbt_packet.specs.Text.{text, entry, asking, claiming, answering};
+ghost use Rattle.nbt_packet.specs.Text.{text, entry, status_name, asking, claiming, answering};
 
 use crate::fault::Full;
 use crate::message::{Message, Registration};
@@ -51,6 +51,10 @@ const QUESTION_NAME: u16 = 0xC00C;
 const P_NODE: u8 = 0x20;
 /// The same with G.
 const P_NODE_GROUP: u8 = 0xA0;
+/// The first octet of NAME_FLAGS of a P node's active name: ONT 01, ACT (RFC 1002 section 4.2.18).
+const ACTIVE: u8 = 0x24;
+/// The same with G.
+const ACTIVE_GROUP: u8 = 0xA4;
 /// RDATA of WAIT FOR ACKNOWLEDGEMENT RESPONSE: the flags of the request that waits (RFC 1002 section 4.2.16).
 const WAITS: [u8; 2] = [0x29, 0x00];
 
@@ -127,7 +131,7 @@ fn put_claim(out: &mut ArrayVec<u8, 576>, flags: u16, r: &Registration)
     put_question(out, &r.name, NB);
     put_word(out, QUESTION_NAME);
     put_fields(out, NB, r.ttl, ENTRY);
-    let rdata = entry_of(r.kind, r.addr);
+    let rdata = entry_octets(r.kind, r.addr);
     out.try_extend_from_slice(&rdata).unwrap();
 }
 
@@ -156,7 +160,7 @@ fn put_registered(out: &mut ArrayVec<u8, 576>, rcode: u8, r: &Registration) -> R
     ensures empty { OnErr result (out.new.items ≡ []) }
 {
     let flags = REGISTERED + u16::from(rcode);
-    let rdata = entry_of(r.kind, r.addr);
+    let rdata = entry_octets(r.kind, r.addr);
     put_answer(out, r.id, flags, &r.name, NB, r.ttl, &rdata)
 }
 
@@ -176,7 +180,7 @@ fn put_released(
     ensures empty { OnErr result (out.new.items ≡ []) }
 {
     let flags = RELEASED + u16::from(rcode);
-    let rdata = entry_of(kind, addr);
+    let rdata = entry_octets(kind, addr);
     put_answer(out, id, flags, name, NB, 0, &rdata)
 }
 
@@ -309,9 +313,10 @@ fn put_fields(out: &mut ArrayVec<u8, 576>, rtype: u16, ttl: u32, rdlength: u16)
     put_word(out, rdlength);
 }
 
-/// An entry of a P node: NB_FLAGS and NB_ADDRESS (RFC 1002 section 4.2.2).
-fn entry_of(kind: Kind, addr: u32) -> [u8; 6]
-    ensures { result ≡ entry kind addr }
+/// The six octets of a P node's entry: NB_FLAGS, then NB_ADDRESS (RFC 1002 section 4.2.2).
+pub fn entry_octets(kind: Kind, addr: u32) -> [u8; 6]
+    ensures entry { result ≡ entry kind addr }
+    ensures six { length result ≡ 6 }
 {
     let mut octets = [0; 6];
     octets[0] = match kind {
@@ -319,6 +324,20 @@ fn entry_of(kind: Kind, addr: u32) -> [u8; 6]
         Kind::Group => P_NODE_GROUP,
     };
     BigEndian::write_u32(&mut octets[2..], addr);
+    octets
+}
+
+/// The 18 octets of an active name in a P node's status: the name's sixteen, then NAME_FLAGS (RFC 1002 section 4.2.18).
+pub fn status_name_octets(name: &[u8; 16], kind: Kind) -> [u8; 18]
+    ensures name { result ≡ status_name name.now kind }
+    ensures eighteen { length result ≡ 18 }
+{
+    let mut octets = [0; 18];
+    octets[..16].copy_from_slice(name);
+    octets[16] = match kind {
+        Kind::Unique => ACTIVE,
+        Kind::Group => ACTIVE_GROUP,
+    };
     octets
 }
 

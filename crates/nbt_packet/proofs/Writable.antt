@@ -1,0 +1,129 @@
+-- A message that octets spell holds numbers in their ranges, and has a written form.
+use Rattle.std.proofs.Common.{◌≡◌, ℕ, ◌+◌, ◌-◌, ◌*◌, ◌^◌, ◌<◌, ◌≤◌, List, length, take, drop, Option, Some, None, ap, subst, ◌∙◌, arith, inl, inr}
+use Rattle.std.specs.Prelude.{slice_index, slice_range}
+use Rattle.std.proofs.lemmas.Bool.{cases_lt}
+use Rattle.std.proofs.lemmas.List.{length-take, length-take-le, length-drop, get_or-drop, get_or-take}
+use Rattle.std.proofs.Math.ListN.{get_or-eq_default}
+use Rattle.nbt_name.specs.declared.addr.Kind.{Kind}
+use Rattle.nbt_name.specs.Wire.{NameValue, IsName, AreOctets}
+use Rattle.nbt_packet.specs.declared.message.Registration.{Registration}
+use Rattle.nbt_packet.specs.declared.packet.Question.{Question}
+use Rattle.nbt_packet.specs.Fields.{word_at, long_at}
+use Rattle.nbt_packet.specs.Packet.{RecordValue, PacketValue, QuestionAt, RecordAt, SectionAt, PacketIs}
+use Rattle.nbt_packet.specs.Message.{MessageValue, registration, overwrite, refresh, release, query, status_request, registered, released, found, not_found, status, wait, IsEntry, Asks, Claims, Tells, MessageIs, IsRegistration, HoldsNumbers, Fits}
+use Rattle.nbt_packet.specs.Spelling.{Spells}
+
+-- ---- octets and numbers
+
+octets_drop : (n : ℕ) (xs : List ℕ) → AreOctets xs → AreOctets (drop n xs)
+octets_drop n xs fits k = rw get_or-drop (fits (n + k))
+
+octets_take : (n : ℕ) (xs : List ℕ) → AreOctets xs → AreOctets (take n xs)
+octets_take n xs fits k =
+    elim (cases_lt k n) [ inl less ↦ rw (get_or-take n xs k 0 less) (fits k) | inr more ↦ rw (past k more) (omega arith) ]
+  where
+    past : (k : ℕ) → n ≤ k → slice_index (take n xs) k ≡ 0
+    past k more = get_or-eq_default (take n xs) 0 {n = k} (omega (arith, length-take n xs))
+
+octets_range : (xs : List ℕ) (a b : ℕ) → AreOctets xs → AreOctets (slice_range xs a b)
+octets_range xs a b fits = octets_take (b - a) (drop a xs) (octets_drop a xs fits)
+
+word_fits : (octets : List ℕ) (place : ℕ) → AreOctets octets → word_at octets place < 2 ^ 16
+word_fits octets place fits = omega (arith, octets_drop place octets fits 0, octets_drop place octets fits 1)
+
+long_fits : (octets : List ℕ) (place : ℕ) → AreOctets octets → long_at octets place < 2 ^ 32
+long_fits octets place fits =
+    omega (arith, octets_drop place octets fits 0, octets_drop place octets fits 1, octets_drop place octets fits 2, octets_drop place octets fits 3)
+
+-- ---- what stands in a packet
+
+record RecordHolds (r : RecordValue) : Type 0 where
+  name : IsName r.name
+  ttl : r.ttl < 2 ^ 32
+  octets : AreOctets r.rdata
+  most : length r.rdata < 2 ^ 16
+
+record PacketHolds (p : PacketValue) : Type 0 where
+  id : p.id < 2 ^ 16
+  question : (q : Question) → p.question ≡ Some q → IsName q.name
+  answer : (r : RecordValue) → p.answer ≡ Some r → RecordHolds r
+  additional : (r : RecordValue) → p.additional ≡ Some r → RecordHolds r
+
+record_holds : (octets : List ℕ) → AreOctets octets → (place : ℕ) (r : RecordValue) (next : ℕ) → RecordAt octets place r next → RecordHolds r
+record_holds octets fits place r next at =
+    let count : ℕ = word_at octets (at.named + 8) in
+    let long : length (slice_range octets (at.named + 10) (at.named + 10 + count)) ≡ count =
+    length-take-le ((at.named + 10 + count) - (at.named + 10)) (drop (at.named + 10) octets) (omega (arith, at.whole, length-drop (at.named + 10) octets)) ∙ omega arith in
+    record {
+      name = at.name.closes.is_name;
+      ttl = rw at.ttl (long_fits octets (at.named + 4) fits);
+      octets = rw at.rdata (octets_range octets (at.named + 10) (at.named + 10 + count) fits);
+      most = rw (at.rdata, long) (word_fits octets (at.named + 8) fits);
+    }
+
+section_holds : {X : Type 0} (At : ℕ → X → ℕ → Type 0) (Holds : X → Type 0) → ((place : ℕ) (x : X) (next : ℕ) → At place x next → Holds x)
+    → (count place : ℕ) (section : Option X) (next : ℕ) → SectionAt At count place section next → (x : X) → section ≡ Some x → Holds x
+section_holds At Holds each count place None next at x e = absurd cc
+section_holds {X} At Holds each count place (Some y) next at x e = subst Holds (inside e) (each place y next at.1)
+  where
+    inside : {a b : X} → ◌≡◌ {A = Option X} (Some a) (Some b) → a ≡ b
+    inside e = cc
+
+packet_holds : (octets : List ℕ) → AreOctets octets → (p : PacketValue) (n : ℕ) → PacketIs octets p n → PacketHolds p
+packet_holds octets fits p n is = record {
+  id = rw is.id (word_fits octets 0 fits);
+  question = section_holds (QuestionAt octets) (λ q. IsName q.name) (λ place q next at. at.name.closes.is_name) _ _ p.question _ is.question;
+  answer = section_holds (RecordAt octets) RecordHolds (record_holds octets fits) _ _ p.answer _ is.answer;
+  additional = section_holds (RecordAt octets) RecordHolds (record_holds octets fits) _ _ p.additional _ is.additional;
+}
+
+-- ---- what a message takes from it
+
+entry_holds : (rdata : List ℕ) (kind : Kind) (addr : ℕ) → AreOctets rdata → IsEntry rdata kind addr → addr < 2 ^ 32
+entry_holds rdata kind addr fits entry = rw entry.addr_is (long_fits rdata 2 fits)
+
+claim_holds : (p : PacketValue) (r : Registration) → PacketHolds p → Claims p r → IsRegistration r
+claim_holds p r holds claims =
+    let added = holds.additional _ claims.additional in
+    (rw (← claims.id) holds.id, added.name, entry_holds claims.rdata r.kind r.addr added.octets claims.entry, added.ttl)
+
+asked_name : (p : PacketValue) (name : NameValue) (rtype : ℕ) → PacketHolds p → Asks p name rtype → IsName name
+asked_name p name rtype holds asks = holds.question _ asks.question
+
+told : (p : PacketValue) (name : NameValue) (rtype ttl : ℕ) (rdata : List ℕ) → PacketHolds p → Tells p name rtype ttl rdata → RecordHolds (record { name = name; rtype = rtype; class = 1; ttl = ttl; rdata = rdata })
+told p name rtype ttl rdata holds tells = holds.answer _ tells.answers.answer_is
+
+message_holds : (p : PacketValue) (m : MessageValue) → PacketHolds p → MessageIs p m → HoldsNumbers m × Fits m
+message_holds p (registration r) holds is = (claim_holds p r holds is.2, tt)
+message_holds p (overwrite r) holds is = (claim_holds p r holds is.2, tt)
+message_holds p (refresh r) holds is = (claim_holds p r holds is.1, tt)
+message_holds p (release id name kind addr) holds is =
+    let r = claim_holds p (record { id = id; name = name; kind = kind; addr = addr; ttl = is.1 }) holds is.2 in ((r.0, r.1, r.2), tt)
+message_holds p (query id name) holds is = ((rw (← is.0) holds.id, asked_name p name _ holds is.2), tt)
+message_holds p (status_request id name) holds is = ((rw (← is.0) holds.id, asked_name p name _ holds is.3), tt)
+message_holds p (registered rcode r) holds is =
+    let answer = told p r.name _ r.ttl is.4.rdata holds is.4.tells in
+    ((rw (← is.0) holds.id, answer.name, entry_holds is.4.rdata r.kind r.addr answer.octets is.4.entry, answer.ttl), omega (arith, is.3))
+message_holds p (released id rcode name kind addr) holds is =
+    let answer = told p name _ is.3 is.4.rdata holds is.4.tells in
+    ((rw (← is.0) holds.id, answer.name, entry_holds is.4.rdata kind addr answer.octets is.4.entry), omega (arith, is.2))
+message_holds p (found id name ttl entries) holds is =
+    let answer = told p name _ ttl entries holds is.3 in
+    ((rw (← is.0) holds.id, answer.name, answer.ttl, answer.octets), (is.4, omega (arith, answer.most, is.5), is.5))
+message_holds p (not_found id rcode None) holds is = (rw (← is.0) holds.id, (omega (arith, is.3), omega (arith, is.2)))
+message_holds p (not_found id rcode (Some name)) holds is =
+    let answer = holds.answer is.4 is.5.answer_is in
+    ((rw (← is.0) holds.id, rw (← is.6) answer.name), (omega (arith, is.3), omega (arith, is.2)))
+message_holds p (status id name names) holds is =
+    let answer = told p name _ is.3 is.4 holds is.5 in
+    let count : ℕ = slice_index is.4 0 in
+    let long : length names ≡ 18 * count = ap length is.8 ∙ length-take-le ((1 + 18 * count) - 1) (drop 1 is.4) (omega (arith, is.7, length-drop 1 is.4)) ∙ omega arith in (
+      (rw (← is.0) holds.id, answer.name, rw is.8 (octets_range is.4 1 (1 + 18 * count) answer.octets)),
+      (omega (arith, long, answer.octets 0), omega (arith, long)),
+    )
+message_holds p (wait id name ttl) holds is =
+    let answer = holds.answer is.2 is.3.answer_is in
+    ((rw (← is.0) holds.id, rw (← is.4) answer.name, rw (← is.5) answer.ttl), tt)
+
+pub spelled_fits : (octets : List ℕ) (m : MessageValue) → AreOctets octets → Spells octets m → HoldsNumbers m × Fits m
+spelled_fits octets m fits s = message_holds s.packet m (packet_holds octets fits s.packet s.taken s.packet_is) s.message_is

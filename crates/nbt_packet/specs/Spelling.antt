@@ -1,0 +1,48 @@
+-- What octets say: the words by which crates above speak of datagrams, with no packet, section or place among them.
+use Rattle.std.specs.Prelude.{ℕ, ◌*◌, ◌≤◌, List, length, Option, Some}
+use Rattle.nbt_name.specs.Wire.{NameValue}
+use Rattle.nbt_packet.specs.Packet.{PacketValue, PacketIs}
+use Rattle.nbt_packet.specs.Message.{MessageValue, MessageIs, registration, overwrite, refresh, release, query, status_request, registered, released, found, not_found, status, wait}
+
+-- The octets begin with a packet that spells the message; what is behind that packet is not looked at.
+pub record Spells (octets : List ℕ) (message : MessageValue) : Type 0 where
+  pub packet : PacketValue
+  pub taken : ℕ
+  pub packet_is : PacketIs octets packet taken
+  pub message_is : MessageIs packet message
+
+-- a message's id, by which a reply is told from others
+abbrev pub id_of : MessageValue → ℕ
+id_of (registration r) = r.id
+id_of (overwrite r) = r.id
+id_of (refresh r) = r.id
+id_of (release id name kind addr) = id
+id_of (query id name) = id
+id_of (status_request id name) = id
+id_of (registered rcode r) = r.id
+id_of (released id rcode name kind addr) = id
+id_of (found id name ttl entries) = id
+id_of (not_found id rcode name) = id
+id_of (status id name names) = id
+id_of (wait id name ttl) = id
+
+-- the name that a message is about, where it has one
+abbrev pub name_in : MessageValue → Option NameValue
+name_in (registration r) = Some r.name
+name_in (overwrite r) = Some r.name
+name_in (refresh r) = Some r.name
+name_in (release id name kind addr) = Some name
+name_in (query id name) = Some name
+name_in (status_request id name) = Some name
+name_in (registered rcode r) = Some r.name
+name_in (released id rcode name kind addr) = Some name
+name_in (found id name ttl entries) = Some name
+name_in (not_found id rcode name) = name
+name_in (status id name names) = Some name
+name_in (wait id name ttl) = Some name
+
+-- at most 49 entries, and at most 14 names of a node status: as many as fit beside any name
+abbrev pub HasFewRows : MessageValue → Type 0
+HasFewRows (found id name ttl entries) = length entries ≤ 6 * 49
+HasFewRows (status id name names) = length names ≤ 18 * 14
+HasFewRows _ = Unit {0}
