@@ -7,7 +7,7 @@ use Rattle.nbt_name.specs.declared.addr.Kind.TheVariants.{Unique, Group}
 use Rattle.nbt_name.specs.Wire.{NameValue, IsName, letters, wire}
 use Rattle.nbt_packet.specs.declared.message.Registration.{Registration}
 use Rattle.nbt_packet.specs.Fields.{word}
-use Rattle.nbt_packet.specs.Message.{MessageValue, HoldsNumbers, IsNamed, registration, overwrite, refresh, release, query, status_request, registered, released, found, not_found, status, wait, nb, nbstat, null, internet}
+use Rattle.nbt_packet.specs.Message.{MessageValue, HoldsNumbers, registration, overwrite, refresh, release, query, status_request, registered, released, found, not_found, status, wait, nb, nbstat, null, internet}
 use Rattle.nbt_packet.specs.Text.{header, fields, entry, asking, claiming, answering, text, wire_size, size_of}
 use Rattle.nbt_packet.specs.Spelling.{HasFewRows}
 
@@ -42,33 +42,37 @@ length-answering : (id flags : ℕ) (n : NameValue) (rtype ttl : ℕ) (rdata : L
 length-answering id flags n rtype ttl rdata is =
     omega (arith, length-append (header id flags 0 1 0) (wire n ++ fields rtype ttl rdata), length-append (wire n) (fields rtype ttl rdata), length-wire n is)
 
-pub length-text : (m : MessageValue) → IsNamed m → length (text m) ≡ size_of m
-length-text (registration r) is = length-claiming 0x2900 r is
-length-text (overwrite r) is = length-claiming 0x2800 r is
-length-text (refresh r) is = length-claiming 0x4000 r is
-length-text (release id name kind addr) is = length-claiming 0x3000 (record { id = id; name = name; kind = kind; addr = addr; ttl = 0 }) is
-length-text (query id name) is = length-asking id 0x0100 nb name is
-length-text (status_request id name) is = length-asking id 0 nbstat name is
-length-text (registered rcode r) is = omega (arith, length-answering r.id (0xAD80 + rcode) r.name nb r.ttl (entry r.kind r.addr) is, length-entry r.kind r.addr)
-length-text (released id rcode name kind addr) is = omega (arith, length-answering id (0xB400 + rcode) name nb 0 (entry kind addr) is, length-entry kind addr)
-length-text (found id name ttl entries) is = length-answering id 0x8580 name nb ttl entries is
-length-text (not_found id rcode None) is = refl
-length-text (not_found id rcode (Some name)) is = omega (arith, length-answering id (0x8580 + rcode) name null 0 [] is)
-length-text (status id name names) is =
-    omega (arith, length-answering id 0x8400 name nbstat 0 (length names / 18 ∷ names ++ replicate 46 0) is, length-append (length names / 18 ∷ names) (replicate 46 0))
-length-text (wait id name ttl) is = omega (arith, length-answering id 0xBC00 name nb ttl (0x29 ∷ 0x00 ∷ []) is)
+pub length-text : (m : MessageValue) → HoldsNumbers m → length (text m) ≡ size_of m
+length-text (registration r) holds = length-claiming 0x2900 r holds.1
+length-text (overwrite r) holds = length-claiming 0x2800 r holds.1
+length-text (refresh r) holds = length-claiming 0x4000 r holds.1
+length-text (release id name kind addr) holds = length-claiming 0x3000 (record { id = id; name = name; kind = kind; addr = addr; ttl = 0 }) holds.1
+length-text (query id name) holds = length-asking id 0x0100 nb name holds.1
+length-text (status_request id name) holds = length-asking id 0 nbstat name holds.1
+length-text (registered rcode r) holds = omega (arith, length-answering r.id (0xAD80 + rcode) r.name nb r.ttl (entry r.kind r.addr) holds.1, length-entry r.kind r.addr)
+length-text (released id rcode name kind addr) holds = omega (arith, length-answering id (0xB400 + rcode) name nb 0 (entry kind addr) holds.1, length-entry kind addr)
+length-text (found id name ttl entries) holds = length-answering id 0x8580 name nb ttl entries holds.1
+length-text (not_found id rcode None) holds = refl
+length-text (not_found id rcode (Some name)) holds = omega (arith, length-answering id (0x8580 + rcode) name null 0 [] holds.1)
+length-text (status id name names) holds =
+    omega (arith, length-answering id 0x8400 name nbstat 0 (length names / 18 ∷ names ++ replicate 46 0) holds.1, length-append (length names / 18 ∷ names) (replicate 46 0))
+length-text (wait id name ttl) holds = omega (arith, length-answering id 0xBC00 name nb ttl (0x29 ∷ 0x00 ∷ []) holds.1)
 
+-- with a scope of at most 221 octets, and few rows
 pub few_rows : (m : MessageValue) → HoldsNumbers m → HasFewRows m → length (text m) ≤ 576
-few_rows (registration r) holds few = omega (arith, length-text (registration r) holds.1, holds.1.fits)
-few_rows (overwrite r) holds few = omega (arith, length-text (overwrite r) holds.1, holds.1.fits)
-few_rows (refresh r) holds few = omega (arith, length-text (refresh r) holds.1, holds.1.fits)
-few_rows (release id name kind addr) holds few = omega (arith, length-text (release id name kind addr) holds.1, holds.1.fits)
-few_rows (query id name) holds few = omega (arith, length-text (query id name) holds.1, holds.1.fits)
-few_rows (status_request id name) holds few = omega (arith, length-text (status_request id name) holds.1, holds.1.fits)
-few_rows (registered rcode r) holds few = omega (arith, length-text (registered rcode r) holds.1, holds.1.fits)
-few_rows (released id rcode name kind addr) holds few = omega (arith, length-text (released id rcode name kind addr) holds.1, holds.1.fits)
-few_rows (found id name ttl entries) holds few = omega (arith, length-text (found id name ttl entries) holds.1, holds.1.fits, few)
-few_rows (not_found id rcode None) holds few = omega (arith, length-text (not_found id rcode None) tt)
-few_rows (not_found id rcode (Some name)) holds few = omega (arith, length-text (not_found id rcode (Some name)) holds.1, holds.1.fits)
-few_rows (status id name names) holds few = omega (arith, length-text (status id name names) holds.1, holds.1.fits, few)
-few_rows (wait id name ttl) holds few = omega (arith, length-text (wait id name ttl) holds.1, holds.1.fits)
+few_rows m holds few = rw (length-text m holds) (size_small m holds few)
+  where
+    size_small : (m : MessageValue) → HoldsNumbers m → HasFewRows m → size_of m ≤ 576
+    size_small (registration r) holds few = omega (arith, holds.1.fits)
+    size_small (overwrite r) holds few = omega (arith, holds.1.fits)
+    size_small (refresh r) holds few = omega (arith, holds.1.fits)
+    size_small (registered rcode r) holds few = omega (arith, holds.1.fits)
+    size_small (found id name ttl entries) holds few = omega (arith, holds.1.fits, few)
+    size_small (not_found id rcode None) holds few = omega arith
+    size_small (not_found id rcode (Some name)) holds few = omega (arith, holds.1.fits)
+    size_small (status id name names) holds few = omega (arith, holds.1.fits, few)
+    size_small (release id name kind addr) holds few = omega (arith, holds.1.fits)
+    size_small (query id name) holds few = omega (arith, holds.1.fits)
+    size_small (status_request id name) holds few = omega (arith, holds.1.fits)
+    size_small (released id rcode name kind addr) holds few = omega (arith, holds.1.fits)
+    size_small (wait id name ttl) holds few = omega (arith, holds.1.fits)

@@ -160,29 +160,13 @@ HoldsNumbers (not_found id rcode (Some name)) = (id < 2 ^ 16) × IsName name
 HoldsNumbers (status id name names) = (id < 2 ^ 16) × IsName name × AreOctets names
 HoldsNumbers (wait id name ttl) = (id < 2 ^ 16) × IsName name × (ttl < 2 ^ 32)
 
--- its name, where it has one, is a name
-abbrev pub IsNamed : MessageValue → Type 0
-IsNamed (registration r) = IsName r.name
-IsNamed (overwrite r) = IsName r.name
-IsNamed (refresh r) = IsName r.name
-IsNamed (release id name kind addr) = IsName name
-IsNamed (query id name) = IsName name
-IsNamed (status_request id name) = IsName name
-IsNamed (registered rcode r) = IsName r.name
-IsNamed (released id rcode name kind addr) = IsName name
-IsNamed (found id name ttl entries) = IsName name
-IsNamed (not_found id rcode None) = Unit {0}
-IsNamed (not_found id rcode (Some name)) = IsName name
-IsNamed (status id name names) = IsName name
-IsNamed (wait id name ttl) = IsName name
-
 -- an RCODE of four bits, one to 10,922 entries, and at most 255 names
 abbrev pub Fits : MessageValue → Type 0
 Fits (registered rcode r) = rcode ≤ 15
 Fits (released id rcode name kind addr) = rcode ≤ 15
-Fits (found id name ttl entries) = (0 < length entries) × (length entries ≤ 65532) × (length entries % 6 ≡ 0)
+Fits (found id name ttl entries) = (0 < length entries) × (length entries ≤ 6 * 10922) × (length entries % 6 ≡ 0)
 Fits (not_found id rcode name) = (0 < rcode) × (rcode ≤ 15)
-Fits (status id name names) = (length names ≤ 4590) × (length names % 18 ≡ 0)
+Fits (status id name names) = (length names ≤ 18 * 255) × (length names % 18 ≡ 0)
 Fits _ = Unit {0}
 
 -- ---- what the code holds, as a value

@@ -273,7 +273,10 @@ fn registered<'a>(packet: &Packet<'a>, answer: &Record<'_>) -> Option<Message<'a
     if !has_entry(answer) || is_challenge {
         return None;
     }
-    Some(Message::Registered(rcode, claim_in(packet, answer)))
+    Some(Message::Registered {
+        rcode,
+        registration: claim_in(packet, answer),
+    })
 }
 
 /// A response to a release.

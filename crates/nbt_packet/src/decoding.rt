@@ -10,7 +10,7 @@ ghost use Rattle.nbt_packet.specs.Decoding.{IsHeaderOf, CountFault};
 use crate::fault::{Fault, FaultKind};
 use crate::packet::{Packet, Question, Record};
 use byteorder::{BigEndian, ByteOrder};
-use nbt_name::read_in;
+use nbt_name::{NameFaultKind, read_in};
 
 /// How many octets the header has: six words.
 const HEADER: usize = 12;
@@ -206,7 +206,7 @@ fn short_of(octets: &[u8]) -> Fault
     ensures { result ≡ short octets.now }
 {
     Fault {
-        kind: FaultKind::Short,
+        kind: FaultKind::Name(NameFaultKind::Short),
         place: octets.len(),
     }
 }

@@ -9,21 +9,10 @@ use thiserror::Error;
 /// What is wrong at a place of a packet (RFC 1002 section 4.2; the numbers are our profile's).
 #[derive(Clone, Copy, Debug, PartialEq, Eq, Error)]
 pub enum FaultKind {
-    /// 1: the octets end within the packet. The place is their length.
-    #[error("Short")]
-    Short,
-    /// 2: no label begins with this octet. The place is the octet's.
-    #[error("BadLabel")]
-    BadLabel,
-    /// 3: one of a name's 32 letters is outside `A` to `P`. The place is the letter's.
-    #[error("BadHalf")]
-    BadHalf,
-    /// 4: a pointer that doesn't lead to a smaller place. The place is the pointer's.
-    #[error("BadPointer")]
-    BadPointer,
-    /// 5: with this label a name's wire form would pass 255 octets. The place is that of the label's length octet.
-    #[error("Long")]
-    Long,
+    /// 1 to 5, the kinds of a name's fault, with their places. `Short` (1) stands for octets that end anywhere in the
+    /// packet, at their length.
+    #[error("{0}")]
+    Name(NameFaultKind),
     /// 6: a count is above 1, or NSCOUNT above 0. The place is the count's.
     #[error("TooMany")]
     TooMany,
@@ -37,29 +26,8 @@ impl FaultKind {
         ensures { result ≡ fault_number self }
     {
         match self {
-            FaultKind::Short => 1,
-            FaultKind::BadLabel => 2,
-            FaultKind::BadHalf => 3,
-            FaultKind::BadPointer => 4,
-            FaultKind::Long => 5,
+            FaultKind::Name(kind) => kind.number(),
             FaultKind::TooMany => 6,
-        }
-    }
-}
-
-impl From<NameFaultKind> for FaultKind {
-    ghost use Rattle.std.specs.Prelude.{◌≡◌};
-    ghost use Rattle.nbt_packet.specs.Numbers.{kind_of};
-
-    ghost from_gives = { λ n k. k ≡ kind_of n };
-
-    fn from(kind: NameFaultKind) -> FaultKind {
-        match kind {
-            NameFaultKind::Short => FaultKind::Short,
-            NameFaultKind::BadLabel => FaultKind::BadLabel,
-            NameFaultKind::BadHalf => FaultKind::BadHalf,
-            NameFaultKind::BadPointer => FaultKind::BadPointer,
-            NameFaultKind::Long => FaultKind::Long,
         }
     }
 }
@@ -82,7 +50,7 @@ impl From<NameFault> for Fault {
 
     fn from(fault: NameFault) -> Fault {
         Fault {
-            kind: FaultKind::from(fault.kind),
+            kind: FaultKind::Name(fault.kind),
             place: fault.place,
         }
     }

@@ -4,7 +4,7 @@ ghost use Rattle.std.specs.Prelude.{◌≡◌, ℕ, ◌≤◌, ◌⊎◌, List, 
 ghost use Rattle.nbt_name.specs.Wire.{AreOctets};
 ghost use Rattle.nbt_packet.specs.declared.fault.Fault.{Fault};
 ghost use Rattle.nbt_packet.specs.Packet.{PacketValue, PacketIs, PacketFault};
-ghost use Rattle.nbt_packet.specs.Message.{MessageValue, HoldsNumbers, IsNamed, Fits, MessageIs};
+ghost use Rattle.nbt_packet.specs.Message.{MessageValue, HoldsNumbers, Fits, MessageIs};
 ghost use Rattle.nbt_packet.specs.Text.{text, size_of};
 ghost use Rattle.nbt_packet.specs.Spelling.{Spells, HasFewRows};
 
@@ -52,7 +52,7 @@ pub fn spelled_message_fits()
 
 /// How long a written form is: so only `Found` and `Status` can be longer than the 576 octets of a datagram.
 pub fn written_length()
-    ensures { (m : MessageValue) → IsNamed m → length (text m) ≡ size_of m }
+    ensures { (m : MessageValue) → HoldsNumbers m → length (text m) ≡ size_of m }
 {}
 
 /// A message with at most 49 entries, or 14 names of a node status, is written in at most 576 octets, whatever its name.

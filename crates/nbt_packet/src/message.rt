@@ -30,54 +30,85 @@ pub enum Message<'a> {
     Refresh(Registration),
     /// NAME RELEASE REQUEST and DEMAND (RFC 1002 section 4.2.9).
     Release {
+        /// The transaction's id.
         id: u16,
+        /// The name that is given up.
         name: Name,
+        /// One machine's, or a group's.
         kind: Kind,
+        /// NB_ADDRESS, the 32-bit address of the end that gives it up.
         addr: u32,
     },
     /// NAME QUERY REQUEST (RFC 1002 section 4.2.12).
     Query {
+        /// The transaction's id.
         id: u16,
+        /// The name that is asked for.
         name: Name,
     },
     /// NODE STATUS REQUEST (RFC 1002 section 4.2.17).
     StatusRequest {
+        /// The transaction's id.
         id: u16,
+        /// A name of the node that is asked, or the one that stands for all.
         name: Name,
     },
-    /// POSITIVE and NEGATIVE NAME REGISTRATION RESPONSE (RFC 1002 sections 4.2.5 and 4.2.6), with its RCODE.
-    Registered(u8, Registration),
-    /// POSITIVE and NEGATIVE NAME RELEASE RESPONSE (RFC 1002 sections 4.2.10 and 4.2.11), with its RCODE.
-    Released {
-        id: u16,
+    /// POSITIVE and NEGATIVE NAME REGISTRATION RESPONSE (RFC 1002 sections 4.2.5 and 4.2.6).
+    Registered {
+        /// RCODE: 0 where the name is registered, 1 to 15 why it is not.
         rcode: u8,
+        /// The registration that is replied to: its id, name, kind and address, and the TTL that is granted.
+        registration: Registration,
+    },
+    /// POSITIVE and NEGATIVE NAME RELEASE RESPONSE (RFC 1002 sections 4.2.10 and 4.2.11).
+    Released {
+        /// The transaction's id.
+        id: u16,
+        /// RCODE: 0 where the name is released, 1 to 15 why it is not.
+        rcode: u8,
+        /// The name that was given up.
         name: Name,
+        /// One machine's, or a group's.
         kind: Kind,
+        /// NB_ADDRESS, the 32-bit address of the end that gave it up.
         addr: u32,
     },
-    /// POSITIVE NAME QUERY RESPONSE (RFC 1002 section 4.2.13): its entries are six octets each, lent as they stand.
+    /// POSITIVE NAME QUERY RESPONSE (RFC 1002 section 4.2.13).
     Found {
+        /// The transaction's id.
         id: u16,
+        /// The name that was asked for.
         name: Name,
+        /// How long the entries may be kept, in seconds.
         ttl: u32,
+        /// The name's entries of six octets each, NB_FLAGS and NB_ADDRESS, lent as they stand.
         entries: &'a [u8],
     },
     /// NEGATIVE NAME QUERY RESPONSE (RFC 1002 section 4.2.14), with or without its record.
     NotFound {
+        /// The transaction's id.
         id: u16,
+        /// RCODE, 1 to 15: why there are no entries.
         rcode: u8,
+        /// The name that was asked for, where the response has its record.
         name: Option<Name>,
     },
-    /// NODE STATUS RESPONSE (RFC 1002 section 4.2.18): its names are 18 octets each, lent as they stand.
+    /// NODE STATUS RESPONSE (RFC 1002 section 4.2.18).
     Status {
+        /// The transaction's id.
         id: u16,
+        /// The name that was asked with.
         name: Name,
+        /// The node's names of 18 octets each, the sixteen octets and NAME_FLAGS, lent as they stand.
         names: &'a [u8],
     },
     /// WAIT FOR ACKNOWLEDGEMENT RESPONSE (RFC 1002 section 4.2.16).
     Wait {
+        /// The transaction's id.
         id: u16,
+        /// The name of the request that waits.
         name: Name,
+        /// For how many seconds the end is to wait.
         ttl: u32,
     },
 }
@@ -91,7 +122,7 @@ impl Message<'_> {
         ensures { IsTrue result ↔ Fits (message_of self.now) }
     {
         match self {
-            Message::Registered(rcode, _) | Message::Released { rcode, .. } => *rcode <= 15,
+            Message::Registered { rcode, .. } | Message::Released { rcode, .. } => *rcode <= 15,
             Message::Found { entries, .. } => {
                 !entries.is_empty() && entries.len() <= 65532 && entries.len() % 6 == 0
             }

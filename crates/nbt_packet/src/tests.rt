@@ -9,7 +9,7 @@ use crate::{
     status_name_octets,
 };
 use arrayvec::ArrayVec;
-use nbt_name::{Kind, Name};
+use nbt_name::{Kind, Name, NameFaultKind};
 use std::process::Abort;
 use std::test::Fail;
 
@@ -69,7 +69,7 @@ fn word_of(octets: &[u8]) -> Result<&'static str, Fail> {
         Some(Message::Release { .. }) => "release",
         Some(Message::Query { .. }) => "query",
         Some(Message::StatusRequest { .. }) => "status request",
-        Some(Message::Registered(..)) => "registered",
+        Some(Message::Registered { .. }) => "registered",
         Some(Message::Released { .. }) => "released",
         Some(Message::Found { .. }) => "found",
         Some(Message::NotFound { .. }) => "not found",
@@ -147,7 +147,11 @@ fn requests_are_written_and_read(rt: HostRuntime) -> Result<(), Fail> {
 
 #[test]
 fn responses_are_written_and_read(rt: HostRuntime) -> Result<(), Fail> {
-    written_and_read(&rt, &Message::Registered(0, registration()?), REGISTERED)?;
+    let granted = Message::Registered {
+        rcode: 0,
+        registration: registration()?,
+    };
+    written_and_read(&rt, &granted, REGISTERED)?;
     let refused = Message::Released {
         id: 1,
         rcode: 6,
@@ -216,16 +220,22 @@ fn node_status_of_one_name(rt: HostRuntime) -> Result<(), Fail> {
 
 #[test]
 fn faults_and_their_places(rt: HostRuntime) -> Result<(), Fail> {
-    assert_eq!(rt; decode(b"").err(), fault(FaultKind::Short, 0));
+    assert_eq!(rt;
+        decode(b"").err(),
+        fault(FaultKind::Name(NameFaultKind::Short), 0)
+    );
     assert_eq!(rt;
         decode(b"\x00\x01\x01\x00\x00\x02").err(),
         fault(FaultKind::TooMany, 4)
     );
     let itself = b"\x00\x01\x01\x00\x00\x01\x00\x00\x00\x00\x00\x00\xC0\x0C\x00\x20\x00\x01";
-    assert_eq!(rt; decode(itself).err(), fault(FaultKind::BadPointer, 12));
+    assert_eq!(rt;
+        decode(itself).err(),
+        fault(FaultKind::Name(NameFaultKind::BadPointer), 12)
+    );
     for (patch, kind, place) in [
-        ((12, 0x21), FaultKind::BadLabel, 12),
-        ((13, 0x51), FaultKind::BadHalf, 13),
+        ((12, 0x21), FaultKind::Name(NameFaultKind::BadLabel), 12),
+        ((13, 0x51), FaultKind::Name(NameFaultKind::BadHalf), 13),
         ((7, 2), FaultKind::TooMany, 6),
         ((9, 1), FaultKind::TooMany, 8),
         ((11, 2), FaultKind::TooMany, 10),
@@ -239,7 +249,7 @@ fn faults_and_their_places(rt: HostRuntime) -> Result<(), Fail> {
         assert!(rt; read(&REGISTRATION[..length]).is_none());
         assert_eq!(rt;
             decode(&REGISTRATION[..length]).err(),
-            fault(FaultKind::Short, length)
+            fault(FaultKind::Name(NameFaultKind::Short), length)
         );
     }
     let mut more = Vec::from_slice(rt.alloc(), REGISTRATION)?;

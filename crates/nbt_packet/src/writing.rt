@@ -87,7 +87,10 @@ pub fn encode(message: &Message<'_>, out: &mut ArrayVec<u8, 576>) -> Result<(), 
         } => put_release(out, *id, name, *kind, *addr),
         Message::Query { id, name } => put_asking(out, *id, QUERY, name, NB),
         Message::StatusRequest { id, name } => put_asking(out, *id, STATUS_REQUEST, name, NBSTAT),
-        Message::Registered(rcode, r) => return put_registered(out, *rcode, r),
+        Message::Registered {
+            rcode,
+            registration,
+        } => return put_registered(out, *rcode, registration),
         Message::Released {
             id,
             rcode,

@@ -3,8 +3,8 @@
 use Rattle.std.specs.Prelude.{◌≡◌, ◌≢◌, ℕ, ◌*◌, ◌<◌, ◌≤◌, min, List, slice_index, Option, Some, None, Bool, true, false, nat_eq, if◌then◌else◌}
 use Rattle.nbt_name.specs.declared.addr.Addr.{Addr}
 use Rattle.nbt_packet.specs.declared.message.Registration.{Registration}
-use Rattle.nbt_packet.specs.Packet.{PacketValue, PacketIs}
-use Rattle.nbt_packet.specs.Message.{MessageValue, MessageIs, registration, registered}
+use Rattle.nbt_packet.specs.Message.{MessageValue, registration, registered}
+use Rattle.nbt_packet.specs.Spelling.{Spells}
 use Rattle.nbt_packet.specs.Text.{text}
 
 -- the longest lease in seconds, and until when a server that started at 0 is silent, in milliseconds
@@ -13,13 +13,6 @@ longest = 60
 
 abbrev pub silence : ℕ
 silence = 1000 * longest
-
--- The octets begin with a packet that spells the message.
-pub record BeginsWith (octets : List ℕ) (message : MessageValue) : Type 0 where
-  pub packet : PacketValue
-  pub length : ℕ
-  pub is : PacketIs octets packet length
-  pub spells : MessageIs packet message
 
 -- the seconds that a lease is granted for: the TTL that is asked, at most the longest; 0 asks for the longest
 abbrev pub granted : ℕ → ℕ
@@ -33,10 +26,10 @@ IsOwn from r = (r.addr ≡ from.ip) × (slice_index r.name.octets 0 ≢ 0x2A)
 -- what is not the sender's own; else the lease that is granted.
 pub data Serves (from : Addr) (at : ℕ) (octets : List ℕ) : Option (List ℕ) → Type 0 where
   silent : at < silence → Serves from at octets None
-  no_registration : ((r : Registration) → BeginsWith octets (registration r) → ⊥) → Serves from at octets None
-  grants : (r : Registration) → silence ≤ at → BeginsWith octets (registration r) → IsOwn from r
+  no_registration : ((r : Registration) → Spells octets (registration r) → ⊥) → Serves from at octets None
+  grants : (r : Registration) → silence ≤ at → Spells octets (registration r) → IsOwn from r
       → Serves from at octets (Some (text (registered 0 (record r { ttl = granted r.ttl }))))
-  refuses : (r : Registration) → silence ≤ at → BeginsWith octets (registration r) → ¬ IsOwn from r
+  refuses : (r : Registration) → silence ≤ at → Spells octets (registration r) → ¬ IsOwn from r
       → Serves from at octets (Some (text (registered 5 (record r { ttl = 0 }))))
 
 -- the message that a registration is replied to with

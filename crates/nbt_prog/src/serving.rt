@@ -5,11 +5,12 @@ ghost use Rattle.std.specs.Bool.{OnFalse};
 ghost use Rattle.nbt_name.specs.Wire.{IsName};
 ghost use Rattle.nbt_packet.specs.Message.{registration, registered, message_of};
 ghost use Rattle.nbt_packet.specs.declared.message.Registration.{Registration};
-ghost use Rattle.nbt_prog.specs.Serving.{BeginsWith, IsOwn, granted, Serves, RepliesTo, reply_of};
+ghost use Rattle.nbt_packet.specs.Spelling.{Spells};
+ghost use Rattle.nbt_prog.specs.Serving.{IsOwn, granted, Serves, RepliesTo, reply_of};
 
 use arrayvec::ArrayVec;
 use nbt_name::Addr;
-use nbt_packet::{Message, Registration, classify, decode, encode};
+use nbt_packet::{Message, Registration, encode, read};
 
 /// The longest lease, in seconds.
 const LONGEST: u32 = 60;
@@ -30,7 +31,8 @@ pub fn answer(from: Addr, at: u64, octets: &[u8], out: &mut ArrayVec<u8, 576>) -
     ensures reply { Serves from at octets.now (reply_of result out.new.items) }
     ensures none { OnFalse result (out.new.items ≡ []) }
 {
-    nbt_packet::laws::written_length();
+    nbt_packet::laws::spelled_message_fits();
+    nbt_packet::laws::few_rows_are_written();
     out.clear();
     if at < SILENCE {
         return false;
@@ -44,12 +46,9 @@ pub fn answer(from: Addr, at: u64, octets: &[u8], out: &mut ArrayVec<u8, 576>) -
 
 /// The registration that the octets spell, if they spell one.
 fn registration_in(octets: &[u8]) -> Option<Registration>
-    ensures { (r : Registration) → (result ≡ Some r) ↔ BeginsWith octets.now (registration r) }
+    ensures { (r : Registration) → (result ≡ Some r) ↔ Spells octets.now (registration r) }
 {
-    let Ok((packet, _)) = decode(octets) else {
-        return None;
-    };
-    let Some(message) = classify(&packet) else {
+    let Some(message) = read(octets) else {
         return None;
     };
     registration_of(message)
@@ -69,10 +68,16 @@ fn reply_to(from: Addr, asked: Registration) -> Message<'static>
     ensures { RepliesTo from asked (message_of result) }
 {
     if !is_own(from, &asked) {
-        return Message::Registered(REFUSED, Registration { ttl: 0, ..asked });
+        return Message::Registered {
+            rcode: REFUSED,
+            registration: Registration { ttl: 0, ..asked },
+        };
     }
     let ttl = granted_of(asked.ttl);
-    Message::Registered(0, Registration { ttl, ..asked })
+    Message::Registered {
+        rcode: 0,
+        registration: Registration { ttl, ..asked },
+    }
 }
 
 /// Whether an end asks for itself, and for one name.

@@ -5,6 +5,7 @@ ghost use Rattle.nbt_prog.specs.Vector.{Says, fault_word};
 
 use crate::number;
 use hex::FromHexError;
+use nbt_name::NameFaultKind;
 use nbt_packet::{Fault, FaultKind, decode};
 use std::alloc::{AllocError, Global};
 
@@ -86,11 +87,11 @@ fn kind_of(word: &str) -> Option<FaultKind>
     ensures { (kind : FaultKind) → (result ≡ Some kind) ↔ (word.now ≡ fault_word kind) }
 {
     match word {
-        "Short" => Some(FaultKind::Short),
-        "BadLabel" => Some(FaultKind::BadLabel),
-        "BadHalf" => Some(FaultKind::BadHalf),
-        "BadPointer" => Some(FaultKind::BadPointer),
-        "Long" => Some(FaultKind::Long),
+        "Short" => Some(FaultKind::Name(NameFaultKind::Short)),
+        "BadLabel" => Some(FaultKind::Name(NameFaultKind::BadLabel)),
+        "BadHalf" => Some(FaultKind::Name(NameFaultKind::BadHalf)),
+        "BadPointer" => Some(FaultKind::Name(NameFaultKind::BadPointer)),
+        "Long" => Some(FaultKind::Name(NameFaultKind::Long)),
         "TooMany" => Some(FaultKind::TooMany),
         _ => None,
     }

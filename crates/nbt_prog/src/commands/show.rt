@@ -97,7 +97,7 @@ fn word_of(message: &Message<'_>) -> &'static str
         Message::Release { .. } => "release",
         Message::Query { .. } => "query",
         Message::StatusRequest { .. } => "status-request",
-        Message::Registered(..) => "registered",
+        Message::Registered { .. } => "registered",
         Message::Released { .. } => "released",
         Message::Found { .. } => "found",
         Message::NotFound { .. } => "not-found",
