@@ -2,7 +2,7 @@
 use Rattle.std.proofs.Common.{◌≡◌, ℕ, ◌≤◌, List, length, arith, Option, subst}
 use Rattle.nbt_packet.specs.declared.fault.Fault.{Fault}
 use Rattle.nbt_packet.specs.Fields.{word_at}
-use Rattle.nbt_packet.specs.Decoding.{CountFault, cut, great, IsHeaderOf}
+use Rattle.nbt_packet.specs.Inner.Decoding.{CountFault, cut, great, IsHeaderOf}
 use Rattle.nbt_packet.specs.declared.decoding.Header.{Header}
 use Rattle.nbt_packet.specs.Packet.{Count, questions, answers, authorities, additionals, CountsFit, SectionAt, PacketFault, header_cut, count_great}
 

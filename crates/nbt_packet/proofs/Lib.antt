@@ -1,11 +1,11 @@
 pub mod Header
 pub mod Outcome
-pub mod Table
+pub mod OneMessage
+pub mod OnePacket
+pub mod Deciding
 pub mod Written
 pub mod Words
 pub mod Shapes
 pub mod ReadBack
 pub mod Sizes
-pub mod OnePacket
-pub mod Deciding
 pub mod Writable

@@ -6,7 +6,7 @@ use Rattle.nbt_packet.specs.Fields.{word_at, long_at}
 use Rattle.nbt_packet.specs.Packet.{PacketValue, QuestionAt, RecordAt, SectionAt, PacketIs}
 use Rattle.nbt_packet.specs.Message.{MessageValue}
 use Rattle.nbt_packet.specs.Spelling.{Spells}
-use Rattle.nbt_packet.proofs.Table.{one_line}
+use Rattle.nbt_packet.proofs.OneMessage.{one_line}
 
 -- at each place one value, which ends at one place
 abbrev pub OneAt : {X : Type 0} → (ℕ → X → ℕ → Type 0) → Type 0

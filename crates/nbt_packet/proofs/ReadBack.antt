@@ -8,7 +8,7 @@ use Rattle.nbt_name.specs.declared.addr.Kind.TheVariants.{Unique, Group}
 use Rattle.nbt_name.specs.Wire.{NameValue}
 use Rattle.nbt_packet.specs.declared.message.Registration.{Registration}
 use Rattle.nbt_packet.specs.Packet.{PacketValue, PacketIs}
-use Rattle.nbt_packet.specs.Message.{MessageValue, registration, overwrite, refresh, release, query, status_request, registered, released, found, not_found, status, wait, nb, nbstat, null, opcode_of, broadcast, rcode_of, recursion_available, IsResponse, IsEntry, Claims, Tells, TellsEntry, HoldsNumbers, Fits, MessageIs}
+use Rattle.nbt_packet.specs.Message.{MessageValue, registration, overwrite, refresh, release, query, status_request, registered, released, found, not_found, status, wait, nb, nbstat, null, internet_record, opcode_of, rcode_of, IsUnicast, Responds, IsChallenge, IsEntry, Answers, ClaimsEntry, AnswersEntry, HoldsNumbers, Fits, MessageIs}
 use Rattle.nbt_packet.specs.Text.{entry, text}
 use Rattle.nbt_packet.proofs.Words.{NameLaws}
 use Rattle.nbt_packet.proofs.Shapes.{asked_packet, bare_packet, answer_packet, claim_packet, asking_is, bare_is, answering_is, claiming_is}
@@ -23,14 +23,14 @@ entry_short : (kind : Kind) (addr : ℕ) → length (entry kind addr) < 2 ^ 16
 entry_short Unique addr = omega arith
 entry_short Group addr = omega arith
 
-claims_it : (flags : ℕ) (r : Registration) → r.addr < 2 ^ 32 → Claims (claim_packet flags r) r
-claims_it flags r fits = record { rdata = entry r.kind r.addr; id = refl; question = refl; no_answer = refl; additional = refl; entry = entry_is r.kind r.addr fits }
+claims_it : (flags : ℕ) (r : Registration) → r.addr < 2 ^ 32 → ClaimsEntry (claim_packet flags r) r
+claims_it flags r fits = record { rdata = entry r.kind r.addr; id = refl; claims = record { question_is = refl; no_answer = refl; additional_is = refl }; entry = entry_is r.kind r.addr fits }
 
-tells_it : (id flags : ℕ) (name : NameValue) (rtype ttl : ℕ) (rdata : List ℕ) → Tells (answer_packet id flags name rtype ttl rdata) name rtype ttl rdata
-tells_it id flags name rtype ttl rdata = record { answers = record { no_question = refl; answer_is = refl; no_additional = refl } }
+answers_it : (id flags : ℕ) (name : NameValue) (rtype ttl : ℕ) (rdata : List ℕ) → Answers (answer_packet id flags name rtype ttl rdata) (internet_record name rtype ttl rdata)
+answers_it id flags name rtype ttl rdata = record { no_question = refl; answer_is = refl; no_additional = refl }
 
-tells_entry : (id flags : ℕ) (name : NameValue) (ttl : ℕ) (kind : Kind) (addr : ℕ) → addr < 2 ^ 32 → TellsEntry (answer_packet id flags name nb ttl (entry kind addr)) name ttl kind addr
-tells_entry id flags name ttl kind addr fits = record { rdata = entry kind addr; tells = tells_it id flags name nb ttl (entry kind addr); entry = entry_is kind addr fits }
+answers_entry : (flags : ℕ) (r : Registration) → r.addr < 2 ^ 32 → AnswersEntry (answer_packet r.id flags r.name nb r.ttl (entry r.kind r.addr)) r
+answers_entry flags r fits = record { rdata = entry r.kind r.addr; id = refl; answers = answers_it r.id flags r.name nb r.ttl (entry r.kind r.addr); entry = entry_is r.kind r.addr fits }
 
 -- ---- flags with an RCODE
 
@@ -38,7 +38,7 @@ record FlagsAre (flags opcode rcode : ℕ) : Type 0 where
   small : flags < 2 ^ 16
   response : 0x8000 ≤ flags
   opcode_is : opcode_of flags ≡ opcode
-  unicast : broadcast flags ≡ 0
+  unicast : IsUnicast flags
   rcode_is : rcode ≡ rcode_of flags
 
 registered_flags : (rcode : ℕ) → rcode ≤ 15 → FlagsAre (0xAD80 + rcode) 5 rcode
@@ -50,11 +50,11 @@ released_flags rcode most = record { small = omega arith; response = omega arith
 queried_flags : (rcode : ℕ) → rcode ≤ 15 → FlagsAre (0x8580 + rcode) 0 rcode
 queried_flags rcode most = record { small = omega arith; response = omega arith; opcode_is = omega arith; unicast = omega arith; rcode_is = omega arith }
 
-responds : (p : PacketValue) (opcode rcode : ℕ) → FlagsAre p.flags opcode rcode → IsResponse p opcode
-responds p opcode rcode f = record { response = f.response; opcode_is = f.opcode_is; unicast = f.unicast }
+responds : (flags opcode rcode : ℕ) → FlagsAre flags opcode rcode → Responds flags opcode
+responds flags opcode rcode f = record { response = f.response; opcode_is = f.opcode_is; unicast = f.unicast }
 
-no_challenge : (rcode : ℕ) → rcode ≤ 15 → recursion_available (0xAD80 + rcode) ≡ 1
-no_challenge rcode most = omega arith
+no_challenge : (rcode : ℕ) → rcode ≤ 15 → ¬ IsChallenge (0xAD80 + rcode)
+no_challenge rcode most challenge = challenge.end_node (omega arith)
 
 -- ---- the names of a node status
 
@@ -64,7 +64,7 @@ names_of names = length names / 18 ∷ names ++ replicate 46 0
 whole_names : (names : List ℕ) → length names % 18 ≡ 0 → 18 * (length names / 18) ≡ length names
 whole_names names whole = omega arith
 
-names_short : (names : List ℕ) → length names ≤ 4590 → length (names_of names) < 2 ^ 16
+names_short : (names : List ℕ) → length names ≤ 18 * 255 → length (names_of names) < 2 ^ 16
 unfolding names_of
 names_short names most = omega (arith, length-append names (replicate 46 0))
 
@@ -90,7 +90,7 @@ text_is_read names (registration r) rest (id, name, addr, ttl) fits = (
 text_is_read names (overwrite r) rest (id, name, addr, ttl) fits = (
   claim_packet 0x2800 r,
   claiming_is names 0x2800 r rest id (omega arith) name ttl (entry_short r.kind r.addr),
-  (record { request = omega arith; opcode_is = refl; unicast = refl }, refl, claims_it 0x2800 r addr),
+  (record { request = omega arith; opcode_is = refl; unicast = refl }, λ desired. omega arith, claims_it 0x2800 r addr),
 )
 text_is_read names (refresh r) rest (id, name, addr, ttl) fits = (
   claim_packet 0x4000 r,
@@ -103,42 +103,42 @@ text_is_read names (release id name kind addr) rest (id_fits, is_name, addr_fits
 text_is_read names (query id name) rest (id_fits, is_name) fits = (
   asked_packet id 0x0100 nb name,
   asking_is names id 0x0100 nb name rest id_fits (omega arith) (omega arith) is_name,
-  (refl, record { request = omega arith; opcode_is = refl; unicast = refl }, record { question = refl; no_answer = refl; no_additional = refl }),
+  (refl, record { request = omega arith; opcode_is = refl; unicast = refl }, record { question_is = refl; no_answer = refl; no_additional = refl }),
 )
 text_is_read names (status_request id name) rest (id_fits, is_name) fits = (
   asked_packet id 0 nbstat name,
   asking_is names id 0 nbstat name rest id_fits (omega arith) (omega arith) is_name,
-  (refl, omega arith, refl, record { question = refl; no_answer = refl; no_additional = refl }),
+  (refl, omega arith, refl, record { question_is = refl; no_answer = refl; no_additional = refl }),
 )
 text_is_read names (registered rcode r) rest (id, name, addr, ttl) fits =
     let flags = registered_flags rcode fits in
     let p : PacketValue = answer_packet r.id (0xAD80 + rcode) r.name nb r.ttl (entry r.kind r.addr) in (
       p,
       answering_is names r.id (0xAD80 + rcode) r.name nb r.ttl (entry r.kind r.addr) rest id flags.small name (omega arith) ttl (entry_short r.kind r.addr),
-      (refl, inl (responds p 5 rcode flags), λ a b. no_challenge rcode fits, flags.rcode_is, tells_entry r.id (0xAD80 + rcode) r.name r.ttl r.kind r.addr addr),
+      (inl (responds (0xAD80 + rcode) 5 rcode flags), no_challenge rcode fits, flags.rcode_is, answers_entry (0xAD80 + rcode) r addr),
     )
 text_is_read names (released id rcode name kind addr) rest (id_fits, is_name, addr_fits) fits =
     let flags = released_flags rcode fits in
     let p : PacketValue = answer_packet id (0xB400 + rcode) name nb 0 (entry kind addr) in (
       p,
       answering_is names id (0xB400 + rcode) name nb 0 (entry kind addr) rest id_fits flags.small is_name (omega arith) (omega arith) (entry_short kind addr),
-      (refl, responds p 6 rcode flags, flags.rcode_is, 0, tells_entry id (0xB400 + rcode) name 0 kind addr addr_fits),
+      (responds (0xB400 + rcode) 6 rcode flags, flags.rcode_is, 0, answers_entry (0xB400 + rcode) (record { id = id; name = name; kind = kind; addr = addr; ttl = 0 }) addr_fits),
     )
 text_is_read names (found id name ttl entries) rest (id_fits, is_name, ttl_fits, octets) (some, most, whole) = (
   answer_packet id 0x8580 name nb ttl entries,
   answering_is names id 0x8580 name nb ttl entries rest id_fits (omega arith) is_name (omega arith) ttl_fits (omega arith),
-  (refl, record { response = omega arith; opcode_is = refl; unicast = refl }, refl, tells_it id 0x8580 name nb ttl entries, some, whole),
+  (refl, record { response = omega arith; opcode_is = refl; unicast = refl }, refl, answers_it id 0x8580 name nb ttl entries, (some, whole)),
 )
 text_is_read names (not_found id rcode None) rest id_fits (low, most) =
     let flags = queried_flags rcode most in
     let p : PacketValue = bare_packet id (0x8580 + rcode) in
-    (p, bare_is id (0x8580 + rcode) rest id_fits flags.small, (refl, responds p 0 rcode flags, flags.rcode_is, λ none. omega arith, record { no_question = refl; no_answer = refl; no_additional = refl }))
+    (p, bare_is id (0x8580 + rcode) rest id_fits flags.small, (refl, responds (0x8580 + rcode) 0 rcode flags, flags.rcode_is, λ none. omega arith, record { no_question = refl; no_answer = refl; no_additional = refl }))
 text_is_read names (not_found id rcode (Some name)) rest (id_fits, is_name) (low, most) =
     let flags = queried_flags rcode most in
     let p : PacketValue = answer_packet id (0x8580 + rcode) name null 0 [] in (
       p,
       answering_is names id (0x8580 + rcode) name null 0 [] rest id_fits flags.small is_name (omega arith) (omega arith) (omega arith),
-      (refl, responds p 0 rcode flags, flags.rcode_is, λ none. omega arith, _, record { no_question = refl; answer_is = refl; no_additional = refl }, refl),
+      (refl, responds (0x8580 + rcode) 0 rcode flags, flags.rcode_is, λ none. omega arith, (_, record { no_question = refl; answer_is = refl; no_additional = refl }, refl)),
     )
 text_is_read names (status id name entries) rest (id_fits, is_name, octets) (most, whole) = (
   answer_packet id 0x8400 name nbstat 0 (names_of entries),
@@ -149,10 +149,8 @@ text_is_read names (status id name entries) rest (id_fits, is_name, octets) (mos
     refl,
     0,
     names_of entries,
-    tells_it id 0x8400 name nbstat 0 (names_of entries),
-    omega arith,
-    names_within entries whole,
-    names_are entries whole,
+    answers_it id 0x8400 name nbstat 0 (names_of entries),
+    record { counted = omega arith; whole = names_within entries whole; names_are = names_are entries whole },
   ),
 )
 text_is_read names (wait id name ttl) rest (id_fits, is_name, ttl_fits) fits = (

@@ -9,7 +9,7 @@ use Rattle.nbt_packet.specs.declared.message.Registration.{Registration}
 use Rattle.nbt_packet.specs.Fields.{word, long, word_at}
 use Rattle.nbt_packet.specs.Packet.{PacketValue, QuestionAt, RecordAt, CountsFit, IsHeader, PacketIs, questions, answers, authorities, additionals}
 use Rattle.nbt_packet.specs.Message.{internet, nb}
-use Rattle.nbt_packet.specs.Text.{header, fields, entry, asking, claiming, answering}
+use Rattle.nbt_packet.specs.Text.{header, record_fields, entry, question_octets, claim_octets, answer_octets}
 use Rattle.nbt_packet.proofs.Words.{NameLaws, Behind, onward, word_there, long_there, range_there, octet_there, name_there}
 
 -- ---- the header
@@ -68,8 +68,8 @@ question_there names {octets} {p} name rtype rest is_name fits b =
     }
 
 record_there : {octets : List ℕ} {place named : ℕ} (name : NameValue) (rtype ttl : ℕ) (rdata rest : List ℕ) → NameAt octets place name named → rtype < 2 ^ 16 → ttl < 2 ^ 32 → length rdata < 2 ^ 16
-    → Behind octets named (fields rtype ttl rdata ++ rest)
-    → RecordAt octets place (record { name = name; rtype = rtype; class = internet; ttl = ttl; rdata = rdata }) (named + length (fields rtype ttl rdata))
+    → Behind octets named (record_fields rtype ttl rdata ++ rest)
+    → RecordAt octets place (record { name = name; rtype = rtype; class = internet; ttl = ttl; rdata = rdata }) (named + length (record_fields rtype ttl rdata))
 record_there {octets} {place} {named} name rtype ttl rdata rest at rtype_fits ttl_fits rdata_fits b =
     let tail : List ℕ = rdata ++ rest in
     let b2 : Behind octets (named + 2) (word internet ++ (long ttl ++ (word (length rdata) ++ tail))) = onward 2 (word rtype) (word internet ++ (long ttl ++ (word (length rdata) ++ tail))) refl b in
@@ -116,7 +116,7 @@ claim_packet flags r = record {
 }
 
 pub asking_is : NameLaws → (id flags rtype : ℕ) (name : NameValue) (rest : List ℕ) → id < 2 ^ 16 → flags < 2 ^ 16 → rtype < 2 ^ 16 → IsName name
-    → PacketIs (asking id flags rtype name ++ rest) (asked_packet id flags rtype name) (length (asking id flags rtype name))
+    → PacketIs (question_octets id flags rtype name ++ rest) (asked_packet id flags rtype name) (length (question_octets id flags rtype name))
 asking_is names id flags rtype name rest id_fits flags_fit rtype_fits is_name =
     let q : List ℕ = wire name ++ word rtype ++ word internet in
     let h = header_there id flags 1 0 0 (q ++ rest) id_fits flags_fit (omega arith) (omega arith) (omega arith) in
@@ -147,11 +147,11 @@ bare_is id flags rest id_fits flags_fit =
     }
 
 pub answering_is : NameLaws → (id flags : ℕ) (name : NameValue) (rtype ttl : ℕ) (rdata rest : List ℕ) → id < 2 ^ 16 → flags < 2 ^ 16 → IsName name → rtype < 2 ^ 16 → ttl < 2 ^ 32 → length rdata < 2 ^ 16
-    → PacketIs (answering id flags name rtype ttl rdata ++ rest) (answer_packet id flags name rtype ttl rdata) (length (answering id flags name rtype ttl rdata))
+    → PacketIs (answer_octets id flags name rtype ttl rdata ++ rest) (answer_packet id flags name rtype ttl rdata) (length (answer_octets id flags name rtype ttl rdata))
 answering_is names id flags name rtype ttl rdata rest id_fits flags_fit is_name rtype_fits ttl_fits rdata_fits =
-    let octets : List ℕ = answering id flags name rtype ttl rdata ++ rest in
+    let octets : List ℕ = answer_octets id flags name rtype ttl rdata ++ rest in
     let w : List ℕ = wire name in
-    let f : List ℕ = fields rtype ttl rdata in
+    let f : List ℕ = record_fields rtype ttl rdata in
     let h = header_there id flags 0 1 0 ((w ++ f) ++ rest) id_fits flags_fit (omega arith) (omega arith) (omega arith) in
     let b : Behind octets 12 (w ++ (f ++ rest)) = subst (Behind octets 12) (append_assoc w f rest) h.behind in
     let b2 : Behind octets (12 + length w) (f ++ rest) = onward (length w) w (f ++ rest) refl b in
@@ -168,12 +168,12 @@ answering_is names id flags name rtype ttl rdata rest id_fits flags_fit is_name 
 
 -- a question, and a record whose name is a pointer to the question's
 pub claiming_is : NameLaws → (flags : ℕ) (r : Registration) (rest : List ℕ) → r.id < 2 ^ 16 → flags < 2 ^ 16 → IsName r.name → r.ttl < 2 ^ 32 → length (entry r.kind r.addr) < 2 ^ 16
-    → PacketIs (claiming flags r ++ rest) (claim_packet flags r) (length (claiming flags r))
+    → PacketIs (claim_octets flags r ++ rest) (claim_packet flags r) (length (claim_octets flags r))
 claiming_is names flags r rest id_fits flags_fit is_name ttl_fits rdata_fits =
-    let octets : List ℕ = claiming flags r ++ rest in
+    let octets : List ℕ = claim_octets flags r ++ rest in
     let w : List ℕ = wire r.name in
     let q : List ℕ = w ++ word nb ++ word internet in
-    let f : List ℕ = fields nb r.ttl (entry r.kind r.addr) in
+    let f : List ℕ = record_fields nb r.ttl (entry r.kind r.addr) in
     let add : List ℕ = 0xC0 ∷ 0x0C ∷ f in
     let h = header_there r.id flags 1 0 1 ((q ++ add) ++ rest) id_fits flags_fit (omega arith) (omega arith) (omega arith) in
     let b : Behind octets 12 (q ++ (add ++ rest)) = subst (Behind octets 12) (append_assoc q add rest) h.behind in

@@ -8,7 +8,7 @@ use Rattle.nbt_name.specs.Wire.{NameValue, IsName, letters, wire}
 use Rattle.nbt_packet.specs.declared.message.Registration.{Registration}
 use Rattle.nbt_packet.specs.Fields.{word}
 use Rattle.nbt_packet.specs.Message.{MessageValue, HoldsNumbers, registration, overwrite, refresh, release, query, status_request, registered, released, found, not_found, status, wait, nb, nbstat, null, internet}
-use Rattle.nbt_packet.specs.Text.{header, fields, entry, asking, claiming, answering, text, wire_size, size_of}
+use Rattle.nbt_packet.specs.Text.{header, record_fields, entry, question_octets, claim_octets, answer_octets, text, wire_size, size_of}
 use Rattle.nbt_packet.specs.Spelling.{HasFewRows}
 
 length-letters : (os : List ℕ) → length (letters os) ≡ 2 * length os
@@ -22,15 +22,15 @@ length-entry : (kind : Kind) (addr : ℕ) → length (entry kind addr) ≡ 6
 length-entry Unique addr = refl
 length-entry Group addr = refl
 
-length-asking : (id flags rtype : ℕ) (n : NameValue) → IsName n → length (asking id flags rtype n) ≡ 16 + wire_size n
+length-asking : (id flags rtype : ℕ) (n : NameValue) → IsName n → length (question_octets id flags rtype n) ≡ 16 + wire_size n
 length-asking id flags rtype n is =
     omega (arith, length-append (header id flags 1 0 0) (wire n ++ word rtype ++ word internet), length-append (wire n ++ word rtype) (word internet), length-append (wire n) (word rtype), length-wire n is)
 
-length-claiming : (flags : ℕ) (r : Registration) → IsName r.name → length (claiming flags r) ≡ 34 + wire_size r.name
+length-claiming : (flags : ℕ) (r : Registration) → IsName r.name → length (claim_octets flags r) ≡ 34 + wire_size r.name
 length-claiming flags r is =
     omega (
       arith,
-      length-append (header r.id flags 1 0 1 ++ (wire r.name ++ word nb ++ word internet)) (0xC0 ∷ 0x0C ∷ fields nb r.ttl (entry r.kind r.addr)),
+      length-append (header r.id flags 1 0 1 ++ (wire r.name ++ word nb ++ word internet)) (0xC0 ∷ 0x0C ∷ record_fields nb r.ttl (entry r.kind r.addr)),
       length-append (header r.id flags 1 0 1) (wire r.name ++ word nb ++ word internet),
       length-append (wire r.name ++ word nb) (word internet),
       length-append (wire r.name) (word nb),
@@ -38,9 +38,9 @@ length-claiming flags r is =
       length-entry r.kind r.addr,
     )
 
-length-answering : (id flags : ℕ) (n : NameValue) (rtype ttl : ℕ) (rdata : List ℕ) → IsName n → length (answering id flags n rtype ttl rdata) ≡ 22 + wire_size n + length rdata
+length-answering : (id flags : ℕ) (n : NameValue) (rtype ttl : ℕ) (rdata : List ℕ) → IsName n → length (answer_octets id flags n rtype ttl rdata) ≡ 22 + wire_size n + length rdata
 length-answering id flags n rtype ttl rdata is =
-    omega (arith, length-append (header id flags 0 1 0) (wire n ++ fields rtype ttl rdata), length-append (wire n) (fields rtype ttl rdata), length-wire n is)
+    omega (arith, length-append (header id flags 0 1 0) (wire n ++ record_fields rtype ttl rdata), length-append (wire n) (record_fields rtype ttl rdata), length-wire n is)
 
 pub length-text : (m : MessageValue) → HoldsNumbers m → length (text m) ≡ size_of m
 length-text (registration r) holds = length-claiming 0x2900 r holds.1

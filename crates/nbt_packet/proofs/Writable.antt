@@ -10,7 +10,7 @@ use Rattle.nbt_packet.specs.declared.message.Registration.{Registration}
 use Rattle.nbt_packet.specs.declared.packet.Question.{Question}
 use Rattle.nbt_packet.specs.Fields.{word_at, long_at}
 use Rattle.nbt_packet.specs.Packet.{RecordValue, PacketValue, QuestionAt, RecordAt, SectionAt, PacketIs}
-use Rattle.nbt_packet.specs.Message.{MessageValue, registration, overwrite, refresh, release, query, status_request, registered, released, found, not_found, status, wait, IsEntry, Asks, Claims, Tells, MessageIs, IsRegistration, HoldsNumbers, Fits}
+use Rattle.nbt_packet.specs.Message.{MessageValue, registration, overwrite, refresh, release, query, status_request, registered, released, found, not_found, status, wait, IsEntry, ClaimsEntry, AnswersEntry, GivesName, MessageIs, IsRegistration, HoldsNumbers, Fits}
 use Rattle.nbt_packet.specs.Spelling.{Spells}
 
 -- ---- octets and numbers
@@ -82,43 +82,39 @@ packet_holds octets fits p n is = record {
 entry_holds : (rdata : List ℕ) (kind : Kind) (addr : ℕ) → AreOctets rdata → IsEntry rdata kind addr → addr < 2 ^ 32
 entry_holds rdata kind addr fits entry = rw entry.addr_is (long_fits rdata 2 fits)
 
-claim_holds : (p : PacketValue) (r : Registration) → PacketHolds p → Claims p r → IsRegistration r
-claim_holds p r holds claims =
-    let added = holds.additional _ claims.additional in
-    (rw (← claims.id) holds.id, added.name, entry_holds claims.rdata r.kind r.addr added.octets claims.entry, added.ttl)
+claim_holds : (p : PacketValue) (r : Registration) → PacketHolds p → ClaimsEntry p r → IsRegistration r
+claim_holds p r holds is =
+    let added = holds.additional _ is.claims.additional_is in
+    (rw (← is.id) holds.id, added.name, entry_holds is.rdata r.kind r.addr added.octets is.entry, added.ttl)
 
-asked_name : (p : PacketValue) (name : NameValue) (rtype : ℕ) → PacketHolds p → Asks p name rtype → IsName name
-asked_name p name rtype holds asks = holds.question _ asks.question
+answer_holds : (p : PacketValue) (r : Registration) → PacketHolds p → AnswersEntry p r → IsRegistration r
+answer_holds p r holds is =
+    let answer = holds.answer _ is.answers.answer_is in
+    (rw (← is.id) holds.id, answer.name, entry_holds is.rdata r.kind r.addr answer.octets is.entry, answer.ttl)
 
-told : (p : PacketValue) (name : NameValue) (rtype ttl : ℕ) (rdata : List ℕ) → PacketHolds p → Tells p name rtype ttl rdata → RecordHolds (record { name = name; rtype = rtype; class = 1; ttl = ttl; rdata = rdata })
-told p name rtype ttl rdata holds tells = holds.answer _ tells.answers.answer_is
+given_name : (p : PacketValue) (id : ℕ) (name : Option NameValue) (rcode : ℕ) → PacketHolds p → p.id ≡ id → GivesName p name → HoldsNumbers (not_found id rcode name)
+given_name p id None rcode holds same gives = rw (← same) holds.id
+given_name p id (Some name) rcode holds same gives = (rw (← same) holds.id, rw (← gives.2) (holds.answer gives.0 gives.1.answer_is).name)
 
 message_holds : (p : PacketValue) (m : MessageValue) → PacketHolds p → MessageIs p m → HoldsNumbers m × Fits m
 message_holds p (registration r) holds is = (claim_holds p r holds is.2, tt)
 message_holds p (overwrite r) holds is = (claim_holds p r holds is.2, tt)
 message_holds p (refresh r) holds is = (claim_holds p r holds is.1, tt)
-message_holds p (release id name kind addr) holds is =
-    let r = claim_holds p (record { id = id; name = name; kind = kind; addr = addr; ttl = is.1 }) holds is.2 in ((r.0, r.1, r.2), tt)
-message_holds p (query id name) holds is = ((rw (← is.0) holds.id, asked_name p name _ holds is.2), tt)
-message_holds p (status_request id name) holds is = ((rw (← is.0) holds.id, asked_name p name _ holds is.3), tt)
-message_holds p (registered rcode r) holds is =
-    let answer = told p r.name _ r.ttl is.4.rdata holds is.4.tells in
-    ((rw (← is.0) holds.id, answer.name, entry_holds is.4.rdata r.kind r.addr answer.octets is.4.entry, answer.ttl), omega (arith, is.3))
-message_holds p (released id rcode name kind addr) holds is =
-    let answer = told p name _ is.3 is.4.rdata holds is.4.tells in
-    ((rw (← is.0) holds.id, answer.name, entry_holds is.4.rdata kind addr answer.octets is.4.entry), omega (arith, is.2))
+message_holds p (release id name kind addr) holds is = let r = claim_holds p _ holds is.2 in ((r.0, r.1, r.2), tt)
+message_holds p (query id name) holds is = ((rw (← is.0) holds.id, holds.question _ is.2.question_is), tt)
+message_holds p (status_request id name) holds is = ((rw (← is.0) holds.id, holds.question _ is.3.question_is), tt)
+message_holds p (registered rcode r) holds is = (answer_holds p r holds is.3, omega (arith, is.2))
+message_holds p (released id rcode name kind addr) holds is = let r = answer_holds p _ holds is.3 in ((r.0, r.1, r.2), omega (arith, is.1))
 message_holds p (found id name ttl entries) holds is =
-    let answer = told p name _ ttl entries holds is.3 in
-    ((rw (← is.0) holds.id, answer.name, answer.ttl, answer.octets), (is.4, omega (arith, answer.most, is.5), is.5))
-message_holds p (not_found id rcode None) holds is = (rw (← is.0) holds.id, (omega (arith, is.3), omega (arith, is.2)))
-message_holds p (not_found id rcode (Some name)) holds is =
-    let answer = holds.answer is.4 is.5.answer_is in
-    ((rw (← is.0) holds.id, rw (← is.6) answer.name), (omega (arith, is.3), omega (arith, is.2)))
+    let answer = holds.answer _ is.3.answer_is in
+    ((rw (← is.0) holds.id, answer.name, answer.ttl, answer.octets), (is.4.0, omega (arith, answer.most, is.4.1), is.4.1))
+message_holds p (not_found id rcode name) holds is = (given_name p id name rcode holds is.0 is.4, (omega (arith, is.3), omega (arith, is.2)))
 message_holds p (status id name names) holds is =
-    let answer = told p name _ is.3 is.4 holds is.5 in
+    let answer = holds.answer _ is.5.answer_is in
     let count : ℕ = slice_index is.4 0 in
-    let long : length names ≡ 18 * count = ap length is.8 ∙ length-take-le ((1 + 18 * count) - 1) (drop 1 is.4) (omega (arith, is.7, length-drop 1 is.4)) ∙ omega arith in (
-      (rw (← is.0) holds.id, answer.name, rw is.8 (octets_range is.4 1 (1 + 18 * count) answer.octets)),
+    let long : length names ≡ 18 * count =
+    ap length is.6.names_are ∙ length-take-le ((1 + 18 * count) - 1) (drop 1 is.4) (omega (arith, is.6.whole, length-drop 1 is.4)) ∙ omega arith in (
+      (rw (← is.0) holds.id, answer.name, rw is.6.names_are (octets_range is.4 1 (1 + 18 * count) answer.octets)),
       (omega (arith, long, answer.octets 0), omega (arith, long)),
     )
 message_holds p (wait id name ttl) holds is =

@@ -6,6 +6,7 @@ use Rattle.nbt_name.specs.Wire.{NameValue, IsName, AreOctets}
 use Rattle.nbt_packet.specs.declared.message.Message.{Message}
 use Rattle.nbt_packet.specs.declared.message.Message.TheVariants as m
 use Rattle.nbt_packet.specs.declared.message.Registration.{Registration}
+use Rattle.nbt_packet.specs.declared.packet.Question.{Question}
 use Rattle.nbt_packet.specs.Fields.{long_at}
 use Rattle.nbt_packet.specs.Packet.{PacketValue, RecordValue}
 
@@ -26,31 +27,46 @@ pub data MessageValue : Type 0 where
 
 -- ---- the flags' word: R, OPCODE, RD, RA, B and RCODE (RFC 1002 section 4.2.1.1)
 
+-- R clear, and R set
+abbrev pub IsRequest : ℕ → Type 0
+IsRequest flags = flags < 0x8000
+
+abbrev pub IsResponse : ℕ → Type 0
+IsResponse flags = 0x8000 ≤ flags
+
 abbrev pub opcode_of : ℕ → ℕ
 opcode_of flags = flags / 0x800 % 16
 
-abbrev pub recursion_desired : ℕ → ℕ
-recursion_desired flags = flags / 0x100 % 2
+-- RD set, and RA set
+abbrev pub DesiresRecursion : ℕ → Type 0
+DesiresRecursion flags = flags / 0x100 % 2 ≡ 1
 
-abbrev pub recursion_available : ℕ → ℕ
-recursion_available flags = flags / 0x80 % 2
+abbrev pub OffersRecursion : ℕ → Type 0
+OffersRecursion flags = flags / 0x80 % 2 ≡ 1
 
-abbrev pub broadcast : ℕ → ℕ
-broadcast flags = flags / 0x10 % 2
+-- B clear: sent to one end
+abbrev pub IsUnicast : ℕ → Type 0
+IsUnicast flags = flags / 0x10 % 2 ≡ 0
 
 abbrev pub rcode_of : ℕ → ℕ
 rcode_of flags = flags % 16
 
--- a request, or a response, of this OPCODE, with B clear
-pub record IsRequest (p : PacketValue) (opcode : ℕ) : Type 0 where
-  pub request : p.flags < 0x8000
-  pub opcode_is : opcode_of p.flags ≡ opcode
-  pub unicast : broadcast p.flags ≡ 0
+-- a request, or a response, of this OPCODE, sent to one end
+pub record Requests (flags opcode : ℕ) : Type 0 where
+  pub request : IsRequest flags
+  pub opcode_is : opcode_of flags ≡ opcode
+  pub unicast : IsUnicast flags
 
-pub record IsResponse (p : PacketValue) (opcode : ℕ) : Type 0 where
-  pub response : 0x8000 ≤ p.flags
-  pub opcode_is : opcode_of p.flags ≡ opcode
-  pub unicast : broadcast p.flags ≡ 0
+pub record Responds (flags opcode : ℕ) : Type 0 where
+  pub response : IsResponse flags
+  pub opcode_is : opcode_of flags ≡ opcode
+  pub unicast : IsUnicast flags
+
+-- a positive response of OPCODE 5 with RA clear is an end node's challenge, which is no message of ours
+pub record IsChallenge (flags : ℕ) : Type 0 where
+  pub opcode_is : opcode_of flags ≡ 5
+  pub positive : rcode_of flags ≡ 0
+  pub end_node : ¬ OffersRecursion flags
 
 -- ---- types and the class (RFC 1002 section 4.2.1.3)
 
@@ -66,9 +82,42 @@ null = 0x000A
 abbrev pub internet : ℕ
 internet = 1
 
--- ---- sections
+-- a question and a record of class IN
+abbrev pub internet_question : NameValue → ℕ → Question
+internet_question name rtype = record { name = name; rtype = rtype; class = internet }
 
--- RDATA of six octets: NB_FLAGS, of which only G is looked at, and an address
+abbrev pub internet_record : NameValue → (rtype ttl : ℕ) → List ℕ → RecordValue
+internet_record name rtype ttl rdata = record { name = name; rtype = rtype; class = internet; ttl = ttl; rdata = rdata }
+
+-- ---- the sections that a packet has
+
+-- a question alone
+pub record Asks (p : PacketValue) (question : Question) : Type 0 where
+  pub question_is : p.question ≡ Some question
+  pub no_answer : p.answer ≡ None
+  pub no_additional : p.additional ≡ None
+
+-- a question and an additional record
+pub record Claims (p : PacketValue) (question : Question) (additional : RecordValue) : Type 0 where
+  pub question_is : p.question ≡ Some question
+  pub no_answer : p.answer ≡ None
+  pub additional_is : p.additional ≡ Some additional
+
+-- an answer alone
+pub record Answers (p : PacketValue) (answer : RecordValue) : Type 0 where
+  pub no_question : p.question ≡ None
+  pub answer_is : p.answer ≡ Some answer
+  pub no_additional : p.additional ≡ None
+
+-- none
+pub record IsBare (p : PacketValue) : Type 0 where
+  pub no_question : p.question ≡ None
+  pub no_answer : p.answer ≡ None
+  pub no_additional : p.additional ≡ None
+
+-- ---- RDATA
+
+-- one entry of six octets: NB_FLAGS, of which only G is looked at, and an address
 abbrev pub kind_in : List ℕ → Kind
 kind_in rdata = if nat_lt (slice_index rdata 0) 0x80 then Unique else Group
 
@@ -77,67 +126,63 @@ pub record IsEntry (rdata : List ℕ) (kind : Kind) (addr : ℕ) : Type 0 where
   pub kind_is : kind ≡ kind_in rdata
   pub addr_is : addr ≡ long_at rdata 2
 
--- the question alone
-pub record Asks (p : PacketValue) (name : NameValue) (rtype : ℕ) : Type 0 where
-  pub question : p.question ≡ Some (record { name = name; rtype = rtype; class = internet })
-  pub no_answer : p.answer ≡ None
-  pub no_additional : p.additional ≡ None
+-- one entry or more
+abbrev pub AreEntries : List ℕ → Type 0
+AreEntries rdata = (0 < length rdata) × (length rdata % 6 ≡ 0)
 
--- the question, and an additional record of the same name with one entry
-pub record Claims (p : PacketValue) (r : Registration) : Type 0 where
+-- NUM_NAMES, as many names of 18 octets, and what is not looked at
+pub record HoldsNames (rdata names : List ℕ) : Type 0 where
+  pub counted : 0 < length rdata
+  pub whole : 1 + 18 * slice_index rdata 0 ≤ length rdata
+  pub names_are : names ≡ slice_range rdata 1 (1 + 18 * slice_index rdata 0)
+
+-- a question and an additional record of one name, with one entry
+pub record ClaimsEntry (p : PacketValue) (r : Registration) : Type 0 where
   pub rdata : List ℕ
   pub id : p.id ≡ r.id
-  pub question : p.question ≡ Some (record { name = r.name; rtype = nb; class = internet })
-  pub no_answer : p.answer ≡ None
-  pub additional : p.additional ≡ Some (record { name = r.name; rtype = nb; class = internet; ttl = r.ttl; rdata = rdata })
+  pub claims : Claims p (internet_question r.name nb) (internet_record r.name nb r.ttl rdata)
   pub entry : IsEntry rdata r.kind r.addr
 
--- the answer alone
-pub record Answers (p : PacketValue) (answer : RecordValue) : Type 0 where
-  pub no_question : p.question ≡ None
-  pub answer_is : p.answer ≡ Some answer
-  pub no_additional : p.additional ≡ None
-
--- no section
-pub record IsBare (p : PacketValue) : Type 0 where
-  pub no_question : p.question ≡ None
-  pub no_answer : p.answer ≡ None
-  pub no_additional : p.additional ≡ None
-
--- an answer of this type and of class IN, and one that gives one entry
-pub record Tells (p : PacketValue) (name : NameValue) (rtype ttl : ℕ) (rdata : List ℕ) : Type 0 where
-  pub answers : Answers p (record { name = name; rtype = rtype; class = internet; ttl = ttl; rdata = rdata })
-
-pub record TellsEntry (p : PacketValue) (name : NameValue) (ttl : ℕ) (kind : Kind) (addr : ℕ) : Type 0 where
+-- an answer with one entry
+pub record AnswersEntry (p : PacketValue) (r : Registration) : Type 0 where
   pub rdata : List ℕ
-  pub tells : Tells p name nb ttl rdata
-  pub entry : IsEntry rdata kind addr
+  pub id : p.id ≡ r.id
+  pub answers : Answers p (internet_record r.name nb r.ttl rdata)
+  pub entry : IsEntry rdata r.kind r.addr
 
--- RA clear makes a positive response of OPCODE 5 an end node's challenge, which is no message of ours
-abbrev pub IsNoChallenge : ℕ → Type 0
-IsNoChallenge flags = opcode_of flags ≡ 5 → rcode_of flags ≡ 0 → recursion_available flags ≡ 1
+-- the name of an answer of any type, or no section and no name
+abbrev pub GivesName : PacketValue → Option NameValue → Type 0
+GivesName p None = IsBare p
+GivesName p (Some name) = (answer : RecordValue) × Answers p answer × (answer.name ≡ name)
 
 -- ---- the table
 
 abbrev pub MessageIs : PacketValue → MessageValue → Type 0
-MessageIs p (registration r) = IsRequest p 5 × (recursion_desired p.flags ≡ 1) × Claims p r
-MessageIs p (overwrite r) = IsRequest p 5 × (recursion_desired p.flags ≡ 0) × Claims p r
-MessageIs p (refresh r) = (IsRequest p 8 ⊎ IsRequest p 9) × Claims p r
-MessageIs p (release id name kind addr) = IsRequest p 6 × (ttl : ℕ) × Claims p (record { id = id; name = name; kind = kind; addr = addr; ttl = ttl })
-MessageIs p (query id name) = (p.id ≡ id) × IsRequest p 0 × Asks p name nb
-MessageIs p (status_request id name) = (p.id ≡ id) × (p.flags < 0x8000) × (opcode_of p.flags ≡ 0) × Asks p name nbstat
+MessageIs p (registration r) = Requests p.flags 5 × DesiresRecursion p.flags × ClaimsEntry p r
+MessageIs p (overwrite r) = Requests p.flags 5 × (¬ DesiresRecursion p.flags) × ClaimsEntry p r
+MessageIs p (refresh r) = (Requests p.flags 8 ⊎ Requests p.flags 9) × ClaimsEntry p r
+MessageIs p (release id name kind addr) =
+    Requests p.flags 6 × (ttl : ℕ) × ClaimsEntry p (record { id = id; name = name; kind = kind; addr = addr; ttl = ttl })
+MessageIs p (query id name) = (p.id ≡ id) × Requests p.flags 0 × Asks p (internet_question name nb)
+MessageIs p (status_request id name) =
+    (p.id ≡ id) × IsRequest p.flags × (opcode_of p.flags ≡ 0) × Asks p (internet_question name nbstat)
 MessageIs p (registered rcode r) =
-    (p.id ≡ r.id) × (IsResponse p 5 ⊎ (IsResponse p 8 ⊎ IsResponse p 9)) × IsNoChallenge p.flags × (rcode ≡ rcode_of p.flags) × TellsEntry p r.name r.ttl r.kind r.addr
-MessageIs p (released id rcode name kind addr) = (p.id ≡ id) × IsResponse p 6 × (rcode ≡ rcode_of p.flags) × (ttl : ℕ) × TellsEntry p name ttl kind addr
+    (Responds p.flags 5 ⊎ (Responds p.flags 8 ⊎ Responds p.flags 9)) × (¬ IsChallenge p.flags)
+    × (rcode ≡ rcode_of p.flags) × AnswersEntry p r
+MessageIs p (released id rcode name kind addr) =
+    Responds p.flags 6 × (rcode ≡ rcode_of p.flags)
+    × (ttl : ℕ) × AnswersEntry p (record { id = id; name = name; kind = kind; addr = addr; ttl = ttl })
 MessageIs p (found id name ttl entries) =
-    (p.id ≡ id) × IsResponse p 0 × (rcode_of p.flags ≡ 0) × Tells p name nb ttl entries × (0 < length entries) × (length entries % 6 ≡ 0)
-MessageIs p (not_found id rcode None) = (p.id ≡ id) × IsResponse p 0 × (rcode ≡ rcode_of p.flags) × (rcode ≢ 0) × IsBare p
-MessageIs p (not_found id rcode (Some name)) =
-    (p.id ≡ id) × IsResponse p 0 × (rcode ≡ rcode_of p.flags) × (rcode ≢ 0) × (answer : RecordValue) × Answers p answer × (answer.name ≡ name)
+    (p.id ≡ id) × Responds p.flags 0 × (rcode_of p.flags ≡ 0)
+    × Answers p (internet_record name nb ttl entries) × AreEntries entries
+MessageIs p (not_found id rcode name) =
+    (p.id ≡ id) × Responds p.flags 0 × (rcode ≡ rcode_of p.flags) × (rcode ≢ 0) × GivesName p name
 MessageIs p (status id name names) =
-    (p.id ≡ id) × IsResponse p 0 × (rcode_of p.flags ≡ 0) × (ttl : ℕ) × (rdata : List ℕ) × Tells p name nbstat ttl rdata × (0 < length rdata) × (1 + 18 * slice_index rdata 0 ≤ length rdata)
-    × (names ≡ slice_range rdata 1 (1 + 18 * slice_index rdata 0))
-MessageIs p (wait id name ttl) = (p.id ≡ id) × IsResponse p 7 × (answer : RecordValue) × Answers p answer × (answer.name ≡ name) × (answer.ttl ≡ ttl)
+    (p.id ≡ id) × Responds p.flags 0 × (rcode_of p.flags ≡ 0)
+    × (ttl : ℕ) × (rdata : List ℕ) × Answers p (internet_record name nbstat ttl rdata) × HoldsNames rdata names
+MessageIs p (wait id name ttl) =
+    (p.id ≡ id) × Responds p.flags 7
+    × (answer : RecordValue) × Answers p answer × (answer.name ≡ name) × (answer.ttl ≡ ttl)
 
 -- ---- which messages have a written form
 

@@ -12,8 +12,8 @@ abbrev pub header : (id flags questions answers additionals : ℕ) → List ℕ
 header id flags questions answers additionals = word id ++ word flags ++ word questions ++ word answers ++ word 0 ++ word additionals
 
 -- a type, the class IN, a TTL, and RDATA behind its length
-abbrev pub fields : (rtype ttl : ℕ) → List ℕ → List ℕ
-fields rtype ttl rdata = word rtype ++ word internet ++ long ttl ++ word (length rdata) ++ rdata
+abbrev pub record_fields : (rtype ttl : ℕ) → List ℕ → List ℕ
+record_fields rtype ttl rdata = word rtype ++ word internet ++ long ttl ++ word (length rdata) ++ rdata
 
 -- an entry of a P node
 abbrev pub entry : Kind → ℕ → List ℕ
@@ -25,30 +25,30 @@ abbrev pub status_name : List ℕ → Kind → List ℕ
 status_name octets Unique = octets ++ 0x24 ∷ 0 ∷ []
 status_name octets Group = octets ++ 0xA4 ∷ 0 ∷ []
 
-abbrev pub asking : (id flags rtype : ℕ) → NameValue → List ℕ
-asking id flags rtype name = header id flags 1 0 0 ++ (wire name ++ word rtype ++ word internet)
+abbrev pub question_octets : (id flags rtype : ℕ) → NameValue → List ℕ
+question_octets id flags rtype name = header id flags 1 0 0 ++ (wire name ++ word rtype ++ word internet)
 
 -- a question, and an additional record whose name is a pointer to the question's
-abbrev pub claiming : (flags : ℕ) → Registration → List ℕ
-claiming flags r = header r.id flags 1 0 1 ++ (wire r.name ++ word nb ++ word internet) ++ (0xC0 ∷ 0x0C ∷ fields nb r.ttl (entry r.kind r.addr))
+abbrev pub claim_octets : (flags : ℕ) → Registration → List ℕ
+claim_octets flags r = header r.id flags 1 0 1 ++ (wire r.name ++ word nb ++ word internet) ++ (0xC0 ∷ 0x0C ∷ record_fields nb r.ttl (entry r.kind r.addr))
 
-abbrev pub answering : (id flags : ℕ) → NameValue → (rtype ttl : ℕ) → List ℕ → List ℕ
-answering id flags name rtype ttl rdata = header id flags 0 1 0 ++ (wire name ++ fields rtype ttl rdata)
+abbrev pub answer_octets : (id flags : ℕ) → NameValue → (rtype ttl : ℕ) → List ℕ → List ℕ
+answer_octets id flags name rtype ttl rdata = header id flags 0 1 0 ++ (wire name ++ record_fields rtype ttl rdata)
 
 abbrev pub text : MessageValue → List ℕ
-text (registration r) = claiming 0x2900 r
-text (overwrite r) = claiming 0x2800 r
-text (refresh r) = claiming 0x4000 r
-text (release id name kind addr) = claiming 0x3000 (record { id = id; name = name; kind = kind; addr = addr; ttl = 0 })
-text (query id name) = asking id 0x0100 nb name
-text (status_request id name) = asking id 0 nbstat name
-text (registered rcode r) = answering r.id (0xAD80 + rcode) r.name nb r.ttl (entry r.kind r.addr)
-text (released id rcode name kind addr) = answering id (0xB400 + rcode) name nb 0 (entry kind addr)
-text (found id name ttl entries) = answering id 0x8580 name nb ttl entries
+text (registration r) = claim_octets 0x2900 r
+text (overwrite r) = claim_octets 0x2800 r
+text (refresh r) = claim_octets 0x4000 r
+text (release id name kind addr) = claim_octets 0x3000 (record { id = id; name = name; kind = kind; addr = addr; ttl = 0 })
+text (query id name) = question_octets id 0x0100 nb name
+text (status_request id name) = question_octets id 0 nbstat name
+text (registered rcode r) = answer_octets r.id (0xAD80 + rcode) r.name nb r.ttl (entry r.kind r.addr)
+text (released id rcode name kind addr) = answer_octets id (0xB400 + rcode) name nb 0 (entry kind addr)
+text (found id name ttl entries) = answer_octets id 0x8580 name nb ttl entries
 text (not_found id rcode None) = header id (0x8580 + rcode) 0 0 0
-text (not_found id rcode (Some name)) = answering id (0x8580 + rcode) name null 0 []
-text (status id name names) = answering id 0x8400 name nbstat 0 (length names / 18 ∷ names ++ replicate 46 0)
-text (wait id name ttl) = answering id 0xBC00 name nb ttl (0x29 ∷ 0x00 ∷ [])
+text (not_found id rcode (Some name)) = answer_octets id (0x8580 + rcode) name null 0 []
+text (status id name names) = answer_octets id 0x8400 name nbstat 0 (length names / 18 ∷ names ++ replicate 46 0)
+text (wait id name ttl) = answer_octets id 0xBC00 name nb ttl (0x29 ∷ 0x00 ∷ [])
 
 -- ---- how long a written form is
 

@@ -5,15 +5,13 @@ ghost use Rattle.nbt_packet.specs.declared.fault.Fault.{Fault};
 ghost use Rattle.nbt_packet.specs.Numbers.{short, too_many};
 ghost use Rattle.nbt_packet.specs.Fields.{word_at, long_at};
 ghost use Rattle.nbt_packet.specs.Packet.{PacketValue, QuestionAt, RecordAt, SectionAt, IsHeader, PacketIs, QuestionFault, RecordFault, PacketFault, record_of, record_if, packet_of, decoded};
-ghost use Rattle.nbt_packet.specs.Decoding.{IsHeaderOf, CountFault};
+ghost use Rattle.nbt_packet.specs.Inner.Decoding.{IsHeaderOf, CountFault};
 
 use crate::fault::{Fault, FaultKind};
 use crate::packet::{Packet, Question, Record};
+use crate::wire::{ANCOUNT, ARCOUNT, FLAGS, HEADER, NAME_TRN_ID, NSCOUNT, QDCOUNT};
 use byteorder::{BigEndian, ByteOrder};
 use nbt_name::{NameFaultKind, read_in};
-
-/// How many octets the header has: six words.
-const HEADER: usize = 12;
 
 /// Reads the packet that the octets begin with, and answers it with how many octets it took. The fault is the first
 /// one in reading order: `TooMany` (6) as soon as a count was read that is above 1 (NSCOUNT: above 0); a name's own
@@ -62,12 +60,12 @@ fn header_of(octets: &[u8]) -> Result<Header, Fault>
     ensures header { IfOk result (IsHeaderOf octets.now) }
     ensures fault { IfErr result (PacketFault octets.now) }
 {
-    let id = word(octets, 0)?;
-    let flags = word(octets, 2)?;
-    let questions = count(octets, 4, 1)?;
-    let answers = count(octets, 6, 1)?;
-    count(octets, 8, 0)?;
-    let additionals = count(octets, 10, 1)?;
+    let id = word(octets, NAME_TRN_ID)?;
+    let flags = word(octets, FLAGS)?;
+    let questions = count(octets, QDCOUNT, 1)?;
+    let answers = count(octets, ANCOUNT, 1)?;
+    count(octets, NSCOUNT, 0)?;
+    let additionals = count(octets, ARCOUNT, 1)?;
     Ok(Header {
         id,
         flags,

@@ -7,15 +7,44 @@
 //! +---+---+---+---+---+---+---+---+---+---+---+---+---+---+---+---+
 //! ```
 
-ghost use Rattle.std.specs.Prelude.{◌≡◌};
-ghost use Rattle.nbt_packet.specs.Message.{opcode_of, recursion_desired, recursion_available, broadcast, rcode_of};
-ghost use Rattle.nbt_packet.specs.Lines.{is_request, is_unicast};
+ghost use Rattle.std.specs.Prelude.{◌≡◌, ◌↔◌, IsTrue};
+ghost use Rattle.nbt_packet.specs.Message.{IsRequest, IsUnicast, DesiresRecursion, OffersRecursion, IsChallenge, opcode_of, rcode_of};
 
-/// R clear: the packet asks.
-pub fn is_asking(flags: u16) -> bool
-    ensures { result ≡ is_request flags }
+use crate::wire::OPCODE_REGISTRATION;
+
+/// R clear: the packet is a request.
+pub fn is_request(flags: u16) -> bool
+    ensures { IsTrue result ↔ IsRequest flags }
 {
     flags < 0x8000
+}
+
+/// B clear: the packet was sent to one end.
+pub fn is_unicast(flags: u16) -> bool
+    ensures { IsTrue result ↔ IsUnicast flags }
+{
+    flags / 0x10 % 2 == 0
+}
+
+/// RD set.
+pub fn desires_recursion(flags: u16) -> bool
+    ensures { IsTrue result ↔ DesiresRecursion flags }
+{
+    flags / 0x100 % 2 == 1
+}
+
+/// RA set.
+pub fn offers_recursion(flags: u16) -> bool
+    ensures { IsTrue result ↔ OffersRecursion flags }
+{
+    flags / 0x80 % 2 == 1
+}
+
+/// A positive response of OPCODE 5 with RA clear: an end node's challenge.
+pub fn is_challenge(flags: u16) -> bool
+    ensures { IsTrue result ↔ IsChallenge flags }
+{
+    opcode(flags) == OPCODE_REGISTRATION && rcode(flags) == 0 && !offers_recursion(flags)
 }
 
 /// OPCODE, 0 to 15.
@@ -23,27 +52,6 @@ pub fn opcode(flags: u16) -> u16
     ensures { result ≡ opcode_of flags }
 {
     flags / 0x800 % 16
-}
-
-/// RD, 0 or 1.
-pub fn desires_recursion(flags: u16) -> u16
-    ensures { result ≡ recursion_desired flags }
-{
-    flags / 0x100 % 2
-}
-
-/// RA, 0 or 1.
-pub fn offers_recursion(flags: u16) -> u16
-    ensures { result ≡ recursion_available flags }
-{
-    flags / 0x80 % 2
-}
-
-/// B clear: the packet was sent to one end.
-pub fn is_for_one(flags: u16) -> bool
-    ensures { result ≡ is_unicast flags }
-{
-    flags / 0x10 % 2 == 0
 }
 
 /// RCODE, 0 to 15.

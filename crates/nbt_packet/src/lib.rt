@@ -9,6 +9,7 @@ pub mod laws;
 mod message;
 mod packet;
 mod reading;
+mod wire;
 mod writing;
 
 pub use classifying::classify;

@@ -2,6 +2,7 @@
 
 ghost use Rattle.std.specs.Prelude.{◌≡◌, ◌↔◌, IsTrue};
 
+use crate::wire::{ADDR_ENTRIES_MOST, ADDR_ENTRY, NODE_NAME, NODE_NAMES_MOST, RCODE_MOST};
 use nbt_name::{Kind, Name};
 
 /// What an end says of a name that it asks for or has: the name, of which kind, at which address, for how long.
@@ -122,12 +123,18 @@ impl Message<'_> {
         ensures { IsTrue result ↔ Fits (message_of self.now) }
     {
         match self {
-            Message::Registered { rcode, .. } | Message::Released { rcode, .. } => *rcode <= 15,
-            Message::Found { entries, .. } => {
-                !entries.is_empty() && entries.len() <= 65532 && entries.len() % 6 == 0
+            Message::Registered { rcode, .. } | Message::Released { rcode, .. } => {
+                *rcode <= RCODE_MOST
             }
-            Message::NotFound { rcode, .. } => 0 < *rcode && *rcode <= 15,
-            Message::Status { names, .. } => names.len() <= 4590 && names.len() % 18 == 0,
+            Message::Found { entries, .. } => {
+                !entries.is_empty()
+                    && entries.len() <= ADDR_ENTRY * ADDR_ENTRIES_MOST
+                    && entries.len() % ADDR_ENTRY == 0
+            }
+            Message::NotFound { rcode, .. } => 0 < *rcode && *rcode <= RCODE_MOST,
+            Message::Status { names, .. } => {
+                names.len() <= NODE_NAME * NODE_NAMES_MOST && names.len() % NODE_NAME == 0
+            }
             _ => true,
         }
     }

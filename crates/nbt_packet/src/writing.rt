@@ -1,14 +1,17 @@
 //! Writing a message's one written form (RFC 1002 section 4.2).
 
-ghost use Rattle.std.specs.Prelude.{◌≡◌, ◌+◌, ◌<◌, ◌≤◌, ◌↔◌, [], ◌++◌, length, OnOk, OnErr, IsErr};
+ghost use Rattle.std.specs.Prelude.{◌≡◌, ◌+◌, ◌*◌, ◌<◌, ◌≤◌, ◌↔◌, [], ◌++◌, length, OnOk, OnErr, IsErr};
 ghost use Rattle.nbt_name.specs.Wire.{wire};
 ghost use Rattle.nbt_packet.specs.Fields.{word, long};
 ghost use Rattle.nbt_packet.specs.Message.{Fits, message_of, not_found, status, nb, internet};
 ghost use Rattle.nbt_packet.specs.Text as spec;
-ghost use Rattle.nbt_packet.specs.Text.{text, entry, status_name, asking, claiming, answering};
+ghost use Rattle.nbt_packet.specs.Text.{text, entry, status_name, question_octets, claim_octets, answer_octets};
 
 use crate::fault::Full;
 use crate::message::{Message, Registration};
+use crate::wire::{
+    ADDR_ENTRY, GROUP, IN, NAME_FLAGS_P_ACTIVE, NB, NB_FLAGS_P, NBSTAT, NODE_NAME, NULL, STATISTICS,
+};
 use arrayvec::ArrayVec;
 use byteorder::{BigEndian, ByteOrder};
 use nbt_name::{Kind, Name};
@@ -36,34 +39,10 @@ const STATUS: u16 = 0x8400;
 /// WAIT FOR ACKNOWLEDGEMENT RESPONSE: OPCODE 7, AA (RFC 1002 section 4.2.16).
 const WAIT: u16 = 0xBC00;
 
-/// Type NB (RFC 1002 section 4.2.1.3).
-const NB: u16 = 0x0020;
-/// Type NBSTAT (RFC 1002 section 4.2.1.3).
-const NBSTAT: u16 = 0x0021;
-/// Type NULL (RFC 1002 section 4.2.1.3).
-const NULL: u16 = 0x000A;
-/// Class IN (RFC 1002 section 4.2.1.3).
-const IN: u16 = 0x0001;
-
 /// A pointer to the question's name, which stands behind the header (RFC 1002 section 4.2.2).
 const QUESTION_NAME: u16 = 0xC00C;
-/// The first octet of NB_FLAGS of a P node: ONT 01 (RFC 1002 section 4.2.2).
-const P_NODE: u8 = 0x20;
-/// The same with G.
-const P_NODE_GROUP: u8 = 0xA0;
-/// The first octet of NAME_FLAGS of a P node's active name: ONT 01, ACT (RFC 1002 section 4.2.18).
-const ACTIVE: u8 = 0x24;
-/// The same with G.
-const ACTIVE_GROUP: u8 = 0xA4;
 /// RDATA of WAIT FOR ACKNOWLEDGEMENT RESPONSE: the flags of the request that waits (RFC 1002 section 4.2.16).
 const WAITS: [u8; 2] = [0x29, 0x00];
-
-/// How many octets an entry has.
-const ENTRY: u16 = 6;
-/// How many octets each name of a node status has.
-const NAME_ENTRY: usize = 18;
-/// How many octets the statistics of a node status have.
-const STATISTICS: usize = 46;
 
 /// Leaves in `out` the message's one written form and nothing else (RFC 1002 section 4.2). `Full` (7) exactly where
 /// that form is longer than 576 octets; `out` is then empty. That the message fits is the caller's: `Message::fits`
@@ -76,17 +55,23 @@ pub fn encode(message: &Message<'_>, out: &mut ArrayVec<u8, 576>) -> Result<(), 
 {
     out.clear();
     match message {
-        Message::Registration(r) => put_claim(out, REGISTRATION, r),
-        Message::Overwrite(r) => put_claim(out, OVERWRITE, r),
-        Message::Refresh(r) => put_claim(out, REFRESH, r),
+        Message::Registration(r) => put_claim_packet(out, REGISTRATION, r),
+        Message::Overwrite(r) => put_claim_packet(out, OVERWRITE, r),
+        Message::Refresh(r) => put_claim_packet(out, REFRESH, r),
         Message::Release {
             id,
             name,
             kind,
             addr,
         } => put_release(out, *id, name, *kind, *addr),
-        Message::Query { id, name } => put_asking(out, *id, QUERY, name, NB),
-        Message::StatusRequest { id, name } => put_asking(out, *id, STATUS_REQUEST, name, NBSTAT),
+        Message::Query { id, name } => put_question_packet(out, *id, QUERY, name, NB),
+        Message::StatusRequest { id, name } => put_question_packet(
+            out,
+            *id,
+            STATUS_REQUEST,
+            name,
+            NBSTAT,
+        ),
         Message::Registered {
             rcode,
             registration,
@@ -103,10 +88,10 @@ pub fn encode(message: &Message<'_>, out: &mut ArrayVec<u8, 576>) -> Result<(), 
             name,
             ttl,
             entries,
-        } => return put_answer(out, *id, QUERIED, name, NB, *ttl, entries),
+        } => return put_answer_packet(out, *id, QUERIED, name, NB, *ttl, entries),
         Message::NotFound { id, rcode, name } => return put_not_found(out, *id, *rcode, name),
         Message::Status { id, name, names } => return put_status(out, *id, name, names),
-        Message::Wait { id, name, ttl } => return put_answer(
+        Message::Wait { id, name, ttl } => return put_answer_packet(
             out, *id, WAIT, name, NB, *ttl, &WAITS,
         ),
     }
@@ -114,10 +99,10 @@ pub fn encode(message: &Message<'_>, out: &mut ArrayVec<u8, 576>) -> Result<(), 
 }
 
 /// A request that is its question alone (RFC 1002 sections 4.2.12 and 4.2.17).
-fn put_asking(out: &mut ArrayVec<u8, 576>, id: u16, flags: u16, name: &Name, rtype: u16)
+fn put_question_packet(out: &mut ArrayVec<u8, 576>, id: u16, flags: u16, name: &Name, rtype: u16)
     requires { out.old.items ≡ [] }
-    ensures form { out.new.items ≡ asking id flags rtype name.now }
-    ensures fits { length (asking id flags rtype name.now) ≤ 576 }
+    ensures form { out.new.items ≡ question_octets id flags rtype name.now }
+    ensures fits { length (question_octets id flags rtype name.now) ≤ 576 }
 {
     put_header(out, id, flags, 1, 0, 0);
     put_question(out, name, rtype);
@@ -125,15 +110,15 @@ fn put_asking(out: &mut ArrayVec<u8, 576>, id: u16, flags: u16, name: &Name, rty
 
 /// A request with a question, and an additional record whose name is a pointer to the question's (RFC 1002 sections
 /// 4.2.2 to 4.2.4 and 4.2.9).
-fn put_claim(out: &mut ArrayVec<u8, 576>, flags: u16, r: &Registration)
+fn put_claim_packet(out: &mut ArrayVec<u8, 576>, flags: u16, r: &Registration)
     requires { out.old.items ≡ [] }
-    ensures form { out.new.items ≡ claiming flags r.now }
-    ensures fits { length (claiming flags r.now) ≤ 576 }
+    ensures form { out.new.items ≡ claim_octets flags r.now }
+    ensures fits { length (claim_octets flags r.now) ≤ 576 }
 {
     put_header(out, r.id, flags, 1, 0, 1);
     put_question(out, &r.name, NB);
     put_word(out, QUESTION_NAME);
-    put_fields(out, NB, r.ttl, ENTRY);
+    put_record_fields(out, NB, r.ttl, ADDR_ENTRY as u16);
     let rdata = entry_octets(r.kind, r.addr);
     out.try_extend_from_slice(&rdata).unwrap();
 }
@@ -141,8 +126,8 @@ fn put_claim(out: &mut ArrayVec<u8, 576>, flags: u16, r: &Registration)
 /// A release's claim, whose TTL is 0 (RFC 1002 section 4.2.9).
 fn put_release(out: &mut ArrayVec<u8, 576>, id: u16, name: &Name, kind: Kind, addr: u32)
     requires { out.old.items ≡ [] }
-    ensures form { out.new.items ≡ claiming 0x3000 (record { id = id; name = name.now; kind = kind; addr = addr; ttl = 0 }) }
-    ensures fits { length (claiming 0x3000 (record { id = id; name = name.now; kind = kind; addr = addr; ttl = 0 })) ≤ 576 }
+    ensures form { out.new.items ≡ claim_octets 0x3000 (record { id = id; name = name.now; kind = kind; addr = addr; ttl = 0 }) }
+    ensures fits { length (claim_octets 0x3000 (record { id = id; name = name.now; kind = kind; addr = addr; ttl = 0 })) ≤ 576 }
 {
     let claim = Registration {
         id,
@@ -151,20 +136,20 @@ fn put_release(out: &mut ArrayVec<u8, 576>, id: u16, name: &Name, kind: Kind, ad
         addr,
         ttl: 0,
     };
-    put_claim(out, RELEASE, &claim);
+    put_claim_packet(out, RELEASE, &claim);
 }
 
 /// A registration's response, with its one entry (RFC 1002 sections 4.2.5 and 4.2.6).
 fn put_registered(out: &mut ArrayVec<u8, 576>, rcode: u8, r: &Registration) -> Result<(), Full>
     requires empty { out.old.items ≡ [] }
     requires rcode { rcode ≤ 15 }
-    ensures ok { OnOk result (out.new.items ≡ answering r.now.id (0xAD80 + rcode) r.now.name nb r.now.ttl (entry r.now.kind r.now.addr)) }
-    ensures full { IsErr result ↔ (576 < length (answering r.now.id (0xAD80 + rcode) r.now.name nb r.now.ttl (entry r.now.kind r.now.addr))) }
+    ensures ok { OnOk result (out.new.items ≡ answer_octets r.now.id (0xAD80 + rcode) r.now.name nb r.now.ttl (entry r.now.kind r.now.addr)) }
+    ensures full { IsErr result ↔ (576 < length (answer_octets r.now.id (0xAD80 + rcode) r.now.name nb r.now.ttl (entry r.now.kind r.now.addr))) }
     ensures empty { OnErr result (out.new.items ≡ []) }
 {
     let flags = REGISTERED + u16::from(rcode);
     let rdata = entry_octets(r.kind, r.addr);
-    put_answer(out, r.id, flags, &r.name, NB, r.ttl, &rdata)
+    put_answer_packet(out, r.id, flags, &r.name, NB, r.ttl, &rdata)
 }
 
 /// A release's response, with its one entry and a TTL of 0 (RFC 1002 sections 4.2.10 and 4.2.11).
@@ -178,13 +163,13 @@ fn put_released(
 ) -> Result<(), Full>
     requires empty { out.old.items ≡ [] }
     requires rcode { rcode ≤ 15 }
-    ensures ok { OnOk result (out.new.items ≡ answering id (0xB400 + rcode) name.now nb 0 (entry kind addr)) }
-    ensures full { IsErr result ↔ (576 < length (answering id (0xB400 + rcode) name.now nb 0 (entry kind addr))) }
+    ensures ok { OnOk result (out.new.items ≡ answer_octets id (0xB400 + rcode) name.now nb 0 (entry kind addr)) }
+    ensures full { IsErr result ↔ (576 < length (answer_octets id (0xB400 + rcode) name.now nb 0 (entry kind addr))) }
     ensures empty { OnErr result (out.new.items ≡ []) }
 {
     let flags = RELEASED + u16::from(rcode);
     let rdata = entry_octets(kind, addr);
-    put_answer(out, id, flags, name, NB, 0, &rdata)
+    put_answer_packet(out, id, flags, name, NB, 0, &rdata)
 }
 
 /// A negative name query response: with its record, which has no RDATA, or the header alone (RFC 1002 section 4.2.14).
@@ -202,7 +187,7 @@ fn put_not_found(
 {
     let flags = QUERIED + u16::from(rcode);
     match name {
-        Some(name) => put_answer(out, id, flags, name, NULL, 0, &[]),
+        Some(name) => put_answer_packet(out, id, flags, name, NULL, 0, &[]),
         None => {
             put_header(out, id, flags, 0, 0, 0);
             Ok(())
@@ -214,7 +199,7 @@ fn put_not_found(
 /// 4.2.18).
 fn put_status(out: &mut ArrayVec<u8, 576>, id: u16, name: &Name, names: &[u8]) -> Result<(), Full>
     requires empty { out.old.items ≡ [] }
-    requires most { length names.now ≤ 4590 }
+    requires most { length names.now ≤ 18 * 255 }
     ensures ok { OnOk result (out.new.items ≡ text (status id name.now names.now)) }
     ensures full { IsErr result ↔ (576 < length (text (status id name.now names.now))) }
     ensures empty { OnErr result (out.new.items ≡ []) }
@@ -225,14 +210,14 @@ fn put_status(out: &mut ArrayVec<u8, 576>, id: u16, name: &Name, names: &[u8]) -
         out.clear();
         return Err(Full);
     }
-    out.push((names.len() / NAME_ENTRY) as u8);
+    out.push((names.len() / NODE_NAME) as u8);
     out.try_extend_from_slice(names).unwrap();
     out.try_extend_from_slice(&[0; STATISTICS]).unwrap();
     Ok(())
 }
 
 /// A response with one answer. `Full` where it is longer than 576 octets.
-fn put_answer(
+fn put_answer_packet(
     out: &mut ArrayVec<u8, 576>,
     id: u16,
     flags: u16,
@@ -243,8 +228,8 @@ fn put_answer(
 ) -> Result<(), Full>
     requires empty { out.old.items ≡ [] }
     requires most { length rdata.now < 65536 }
-    ensures ok { OnOk result (out.new.items ≡ answering id flags name.now rtype ttl rdata.now) }
-    ensures full { IsErr result ↔ (576 < length (answering id flags name.now rtype ttl rdata.now)) }
+    ensures ok { OnOk result (out.new.items ≡ answer_octets id flags name.now rtype ttl rdata.now) }
+    ensures full { IsErr result ↔ (576 < length (answer_octets id flags name.now rtype ttl rdata.now)) }
     ensures empty { OnErr result (out.new.items ≡ []) }
 {
     put_answer_head(out, id, flags, name, rtype, ttl, rdata.len() as u16);
@@ -271,7 +256,7 @@ fn put_answer_head(
 {
     put_header(out, id, flags, 0, 1, 0);
     put_name(out, name);
-    put_fields(out, rtype, ttl, rdlength);
+    put_record_fields(out, rtype, ttl, rdlength);
 }
 
 /// The six words of the header; NSCOUNT is 0 (RFC 1002 section 4.2.1.1).
@@ -306,7 +291,7 @@ fn put_question(out: &mut ArrayVec<u8, 576>, asked: &Name, rtype: u16)
 }
 
 /// What stands between a record's name and its RDATA: type, the class IN, TTL and RDLENGTH (RFC 1002 section 4.2.1.3).
-fn put_fields(out: &mut ArrayVec<u8, 576>, rtype: u16, ttl: u32, rdlength: u16)
+fn put_record_fields(out: &mut ArrayVec<u8, 576>, rtype: u16, ttl: u32, rdlength: u16)
     requires { length out.old.items ≤ 560 }
     ensures { out.new.items ≡ out.old.items ++ (word rtype ++ word internet ++ long ttl ++ word rdlength) }
 {
@@ -323,8 +308,8 @@ pub fn entry_octets(kind: Kind, addr: u32) -> [u8; 6]
 {
     let mut octets = [0; 6];
     octets[0] = match kind {
-        Kind::Unique => P_NODE,
-        Kind::Group => P_NODE_GROUP,
+        Kind::Unique => NB_FLAGS_P,
+        Kind::Group => NB_FLAGS_P + GROUP,
     };
     BigEndian::write_u32(&mut octets[2..], addr);
     octets
@@ -338,8 +323,8 @@ pub fn status_name_octets(name: &[u8; 16], kind: Kind) -> [u8; 18]
     let mut octets = [0; 18];
     octets[..16].copy_from_slice(name);
     octets[16] = match kind {
-        Kind::Unique => ACTIVE,
-        Kind::Group => ACTIVE_GROUP,
+        Kind::Unique => NAME_FLAGS_P_ACTIVE,
+        Kind::Group => NAME_FLAGS_P_ACTIVE + GROUP,
     };
     octets
 }
