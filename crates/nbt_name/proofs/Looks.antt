@@ -1,4 +1,4 @@
--- What `get` answers, as `slice_get`.
+-- What `get` returns, as `slice_get`.
 use Rattle.std.proofs.Common.{◌≡◌, ℕ, ◌<◌, List, length, get_or, Some, None, sym, ltb, true, false, zero, suc, ◌∷◌, [], drop, arith, ltb-true, ltb-false}
 use Rattle.std.specs.Prelude.{slice_get}
 use Rattle.std.proofs.lemmas.Option.{slice_get-get_or, slice_get_past}

@@ -6,7 +6,7 @@ use Rattle.std.proofs.lemmas.List.{length-append, append-nil}
 use Rattle.nbt_name.specs.Wire.{letters}
 use Rattle.nbt_name.specs.declared.form.Form.{Form}
 use Rattle.nbt_name.specs.Reading.{Spot, Step}
-use Rattle.nbt_name.specs.Reader.{passed_of}
+use Rattle.nbt_name.specs.Inner.Reader.{passed_of}
 use Rattle.nbt_name.proofs.Letters.{length-letters}
 use Rattle.nbt_name.proofs.Looks.{drop_found}
 

@@ -5,7 +5,7 @@ use Rattle.std.proofs.lemmas.List.{length-append, length-drop, take_at, drop_at,
 use Rattle.nbt_name.specs.declared.form.Form.TheVariants.{Plain, Compressed}
 use Rattle.nbt_name.specs.Scope.{IsScope, empty, label}
 use Rattle.nbt_name.specs.Wire.{NameValue, IsName, letters, wire}
-use Rattle.nbt_name.specs.Reading.{Spot, IsLetter, LettersAt, past, start, Step, letters_pass, label_passes, Path, here, onward, NameAt, PlainNameAt, target, pointer_leads, led}
+use Rattle.nbt_name.specs.Reading.{Spot, IsLetter, LettersAt, past, start, Step, letters_pass, label_passes, Path, here, onward, NameAt, PlainNameAt, target, pointer_leads}
 use Rattle.nbt_name.proofs.Walk.{Path-compressed}
 use Rattle.nbt_name.proofs.Passing.{same_spot}
 use Rattle.nbt_name.proofs.Letters.{length-letters, letters_are}

@@ -2,4 +2,4 @@ pub mod Scope
 pub mod Wire
 pub mod Numbers
 pub mod Reading
-pub mod Reader
+pub mod Inner

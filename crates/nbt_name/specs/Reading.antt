@@ -56,9 +56,11 @@ pub data Step (form : Form) (octets : List ℕ) (from : Spot) : Spot → Type 0 
   letters_pass : IsFirst from → Finds octets from 0x20 → from.place + 33 ≤ length octets
       → LettersAt octets (from.place + 1) 32 → Step form octets from (past octets from 32)
   label_passes : (n : ℕ) → IsLater from → Finds octets from n → 1 ≤ n → n ≤ 63
-      → length from.passed + 1 + n + 1 ≤ 255 → from.place + 1 + n ≤ length octets → Step form octets from (past octets from n)
+      → length from.passed + 1 + n + 1 ≤ 255 → from.place + 1 + n ≤ length octets
+      → Step form octets from (past octets from n)
   pointer_leads : (high low : ℕ) → form ≡ Compressed → Finds octets from high → 0xC0 ≤ high
-      → slice_get octets (from.place + 1) ≡ Some low → target high low < from.place → Step form octets from (led from (target high low))
+      → slice_get octets (from.place + 1) ≡ Some low → target high low < from.place
+      → Step form octets from (led from (target high low))
 
 -- finitely many steps
 pub data Path (form : Form) (octets : List ℕ) : Spot → Spot → Type 0 where
@@ -87,26 +89,32 @@ PlainNameAt octets place name next = Stands Plain octets place name next
 
 -- Fewer than 32 letters stand there: another octet does before them, or the octets end.
 pub data LetterFault (octets : List ℕ) (place : ℕ) : NameFault → Type 0 where
-  other_octet : (k : ℕ) → k < 32 → LettersAt octets place k → place + k < length octets → ¬ IsLetter (slice_index octets (place + k))
-      → LetterFault octets place (record { kind = BadHalf; place = place + k })
-  octets_end : (k : ℕ) → k < 32 → LettersAt octets place k → place + k ≡ length octets → LetterFault octets place (record { kind = Short; place = length octets })
+  other_octet : (k : ℕ) → k < 32 → LettersAt octets place k → place + k < length octets
+      → ¬ IsLetter (slice_index octets (place + k)) → LetterFault octets place (record { kind = BadHalf; place = place + k })
+  octets_end : (k : ℕ) → k < 32 → LettersAt octets place k → place + k ≡ length octets
+      → LetterFault octets place (record { kind = Short; place = length octets })
 
 -- What allows no step and closes no name, and the fault that it is. `Long` comes before the label's octets are
 -- looked at, and a bad letter before the end of the octets.
 pub data Stuck (form : Form) (octets : List ℕ) (at : Spot) : NameFault → Type 0 where
   missing : slice_get octets at.place ≡ None → Stuck form octets at (record { kind = Short; place = length octets })
-  first_label_bad : (n : ℕ) → IsFirst at → Finds octets at n → n ≢ 0x20 → n < 0xC0 → Stuck form octets at (record { kind = BadLabel; place = at.place })
-  letters_bad : (fault : NameFault) → IsFirst at → Finds octets at 0x20 → LetterFault octets (at.place + 1) fault → Stuck form octets at fault
-  label_bad : (n : ℕ) → IsLater at → Finds octets at n → 0x40 ≤ n → n < 0xC0 → Stuck form octets at (record { kind = BadLabel; place = at.place })
+  first_label_bad : (n : ℕ) → IsFirst at → Finds octets at n → n ≢ 0x20 → n < 0xC0
+      → Stuck form octets at (record { kind = BadLabel; place = at.place })
+  letters_bad : (fault : NameFault) → IsFirst at → Finds octets at 0x20 → LetterFault octets (at.place + 1) fault
+      → Stuck form octets at fault
+  label_bad : (n : ℕ) → IsLater at → Finds octets at n → 0x40 ≤ n → n < 0xC0
+      → Stuck form octets at (record { kind = BadLabel; place = at.place })
   label_long : (n : ℕ) → IsLater at → Finds octets at n → 1 ≤ n → n ≤ 63 → 255 < length at.passed + 1 + n + 1
       → Stuck form octets at (record { kind = Long; place = at.place })
-  label_cut : (n : ℕ) → IsLater at → Finds octets at n → 1 ≤ n → n ≤ 63 → length at.passed + 1 + n + 1 ≤ 255 → length octets < at.place + 1 + n
-      → Stuck form octets at (record { kind = Short; place = length octets })
-  pointer_plain : (high : ℕ) → form ≡ Plain → Finds octets at high → 0xC0 ≤ high → Stuck form octets at (record { kind = BadPointer; place = at.place })
-  pointer_cut : (high : ℕ) → form ≡ Compressed → Finds octets at high → 0xC0 ≤ high → slice_get octets (at.place + 1) ≡ None
-      → Stuck form octets at (record { kind = Short; place = length octets })
-  pointer_onward : (high low : ℕ) → form ≡ Compressed → Finds octets at high → 0xC0 ≤ high → slice_get octets (at.place + 1) ≡ Some low
-      → at.place ≤ target high low → Stuck form octets at (record { kind = BadPointer; place = at.place })
+  label_cut : (n : ℕ) → IsLater at → Finds octets at n → 1 ≤ n → n ≤ 63 → length at.passed + 1 + n + 1 ≤ 255
+      → length octets < at.place + 1 + n → Stuck form octets at (record { kind = Short; place = length octets })
+  pointer_plain : (high : ℕ) → form ≡ Plain → Finds octets at high → 0xC0 ≤ high
+      → Stuck form octets at (record { kind = BadPointer; place = at.place })
+  pointer_cut : (high : ℕ) → form ≡ Compressed → Finds octets at high → 0xC0 ≤ high
+      → slice_get octets (at.place + 1) ≡ None → Stuck form octets at (record { kind = Short; place = length octets })
+  pointer_onward : (high low : ℕ) → form ≡ Compressed → Finds octets at high → 0xC0 ≤ high
+      → slice_get octets (at.place + 1) ≡ Some low → at.place ≤ target high low
+      → Stuck form octets at (record { kind = BadPointer; place = at.place })
 
 -- A fault stands at a place: a path leads to where the reader is stuck.
 pub record Fails (form : Form) (octets : List ℕ) (place : ℕ) (fault : NameFault) : Type 0 where

@@ -4,4 +4,5 @@ use Rattle.std.specs.Prelude.{ℕ, ◌≤◌, List, [], ◌∷◌, ◌++◌, len
 -- A scope is empty, or a label of 1 to 63 octets behind its length octet, and then a scope.
 pub data IsScope : List ℕ → Type 0 where
   empty : IsScope []
-  label : (octets scope : List ℕ) → 1 ≤ length octets → length octets ≤ 63 → IsScope scope → IsScope (length octets ∷ octets ++ scope)
+  label : (octets scope : List ℕ) → 1 ≤ length octets → length octets ≤ 63 → IsScope scope
+      → IsScope (length octets ∷ octets ++ scope)

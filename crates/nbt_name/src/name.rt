@@ -47,13 +47,16 @@ impl Name {
     /// than 221 octets; `BadLabel` (3) where it is no row of labels of 1 to 63 octets. Our profile's order; RFC 1002
     /// section 4.1.
     pub fn new(octets: &[u8; 16], scope: &[u8]) -> Result<Name, NameRefusal>
-        ensures found { IsOk result ↔ ((slice_index octets.now 0 ≢ 0x2A) × (length scope.now ≤ 221) × IsScope scope.now) }
+        ensures found { IsOk result
+            ↔ ((slice_index octets.now 0 ≢ 0x2A) × (length scope.now ≤ 221) × IsScope scope.now) }
         ensures name { IfOk result (λ name. name ≡ name_of octets.now scope.now) }
 
         // Which refusal it is.
         ensures star { IsErrOf result NameRefusal.Star ↔ (slice_index octets.now 0 ≡ 0x2A) }
-        ensures long { IsErrOf result NameRefusal.ScopeLong ↔ ((slice_index octets.now 0 ≢ 0x2A) × (221 < length scope.now)) }
-        ensures bad { IsErrOf result NameRefusal.BadLabel ↔ ((slice_index octets.now 0 ≢ 0x2A) × (length scope.now ≤ 221) × (¬ IsScope scope.now)) }
+        ensures long { IsErrOf result NameRefusal.ScopeLong
+            ↔ ((slice_index octets.now 0 ≢ 0x2A) × (221 < length scope.now)) }
+        ensures bad { IsErrOf result NameRefusal.BadLabel
+            ↔ ((slice_index octets.now 0 ≢ 0x2A) × (length scope.now ≤ 221) × (¬ IsScope scope.now)) }
     {
         if octets[0] == Name::STAR {
             return Err(NameRefusal::Star);
@@ -74,6 +77,7 @@ impl Name {
         Name::with_scope(octets, scope)
     }
 
+    /// The name of sixteen octets and a scope, also one that begins with 0x2A; refused as by `any`.
     fn with_scope(octets: [u8; 16], scope: &[u8]) -> Result<Name, NameRefusal>
         ensures found { IsOk result ↔ ((length scope.now ≤ 221) × IsScope scope.now) }
         ensures name { IfOk result (λ name. name ≡ name_of octets scope.now) }
@@ -162,6 +166,7 @@ fn is_scope(scope: &[u8]) -> bool
     true
 }
 
+/// A scope's octets in a list of their own.
 fn scope_of(scope: &[u8]) -> ArrayVec<u8, 221>
     requires { length scope.now ≤ 221 }
     ensures { result.items ≡ scope.now }

@@ -1,6 +1,6 @@
 //! A reader of names, which goes from label to label (RFC 1002 section 4.1).
 
-ghost use Rattle.std.specs.Prelude.{◌≡◌, ℕ, List, [], ◌+◌, ◌<◌, ◌≤◌, ◌↔◌, Ok, Err, Some, None, length, slice_get, slice_range, IsTrue, IsSome, IfErr, OnOk, unwrap_or};
+ghost use Rattle.std.specs.Prelude.{◌≡◌, ℕ, List, [], ◌+◌, ◌<◌, ◌≤◌, ◌↔◌, Ok, Err, Some, None, length, slice_get, slice_index, slice_range, EachIndex, IsTrue, IsSome, IfErr, OnOk, unwrap_or};
 ghost use Rattle.std.specs.Option.{ForNone, ForSome};
 ghost use Rattle.nbt_name.specs.Wire.{NameValue, IsName, letters as letters_of};
 ghost use Rattle.nbt_name.specs.Reading.{Spot, Finds, IsLetter, LettersAt, LetterFault, Path, start, Stands, Fails, NameAt, PlainNameAt, FaultAt, PlainFaultAt};
@@ -12,6 +12,9 @@ use arrayvec::ArrayVec;
 
 /// The length octet of the first label: 32 letters (RFC 1001 section 14.1).
 const LETTERS: u8 = 0x20;
+
+/// How many letters the first label has: two for each of the sixteen octets (RFC 1001 section 14.1).
+const LETTERS_COUNT: usize = 32;
 
 /// The most octets of a later label (RFC 1002 section 4.1).
 const LABEL_MOST: u8 = 63;
@@ -50,7 +53,7 @@ pub(crate) enum Progress {
 }
 
 impl Reader {
-    ghost use Rattle.nbt_name.specs.Reader.{spot_of, Turns, Passes};
+    ghost use Rattle.nbt_name.specs.Inner.Reader.{spot_of, Turns, Passes};
 
     pub(crate) fn new(place: usize) -> Reader
         ensures { spot_of result ≡ start place }
@@ -95,8 +98,8 @@ impl Reader {
         }
         let begin = self.place + 1;
         expect_letters(octets, begin)?;
-        self.first = Some(spelled(&octets[begin..begin + 32]));
-        self.place = begin + 32;
+        self.first = Some(spelled(&octets[begin..begin + LETTERS_COUNT]));
+        self.place = begin + LETTERS_COUNT;
         Ok(())
     }
 
@@ -169,19 +172,44 @@ fn short(octets: &[u8]) -> NameFault
     }
 }
 
+/// Whether an octet is a letter of half-ASCII, `A` to `P` (RFC 1001 section 14.1).
 fn is_letter(octet: u8) -> bool
     ensures { IsTrue result ↔ IsLetter octet }
 {
     matches!(octet, b'A'..=b'P')
 }
 
-/// Looks for 32 letters at a place.
+/// Looks for 32 letters at a place: at all of them with no early exit, which is fast, and where that fails one by one,
+/// for the fault.
 fn expect_letters(octets: &[u8], place: usize) -> Result<(), NameFault>
     requires { place ≤ length octets.now }
     ensures letters { OnOk result ((place + 32 ≤ length octets.now) × LettersAt octets.now place 32) }
     ensures fault { IfErr result (LetterFault octets.now place) }
 {
-    for k in 0..32 {
+    if octets.len() - place >= LETTERS_COUNT && are_letters(&octets[place..place + LETTERS_COUNT]) {
+        return Ok(());
+    }
+    expect_each_letter(octets, place)
+}
+
+/// Whether all octets are letters.
+fn are_letters(octets: &[u8]) -> bool
+    ensures { IsTrue result ↔ EachIndex octets.now (λ k. IsLetter (slice_index octets.now k)) }
+{
+    let mut all = true;
+    for octet in octets {
+        all &= is_letter(*octet);
+    }
+    all
+}
+
+/// Looks for 32 letters at a place, one by one.
+fn expect_each_letter(octets: &[u8], place: usize) -> Result<(), NameFault>
+    requires { place ≤ length octets.now }
+    ensures letters { OnOk result ((place + 32 ≤ length octets.now) × LettersAt octets.now place 32) }
+    ensures fault { IfErr result (LetterFault octets.now place) }
+{
+    for k in 0..LETTERS_COUNT {
         let Some(&letter) = octets.get(place + k) else {
             return Err(short(octets));
         };

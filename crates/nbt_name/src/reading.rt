@@ -10,7 +10,7 @@ use crate::form::Form;
 use crate::name::Name;
 use crate::reader::{Progress, Reader};
 
-/// Reads the plain name that stands at `place`, and answers it with the place after it. A pointer is a fault
+/// Reads the plain name that stands at `place`, and returns it with the place after it. A pointer is a fault
 /// (`BadPointer`). The fault is the first one in reading order, with its place (RFC 1002 section 4.1).
 pub fn read_plain(octets: &[u8], place: usize) -> Result<(Name, usize), NameFault>
     requires { place ≤ length octets.now }
@@ -21,7 +21,7 @@ pub fn read_plain(octets: &[u8], place: usize) -> Result<(Name, usize), NameFaul
     read(Form::Plain, octets, place)
 }
 
-/// Reads the name that stands at `place`, following pointers, and answers it with the place after it: after the first
+/// Reads the name that stands at `place`, following pointers, and returns it with the place after it: after the first
 /// pointer, or after the closing zero where there is none. The fault is the first one in reading order, with its place
 /// (RFC 1002 section 4.1).
 pub fn read_in(octets: &[u8], place: usize) -> Result<(Name, usize), NameFault>
@@ -33,6 +33,7 @@ pub fn read_in(octets: &[u8], place: usize) -> Result<(Name, usize), NameFault>
     read(Form::Compressed, octets, place)
 }
 
+/// Reads a name in one of the two forms: what is found stands there.
 fn read(form: Form, octets: &[u8], place: usize) -> Result<(Name, usize), NameFault>
     requires { place ≤ length octets.now }
     ensures name { IfOk result (λ read. Stands form octets.now place read.0 read.1) }

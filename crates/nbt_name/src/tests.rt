@@ -1,5 +1,6 @@
 //! Names and octets from outside: RFC 1001 section 14.1, and the vectors of our profile.
 
+use crate::laws::plain_name_is_its_wire_form;
 use crate::{Name, NameFault, NameFaultKind, NameRefusal, read_in, read_plain};
 use arrayvec::ArrayVec;
 use indexmap::IndexMap;
@@ -27,6 +28,7 @@ fn short_labels(rt: &HostRuntime, count: usize) -> Result<Vec<u8>, Fail> {
 
 #[test]
 fn fred_is_34_octets(rt: HostRuntime) -> Result<(), Fail> {
+    plain_name_is_its_wire_form();
     let fred = Name::new(FRED_OCTETS, b"")?;
     let mut wire = ArrayVec::new();
     fred.to_wire(&mut wire);
@@ -218,5 +220,16 @@ fn names_are_keys(rt: HostRuntime) -> Result<(), Fail> {
     let fred = Name::new(FRED_OCTETS, b"")?;
     assert!(rt; set.contains(&fred));
     assert_eq!(rt; map.get(&fred).copied(), Some(0));
+    Ok(())
+}
+
+#[test]
+fn names_are_ordered_by_their_octets_and_then_by_their_scopes(rt: HostRuntime) -> Result<(), Fail> {
+    let bare = Name::new(FRED_OCTETS, b"")?;
+    let scoped = Name::new(FRED_OCTETS, b"\x01z")?;
+    let later = Name::new(b"GINA            ", b"\x01a")?;
+    assert!(rt; bare < scoped);
+    assert!(rt; scoped < later);
+    assert!(rt; bare < later);
     Ok(())
 }

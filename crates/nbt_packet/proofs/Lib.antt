@@ -1,11 +1,24 @@
+-- What several proofs share; the proof of a function is in the folder of its module and its name.
+
+-- the counts of a header, one by one
 pub mod Header
+-- no octets have two faults, or a packet and a fault
 pub mod Outcome
+-- no packet meets two lines of the table of messages
 pub mod OneMessage
+-- no octets begin with two packets, or spell two messages
 pub mod OnePacket
+-- all octets begin with a packet or have a fault
 pub mod Deciding
+-- the parts that the writer puts together are a node status's written form
 pub mod Written
+-- numbers, ranges and names that were put somewhere are read back there
 pub mod Words
+-- sections that were written stand where they were put, and make a packet
 pub mod Shapes
+-- so each written form is a packet that spells its message
 pub mod ReadBack
+-- how long written forms are
 pub mod Sizes
+-- a message that octets spell can be written
 pub mod Writable

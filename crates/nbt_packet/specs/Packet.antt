@@ -86,24 +86,29 @@ pub record PacketIs (octets : List ℕ) (packet : PacketValue) (n : ℕ) : Type 
 -- A question's place has a fault: in its name, or behind it, where the octets end.
 pub data QuestionFault (octets : List ℕ) (place : ℕ) : Fault → Type 0 where
   question_name : (fault : NameFault) → FaultAt octets place fault → QuestionFault octets place (fault_of fault)
-  question_cut : (name : NameValue) (named : ℕ) → NameAt octets place name named → length octets < named + 4 → QuestionFault octets place (short octets)
+  question_cut : (name : NameValue) (named : ℕ) → NameAt octets place name named
+      → length octets < named + 4 → QuestionFault octets place (short octets)
 
 pub data RecordFault (octets : List ℕ) (place : ℕ) : Fault → Type 0 where
   record_name : (fault : NameFault) → FaultAt octets place fault → RecordFault octets place (fault_of fault)
-  record_cut : (name : NameValue) (named : ℕ) → NameAt octets place name named → length octets < named + 10 → RecordFault octets place (short octets)
+  record_cut : (name : NameValue) (named : ℕ) → NameAt octets place name named
+      → length octets < named + 10 → RecordFault octets place (short octets)
   rdata_cut : (name : NameValue) (named : ℕ) → NameAt octets place name named → named + 10 ≤ length octets
       → length octets < named + 10 + word_at octets (named + 8) → RecordFault octets place (short octets)
 
 -- The octets have a fault: the parts before one stand, and that one is cut, is a count too great, or has a bad name.
 pub data PacketFault (octets : List ℕ) : Fault → Type 0 where
   header_cut : length octets < 12 → CountsFit octets (length octets) → PacketFault octets (short octets)
-  count_great : (place most : ℕ) → Count place most → place + 2 ≤ length octets → most < word_at octets place → CountsFit octets place
-      → PacketFault octets (too_many place)
-  question_bad : (fault : Fault) → IsHeader octets → word_at octets 4 ≡ 1 → QuestionFault octets 12 fault → PacketFault octets fault
+  count_great : (place most : ℕ) → Count place most → place + 2 ≤ length octets → most < word_at octets place
+      → CountsFit octets place → PacketFault octets (too_many place)
+  question_bad : (fault : Fault) → IsHeader octets → word_at octets 4 ≡ 1 → QuestionFault octets 12 fault
+      → PacketFault octets fault
   answer_bad : (fault : Fault) (question : Option Question) (asked : ℕ) → IsHeader octets
-      → SectionAt (QuestionAt octets) (word_at octets 4) 12 question asked → word_at octets 6 ≡ 1 → RecordFault octets asked fault → PacketFault octets fault
-  additional_bad : (fault : Fault) (question : Option Question) (answer : Option RecordValue) (asked answered : ℕ) → IsHeader octets
-      → SectionAt (QuestionAt octets) (word_at octets 4) 12 question asked → SectionAt (RecordAt octets) (word_at octets 6) asked answer answered
+      → SectionAt (QuestionAt octets) (word_at octets 4) 12 question asked
+      → word_at octets 6 ≡ 1 → RecordFault octets asked fault → PacketFault octets fault
+  additional_bad : (fault : Fault) (question : Option Question) (answer : Option RecordValue) (asked answered : ℕ)
+      → IsHeader octets → SectionAt (QuestionAt octets) (word_at octets 4) 12 question asked
+      → SectionAt (RecordAt octets) (word_at octets 6) asked answer answered
       → word_at octets 10 ≡ 1 → RecordFault octets answered fault → PacketFault octets fault
 
 -- ---- what the code holds, as values
@@ -116,7 +121,13 @@ record_if None = None
 record_if (Some r) = Some (record_of r)
 
 abbrev pub packet_of : Packet → PacketValue
-packet_of p = record { id = p.id; flags = p.flags; question = p.question; answer = record_if p.answer; additional = record_if p.additional }
+packet_of p = record {
+  id = p.id;
+  flags = p.flags;
+  question = p.question;
+  answer = record_if p.answer;
+  additional = record_if p.additional;
+}
 
 abbrev pub decoded : Result (Packet × ℕ) Fault → Result (PacketValue × ℕ) Fault
 decoded (Ok read) = Ok (packet_of read.0, read.1)

@@ -9,7 +9,8 @@ use Rattle.nbt_packet.specs.Message.{MessageValue, registration, overwrite, refr
 
 -- the six words
 abbrev pub header : (id flags questions answers additionals : ℕ) → List ℕ
-header id flags questions answers additionals = word id ++ word flags ++ word questions ++ word answers ++ word 0 ++ word additionals
+header id flags questions answers additionals =
+    word id ++ word flags ++ word questions ++ word answers ++ word 0 ++ word additionals
 
 -- a type, the class IN, a TTL, and RDATA behind its length
 abbrev pub record_fields : (rtype ttl : ℕ) → List ℕ → List ℕ
@@ -30,7 +31,9 @@ question_octets id flags rtype name = header id flags 1 0 0 ++ (wire name ++ wor
 
 -- a question, and an additional record whose name is a pointer to the question's
 abbrev pub claim_octets : (flags : ℕ) → Registration → List ℕ
-claim_octets flags r = header r.id flags 1 0 1 ++ (wire r.name ++ word nb ++ word internet) ++ (0xC0 ∷ 0x0C ∷ record_fields nb r.ttl (entry r.kind r.addr))
+claim_octets flags r =
+    header r.id flags 1 0 1 ++ (wire r.name ++ word nb ++ word internet)
+    ++ (0xC0 ∷ 0x0C ∷ record_fields nb r.ttl (entry r.kind r.addr))
 
 abbrev pub answer_octets : (id flags : ℕ) → NameValue → (rtype ttl : ℕ) → List ℕ → List ℕ
 answer_octets id flags name rtype ttl rdata = header id flags 0 1 0 ++ (wire name ++ record_fields rtype ttl rdata)

@@ -157,8 +157,10 @@ fn message_of_answer<'a>(packet: &Packet<'a>, answer: &Record<'a>) -> Option<Mes
 
 /// Whether a question and an additional record are of one name, of type NB and class IN, with one entry.
 fn are_of_one_name(question: &Question, additional: &Record<'_>) -> bool
-    ensures { IsTrue result ↔ ((question.now.rtype ≡ nb) × (question.now.class ≡ internet) × (additional.now.rtype ≡ nb)
-        × (additional.now.class ≡ internet) × (length additional.now.rdata.now ≡ 6) × (question.now.name ≡ additional.now.name)) }
+    ensures { IsTrue result
+        ↔ ((question.now.rtype ≡ nb) × (question.now.class ≡ internet)
+        × (additional.now.rtype ≡ nb) × (additional.now.class ≡ internet)
+        × (length additional.now.rdata.now ≡ 6) × (question.now.name ≡ additional.now.name)) }
 {
     question.rtype == NB
         && question.class == IN
@@ -168,14 +170,16 @@ fn are_of_one_name(question: &Question, additional: &Record<'_>) -> bool
 
 /// Whether a record is of type NB and class IN, with one entry.
 fn has_entry(resource: &Record<'_>) -> bool
-    ensures { IsTrue result ↔ ((resource.now.rtype ≡ nb) × (resource.now.class ≡ internet) × (length resource.now.rdata.now ≡ 6)) }
+    ensures { IsTrue result
+        ↔ ((resource.now.rtype ≡ nb) × (resource.now.class ≡ internet) × (length resource.now.rdata.now ≡ 6)) }
 {
     resource.rtype == NB && resource.class == IN && resource.rdata.len() == ADDR_ENTRY
 }
 
 /// Whether a record is of type NB and class IN, with one entry or more.
 fn has_entries(resource: &Record<'_>) -> bool
-    ensures { IsTrue result ↔ ((resource.now.rtype ≡ nb) × (resource.now.class ≡ internet) × AreEntries resource.now.rdata.now) }
+    ensures { IsTrue result
+        ↔ ((resource.now.rtype ≡ nb) × (resource.now.class ≡ internet) × AreEntries resource.now.rdata.now) }
 {
     resource.rtype == NB
         && resource.class == IN
@@ -185,8 +189,9 @@ fn has_entries(resource: &Record<'_>) -> bool
 
 /// Whether a record is of type NBSTAT and class IN, with as many names as NUM_NAMES says.
 fn has_names(resource: &Record<'_>) -> bool
-    ensures { IsTrue result ↔ ((resource.now.rtype ≡ nbstat) × (resource.now.class ≡ internet)
-        × (0 < length resource.now.rdata.now) × (1 + 18 * slice_index resource.now.rdata.now 0 ≤ length resource.now.rdata.now)) }
+    ensures { IsTrue result
+        ↔ ((resource.now.rtype ≡ nbstat) × (resource.now.class ≡ internet) × (0 < length resource.now.rdata.now)
+        × (1 + 18 * slice_index resource.now.rdata.now 0 ≤ length resource.now.rdata.now)) }
 {
     resource.rtype == NBSTAT
         && resource.class == IN

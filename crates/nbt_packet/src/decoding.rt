@@ -13,7 +13,7 @@ use crate::wire::{ANCOUNT, ARCOUNT, FLAGS, HEADER, NAME_TRN_ID, NSCOUNT, QDCOUNT
 use byteorder::{BigEndian, ByteOrder};
 use nbt_name::{NameFaultKind, read_in};
 
-/// Reads the packet that the octets begin with, and answers it with how many octets it took. The fault is the first
+/// Reads the packet that the octets begin with, and returns it with how many octets it took. The fault is the first
 /// one in reading order: `TooMany` (6) as soon as a count was read that is above 1 (NSCOUNT: above 0); a name's own
 /// (1 to 5); `Short` (1) at the octets' length wherever they end. Octets after the packet are not looked at (RFC 1002
 /// section 4.2.1; the limits on counts are our profile).
@@ -56,6 +56,7 @@ struct Header {
     additionals: u16,
 }
 
+/// The header, whose counts fit; the fault of one that doesn't stand.
 fn header_of(octets: &[u8]) -> Result<Header, Fault>
     ensures header { IfOk result (IsHeaderOf octets.now) }
     ensures fault { IfErr result (PacketFault octets.now) }
@@ -103,6 +104,7 @@ fn count(octets: &[u8], place: usize, most: u16) -> Result<u16, Fault>
     Ok(count)
 }
 
+/// The question that a count of 1 says stands here, and the place behind it; a count of 0 says that none does.
 fn question_section(
     octets: &[u8],
     count: u16,
@@ -121,6 +123,7 @@ fn question_section(
     Ok((Some(question), next))
 }
 
+/// The record that a count of 1 says stands here, and the place behind it; a count of 0 says that none does.
 fn record_section(
     octets: &[u8],
     count: u16,
@@ -139,6 +142,7 @@ fn record_section(
     Ok((Some(record), next))
 }
 
+/// The question that stands here, and the place behind it (RFC 1002 section 4.2.1.2).
 fn question_at(octets: &[u8], place: usize) -> Result<(Question, usize), Fault>
     requires { place ≤ length octets.now }
     ensures question { IfOk result (λ read. QuestionAt octets.now place read.0 read.1) }
@@ -157,6 +161,7 @@ fn question_at(octets: &[u8], place: usize) -> Result<(Question, usize), Fault>
     Ok((question, named + 4))
 }
 
+/// The record that stands here, and the place behind it (RFC 1002 section 4.2.1.3).
 fn record_at(octets: &[u8], place: usize) -> Result<(Record<'_>, usize), Fault>
     requires { place ≤ length octets.now }
     ensures record { IfOk result (λ read. RecordAt octets.now place (record_of read.0) read.1) }

@@ -13,8 +13,10 @@ ghost use Rattle.nbt_packet.specs.Spelling.{Spells, HasFewRows};
 pub fn one_packet_or_fault()
     ensures found { (octets : List ℕ) → AreOctets octets
         → ((packet : PacketValue) × (n : ℕ) × PacketIs octets packet n) ⊎ ((fault : Fault) × PacketFault octets fault) }
-    ensures one_packet { (octets : List ℕ) (p q : PacketValue) (m n : ℕ) → PacketIs octets p m → PacketIs octets q n → (p ≡ q) × (m ≡ n) }
-    ensures one_fault { (octets : List ℕ) (f g : Fault) → AreOctets octets → PacketFault octets f → PacketFault octets g → f ≡ g }
+    ensures one_packet { (octets : List ℕ) (p q : PacketValue) (m n : ℕ)
+        → PacketIs octets p m → PacketIs octets q n → (p ≡ q) × (m ≡ n) }
+    ensures one_fault { (octets : List ℕ) (f g : Fault) → AreOctets octets
+        → PacketFault octets f → PacketFault octets g → f ≡ g }
     ensures not_both { (octets : List ℕ) (packet : PacketValue) (n : ℕ) (fault : Fault) → AreOctets octets
         → PacketIs octets packet n → PacketFault octets fault → ⊥ }
 {
@@ -55,7 +57,8 @@ pub fn written_length()
     ensures { (m : MessageValue) → HoldsNumbers m → length (text m) ≡ size_of m }
 {}
 
-/// A message with at most 49 entries, or 14 names of a node status, is written in at most 576 octets, whatever its name.
+/// A message with at most 49 entries, or 14 names of a node status, is written in at most 576 octets, whatever its
+/// name.
 pub fn few_rows_are_written()
     ensures { (m : MessageValue) → HoldsNumbers m → HasFewRows m → length (text m) ≤ 576 }
 {}

@@ -126,7 +126,8 @@ fn put_claim_packet(out: &mut ArrayVec<u8, 576>, flags: u16, r: &Registration)
 /// A release's claim, whose TTL is 0 (RFC 1002 section 4.2.9).
 fn put_release(out: &mut ArrayVec<u8, 576>, id: u16, name: &Name, kind: Kind, addr: u32)
     requires { out.old.items ≡ [] }
-    ensures form { out.new.items ≡ claim_octets 0x3000 (record { id = id; name = name.now; kind = kind; addr = addr; ttl = 0 }) }
+    ensures form { out.new.items
+        ≡ claim_octets 0x3000 (record { id = id; name = name.now; kind = kind; addr = addr; ttl = 0 }) }
     ensures fits { length (claim_octets 0x3000 (record { id = id; name = name.now; kind = kind; addr = addr; ttl = 0 })) ≤ 576 }
 {
     let claim = Registration {
@@ -143,8 +144,10 @@ fn put_release(out: &mut ArrayVec<u8, 576>, id: u16, name: &Name, kind: Kind, ad
 fn put_registered(out: &mut ArrayVec<u8, 576>, rcode: u8, r: &Registration) -> Result<(), Full>
     requires empty { out.old.items ≡ [] }
     requires rcode { rcode ≤ 15 }
-    ensures ok { OnOk result (out.new.items ≡ answer_octets r.now.id (0xAD80 + rcode) r.now.name nb r.now.ttl (entry r.now.kind r.now.addr)) }
-    ensures full { IsErr result ↔ (576 < length (answer_octets r.now.id (0xAD80 + rcode) r.now.name nb r.now.ttl (entry r.now.kind r.now.addr))) }
+    ensures ok { OnOk result
+        (out.new.items ≡ answer_octets r.now.id (0xAD80 + rcode) r.now.name nb r.now.ttl (entry r.now.kind r.now.addr)) }
+    ensures full { IsErr result
+        ↔ (576 < length (answer_octets r.now.id (0xAD80 + rcode) r.now.name nb r.now.ttl (entry r.now.kind r.now.addr))) }
     ensures empty { OnErr result (out.new.items ≡ []) }
 {
     let flags = REGISTERED + u16::from(rcode);
@@ -252,7 +255,8 @@ fn put_answer_head(
     rdlength: u16,
 )
     requires { out.old.items ≡ [] }
-    ensures { out.new.items ≡ spec.header id flags 0 1 0 ++ (wire name.now ++ (word rtype ++ word internet ++ long ttl ++ word rdlength)) }
+    ensures { out.new.items
+        ≡ spec.header id flags 0 1 0 ++ (wire name.now ++ (word rtype ++ word internet ++ long ttl ++ word rdlength)) }
 {
     put_header(out, id, flags, 0, 1, 0);
     put_name(out, name);

@@ -2,7 +2,7 @@ use Rattle.std.proofs.Common.{refl, sym, ap, subst, arith}
 use Rattle.nbt_name.specs.declared.reader.Reader.{Reader}
 use Rattle.nbt_name.specs.Wire.{IsName, AreOctets, name_of}
 use Rattle.nbt_name.specs.Reading.{Spot, Path, here, start}
-use Rattle.nbt_name.specs.Reader.{passed_of}
+use Rattle.nbt_name.specs.Inner.Reader.{passed_of}
 use Rattle.nbt_name.proofs.Walk.{Path-push}
 use Rattle.nbt_name.proofs.WireForms.{IsPassed, nothing, path_passed, closed_name}
 use Rattle.nbt_name.proofs.Ends.{step_within, step_works}

@@ -1,6 +1,6 @@
 use Rattle.std.proofs.Common.{◌≤◌, length}
 use Rattle.nbt_name.specs.Reading.{Path, start}
-use Rattle.nbt_name.specs.Reader.{spot_of}
+use Rattle.nbt_name.specs.Inner.Reader.{spot_of}
 use Rattle.nbt_name.proofs.Ends.{work}
 use Rattle.nbt_name.proofs.reading.read.Given as goal
 
