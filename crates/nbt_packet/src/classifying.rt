@@ -3,7 +3,7 @@
 ghost use Rattle.std.specs.Prelude.{◌≡◌, ℕ, ◌+◌, ◌*◌, ◌<◌, ◌≤◌, ◌↔◌, Some, length, slice_index, IsTrue};
 ghost use Rattle.nbt_packet.specs.Fields.{long_at};
 ghost use Rattle.nbt_packet.specs.Packet.{record_of, packet_of};
-ghost use Rattle.nbt_packet.specs.Message.{MessageValue, MessageIs, Asks, Claims, Answers, IsBare, IsEntry, AreEntries, HoldsNames, nb, nbstat, internet, kind_in, message_if};
+ghost use Rattle.nbt_packet.specs.Message.{MessageValue, MessageIs, Asks, Claims, Answers, IsBare, Responds, IsEntry, AreEntries, HoldsNames, nb, nbstat, internet, kind_in, message_if};
 ghost use Rattle.nbt_packet.specs.Inner.Classifying.{Classifies};
 
 use crate::flags;
@@ -113,46 +113,58 @@ fn message_of_answer<'a>(packet: &Packet<'a>, answer: &Record<'a>) -> Option<Mes
     if flags::is_request(flags) || !flags::is_unicast(flags) {
         return None;
     }
-    let id = packet.id;
-    let rcode = flags::rcode(flags);
     match flags::opcode(flags) {
-        OPCODE_QUERY if rcode != 0 => Some(Message::NotFound {
-            id,
-            rcode,
-            name: Some(answer.name.copy()),
-        }),
-        OPCODE_QUERY if has_entries(answer) => Some(Message::Found {
-            id,
-            name: answer.name.copy(),
-            ttl: answer.ttl,
-            entries: answer.rdata,
-        }),
-        OPCODE_QUERY if has_names(answer) => Some(Message::Status {
-            id,
-            name: answer.name.copy(),
-            names: names_in(answer.rdata),
-        }),
+        OPCODE_QUERY => message_of_query_response(packet, answer),
         OPCODE_RELEASE if has_entry(answer) => Some(Message::Released {
-            id,
-            rcode,
+            id: packet.id,
+            rcode: flags::rcode(flags),
             name: answer.name.copy(),
             kind: kind_of(answer.rdata),
             addr: address_of(answer.rdata),
         }),
         OPCODE_WACK => Some(Message::Wait {
-            id,
+            id: packet.id,
             name: answer.name.copy(),
             ttl: answer.ttl,
         }),
         OPCODE_REGISTRATION | OPCODE_REFRESH | OPCODE_REFRESH_9
             if has_entry(answer) && !flags::is_challenge(flags) => {
             Some(Message::Registered {
-                rcode,
+                rcode: flags::rcode(flags),
                 registration: registration_in(packet, answer),
             })
         }
         _ => None,
     }
+}
+
+/// The message of a response to a query or to a status request.
+fn message_of_query_response<'a>(packet: &Packet<'a>, answer: &Record<'a>) -> Option<Message<'a>>
+    requires answer { Answers (packet_of packet.now) (record_of answer.now) }
+    requires response { Responds packet.now.flags 0 }
+    ensures { Classifies (packet_of packet.now) result }
+{
+    let id = packet.id;
+    let rcode = flags::rcode(packet.flags);
+    let name = answer.name.copy();
+    if rcode != 0 {
+        let name = Some(name);
+        return Some(Message::NotFound { id, rcode, name });
+    }
+    if has_entries(answer) {
+        let (ttl, entries) = (answer.ttl, answer.rdata);
+        return Some(Message::Found {
+            id,
+            name,
+            ttl,
+            entries,
+        });
+    }
+    if has_names(answer) {
+        let names = names_in(answer.rdata);
+        return Some(Message::Status { id, name, names });
+    }
+    None
 }
 
 /// Whether a question and an additional record are of one name, of type NB and class IN, with one entry.
