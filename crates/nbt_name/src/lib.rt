@@ -11,6 +11,7 @@ pub mod laws;
 mod name;
 mod reader;
 mod reading;
+mod wire;
 
 pub use addr::{Addr, Kind};
 pub use fault::{NameFault, NameFaultKind, NameRefusal};

@@ -5,6 +5,7 @@ ghost use Rattle.nbt_name.specs.Scope.{IsScope};
 ghost use Rattle.nbt_name.specs.Wire.{IsName, name_of, wire};
 
 use crate::fault::NameRefusal;
+use crate::wire::{LABEL_MOST, LETTERS, SCOPE_MOST};
 use arrayvec::ArrayVec;
 use std::marker::Model;
 
@@ -28,15 +29,6 @@ impl Model for Name {
 
     ghost inverse = { λ v. record { octets = v.octets; scope = record { items = v.scope } } };
 }
-
-/// The length octet of the first label, which is 32 letters (RFC 1001 section 14.1).
-const LETTERS: u8 = 0x20;
-
-/// The most octets of a scope: with 34 for the sixteen octets and the closing zero, the wire form has 255.
-const SCOPE_MOST: usize = 221;
-
-/// The most octets of a label (RFC 1002 section 4.1).
-const LABEL_MOST: usize = 63;
 
 impl Name {
     /// The first octet of the name that stands for all names, `*` (RFC 1002 section 4.2.17).

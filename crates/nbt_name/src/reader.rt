@@ -8,25 +8,8 @@ ghost use Rattle.nbt_name.specs.declared.form.Form.{Form};
 
 use crate::fault::{NameFault, NameFaultKind};
 use crate::form::Form;
+use crate::wire::{LABEL_MOST, LETTERS, LETTERS_COUNT, LETTERS_WHOLE, POINTER, WIRE_MOST};
 use arrayvec::ArrayVec;
-
-/// The length octet of the first label: 32 letters (RFC 1001 section 14.1).
-const LETTERS: u8 = 0x20;
-
-/// How many letters the first label has: two for each of the sixteen octets (RFC 1001 section 14.1).
-const LETTERS_COUNT: usize = 32;
-
-/// The most octets of a later label (RFC 1002 section 4.1).
-const LABEL_MOST: u8 = 63;
-
-/// A pointer's first octet is at least this one (RFC 1002 section 4.1).
-const POINTER: u8 = 0xC0;
-
-/// How many octets the first label has with its length octet.
-const LETTERS_WHOLE: usize = 33;
-
-/// The most octets of a wire form (RFC 1002 section 4.1, RFC 883).
-const WIRE_MOST: usize = 255;
 
 /// A reader on its way through a name's labels.
 #[derive(Debug, Drop)]
@@ -111,10 +94,10 @@ impl Reader {
         requires label { (0 < count) × (count < 0xC0) }
         ensures { (form : Form) → Passes form octets.now self.old self.new result }
     {
+        let count = usize::from(count);
         if count > LABEL_MOST {
             return Err(self.fault(NameFaultKind::BadLabel));
         }
-        let count = usize::from(count);
         if LETTERS_WHOLE + self.scope.len() + 1 + count + 1 > WIRE_MOST {
             return Err(self.fault(NameFaultKind::Long));
         }

@@ -215,10 +215,6 @@ packet_fails octets names gives fault (additional_bad _ q a asked answered heade
 gives_by : (octets : List ℕ) (law : NameLaw octets) → Gives octets (λ place. name_of (law.found place))
 gives_by octets law = record { name = name_given octets law; fault = fault_given octets law }
 
-one_packet : (octets : List ℕ) → NameLaw octets → (p q : PacketValue) (n m : ℕ) → PacketIs octets p n → PacketIs octets q m → ◌≡◌ {A = PacketValue × ℕ} (p, n) (q, m)
-one_packet octets law p q n m a b =
-    let e = sym (packet_read octets _ (gives_by octets law) p n a) ∙ packet_read octets _ (gives_by octets law) q m b in cc
-
 pub one_fault : (octets : List ℕ) → NameLaw octets → (f g : Fault) → PacketFault octets f → PacketFault octets g → f ≡ g
 one_fault octets law f g a b =
     let e = sym (packet_fails octets _ (gives_by octets law) f a) ∙ packet_fails octets _ (gives_by octets law) g b in cc
@@ -227,16 +223,19 @@ pub not_both : (octets : List ℕ) → NameLaw octets → (p : PacketValue) (n :
 not_both octets law p n f a b =
     let e = sym (packet_read octets _ (gives_by octets law) p n a) ∙ packet_fails octets _ (gives_by octets law) f b in cc
 
-pub packet_iff : (octets : List ℕ) → NameLaw octets → (r : Result (Packet × ℕ) Fault) → IfOk r (λ read. PacketIs octets (packet_of read.0) read.1) → IfErr r (PacketFault octets)
-    → (p : PacketValue) (n : ℕ) → (decoded r ≡ Ok (p, n)) ↔ PacketIs octets p n
-packet_iff octets law (Ok read) a b p n = (
-  λ e. let same : ◌≡◌ {A = PacketValue × ℕ} (packet_of read.0, read.1) (p, n) = cc in subst (λ (x : PacketValue × ℕ). PacketIs octets x.0 x.1) same a,
-  λ is. ap {B = Result (PacketValue × ℕ) Fault} Ok (one_packet octets law (packet_of read.0) p read.1 n a is),
-)
-packet_iff octets law (Err fault) a b p n = (λ e. absurd cc, λ is. absurd (not_both octets law p n fault is b))
+-- ---- and what is read is it
 
-pub fault_iff : (octets : List ℕ) → NameLaw octets → (r : Result (Packet × ℕ) Fault) → IfOk r (λ read. PacketIs octets (packet_of read.0) read.1) → IfErr r (PacketFault octets)
+pub packet_iff : (octets : List ℕ) (r : Result (Packet × ℕ) Fault) → ((p q : PacketValue) (m n : ℕ) → PacketIs octets p m → PacketIs octets q n → (p ≡ q) × (m ≡ n))
+    → ((p : PacketValue) (n : ℕ) (f : Fault) → PacketIs octets p n → PacketFault octets f → ⊥) → IfOk r (λ read. PacketIs octets (packet_of read.0) read.1) → IfErr r (PacketFault octets)
+    → (p : PacketValue) (n : ℕ) → (decoded r ≡ Ok (p, n)) ↔ PacketIs octets p n
+packet_iff octets (Ok read) one apart a b p n = (
+  λ e. let same : ◌≡◌ {A = PacketValue × ℕ} (packet_of read.0, read.1) (p, n) = cc in subst (λ (x : PacketValue × ℕ). PacketIs octets x.0 x.1) same a,
+  λ is. let same = one (packet_of read.0) p read.1 n a is in λ i. Ok (same.0 i, same.1 i),
+)
+packet_iff octets (Err fault) one apart a b p n = (λ e. absurd cc, λ is. absurd (apart p n fault is b))
+
+pub fault_iff : (octets : List ℕ) (r : Result (Packet × ℕ) Fault) → ((f g : Fault) → PacketFault octets f → PacketFault octets g → f ≡ g)
+    → ((p : PacketValue) (n : ℕ) (f : Fault) → PacketIs octets p n → PacketFault octets f → ⊥) → IfOk r (λ read. PacketIs octets (packet_of read.0) read.1) → IfErr r (PacketFault octets)
     → (fault : Fault) → (decoded r ≡ Err fault) ↔ PacketFault octets fault
-fault_iff octets law (Ok read) a b fault = (λ e. absurd cc, λ is. absurd (not_both octets law (packet_of read.0) read.1 fault a is))
-fault_iff octets law (Err other) a b fault =
-    (λ e. let same : other ≡ fault = cc in subst (PacketFault octets) same b, λ is. ap {B = Result (PacketValue × ℕ) Fault} Err (one_fault octets law other fault b is))
+fault_iff octets (Ok read) one apart a b fault = (λ e. absurd cc, λ is. absurd (apart (packet_of read.0) read.1 fault a is))
+fault_iff octets (Err other) one apart a b fault = (λ e. let same : other ≡ fault = cc in subst (PacketFault octets) same b, λ is. ap {B = Result (PacketValue × ℕ) Fault} Err (one other fault b is))

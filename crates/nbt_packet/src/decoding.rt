@@ -8,6 +8,7 @@ ghost use Rattle.nbt_packet.specs.Packet.{PacketValue, QuestionAt, RecordAt, Sec
 ghost use Rattle.nbt_packet.specs.Inner.Decoding.{IsHeaderOf, CountFault};
 
 use crate::fault::{Fault, FaultKind};
+use crate::laws;
 use crate::packet::{Packet, Question, Record};
 use crate::wire::{ANCOUNT, ARCOUNT, FLAGS, HEADER, NAME_TRN_ID, NSCOUNT, QDCOUNT};
 use byteorder::{BigEndian, ByteOrder};
@@ -22,7 +23,7 @@ pub fn decode(octets: &[u8]) -> Result<(Packet<'_>, usize), Fault>
     ensures fault { (fault : Fault) → (decoded result ≡ Err fault) ↔ PacketFault octets.now fault }
     ensures within { IfOk result (λ read. read.1 ≤ length octets.now) }
 {
-    nbt_name::laws::one_name_or_fault();
+    laws::one_packet_or_fault();
     packet_at(octets)
 }
 
