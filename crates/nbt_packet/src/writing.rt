@@ -1,9 +1,10 @@
 //! Writing a message's one written form (RFC 1002 section 4.2).
 
 ghost use Rattle.std.specs.Prelude.{◌≡◌, ◌+◌, ◌*◌, ◌<◌, ◌≤◌, ◌↔◌, [], ◌++◌, length, OnOk, OnErr, IsErr};
-ghost use Rattle.nbt_name.specs.Wire.{wire};
+ghost use Rattle.std.specs.Option.{ForSome};
+ghost use Rattle.nbt_name.specs.Wire.{AreOctets, IsName, wire};
 ghost use Rattle.nbt_packet.specs.Fields.{word, long};
-ghost use Rattle.nbt_packet.specs.Message.{Fits, message_of, not_found, status, nb, internet};
+ghost use Rattle.nbt_packet.specs.Message.{Fits, IsRegistration, HoldsNumbers, message_of, not_found, status, nb, internet};
 ghost use Rattle.nbt_packet.specs.Text as spec;
 ghost use Rattle.nbt_packet.specs.Text.{text, entry, status_name, question_octets, claim_octets, answer_octets};
 
@@ -52,6 +53,7 @@ pub fn encode(message: &Message<'_>, out: &mut ArrayVec<u8, 576>) -> Result<(), 
     ensures ok { OnOk result (out.new.items ≡ text (message_of message.now)) }
     ensures full { IsErr result ↔ (576 < length (text (message_of message.now))) }
     ensures empty { OnErr result (out.new.items ≡ []) }
+    ensures numbers { HoldsNumbers (message_of message.now) }
 {
     out.clear();
     match message {
@@ -103,6 +105,7 @@ fn put_question_packet(out: &mut ArrayVec<u8, 576>, id: u16, flags: u16, name: &
     requires { out.old.items ≡ [] }
     ensures form { out.new.items ≡ question_octets id flags rtype name.now }
     ensures fits { length (question_octets id flags rtype name.now) ≤ 576 }
+    ensures name { IsName name.now }
 {
     put_header(out, id, flags, 1, 0, 0);
     put_question(out, name, rtype);
@@ -114,6 +117,7 @@ fn put_claim_packet(out: &mut ArrayVec<u8, 576>, flags: u16, r: &Registration)
     requires { out.old.items ≡ [] }
     ensures form { out.new.items ≡ claim_octets flags r.now }
     ensures fits { length (claim_octets flags r.now) ≤ 576 }
+    ensures numbers { IsRegistration r.now }
 {
     put_header(out, r.id, flags, 1, 0, 1);
     put_question(out, &r.name, NB);
@@ -129,6 +133,7 @@ fn put_release(out: &mut ArrayVec<u8, 576>, id: u16, name: &Name, kind: Kind, ad
     ensures form { out.new.items
         ≡ claim_octets 0x3000 (record { id = id; name = name.now; kind = kind; addr = addr; ttl = 0 }) }
     ensures fits { length (claim_octets 0x3000 (record { id = id; name = name.now; kind = kind; addr = addr; ttl = 0 })) ≤ 576 }
+    ensures name { IsName name.now }
 {
     let claim = Registration {
         id,
@@ -149,6 +154,7 @@ fn put_registered(out: &mut ArrayVec<u8, 576>, rcode: u8, r: &Registration) -> R
     ensures full { IsErr result
         ↔ (576 < length (answer_octets r.now.id (0xAD80 + rcode) r.now.name nb r.now.ttl (entry r.now.kind r.now.addr))) }
     ensures empty { OnErr result (out.new.items ≡ []) }
+    ensures numbers { IsRegistration r.now }
 {
     let flags = REGISTERED + u16::from(rcode);
     let rdata = entry_octets(r.kind, r.addr);
@@ -169,6 +175,7 @@ fn put_released(
     ensures ok { OnOk result (out.new.items ≡ answer_octets id (0xB400 + rcode) name.now nb 0 (entry kind addr)) }
     ensures full { IsErr result ↔ (576 < length (answer_octets id (0xB400 + rcode) name.now nb 0 (entry kind addr))) }
     ensures empty { OnErr result (out.new.items ≡ []) }
+    ensures name { IsName name.now }
 {
     let flags = RELEASED + u16::from(rcode);
     let rdata = entry_octets(kind, addr);
@@ -187,6 +194,7 @@ fn put_not_found(
     ensures ok { OnOk result (out.new.items ≡ text (not_found id rcode name.now)) }
     ensures full { IsErr result ↔ (576 < length (text (not_found id rcode name.now))) }
     ensures empty { OnErr result (out.new.items ≡ []) }
+    ensures name { ForSome name.now IsName }
 {
     let flags = QUERIED + u16::from(rcode);
     match name {
@@ -206,6 +214,8 @@ fn put_status(out: &mut ArrayVec<u8, 576>, id: u16, name: &Name, names: &[u8]) -
     ensures ok { OnOk result (out.new.items ≡ text (status id name.now names.now)) }
     ensures full { IsErr result ↔ (576 < length (text (status id name.now names.now))) }
     ensures empty { OnErr result (out.new.items ≡ []) }
+    ensures name { IsName name.now }
+    ensures octets { AreOctets names.now }
 {
     let rdlength = 1 + names.len() + STATISTICS;
     put_answer_head(out, id, STATUS, name, NBSTAT, 0, rdlength as u16);
@@ -234,6 +244,8 @@ fn put_answer_packet(
     ensures ok { OnOk result (out.new.items ≡ answer_octets id flags name.now rtype ttl rdata.now) }
     ensures full { IsErr result ↔ (576 < length (answer_octets id flags name.now rtype ttl rdata.now)) }
     ensures empty { OnErr result (out.new.items ≡ []) }
+    ensures name { IsName name.now }
+    ensures octets { AreOctets rdata.now }
 {
     put_answer_head(out, id, flags, name, rtype, ttl, rdata.len() as u16);
     if out.remaining_capacity() < rdata.len() {
@@ -255,8 +267,9 @@ fn put_answer_head(
     rdlength: u16,
 )
     requires { out.old.items ≡ [] }
-    ensures { out.new.items
+    ensures form { out.new.items
         ≡ spec.header id flags 0 1 0 ++ (wire name.now ++ (word rtype ++ word internet ++ long ttl ++ word rdlength)) }
+    ensures name { IsName name.now }
 {
     put_header(out, id, flags, 0, 1, 0);
     put_name(out, name);
@@ -288,6 +301,7 @@ fn put_question(out: &mut ArrayVec<u8, 576>, asked: &Name, rtype: u16)
     requires { length out.old.items ≤ 12 }
     ensures form { out.new.items ≡ out.old.items ++ (wire asked.now ++ word rtype ++ word internet) }
     ensures fits { length (wire asked.now) ≤ 255 }
+    ensures name { IsName asked.now }
 {
     put_name(out, asked);
     put_word(out, rtype);
@@ -338,6 +352,7 @@ fn put_name(out: &mut ArrayVec<u8, 576>, name: &Name)
     requires { length out.old.items ≤ 300 }
     ensures form { out.new.items ≡ out.old.items ++ wire name.now }
     ensures fits { length (wire name.now) ≤ 255 }
+    ensures name { IsName name.now }
 {
     let mut form = ArrayVec::new();
     name.to_wire(&mut form);

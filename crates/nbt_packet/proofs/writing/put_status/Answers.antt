@@ -6,4 +6,4 @@ returns-clause-ok c =
     let named = rw c.unwrap.ensures at c.try_extend_from_slice.ensures.ok in
     let all = rw c.unwrap-2.ensures at c.try_extend_from_slice-2.ensures.ok in
     status_is c.args.id c.args.name.now c.args.names.now c.put_answer_head.new.out.items c.push.new.self.items c.try_extend_from_slice.new.self.items c.try_extend_from_slice-2.new.self.items
-    c.put_answer_head.ensures c.push.ensures.items named all
+    c.put_answer_head.ensures.form c.push.ensures.items named all
