@@ -1,11 +1,6 @@
-pub mod Addr
 pub mod Answer
 pub mod Arguments
-pub mod Fault
-pub mod NameText
+pub mod Failure
 pub mod Outcome
-pub mod Pieces
 pub mod Printed
 pub mod Serving
-pub mod Show
-pub mod Vector

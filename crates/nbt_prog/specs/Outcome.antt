@@ -1,17 +1,17 @@
 -- How a command ends.
 use Rattle.std.specs.Prelude.{ℕ, List, Option, Some, Result, Ok, Err}
 use Rattle.std.specs.String.{string_bytes}
-use Rattle.nbt_prog.specs.declared.fault.Fault.{Fault}
+use Rattle.nbt_prog.specs.declared.failure.Failure.{Failure}
 use Rattle.nbt_prog.specs.declared.printed.Printed.{Printed}
-use Rattle.nbt_prog.specs.Fault.{status_of, text_of}
+use Rattle.nbt_prog.specs.Failure.{failure_status, failure_text}
 use Rattle.nbt_prog.specs.Printed.{ending_status}
 
 -- the status with which the program ends, where the writer takes all that is printed
-abbrev pub status_of_outcome : Result Printed Fault → ℕ
+abbrev pub status_of_outcome : Result Printed Failure → ℕ
 status_of_outcome (Ok printed) = ending_status printed.ending
-status_of_outcome (Err fault) = status_of fault
+status_of_outcome (Err failure) = failure_status failure
 
--- all that is printed: the whole output, or what a fault says
-abbrev pub text_of_outcome : Result Printed Fault → Option (List ℕ)
+-- all that is printed: the whole output, or what a failure says
+abbrev pub text_of_outcome : Result Printed Failure → Option (List ℕ)
 text_of_outcome (Ok printed) = Some (string_bytes printed.text)
-text_of_outcome (Err fault) = text_of fault
+text_of_outcome (Err failure) = failure_text failure

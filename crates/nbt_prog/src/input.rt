@@ -1,7 +1,8 @@
 //! Standard input, read whole.
+
 ghost use Rattle.std.specs.Prelude.{◌≤◌, IfOk, vec_len};
 
-use crate::fault::Fault;
+use crate::failure::Failure;
 use std::alloc::Global;
 use std::io::Read;
 
@@ -10,7 +11,7 @@ const MOST: usize = 1_048_576;
 
 /// Reads the input to its end. Refused: more than 1,048,576 octets are `Unreadable` (our profile), a reader that
 /// fails is `Device`.
-pub fn read<R: Read>(alloc: Global, reader: &mut R) -> Result<Vec<u8>, Fault>
+pub fn read_input<R: Read>(alloc: Global, reader: &mut R) -> Result<Vec<u8>, Failure>
     ensures { IfOk result (λ octets. vec_len octets ≤ 1048576) }
 {
     let mut octets = Vec::new(alloc);
@@ -19,7 +20,7 @@ pub fn read<R: Read>(alloc: Global, reader: &mut R) -> Result<Vec<u8>, Fault>
         .take(MOST as u64 + 1)
         .read_to_end(&mut octets)?;
     if octets.len() > MOST {
-        return Err(Fault::Unreadable);
+        return Err(Failure::Unreadable);
     }
     Ok(octets)
 }

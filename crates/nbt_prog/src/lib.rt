@@ -8,28 +8,21 @@ ghost use Rattle.std.specs.Prelude.{◌≡◌, ◌≢◌, ◌≤◌, ◌⊎◌, 
 ghost use Rattle.std.specs.IoError.{error_kind};
 ghost use Rattle.std.specs.declared.io.ErrorKind.TheVariants.{InvalidData};
 ghost use Rattle.std.specs.Io.KnownBytes.{Appends};
-ghost use Rattle.nbt_prog.specs.Fault.{line};
+ghost use Rattle.nbt_prog.specs.Failure.{one_line};
 ghost use Rattle.nbt_prog.specs.Outcome.{status_of_outcome, text_of_outcome};
 
-mod address;
 mod arguments;
 mod commands;
-mod fault;
-mod hexadecimal;
+mod failure;
 mod input;
-pub mod laws;
-mod name_text;
-mod number;
-mod pieces;
 mod printed;
 mod serving;
 #[cfg(test)]
 mod tests;
 mod usage;
-mod vector;
 
 use arguments::Request;
-use fault::Fault;
+use failure::Failure;
 use printed::Printed;
 pub use serving::answer;
 use std::alloc::Global;
@@ -55,7 +48,7 @@ pub fn command<S: AsStr, R: Read, W: Write>(
 ) -> u8
     ensures bound { result ≤ 4 }
     ensures memory { result ≡ 4
-        → Appends (W.contents writer.old) (W.contents writer.new) (line (codes "memory")) }
+        → Appends (W.contents writer.old) (W.contents writer.new) (one_line (codes "memory")) }
 {
     conclude(run(alloc, words, reader), writer)
 }
@@ -67,26 +60,26 @@ pub fn command_without_words<W: Write>(alloc: Global, error: io::Error, writer: 
     ensures usage { error_kind error ≡ InvalidData → (result ≡ 2) ⊎ (3 ≤ result) }
     ensures failed { error_kind error ≢ InvalidData → 3 ≤ result }
     ensures memory { result ≡ 4
-        → Appends (W.contents writer.old) (W.contents writer.new) (line (codes "memory")) }
+        → Appends (W.contents writer.old) (W.contents writer.new) (one_line (codes "memory")) }
 {
-    let fault = match error.kind() {
+    let failure = match error.kind() {
         io::ErrorKind::InvalidData => usage::no_text(alloc).into(),
-        _ => Fault::from(error),
+        _ => Failure::from(error),
     };
-    conclude(Err(fault), writer)
+    conclude(Err(failure), writer)
 }
 
-// The whole output of the command that `words` name.
-fn run<S: AsStr, R: Read>(alloc: Global, words: &[S], reader: &mut R) -> Result<Printed, Fault> {
-    match arguments::parse(alloc, words)? {
+/// The whole output of the command that `words` name.
+fn run<S: AsStr, R: Read>(alloc: Global, words: &[S], reader: &mut R) -> Result<Printed, Failure> {
+    match arguments::parse_words(alloc, words)? {
         Request::Answer(arguments) => commands::answer::run(alloc, &arguments),
         Request::Show(arguments) => commands::show::run(alloc, &arguments),
         Request::Check => commands::check::run(alloc, reader),
     }
 }
 
-// Prints the output, or the text of the fault, and returns the status.
-fn conclude<W: Write>(outcome: Result<Printed, Fault>, writer: &mut W) -> u8
+/// Prints the output, or the text of the failure, and returns the status.
+fn conclude<W: Write>(outcome: Result<Printed, Failure>, writer: &mut W) -> u8
     ensures bound { result ≤ 4 }
     ensures told { (result ≡ 3) ⊎ ((result ≡ status_of_outcome outcome)
         × IfSome (text_of_outcome outcome)
@@ -94,22 +87,22 @@ fn conclude<W: Write>(outcome: Result<Printed, Fault>, writer: &mut W) -> u8
 {
     let status = match &outcome {
         Ok(printed) => printed.ending.status(),
-        Err(fault) => fault.status(),
+        Err(failure) => failure.status(),
     };
     match print(&outcome, writer) {
         Ok(()) => status,
-        Err(_) => Fault::Device.status(),
+        Err(_) => Failure::Device.status(),
     }
 }
 
-fn print<W: Write>(outcome: &Result<Printed, Fault>, writer: &mut W) -> io::Result<()>
+fn print<W: Write>(outcome: &Result<Printed, Failure>, writer: &mut W) -> io::Result<()>
     ensures { OnOk result (IfSome (text_of_outcome outcome.now)
         (Appends (W.contents writer.old) (W.contents writer.new))) }
 {
     match outcome {
         Ok(printed) => writer.write_all(printed.text.as_bytes())?,
-        Err(Fault::Usage(error)) => write!(writer, "{error}")?,
-        Err(fault) => writer.write_all(fault.line().as_bytes())?,
+        Err(Failure::Usage(error)) => write!(writer, "{error}")?,
+        Err(failure) => writer.write_all(failure.line().as_bytes())?,
     }
     writer.flush()
 }

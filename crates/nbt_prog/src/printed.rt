@@ -1,4 +1,5 @@
 //! What a command that did its work prints, and how it ends.
+
 ghost use Rattle.std.specs.Prelude.{◌≡◌};
 ghost use Rattle.nbt_prog.specs.Printed.{ending_status};
 

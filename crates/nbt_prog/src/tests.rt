@@ -9,7 +9,6 @@ use std::process::Abort;
 mod answer;
 mod check;
 mod messages;
-mod names;
 mod replies;
 mod show;
 

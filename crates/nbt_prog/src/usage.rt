@@ -1,4 +1,5 @@
 //! The commands and arguments, and the help on them.
+
 ghost use Rattle.std.specs.Prelude.{◌≡◌, ◌⊎◌, IfOk};
 ghost use Rattle.clap.specs.Words.{kind_of};
 
@@ -25,7 +26,9 @@ const ANSWER_ABOUT: &str =
     "Answers one packet to the name service, as a new server would, and prints the reply in hexadecimal";
 
 const ANSWER_HELP: &str = "\
-Prints the reply in lower-case hexadecimal on one line, or the line `none` where the server sends no reply.
+Answers this one datagram as a new name server would at MS. The server started at 0, its table is empty and has room
+for 4096 rows, its longest lease is 60 s, and the life of a datagram 1000 ms. It is silent for the first 60 s. Prints
+the reply in lower-case hexadecimal on one line, or the line `none` where the server sends no reply.
 
 Example:
   nbt answer 127.0.0.2:137 0001290000010000000000012045474643454645454341434143414341434143414341434143414341434143410000200001c00c002000010000003c000620007f000002
@@ -42,6 +45,14 @@ const SHOW_ABOUT: &str = "Shows what the octets of one packet say";
 const SHOW_HELP: &str = "\
 Prints a line for the header and for each section, then the message that the packet spells, or `none`, and how many
 octets it takes. Octets that are no packet print `fault WORD at PLACE`, where places count octets from 0.
+
+A packet spells no message where its broadcast bit is set (but for a status request), and where it is one that this
+program leaves out: a registration of several addresses (OPCODE 15), or a challenge between two nodes (a positive
+registration response without RA). Nor does one with another OPCODE, other sections, another type, class or length of
+data than its message has, or an additional record of another name. A redirect is `fault TooMany at 8`.
+
+A name is the text of its sixteen octets without the spaces at their end, so `FRED` is FRED<20>. Any other suffix
+prints as `hex:` and 32 digits, of which the last two are the suffix. The labels of a scope follow, each after a dot.
 
 Example:
   nbt show name 0001290000010000000000012045474643454645454341434143414341434143414341434143414341434143410000200001c00c002000010000003c000620007f000002
@@ -60,6 +71,8 @@ const CHECK_HELP: &str = "\
 Each line of standard input is `name HEX ok N`, for a packet that takes N octets, or `name HEX fault WORD PLACE`, in
 words between spaces. Empty HEX is `-`. Blank lines and lines that begin with `#` are passed over. Prints `pass`,
 `fail` or `unreadable` for each other line, last how many passed and failed. At most 1048576 octets are taken.
+
+`nbt show name HEX` shows why a line fails. Lines end with a line feed alone: one that ends with CR LF is unreadable.
 
 Example:
   printf 'name 000101000002 fault TooMany 4\\n' | nbt check

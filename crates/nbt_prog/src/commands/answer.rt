@@ -1,11 +1,12 @@
 //! The command `answer`: one packet in, the reply out.
+
 ghost use Rattle.std.specs.Prelude.{◌≡◌, ◌≤◌, ◌^◌, ◌++◌, ◌∷◌, [], ℕ, List, Option, Some, None, IfOk, IfErr};
 ghost use Rattle.std.specs.String.{string_bytes};
 ghost use Rattle.hex.specs.Hex.{encode_lower};
 ghost use Rattle.nbt_prog.specs.Answer.{answer_text};
 ghost use Rattle.nbt_prog.specs.Serving.{Serves};
 
-use crate::fault::Fault;
+use crate::failure::Failure;
 use crate::printed::{Ending, Printed};
 use crate::serving::answer;
 use arrayvec::ArrayVec;
@@ -25,11 +26,11 @@ pub struct AnswerArguments {
 }
 
 /// The server's reply to the packet in hexadecimal, or `none`, on one line.
-pub fn run(alloc: Global, arguments: &AnswerArguments) -> Result<Printed, Fault>
+pub fn run(alloc: Global, arguments: &AnswerArguments) -> Result<Printed, Failure>
     ensures reply { IfOk result (λ printed. (reply : Option (List ℕ))
         × Serves arguments.now.from arguments.now.at arguments.now.octets.items reply
         × (string_bytes printed.text ≡ answer_text reply) × (printed.ending ≡ Ending.Done)) }
-    ensures fault { IfErr result (λ fault. fault ≡ Fault.Memory) }
+    ensures failure { IfErr result (λ failure. failure ≡ Failure.Memory) }
 {
     let mut reply = ArrayVec::<u8, REPLY_ROOM>::new();
     let is_answered = answer(
@@ -47,7 +48,7 @@ pub fn run(alloc: Global, arguments: &AnswerArguments) -> Result<Printed, Fault>
     Ok(Printed { text, ending })
 }
 
-// The octets in lower-case hexadecimal, and the end of the line.
+/// The octets in lower-case hexadecimal, and the end of the line.
 fn hexadecimal_line(alloc: Global, octets: &[u8]) -> Result<String, AllocError>
     ensures { IfOk result (λ line. string_bytes line ≡ encode_lower octets.now ++ 10 ∷ []) }
 {

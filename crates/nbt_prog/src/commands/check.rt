@@ -1,10 +1,9 @@
 //! The command `check`: vectors in, a verdict on each out (our profile).
 
-use crate::fault::Fault;
-use crate::pieces::split_at_first;
+use crate::failure::Failure;
+use crate::input::read_input;
 use crate::printed::{Ending, Printed};
-use crate::vector::Line;
-use crate::{input, vector};
+use nbt_text::{Line, parse_line, split_at_first};
 use std::alloc::{AllocError, Global};
 use std::io::Read;
 
@@ -31,8 +30,8 @@ impl Verdict {
 
 /// Reads vectors to the end of `reader`. Prints a line for each that isn't blank, with the line's number, counted from
 /// 1 and with the blank ones among them; last how many passed and how many did not. Refused where one did not.
-pub fn run<R: Read>(alloc: Global, reader: &mut R) -> Result<Printed, Fault> {
-    let input = input::read(alloc, reader)?;
+pub fn run<R: Read>(alloc: Global, reader: &mut R) -> Result<Printed, Failure> {
+    let input = read_input(alloc, reader)?;
     let mut text = String::new(alloc);
     let mut number = 0usize;
     let mut passed = 0usize;
@@ -60,9 +59,9 @@ pub fn run<R: Read>(alloc: Global, reader: &mut R) -> Result<Printed, Fault> {
     Ok(Printed { text, ending })
 }
 
-// The verdict on a line, unless it is blank.
+/// The verdict on a line, unless it is blank.
 fn verdict_on(alloc: Global, line: &[u8]) -> Result<Option<Verdict>, AllocError> {
-    Ok(match vector::parse(alloc, line)? {
+    Ok(match parse_line(alloc, line)? {
         Line::Blank => None,
         Line::Vector(vector) => Some(if vector.holds() {
             Verdict::Pass

@@ -1,5 +1,5 @@
 use Rattle.std.proofs.Common.{◌≡◌, ◌+◌, arith, ap, length}
-use Rattle.nbt_prog.proofs.Splitting.{left, left_behind}
+use Rattle.nbt_text.proofs.Splitting.{left, left_behind}
 use Rattle.nbt_prog.proofs.commands.check.run.Goals as goal
 
 pub lines-init : goal.lines-init

@@ -1,5 +1,5 @@
 use Rattle.std.proofs.Common.{◌+◌, ◌≤◌}
-use Rattle.nbt_prog.proofs.Splitting.{left}
+use Rattle.nbt_text.proofs.Splitting.{left}
 use Rattle.nbt_prog.proofs.commands.check.run.Given as goal
 
 abbrev pub invariant-lines : goal.invariant-lines

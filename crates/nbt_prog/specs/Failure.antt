@@ -1,0 +1,59 @@
+-- What each failure means for the program, and which failure an error of a library is.
+use Rattle.std.specs.Prelude.{ℕ, List, [], ◌∷◌, ◌++◌, Option, Some, None, codes}
+use Rattle.std.specs.IoError.{error_kind}
+use Rattle.std.specs.declared.io.Error.{Error as IoError}
+use Rattle.std.specs.declared.io.ErrorKind.{ErrorKind as IoErrorKind}
+use Rattle.std.specs.declared.io.ErrorKind.TheVariants as io_kind
+use Rattle.clap.specs.Words.{kind_of}
+use Rattle.clap.specs.declared.error.Error.{Error as UsageError}
+use Rattle.clap.specs.declared.error.kind.ErrorKind.{ErrorKind as UsageKind}
+use Rattle.clap.specs.declared.error.kind.ErrorKind.TheVariants as usage_kind
+use Rattle.hex.specs.declared.error.FromHexError.{FromHexError}
+use Rattle.hex.specs.declared.error.FromHexError.TheVariants as hex_error
+use Rattle.nbt_prog.specs.declared.failure.Failure.{Failure}
+use Rattle.nbt_prog.specs.declared.failure.Failure.TheVariants.{Usage, Unreadable, Device, Memory}
+
+-- help and the version were asked for; any other text of clap says what is wrong
+abbrev pub usage_status : UsageKind → ℕ
+usage_status usage_kind.DisplayHelp = 0
+usage_status usage_kind.DisplayVersion = 0
+usage_status _ = 2
+
+-- the status with which the program ends
+abbrev pub failure_status : Failure → ℕ
+failure_status (Usage e) = usage_status (kind_of e)
+failure_status Unreadable = 1
+failure_status Device = 3
+failure_status Memory = 4
+
+abbrev pub failure_of_usage_kind : UsageError → UsageKind → Failure
+failure_of_usage_kind e usage_kind.OutOfMemory = Memory
+failure_of_usage_kind e _ = Usage e
+
+-- an error of clap is wrong usage, unless an allocation was refused
+abbrev pub failure_of_usage : UsageError → Failure
+failure_of_usage e = failure_of_usage_kind e (kind_of e)
+
+-- a text that hex does not decode can't be read, unless an allocation was refused
+abbrev pub failure_of_hex : FromHexError → Failure
+failure_of_hex hex_error.OutOfMemory = Memory
+failure_of_hex _ = Unreadable
+
+abbrev pub failure_of_io_kind : IoErrorKind → Failure
+failure_of_io_kind io_kind.OutOfMemory = Memory
+failure_of_io_kind _ = Device
+
+-- a read or a write that failed, unless an allocation was refused
+abbrev pub failure_of_io : IoError → Failure
+failure_of_io e = failure_of_io_kind (error_kind e)
+
+-- a word on a line of its own
+abbrev pub one_line : List ℕ → List ℕ
+one_line word = word ++ (10 ∷ [])
+
+-- all that is printed at a failure; of wrong usage it is clap's text, of which nothing is said
+abbrev pub failure_text : Failure → Option (List ℕ)
+failure_text (Usage _) = None
+failure_text Unreadable = Some (one_line (codes "unreadable"))
+failure_text Device = Some (one_line (codes "device"))
+failure_text Memory = Some (one_line (codes "memory"))

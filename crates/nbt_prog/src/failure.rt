@@ -1,0 +1,114 @@
+//! Why a command did not do its work.
+
+ghost use Rattle.std.specs.Prelude.{◌≡◌, ◌≤◌};
+
+use hex::FromHexError;
+use std::alloc::{AllocError, AllocFailed};
+use std::io;
+use thiserror::Error;
+
+/// Why a command did not do its work.
+#[derive(Debug, Drop, Error)]
+pub enum Failure {
+    /// The words name no command, or help was asked for.
+    #[error(transparent)]
+    Usage(clap::Error),
+    /// An address, a hexadecimal text or the input can't be read.
+    #[error("unreadable")]
+    Unreadable,
+    /// A read or a write failed.
+    #[error("device")]
+    Device,
+    /// An allocation was refused.
+    #[error("memory")]
+    Memory,
+}
+
+impl Failure {
+    ghost use Rattle.std.specs.Prelude.{IfSome};
+    ghost use Rattle.nbt_prog.specs.Failure.{failure_status, failure_text};
+
+    /// The status with which the program exits: 0 for help, since it was asked for.
+    pub fn status(&self) -> u8
+        ensures value { result ≡ failure_status self.now }
+        ensures bound { result ≤ 4 }
+    {
+        match self {
+            Failure::Usage(error) => { if error.use_stderr() { 2 } else { 0 } }
+            Failure::Unreadable => 1,
+            Failure::Device => 3,
+            Failure::Memory => 4,
+        }
+    }
+
+    /// The line that is printed alone, with its end; of wrong usage nothing, whose text is clap's.
+    pub fn line(&self) -> &'static str
+        ensures { IfSome (failure_text self.now) (λ text. result.now ≡ text) }
+    {
+        match self {
+            Failure::Usage(_) => "",
+            Failure::Unreadable => "unreadable\n",
+            Failure::Device => "device\n",
+            Failure::Memory => "memory\n",
+        }
+    }
+}
+
+impl<T: Drop> From<AllocFailed<T>> for Failure {
+    ghost use Rattle.nbt_prog.specs.declared.failure.Failure.TheVariants.{Memory};
+
+    ghost from_gives = { λ _ failure. failure ≡ Memory };
+
+    fn from(_error: AllocFailed<T>) -> Failure {
+        Failure::Memory
+    }
+}
+
+impl From<AllocError> for Failure {
+    ghost use Rattle.nbt_prog.specs.declared.failure.Failure.TheVariants.{Memory};
+
+    ghost from_gives = { λ _ failure. failure ≡ Memory };
+
+    fn from(_error: AllocError) -> Failure {
+        Failure::Memory
+    }
+}
+
+impl From<clap::Error> for Failure {
+    ghost use Rattle.nbt_prog.specs.Failure.{failure_of_usage};
+
+    ghost from_gives = { λ error failure. failure ≡ failure_of_usage error };
+
+    fn from(error: clap::Error) -> Failure {
+        match error.kind() {
+            clap::error::ErrorKind::OutOfMemory => Failure::Memory,
+            _ => Failure::Usage(error),
+        }
+    }
+}
+
+impl From<FromHexError> for Failure {
+    ghost use Rattle.nbt_prog.specs.Failure.{failure_of_hex};
+
+    ghost from_gives = { λ error failure. failure ≡ failure_of_hex error };
+
+    fn from(error: FromHexError) -> Failure {
+        match error {
+            FromHexError::OutOfMemory => Failure::Memory,
+            _ => Failure::Unreadable,
+        }
+    }
+}
+
+impl From<io::Error> for Failure {
+    ghost use Rattle.nbt_prog.specs.Failure.{failure_of_io};
+
+    ghost from_gives = { λ error failure. failure ≡ failure_of_io error };
+
+    fn from(error: io::Error) -> Failure {
+        match error.kind() {
+            io::ErrorKind::OutOfMemory => Failure::Memory,
+            _ => Failure::Device,
+        }
+    }
+}

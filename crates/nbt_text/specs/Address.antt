@@ -1,0 +1,19 @@
+-- An address as text (our profile).
+use Rattle.std.specs.Prelude.{◌≡◌, ℕ, ◌/◌, ◌%◌, ◌^◌, ◌<◌, List, ◌++◌, codes}
+use Rattle.std.specs.Fmt.{decimal}
+use Rattle.nbt_name.specs.declared.addr.Addr.{Addr}
+
+-- the four octets in decimal, the first one highest, with a dot between two
+abbrev pub dotted : ℕ → List ℕ
+dotted ip = decimal (ip / 2 ^ 24) ++ codes "." ++ decimal (ip / 2 ^ 16 % 256) ++ codes "." ++ decimal (ip / 2 ^ 8 % 256)
+    ++ codes "." ++ decimal (ip % 256)
+
+-- the text of an address, as in 10.0.0.1:137
+abbrev pub address_text : Addr → List ℕ
+address_text a = dotted a.ip ++ codes ":" ++ decimal a.port
+
+-- The text is that of the address, whose numbers are of 32 bits and of 16.
+pub record SpellsAddress (text : List ℕ) (address : Addr) : Type 0 where
+  pub ip_fits : address.ip < 2 ^ 32
+  pub port_fits : address.port < 2 ^ 16
+  pub text_is : text ≡ address_text address

@@ -1,0 +1,68 @@
+//! An address as text: `A.B.C.D:PORT` (our profile).
+
+ghost use Rattle.std.specs.Prelude.{◌≡◌, ℕ, ◌+◌, ◌*◌, ◌<◌, ◌≤◌, ◌^◌, ◌⊎◌, ◌++◌, ◌∷◌, ◌↔◌, List, IfSome, IsSomeAnd, IsTrue, Some, length, slice_index};
+ghost use Rattle.std.specs.Fmt.{decimal};
+ghost use Rattle.nbt_text.specs.Address.{SpellsAddress};
+
+use nbt_name::Addr;
+
+/// Reads `A.B.C.D:PORT`, where A to D are 0 to 255 and PORT is 0 to 65,535, in decimal without a leading zero.
+pub fn parse_address(text: &str) -> Option<Addr>
+    ensures { (address : Addr) → (result ≡ Some address) ↔ SpellsAddress text.now address }
+{
+    let (first, rest) = octet_before('.', text)?;
+    let (second, rest) = octet_before('.', rest)?;
+    let (third, rest) = octet_before('.', rest)?;
+    let (fourth, rest) = octet_before(':', rest)?;
+    let port = bare_number(rest)?;
+    Some(Addr {
+        ip: joined(first, second, third, fourth),
+        port,
+    })
+}
+
+/// The octets as one number, the first one highest.
+fn joined(first: u8, second: u8, third: u8, fourth: u8) -> u32
+    ensures { result ≡ ((first * 256 + second) * 256 + third) * 256 + fourth }
+{
+    let high = u32::from(first) * 256 + u32::from(second);
+    let low = u32::from(third) * 256 + u32::from(fourth);
+    high * 65536 + low
+}
+
+/// The octet that `text` begins with, and what follows the first `mark`.
+fn octet_before(mark: char, text: &str) -> Option<(u8, &str)>
+    requires { (mark ≡ 46) ⊎ (mark ≡ 58) }
+    ensures bound { IfSome result (λ r. r.0 < 256) }
+    ensures read { IfSome result (λ r. text.now ≡ decimal r.0 ++ (mark ∷ r.1.now)) }
+    ensures found { (n : ℕ) (rest : List ℕ) → n < 256 → text.now ≡ decimal n ++ (mark ∷ rest)
+        → IsSomeAnd result (λ r. (r.0 ≡ n) × (r.1.now ≡ rest)) }
+{
+    let (digits, rest) = text.split_once(mark)?;
+    let octet = u8::try_from(bare_number(digits)?).ok()?;
+    Some((octet, rest))
+}
+
+/// Reads a number with no sign and no leading zero.
+fn bare_number(text: &str) -> Option<u16>
+    ensures read { IfSome result (λ n. (n < 2 ^ 16) × (text.now ≡ decimal n)) }
+    ensures found { (n : ℕ) → n < 2 ^ 16 → text.now ≡ decimal n → result ≡ Some n }
+{
+    if can_begin_decimal(text.as_bytes()) {
+        text.parse::<u16>().ok()
+    } else {
+        None
+    }
+}
+
+/// Whether the text begins with a digit, which is no zero unless it is alone.
+fn can_begin_decimal(text: &[u8]) -> bool
+    ensures { IsTrue result ↔ (((length text.now ≡ 1) × (slice_index text.now 0 ≡ 48))
+        ⊎ ((0 < length text.now) × (49 ≤ slice_index text.now 0) × (slice_index text.now 0 ≤ 57))) }
+{
+    match text {
+        [] => false,
+        [b'0'] => true,
+        [first, ..] => b'1' <= *first && *first <= b'9',
+    }
+}

@@ -1,0 +1,24 @@
+//! What the commands read and print as text: names, addresses, numbers, octets, packets and vectors (our profile).
+//!
+//! Nothing here knows the command line: texts come in as octets, and go out at the end of a `String`.
+#![tactic(auto)]
+
+mod address;
+mod hexadecimal;
+pub mod laws;
+mod name_text;
+mod number;
+mod packet_text;
+mod pieces;
+mod vector;
+
+pub use address::parse_address;
+pub use hexadecimal::write_hexadecimal;
+pub use name_text::{parse_name, write_name};
+pub use number::parse_number;
+pub use packet_text::write_packet;
+pub use pieces::split_at_first;
+pub use vector::{Line, Vector, parse_line};
+
+#[cfg(test)]
+mod tests;
