@@ -42,6 +42,7 @@ pub fn parse_words<S: AsStr>(alloc: Global, words: &[S]) -> Result<Request, Fail
     }
 }
 
+/// The arguments of `answer`.
 fn answer_arguments(alloc: Global, matches: &ArgMatches<'_>) -> Result<AnswerArguments, Failure>
     ensures given { IfOk result (AreGiven matches.now) }
     ensures failure { IfErr result (IsFailureOf matches.now) }
@@ -52,6 +53,7 @@ fn answer_arguments(alloc: Global, matches: &ArgMatches<'_>) -> Result<AnswerArg
     Ok(AnswerArguments { from, at, octets })
 }
 
+/// The arguments of `show`.
 fn show_arguments(alloc: Global, matches: &ArgMatches<'_>) -> Result<ShowArguments, Failure>
     ensures given { IfOk result (λ a. decode_of (argument_of matches.now (codes "hex")) ≡ Ok a.octets.items) }
     ensures failure { IfErr result (λ failure. (failure ≡ Memory)

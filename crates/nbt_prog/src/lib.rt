@@ -95,6 +95,7 @@ fn conclude<W: Write>(outcome: Result<Printed, Failure>, writer: &mut W) -> u8
     }
 }
 
+/// Writes the output, or the text of the failure.
 fn print<W: Write>(outcome: &Result<Printed, Failure>, writer: &mut W) -> io::Result<()>
     ensures { OnOk result (IfSome (text_of_outcome outcome.now)
         (Appends (W.contents writer.old) (W.contents writer.new))) }

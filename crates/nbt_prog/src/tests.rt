@@ -12,10 +12,10 @@ mod messages;
 mod replies;
 mod show;
 
-// The most that a test prints.
+/// The most that a test prints.
 const ROOM: usize = 4096;
 
-// A writer that takes so many octets a call, and fails at its first call past `calls`.
+/// A writer that takes so many octets a call, and fails at its first call past `calls`.
 #[derive(Drop)]
 struct Paper {
     text: ArrayVec<u8, ROOM>,
@@ -34,7 +34,7 @@ impl Paper {
         }
     }
 
-    // Takes one octet a call, for so many calls.
+    /// Takes one octet a call, for so many calls.
     fn short(calls: usize) -> Paper {
         Paper {
             at_once: 1,
@@ -85,7 +85,7 @@ fn starts<R: Abort + AllocGlobal>(rt: &R, words: &[&str], status: u8, start: &[u
     assert!(rt; paper.text.as_slice().ends_with(b"\n"), "{words:?}");
 }
 
-// Each write that fails ends the program, and what was written before stays.
+/// Each write that fails ends the program, and what was written before stays.
 fn expect_cut<R: Abort + AllocGlobal>(rt: &R, words: &[&str], text: &[u8]) {
     for calls in 0..text.len() {
         let mut paper = Paper::short(calls);
@@ -99,8 +99,8 @@ fn expect_cut<R: Abort + AllocGlobal>(rt: &R, words: &[&str], text: &[u8]) {
     }
 }
 
-// Where an allocation is refused, as under `rt try --test --fail-alloc 1..`, nothing but that is
-// told. With all the memory there is, the answer is the right one.
+/// Where an allocation is refused, as under `rt try --test --fail-alloc 1..`, nothing but that is
+/// told. With all the memory there is, the answer is the right one.
 fn expect_or_memory<R: Abort + AllocGlobal>(rt: &R, words: &[&str], status: u8) {
     let mut paper = Paper::new();
     let got = status_of(rt, words, &mut paper);
@@ -124,7 +124,7 @@ const TEAM: &str = "20464545464542454e434143414341434143414341434143414341434143
 /// The name of `*` and fifteen octets 0 on the wire.
 const STAR: &str = "20434b41414141414141414141414141414141414141414141414141414141414100";
 
-// Hexadecimal without the spaces, and with the names in place of `{FRED}`, `{TEAM}` and `{STAR}`.
+/// Hexadecimal without the spaces, and with the names in place of `{FRED}`, `{TEAM}` and `{STAR}`.
 fn hexadecimal<R: Abort + AllocGlobal>(rt: &R, text: &str) -> String {
     let mut digits = String::new(rt.alloc());
     for word in text.split(' ') {
@@ -139,7 +139,7 @@ fn hexadecimal<R: Abort + AllocGlobal>(rt: &R, text: &str) -> String {
     digits
 }
 
-// What is printed where `input` is the standard input.
+/// What is printed where `input` is the standard input.
 fn expect_of_input<R: Abort + AllocGlobal, I: Read>(
     rt: &R,
     words: &[&str],

@@ -117,12 +117,12 @@ pub fn program<'a>(alloc: Global) -> Result<Command<'a>, AllocError> {
         .after_help(PROGRAM_HELP)
         .subcommand_required(true)
         .arg_required_else_help(true)
-        .subcommand(answer(alloc)?)?
-        .subcommand(show(alloc)?)?
-        .subcommand(check(alloc))
+        .subcommand(answer_command(alloc)?)?
+        .subcommand(show_command(alloc)?)?
+        .subcommand(check_command(alloc))
 }
 
-fn answer<'a>(alloc: Global) -> Result<Command<'a>, AllocError> {
+fn answer_command<'a>(alloc: Global) -> Result<Command<'a>, AllocError> {
     let from = Arg::new(alloc, FROM).value_name("FROM").required(true).help(
         "The packet's sender, as A.B.C.D:PORT in decimal with no leading zeros",
     );
@@ -142,7 +142,7 @@ fn answer<'a>(alloc: Global) -> Result<Command<'a>, AllocError> {
         .arg(at)
 }
 
-fn show<'a>(alloc: Global) -> Result<Command<'a>, AllocError> {
+fn show_command<'a>(alloc: Global) -> Result<Command<'a>, AllocError> {
     let kind = Arg::new(alloc, KIND)
         .value_name("KIND")
         .required(true)
@@ -158,7 +158,7 @@ fn show<'a>(alloc: Global) -> Result<Command<'a>, AllocError> {
         .arg(hex)
 }
 
-fn check<'a>(alloc: Global) -> Command<'a> {
+fn check_command<'a>(alloc: Global) -> Command<'a> {
     Command::new(alloc, CHECK)
         .about(CHECK_ABOUT)
         .after_help(CHECK_HELP)
@@ -171,7 +171,7 @@ pub fn bad_time(alloc: Global, value: &str) -> Result<Error, AllocError>
     let message = format!(in alloc;
         "invalid value '{value}' for '--at <MS>': not a whole number from 0 to 1152921504606846976"
     )?;
-    let mut command = answer(alloc)?.bin_name("nbt answer")?;
+    let mut command = answer_command(alloc)?.bin_name("nbt answer")?;
     command.error(ErrorKind::ValueValidation, message.as_str())
 }
 

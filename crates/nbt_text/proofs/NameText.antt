@@ -12,8 +12,7 @@ use Rattle.nbt_name.specs.Scope.{IsScope}
 use Rattle.nbt_name.specs.declared.fault.NameFault.{NameFault}
 use Rattle.nbt_name.specs.Wire.{NameValue, IsName, AreOctets, name_of, wire}
 use Rattle.nbt_name.specs.Reading.{PlainNameAt}
-use Rattle.nbt_name.proofs.ReadBack.{wire_is_read}
-use Rattle.nbt_text.specs.Pieces.{HasNo}
+use Rattle.nbt_text.specs.Inner.Pieces.{HasNo}
 use Rattle.nbt_text.specs.NameText.{Component, as_it_is, in_digits, Labels, no_label, label, Sixteen, filled_up, in_32_digits, SpellsName, StandsAsItIs, dot, prefix, space}
 
 -- ---- components have no dot
@@ -92,12 +91,16 @@ digits_spell_sixteen _ _ digits (in_32_digits others xs d h) e = let same : othe
 
 -- ---- the name of sixteen octets and a scope
 
-pub name_is_read : (octets scope buffer : List ℕ) (r : Result (NameValue × ℕ) NameFault) → length octets ≡ 16 → length scope ≤ 221 → IsScope scope → AreOctets octets → AreOctets scope
+-- the law that a wire form is read as its name
+abbrev WireFormsAreRead : Type 0
+WireFormsAreRead = (name : NameValue) (front rest : List ℕ) → IsName name → PlainNameAt (front ++ wire name ++ rest) (length front) name (length front + length (wire name))
+
+pub name_is_read : (octets scope buffer : List ℕ) (r : Result (NameValue × ℕ) NameFault) → WireFormsAreRead → length octets ≡ 16 → length scope ≤ 221 → IsScope scope → AreOctets octets → AreOctets scope
     → buffer ≡ wire (name_of octets scope) → ((name : NameValue) (next : ℕ) → (r ≡ Ok (name, next)) ↔ PlainNameAt buffer 0 name next) → r ≡ Ok (name_of octets scope, length buffer)
-name_is_read octets scope buffer r sixteen fits labels octets_fit scope_fit is read =
+name_is_read octets scope buffer r law sixteen fits labels octets_fit scope_fit is read =
     let name : NameValue = name_of octets scope in
     let is_name : IsName (name_of octets scope) = record { sixteen = sixteen; fits = fits; labels = labels; octets_fit = octets_fit; scope_fits = scope_fit } in
-    let stands = wire_is_read (name_of octets scope) [] [] is_name in
+    let stands = law (name_of octets scope) [] [] is_name in
     let buffer_is : buffer ≡ wire (name_of octets scope) ++ [] = is ∙ sym (append-nil (wire (name_of octets scope))) in
     let sum : length {A = ℕ} [] + length (wire (name_of octets scope)) ≡ length (wire (name_of octets scope)) = omega arith in
     let stands_so : PlainNameAt (wire (name_of octets scope) ++ []) 0 (name_of octets scope) (length (wire (name_of octets scope))) =

@@ -1,4 +1,4 @@
--- What the reader of packets answers, and what octets are.
+-- What the reader of packets returns: one packet, or one fault.
 use Rattle.std.proofs.Common.{◌≡◌, ℕ, List, Result, Ok, Err, sym, ◌∙◌, ap}
 use Rattle.std.specs.Prelude.{◌↔◌}
 use Rattle.nbt_packet.specs.declared.fault.Fault.{Fault}

@@ -6,7 +6,8 @@ use denote.Ref.{Bor}
 use Rattle.nbt_packet.specs.declared.fault.Fault.{Fault}
 use Rattle.nbt_packet.specs.declared.fault.FaultKind.{FaultKind}
 use Rattle.nbt_text.specs.Number.{SpellsNumber}
-use Rattle.nbt_text.specs.Vector.{SpellsExpected, taken, refused, SpellsOctets, SpellsVector, name_vector, texts}
+use Rattle.nbt_text.specs.Inner.Line.{texts}
+use Rattle.nbt_text.specs.Vector.{SpellsExpected, taken, refused, SpellsOctets, SpellsVector, name_vector}
 use Rattle.nbt_text.specs.Words.{fault_word}
 
 abbrev pub lost : Bor (List ℕ)

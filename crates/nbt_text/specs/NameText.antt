@@ -35,14 +35,16 @@ pub data Component : List ℕ → List ℕ → Type 0 where
 
 -- The first one spells sixteen: up to sixteen filled up with spaces, or those of 32 digits.
 pub data Sixteen : List ℕ → List ℕ → Type 0 where
-  filled_up : (octets : List ℕ) → StandsAsItIs octets → length octets ≤ 16 → Sixteen octets (octets ++ replicate (16 - length octets) space)
-  in_32_digits : (digits octets : List ℕ) → decode_of digits ≡ Ok octets → length octets ≡ 16 → Sixteen (prefix ++ digits) octets
+  filled_up : (octets : List ℕ) → StandsAsItIs octets → length octets ≤ 16
+      → Sixteen octets (octets ++ replicate (16 - length octets) space)
+  in_32_digits : (digits octets : List ℕ) → decode_of digits ≡ Ok octets → length octets ≡ 16
+      → Sixteen (prefix ++ digits) octets
 
 -- Each other one spells a label of the scope, and stands behind a dot.
 pub data Labels : List ℕ → List ℕ → Type 0 where
   no_label : Labels [] []
-  label : (component octets rest scope : List ℕ) → Component component octets → 1 ≤ length octets → length octets ≤ 63 → Labels rest scope
-      → Labels (dot ∷ component ++ rest) (length octets ∷ octets ++ scope)
+  label : (component octets rest scope : List ℕ) → Component component octets → 1 ≤ length octets
+      → length octets ≤ 63 → Labels rest scope → Labels (dot ∷ component ++ rest) (length octets ∷ octets ++ scope)
 
 pub record SpellsName (text : List ℕ) (name : NameValue) : Type 0 where
   pub first : List ℕ
@@ -56,7 +58,8 @@ pub record SpellsName (text : List ℕ) (name : NameValue) : Type 0 where
 
 -- `plain` as it is, or, where it can't be printed so, the digits of `whole`
 abbrev pub PrintsComponent : List ℕ → List ℕ → List ℕ → Type 0
-PrintsComponent plain whole text = (StandsAsItIs plain × (text ≡ plain)) ⊎ ((¬ (StandsAsItIs plain)) × (text ≡ prefix ++ encode_lower whole))
+PrintsComponent plain whole text = (StandsAsItIs plain × (text ≡ plain))
+    ⊎ ((¬ (StandsAsItIs plain)) × (text ≡ prefix ++ encode_lower whole))
 
 -- the octets without the spaces at their end
 pub record IsTrimmed (octets trimmed : List ℕ) : Type 0 where
@@ -65,7 +68,8 @@ pub record IsTrimmed (octets trimmed : List ℕ) : Type 0 where
 
 pub data PrintsLabels : List ℕ → List ℕ → Type 0 where
   none_printed : PrintsLabels [] []
-  label_printed : (octets scope component rest : List ℕ) → PrintsComponent octets octets component → PrintsLabels scope rest → PrintsLabels (length octets ∷ octets ++ scope) (dot ∷ component ++ rest)
+  label_printed : (octets scope component rest : List ℕ) → PrintsComponent octets octets component
+      → PrintsLabels scope rest → PrintsLabels (length octets ∷ octets ++ scope) (dot ∷ component ++ rest)
 
 pub record PrintsName (name : NameValue) (text : List ℕ) : Type 0 where
   pub trimmed : List ℕ

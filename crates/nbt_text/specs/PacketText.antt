@@ -57,7 +57,8 @@ pub record PrintsPacket (packet : PacketValue) (text : List ℕ) : Type 0 where
 
 -- What is printed of octets, and whether a packet stands there: its parts and how many octets it takes, or its fault.
 pub data PrintsOctets (octets : List ℕ) : Bool → List ℕ → Type 0 where
-  packet_stands : (packet : PacketValue) (taken : ℕ) (parts : List ℕ) → PacketIs octets packet taken → PrintsPacket packet parts
+  packet_stands : (packet : PacketValue) (taken : ℕ) (parts : List ℕ) → PacketIs octets packet taken
+      → PrintsPacket packet parts
       → PrintsOctets octets true (parts ++ codes "length " ++ decimal taken ++ newline)
   fault_stands : (fault : Fault) → PacketFault octets fault
       → PrintsOctets octets false (codes "fault " ++ fault_word fault.kind ++ codes " at " ++ decimal fault.place ++ newline)

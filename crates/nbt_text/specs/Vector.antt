@@ -1,19 +1,11 @@
 -- Lines of vectors: octets, and what the reader of packets says of them (our profile).
-use Rattle.std.specs.Prelude.{◌≡◌, ℕ, ◌==◌, ◌⊎◌, not, List, [], ◌∷◌, Result, Ok, Err, Some, filter, length, map, slice_get, codes}
+use Rattle.std.specs.Prelude.{◌≡◌, ℕ, ◌==◌, ◌⊎◌, not, List, [], ◌∷◌, Result, Ok, Err, Some, filter, length, slice_get, codes}
 use Rattle.std.specs.List.{slice_split}
-use denote.Ref.{Bor}
 use Rattle.hex.specs.Hex.{decode_of}
 use Rattle.nbt_packet.specs.declared.fault.Fault.{Fault}
 use Rattle.nbt_packet.specs.Packet.{PacketValue, PacketIs, PacketFault}
-use Rattle.nbt_text.specs.declared.vector.Vector.{Vector}
-use Rattle.nbt_text.specs.declared.vector.Line.{Line}
-use Rattle.nbt_text.specs.declared.vector.Line.TheVariants as line
 use Rattle.nbt_text.specs.Number.{SpellsNumber}
 use Rattle.nbt_text.specs.Words.{fault_word}
-
--- the words, without where they lie in memory
-abbrev pub texts : List (Bor (List ℕ)) → List (List ℕ)
-texts words = map (λ word. word.now) words
 
 -- what the reader of packets says of octets: how many the packet takes, or its fault
 abbrev pub Says : List ℕ → Result ℕ Fault → Type 0
@@ -31,23 +23,17 @@ pub data SpellsOctets : List ℕ → List ℕ → Type 0 where
 
 -- `ok N`, or `fault WORD PLACE`
 pub data SpellsExpected : List (List ℕ) → Result ℕ Fault → Type 0 where
-  taken : (number : List ℕ) (count : ℕ) → SpellsNumber number count → SpellsExpected (codes "ok" ∷ number ∷ []) (Ok count)
+  taken : (number : List ℕ) (count : ℕ) → SpellsNumber number count
+      → SpellsExpected (codes "ok" ∷ number ∷ []) (Ok count)
   refused : (number : List ℕ) (fault : Fault) → SpellsNumber number fault.place
       → SpellsExpected (codes "fault" ∷ fault_word fault.kind ∷ number ∷ []) (Err fault)
 
 -- `name HEX`, and what is expected
 pub data SpellsVector : List (List ℕ) → List ℕ → Result ℕ Fault → Type 0 where
   name_vector : (digits : List ℕ) (rest : List (List ℕ)) (octets : List ℕ) (expected : Result ℕ Fault)
-      → SpellsOctets digits octets → SpellsExpected rest expected → SpellsVector (codes "name" ∷ digits ∷ rest) octets expected
+      → SpellsOctets digits octets → SpellsExpected rest expected
+      → SpellsVector (codes "name" ∷ digits ∷ rest) octets expected
 
 -- spaces alone, or a remark
 abbrev pub IsPassedOver : List ℕ → Type 0
 IsPassedOver text = (slice_get text 0 ≡ Some 35) ⊎ (words text ≡ [])
-
--- What stands in a line.
-pub data LineIs (text : List ℕ) : Line → Type 0 where
-  passed_over : IsPassedOver text → LineIs text line.Blank
-  vector_stands : (vector : Vector) → ¬ (IsPassedOver text) → SpellsVector (words text) vector.octets.items vector.expected
-      → LineIs text (line.Vector vector)
-  unreadable : ¬ (IsPassedOver text) → ((octets : List ℕ) (expected : Result ℕ Fault) → ¬ SpellsVector (words text) octets expected)
-      → LineIs text line.Unreadable

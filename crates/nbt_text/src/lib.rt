@@ -11,14 +11,14 @@ mod number;
 mod packet_text;
 mod pieces;
 mod vector;
+mod verdicts;
 
 pub use address::parse_address;
 pub use hexadecimal::write_hexadecimal;
 pub use name_text::{parse_name, write_name};
 pub use number::parse_number;
 pub use packet_text::write_packet;
-pub use pieces::split_at_first;
-pub use vector::{Line, Vector, parse_line};
+pub use verdicts::write_verdicts;
 
 #[cfg(test)]
 mod tests;

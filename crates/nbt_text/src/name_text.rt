@@ -45,7 +45,8 @@ pub fn parse_name(text: &[u8]) -> Option<Name>
 /// Appends the name. A component that can't be read back as it stands is printed as `hex:` and lower-case digits, for
 /// the sixteen octets always all 32.
 pub fn write_name(name: &Name, out: &mut String) -> Result<(), AllocError>
-    ensures { OnOk result ((text : List ℕ) × (string_bytes out.new ≡ string_bytes out.old ++ text) × PrintsName name.now text) }
+    ensures { OnOk result ((text : List ℕ) × (string_bytes out.new ≡ string_bytes out.old ++ text)
+        × PrintsName name.now text) }
 {
     let octets = name.octets().as_slice();
     write_component(without_spaces(octets), octets, out)?;
@@ -79,10 +80,10 @@ fn sixteen_of(component: &[u8]) -> Option<[u8; 16]>
 
 /// Appends the label that the component spells, behind its length octet.
 fn push_label(component: &[u8], scope: &mut ArrayVec<u8, 221>) -> Option<()>
-    ensures pushed { OnSome result ((label : List ℕ) × Component component.now label × (1 ≤ length label) × (length label ≤ 63)
-        × (scope.new.items ≡ scope.old.items ++ length label ∷ label)) }
-    ensures refused { IfNone result ((label : List ℕ) → Component component.now label → 1 ≤ length label → length label ≤ 63
-        → 221 < length scope.old.items + 1 + length label) }
+    ensures pushed { OnSome result ((label : List ℕ) × Component component.now label × (1 ≤ length label)
+        × (length label ≤ 63) × (scope.new.items ≡ scope.old.items ++ length label ∷ label)) }
+    ensures refused { IfNone result ((label : List ℕ) → Component component.now label → 1 ≤ length label
+        → length label ≤ 63 → 221 < length scope.old.items + 1 + length label) }
 {
     match digits_of(component) {
         Some(digits) => {
@@ -103,7 +104,8 @@ fn push_label(component: &[u8], scope: &mut ArrayVec<u8, 221>) -> Option<()>
 fn push_counted(label: &[u8], scope: &mut ArrayVec<u8, 221>) -> Option<()>
     ensures pushed { OnSome result ((1 ≤ length label.now) × (length label.now ≤ 63)
         × (scope.new.items ≡ scope.old.items ++ length label.now ∷ label.now)) }
-    ensures refused { IfNone result (1 ≤ length label.now → length label.now ≤ 63 → 221 < length scope.old.items + 1 + length label.now) }
+    ensures refused { IfNone result (1 ≤ length label.now → length label.now ≤ 63
+        → 221 < length scope.old.items + 1 + length label.now) }
 {
     if label.is_empty() || label.len() > LABEL_MOST {
         return None;
@@ -118,6 +120,7 @@ fn name_from(octets: &[u8; 16], scope: &[u8]) -> Name
     requires fits { length scope.now ≤ 221 }
     ensures { result ≡ name_of octets.now scope.now }
 {
+    nbt_name::laws::wire_form_is_read();
     let wire = wire_from(octets, scope);
     let (name, _) = read_plain(wire.as_slice(), 0).unwrap();
     name
@@ -157,6 +160,7 @@ fn stands_as_it_is(octets: &[u8]) -> bool
     !octets.is_empty() && octets.iter().all(|octet| is_plain(*octet)) && digits_of(octets).is_none()
 }
 
+/// Whether an octet can be printed as it is: 0x21 to 0x7E, and no dot.
 fn is_plain(octet: u8) -> bool
     ensures { IsTrue result ↔ IsPlain octet }
 {
@@ -176,7 +180,8 @@ fn without_spaces(octets: &[u8]) -> &[u8]
 
 /// Appends `plain` as it is, or, where it can't be printed so, `whole` in hexadecimal.
 fn write_component(plain: &[u8], whole: &[u8], out: &mut String) -> Result<(), AllocError>
-    ensures { OnOk result ((text : List ℕ) × (string_bytes out.new ≡ string_bytes out.old ++ text) × PrintsComponent plain.now whole.now text) }
+    ensures { OnOk result ((text : List ℕ) × (string_bytes out.new ≡ string_bytes out.old ++ text)
+        × PrintsComponent plain.now whole.now text) }
 {
     if !stands_as_it_is(plain) {
         out.push_str("hex:")?;

@@ -47,6 +47,7 @@ fn write_parts(packet: &Packet<'_>, out: &mut String) -> Result<(), AllocError>
     write_message(packet, out)
 }
 
+/// Appends the line of the header.
 fn write_header(id: u16, flags: u16, out: &mut String) -> Result<(), AllocError>
     ensures { OnOk result (string_bytes out.new ≡ string_bytes out.old
         ++ codes "id " ++ four_digits id ++ codes " flags " ++ four_digits flags ++ newline) }
@@ -58,6 +59,7 @@ fn write_header(id: u16, flags: u16, out: &mut String) -> Result<(), AllocError>
     end_line(out)
 }
 
+/// Appends the line of the question, where there is one.
 fn write_question(question: &Option<Question>, out: &mut String) -> Result<(), AllocError>
     ensures { OnOk result ((text : List ℕ) × (string_bytes out.new ≡ string_bytes out.old ++ text)
         × PrintsQuestion question.now text) }
@@ -71,6 +73,7 @@ fn write_question(question: &Option<Question>, out: &mut String) -> Result<(), A
     end_line(out)
 }
 
+/// Appends the line of a record, where there is one.
 fn write_record(section: &str, record: &Option<Record<'_>>, out: &mut String) -> Result<(), AllocError>
     ensures { OnOk result ((text : List ℕ) × (string_bytes out.new ≡ string_bytes out.old ++ text)
         × PrintsRecord section.now (record_if record.now) text) }
@@ -88,6 +91,7 @@ fn write_record(section: &str, record: &Option<Record<'_>>, out: &mut String) ->
     end_line(out)
 }
 
+/// Appends the type and the class, as of a question and of a record.
 fn write_type_and_class(rtype: u16, class: u16, out: &mut String) -> Result<(), AllocError>
     ensures { OnOk result (string_bytes out.new ≡ string_bytes out.old ++ type_and_class rtype class) }
 {
@@ -104,6 +108,7 @@ fn write_word(number: u16, out: &mut String) -> Result<(), AllocError>
     write_hexadecimal(&number.to_be_bytes(), out)
 }
 
+/// Appends what ends a line.
 fn end_line(out: &mut String) -> Result<(), AllocError>
     ensures { OnOk result (string_bytes out.new ≡ string_bytes out.old ++ newline) }
 {
@@ -122,7 +127,8 @@ fn write_data(octets: &[u8], out: &mut String) -> Result<(), AllocError>
 
 /// Appends the line of the message that the packet spells.
 fn write_message(packet: &Packet<'_>, out: &mut String) -> Result<(), AllocError>
-    ensures { OnOk result ((word : List ℕ) × (string_bytes out.new ≡ string_bytes out.old ++ codes "message " ++ word ++ newline)
+    ensures { OnOk result ((word : List ℕ)
+        × (string_bytes out.new ≡ string_bytes out.old ++ codes "message " ++ word ++ newline)
         × PrintsMessage (packet_of packet.now) word) }
 {
     let word = match classify(packet) {
@@ -134,6 +140,7 @@ fn write_message(packet: &Packet<'_>, out: &mut String) -> Result<(), AllocError
     end_line(out)
 }
 
+/// The word for a message.
 fn word_of_message(message: &Message<'_>) -> &'static str
     ensures { result.now ≡ message_word (message_of message.now) }
 {
@@ -153,6 +160,7 @@ fn word_of_message(message: &Message<'_>) -> &'static str
     }
 }
 
+/// The word for a fault.
 fn word_of_fault(kind: FaultKind) -> &'static str
     ensures { result.now ≡ fault_word kind }
 {

@@ -4,7 +4,8 @@ ghost use Rattle.std.specs.Prelude.{◌≡◌, ◌↔◌, ℕ, List, IsTrue, Som
 ghost use Rattle.nbt_packet.specs.declared.fault.Fault.{Fault};
 ghost use Rattle.nbt_packet.specs.declared.fault.FaultKind.{FaultKind};
 ghost use Rattle.nbt_text.specs.Number.{SpellsNumber};
-ghost use Rattle.nbt_text.specs.Vector.{LineIs, Says, SpellsExpected, SpellsOctets, SpellsVector, texts, words};
+ghost use Rattle.nbt_text.specs.Inner.Line.{LineIs, texts};
+ghost use Rattle.nbt_text.specs.Vector.{Says, SpellsExpected, SpellsOctets, SpellsVector, words};
 ghost use Rattle.nbt_text.specs.Words.{fault_word};
 
 use crate::number::parse_number;
@@ -64,6 +65,7 @@ pub fn parse_line(alloc: Global, line: &[u8]) -> Result<Line, AllocError>
     }
 }
 
+/// Whether the first octet is `#`.
 fn is_remark(line: &[u8]) -> bool
     ensures { IsTrue result ↔ (slice_get line.now 0 ≡ Some 35) }
 {
@@ -166,6 +168,7 @@ fn octets_of(alloc: Global, word: &[u8]) -> Result<Option<Vec<u8>>, AllocError>
     }
 }
 
+/// Whether two words are the same, octet by octet.
 fn are_equal(word: &[u8], other: &[u8]) -> bool
     ensures { IsTrue result ↔ (word.now ≡ other.now) }
 {

@@ -11,6 +11,7 @@ use crate::printed::{Ending, Printed};
 use crate::serving::answer;
 use arrayvec::ArrayVec;
 use nbt_name::Addr;
+use nbt_text::write_hexadecimal;
 use std::alloc::{AllocError, Global};
 
 /// The most octets of a datagram of the name service.
@@ -52,7 +53,8 @@ pub fn run(alloc: Global, arguments: &AnswerArguments) -> Result<Printed, Failur
 fn hexadecimal_line(alloc: Global, octets: &[u8]) -> Result<String, AllocError>
     ensures { IfOk result (λ line. string_bytes line ≡ encode_lower octets.now ++ 10 ∷ []) }
 {
-    let mut line = hex::encode(alloc, octets)?;
+    let mut line = String::new(alloc);
+    write_hexadecimal(octets, &mut line)?;
     line.push('\n')?;
     Ok(line)
 }

@@ -1,73 +1,35 @@
 //! The command `check`: vectors in, a verdict on each out (our profile).
 
+ghost use Rattle.std.specs.Prelude.{◌≡◌, IfOk, IfErr};
+ghost use Rattle.std.specs.String.{string_bytes};
+ghost use Rattle.nbt_text.specs.Verdicts.{PrintsChecked};
+ghost use Rattle.nbt_prog.specs.Printed.{is_done};
+
 use crate::failure::Failure;
 use crate::input::read_input;
 use crate::printed::{Ending, Printed};
-use nbt_text::{Line, parse_line, split_at_first};
-use std::alloc::{AllocError, Global};
+use nbt_text::write_verdicts;
+use std::alloc::Global;
 use std::io::Read;
 
-/// What ends a line.
-const NEWLINE: u8 = b'\n';
-
-/// What is printed of a line that isn't blank.
-#[derive(Clone, Copy, Debug, PartialEq, Eq)]
-enum Verdict {
-    Pass,
-    Fail,
-    Unreadable,
-}
-
-impl Verdict {
-    fn word(self) -> &'static str {
-        match self {
-            Verdict::Pass => "pass",
-            Verdict::Fail => "fail",
-            Verdict::Unreadable => "unreadable",
-        }
-    }
-}
-
-/// Reads vectors to the end of `reader`. Prints a line for each that isn't blank, with the line's number, counted from
-/// 1 and with the blank ones among them; last how many passed and how many did not. Refused where one did not.
+/// Reads vectors to the end of `reader`, and prints the verdicts on them.
 pub fn run<R: Read>(alloc: Global, reader: &mut R) -> Result<Printed, Failure> {
     let input = read_input(alloc, reader)?;
+    check_input(alloc, input.as_slice())
+}
+
+/// A verdict on each line that isn't blank, with the line's number, counted from 1 and with the blank ones among them;
+/// last how many passed and how many did not. The ending is `Refused` where one did not.
+fn check_input(alloc: Global, input: &[u8]) -> Result<Printed, Failure>
+    ensures checked { IfOk result (λ printed.
+        PrintsChecked input.now (is_done printed.ending) (string_bytes printed.text)) }
+    ensures failure { IfErr result (λ failure. failure ≡ Failure.Memory) }
+{
     let mut text = String::new(alloc);
-    let mut number = 0usize;
-    let mut passed = 0usize;
-    let mut failed = 0usize;
-    let mut rest = Some(input.as_slice());
-    'lines: while let Some(lines) = rest {
-        let (line, others) = split_at_first(NEWLINE, lines);
-        number += 1;
-        if let Some(verdict) = verdict_on(alloc, line)? {
-            let word = verdict.word();
-            writeln!(text, "line {number}: {word}")?;
-            match verdict {
-                Verdict::Pass => passed += 1,
-                Verdict::Fail | Verdict::Unreadable => failed += 1,
-            }
-        }
-        rest = others;
-    }
-    writeln!(text, "{passed} passed, {failed} failed")?;
-    let ending = if failed == 0 {
+    let ending = if write_verdicts(input, &mut text)? {
         Ending::Done
     } else {
         Ending::Refused
     };
     Ok(Printed { text, ending })
-}
-
-/// The verdict on a line, unless it is blank.
-fn verdict_on(alloc: Global, line: &[u8]) -> Result<Option<Verdict>, AllocError> {
-    Ok(match parse_line(alloc, line)? {
-        Line::Blank => None,
-        Line::Vector(vector) => Some(if vector.holds() {
-            Verdict::Pass
-        } else {
-            Verdict::Fail
-        }),
-        Line::Unreadable => Some(Verdict::Unreadable),
-    })
 }

@@ -89,7 +89,7 @@ fn lines_that_are_unreadable(rt: HostRuntime) {
     }
 }
 
-// So many spaces, and then the end or an error.
+/// So many spaces, and then the end or an error.
 #[derive(Drop)]
 struct Spaces {
     left: usize,

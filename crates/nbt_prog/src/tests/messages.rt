@@ -3,7 +3,7 @@
 use super::{FRED, Paper, expect_of_input, hexadecimal, status_of};
 use std::process::Abort;
 
-// That `show` ends with this message and length, and `check` agrees with the length.
+/// That `show` ends with this message and length, and `check` agrees with the length.
 fn expect_message<R: Abort + AllocGlobal>(rt: &R, octets: &str, message: &str, length: &str) {
     let hex = hexadecimal(rt, octets);
     let mut paper = Paper::new();

@@ -13,7 +13,7 @@ const REFUSED: &str = "0001 ad85 0000 0001 0000 0000 {FRED} 0020 0001 00000000 0
 
 const OWNER: &str = "127.0.0.2:137";
 
-// The line that is printed of a reply, or of `none`.
+/// The line that is printed of a reply, or of `none`.
 fn line_of<R: Abort + AllocGlobal>(rt: &R, reply: &str) -> String {
     let mut line = hexadecimal(rt, reply);
     line.push('\n').expect(rt, "memory");

@@ -11,7 +11,7 @@ fn expect_printed<R: Abort + AllocGlobal>(rt: &R, name: &Name, text: &str) {
     assert_eq!(rt; printed.as_str(), text);
 }
 
-// The text is read as the name of these octets, and the name is printed as the text.
+/// The text is read as the name of these octets, and the name is printed as the text.
 fn expect_name<R: Abort + AllocGlobal>(rt: &R, text: &str, octets: &[u8], scope: &[u8]) {
     match parse_name(text.as_bytes()) {
         None => panic!(rt; "{text:?} is no name"),
@@ -126,7 +126,7 @@ fn texts_that_are_no_names(rt: HostRuntime) {
     }
 }
 
-// `FRED` and labels of so many octets each, as they are or in hexadecimal.
+/// `FRED` and labels of so many octets each, as they are or in hexadecimal.
 fn with_labels<R: Abort + AllocGlobal>(
     rt: &R,
     prefix: &str,

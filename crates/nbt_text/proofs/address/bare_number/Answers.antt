@@ -1,7 +1,7 @@
 use Rattle.std.proofs.Common.{ap, arith, refl}
 use Rattle.std.proofs.lemmas.Fmt.{parse-decimal}
 use Rattle.std.specs.Result.{result_ok}
-use Rattle.nbt_text.proofs.Addr.{CanBeginDecimal, CanBeginDecimal-decimal, decimal_from_parse}
+use Rattle.nbt_text.proofs.AddressText.{CanBeginDecimal, CanBeginDecimal-decimal, decimal_from_parse}
 use Rattle.nbt_text.proofs.address.bare_number.Goals as goal
 
 pub returns-then-can_begin_decimal-clause-read : goal.returns-then-can_begin_decimal-clause-read

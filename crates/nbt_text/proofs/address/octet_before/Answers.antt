@@ -1,5 +1,5 @@
 use Rattle.std.proofs.Common.{◌∙◌, sym, arith}
-use Rattle.nbt_text.proofs.Addr.{octet_found, split_decimal}
+use Rattle.nbt_text.proofs.AddressText.{octet_found, split_decimal}
 use Rattle.nbt_text.proofs.address.octet_before.Goals as goal
 
 pub returns-in_err-digits-clause-found : goal.returns-in_err-digits-clause-found

@@ -2,7 +2,7 @@ use Rattle.std.proofs.Common.{◌∙◌, ◌≡◌, ◌<◌, ◌^◌, Option, So
 use Rattle.std.specs.Prelude.{◌↔◌}
 use Rattle.nbt_name.specs.declared.addr.Addr.{Addr}
 use Rattle.nbt_text.specs.Address.{SpellsAddress, address_text}
-use Rattle.nbt_text.proofs.Addr.{from_second, from_third, from_fourth, address_text-from_first, address_text_joined, joined_octets, octet_lt}
+use Rattle.nbt_text.proofs.AddressText.{from_second, from_third, from_fourth, address_text-from_first, address_text_joined, joined_octets, octet_lt}
 use Rattle.nbt_text.proofs.address.parse_address.Goals as goal
 
 no_address : (r : Option Addr) (a : Addr) (P : Type 0) → r ≡ None → ¬ P → (r ≡ Some a) ↔ P

@@ -1,4 +1,4 @@
--- Numbers as `{}` prints them: how their texts begin, and where a mark after one stands.
+-- Addresses as text: numbers as `{}` prints them, how their texts begin, and where a mark after one stands.
 use Rattle.std.proofs.Common.{◌≡◌, ◌≢◌, ℕ, ◌+◌, ◌*◌, ◌/◌, ◌%◌, ◌<◌, ◌^◌, ◌⊎◌, List, [], ◌∷◌, ◌++◌, length, get_or, Option, Some, Result, Ok, Err, sym, ◌∙◌, ap, refl, inl, inr, arith, append_assoc, lit<, zero, suc}
 use Rattle.std.specs.Prelude.{MatchOption, IfSome, slice_index, ◌≤◌}
 use Rattle.std.specs.Fmt.{decimal}

@@ -1,0 +1,3 @@
+-- What only private functions cite.
+pub mod Line
+pub mod Pieces

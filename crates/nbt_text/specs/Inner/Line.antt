@@ -1,0 +1,21 @@
+-- What a line holds, as the code has it.
+use Rattle.std.specs.Prelude.{ℕ, List, Result, map}
+use denote.Ref.{Bor}
+use Rattle.nbt_packet.specs.declared.fault.Fault.{Fault}
+use Rattle.nbt_text.specs.declared.vector.Vector.{Vector}
+use Rattle.nbt_text.specs.declared.vector.Line.{Line}
+use Rattle.nbt_text.specs.declared.vector.Line.TheVariants as line
+use Rattle.nbt_text.specs.Vector.{IsPassedOver, SpellsVector, words}
+
+-- the words, without where they lie in memory
+abbrev pub texts : List (Bor (List ℕ)) → List (List ℕ)
+texts words = map (λ word. word.now) words
+
+-- What stands in a line.
+pub data LineIs (text : List ℕ) : Line → Type 0 where
+  passed_over : IsPassedOver text → LineIs text line.Blank
+  vector_stands : (vector : Vector) → ¬ (IsPassedOver text) → SpellsVector (words text) vector.octets.items vector.expected
+      → LineIs text (line.Vector vector)
+  unreadable : ¬ (IsPassedOver text)
+      → ((octets : List ℕ) (expected : Result ℕ Fault) → ¬ SpellsVector (words text) octets expected)
+      → LineIs text line.Unreadable
