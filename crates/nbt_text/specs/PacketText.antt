@@ -32,10 +32,10 @@ pub data PrintsQuestion : Option Question → List ℕ → Type 0 where
   one_question : (question : Question) (name : List ℕ) → PrintsName question.name name
       → PrintsQuestion (Some question) (codes "question " ++ name ++ type_and_class question.rtype question.class ++ newline)
 
-pub data PrintsRecord (section : List ℕ) : Option RecordValue → List ℕ → Type 0 where
-  no_record : PrintsRecord section None []
+pub data PrintsRecord (label : List ℕ) : Option RecordValue → List ℕ → Type 0 where
+  no_record : PrintsRecord label None []
   one_record : (r : RecordValue) (name : List ℕ) → PrintsName r.name name
-      → PrintsRecord section (Some r) (section ++ codes " " ++ name ++ type_and_class r.rtype r.class
+      → PrintsRecord label (Some r) (label ++ codes " " ++ name ++ type_and_class r.rtype r.class
           ++ codes " ttl " ++ decimal r.ttl ++ codes " data " ++ data_text r.rdata ++ newline)
 
 -- The word of the message that the packet spells, or `none`.

@@ -74,14 +74,14 @@ fn write_question(question: &Option<Question>, out: &mut String) -> Result<(), A
 }
 
 /// Appends the line of a record, where there is one.
-fn write_record(section: &str, record: &Option<Record<'_>>, out: &mut String) -> Result<(), AllocError>
+fn write_record(label: &str, section: &Option<Record<'_>>, out: &mut String) -> Result<(), AllocError>
     ensures { OnOk result ((text : List ℕ) × (string_bytes out.new ≡ string_bytes out.old ++ text)
-        × PrintsRecord section.now (record_if record.now) text) }
+        × PrintsRecord label.now (record_if section.now) text) }
 {
-    let Some(record) = record else {
+    let Some(record) = section else {
         return Ok(());
     };
-    out.push_str(section)?;
+    out.push_str(label)?;
     out.push_str(" ")?;
     write_name(&record.name, out)?;
     write_type_and_class(record.rtype, record.class, out)?;

@@ -1,3 +1,4 @@
-//! Names, addresses and numbers as text; what packets and vectors print is tested with the commands.
+//! Texts as they are read and printed. What `show` and `check` print is tested with the commands.
 
 mod names;
+mod packets;

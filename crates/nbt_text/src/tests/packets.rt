@@ -1,0 +1,46 @@
+//! Addresses, numbers, octets, packets and vectors: each call once.
+
+use crate::{parse_address, parse_number, write_hexadecimal, write_packet, write_verdicts};
+use nbt_name::Addr;
+
+#[test]
+fn address_of_the_name_service(rt: HostRuntime) {
+    let address = Addr {
+        ip: 0xC612_8901,
+        port: 137,
+    };
+    assert!(rt; parse_address("198.18.137.1:137") == Some(address));
+    assert!(rt; parse_address("198.18.137.01:137").is_none());
+}
+
+#[test]
+fn numbers_in_digits_alone(rt: HostRuntime) {
+    assert!(rt; parse_number(b"007") == Some(7));
+    for text in [b"+7".as_slice(), b"", b"7 ", b"\xff"] {
+        assert!(rt; parse_number(text).is_none(), "{text:?}");
+    }
+}
+
+#[test]
+fn octets_in_lower_case(rt: HostRuntime) {
+    let mut text = String::new(rt.alloc());
+    write_hexadecimal(b"\x00\xaf", &mut text).expect(&rt, "memory");
+    assert_eq!(rt; text.as_str(), "00af");
+}
+
+#[test]
+fn octets_that_are_no_packet(rt: HostRuntime) {
+    let mut text = String::from_str(rt.alloc(), "> ").expect(&rt, "memory");
+    let stands = write_packet(b"\x00\x01", &mut text).expect(&rt, "memory");
+    assert!(rt; !stands);
+    assert_eq!(rt; text.as_str(), "> fault Short at 2\n");
+}
+
+#[test]
+fn two_vectors_and_a_remark(rt: HostRuntime) {
+    let mut text = String::new(rt.alloc());
+    let input = b"# two\nname 00 fault Short 1\nname 00 ok 1";
+    let none_failed = write_verdicts(input, &mut text).expect(&rt, "memory");
+    assert!(rt; !none_failed);
+    assert_eq!(rt; text.as_str(), "line 2: pass\nline 3: fail\n1 passed, 1 failed\n");
+}
