@@ -1,7 +1,7 @@
 use Rattle.std.proofs.Common.{◌≡◌, [], Some, sym, append_assoc}
 use Rattle.std.proofs.lemmas.List.{append-nil}
 use Rattle.nbt_text.specs.Verdicts.{PrintsVerdict, passed_over, passes, fails, unreadable, verdict_line}
-use Rattle.nbt_text.proofs.Told.{blank_in, vector_in, nothing_in}
+use Rattle.nbt_text.proofs.LineByLine.{blank_in, vector_in, nothing_in}
 use Rattle.nbt_text.proofs.verdicts.write_verdict.Goals.{in-Vector, in-Vector-2, in-Unreadable}
 use Rattle.nbt_text.proofs.verdicts.write_verdict.Goals as goal
 

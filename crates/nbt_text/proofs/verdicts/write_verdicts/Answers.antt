@@ -4,7 +4,7 @@ use Rattle.std.specs.Fmt.{decimal}
 use Rattle.nbt_text.specs.PacketText.{newline}
 use Rattle.nbt_text.specs.Verdicts.{lines, PrintsVerdict, PrintsChecked, PrintsVerdicts}
 use Rattle.nbt_text.proofs.Splitting.{left, left_behind}
-use Rattle.nbt_text.proofs.Told.{all_told, lines_left, one_more}
+use Rattle.nbt_text.proofs.LineByLine.{all_told, lines_left, one_more}
 use Rattle.nbt_text.proofs.verdicts.write_verdicts.Goals as goal
 
 pub lines-preserved-in-Some-true : goal.lines-preserved-in-Some-true

@@ -2,7 +2,7 @@ use Rattle.std.proofs.Common.{◌≡◌, ◌+◌, ◌≤◌, ◌++◌, ℕ, List
 use Rattle.std.specs.String.{string_bytes}
 use Rattle.nbt_text.specs.Verdicts.{lines}
 use Rattle.nbt_text.proofs.Splitting.{left}
-use Rattle.nbt_text.proofs.Told.{Continues, lines_left}
+use Rattle.nbt_text.proofs.LineByLine.{Continues, lines_left}
 use Rattle.nbt_text.proofs.verdicts.write_verdicts.Given as goal
 
 abbrev pub invariant-lines : goal.invariant-lines

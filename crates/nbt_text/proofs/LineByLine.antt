@@ -1,4 +1,4 @@
--- Verdicts: what stands in a line that was read, and the lines that are left.
+-- Verdicts line by line: what stands in a line that was read, the lines that are left, and the verdicts so far.
 use Rattle.std.proofs.Common.{◌≡◌, ℕ, ◌+◌, ◌==◌, ◌<◌, List, [], ◌∷◌, ◌++◌, length, get_or, Bool, true, false, Option, Some, None, Result, sym, ◌∙◌, ap, refl, arith, subst, append_assoc, zero, suc}
 use Rattle.std.specs.Prelude.{MatchOption, slice_index}
 use Rattle.std.specs.List.{slice_split, All}
