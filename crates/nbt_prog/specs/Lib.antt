@@ -1,6 +1,2 @@
-pub mod Answer
-pub mod Arguments
-pub mod Failure
-pub mod Outcome
-pub mod Printed
+pub mod Inner
 pub mod Serving

@@ -3,7 +3,7 @@
 ghost use Rattle.std.specs.Prelude.{◌≡◌, ◌≤◌, ◌^◌, ◌⊎◌, ℕ, Ok, Some, IfOk, IfErr, IfSome, codes};
 ghost use Rattle.clap.specs.Words.{kind_of};
 ghost use Rattle.hex.specs.Hex.{decode_of};
-ghost use Rattle.nbt_prog.specs.Arguments.{AreGiven, IsFailureOf, IsHexadecimal, IsTime, SpellsTime, argument_of};
+ghost use Rattle.nbt_prog.specs.Inner.Arguments.{AreGiven, IsFailureOf, IsHexadecimal, IsTime, SpellsTime, argument_of};
 ghost use Rattle.nbt_prog.specs.declared.failure.Failure.TheVariants.{Unreadable, Memory};
 
 use crate::commands::answer::AnswerArguments;

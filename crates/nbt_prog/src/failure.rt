@@ -26,7 +26,7 @@ pub enum Failure {
 
 impl Failure {
     ghost use Rattle.std.specs.Prelude.{IfSome};
-    ghost use Rattle.nbt_prog.specs.Failure.{failure_status, failure_text};
+    ghost use Rattle.nbt_prog.specs.Inner.Failure.{failure_status, failure_text};
 
     /// The status with which the program exits: 0 for help, since it was asked for.
     pub fn status(&self) -> u8
@@ -75,7 +75,7 @@ impl From<AllocError> for Failure {
 }
 
 impl From<clap::Error> for Failure {
-    ghost use Rattle.nbt_prog.specs.Failure.{failure_of_usage};
+    ghost use Rattle.nbt_prog.specs.Inner.Failure.{failure_of_usage};
 
     ghost from_gives = { λ error failure. failure ≡ failure_of_usage error };
 
@@ -88,7 +88,7 @@ impl From<clap::Error> for Failure {
 }
 
 impl From<FromHexError> for Failure {
-    ghost use Rattle.nbt_prog.specs.Failure.{failure_of_hex};
+    ghost use Rattle.nbt_prog.specs.Inner.Failure.{failure_of_hex};
 
     ghost from_gives = { λ error failure. failure ≡ failure_of_hex error };
 
@@ -101,7 +101,7 @@ impl From<FromHexError> for Failure {
 }
 
 impl From<io::Error> for Failure {
-    ghost use Rattle.nbt_prog.specs.Failure.{failure_of_io};
+    ghost use Rattle.nbt_prog.specs.Inner.Failure.{failure_of_io};
 
     ghost from_gives = { λ error failure. failure ≡ failure_of_io error };
 

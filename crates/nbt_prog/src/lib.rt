@@ -4,12 +4,11 @@
 //! with the status that it returns.
 #![tactic(auto)]
 
-ghost use Rattle.std.specs.Prelude.{◌≡◌, ◌≢◌, ◌≤◌, ◌⊎◌, OnOk, IfSome, codes};
+ghost use Rattle.std.specs.Prelude.{◌≡◌, ◌≢◌, ◌≤◌, ◌⊎◌, ◌++◌, ◌∷◌, [], OnOk, IfSome, codes};
 ghost use Rattle.std.specs.IoError.{error_kind};
 ghost use Rattle.std.specs.declared.io.ErrorKind.TheVariants.{InvalidData};
 ghost use Rattle.std.specs.Io.KnownBytes.{Appends};
-ghost use Rattle.nbt_prog.specs.Failure.{one_line};
-ghost use Rattle.nbt_prog.specs.Outcome.{status_of_outcome, text_of_outcome};
+ghost use Rattle.nbt_prog.specs.Inner.Outcome.{status_of_outcome, text_of_outcome};
 
 mod arguments;
 mod commands;
@@ -48,7 +47,7 @@ pub fn command<S: AsStr, R: Read, W: Write>(
 ) -> u8
     ensures bound { result ≤ 4 }
     ensures memory { result ≡ 4
-        → Appends (W.contents writer.old) (W.contents writer.new) (one_line (codes "memory")) }
+        → Appends (W.contents writer.old) (W.contents writer.new) (codes "memory" ++ 10 ∷ []) }
 {
     conclude(run(alloc, words, reader), writer)
 }
@@ -60,7 +59,7 @@ pub fn command_without_words<W: Write>(alloc: Global, error: io::Error, writer: 
     ensures usage { error_kind error ≡ InvalidData → (result ≡ 2) ⊎ (3 ≤ result) }
     ensures failed { error_kind error ≢ InvalidData → 3 ≤ result }
     ensures memory { result ≡ 4
-        → Appends (W.contents writer.old) (W.contents writer.new) (one_line (codes "memory")) }
+        → Appends (W.contents writer.old) (W.contents writer.new) (codes "memory" ++ 10 ∷ []) }
 {
     let failure = match error.kind() {
         io::ErrorKind::InvalidData => usage::no_text(alloc).into(),

@@ -1,7 +1,7 @@
 //! What a command that did its work prints, and how it ends.
 
 ghost use Rattle.std.specs.Prelude.{◌≡◌};
-ghost use Rattle.nbt_prog.specs.Printed.{ending_status};
+ghost use Rattle.nbt_prog.specs.Inner.Printed.{ending_status};
 
 /// How a command ends that did its work.
 #[derive(Clone, Copy, Debug, PartialEq, Eq)]

@@ -3,7 +3,7 @@
 ghost use Rattle.std.specs.Prelude.{◌≡◌, ◌≤◌, ◌^◌, ◌++◌, ◌∷◌, [], ℕ, List, Option, Some, None, IfOk, IfErr};
 ghost use Rattle.std.specs.String.{string_bytes};
 ghost use Rattle.hex.specs.Hex.{encode_lower};
-ghost use Rattle.nbt_prog.specs.Answer.{answer_text};
+ghost use Rattle.nbt_prog.specs.Inner.Answer.{answer_text};
 ghost use Rattle.nbt_prog.specs.Serving.{Serves};
 
 use crate::failure::Failure;

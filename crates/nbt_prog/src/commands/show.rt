@@ -3,7 +3,7 @@
 ghost use Rattle.std.specs.Prelude.{◌≡◌, IfOk, IfErr};
 ghost use Rattle.std.specs.String.{string_bytes};
 ghost use Rattle.nbt_text.specs.PacketText.{PrintsOctets};
-ghost use Rattle.nbt_prog.specs.Printed.{is_done};
+ghost use Rattle.nbt_prog.specs.Inner.Printed.{is_done};
 
 use crate::failure::Failure;
 use crate::printed::{Ending, Printed};

@@ -6,7 +6,7 @@ use Rattle.clap.specs.declared.parser.matches.ArgMatches.{ArgMatches}
 use Rattle.hex.specs.Hex.{decode_of}
 use Rattle.nbt_text.specs.Address.{SpellsAddress}
 use Rattle.nbt_text.specs.Number.{SpellsNumber}
-use Rattle.nbt_prog.specs.Failure.{failure_status}
+use Rattle.nbt_prog.specs.Inner.Failure.{failure_status}
 use Rattle.nbt_name.specs.declared.addr.Addr.{Addr}
 use Rattle.nbt_prog.specs.declared.commands.answer.AnswerArguments.{AnswerArguments}
 use Rattle.nbt_prog.specs.declared.failure.Failure.{Failure}

@@ -1,7 +1,7 @@
 -- What `answer` prints (our profile).
 use Rattle.std.specs.Prelude.{ℕ, List, Option, Some, None, codes}
 use Rattle.hex.specs.Hex.{encode_lower}
-use Rattle.nbt_prog.specs.Failure.{one_line}
+use Rattle.nbt_prog.specs.Inner.Failure.{one_line}
 
 -- the reply in hexadecimal, or the word for no reply
 abbrev pub answer_text : Option (List ℕ) → List ℕ

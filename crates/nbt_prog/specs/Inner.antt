@@ -1,0 +1,6 @@
+-- What only the contracts of private functions cite: a caller needs none of it.
+pub mod Answer
+pub mod Arguments
+pub mod Failure
+pub mod Outcome
+pub mod Printed
