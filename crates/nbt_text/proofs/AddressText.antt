@@ -9,7 +9,7 @@ use Rattle.std.proofs.lemmas.Fmt.{decimal_digit, decimal_nonempty, first_decimal
 use Rattle.std.proofs.lemmas.Str.Parse.{IsNumeralModel, numerals_by_value, tells_digits, tells_by_index, not_in_digits, parse_plain}
 use Rattle.std.proofs.lemmas.Str.Pattern.{IsSplitOnceResult, split_after}
 use denote.Ref.{Bor}
-use Rattle.nbt_text.specs.Address.{SpellsAddress, address_text}
+use Rattle.nbt_text.specs.Address.{address_text}
 use Rattle.nbt_name.specs.declared.addr.Addr.{Addr}
 
 -- the text begins with a digit, which is no zero unless it is alone

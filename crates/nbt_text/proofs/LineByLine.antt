@@ -1,7 +1,7 @@
 -- Verdicts line by line: what stands in a line that was read, the lines that are left, and the verdicts so far.
-use Rattle.std.proofs.Common.{◌≡◌, ℕ, ◌+◌, ◌==◌, ◌<◌, List, [], ◌∷◌, ◌++◌, length, get_or, Bool, true, false, Option, Some, None, Result, sym, ◌∙◌, ap, refl, arith, subst, append_assoc, zero, suc}
-use Rattle.std.specs.Prelude.{MatchOption, slice_index}
-use Rattle.std.specs.List.{slice_split, All}
+use Rattle.std.proofs.Common.{◌≡◌, ℕ, ◌+◌, ◌==◌, List, [], ◌∷◌, ◌++◌, get_or, Bool, false, Option, Some, None, Result, ◌∙◌, ap, refl, arith, subst, append_assoc}
+use Rattle.std.specs.Prelude.{MatchOption}
+use Rattle.std.specs.List.{All}
 use Rattle.std.proofs.lemmas.List.Splits.{slice_split_at, slice_split_none}
 use Rattle.std.proofs.lemmas.Bool.{ne_eqb}
 use Rattle.std.proofs.lemmas.List.{get_or_default, append-nil}

@@ -1,5 +1,5 @@
 -- The words of a vector, one by one.
-use Rattle.std.proofs.Common.{◌≡◌, ℕ, List, [], ◌∷◌, ◌≤◌, ◌-◌, take, drop, length, get_or, map, Option, Some, None, Result, Ok, Err, sym, ◌∙◌, ap, refl, subst, arith, codes, zero, suc}
+use Rattle.std.proofs.Common.{◌≡◌, ℕ, List, [], ◌∷◌, ◌≤◌, ◌-◌, take, drop, length, get_or, Option, Some, None, Result, Ok, Err, sym, ap, refl, subst, arith, codes}
 use Rattle.std.specs.Prelude.{◌↔◌}
 use Rattle.std.proofs.Math.Seq.{take-length}
 use denote.Ref.{Bor}
@@ -7,7 +7,7 @@ use Rattle.nbt_packet.specs.declared.fault.Fault.{Fault}
 use Rattle.nbt_packet.specs.declared.fault.FaultKind.{FaultKind}
 use Rattle.nbt_text.specs.Number.{SpellsNumber}
 use Rattle.nbt_text.specs.Inner.Line.{texts}
-use Rattle.nbt_text.specs.Vector.{SpellsExpected, taken, refused, SpellsOctets, SpellsVector, name_vector}
+use Rattle.nbt_text.specs.Vector.{SpellsExpected, taken, refused}
 use Rattle.nbt_text.specs.Words.{fault_word}
 
 abbrev pub lost : Bor (List ℕ)

@@ -36,7 +36,7 @@ pub data PrintsRecord (label : List ℕ) : Option RecordValue → List ℕ → T
   no_record : PrintsRecord label None []
   one_record : (r : RecordValue) (name : List ℕ) → PrintsName r.name name
       → PrintsRecord label (Some r) (label ++ codes " " ++ name ++ type_and_class r.rtype r.class
-          ++ codes " ttl " ++ decimal r.ttl ++ codes " data " ++ data_text r.rdata ++ newline)
+      ++ codes " ttl " ++ decimal r.ttl ++ codes " data " ++ data_text r.rdata ++ newline)
 
 -- The word of the message that the packet spells, or `none`.
 pub data PrintsMessage (packet : PacketValue) : List ℕ → Type 0 where

@@ -74,7 +74,11 @@ fn write_question(question: &Option<Question>, out: &mut String) -> Result<(), A
 }
 
 /// Appends the line of a record, where there is one.
-fn write_record(label: &str, section: &Option<Record<'_>>, out: &mut String) -> Result<(), AllocError>
+fn write_record(
+    label: &str,
+    section: &Option<Record<'_>>,
+    out: &mut String,
+) -> Result<(), AllocError>
     ensures { OnOk result ((text : List ℕ) × (string_bytes out.new ≡ string_bytes out.old ++ text)
         × PrintsRecord label.now (record_if section.now) text) }
 {

@@ -5,9 +5,7 @@ ghost use Rattle.nbt_text.specs.Inner.Pieces.{HasNo};
 
 /// The octets before the first `mark`, and those behind it, or all of them and nothing where there is no `mark`.
 pub fn split_at_first(mark: u8, octets: &[u8]) -> (&[u8], Option<&[u8]>)
-    ensures whole {
-        MatchOption result.1 (octets.now ≡ result.0.now) (λ rest. octets.now ≡ result.0.now ++ mark ∷ rest.now)
-    }
+    ensures whole { MatchOption result.1 (octets.now ≡ result.0.now) (λ rest. octets.now ≡ result.0.now ++ mark ∷ rest.now) }
     ensures first { HasNo mark result.0.now }
 {
     match octets.iter().position(|octet| *octet == mark) {

@@ -42,5 +42,8 @@ fn two_vectors_and_a_remark(rt: HostRuntime) {
     let input = b"# two\nname 00 fault Short 1\nname 00 ok 1";
     let none_failed = write_verdicts(input, &mut text).expect(&rt, "memory");
     assert!(rt; !none_failed);
-    assert_eq!(rt; text.as_str(), "line 2: pass\nline 3: fail\n1 passed, 1 failed\n");
+    assert_eq!(rt;
+        text.as_str(),
+        "line 2: pass\nline 3: fail\n1 passed, 1 failed\n"
+    );
 }

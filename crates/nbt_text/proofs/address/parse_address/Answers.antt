@@ -1,4 +1,4 @@
-use Rattle.std.proofs.Common.{◌∙◌, ◌≡◌, ◌<◌, ◌^◌, Option, Some, None, refl, ap, arith, rules}
+use Rattle.std.proofs.Common.{◌∙◌, ◌≡◌, ◌<◌, ◌^◌, Option, Some, None, refl, arith, rules}
 use Rattle.std.specs.Prelude.{◌↔◌}
 use Rattle.nbt_name.specs.declared.addr.Addr.{Addr}
 use Rattle.nbt_text.specs.Address.{SpellsAddress, address_text}

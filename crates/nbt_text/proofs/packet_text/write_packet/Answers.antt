@@ -1,4 +1,4 @@
-use Rattle.std.proofs.Common.{◌++◌, List, ℕ, codes, append_assoc, ap}
+use Rattle.std.proofs.Common.{◌++◌, codes, append_assoc, ap}
 use Rattle.std.specs.Fmt.{decimal}
 use Rattle.nbt_packet.specs.Packet.{packet_of, decoded}
 use Rattle.nbt_text.specs.PacketText.{packet_stands, fault_stands, newline}

@@ -1,5 +1,5 @@
-use Rattle.std.proofs.Common.{◌++◌, List, ℕ, codes, append_assoc, refl}
-use Rattle.nbt_text.specs.PacketText.{PrintsPacket, four_digits, newline}
+use Rattle.std.proofs.Common.{◌++◌, codes, append_assoc, refl}
+use Rattle.nbt_text.specs.PacketText.{four_digits, newline}
 use Rattle.nbt_text.proofs.Joining.{OnOk-map}
 use Rattle.nbt_text.proofs.packet_text.write_parts.Goals as goal
 

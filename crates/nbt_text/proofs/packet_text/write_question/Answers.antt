@@ -1,4 +1,4 @@
-use Rattle.std.proofs.Common.{[], ◌++◌, List, ℕ, codes, sym}
+use Rattle.std.proofs.Common.{[], ◌++◌, codes, sym}
 use Rattle.std.proofs.lemmas.List.{append-nil}
 use Rattle.std.specs.String.{string_bytes}
 use Rattle.nbt_text.specs.PacketText.{no_question, one_question, type_and_class, newline}

@@ -1,4 +1,4 @@
-use Rattle.std.proofs.Common.{[], ◌++◌, List, ℕ, codes, sym, append_assoc}
+use Rattle.std.proofs.Common.{[], ◌++◌, codes, sym, append_assoc}
 use Rattle.std.proofs.lemmas.List.{append-nil}
 use Rattle.std.specs.Fmt.{decimal}
 use Rattle.nbt_packet.specs.Packet.{record_of}

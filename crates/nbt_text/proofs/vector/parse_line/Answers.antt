@@ -1,8 +1,8 @@
-use Rattle.std.proofs.Common.{◌≡◌, ◌==◌, ◌∙◌, ℕ, List, [], ◌∷◌, Bool, true, false, Option, Some, None, ◌⊎◌, inl, inr, length, map, refl, sym, arith, rules}
+use Rattle.std.proofs.Common.{◌≡◌, ◌∙◌, ℕ, List, [], ◌∷◌, Bool, false, Some, inl, inr, length, refl, sym, arith, rules}
 use Rattle.std.specs.Prelude.{IsTrue, ◌↔◌, slice_get}
 use denote.Ref.{Bor}
-use Rattle.nbt_text.specs.Inner.Line.{LineIs, passed_over, vector_stands, unreadable, texts}
-use Rattle.nbt_text.specs.Vector.{IsPassedOver, SpellsVector, words}
+use Rattle.nbt_text.specs.Inner.Line.{passed_over, vector_stands, unreadable, texts}
+use Rattle.nbt_text.specs.Vector.{IsPassedOver, words}
 use Rattle.nbt_text.proofs.vector.parse_line.Goals as goal
 
 no_texts : (found : List (Bor (List ℕ))) → length found ≡ 0 → texts found ≡ []

@@ -1,8 +1,7 @@
-use Rattle.std.proofs.Common.{◌≡◌, [], ◌++◌, ◌+◌, ℕ, List, codes, Some, None, Option, Bool, true, false, ap, ◌∙◌, arith, append_assoc, length, refl}
-use Rattle.std.proofs.lemmas.List.{append-nil}
+use Rattle.std.proofs.Common.{◌≡◌, ◌++◌, ◌+◌, ℕ, List, codes, Some, None, Option, Bool, true, false, ap, ◌∙◌, arith, append_assoc, length, refl}
 use Rattle.std.specs.Fmt.{decimal}
 use Rattle.nbt_text.specs.PacketText.{newline}
-use Rattle.nbt_text.specs.Verdicts.{lines, PrintsVerdict, PrintsChecked, PrintsVerdicts}
+use Rattle.nbt_text.specs.Verdicts.{lines, PrintsVerdicts}
 use Rattle.nbt_text.proofs.Splitting.{left, left_behind}
 use Rattle.nbt_text.proofs.LineByLine.{all_told, lines_left, one_more}
 use Rattle.nbt_text.proofs.verdicts.write_verdicts.Goals as goal
