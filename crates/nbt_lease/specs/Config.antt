@@ -1,0 +1,34 @@
+-- The limits that a server and its nodes share, and the seconds that a lease is granted for (our profile).
+use Rattle.std.specs.Prelude.{ℕ, ◌≤◌, zero, suc, min}
+
+-- the greatest life of a datagram, in milliseconds
+abbrev pub IsLife : ℕ → Type 0
+IsLife life = (1 ≤ life) × (life ≤ 60000)
+
+-- the longest lease, in seconds
+abbrev pub IsLongest : ℕ → Type 0
+IsLongest longest = (1 ≤ longest) × (longest ≤ 1000000)
+
+-- the live leases of a server
+abbrev pub IsRows : ℕ → Type 0
+IsRows rows = (1 ≤ rows) × (rows ≤ 4096)
+
+-- A configuration as contracts see it.
+pub record ConfigValue : Type 0 where
+  pub life : ℕ
+  pub longest : ℕ
+  pub rows : ℕ
+
+abbrev pub config_of : ℕ → ℕ → ℕ → ConfigValue
+config_of life longest rows = record { life = life; longest = longest; rows = rows }
+
+pub record IsConfig (config : ConfigValue) : Type 0 where
+  pub life : IsLife config.life
+  pub longest : IsLongest config.longest
+  pub rows : IsRows config.rows
+
+-- The seconds that are granted where ttl seconds are asked: the longest lease where ttl is 0, else the smaller of
+-- the two. A reply's ttl is read in the same way.
+abbrev pub granted : ℕ → ℕ → ℕ
+granted longest zero = longest
+granted longest (suc n) = min (suc n) longest

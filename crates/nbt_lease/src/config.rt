@@ -1,0 +1,105 @@
+//! The limits that a server and its nodes share.
+
+ghost use Rattle.std.specs.Prelude.{◌≡◌, ◌<◌, ◌≤◌, ◌↔◌, IsOk, IfOk, IsErrOf};
+ghost use Rattle.nbt_lease.specs.Config.{IsConfig, IsLife, IsLongest, IsRows, config_of, granted};
+
+use crate::fault::ConfigFault;
+use std::marker::Model;
+
+/// The limits that a server and its nodes share (our profile): the greatest life of one datagram, the longest lease,
+/// and how many live leases a server keeps.
+#[derive(Clone, Copy, Debug, PartialEq, Eq)]
+pub struct Config {
+    life: u64,
+    longest: u32,
+    rows: usize,
+}
+
+impl Model for Config {
+    ghost use Rattle.nbt_lease.specs.Config.{ConfigValue, IsConfig};
+
+    ghost Value = { ConfigValue };
+
+    ghost view = { λ c. record { life = c.life; longest = c.longest; rows = c.rows } };
+
+    ghost invariant = { λ c. IsConfig (record { life = c.life; longest = c.longest; rows = c.rows }) };
+
+    ghost inverse = { λ v. record { life = v.life; longest = v.longest; rows = v.rows } };
+}
+
+/// The most milliseconds of `life`.
+const LIFE_MOST: u64 = 60_000;
+
+/// The most seconds of `longest`.
+const LONGEST_MOST: u32 = 1_000_000;
+
+/// The most live leases of a server.
+const ROWS_MOST: usize = 4_096;
+
+impl Config {
+    /// The limits `life` in milliseconds, `longest` in seconds and `rows` in leases. Refused in this order, the first
+    /// that is out of its limits: `Life` (1) where `life` isn't 1 to 60,000, `Longest` (2) where `longest` isn't 1 to
+    /// 1,000,000, `Rows` (3) where `rows` isn't 1 to 4,096. Our profile.
+    pub fn new(life: u64, longest: u32, rows: usize) -> Result<Config, ConfigFault>
+        ensures found { IsOk result ↔ (IsLife life × IsLongest longest × IsRows rows) }
+        ensures value { IfOk result (λ config. config ≡ config_of life longest rows) }
+
+        // Which fault it is.
+        ensures life { IsErrOf result ConfigFault.Life ↔ (¬ IsLife life) }
+        ensures longest { IsErrOf result ConfigFault.Longest ↔ (IsLife life × (¬ IsLongest longest)) }
+        ensures rows { IsErrOf result ConfigFault.Rows ↔ (IsLife life × IsLongest longest × (¬ IsRows rows)) }
+    {
+        if life == 0 || life > LIFE_MOST {
+            return Err(ConfigFault::Life);
+        }
+        if longest == 0 || longest > LONGEST_MOST {
+            return Err(ConfigFault::Longest);
+        }
+        if rows == 0 || rows > ROWS_MOST {
+            return Err(ConfigFault::Rows);
+        }
+        Ok(Config {
+            life,
+            longest,
+            rows,
+        })
+    }
+
+    /// The greatest life of one datagram, 1 to 60,000 milliseconds.
+    pub fn life(self) -> u64
+        ensures value { result ≡ self.life }
+        ensures config { IsConfig self }
+    {
+        self.life
+    }
+
+    /// The longest lease, 1 to 1,000,000 seconds.
+    pub fn longest(self) -> u32
+        ensures value { result ≡ self.longest }
+        ensures config { IsConfig self }
+    {
+        self.longest
+    }
+
+    /// The most live leases of a server, 1 to 4,096.
+    pub fn rows(self) -> usize
+        ensures value { result ≡ self.rows }
+        ensures config { IsConfig self }
+    {
+        self.rows
+    }
+
+    /// The seconds that a lease is granted for where `ttl` seconds are asked: `longest` where `ttl` is 0, else the
+    /// smaller of `ttl` and `longest` (our profile; RFC 1002 section 5.1.1.1 reads 0 as without end). A reply's TTL is
+    /// read in the same way. It is 1 to `longest`.
+    pub fn granted(self, ttl: u32) -> u32
+        ensures value { result ≡ granted self.longest ttl }
+        ensures bounds { (1 ≤ result) × (result ≤ self.longest) }
+        ensures config { IsConfig self }
+    {
+        if ttl == 0 {
+            return self.longest;
+        }
+        ttl.min(self.longest)
+    }
+}

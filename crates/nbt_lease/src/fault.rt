@@ -1,0 +1,33 @@
+//! What a configuration can have wrong, and why a name isn't granted.
+
+ghost use Rattle.std.specs.Prelude.{◌≡◌};
+ghost use Rattle.nbt_lease.specs.Numbers.{config_fault_number};
+
+use thiserror::Error;
+
+/// Which limit a configuration doesn't keep (our profile's limits, numbers and order).
+#[derive(Clone, Copy, Debug, PartialEq, Eq, Error)]
+pub enum ConfigFault {
+    /// 1: the greatest life of a datagram isn't 1 to 60,000 milliseconds.
+    #[error("Life")]
+    Life,
+    /// 2: the longest lease isn't 1 to 1,000,000 seconds.
+    #[error("Longest")]
+    Longest,
+    /// 3: the live leases of a server aren't 1 to 4,096.
+    #[error("Rows")]
+    Rows,
+}
+
+impl ConfigFault {
+    /// The number of the fault, 1 to 3 (our profile).
+    pub fn number(self) -> u8
+        ensures { result ≡ config_fault_number self }
+    {
+        match self {
+            ConfigFault::Life => 1,
+            ConfigFault::Longest => 2,
+            ConfigFault::Rows => 3,
+        }
+    }
+}

@@ -1,0 +1,48 @@
+//! Moments of one clock.
+
+ghost use Rattle.std.specs.Prelude.{◌≡◌, ◌<◌, ◌≤◌, ◌^◌, ◌↔◌, IsSome, IfSome};
+
+use std::marker::Model;
+
+/// A moment: milliseconds since the beginning of a clock that no end sets, 0 to 2^60 (our profile). Ends of leases
+/// may be later, so they are a `u64` and no `Moment`.
+#[derive(Clone, Copy, Debug, PartialEq, Eq, PartialOrd, Ord, Hash)]
+pub struct Moment {
+    ms: u64,
+}
+
+impl Model for Moment {
+    ghost use Rattle.std.specs.Prelude.{ℕ, ◌≤◌, ◌^◌};
+
+    ghost Value = { ℕ };
+
+    ghost view = { λ m. m.ms };
+
+    ghost invariant = { λ m. m.ms ≤ 2 ^ 60 };
+
+    ghost inverse = { λ ms. record { ms = ms } };
+}
+
+/// The last moment, in milliseconds.
+const LAST: u64 = 1 << 60;
+
+impl Moment {
+    /// The moment of this many milliseconds; none above 2^60.
+    pub fn new(ms: u64) -> Option<Moment>
+        ensures found { IsSome result ↔ (ms ≤ 2 ^ 60) }
+        ensures value { IfSome result (λ moment. moment ≡ ms) }
+    {
+        if ms > LAST {
+            return None;
+        }
+        Some(Moment { ms })
+    }
+
+    /// The milliseconds, 0 to 2^60.
+    pub fn get(self) -> u64
+        ensures value { result ≡ self }
+        ensures bound { result ≤ 2 ^ 60 }
+    {
+        self.ms
+    }
+}
