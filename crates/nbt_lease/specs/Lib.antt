@@ -1,2 +1,6 @@
 pub mod Config
 pub mod Numbers
+pub mod Lease
+pub mod Rules
+pub mod Standing
+pub mod Placing

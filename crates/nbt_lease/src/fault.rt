@@ -1,7 +1,7 @@
 //! What a configuration can have wrong, and why a name isn't granted.
 
 ghost use Rattle.std.specs.Prelude.{◌≡◌};
-ghost use Rattle.nbt_lease.specs.Numbers.{config_fault_number};
+ghost use Rattle.nbt_lease.specs.Numbers.{config_fault_number, grant_fault_number};
 
 use thiserror::Error;
 
@@ -28,6 +28,38 @@ impl ConfigFault {
             ConfigFault::Life => 1,
             ConfigFault::Longest => 2,
             ConfigFault::Rows => 3,
+        }
+    }
+}
+
+/// Why a name isn't granted (our profile's numbers). After any of them the live leases are as before. `Active` is tried
+/// first, then `GroupFull`, `TableFull` and `OutOfMemory`.
+#[derive(Clone, Copy, Debug, PartialEq, Eq, Error)]
+pub enum GrantFault {
+    /// 1: the name has live leases beside which this one may not stand.
+    #[error("Active")]
+    Active,
+    /// 2: as many leases live as the table keeps.
+    #[error("TableFull")]
+    TableFull,
+    /// 3: 48 leases of the group live.
+    #[error("GroupFull")]
+    GroupFull,
+    /// 4: memory was refused.
+    #[error("OutOfMemory")]
+    OutOfMemory,
+}
+
+impl GrantFault {
+    /// The number of the fault, 1 to 4 (our profile).
+    pub fn number(self) -> u8
+        ensures { result ≡ grant_fault_number self }
+    {
+        match self {
+            GrantFault::Active => 1,
+            GrantFault::TableFull => 2,
+            GrantFault::GroupFull => 3,
+            GrantFault::OutOfMemory => 4,
         }
     }
 }

@@ -27,6 +27,13 @@ impl Model for Moment {
 const LAST: u64 = 1 << 60;
 
 impl Moment {
+    /// The beginning of the clock, 0.
+    pub fn zero() -> Moment
+        ensures { result ≡ 0 }
+    {
+        Moment { ms: 0 }
+    }
+
     /// The moment of this many milliseconds; none above 2^60.
     pub fn new(ms: u64) -> Option<Moment>
         ensures found { IsSome result ↔ (ms ≤ 2 ^ 60) }

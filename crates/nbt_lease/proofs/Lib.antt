@@ -1,0 +1,9 @@
+pub mod Rows
+pub mod Counts
+pub mod Sound
+pub mod Cases
+pub mod Outcomes
+pub mod Others
+pub mod Finding
+pub mod Changes
+pub mod Placing

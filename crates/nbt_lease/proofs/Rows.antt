@@ -1,0 +1,119 @@
+-- Rows, and the leases that they hold of each name at a moment.
+use Rattle.std.proofs.Common.{◌≡◌, ◌≢◌, ℕ, suc, ◌+◌, ◌<◌, ◌≤◌, Bool, true, false, [], ◌∷◌, ◌++◌, map, length, refl, sym, ap, ◌∙◌, ⊎_elim, arith}
+use Rattle.std.specs.List.{filter}
+use Rattle.std.specs.Str.{bytes_eq}
+use Rattle.std.proofs.lemmas.Bool.{cases_Bool, both_ways, false_from_ne_true, and_parts, and_from, and_right, ltb-false, lt-ltb, le-ltb}
+use Rattle.std.proofs.lemmas.List.{map-append, length-append}
+use Rattle.std.proofs.lemmas.List.Elements.{filter-append}
+use Rattle.std.proofs.lemmas.Slice.Eq.{bytes_eq-Decides}
+use Rattle.nbt_name.specs.Wire.{NameValue}
+use Rattle.nbt_lease.specs.declared.lease.Lease.{Lease}
+use Rattle.nbt_lease.specs.Lease.{Rows, Leases, is_live, is_name, is_row_of, leases_at, live_count}
+
+-- ---- names
+
+pub name_is : (a b : NameValue) → is_name a b ≡ true → a ≡ b
+name_is a b h =
+    let parts = and_parts (bytes_eq a.octets b.octets) (bytes_eq a.scope b.scope) h in
+    let octets : a.octets ≡ b.octets = (bytes_eq-Decides a.octets b.octets).0 parts.0 in
+    let scope : a.scope ≡ b.scope = (bytes_eq-Decides a.scope b.scope).0 parts.1 in
+    λ i. record { octets = octets i; scope = scope i }
+
+pub name_again : (a : NameValue) → is_name a a ≡ true
+name_again a = and_from (bytes_eq a.octets a.octets) (bytes_eq a.scope a.scope) ((bytes_eq-Decides a.octets a.octets).1 refl) ((bytes_eq-Decides a.scope a.scope).1 refl)
+
+pub other_name : (a b : NameValue) → a ≢ b → is_name a b ≡ false
+other_name a b h = false_from_ne_true (is_name a b) (λ e. h (name_is a b e))
+
+pub turned : (a b : NameValue) → is_name a b ≡ false → is_name b a ≡ false
+turned a b h = other_name b a (λ e. both_ways (is_name a b) h (ap (λ (n : NameValue). is_name a n) e ∙ name_again a))
+
+-- ---- one row more, in front
+
+pub row_lives : (m : ℕ) (row : NameValue × Lease) (rows : Rows) (name : NameValue) → is_name row.0 name ≡ true → is_live m row.1 ≡ true → leases_at m (row ∷ rows) name ≡ row.1 ∷ leases_at m rows name
+unfolding leases_at
+row_lives m row rows name named live = rw (named, live) refl
+
+pub row_of_other : (m : ℕ) (row : NameValue × Lease) (rows : Rows) (name : NameValue) → is_name row.0 name ≡ false → leases_at m (row ∷ rows) name ≡ leases_at m rows name
+unfolding leases_at
+row_of_other m row rows name other = rw other refl
+
+pub row_over : (m : ℕ) (row : NameValue × Lease) (rows : Rows) (name : NameValue) → is_live m row.1 ≡ false → leases_at m (row ∷ rows) name ≡ leases_at m rows name
+unfolding leases_at
+row_over m row rows name over =
+    let out : is_row_of m name row ≡ false = and_right (is_name row.0 name) (is_live m row.1) over in
+    rw out refl
+
+-- the same, where the rows are known by an equation
+pub lives_on : (m : ℕ) (row : NameValue × Lease) (rows others : Rows) (name : NameValue) → rows ≡ row ∷ others → m < row.1.end → is_name row.0 name ≡ true → leases_at m rows name ≡ row.1 ∷ leases_at m others name
+lives_on m row rows others name is live named = ap (λ (rs : Rows). leases_at m rs name) is ∙ row_lives m row others name named (lt-ltb m row.1.end live)
+
+pub passes_other : (m : ℕ) (row : NameValue × Lease) (rows others : Rows) (name : NameValue) → rows ≡ row ∷ others → is_name row.0 name ≡ false → leases_at m rows name ≡ leases_at m others name
+passes_other m row rows others name is other = ap (λ (rs : Rows). leases_at m rs name) is ∙ row_of_other m row others name other
+
+pub passes_over : (m : ℕ) (row : NameValue × Lease) (rows others : Rows) (name : NameValue) → rows ≡ row ∷ others → row.1.end ≤ m → leases_at m rows name ≡ leases_at m others name
+passes_over m row rows others name is over = ap (λ (rs : Rows). leases_at m rs name) is ∙ row_over m row others name (le-ltb m row.1.end over)
+
+pub count_lives : (m : ℕ) (row : NameValue × Lease) (rows : Rows) → is_live m row.1 ≡ true → live_count m (row ∷ rows) ≡ suc (live_count m rows)
+unfolding live_count
+count_lives m row rows live = rw live refl
+
+pub count_over : (m : ℕ) (row : NameValue × Lease) (rows : Rows) → is_live m row.1 ≡ false → live_count m (row ∷ rows) ≡ live_count m rows
+unfolding live_count
+count_over m row rows over = rw over refl
+
+pub none_live : (m : ℕ) (name : NameValue) → leases_at m [] name ≡ []
+unfolding leases_at
+none_live m name = refl
+
+pub none_count : (m : ℕ) → live_count m [] ≡ 0
+unfolding live_count
+none_count m = refl
+
+pub passes_none : (m : ℕ) (rows : Rows) (name : NameValue) → rows ≡ [] → leases_at m rows name ≡ []
+passes_none m rows name is = ap (λ (rs : Rows). leases_at m rs name) is ∙ none_live m name
+
+pub leases_at-append : (m : ℕ) (xs ys : Rows) (name : NameValue) → leases_at m (xs ++ ys) name ≡ leases_at m xs name ++ leases_at m ys name
+unfolding leases_at
+leases_at-append m xs ys name = ap (map (λ (row : NameValue × Lease). row.1)) (filter-append (is_row_of m name) xs ys) ∙ map-append (λ (row : NameValue × Lease). row.1) (filter (is_row_of m name) xs) (filter (is_row_of m name) ys)
+
+pub live_count-append : (m : ℕ) (xs ys : Rows) → live_count m (xs ++ ys) ≡ live_count m xs + live_count m ys
+unfolding live_count
+live_count-append m xs ys =
+    let live : NameValue × Lease → Bool = λ row. is_live m row.1 in
+    ap length (filter-append live xs ys) ∙ length-append (filter live xs) (filter live ys)
+
+-- ---- a later moment
+
+pub over_later : (early late : ℕ) (lease : Lease) → early ≤ late → is_live early lease ≡ false → is_live late lease ≡ false
+over_later early late lease onward over = le-ltb late lease.end (omega (arith, ltb-false early lease.end over))
+
+later_cases : (early late : ℕ) (row : NameValue × Lease) (rows : Rows) (name : NameValue) → early ≤ late
+    → leases_at late rows name ≡ filter (is_live late) (leases_at early rows name)
+    → leases_at late (row ∷ rows) name ≡ filter (is_live late) (leases_at early (row ∷ rows) name)
+later_cases early late row rows name onward rest =
+    ⊎_elim
+    (λ named.
+    ⊎_elim
+    (λ live.
+    ⊎_elim
+    (λ still. row_lives late row rows name named still ∙ (rw (row_lives early row rows name named live, still, rest) refl))
+    (λ over. row_over late row rows name over ∙ (rw (row_lives early row rows name named live, over, rest) refl))
+    (cases_Bool (is_live late row.1)))
+    (λ over. row_over late row rows name (over_later early late row.1 onward over) ∙ (rest ∙ ap (filter (is_live late)) (sym (row_over early row rows name over))))
+    (cases_Bool (is_live early row.1)))
+    (λ other. row_of_other late row rows name other ∙ (rest ∙ ap (filter (is_live late)) (sym (row_of_other early row rows name other))))
+    (cases_Bool (is_name row.0 name))
+
+-- what lives later is what lives then of what lives now
+pub later_is : (early late : ℕ) (rows : Rows) (name : NameValue) → early ≤ late → leases_at late rows name ≡ filter (is_live late) (leases_at early rows name)
+later_is early late [] name onward = none_live late name ∙ ap (filter (is_live late)) (sym (none_live early name))
+later_is early late (row ∷ rows) name onward = later_cases early late row rows name onward (later_is early late rows name onward)
+
+pub same_leases : (f g : Leases) → ((name : NameValue) → f name ≡ g name) → f ≡ g
+same_leases f g h = λ i name. (h name) i
+
+pub same_later : (early late : ℕ) (a b : Rows) → early ≤ late → leases_at early a ≡ leases_at early b → leases_at late a ≡ leases_at late b
+same_later early late a b onward same =
+    same_leases (leases_at late a) (leases_at late b)
+    (λ name. later_is early late a name onward ∙ (ap (λ (f : Leases). filter (is_live late) (f name)) same ∙ sym (later_is early late b name onward)))

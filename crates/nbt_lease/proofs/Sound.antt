@@ -1,0 +1,167 @@
+-- Leases stay sound: later, and after each case of a grant and a release.
+use Rattle.std.proofs.Common.{◌≡◌, ◌≢◌, ℕ, ◌≤◌, Bool, List, [], ◌∷◌, ◌++◌, Result, refl, sym, ap, ◌∙◌, subst, ⊎_elim, arith}
+use Rattle.std.specs.List.{AllByRecursion, filter}
+use Rattle.std.proofs.lemmas.Bool.{cases_Bool, cond_both}
+use Rattle.std.proofs.lemmas.List.Sums.{length-filter, count_by-le-length}
+use Rattle.std.proofs.lemmas.List.{length-append}
+use Rattle.nbt_name.specs.Wire.{NameValue}
+use Rattle.nbt_name.specs.declared.addr.Kind.{Kind}
+use Rattle.nbt_name.specs.declared.addr.Kind.TheVariants.{Unique, Group}
+use Rattle.nbt_lease.specs.declared.lease.Lease.{Lease}
+use Rattle.nbt_lease.specs.declared.lease.Grant.{Grant}
+use Rattle.nbt_lease.specs.declared.lease.Released.{Released}
+use Rattle.nbt_lease.specs.declared.fault.GrantFault.{GrantFault}
+use Rattle.nbt_lease.specs.Config.{ConfigValue}
+use Rattle.nbt_lease.specs.Lease.{Rows, Leases, TableValue, is_live, is_name, leases_at, live_count, at_name, HasNone, AreApart, AreOneKind, AreSound, IsSound, group, unique}
+use Rattle.nbt_lease.specs.Rules.{Asked, IsAllowed, free, member, owner, GrantCase, active, renews, group_full, table_full, begins, Grants, renewed, begun, ReleaseCase, gone, no_lease, of_others, Releases}
+use Rattle.nbt_lease.proofs.Rows.{later_is}
+
+-- ---- what holds of each lease, in parts of a list
+
+pub all_front : (P : Lease → Type 0) (xs ys : List Lease) → AllByRecursion P (xs ++ ys) → AllByRecursion P xs
+all_front P [] ys h = tt
+all_front P (x ∷ xs) ys h = (h.0, all_front P xs ys h.1)
+
+pub all_behind : (P : Lease → Type 0) (xs ys : List Lease) → AllByRecursion P (xs ++ ys) → AllByRecursion P ys
+all_behind P [] ys h = h
+all_behind P (x ∷ xs) ys h = all_behind P xs ys h.1
+
+pub all_joined : (P : Lease → Type 0) (xs ys : List Lease) → AllByRecursion P xs → AllByRecursion P ys → AllByRecursion P (xs ++ ys)
+all_joined P [] ys h k = k
+all_joined P (x ∷ xs) ys h k = (h.0, all_joined P xs ys h.1 k)
+
+pub all_filter : (P : Lease → Type 0) (p : Lease → Bool) (xs : List Lease) → AllByRecursion P xs → AllByRecursion P (filter p xs)
+all_filter P p [] h = tt
+all_filter P p (x ∷ xs) h =
+    ⊎_elim
+    (λ kept. rw kept (h.0, all_filter P p xs h.1))
+    (λ left. rw left (all_filter P p xs h.1))
+    (cases_Bool (p x))
+
+-- another lease in one's place
+all_replaced : (P : Lease → Type 0) (xs ys : List Lease) (old new : Lease) → (P old → P new) → AllByRecursion P (xs ++ old ∷ ys) → AllByRecursion P (xs ++ new ∷ ys)
+all_replaced P xs ys old new change h =
+    let behind : AllByRecursion P (old ∷ ys) = all_behind P xs (old ∷ ys) h in
+    all_joined P xs (new ∷ ys) (all_front P xs (old ∷ ys) h) (change behind.0, behind.1)
+
+-- one lease less
+all_without : (P : Lease → Type 0) (xs ys : List Lease) (old : Lease) → AllByRecursion P (xs ++ old ∷ ys) → AllByRecursion P (xs ++ ys)
+all_without P xs ys old h =
+    let behind : AllByRecursion P (old ∷ ys) = all_behind P xs (old ∷ ys) h in
+    all_joined P xs ys (all_front P xs (old ∷ ys) h) behind.1
+
+-- ---- no two of one address
+
+apart_filter : (p : Lease → Bool) (xs : List Lease) → AreApart xs → AreApart (filter p xs)
+apart_filter p [] h = tt
+apart_filter p (x ∷ xs) h =
+    ⊎_elim
+    (λ kept. rw kept (all_filter (λ lease. lease.addr ≢ x.addr) p xs h.0, apart_filter p xs h.1))
+    (λ left. rw left (apart_filter p xs h.1))
+    (cases_Bool (p x))
+
+apart_replaced : (xs ys : List Lease) (old new : Lease) → new.addr ≡ old.addr → AreApart (xs ++ old ∷ ys) → AreApart (xs ++ new ∷ ys)
+apart_replaced [] ys old new same h = (subst (λ (addr : ℕ). HasNone addr ys) (sym same) h.0, h.1)
+apart_replaced (x ∷ xs) ys old new same h =
+    (all_replaced (λ lease. lease.addr ≢ x.addr) xs ys old new (λ other equal. other (sym same ∙ equal)) h.0, apart_replaced xs ys old new same h.1)
+
+apart_without : (xs ys : List Lease) (old : Lease) → AreApart (xs ++ old ∷ ys) → AreApart (xs ++ ys)
+apart_without [] ys old h = h.1
+apart_without (x ∷ xs) ys old h = (all_without (λ lease. lease.addr ≢ x.addr) xs ys old h.0, apart_without xs ys old h.1)
+
+apart_push : (xs : List Lease) (new : Lease) → HasNone new.addr xs → AreApart xs → AreApart (xs ++ new ∷ [])
+apart_push [] new none h = (tt, tt)
+apart_push (x ∷ xs) new none h =
+    (all_joined (λ lease. lease.addr ≢ x.addr) xs (new ∷ []) h.0 ((λ equal. none.0 (sym equal)), tt), apart_push xs new none.1 h.1)
+
+-- ---- all of a group, or one unique
+
+-- a list of one lease has nothing before or behind it
+pub alone : (xs ys : List Lease) (old lease : Lease) → xs ++ old ∷ ys ≡ lease ∷ [] → (xs ≡ []) × (old ≡ lease) × (ys ≡ [])
+alone [] ys old lease e = (refl, cc, cc)
+alone (x ∷ []) ys old lease e = absurd cc
+alone (x ∷ z ∷ xs) ys old lease e = absurd cc
+
+kind_replaced : (xs ys : List Lease) (old new : Lease) → new.kind ≡ old.kind → AreOneKind (xs ++ old ∷ ys) → AreOneKind (xs ++ new ∷ ys)
+kind_replaced xs ys old new same (group all) = group (all_replaced (λ lease. lease.kind ≡ Group) xs ys old new (λ is_group. same ∙ is_group) all)
+kind_replaced xs ys old new same (unique lease only is_unique) =
+    let parts = alone xs ys old lease only in
+    unique new (rw (parts.0, parts.2) refl) (same ∙ (ap (λ (l : Lease). l.kind) parts.1 ∙ is_unique))
+
+kind_without : (xs ys : List Lease) (old : Lease) → AreOneKind (xs ++ old ∷ ys) → AreOneKind (xs ++ ys)
+kind_without xs ys old (group all) = group (all_without (λ lease. lease.kind ≡ Group) xs ys old all)
+kind_without xs ys old (unique lease only is_unique) =
+    let parts = alone xs ys old lease only in
+    rw (parts.0, parts.2) (group tt)
+
+kind_filter : (p : Lease → Bool) (xs : List Lease) → AreOneKind xs → AreOneKind (filter p xs)
+kind_filter p xs (group all) = group (all_filter (λ lease. lease.kind ≡ Group) p xs all)
+kind_filter p xs (unique lease only is_unique) =
+    rw only
+    (⊎_elim
+    (λ kept. rw kept (unique lease refl is_unique))
+    (λ left. rw left (group tt))
+    (cases_Bool (p lease)))
+
+by_kind : (lease : Lease) (kind : Kind) → lease.kind ≡ kind → AreOneKind (lease ∷ [])
+by_kind lease Unique e = unique lease refl e
+by_kind lease Group e = group (e, tt)
+
+-- a lease may begin beside these
+kind_push : (config : ConfigValue) (now : ℕ) (a : Asked) (leases : List Lease) → IsAllowed a leases → HasNone a.addr leases → AreOneKind (leases ++ begun config now a ∷ [])
+kind_push config now a leases (free none) _ = rw none (by_kind (begun config now a) a.kind refl)
+kind_push config now a leases (member all is_group) _ = group (all_joined (λ lease. lease.kind ≡ Group) leases (begun config now a ∷ []) all (is_group, tt))
+kind_push config now a leases (owner lease only own _ _) none = absurd ((subst (HasNone a.addr) only none).0 own)
+
+-- ---- the whole
+
+sound_filter : (p : Lease → Bool) (xs : List Lease) → AreSound xs → AreSound (filter p xs)
+sound_filter p xs h = record {
+  apart = apart_filter p xs h.apart;
+  one_kind = kind_filter p xs h.one_kind;
+  most = omega (arith, length-filter p xs, count_by-le-length p xs, h.most);
+}
+
+pub sound_later : (early late : ℕ) (rows : Rows) → early ≤ late → IsSound (leases_at early rows) → IsSound (leases_at late rows)
+sound_later early late rows onward sound name = subst AreSound (sym (later_is early late rows name onward)) (sound_filter (is_live late) (leases_at early rows name) (sound name))
+
+pub sound_after_grant : (config : ConfigValue) (now count : ℕ) (a : Asked) (leases after : List Lease) (result : Result Grant GrantFault) → AreSound leases → GrantCase config now count a leases result after → AreSound after
+sound_after_grant config now count a leases after result h (active _) = h
+sound_after_grant config now count a leases after result h (group_full _ _ _) = h
+sound_after_grant config now count a leases after result h (table_full _ _ _ _) = h
+sound_after_grant config now count a leases after result h (renews allowed before behind lease is own) =
+    let new : Lease = renewed config now a lease in
+    let old : AreSound (before ++ lease ∷ behind) = subst AreSound is h in
+    record {
+      apart = apart_replaced before behind lease new refl old.apart;
+      one_kind = kind_replaced before behind lease new refl old.one_kind;
+      most = omega (arith, length-append before (lease ∷ behind), length-append before (new ∷ behind), old.most);
+    }
+sound_after_grant config now count a leases after result h (begins allowed none room _) = record {
+  apart = apart_push leases (begun config now a) none h.apart;
+  one_kind = kind_push config now a leases allowed none;
+  most = omega (arith, length-append leases (begun config now a ∷ []), room);
+}
+
+pub sound_after_release : (addr : ℕ) (leases after : List Lease) (result : Released) → AreSound leases → ReleaseCase addr leases result after → AreSound after
+sound_after_release addr leases after result h (gone before behind lease is own) =
+    let old : AreSound (before ++ lease ∷ behind) = subst AreSound is h in
+    record {
+      apart = apart_without before behind lease old.apart;
+      one_kind = kind_without before behind lease old.one_kind;
+      most = omega (arith, length-append before (lease ∷ behind), length-append before behind, old.most);
+    }
+sound_after_release addr leases after result h (no_lease _) = h
+sound_after_release addr leases after result h (of_others _ _) = h
+
+-- at one name
+sound_at : (name : NameValue) (leases : List Lease) (others : Leases) → AreSound leases → IsSound others → IsSound (at_name name leases others)
+sound_at name leases others here elsewhere q = cond_both (is_name q name) leases (others q) AreSound (λ _. here) (λ _. elsewhere q)
+
+pub sound_granted : (table : TableValue) (now : ℕ) (name : NameValue) (a : Asked) (result : Result Grant GrantFault) (after : Leases) → IsSound (leases_at now table.rows) → Grants table now name a result after → IsSound after
+sound_granted table now name a result after h g =
+    subst IsSound (sym g.after_is) (sound_at name g.leases (leases_at now table.rows) (sound_after_grant table.config now (live_count now table.rows) a (leases_at now table.rows name) g.leases result (h name) g.rule) h)
+
+pub sound_released : (table : TableValue) (now : ℕ) (name : NameValue) (addr : ℕ) (result : Released) (after : Leases) → IsSound (leases_at now table.rows) → Releases table now name addr result after → IsSound after
+sound_released table now name addr result after h r =
+    subst IsSound (sym r.after_is) (sound_at name r.leases (leases_at now table.rows) (sound_after_release addr (leases_at now table.rows name) r.leases result (h name) r.rule) h)

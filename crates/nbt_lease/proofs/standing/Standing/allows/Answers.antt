@@ -1,0 +1,15 @@
+use Rattle.std.proofs.Common.{sym, ◌∙◌}
+use Rattle.std.proofs.lemmas.Bool.{both_ways, not-true, ne_eqb}
+use Rattle.nbt_lease.proofs.Finding.{owner_asks}
+use Rattle.nbt_lease.proofs.standing.Standing.allows.Goals as goal
+use Rattle.nbt_lease.proofs.standing.Standing.allows.Goals.{then-self-eq1, else-self-eq1}
+
+pub returns-then-not-self : goal.returns-then-not-self
+returns-then-not-self c moment rows name a found is_kind =
+    elim c.if-self-eq1.branch [
+      | then-self-eq1 w ↦
+          let mixed = not-true c.args.self.now.group (sym w.value-is ∙ c.if-not-self.true) in
+          rw c.is_some.ensures
+          (owner_asks moment rows name a c.args.self.now.own (sym found.members ∙ w.if-self-eq1.true) (λ all. both_ways c.args.self.now.group mixed (found.group.1 all)) (is_kind ∙ c.in-Unique.is) found.own)
+      | else-self-eq1 w ↦ absurd (both_ways c.if-self-eq1.value (w.value-is ∙ ne_eqb c.args.self.now.members 1 w.if-self-eq1.false) c.if-not-self.true)
+    ]

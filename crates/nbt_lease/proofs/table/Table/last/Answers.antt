@@ -1,0 +1,6 @@
+use Rattle.std.proofs.Common.{subst}
+use Rattle.nbt_lease.specs.Lease.{TableValue, leases_at, IsSound}
+use Rattle.nbt_lease.proofs.table.Table.last.Goals as goal
+
+pub returns-clause-sound : goal.returns-clause-sound
+returns-clause-sound c = subst (λ (t : TableValue). IsSound (leases_at t.last t.rows)) c.self.view_is c.self.invariant.0

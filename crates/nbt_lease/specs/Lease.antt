@@ -1,0 +1,72 @@
+-- Leases, and what a table holds of them at a moment (our profile).
+use Rattle.std.specs.Prelude.{◌≡◌, ◌≢◌, ℕ, ◌≤◌, Bool, ◌&&◌, if◌then◌else◌, nat_lt, List, [], ◌∷◌, map, filter, length, ⊤}
+use Rattle.std.specs.List.{AllByRecursion}
+use Rattle.std.specs.Str.{bytes_eq}
+use Rattle.nbt_name.specs.Wire.{NameValue}
+use Rattle.nbt_name.specs.declared.addr.Kind.TheVariants.{Unique, Group}
+use Rattle.nbt_lease.specs.declared.lease.Lease.{Lease}
+use Rattle.nbt_lease.specs.Config.{ConfigValue}
+
+-- a lease lives until its end, and no longer at its end
+abbrev pub is_live : ℕ → Lease → Bool
+is_live moment lease = nat_lt moment lease.end
+
+-- whether two names are one
+abbrev pub is_name : NameValue → NameValue → Bool
+is_name a b = bytes_eq a.octets b.octets && bytes_eq a.scope b.scope
+
+-- The leases of each name, in order of their beginnings.
+abbrev pub Leases : Type 0
+Leases = NameValue → List Lease
+
+-- Rows of a name and a lease, those of one name in order of their beginnings. Leases that are over may stand among
+-- them, and the order between names says nothing: clauses read rows by `leases_at` and `live_count` alone.
+abbrev pub Rows : Type 0
+Rows = List (NameValue × Lease)
+
+-- What contracts see of a table.
+pub record TableValue : Type 0 where
+  pub config : ConfigValue
+  pub last : ℕ
+  pub rows : Rows
+
+-- the leases that live at a moment
+abbrev pub is_row_of : ℕ → NameValue → NameValue × Lease → Bool
+is_row_of moment name row = is_name row.0 name && is_live moment row.1
+
+unfoldable pub leases_at : ℕ → Rows → Leases
+leases_at moment rows name = map (λ row. row.1) (filter (is_row_of moment name) rows)
+
+-- how many leases live at a moment, over all names
+unfoldable pub live_count : ℕ → Rows → ℕ
+live_count moment rows = length (filter (λ row. is_live moment row.1) rows)
+
+-- the same leases, but these for this name
+abbrev pub at_name : NameValue → List Lease → Leases → Leases
+at_name name leases others q = if is_name q name then leases else others q
+
+-- no lease of this address
+abbrev pub HasNone : ℕ → List Lease → Type 0
+HasNone addr leases = AllByRecursion (λ lease. lease.addr ≢ addr) leases
+
+abbrev pub AreGroup : List Lease → Type 0
+AreGroup leases = AllByRecursion (λ lease. lease.kind ≡ Group) leases
+
+-- no two leases of one address
+abbrev pub AreApart : List Lease → Type 0
+AreApart [] = ⊤
+AreApart (lease ∷ leases) = HasNone lease.addr leases × AreApart leases
+
+-- all of a group, or one unique lease
+pub data AreOneKind (leases : List Lease) : Type 0 where
+  group : AreGroup leases → AreOneKind leases
+  unique : (lease : Lease) → leases ≡ lease ∷ [] → lease.kind ≡ Unique → AreOneKind leases
+
+-- What holds of the live leases of a name: at most 48, no two of one address, all of a group or one unique.
+pub record AreSound (leases : List Lease) : Type 0 where
+  pub apart : AreApart leases
+  pub one_kind : AreOneKind leases
+  pub most : length leases ≤ 48
+
+abbrev pub IsSound : Leases → Type 0
+IsSound leases = (name : NameValue) → AreSound (leases name)
