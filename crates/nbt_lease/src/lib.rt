@@ -19,3 +19,6 @@ pub use lease::{Grant, Lease, Released};
 pub use members::Members;
 pub use moment::Moment;
 pub use table::Table;
+
+#[cfg(test)]
+mod tests;
