@@ -1,7 +1,7 @@
 -- What a grant and a release leave to other addresses, and what a grant leaves to the asker.
-use Rattle.std.proofs.Common.{◌≡◌, ◌≢◌, ℕ, ◌≤◌, ◌⊎◌, ◌↔◌, List, [], ◌∷◌, ◌++◌, Result, Ok, refl, sym, ap, ◌∙◌, subst, inl, inr, ⊎_elim, arith}
+use Rattle.std.proofs.Common.{◌≡◌, ◌≢◌, ℕ, ◌≤◌, ◌⊎◌, ◌↔◌, List, [], ◌∷◌, ◌++◌, Result, Ok, max, refl, sym, ap, ◌∙◌, subst, inl, inr, ⊎_elim, arith}
 use Rattle.std.specs.List.{AllByRecursion, Contains}
-use Rattle.std.proofs.lemmas.Bool.{cond-true}
+use Rattle.std.proofs.lemmas.Bool.{cond-true, cases_lt}
 use Rattle.std.proofs.lemmas.List.Elements.{Contains-append_left, Contains-append_right, Contains-append_cases, Contains-push, Contains-push_cases}
 use Rattle.nbt_name.specs.Wire.{NameValue}
 use Rattle.nbt_name.specs.declared.addr.Kind.TheVariants.{Group}
@@ -13,7 +13,7 @@ use Rattle.nbt_lease.specs.Config.{ConfigValue}
 use Rattle.nbt_lease.specs.Lease.{Leases, TableValue, is_name, leases_at, live_count, at_name, AreGroup, AreApart, IsSound}
 use Rattle.nbt_lease.specs.Rules.{Asked, IsAllowed, free, member, owner, end_of, GrantCase, active, renews, group_full, table_full, begins, Grants, renewed, begun, IsGranted, ReleaseCase, gone, no_lease, of_others, Releases}
 use Rattle.nbt_lease.proofs.Rows.{name_again}
-use Rattle.nbt_lease.proofs.Sound.{all_behind, alone}
+use Rattle.nbt_lease.proofs.Sound.{all_behind, alone, sound_after_grant}
 use Rattle.nbt_lease.proofs.Cases.{one_own}
 
 -- ---- leases among others
@@ -150,14 +150,25 @@ record Granted (config : ConfigValue) (now : ℕ) (a : Asked) (grant : Grant) (l
   end_is : lease.end ≡ grant.end
   as_granted : end_of config now a ≤ lease.end
   no_earlier : (old : Lease) → Contains leases old → old.addr ≡ a.addr → old.end ≤ lease.end
+  no_later : (lease.end ≡ end_of config now a) ⊎ ((old : Lease) × Contains leases old × (old.addr ≡ a.addr) × (lease.end ≡ old.end))
+  only : (other : Lease) → Contains after other → other.addr ≡ a.addr → other ≡ lease
 
 same_owner : (a : Asked) (leases before behind : List Lease) (own old : Lease) → AreApart leases → leases ≡ before ++ own ∷ behind → own.addr ≡ a.addr → Contains leases old → old.addr ≡ a.addr → own ≡ old
 same_owner a leases before behind own old apart is own_is stands old_is =
     let p = placed leases old stands in
     (one_own a.addr before behind p.before p.behind own old (subst AreApart is apart) (sym is ∙ p.is) own_is old_is).1
 
-granted_in_list : (config : ConfigValue) (now count : ℕ) (a : Asked) (leases after : List Lease) (grant : Grant) → AreApart leases → GrantCase config now count a leases (Ok grant) after → Granted config now a grant leases after
-granted_in_list config now count a leases after grant apart (renews allowed before behind own is own_is) = record {
+-- a renewed lease ends as granted, or as before
+end_cases : (config : ConfigValue) (now : ℕ) (a : Asked) (leases before behind : List Lease) (own : Lease) → leases ≡ before ++ own ∷ behind → own.addr ≡ a.addr
+    → (max own.end (end_of config now a) ≡ end_of config now a) ⊎ ((old : Lease) × Contains leases old × (old.addr ≡ a.addr) × (max own.end (end_of config now a) ≡ old.end))
+end_cases config now a leases before behind own is own_is =
+    ⊎_elim
+    (λ earlier. inl (omega (arith, earlier)))
+    (λ later. inr (own, subst (λ (ls : List Lease). Contains ls own) (sym is) (Contains-append_right before (own ∷ behind) own (contains_first own behind)), own_is, omega (arith, later)))
+    (cases_lt own.end (end_of config now a))
+
+granted_in_list : (config : ConfigValue) (now count : ℕ) (a : Asked) (leases after : List Lease) (grant : Grant) → AreApart leases → AreApart after → GrantCase config now count a leases (Ok grant) after → Granted config now a grant leases after
+granted_in_list config now count a leases after grant apart after_apart (renews allowed before behind own is own_is) = record {
   lease = renewed config now a own;
   stands = Contains-append_right before (renewed config now a own ∷ behind) (renewed config now a own) (contains_first (renewed config now a own) behind);
   addr_is = own_is;
@@ -165,8 +176,10 @@ granted_in_list config now count a leases after grant apart (renews allowed befo
   end_is = refl;
   as_granted = omega arith;
   no_earlier = λ old stands old_is. let same : own.end ≡ old.end = ap (λ (l : Lease). l.end) (same_owner a leases before behind own old apart is own_is stands old_is) in omega (arith, same);
+  no_later = end_cases config now a leases before behind own is own_is;
+  only = λ other stands other_is. sym (same_owner a (before ++ renewed config now a own ∷ behind) before behind (renewed config now a own) other after_apart refl own_is stands other_is);
 }
-granted_in_list config now count a leases after grant apart (begins allowed none _ _) = record {
+granted_in_list config now count a leases after grant apart after_apart (begins allowed none _ _) = record {
   lease = begun config now a;
   stands = Contains-push leases (begun config now a);
   addr_is = refl;
@@ -174,13 +187,15 @@ granted_in_list config now count a leases after grant apart (begins allowed none
   end_is = refl;
   as_granted = omega arith;
   no_earlier = λ old stands old_is. absurd (each (λ l. l.addr ≢ a.addr) leases old stands none old_is);
+  no_later = inl refl;
+  only = λ other stands other_is. sym (same_owner a (leases ++ begun config now a ∷ []) leases [] (begun config now a) other after_apart refl refl stands other_is);
 }
 
 pub lease_stands : (table : TableValue) (now : ℕ) (name : NameValue) (a : Asked) (grant : Grant) (after : Leases) → IsSound (leases_at now table.rows) → Grants table now name a (Ok grant) after
     → (lease : Lease) × IsGranted table now name a grant (after name) lease
 lease_stands table now name a grant after sound g =
     let leases : List Lease = leases_at now table.rows name in
-    let found = granted_in_list table.config now (live_count now table.rows) a leases g.leases grant (sound name).apart g.rule in (
+    let found = granted_in_list table.config now (live_count now table.rows) a leases g.leases grant (sound name).apart (sound_after_grant table.config now (live_count now table.rows) a leases g.leases (Ok grant) (sound name) g.rule).apart g.rule in (
       found.lease,
       record {
         stands = subst (λ (ls : List Lease). Contains ls found.lease) (after_here name g.leases (leases_at now table.rows) after g.after_is) found.stands;
@@ -189,6 +204,8 @@ lease_stands table now name a grant after sound g =
         end_is = found.end_is;
         as_granted = found.as_granted;
         no_earlier = found.no_earlier;
+        no_later = found.no_later;
+        only = λ other stands. found.only other (subst (λ (ls : List Lease). Contains ls other) (sym (after_here name g.leases (leases_at now table.rows) after g.after_is)) stands);
       },
     )
 

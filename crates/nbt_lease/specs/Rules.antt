@@ -1,5 +1,5 @@
 -- What a grant and a release make of the live leases (our profile).
-use Rattle.std.specs.Prelude.{◌≡◌, ◌≢◌, ℕ, ◌+◌, ◌*◌, ◌<◌, ◌≤◌, max, List, [], ◌∷◌, ◌++◌, length, Option, Some, None, Result, Ok, Err, Any, All, Contains}
+use Rattle.std.specs.Prelude.{◌≡◌, ◌≢◌, ℕ, ◌+◌, ◌*◌, ◌<◌, ◌≤◌, ◌⊎◌, max, List, [], ◌∷◌, ◌++◌, length, Option, Some, None, Result, Ok, Err, Any, All, Contains}
 use Rattle.nbt_name.specs.declared.addr.Kind.{Kind}
 use Rattle.nbt_name.specs.declared.addr.Kind.TheVariants.{Unique, Group}
 use Rattle.nbt_name.specs.Wire.{NameValue}
@@ -65,8 +65,8 @@ pub record ChangesLeases (table : TableValue) (now : ℕ) (name : NameValue) (a 
   pub rule : Grants table now name a (Ok result) after
   pub other : after ≢ leases_at now table.rows
 
--- The lease that the asker has after a grant: of the asked kind, ending with the grant, no earlier than the seconds
--- granted from now, and no earlier than before.
+-- The one lease that the asker has after a grant: of the asked kind, ending with the grant, as long as it was granted
+-- for or as its lease lasted before, whichever is later.
 pub record IsGranted (table : TableValue) (now : ℕ) (name : NameValue) (a : Asked) (grant : Grant) (after : List Lease) (lease : Lease) : Type 0 where
   pub stands : Contains after lease
   pub addr_is : lease.addr ≡ a.addr
@@ -74,6 +74,8 @@ pub record IsGranted (table : TableValue) (now : ℕ) (name : NameValue) (a : As
   pub end_is : lease.end ≡ grant.end
   pub as_granted : end_of table.config now a ≤ lease.end
   pub no_earlier : (old : Lease) → Contains (leases_at now table.rows name) old → old.addr ≡ a.addr → old.end ≤ lease.end
+  pub no_later : (lease.end ≡ end_of table.config now a) ⊎ ((old : Lease) × Contains (leases_at now table.rows name) old × (old.addr ≡ a.addr) × (lease.end ≡ old.end))
+  pub only : (other : Lease) → Contains after other → other.addr ≡ a.addr → other ≡ lease
 
 -- What a release returns, and what it makes of the live leases of the name: its kind isn't looked at.
 pub data ReleaseCase (addr : ℕ) (leases : List Lease) : Released → List Lease → Type 0 where

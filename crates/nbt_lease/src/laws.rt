@@ -1,13 +1,13 @@
 //! What holds of leases, whatever the code does: laws over the definitions alone.
 
-ghost use Rattle.std.specs.Prelude.{◌≡◌, ◌≢◌, ℕ, ◌+◌, ◌<◌, ◌≤◌, ◌↔◌, List, [], ◌∷◌, ◌++◌, Contains, Result, Ok};
+ghost use Rattle.std.specs.Prelude.{◌≡◌, ◌≢◌, ℕ, ◌+◌, ◌<◌, ◌≤◌, ◌↔◌, List, [], ◌∷◌, ◌++◌, filter, Contains, Result, Ok};
 ghost use Rattle.nbt_name.specs.Wire.{NameValue};
 ghost use Rattle.nbt_name.specs.declared.addr.Kind.TheVariants.{Group};
 ghost use Rattle.nbt_lease.specs.declared.fault.GrantFault.{GrantFault};
 ghost use Rattle.nbt_lease.specs.declared.lease.Grant.{Grant};
 ghost use Rattle.nbt_lease.specs.declared.lease.Lease.{Lease};
 ghost use Rattle.nbt_lease.specs.declared.lease.Released.{Released};
-ghost use Rattle.nbt_lease.specs.Lease.{Leases, Rows, TableValue, leases_at, live_count, at_name, IsSound};
+ghost use Rattle.nbt_lease.specs.Lease.{Leases, Rows, TableValue, is_live, leases_at, live_count, at_name, IsSound};
 ghost use Rattle.nbt_lease.specs.Rules.{Asked, Grants, Releases, IsGranted};
 
 /// How many leases live over all names is told by the leases of each name: the order between names doesn't matter.
@@ -18,6 +18,11 @@ pub fn same_leases_same_count()
 /// Rows with the same leases at a moment have the same at a later one.
 pub fn same_leases_later()
     ensures { (early late : ℕ) (a b : Rows) → early ≤ late → leases_at early a ≡ leases_at early b → leases_at late a ≡ leases_at late b }
+{}
+
+/// What lives of a name at a later moment is what lives then of its leases now, in their order.
+pub fn later_leases_live_now()
+    ensures { (early late : ℕ) (rows : Rows) (name : NameValue) → early ≤ late → leases_at late rows name ≡ filter (is_live late) (leases_at early rows name) }
 {}
 
 /// A lease that goes last at its name makes one live lease more.
@@ -56,8 +61,8 @@ pub fn leases_of_others_stay()
         → Contains (leases_at now table.rows name) lease ↔ Contains (after name) lease }
 {}
 
-/// What is granted stands: afterwards the asker has a lease of the asked kind that ends with the grant, no earlier than
-/// the seconds granted from now and no earlier than before. Beside a lease of another address, both are of a group.
+/// What is granted stands: afterwards the asker has one lease, of the asked kind, that ends with the grant: the seconds
+/// granted from now, or as before where that is later. Beside a lease of another address, both are of a group.
 pub fn granted_lease_stands()
     ensures lease { (table : TableValue) (now : ℕ) (name : NameValue) (a : Asked) (grant : Grant) (after : Leases) → IsSound (leases_at now table.rows) → Grants table now name a (Ok grant) after
         → (lease : Lease) × IsGranted table now name a grant (after name) lease }

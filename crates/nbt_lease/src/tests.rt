@@ -243,6 +243,7 @@ fn refused_memory_leaves_the_leases(rt: HostRuntime) -> Result<(), Fail> {
 fn the_laws_are_called() {
     laws::same_leases_same_count();
     laws::same_leases_later();
+    laws::later_leases_live_now();
     laws::one_more_lives();
     laws::one_name_changes();
     laws::leases_stay_sound();
