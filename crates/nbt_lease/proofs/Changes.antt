@@ -5,7 +5,8 @@ use Rattle.std.proofs.lemmas.Bool.{cases_Bool, cond-true, cond-false, lt-ltb, le
 use Rattle.std.proofs.lemmas.List.Sums.{length-filter, count_by-le-length}
 use Rattle.nbt_name.specs.Wire.{NameValue}
 use Rattle.nbt_lease.specs.declared.lease.Lease.{Lease}
-use Rattle.nbt_lease.specs.Lease.{Rows, Leases, is_live, is_name, leases_at, live_count, at_name, AreSound, IsSound, group}
+use Rattle.nbt_lease.specs.Config.{ConfigValue}
+use Rattle.nbt_lease.specs.Lease.{Rows, Leases, is_live, is_name, leases_at, live_count, at_name, latest_end, AreSound, IsSound, group}
 use Rattle.nbt_lease.proofs.Rows.{name_is, name_again, turned, row_lives, row_of_other, row_over, none_live, leases_at-append, same_leases}
 
 -- ---- rows that are over are taken out
@@ -85,5 +86,5 @@ closed_at m name before behind old new over =
     (leases_at-append m before ((name, new) ∷ behind) name ∙ ap (λ (ls : List Lease). leases_at m before name ++ ls) (row_over m (name, new) behind name (le-ltb m new.end over)))
     (λ q other. around m name q before behind new other ∙ sym (around m name q before behind old other))
 
-pub none_sound : (m : ℕ) → IsSound (leases_at m [])
-none_sound m name = subst AreSound (sym (none_live m name)) (record { apart = tt; one_kind = group tt; most = omega arith })
+pub none_sound : (config : ConfigValue) (m : ℕ) → IsSound config m (leases_at m [])
+none_sound config m name = subst (AreSound (latest_end config m)) (sym (none_live m name)) (record { apart = tt; one_kind = group tt; most = omega arith; in_time = tt })

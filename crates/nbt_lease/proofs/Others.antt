@@ -191,7 +191,7 @@ granted_in_list config now count a leases after grant apart after_apart (begins 
   only = λ other stands other_is. sym (same_owner a (leases ++ begun config now a ∷ []) leases [] (begun config now a) other after_apart refl refl stands other_is);
 }
 
-pub lease_stands : (table : TableValue) (now : ℕ) (name : NameValue) (a : Asked) (grant : Grant) (after : Leases) → IsSound (leases_at now table.rows) → Grants table now name a (Ok grant) after
+pub lease_stands : (table : TableValue) (now : ℕ) (name : NameValue) (a : Asked) (grant : Grant) (after : Leases) → IsSound table.config now (leases_at now table.rows) → Grants table now name a (Ok grant) after
     → (lease : Lease) × IsGranted table now name a grant (after name) lease
 lease_stands table now name a grant after sound g =
     let leases : List Lease = leases_at now table.rows name in

@@ -81,7 +81,7 @@ same_grant config now count a leases r s x y apart (begins _ _ room _) (group_fu
 same_grant config now count a leases r s x y apart (begins _ _ _ free) (table_full _ _ _ full) = absurd (omega (arith, full, free))
 same_grant config now count a leases r s x y apart (begins _ _ _ _) (begins _ _ _ _) = (refl, refl)
 
-pub one_grant : (table : TableValue) (now : ℕ) (name : NameValue) (a : Asked) (r s : Result Grant GrantFault) (x y : Leases) → IsSound (leases_at now table.rows) → Grants table now name a r x → Grants table now name a s y → (r ≡ s) × (x ≡ y)
+pub one_grant : (table : TableValue) (now : ℕ) (name : NameValue) (a : Asked) (r s : Result Grant GrantFault) (x y : Leases) → IsSound table.config now (leases_at now table.rows) → Grants table now name a r x → Grants table now name a s y → (r ≡ s) × (x ≡ y)
 one_grant table now name a r s x y sound g h =
     let leases : List Lease = leases_at now table.rows name in
     let same = same_grant table.config now (live_count now table.rows) a leases r s g.leases h.leases (sound name).apart g.rule h.rule in
@@ -127,7 +127,7 @@ same_release addr leases r s x y apart (of_others _ none) (gone before behind le
 same_release addr leases r s x y apart (of_others some _) (no_lease empty) = absurd (some empty)
 same_release addr leases r s x y apart (of_others _ _) (of_others _ _) = (refl, refl)
 
-pub one_release : (table : TableValue) (now : ℕ) (name : NameValue) (addr : ℕ) (r s : Released) (x y : Leases) → IsSound (leases_at now table.rows) → Releases table now name addr r x → Releases table now name addr s y → (r ≡ s) × (x ≡ y)
+pub one_release : (table : TableValue) (now : ℕ) (name : NameValue) (addr : ℕ) (r s : Released) (x y : Leases) → IsSound table.config now (leases_at now table.rows) → Releases table now name addr r x → Releases table now name addr s y → (r ≡ s) × (x ≡ y)
 one_release table now name addr r s x y sound g h =
     let same = same_release addr (leases_at now table.rows name) r s g.leases h.leases (sound name).apart g.rule h.rule in
     (same.0, g.after_is ∙ (ap (λ (ls : List Lease). at_name name ls (leases_at now table.rows)) same.1 ∙ sym h.after_is))

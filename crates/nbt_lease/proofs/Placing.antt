@@ -106,9 +106,9 @@ pub refused_so : (config : ConfigValue) (a : Asked) (result : Result ℕ GrantFa
 refused_so config a (Ok end) P h = h
 refused_so config a (Err fault) P h = h
 
-pub sound_placed : (table : TableValue) (now : ℕ) (name : NameValue) (a : Asked) (result : Result ℕ GrantFault) (rows : Rows) → Places table now name a result rows → IsSound (leases_at now table.rows) → IsSound (leases_at now rows)
+pub sound_placed : (table : TableValue) (now : ℕ) (name : NameValue) (a : Asked) (result : Result ℕ GrantFault) (rows : Rows) → Places table now name a result rows → IsSound table.config now (leases_at now table.rows) → IsSound table.config now (leases_at now rows)
 sound_placed table now name a (Ok end) rows placed sound = sound_granted table now name a (Ok (grant_until table.config a end)) (leases_at now rows) sound (placed.rule (λ e. cc))
-sound_placed table now name a (Err fault) rows placed sound = subst IsSound (sym placed.refused) sound
+sound_placed table now name a (Err fault) rows placed sound = subst (IsSound table.config now) (sym placed.refused) sound
 
 -- ---- the rows that are left where those that are over were taken out
 

@@ -1,5 +1,5 @@
 -- Leases stay sound: later, and after each case of a grant and a release.
-use Rattle.std.proofs.Common.{◌≡◌, ◌≢◌, ℕ, ◌≤◌, Bool, List, [], ◌∷◌, ◌++◌, Result, refl, sym, ap, ◌∙◌, subst, ⊎_elim, arith}
+use Rattle.std.proofs.Common.{◌≡◌, ◌≢◌, ℕ, zero, suc, ◌≤◌, Bool, List, [], ◌∷◌, ◌++◌, Result, refl, sym, ap, ◌∙◌, subst, ⊎_elim, arith}
 use Rattle.std.specs.List.{AllByRecursion, filter}
 use Rattle.std.proofs.lemmas.Bool.{cases_Bool, cond_both}
 use Rattle.std.proofs.lemmas.List.Sums.{length-filter, count_by-le-length}
@@ -11,9 +11,9 @@ use Rattle.nbt_lease.specs.declared.lease.Lease.{Lease}
 use Rattle.nbt_lease.specs.declared.lease.Grant.{Grant}
 use Rattle.nbt_lease.specs.declared.lease.Released.{Released}
 use Rattle.nbt_lease.specs.declared.fault.GrantFault.{GrantFault}
-use Rattle.nbt_lease.specs.Config.{ConfigValue}
-use Rattle.nbt_lease.specs.Lease.{Rows, Leases, TableValue, is_live, is_name, leases_at, live_count, at_name, HasNone, AreApart, AreOneKind, AreSound, IsSound, group, unique}
-use Rattle.nbt_lease.specs.Rules.{Asked, IsAllowed, free, member, owner, GrantCase, active, renews, group_full, table_full, begins, Grants, renewed, begun, ReleaseCase, gone, no_lease, of_others, Releases}
+use Rattle.nbt_lease.specs.Config.{ConfigValue, granted}
+use Rattle.nbt_lease.specs.Lease.{Rows, Leases, TableValue, is_live, is_name, leases_at, live_count, at_name, HasNone, AreApart, AreOneKind, latest_end, AreSound, IsSound, group, unique}
+use Rattle.nbt_lease.specs.Rules.{Asked, IsAllowed, free, member, owner, GrantCase, active, renews, group_full, table_full, begins, Grants, end_of, renewed, begun, ReleaseCase, gone, no_lease, of_others, Releases}
 use Rattle.nbt_lease.proofs.Rows.{later_is}
 
 -- ---- what holds of each lease, in parts of a list
@@ -113,55 +113,81 @@ kind_push config now a leases (free none) _ = rw none (by_kind (begun config now
 kind_push config now a leases (member all is_group) _ = group (all_joined (λ lease. lease.kind ≡ Group) leases (begun config now a ∷ []) all (is_group, tt))
 kind_push config now a leases (owner lease only own _ _) none = absurd ((subst (HasNone a.addr) only none).0 own)
 
+-- ---- none ends too late
+
+-- another lease in one's place, which ends in time
+timely_replaced : (latest : ℕ) (xs ys : List Lease) (old new : Lease) → (old.end ≤ latest → new.end ≤ latest) → AllByRecursion (λ lease. lease.end ≤ latest) (xs ++ old ∷ ys) → AllByRecursion (λ lease. lease.end ≤ latest) (xs ++ new ∷ ys)
+timely_replaced latest = all_replaced (λ lease. lease.end ≤ latest)
+
+timely_later : (early late : ℕ) (xs : List Lease) → early ≤ late → AllByRecursion (λ lease. lease.end ≤ early) xs → AllByRecursion (λ lease. lease.end ≤ late) xs
+timely_later early late [] onward h = tt
+timely_later early late (x ∷ xs) onward h = (omega (arith, h.0), timely_later early late xs onward h.1)
+
+granted-most : (longest ttl : ℕ) → granted longest ttl ≤ longest
+granted-most longest zero = omega arith
+granted-most longest (suc n) = omega arith
+
+end_in_time : (config : ConfigValue) (now : ℕ) (a : Asked) → end_of config now a ≤ latest_end config now
+end_in_time config now a = omega (arith, granted-most config.longest a.ttl)
+
 -- ---- the whole
 
-sound_filter : (p : Lease → Bool) (xs : List Lease) → AreSound xs → AreSound (filter p xs)
-sound_filter p xs h = record {
+sound_filter : (latest : ℕ) (p : Lease → Bool) (xs : List Lease) → AreSound latest xs → AreSound latest (filter p xs)
+sound_filter latest p xs h = record {
   apart = apart_filter p xs h.apart;
   one_kind = kind_filter p xs h.one_kind;
   most = omega (arith, length-filter p xs, count_by-le-length p xs, h.most);
+  in_time = all_filter (λ lease. lease.end ≤ latest) p xs h.in_time;
 }
 
-pub sound_later : (early late : ℕ) (rows : Rows) → early ≤ late → IsSound (leases_at early rows) → IsSound (leases_at late rows)
-sound_later early late rows onward sound name = subst AreSound (sym (later_is early late rows name onward)) (sound_filter (is_live late) (leases_at early rows name) (sound name))
+sound_onward : (early late : ℕ) (xs : List Lease) → early ≤ late → AreSound early xs → AreSound late xs
+sound_onward early late xs onward h = record { apart = h.apart; one_kind = h.one_kind; most = h.most; in_time = timely_later early late xs onward h.in_time }
 
-pub sound_after_grant : (config : ConfigValue) (now count : ℕ) (a : Asked) (leases after : List Lease) (result : Result Grant GrantFault) → AreSound leases → GrantCase config now count a leases result after → AreSound after
+pub sound_later : (config : ConfigValue) (early late : ℕ) (rows : Rows) → early ≤ late → IsSound config early (leases_at early rows) → IsSound config late (leases_at late rows)
+sound_later config early late rows onward sound name =
+    subst (AreSound (latest_end config late)) (sym (later_is early late rows name onward))
+    (sound_filter (latest_end config late) (is_live late) (leases_at early rows name) (sound_onward (latest_end config early) (latest_end config late) (leases_at early rows name) (omega arith) (sound name)))
+
+pub sound_after_grant : (config : ConfigValue) (now count : ℕ) (a : Asked) (leases after : List Lease) (result : Result Grant GrantFault) → AreSound (latest_end config now) leases → GrantCase config now count a leases result after → AreSound (latest_end config now) after
 sound_after_grant config now count a leases after result h (active _) = h
 sound_after_grant config now count a leases after result h (group_full _ _ _) = h
 sound_after_grant config now count a leases after result h (table_full _ _ _ _) = h
 sound_after_grant config now count a leases after result h (renews allowed before behind lease is own) =
     let new : Lease = renewed config now a lease in
-    let old : AreSound (before ++ lease ∷ behind) = subst AreSound is h in
+    let old : AreSound (latest_end config now) (before ++ lease ∷ behind) = subst (AreSound (latest_end config now)) is h in
     record {
       apart = apart_replaced before behind lease new refl old.apart;
       one_kind = kind_replaced before behind lease new refl old.one_kind;
       most = omega (arith, length-append before (lease ∷ behind), length-append before (new ∷ behind), old.most);
+      in_time = timely_replaced (latest_end config now) before behind lease new (λ h. omega (arith, end_in_time config now a)) old.in_time;
     }
 sound_after_grant config now count a leases after result h (begins allowed none room _) = record {
   apart = apart_push leases (begun config now a) none h.apart;
   one_kind = kind_push config now a leases allowed none;
   most = omega (arith, length-append leases (begun config now a ∷ []), room);
+  in_time = all_joined (λ lease. lease.end ≤ latest_end config now) leases (begun config now a ∷ []) h.in_time (end_in_time config now a, tt);
 }
 
-pub sound_after_release : (addr : ℕ) (leases after : List Lease) (result : Released) → AreSound leases → ReleaseCase addr leases result after → AreSound after
-sound_after_release addr leases after result h (gone before behind lease is own) =
-    let old : AreSound (before ++ lease ∷ behind) = subst AreSound is h in
+pub sound_after_release : (latest addr : ℕ) (leases after : List Lease) (result : Released) → AreSound latest leases → ReleaseCase addr leases result after → AreSound latest after
+sound_after_release latest addr leases after result h (gone before behind lease is own) =
+    let old : AreSound latest (before ++ lease ∷ behind) = subst (AreSound latest) is h in
     record {
       apart = apart_without before behind lease old.apart;
       one_kind = kind_without before behind lease old.one_kind;
       most = omega (arith, length-append before (lease ∷ behind), length-append before behind, old.most);
+      in_time = all_without (λ l. l.end ≤ latest) before behind lease old.in_time;
     }
-sound_after_release addr leases after result h (no_lease _) = h
-sound_after_release addr leases after result h (of_others _ _) = h
+sound_after_release latest addr leases after result h (no_lease _) = h
+sound_after_release latest addr leases after result h (of_others _ _) = h
 
 -- at one name
-sound_at : (name : NameValue) (leases : List Lease) (others : Leases) → AreSound leases → IsSound others → IsSound (at_name name leases others)
-sound_at name leases others here elsewhere q = cond_both (is_name q name) leases (others q) AreSound (λ _. here) (λ _. elsewhere q)
+sound_at : (config : ConfigValue) (now : ℕ) (name : NameValue) (leases : List Lease) (others : Leases) → AreSound (latest_end config now) leases → IsSound config now others → IsSound config now (at_name name leases others)
+sound_at config now name leases others here elsewhere q = cond_both (is_name q name) leases (others q) (AreSound (latest_end config now)) (λ _. here) (λ _. elsewhere q)
 
-pub sound_granted : (table : TableValue) (now : ℕ) (name : NameValue) (a : Asked) (result : Result Grant GrantFault) (after : Leases) → IsSound (leases_at now table.rows) → Grants table now name a result after → IsSound after
+pub sound_granted : (table : TableValue) (now : ℕ) (name : NameValue) (a : Asked) (result : Result Grant GrantFault) (after : Leases) → IsSound table.config now (leases_at now table.rows) → Grants table now name a result after → IsSound table.config now after
 sound_granted table now name a result after h g =
-    subst IsSound (sym g.after_is) (sound_at name g.leases (leases_at now table.rows) (sound_after_grant table.config now (live_count now table.rows) a (leases_at now table.rows name) g.leases result (h name) g.rule) h)
+    subst (IsSound table.config now) (sym g.after_is) (sound_at table.config now name g.leases (leases_at now table.rows) (sound_after_grant table.config now (live_count now table.rows) a (leases_at now table.rows name) g.leases result (h name) g.rule) h)
 
-pub sound_released : (table : TableValue) (now : ℕ) (name : NameValue) (addr : ℕ) (result : Released) (after : Leases) → IsSound (leases_at now table.rows) → Releases table now name addr result after → IsSound after
+pub sound_released : (table : TableValue) (now : ℕ) (name : NameValue) (addr : ℕ) (result : Released) (after : Leases) → IsSound table.config now (leases_at now table.rows) → Releases table now name addr result after → IsSound table.config now after
 sound_released table now name addr result after h r =
-    subst IsSound (sym r.after_is) (sound_at name r.leases (leases_at now table.rows) (sound_after_release addr (leases_at now table.rows name) r.leases result (h name) r.rule) h)
+    subst (IsSound table.config now) (sym r.after_is) (sound_at table.config now name r.leases (leases_at now table.rows) (sound_after_release (latest_end table.config now) addr (leases_at now table.rows name) r.leases result (h name) r.rule) h)

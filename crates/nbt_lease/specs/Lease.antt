@@ -1,5 +1,5 @@
 -- Leases, and what a table holds of them at a moment (our profile).
-use Rattle.std.specs.Prelude.{◌≡◌, ◌≢◌, ℕ, ◌≤◌, Bool, ◌&&◌, if◌then◌else◌, nat_lt, List, [], ◌∷◌, map, filter, length, ⊤}
+use Rattle.std.specs.Prelude.{◌≡◌, ◌≢◌, ℕ, ◌+◌, ◌*◌, ◌≤◌, Bool, ◌&&◌, if◌then◌else◌, nat_lt, List, [], ◌∷◌, map, filter, length, ⊤}
 use Rattle.std.specs.List.{AllByRecursion}
 use Rattle.std.specs.Str.{bytes_eq}
 use Rattle.nbt_name.specs.Wire.{NameValue}
@@ -62,11 +62,17 @@ pub data AreOneKind (leases : List Lease) : Type 0 where
   group : AreGroup leases → AreOneKind leases
   unique : (lease : Lease) → leases ≡ lease ∷ [] → lease.kind ≡ Unique → AreOneKind leases
 
--- What holds of the live leases of a name: at most 48, no two of one address, all of a group or one unique.
-pub record AreSound (leases : List Lease) : Type 0 where
+-- a lease that is granted by a moment ends by then at the latest
+abbrev pub latest_end : ConfigValue → ℕ → ℕ
+latest_end config moment = moment + 1000 * config.longest
+
+-- What holds of the live leases of a name: at most 48, no two of one address, all of a group or one unique, and none
+-- ends too late.
+pub record AreSound (latest : ℕ) (leases : List Lease) : Type 0 where
   pub apart : AreApart leases
   pub one_kind : AreOneKind leases
   pub most : length leases ≤ 48
+  pub in_time : AllByRecursion (λ lease. lease.end ≤ latest) leases
 
-abbrev pub IsSound : Leases → Type 0
-IsSound leases = (name : NameValue) → AreSound (leases name)
+abbrev pub IsSound : ConfigValue → (moment : ℕ) → Leases → Type 0
+IsSound config moment leases = (name : NameValue) → AreSound (latest_end config moment) (leases name)

@@ -7,6 +7,7 @@ ghost use Rattle.nbt_lease.specs.declared.fault.GrantFault.{GrantFault};
 ghost use Rattle.nbt_lease.specs.declared.lease.Grant.{Grant};
 ghost use Rattle.nbt_lease.specs.declared.lease.Lease.{Lease};
 ghost use Rattle.nbt_lease.specs.declared.lease.Released.{Released};
+ghost use Rattle.nbt_lease.specs.Config.{ConfigValue};
 ghost use Rattle.nbt_lease.specs.Lease.{Leases, Rows, TableValue, is_live, leases_at, live_count, at_name, IsSound};
 ghost use Rattle.nbt_lease.specs.Rules.{Asked, Grants, Releases, IsGranted};
 
@@ -40,17 +41,17 @@ pub fn one_name_changes()
 
 /// Leases that are sound at a moment are so at a later one, and after each grant and release.
 pub fn leases_stay_sound()
-    ensures later { (early late : ℕ) (rows : Rows) → early ≤ late → IsSound (leases_at early rows) → IsSound (leases_at late rows) }
-    ensures granted { (table : TableValue) (now : ℕ) (name : NameValue) (a : Asked) (result : Result Grant GrantFault) (after : Leases) → IsSound (leases_at now table.rows) → Grants table now name a result after → IsSound after }
-    ensures released { (table : TableValue) (now : ℕ) (name : NameValue) (addr : ℕ) (result : Released) (after : Leases) → IsSound (leases_at now table.rows) → Releases table now name addr result after → IsSound after }
+    ensures later { (config : ConfigValue) (early late : ℕ) (rows : Rows) → early ≤ late → IsSound config early (leases_at early rows) → IsSound config late (leases_at late rows) }
+    ensures granted { (table : TableValue) (now : ℕ) (name : NameValue) (a : Asked) (result : Result Grant GrantFault) (after : Leases) → IsSound table.config now (leases_at now table.rows) → Grants table now name a result after → IsSound table.config now after }
+    ensures released { (table : TableValue) (now : ℕ) (name : NameValue) (addr : ℕ) (result : Released) (after : Leases) → IsSound table.config now (leases_at now table.rows) → Releases table now name addr result after → IsSound table.config now after }
 {}
 
 /// Of sound leases a grant and a release make one thing: no two cases of a rule meet, and one always stands.
 pub fn one_case_stands()
     ensures grant_found { (table : TableValue) (now : ℕ) (name : NameValue) (a : Asked) → (result : Result Grant GrantFault) × (after : Leases) × Grants table now name a result after }
-    ensures one_grant { (table : TableValue) (now : ℕ) (name : NameValue) (a : Asked) (r s : Result Grant GrantFault) (x y : Leases) → IsSound (leases_at now table.rows) → Grants table now name a r x → Grants table now name a s y → (r ≡ s) × (x ≡ y) }
+    ensures one_grant { (table : TableValue) (now : ℕ) (name : NameValue) (a : Asked) (r s : Result Grant GrantFault) (x y : Leases) → IsSound table.config now (leases_at now table.rows) → Grants table now name a r x → Grants table now name a s y → (r ≡ s) × (x ≡ y) }
     ensures release_found { (table : TableValue) (now : ℕ) (name : NameValue) (addr : ℕ) → (result : Released) × (after : Leases) × Releases table now name addr result after }
-    ensures one_release { (table : TableValue) (now : ℕ) (name : NameValue) (addr : ℕ) (r s : Released) (x y : Leases) → IsSound (leases_at now table.rows) → Releases table now name addr r x → Releases table now name addr s y → (r ≡ s) × (x ≡ y) }
+    ensures one_release { (table : TableValue) (now : ℕ) (name : NameValue) (addr : ℕ) (r s : Released) (x y : Leases) → IsSound table.config now (leases_at now table.rows) → Releases table now name addr r x → Releases table now name addr s y → (r ≡ s) × (x ≡ y) }
 {}
 
 /// The leases of other addresses are as before, after a grant, a refusal and a release.
@@ -64,7 +65,7 @@ pub fn leases_of_others_stay()
 /// What is granted stands: afterwards the asker has one lease, of the asked kind, that ends with the grant: the seconds
 /// granted from now, or as before where that is later. Beside a lease of another address, both are of a group.
 pub fn granted_lease_stands()
-    ensures lease { (table : TableValue) (now : ℕ) (name : NameValue) (a : Asked) (grant : Grant) (after : Leases) → IsSound (leases_at now table.rows) → Grants table now name a (Ok grant) after
+    ensures lease { (table : TableValue) (now : ℕ) (name : NameValue) (a : Asked) (grant : Grant) (after : Leases) → IsSound table.config now (leases_at now table.rows) → Grants table now name a (Ok grant) after
         → (lease : Lease) × IsGranted table now name a grant (after name) lease }
     ensures beside { (table : TableValue) (now : ℕ) (name : NameValue) (a : Asked) (grant : Grant) (after : Leases) (other : Lease) → Grants table now name a (Ok grant) after
         → Contains (leases_at now table.rows name) other → other.addr ≢ a.addr → (other.kind ≡ Group) × (a.kind ≡ Group) }

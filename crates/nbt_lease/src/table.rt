@@ -36,7 +36,7 @@ impl Model for Table {
 
     ghost view = { λ t. record { config = t.config; last = t.last; rows = t.rows.items } };
 
-    ghost invariant = { λ t. IsSound (leases_at t.last t.rows.items) × (length t.rows.items ≤ t.config.rows) };
+    ghost invariant = { λ t. IsSound t.config t.last (leases_at t.last t.rows.items) × (length t.rows.items ≤ t.config.rows) };
 }
 
 impl Table {
@@ -66,7 +66,7 @@ impl Table {
     /// The moment of the last `grant`, `release` or `sweep`, refused ones too; at first 0.
     pub fn last(&self) -> Moment
         ensures last { result ≡ self.now.last }
-        ensures sound { IsSound (leases_at self.now.last self.now.rows) }
+        ensures sound { IsSound self.now.config self.now.last (leases_at self.now.last self.now.rows) }
     {
         self.last
     }
@@ -99,7 +99,7 @@ impl Table {
         ensures room { live_count now self.new.rows ≤ self.new.config.rows }
         ensures config { self.new.config ≡ self.old.config }
         ensures last { self.new.last ≡ now }
-        ensures sound { IsSound (leases_at now self.new.rows) }
+        ensures sound { IsSound self.new.config now (leases_at now self.new.rows) }
     {
         self.last = now;
         let seconds = self.config.granted(ttl);
@@ -123,7 +123,7 @@ impl Table {
         ensures unchanged { result ≢ Released.Gone → leases_at now self.new.rows ≡ leases_at now self.old.rows }
         ensures config { self.new.config ≡ self.old.config }
         ensures last { self.new.last ≡ now }
-        ensures sound { IsSound (leases_at now self.new.rows) }
+        ensures sound { IsSound self.new.config now (leases_at now self.new.rows) }
     {
         self.last = now;
         take_back(&mut self.rows, now.get(), name, addr)
@@ -134,7 +134,7 @@ impl Table {
     pub fn members<'a>(&'a self, now: Moment, name: &'a Name) -> Members<'a>
         requires { self.now.last ≤ now }
         ensures members { result ≡ leases_at now self.now.rows name.now }
-        ensures sound { IsSound (leases_at now self.now.rows) }
+        ensures sound { IsSound self.now.config now (leases_at now self.now.rows) }
     {
         Members::new(self.rows.as_slice(), name, now.get())
     }
@@ -143,7 +143,8 @@ impl Table {
     /// Takes no memory. `now` is at least `last()`.
     pub fn least_end(&self, now: Moment, name: &Name) -> Option<u64>
         requires { self.now.last ≤ now }
-        ensures { IsLeastEnd (leases_at now self.now.rows name.now) result }
+        ensures end { IsLeastEnd (leases_at now self.now.rows name.now) result }
+        ensures sound { IsSound self.now.config now (leases_at now self.now.rows) }
     {
         self.members(now, name).map(|lease| lease.end).min()
     }
@@ -155,7 +156,7 @@ impl Table {
         ensures leases { leases_at now self.new.rows ≡ leases_at now self.old.rows }
         ensures config { self.new.config ≡ self.old.config }
         ensures last { self.new.last ≡ now }
-        ensures sound { IsSound (leases_at now self.new.rows) }
+        ensures sound { IsSound self.new.config now (leases_at now self.new.rows) }
     {
         self.last = now;
         take_out_due(&mut self.rows, now.get());

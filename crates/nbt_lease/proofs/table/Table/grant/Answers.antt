@@ -51,8 +51,9 @@ returns-clause-room c = omega (arith, (placed c).fits, live_at_most c.args.now c
 pub returns-clause-sound : goal.returns-clause-sound
 returns-clause-sound c =
     let t = c.args.self.now in
-    sound_placed t c.args.now c.args.name.now (asked c.args.addr c.args.kind c.args.ttl) c.place.result c.place.new.rows.items (placed c)
-    (sound_later t.last c.args.now t.rows c.requires (subst (λ (v : TableValue). IsSound (leases_at v.last v.rows)) c.self.view_is c.self.invariant.0))
+    subst (λ (v : TableValue). IsSound v.config c.args.now (leases_at c.args.now c.place.new.rows.items)) (sym c.self.view_is)
+    (sound_placed t c.args.now c.args.name.now (asked c.args.addr c.args.kind c.args.ttl) c.place.result c.place.new.rows.items (placed c)
+    (sound_later t.config t.last c.args.now t.rows c.requires (subst (λ (v : TableValue). IsSound v.config v.last (leases_at v.last v.rows)) c.self.view_is c.self.invariant.0)))
 
 pub invariant_of-self : goal.invariant_of-self
 invariant_of-self c = (returns-clause-sound c, omega (arith, (placed c).fits, ap (λ (v : TableValue). v.config.rows) c.self.view_is))

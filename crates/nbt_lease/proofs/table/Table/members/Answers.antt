@@ -6,4 +6,4 @@ use Rattle.nbt_lease.proofs.table.Table.members.Goals as goal
 pub returns-clause-sound : goal.returns-clause-sound
 returns-clause-sound c =
     let t = c.args.self.now in
-    sound_later t.last c.args.now t.rows c.requires (subst (λ (v : TableValue). IsSound (leases_at v.last v.rows)) c.self.view_is c.self.invariant.0)
+    sound_later t.config t.last c.args.now t.rows c.requires (subst (λ (v : TableValue). IsSound v.config v.last (leases_at v.last v.rows)) c.self.view_is c.self.invariant.0)

@@ -5,6 +5,6 @@ use Rattle.nbt_lease.proofs.table.Table.new.Goals as goal
 
 pub invariant_of-result : goal.invariant_of-result
 invariant_of-result c = (
-  subst (λ (rs : Rows). IsSound (leases_at c.zero.result rs)) (sym c.new.ensures.items) (none_sound c.zero.result),
+  subst (λ (rs : Rows). IsSound c.args.config c.zero.result (leases_at c.zero.result rs)) (sym c.new.ensures.items) (none_sound c.args.config c.zero.result),
   omega (arith, ap length c.new.ensures.items),
 )

@@ -16,8 +16,9 @@ returns-clause-unchanged c = nothing_released c.args.self.now c.args.now c.args.
 pub returns-clause-sound : goal.returns-clause-sound
 returns-clause-sound c =
     let t = c.args.self.now in
-    sound_released t c.args.now c.args.name.now c.args.addr c.take_back.result (leases_at c.args.now c.take_back.new.rows.items)
-    (sound_later t.last c.args.now t.rows c.requires (subst (λ (v : TableValue). IsSound (leases_at v.last v.rows)) c.self.view_is c.self.invariant.0)) (returns-clause-rule c)
+    subst (λ (v : TableValue). IsSound v.config c.args.now (leases_at c.args.now c.take_back.new.rows.items)) (sym c.self.view_is)
+    (sound_released t c.args.now c.args.name.now c.args.addr c.take_back.result (leases_at c.args.now c.take_back.new.rows.items)
+    (sound_later t.config t.last c.args.now t.rows c.requires (subst (λ (v : TableValue). IsSound v.config v.last (leases_at v.last v.rows)) c.self.view_is c.self.invariant.0)) (returns-clause-rule c))
 
 pub invariant_of-self : goal.invariant_of-self
 invariant_of-self c = (returns-clause-sound c, omega (arith, c.self.invariant.1, c.take_back.ensures.count))

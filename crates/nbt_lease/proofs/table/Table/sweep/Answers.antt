@@ -20,8 +20,9 @@ returns-clause-leases c =
 pub returns-clause-sound : goal.returns-clause-sound
 returns-clause-sound c =
     let t = c.args.self.now in
-    subst IsSound (sym (returns-clause-leases c))
-    (sound_later t.last c.args.now t.rows c.requires (subst (λ (v : TableValue). IsSound (leases_at v.last v.rows)) c.self.view_is c.self.invariant.0))
+    subst (λ (v : TableValue). IsSound v.config c.args.now (leases_at c.args.now c.take_out_due.new.rows.items)) (sym c.self.view_is)
+    (subst (IsSound t.config c.args.now) (sym (returns-clause-leases c))
+    (sound_later t.config t.last c.args.now t.rows c.requires (subst (λ (v : TableValue). IsSound v.config v.last (leases_at v.last v.rows)) c.self.view_is c.self.invariant.0)))
 
 pub invariant_of-self : goal.invariant_of-self
 invariant_of-self c =
