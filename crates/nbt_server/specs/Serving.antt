@@ -1,0 +1,143 @@
+-- What the name server does with a message, and with octets: RFC 1002 section 5.1.4. The silence after a start, the
+-- refusal of what is not the sender's own, and which refusal has which RCODE are our profile.
+use Rattle.std.specs.Prelude.{◌≡◌, ◌≢◌, ℕ, ◌+◌, ◌-◌, ◌*◌, ◌/◌, ◌<◌, ◌≤◌, List, [], slice_index, Option, Some, None, Result, Ok, Err}
+use Rattle.std.specs.List.{flat_map}
+use Rattle.nbt_name.specs.declared.addr.Kind.{Kind}
+use Rattle.nbt_name.specs.Wire.{NameValue}
+use Rattle.nbt_packet.specs.declared.message.Registration.{Registration}
+use Rattle.nbt_packet.specs.Message.{MessageValue, registration, overwrite, refresh, release, query, registered, released, found, not_found}
+use Rattle.nbt_packet.specs.Spelling.{Spells}
+use Rattle.nbt_packet.specs.Text.{text, entry}
+use Rattle.nbt_lease.specs.declared.fault.GrantFault.{GrantFault}
+use Rattle.nbt_lease.specs.declared.fault.GrantFault.TheVariants.{Active, TableFull, GroupFull, OutOfMemory}
+use Rattle.nbt_lease.specs.declared.lease.Grant.{Grant}
+use Rattle.nbt_lease.specs.declared.lease.Lease.{Lease}
+use Rattle.nbt_lease.specs.declared.lease.Released.{Released}
+use Rattle.nbt_lease.specs.declared.lease.Released.TheVariants.{Gone, NoLease, OfOthers}
+use Rattle.nbt_lease.specs.Lease.{Leases, TableValue, leases_at}
+use Rattle.nbt_lease.specs.Rules.{Asked, asked, Grants, ChangesLeases, Releases, IsLeastEnd}
+
+-- ---- what is asked
+
+-- A registration and a refresh ask for a lease.
+pub data AsksFor : MessageValue → Registration → Type 0 where
+  by_registration : (r : Registration) → AsksFor (registration r) r
+  by_refresh : (r : Registration) → AsksFor (refresh r) r
+
+-- the address is the sender's, and the name isn't one that stands for all: it doesn't begin with `*`
+abbrev pub IsOwn : (ip : ℕ) → NameValue → (addr : ℕ) → Type 0
+IsOwn ip name addr = (addr ≡ ip) × (slice_index name.octets 0 ≢ 0x2A)
+
+abbrev pub asked_in : Registration → Asked
+asked_in r = asked r.addr r.kind r.ttl
+
+-- a response, a status request: a server has nothing to say
+abbrev pub IsForNodes : MessageValue → Type 0
+IsForNodes (registration r) = ⊥
+IsForNodes (overwrite r) = ⊥
+IsForNodes (refresh r) = ⊥
+IsForNodes (release id name kind addr) = ⊥
+IsForNodes (query id name) = ⊥
+IsForNodes _ = Unit {0}
+
+-- ---- what is replied
+
+-- RCODEs of the replies (RFC 1002 sections 4.2.6, 4.2.11 and 4.2.14): the server fails, the name isn't there, the server
+-- refuses, another machine has the name
+abbrev pub server_error : ℕ
+server_error = 2
+
+abbrev pub name_error : ℕ
+name_error = 3
+
+abbrev pub refused_error : ℕ
+refused_error = 5
+
+abbrev pub active_error : ℕ
+active_error = 6
+
+abbrev pub fault_rcode : GrantFault → ℕ
+fault_rcode Active = active_error
+fault_rcode TableFull = server_error
+fault_rcode GroupFull = server_error
+fault_rcode OutOfMemory = server_error
+
+-- a refusal has a TTL of 0
+abbrev pub refusal : (rcode : ℕ) → Registration → MessageValue
+refusal rcode r = registered rcode (record r { ttl = 0 })
+
+abbrev pub grant_reply : Registration → Result Grant GrantFault → MessageValue
+grant_reply r (Ok grant) = registered 0 (record r { ttl = grant.seconds })
+grant_reply r (Err fault) = refusal (fault_rcode fault) r
+
+-- a release is refused only where other machines have the name, and the sender hasn't
+abbrev pub release_rcode : Released → ℕ
+release_rcode Gone = 0
+release_rcode NoLease = 0
+release_rcode OfOthers = active_error
+
+-- the seconds until an end, rounded up
+abbrev pub seconds_until : (now end : ℕ) → ℕ
+seconds_until now end = (end - now + 999) / 1000
+
+-- the entries of leases, in their order
+abbrev pub entries : List Lease → List ℕ
+entries leases = flat_map (λ lease. entry lease.kind lease.addr) leases
+
+-- ---- the server's rules
+
+-- What the server does with a message from an end at the address `ip`: the reply, or none, and the leases that live
+-- afterwards. A line for each rule.
+pub data Serves (table : TableValue) (now ip : ℕ) : MessageValue → Option MessageValue → Leases → Type 0 where
+  registers : (m : MessageValue) (r : Registration) (result : Result Grant GrantFault) (after : Leases) → AsksFor m r → IsOwn ip r.name r.addr → Grants table now r.name (asked_in r) result after
+      → Serves table now ip m (Some (grant_reply r result)) after
+  refuses : (m : MessageValue) (r : Registration) → AsksFor m r → ¬ IsOwn ip r.name r.addr
+      → Serves table now ip m (Some (refusal refused_error r)) (leases_at now table.rows)
+  refuses_overwrite : (r : Registration) → Serves table now ip (overwrite r) (Some (refusal refused_error r)) (leases_at now table.rows)
+  releases : (id : ℕ) (name : NameValue) (kind : Kind) (addr : ℕ) (result : Released) (after : Leases) → IsOwn ip name addr → Releases table now name addr result after
+      → Serves table now ip (release id name kind addr) (Some (released id (release_rcode result) name kind addr)) after
+  refuses_release : (id : ℕ) (name : NameValue) (kind : Kind) (addr : ℕ) → ¬ IsOwn ip name addr
+      → Serves table now ip (release id name kind addr) (Some (released id refused_error name kind addr)) (leases_at now table.rows)
+  finds : (id : ℕ) (name : NameValue) (end : ℕ) → IsLeastEnd (leases_at now table.rows name) (Some end)
+      → Serves table now ip (query id name) (Some (found id name (seconds_until now end) (entries (leases_at now table.rows name)))) (leases_at now table.rows)
+  finds_none : (id : ℕ) (name : NameValue) → leases_at now table.rows name ≡ []
+      → Serves table now ip (query id name) (Some (not_found id name_error (Some name))) (leases_at now table.rows)
+  passes_over : (m : MessageValue) → IsForNodes m → Serves table now ip m None (leases_at now table.rows)
+
+-- A registration or refresh of the sender's own would change the leases: only then the server takes memory.
+pub record NeedsMemory (table : TableValue) (now ip : ℕ) (m : MessageValue) : Type 0 where
+  pub r : Registration
+  pub asks : AsksFor m r
+  pub own : IsOwn ip r.name r.addr
+  pub changes : ChangesLeases table now r.name (asked_in r)
+
+-- ---- datagrams
+
+-- What contracts see of a server: when it started, the moment of the last datagram, and its table.
+pub record ServerValue : Type 0 where
+  pub start : ℕ
+  pub last : ℕ
+  pub table : TableValue
+
+-- A lease that was given before the start may last until then.
+abbrev pub speaks_from : ServerValue → ℕ
+speaks_from server = server.start + 1000 * server.table.config.longest
+
+-- What the server does with a datagram: nothing before it speaks, nor with octets that spell no message; else what it
+-- does with the message that they spell.
+pub data ServesOctets (server : ServerValue) (now ip : ℕ) (octets : List ℕ) : Option MessageValue → Leases → Type 0 where
+  is_silent : now < speaks_from server → ServesOctets server now ip octets None (leases_at now server.table.rows)
+  is_no_message : ((m : MessageValue) → ¬ Spells octets m) → ServesOctets server now ip octets None (leases_at now server.table.rows)
+  serves : (m : MessageValue) (reply : Option MessageValue) (after : Leases) → speaks_from server ≤ now → Spells octets m → Serves server.table now ip m reply after
+      → ServesOctets server now ip octets reply after
+
+pub record OctetsNeedMemory (server : ServerValue) (now ip : ℕ) (octets : List ℕ) : Type 0 where
+  pub message : MessageValue
+  pub speaks : speaks_from server ≤ now
+  pub spelled : Spells octets message
+  pub needs : NeedsMemory server.table now ip message
+
+-- the octets of a reply: none where there is none
+abbrev pub written : Option MessageValue → List ℕ
+written None = []
+written (Some reply) = text reply

@@ -1,0 +1,128 @@
+//! The name server.
+
+ghost use Rattle.std.specs.Prelude.{◌≡◌, ◌≢◌, ◌+◌, ◌*◌, ◌<◌, ◌≤◌, ◌↔◌, Option, [], IfOk, OnErr, IsErrOf, is_some};
+ghost use Rattle.nbt_packet.specs.Message.{MessageValue};
+ghost use Rattle.nbt_lease.specs.Config.{IsConfig};
+ghost use Rattle.nbt_lease.specs.Lease.{leases_at, IsSound};
+
+use crate::fault::ServerFault;
+use crate::serving::serve;
+use arrayvec::ArrayVec;
+use nbt_lease::{Config, Moment, Table};
+use nbt_name::Addr;
+use nbt_packet::read;
+use std::alloc::Global;
+use std::marker::Model;
+
+/// A name server (RFC 1001 section 15.1, RFC 1002 section 5.1.4): the leases that it has given, and since when it runs.
+#[derive(Drop)]
+pub struct Server {
+    start: Moment,
+    last: Moment,
+    table: Table,
+}
+
+impl Model for Server {
+    ghost use Rattle.std.specs.Prelude.{◌≤◌};
+    ghost use Rattle.nbt_server.specs.Serving.{ServerValue};
+
+    ghost Value = { ServerValue };
+
+    ghost view = { λ s. record { start = s.start; last = s.last; table = s.table } };
+
+    ghost invariant = { λ s. (s.start ≤ s.last) × (s.table.last ≤ s.last) };
+}
+
+impl Server {
+    ghost use Rattle.nbt_server.specs.Serving.{ServerValue, ServesOctets, OctetsNeedMemory, written};
+
+    /// A server without leases, which starts at `now`. It takes no memory.
+    pub fn start(alloc: Global, config: Config, now: Moment) -> Server
+        ensures start { (result.start ≡ now) × (result.last ≡ now) }
+        ensures config { result.table.config ≡ config }
+        ensures empty { result.table.rows ≡ [] }
+    {
+        Server {
+            start: now,
+            last: now,
+            table: Table::new(alloc, config),
+        }
+    }
+
+    /// Takes a datagram of these octets, which came at `now` from `from`. With `true`, the reply to `from` stands in
+    /// `out`, at most 576 octets; with `false` there is none, and `out` is empty (RFC 1002 section 5.1.4; the rules that
+    /// are our profile's are marked so):
+    ///
+    /// - Until the longest lease has passed since the start there is no reply, and nothing changes (our profile).
+    /// - A registration or refresh is granted for its TTL, at most the longest lease, a TTL of 0 asking for that; or
+    ///   refused with ACT_ERR (6) where other leases stand in its way, or SRV_ERR (2) where 48 members of the group or
+    ///   as many leases as the table keeps live. RFS_ERR (5) where its address isn't that of `from`, or its name begins
+    ///   with `*` (our profile).
+    /// - A release takes away the lease of the sender alone. It is refused with ACT_ERR where others have the name and
+    ///   the sender hasn't, and with RFS_ERR like a registration.
+    /// - A query is answered with the live leases in order of their beginnings, its TTL being the seconds until the
+    ///   first of them ends, rounded up; or with NAM_ERR (3).
+    /// - An overwrite is refused with RFS_ERR (our profile). All else has no reply.
+    ///
+    /// Refused in this order, `out` being empty: `ClockBack` (1) where `now` is before the start, or before an earlier
+    /// datagram that was no `ClockBack`: nothing changes. `OutOfMemory` (2) where memory was refused to a registration or
+    /// refresh that changes the leases: start and live leases stay.
+    pub fn on_datagram(
+        &mut self,
+        now: Moment,
+        from: Addr,
+        octets: &[u8],
+        out: &mut ArrayVec<u8, 576>,
+    ) -> Result<bool, ServerFault>
+        ensures served { IfOk result (λ is_reply. (reply : Option MessageValue)
+            × ServesOctets self.old now from.ip octets.now reply (leases_at now self.new.table.rows)
+            × (is_reply ≡ is_some reply) × (out.new.items ≡ written reply)) }
+
+        // When it is refused, and what that leaves.
+        ensures clock_back { IsErrOf result ServerFault.ClockBack ↔ (now < self.old.last) }
+        ensures unchanged { IsErrOf result ServerFault.ClockBack → self.new ≡ self.old }
+        ensures memory { IsErrOf result ServerFault.OutOfMemory → OctetsNeedMemory self.old now from.ip octets.now
+            × (leases_at now self.new.table.rows ≡ leases_at now self.old.table.rows) }
+        ensures empty { OnErr result (out.new.items ≡ []) }
+
+        // What the server is afterwards.
+        ensures last { self.old.last ≤ now → self.new.last ≡ now }
+        ensures start { self.new.start ≡ self.old.start }
+        ensures config { self.new.table.config ≡ self.old.table.config }
+    {
+        out.clear();
+        if now < self.last {
+            return Err(ServerFault::ClockBack);
+        }
+        self.last = now;
+        if now.get() < self.speaks_from() {
+            return Ok(false);
+        }
+        let Some(message) = read(octets) else {
+            return Ok(false);
+        };
+        match serve(&mut self.table, now, from.ip, message, out) {
+            Ok(is_reply) => Ok(is_reply),
+            Err(_) => Err(ServerFault::OutOfMemory),
+        }
+    }
+
+    /// The moment of the last datagram that was no `ClockBack`, at first that of the start.
+    pub fn last(&self) -> Moment
+        ensures last { result ≡ self.now.last }
+        ensures start { self.now.start ≤ self.now.last }
+        ensures sound { IsSound self.now.table.config self.now.last (leases_at self.now.last self.now.table.rows) }
+    {
+        nbt_lease::laws::leases_stay_sound();
+        let _ = self.table.last();
+        self.last
+    }
+
+    /// Until when the server is silent, in milliseconds: leases that were given before its start may last so long.
+    fn speaks_from(&self) -> u64
+        ensures value { result ≡ self.now.start + 1000 * self.now.table.config.longest }
+        ensures limits { IsConfig self.now.table.config }
+    {
+        self.start.get() + 1000 * u64::from(self.table.config().longest())
+    }
+}
