@@ -12,12 +12,10 @@ use crate::failure::Failure;
 use crate::usage;
 use clap::error::ErrorKind;
 use clap::{ArgMatches, Error};
+use nbt_lease::Moment;
 use nbt_text::{parse_address, parse_number};
 use std::alloc::Global;
 use std::convert::AsStr;
-
-/// The latest time that a command takes, in milliseconds.
-const LATEST: u64 = 1 << 60;
 
 /// A command with its arguments.
 #[derive(Debug, Drop)]
@@ -74,7 +72,7 @@ fn argument<'a>(matches: &ArgMatches<'a>, name: &str) -> &'a str
 }
 
 /// The time, or clap's error on it.
-fn time_or_usage(alloc: Global, text: &str) -> Result<u64, Error>
+fn time_or_usage(alloc: Global, text: &str) -> Result<Moment, Error>
     ensures read { IfOk result (SpellsTime text.now) }
     ensures refused { IfErr result (λ e. (kind_of e ≡ ErrorKind.OutOfMemory)
         ⊎ (¬ (IsTime text.now) × (kind_of e ≡ ErrorKind.ValueValidation))) }
@@ -86,12 +84,12 @@ fn time_or_usage(alloc: Global, text: &str) -> Result<u64, Error>
 }
 
 /// Reads a time: digits alone, of which the first ones may be zeros.
-fn parse_time(text: &str) -> Option<u64>
+fn parse_time(text: &str) -> Option<Moment>
     ensures read { IfSome result (SpellsTime text.now) }
     ensures found { (at : ℕ) → SpellsTime text.now at → result ≡ Some at }
 {
     match parse_number(text.as_bytes()) {
-        Some(at) if at <= LATEST => Some(at),
-        _ => None,
+        Some(at) => Moment::new(at),
+        None => None,
     }
 }

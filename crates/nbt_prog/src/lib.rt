@@ -15,7 +15,6 @@ mod commands;
 mod failure;
 mod input;
 mod printed;
-mod serving;
 #[cfg(test)]
 mod tests;
 mod usage;
@@ -23,7 +22,6 @@ mod usage;
 use arguments::Request;
 use failure::Failure;
 use printed::Printed;
-pub use serving::answer;
 use std::alloc::Global;
 use std::convert::AsStr;
 use std::io;

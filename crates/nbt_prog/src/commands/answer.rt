@@ -1,52 +1,70 @@
 //! The command `answer`: one packet in, the reply out.
 
-ghost use Rattle.std.specs.Prelude.{◌≡◌, ◌≤◌, ◌^◌, ◌++◌, ◌∷◌, [], ℕ, List, Option, Some, None, IfOk, IfErr};
+ghost use Rattle.std.specs.Prelude.{◌≡◌, ◌++◌, ◌∷◌, [], Option, IfOk, IfErr};
 ghost use Rattle.std.specs.String.{string_bytes};
 ghost use Rattle.hex.specs.Hex.{encode_lower};
-ghost use Rattle.nbt_prog.specs.Inner.Answer.{answer_text};
-ghost use Rattle.nbt_prog.specs.Serving.{Serves};
+ghost use Rattle.nbt_packet.specs.Message.{MessageValue};
+ghost use Rattle.nbt_lease.specs.Lease.{Leases};
+ghost use Rattle.nbt_server.specs.Serving.{ServesOctets};
+ghost use Rattle.nbt_prog.specs.Inner.Answer.{new_server as fresh, answer_text};
 
 use crate::failure::Failure;
 use crate::printed::{Ending, Printed};
-use crate::serving::answer;
 use arrayvec::ArrayVec;
+use nbt_lease::{Config, Moment};
 use nbt_name::Addr;
+use nbt_server::Server;
 use nbt_text::write_hexadecimal;
 use std::alloc::{AllocError, Global};
 
 /// The most octets of a datagram of the name service.
 const REPLY_ROOM: usize = 576;
 
+/// The greatest life of a datagram, in milliseconds.
+const LIFE: u64 = 1000;
+
+/// The longest lease, in seconds.
+const LONGEST: u32 = 60;
+
+/// How many leases the server keeps.
+const ROWS: usize = 4096;
+
 /// The arguments of `answer`: who sent the packet, when, and its octets.
 #[derive(Debug, Drop)]
 pub struct AnswerArguments {
     pub from: Addr,
-    pub at: u64,
+    pub at: Moment,
     pub octets: Vec<u8>,
-    ghost in_time: { at ≤ 2 ^ 60 },
 }
 
-/// The server's reply to the packet in hexadecimal, or `none`, on one line.
+/// The reply of a new name server to the packet, in hexadecimal, or `none`, on one line.
 pub fn run(alloc: Global, arguments: &AnswerArguments) -> Result<Printed, Failure>
-    ensures reply { IfOk result (λ printed. (reply : Option (List ℕ))
-        × Serves arguments.now.from arguments.now.at arguments.now.octets.items reply
+    ensures reply { IfOk result (λ printed. (reply : Option MessageValue) × (after : Leases)
+        × ServesOctets fresh arguments.now.at arguments.now.from.ip arguments.now.octets.items reply after
         × (string_bytes printed.text ≡ answer_text reply) × (printed.ending ≡ Ending.Done)) }
     ensures failure { IfErr result (λ failure. failure ≡ Failure.Memory) }
 {
+    let mut server = new_server(alloc);
     let mut reply = ArrayVec::<u8, REPLY_ROOM>::new();
-    let is_answered = answer(
-        arguments.from,
-        arguments.at,
-        arguments.octets.as_slice(),
-        &mut reply,
-    );
-    let text = if is_answered {
+    let octets = arguments.octets.as_slice();
+    let Ok(is_reply) = server.on_datagram(arguments.at, arguments.from, octets, &mut reply) else {
+        return Err(Failure::Memory);
+    };
+    let text = if is_reply {
         hexadecimal_line(alloc, reply.as_slice())?
     } else {
         String::from_str(alloc, "none\n")?
     };
     let ending = Ending::Done;
     Ok(Printed { text, ending })
+}
+
+/// A server without leases that started at 0.
+fn new_server(alloc: Global) -> Server
+    ensures { result ≡ fresh }
+{
+    let config = Config::new(LIFE, LONGEST, ROWS).unwrap();
+    Server::start(alloc, config, Moment::zero())
 }
 
 /// The octets in lower-case hexadecimal, and the end of the line.
