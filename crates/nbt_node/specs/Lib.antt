@@ -1,0 +1,4 @@
+pub mod Settling
+pub mod Node
+pub mod Moves
+pub mod Calls

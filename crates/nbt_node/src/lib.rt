@@ -1,0 +1,8 @@
+//! An end node of the name service: it asks for names, holds them, refreshes and gives them back, looks up names and
+//! replies to status requests (RFC 1001 section 15, RFC 1002 section 5.1). No call takes memory.
+#![tactic(auto)]
+
+mod lookup;
+mod settling;
+mod slots;
+mod state;

@@ -1,0 +1,72 @@
+//! What time alone makes of a name's state (our profile).
+
+ghost use Rattle.std.specs.Prelude.{◌≡◌, ◌≤◌};
+ghost use Rattle.nbt_node.specs.Settling.{is_over, rested, pending_at, settled};
+
+use crate::state::{Refresh, State};
+use nbt_lease::Moment;
+
+/// How often a request is sent in all (RFC 1002 section 6.1.1).
+pub const SENDINGS: u8 = 3;
+
+/// A transaction is over where its request was sent three times and the next sending would be due.
+pub fn is_over(tries: u8, due: u64, now: Moment) -> bool
+    ensures { result ≡ is_over now tries due }
+{
+    tries >= SENDINGS && due <= now.get()
+}
+
+/// A name rests until more than twice the life has passed since the last sending about it: an old request may live
+/// one life, and its reply one more.
+pub fn rested(last: Moment, life: u64, now: Moment) -> State
+    requires { life ≤ 60000 }
+    ensures { result ≡ rested life now last }
+{
+    if last.get() + 2 * life < now.get() {
+        State::Idle
+    } else {
+        State::Resting { last }
+    }
+}
+
+/// The refresh that is still open.
+pub fn pending_at(pending: Option<Refresh>, now: Moment) -> Option<Refresh>
+    ensures { result ≡ pending_at now pending }
+{
+    pending.filter(|refresh| !is_over(refresh.tries, refresh.due, now))
+}
+
+impl State {
+    /// The state in which time's own moves end at `now`.
+    pub fn settled(&self, life: u64, now: Moment) -> State
+        requires { life ≤ 60000 }
+        ensures { result ≡ settled life now self.now }
+    {
+        match self {
+            State::Asking {
+                last, tries, due, ..
+            }
+            | State::Releasing {
+                last, tries, due, ..
+            } if is_over(*tries, *due, now) => rested(*last, life, now),
+            State::Held { until, last, .. } if *until <= now.get() => rested(*last, life, now),
+            State::Held {
+                kind,
+                ttl,
+                until,
+                renew,
+                last,
+                pending,
+            } => State::Held {
+                kind: *kind,
+                ttl: *ttl,
+                until: *until,
+                renew: *renew,
+                last: *last,
+                pending: pending_at(*pending, now),
+            },
+            State::Resting { last } => rested(*last, life, now),
+            State::Idle | State::Asking { .. } | State::Releasing { .. } => *self,
+        }
+    }
+}

@@ -1,0 +1,135 @@
+//! The slots of a node: each is free, or has a name that isn't `Idle`.
+
+ghost use Rattle.std.specs.Prelude.{◌≡◌, ◌≤◌, ◌↔◌, map, is_none, if◌then◌else◌};
+ghost use Rattle.nbt_node.specs.Node.{same_name, state_in, slot_of, settled_slot, is_named, has_room, put, take_slot};
+ghost use Rattle.nbt_node.specs.Settling.{settled};
+
+use crate::state::{Slot, State};
+use nbt_lease::Moment;
+use nbt_name::Name;
+
+fn is_same_name(a: &Name, b: &Name) -> bool
+    ensures { result ≡ same_name a.now b.now }
+{
+    a == b
+}
+
+/// The state of a name: `Idle` where it has no slot.
+pub fn state_in(slots: &[Option<Slot>], name: &Name) -> State
+    ensures { result ≡ state_in slots.now name.now }
+{
+    for slot in slots {
+        if let Some(slot) = slot {
+            if is_same_name(&slot.name, name) {
+                return slot.state;
+            }
+        }
+    }
+    State::Idle
+}
+
+/// What time makes of a slot.
+fn settle_slot(slot: &mut Option<Slot>, life: u64, now: Moment)
+    requires { life ≤ 60000 }
+    ensures { slot.new ≡ settled_slot life now slot.old }
+{
+    if let Some(kept) = slot {
+        let state = kept.state.settled(life, now);
+        if state == State::Idle {
+            *slot = None;
+        } else {
+            kept.state = state;
+        }
+    }
+}
+
+/// Settles every name at `now`.
+pub fn settle(slots: &mut [Option<Slot>], life: u64, now: Moment)
+    requires { life ≤ 60000 }
+    ensures { slots.new ≡ map (settled_slot life now) slots.old }
+{
+    for slot in slots.iter_mut() {
+        settle_slot(slot, life, now);
+    }
+}
+
+/// Whether a slot is free once time has done its own at `now`.
+fn is_free(slot: &Option<Slot>, life: u64, now: Moment) -> bool
+    requires { life ≤ 60000 }
+    ensures { result ≡ is_none (settled_slot life now slot.now) }
+{
+    match slot {
+        Some(kept) => kept.state.settled(life, now) == State::Idle,
+        None => true,
+    }
+}
+
+/// Whether a slot is free once every name is settled at `now`.
+pub fn has_room(slots: &[Option<Slot>], life: u64, now: Moment) -> bool
+    requires { life ≤ 60000 }
+    ensures { result ≡ has_room (map (settled_slot life now) slots.now) }
+{
+    for slot in slots {
+        if is_free(slot, life, now) {
+            return true;
+        }
+    }
+    false
+}
+
+/// Puts another state into the name's slot, and frees the slot where that is `Idle`. Returns whether it is the name's.
+fn put_into(slot: &mut Option<Slot>, name: &Name, state: &State) -> bool
+    ensures found { result ≡ is_named slot.old name.now }
+    ensures slot { slot.new ≡ (if is_named slot.old name.now then slot_of name.now state.now else slot.old) }
+{
+    match slot {
+        Some(kept) if is_same_name(&kept.name, name) => {
+            if *state == State::Idle {
+                *slot = None;
+            } else {
+                kept.state = *state;
+            }
+            true
+        }
+        _ => false,
+    }
+}
+
+/// Puts another state into the name's slot, where it has one.
+pub fn put(slots: &mut [Option<Slot>], name: &Name, state: &State)
+    ensures { slots.new ≡ put slots.old name.now state.now }
+{
+    for slot in slots.iter_mut() {
+        if put_into(slot, name, state) {
+            return;
+        }
+    }
+}
+
+/// Puts a name and its state into a free slot. Returns whether it did.
+fn take_into(slot: &mut Option<Slot>, name: &Name, state: &State) -> bool
+    ensures found { result ≡ is_none slot.old }
+    ensures slot { slot.new ≡ (if is_none slot.old then slot_of name.now state.now else slot.old) }
+{
+    if slot.is_some() {
+        return false;
+    }
+    if *state != State::Idle {
+        *slot = Some(Slot {
+            name: name.copy(),
+            state: *state,
+        });
+    }
+    true
+}
+
+/// Puts a name and its state into the lowest free slot, where there is one.
+pub fn take(slots: &mut [Option<Slot>], name: &Name, state: &State)
+    ensures { slots.new ≡ take_slot slots.old name.now state.now }
+{
+    for slot in slots.iter_mut() {
+        if take_into(slot, name, state) {
+            return;
+        }
+    }
+}

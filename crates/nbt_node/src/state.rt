@@ -1,0 +1,66 @@
+//! What a node knows of one name (RFC 1002 section 5.1.2; the states are our profile's).
+
+use nbt_lease::Moment;
+use nbt_name::{Kind, Name};
+
+/// The state of one name at a node. Moments later than any `Moment` may be are milliseconds.
+#[derive(Clone, Copy, Debug, PartialEq, Eq)]
+pub enum State {
+    /// Nothing is known of the name, and it may be asked for.
+    Idle,
+    /// The name was asked for, and no reply has ended the transaction.
+    Asking {
+        kind: Kind,
+        /// The TTL asked for, in seconds.
+        ttl: u32,
+        /// The transaction's id.
+        id: u16,
+        /// The moment of the transaction's first sending, and of its last.
+        first: Moment,
+        last: Moment,
+        /// How often the request was sent.
+        tries: u8,
+        /// When it is sent again, or given up.
+        due: u64,
+    },
+    /// The name is held up to `until`.
+    Held {
+        kind: Kind,
+        ttl: u32,
+        until: u64,
+        /// When the hold is refreshed.
+        renew: u64,
+        /// The moment of the last sending about the name.
+        last: Moment,
+        /// The refresh that no reply has ended.
+        pending: Option<Refresh>,
+    },
+    /// The name was given back, and no reply has ended the transaction.
+    Releasing {
+        kind: Kind,
+        id: u16,
+        last: Moment,
+        tries: u8,
+        due: u64,
+    },
+    /// The name may not be asked for until more than twice a datagram's life has passed since the last sending.
+    Resting {
+        last: Moment,
+    },
+}
+
+/// A refresh that no reply has ended (RFC 1002 section 5.1.2.4).
+#[derive(Clone, Copy, Debug, PartialEq, Eq)]
+pub struct Refresh {
+    pub id: u16,
+    pub first: Moment,
+    pub tries: u8,
+    pub due: u64,
+}
+
+/// A name that isn't `Idle`, and its state.
+#[derive(Debug, Drop)]
+pub struct Slot {
+    pub name: Name,
+    pub state: State,
+}
