@@ -1,11 +1,13 @@
 -- The moves of one name at a node: what events make of its state, what is sent, and what the node's user is told
 -- (RFC 1001 section 15.2, RFC 1002 section 5.1.2; the states and timers are our profile's).
-use Rattle.std.specs.Prelude.{◌≡◌, ◌≢◌, ℕ, ◌+◌, ◌*◌, ◌<◌, ◌≤◌, Bool, true, false, ◌||◌, nat_eq, nat_lt, if◌then◌else◌, ◌⊎◌, List, map, Option, Some, None, min}
+use Rattle.std.specs.Prelude.{◌≡◌, ◌≢◌, ℕ, ◌+◌, ◌*◌, ◌<◌, ◌≤◌, Bool, true, false, ◌&&◌, ◌||◌, nat_eq, nat_lt, nat_le, if◌then◌else◌, ◌⊎◌, List, map, Option, Some, None, min}
 use Rattle.nbt_name.specs.declared.addr.Kind.{Kind}
 use Rattle.nbt_name.specs.Wire.{NameValue}
 use Rattle.nbt_packet.specs.declared.message.Registration.{Registration}
 use Rattle.nbt_packet.specs.Message.{MessageValue, registration, refresh, release, registered, released, wait}
 use Rattle.nbt_lease.specs.Config.{granted}
+use Rattle.nbt_node.specs.declared.event.Event.{Event}
+use Rattle.nbt_node.specs.declared.event.Event.TheVariants as e
 use Rattle.nbt_node.specs.declared.state.State.{State}
 use Rattle.nbt_node.specs.declared.state.State.TheVariants.{Idle, Asking, Held, Releasing, Resting}
 use Rattle.nbt_node.specs.declared.state.Refresh.{Refresh}
@@ -33,6 +35,19 @@ pub data Told : Type 0 where
   finds_none : Told
   lists : (names : List ℕ) → Told
 
+abbrev pub told_of : Event → Told
+told_of e.Nothing = nothing
+told_of e.Reply = replied
+told_of (e.Granted seconds) = is_granted seconds
+told_of (e.Renewed seconds) = is_renewed seconds
+told_of (e.Refused rcode) = is_refused rcode
+told_of e.Lost = is_lost
+told_of (e.Freed rcode) = is_freed rcode
+told_of e.Wait = waits
+told_of (e.Found entries) = finds entries.now
+told_of e.NotFound = finds_none
+told_of (e.Status names) = lists names.now
+
 -- 0 follows 65,535
 abbrev pub id_after : ℕ → ℕ
 id_after id = if nat_eq id 65535 then 0 else id + 1
@@ -40,6 +55,18 @@ id_after id = if nat_eq id 65535 then 0 else id + 1
 -- a request is sent again after 5 seconds
 abbrev pub next_due : ℕ → ℕ
 next_due now = now + 5000
+
+abbrev pub is_next : (now tries due : ℕ) → Bool
+is_next now tries due = nat_lt tries 3 && nat_le due now
+
+-- a name has something to send: a request once more, or a refresh
+abbrev pub is_due : (life now : ℕ) → State → Bool
+is_due life now (Asking kind ttl id first last tries due) = is_next now tries due
+is_due life now (Releasing kind id last tries due) = is_next now tries due
+is_due life now (Held kind ttl until renew last None) = nat_le renew now && nat_lt (last + 2 * life) now
+is_due life now (Held kind ttl until renew last (Some p)) = is_next now p.tries p.due
+is_due life now Idle = false
+is_due life now (Resting last) = false
 
 -- a WACK puts the next sending off by its TTL, but by a minute at most
 abbrev pub put_off : (now ttl : ℕ) → ℕ
@@ -71,11 +98,11 @@ pub data Move (node : NodeValue) (now : ℕ) (name : NameValue) : State → Name
     → Move node now name (Held kind ttl until renew last pending) give_back (Releasing kind node.next_id now 1 (next_due now)) (Some (release node.next_id name kind node.addr.ip)) nothing (id_after node.next_id)
 
   -- a sending that is due: the same request once more, or a refresh
-  asks_again : (kind : Kind) (ttl id first last tries due : ℕ) → tries < 3 → due ≤ now
+  asks_again : (kind : Kind) (ttl id first last tries due : ℕ) → is_next now tries due ≡ true
     → Move node now name (Asking kind ttl id first last tries due) poll (Asking kind ttl id first now (tries + 1) (next_due now)) (Some (registration (claim node id name kind ttl))) nothing node.next_id
-  gives_back_again : (kind : Kind) (id last tries due : ℕ) → tries < 3 → due ≤ now
+  gives_back_again : (kind : Kind) (id last tries due : ℕ) → is_next now tries due ≡ true
     → Move node now name (Releasing kind id last tries due) poll (Releasing kind id now (tries + 1) (next_due now)) (Some (release id name kind node.addr.ip)) nothing node.next_id
-  refreshes_again : (kind : Kind) (ttl until renew last : ℕ) (p : Refresh) → p.tries < 3 → p.due ≤ now
+  refreshes_again : (kind : Kind) (ttl until renew last : ℕ) (p : Refresh) → is_next now p.tries p.due ≡ true
     → Move node now name (Held kind ttl until renew last (Some p)) poll (Held kind ttl until renew now (Some (record { id = p.id; first = p.first; tries = p.tries + 1; due = next_due now })))
       (Some (refresh (claim node p.id name kind ttl))) nothing node.next_id
   refreshes : (kind : Kind) (ttl until renew last : ℕ) → renew ≤ now → last + 2 * node.config.life < now

@@ -2,7 +2,11 @@
 //! replies to status requests (RFC 1001 section 15, RFC 1002 section 5.1). No call takes memory.
 #![tactic(auto)]
 
+mod asking;
+mod event;
 mod lookup;
+mod polling;
+mod replies;
 mod settling;
 mod slots;
 mod state;

@@ -1,0 +1,64 @@
+-- Lines of the table of moves, from what the code knows of a state.
+use Rattle.std.proofs.Common.{◌≡◌, ◌≢◌, ℕ, ◌+◌, ◌*◌, Bool, true, false, eqb, Option, Some, None, refl, sym, ap, subst, ◌∙◌, arith, inl, inr, ne_eqb, eq-eqb, zero}
+use Rattle.std.proofs.lemmas.Bool.Decides.{eqb_tells}
+use Rattle.std.specs.Prelude.{◌⊎◌, ◌||◌}
+use Rattle.nbt_name.specs.declared.addr.Kind.{Kind}
+use Rattle.nbt_name.specs.Wire.{NameValue}
+use Rattle.nbt_packet.specs.declared.message.Registration.{Registration}
+use Rattle.nbt_packet.specs.Message.{MessageValue, registered, released, wait}
+use Rattle.nbt_lease.specs.Config.{granted}
+use Rattle.nbt_node.specs.declared.state.State.{State}
+use Rattle.nbt_node.specs.declared.state.State.TheVariants.{Idle, Asking, Held, Releasing, Resting}
+use Rattle.nbt_node.specs.declared.state.Refresh.{Refresh}
+use Rattle.nbt_node.specs.Node.{NodeValue}
+use Rattle.nbt_node.specs.Moves.{Move, NameEvent, hear, Told, nothing, is_granted, is_renewed, is_refused, is_lost, is_freed, waits, matters, has_id, put_off, unmoved, granted_to, renewed_to, refused_to, loses_asked, loses_held, freed, asking_waits, giving_back_waits, refresh_waits}
+
+pub differs : (a b : ℕ) → b ≢ a → eqb a b ≡ false
+differs a b ne = ne_eqb a b (λ e. ne (sym e))
+
+neither : (a b : Bool) → a ≡ false → b ≡ false → (a || b) ≡ false
+neither a b e f = rw (e, f) refl
+
+module _ (node : NodeValue) (now : ℕ) (name : NameValue) where
+  -- a reply that changes nothing
+  pub stays : (state after : State) (message : MessageValue) (told : Told) → after ≡ state → told ≡ nothing → matters state message ≡ false → Move node now name state (hear message) after None told node.next_id
+  stays state after message told same silent out = rw (same, silent) (unmoved state message out)
+
+  -- a reply with another id: a demand drops the name, and any other does nothing
+  pub asking_demanded : (state after : State) (told : Told) (kind : Kind) (ttl id first last tries due rcode : ℕ) (r : Registration) → state ≡ Asking kind ttl id first last tries due → r.id ≢ id
+      → (rcode ≡ 7 → (after ≡ Resting last) × (told ≡ is_lost)) → (rcode ≢ 7 → (after ≡ state) × (told ≡ nothing)) → Move node now name state (hear (registered rcode r)) after None told node.next_id
+  asking_demanded state after told kind ttl id first last tries due rcode r is other demand silent =
+      elim (eqb_tells rcode 7) [
+        inl seven ↦ let d = demand seven.1 in rw (is, seven.1, d.0, d.1) (loses_asked kind ttl id first last tries due r other)
+        | inr not_seven ↦ let s = silent not_seven.1 in stays state after (registered rcode r) told s.0 s.1 (rw is (neither (eqb r.id id) (eqb rcode 7) (ne_eqb r.id id other) not_seven.0))
+      ]
+
+  pub held_demanded : (state after : State) (told : Told) (kind : Kind) (ttl until renew last : ℕ) (pending : Option Refresh) (rcode : ℕ) (r : Registration) → state ≡ Held kind ttl until renew last pending
+      → has_id pending r.id ≡ false → (rcode ≡ 7 → (after ≡ Resting last) × (told ≡ is_lost)) → (rcode ≢ 7 → (after ≡ state) × (told ≡ nothing))
+      → Move node now name state (hear (registered rcode r)) after None told node.next_id
+  held_demanded state after told kind ttl until renew last pending rcode r is other demand silent =
+      elim (eqb_tells rcode 7) [
+        inl seven ↦ let d = demand seven.1 in rw (is, d.0, d.1) (loses_held kind ttl until renew last rcode pending r (λ zero_is. absurd (omega (arith, seven.1, zero_is))) (inr seven.1))
+        | inr not_seven ↦ let s = silent not_seven.1 in stays state after (registered rcode r) told s.0 s.1 (rw is (neither (has_id pending r.id) (eqb rcode 7) other not_seven.0))
+      ]
+
+  pub asking_refused : (state : State) (kind : Kind) (ttl id first last tries due rcode : ℕ) (r : Registration) → state ≡ Asking kind ttl id first last tries due → r.id ≡ id → rcode ≢ 0
+      → Move node now name state (hear (registered rcode r)) (Resting last) None (is_refused rcode) node.next_id
+  asking_refused state kind ttl id first last tries due rcode r is same bad = rw is (refused_to kind ttl id first last tries due rcode r same bad)
+
+  pub held_refused : (state : State) (kind : Kind) (ttl until renew last : ℕ) (pending : Option Refresh) (p : Refresh) (rcode : ℕ) (r : Registration) → state ≡ Held kind ttl until renew last pending
+      → pending ≡ Some p → r.id ≡ p.id → rcode ≢ 0 → Move node now name state (hear (registered rcode r)) (Resting last) None is_lost node.next_id
+  held_refused state kind ttl until renew last pending p rcode r is one same bad =
+      rw is (loses_held kind ttl until renew last rcode pending r bad (inl (rw one (eq-eqb r.id p.id same))))
+
+  pub asking_granted : (state after : State) (kind : Kind) (ttl id first last tries due rcode seconds : ℕ) (r : Registration) → state ≡ Asking kind ttl id first last tries due → r.id ≡ id → rcode ≡ 0
+      → granted node.config.longest r.ttl ≡ seconds → after ≡ Held kind ttl (first + 1000 * seconds) (first + 500 * seconds) last None
+      → Move node now name state (hear (registered rcode r)) after None (is_granted seconds) node.next_id
+  asking_granted state after kind ttl id first last tries due rcode seconds r is same good g held =
+      rw (is, good, held, ← g) (granted_to kind ttl id first last tries due r same)
+
+  pub held_renewed : (state after : State) (kind : Kind) (ttl until renew last : ℕ) (pending : Option Refresh) (p : Refresh) (rcode seconds : ℕ) (r : Registration) → state ≡ Held kind ttl until renew last pending
+      → pending ≡ Some p → r.id ≡ p.id → rcode ≡ 0 → granted node.config.longest r.ttl ≡ seconds → after ≡ Held kind ttl (p.first + 1000 * seconds) (p.first + 500 * seconds) last None
+      → Move node now name state (hear (registered rcode r)) after None (is_renewed seconds) node.next_id
+  held_renewed state after kind ttl until renew last pending p rcode seconds r is one same good g held =
+      rw (is, one, good, held, ← g) (renewed_to kind ttl until renew last p r same)

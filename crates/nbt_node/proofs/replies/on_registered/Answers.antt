@@ -1,0 +1,51 @@
+use Rattle.std.proofs.Common.{◌≡◌, refl, sym, ◌∙◌}
+use Rattle.nbt_packet.specs.Message.{registered}
+use Rattle.nbt_node.proofs.Table.{stays, differs, asking_demanded, held_demanded, asking_refused, held_refused, asking_granted, held_renewed}
+use Rattle.nbt_node.proofs.replies.on_registered.Goals as goal
+
+pub returns-then-asked-id : goal.returns-then-asked-id
+returns-then-asked-id c = λ node now name r id_is seconds_is.
+    asking_demanded node now name c.args.state.now _ _ c.in-Asking.kind c.in-Asking.ttl c.in-Asking.asked c.in-Asking.first c.in-Asking.last c.in-Asking.tries c.in-Asking.due c.args.rcode r c.in-Asking.is
+    (λ e. c.if-asked-id.true (sym e ∙ id_is)) c.demanded.ensures.lost c.demanded.ensures.unmoved
+
+pub returns-then-rcode-ne0 : goal.returns-then-rcode-ne0
+returns-then-rcode-ne0 c = λ node now name r id_is seconds_is.
+    asking_refused node now name c.args.state.now c.in-Asking.kind c.in-Asking.ttl c.in-Asking.asked c.in-Asking.first c.in-Asking.last c.in-Asking.tries c.in-Asking.due c.args.rcode r c.in-Asking.is
+    (id_is ∙ sym c.if-asked-id.false) c.if-rcode-ne0.true
+
+pub returns-else-rcode-ne0 : goal.returns-else-rcode-ne0
+returns-else-rcode-ne0 c = λ node now name r id_is seconds_is.
+    asking_granted node now name c.args.state.now _ c.in-Asking.kind c.in-Asking.ttl c.in-Asking.asked c.in-Asking.first c.in-Asking.last c.in-Asking.tries c.in-Asking.due c.args.rcode c.args.seconds r
+    c.in-Asking.is (id_is ∙ sym c.if-asked-id.false) c.if-rcode-ne0.false seconds_is c.hold.ensures
+
+pub returns-in-None : goal.returns-in-None
+returns-in-None c = λ node now name r id_is seconds_is.
+    held_demanded node now name c.args.state.now _ _ c.in-Held.kind c.in-Held.ttl c.in-Held.until c.in-Held.renew c.in-Held.last c.in-Held.pending c.args.rcode r c.in-Held.is
+    (rw c.in-None.is refl) c.demanded-in-None.ensures.lost c.demanded-in-None.ensures.unmoved
+
+pub returns-then-refresh-id : goal.returns-then-refresh-id
+returns-then-refresh-id c = λ node now name r id_is seconds_is.
+    held_demanded node now name c.args.state.now _ _ c.in-Held.kind c.in-Held.ttl c.in-Held.until c.in-Held.renew c.in-Held.last c.in-Held.pending c.args.rcode r c.in-Held.is
+    (rw (c.in-Some.is, id_is) (differs c.args.id c.in-Some.refresh.id c.if-refresh-id.true)) c.demanded-then-refresh-id.ensures.lost c.demanded-then-refresh-id.ensures.unmoved
+
+pub returns-then-rcode-ne0-2 : goal.returns-then-rcode-ne0-2
+returns-then-rcode-ne0-2 c = λ node now name r id_is seconds_is.
+    held_refused node now name c.args.state.now c.in-Held.kind c.in-Held.ttl c.in-Held.until c.in-Held.renew c.in-Held.last c.in-Held.pending c.in-Some.refresh c.args.rcode r c.in-Held.is c.in-Some.is
+    (id_is ∙ sym c.if-refresh-id.false) c.if-rcode-ne0-2.true
+
+pub returns-else-rcode-ne0-2 : goal.returns-else-rcode-ne0-2
+returns-else-rcode-ne0-2 c = λ node now name r id_is seconds_is.
+    held_renewed node now name c.args.state.now _ c.in-Held.kind c.in-Held.ttl c.in-Held.until c.in-Held.renew c.in-Held.last c.in-Held.pending c.in-Some.refresh c.args.rcode c.args.seconds r
+    c.in-Held.is c.in-Some.is (id_is ∙ sym c.if-refresh-id.false) c.if-rcode-ne0-2.false seconds_is c.hold-in-Some.ensures
+
+pub returns-in-Idle : goal.returns-in-Idle
+returns-in-Idle c = λ node now name r id_is seconds_is.
+    stays node now name c.args.state.now _ (registered c.args.rcode r) _ c.unmoved.ensures.state c.unmoved.ensures.told (rw c.in-Idle.is refl)
+
+pub returns-in-Releasing : goal.returns-in-Releasing
+returns-in-Releasing c = λ node now name r id_is seconds_is.
+    stays node now name c.args.state.now _ (registered c.args.rcode r) _ c.unmoved-in-Releasing.ensures.state c.unmoved-in-Releasing.ensures.told (rw c.in-Releasing.is refl)
+
+pub returns-in-Resting : goal.returns-in-Resting
+returns-in-Resting c = λ node now name r id_is seconds_is.
+    stays node now name c.args.state.now _ (registered c.args.rcode r) _ c.unmoved-in-Resting.ensures.state c.unmoved-in-Resting.ensures.told (rw c.in-Resting.is refl)
