@@ -42,6 +42,12 @@ has_room [] = false
 has_room (None ∷ rest) = true
 has_room (Some slot ∷ rest) = has_room rest
 
+-- no name has two slots
+abbrev pub AreDistinct : List (Option Slot) → Type 0
+AreDistinct [] = Unit {0}
+AreDistinct (None ∷ rest) = AreDistinct rest
+AreDistinct (Some slot ∷ rest) = (is_in rest slot.name ≡ false) × AreDistinct rest
+
 -- a name that has no slot is Idle
 abbrev pub state_in : List (Option Slot) → NameValue → State
 state_in [] name = Idle
