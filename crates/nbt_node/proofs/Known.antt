@@ -1,6 +1,6 @@
 -- What is known of each name after a change of the slots.
-use Rattle.std.proofs.Common.{◌≡◌, ◌≢◌, ℕ, Bool, true, false, cond, List, [], ◌∷◌, length, map, suc, Option, Some, None, refl, sym, ap, subst, ◌∙◌, arith, inl, inr}
-use Rattle.std.specs.Prelude.{◌⊎◌, ◌||◌, ◌&&◌}
+use Rattle.std.proofs.Common.{◌≡◌, ◌≢◌, ℕ, zero, ◌<◌, Bool, true, false, cond, List, [], ◌∷◌, length, map, suc, get_or, Option, Some, None, refl, sym, ap, subst, ◌∙◌, arith, inl, inr}
+use Rattle.std.specs.Prelude.{◌⊎◌, ◌||◌, ◌&&◌, replicate}
 use Rattle.std.specs.Str.{bytes_eq}
 use Rattle.std.proofs.lemmas.Bool.{and_parts, and_from, false_from_ne_true}
 use Rattle.std.proofs.lemmas.Slice.Eq.{bytes_eq-Decides}
@@ -234,3 +234,22 @@ pub length-take_slot : (xs : List (Option Slot)) (name : NameValue) (state : Sta
 length-take_slot [] name state = refl
 length-take_slot (None ∷ rest) name state = refl
 length-take_slot (Some s ∷ rest) name state = ap suc (length-take_slot rest name state)
+
+-- ---- slots that are all free
+
+all_free_of : (xs : List (Option Slot)) → ((i : ℕ) → i < length xs → get_or xs i None ≡ None) → xs ≡ replicate (length xs) None
+all_free_of [] each = refl
+all_free_of (x ∷ xs) each =
+    let first : x ≡ None = each 0 (omega arith) in
+    let others : xs ≡ replicate (length xs) None = all_free_of xs (λ i h. each (suc i) (omega arith)) in
+    cc
+
+pub all_free : (xs : List (Option Slot)) (n : ℕ) → length xs ≡ n → ((i : ℕ) → i < n → get_or xs i None ≡ None) → xs ≡ replicate n None
+all_free xs n count each = all_free_of xs (λ i h. each i (omega arith)) ∙ ap (λ (k : ℕ). replicate k None) count
+
+distinct-free : (n : ℕ) → AreDistinct (replicate n None)
+distinct-free zero = tt
+distinct-free (suc n) = distinct-free n
+
+pub distinct-none : (xs : List (Option Slot)) (n : ℕ) → xs ≡ replicate n None → AreDistinct xs
+distinct-none xs n is = subst AreDistinct (sym is) (distinct-free n)

@@ -1,3 +1,4 @@
+pub mod Numbers
 pub mod Settling
 pub mod Node
 pub mod Moves

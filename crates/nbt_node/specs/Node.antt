@@ -1,5 +1,5 @@
 -- A node as contracts see it: what it knows of each name, and its lookup (our profile; RFC 1001 section 15.2).
-use Rattle.std.specs.Prelude.{◌≡◌, ◌≢◌, ℕ, ◌+◌, Bool, true, false, ◌&&◌, ◌||◌, nat_lt, is_some, if◌then◌else◌, List, [], ◌∷◌, map, Option, Some, None}
+use Rattle.std.specs.Prelude.{◌≡◌, ◌≢◌, ℕ, ◌+◌, Bool, true, false, ◌&&◌, ◌||◌, nat_lt, is_some, if◌then◌else◌, ◌≤◌, List, [], ◌∷◌, length, map, Option, Some, None}
 use Rattle.std.specs.Str.{bytes_eq}
 use Rattle.nbt_name.specs.declared.addr.Addr.{Addr}
 use Rattle.nbt_name.specs.declared.addr.Kind.{Kind}
@@ -73,6 +73,13 @@ take_slot (Some slot ∷ rest) name state = Some slot ∷ take_slot rest name st
 -- the slots once a name has this state
 abbrev pub with_state : List (Option Slot) → NameValue → State → List (Option Slot)
 with_state slots name state = if is_in slots name then put slots name state else take_slot slots name state
+
+-- what a node keeps, of so many slots
+pub record IsNode (count : ℕ) (node : NodeValue) : Type 0 where
+  pub few : count ≤ 14
+  pub some : 1 ≤ count
+  pub count_is : length node.slots ≡ count
+  pub apart : AreDistinct node.slots
 
 -- ---- time
 

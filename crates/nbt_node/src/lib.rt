@@ -4,9 +4,16 @@
 
 mod asking;
 mod event;
+mod fault;
 mod lookup;
+mod node;
 mod polling;
 mod replies;
 mod settling;
 mod slots;
 mod state;
+mod writing;
+
+pub use event::Event;
+pub use fault::{AskFault, ClockBack, LookupFault, ReleaseFault};
+pub use node::Node;

@@ -5,6 +5,7 @@ ghost use Rattle.nbt_node.specs.Settling.{is_over, rested, pending_at, settled};
 
 use crate::state::{Refresh, State};
 use nbt_lease::Moment;
+use nbt_name::Kind;
 
 /// How often a request is sent in all (RFC 1002 section 6.1.1).
 pub const SENDINGS: u8 = 3;
@@ -37,6 +38,9 @@ pub fn pending_at(pending: Option<Refresh>, now: Moment) -> Option<Refresh>
 }
 
 impl State {
+    ghost use Rattle.nbt_node.specs.Node.{held_at};
+    ghost use Rattle.nbt_node.specs.Calls.{is_busy, is_quiet};
+
     /// The state in which time's own moves end at `now`.
     pub fn settled(&self, life: u64, now: Moment) -> State
         requires { life ≤ 60000 }
@@ -68,5 +72,29 @@ impl State {
             State::Resting { last } => rested(*last, life, now),
             State::Idle | State::Asking { .. } | State::Releasing { .. } => *self,
         }
+    }
+
+    /// As which kind the name is held at `now`.
+    pub fn held_at(&self, now: Moment) -> Option<Kind>
+        ensures { result ≡ held_at now self.now }
+    {
+        match self {
+            State::Held { kind, until, .. } if now.get() < *until => Some(*kind),
+            _ => None,
+        }
+    }
+
+    /// Whether the name was asked for already, or is held.
+    pub fn is_busy(&self) -> bool
+        ensures { result ≡ is_busy self.now }
+    {
+        matches!(self, State::Asking { .. } | State::Held { .. })
+    }
+
+    /// Whether the name rests from the last sending about it.
+    pub fn is_quiet(&self) -> bool
+        ensures { result ≡ is_quiet self.now }
+    {
+        matches!(self, State::Releasing { .. } | State::Resting { .. })
     }
 }

@@ -1,0 +1,106 @@
+//! An end node: the names that it asks for and holds.
+
+ghost use Rattle.std.specs.Prelude.{◌≡◌, ◌≤◌, None};
+ghost use Rattle.std.specs.Result.{result_err};
+
+use crate::fault::AskFault;
+use crate::lookup::Lookup;
+use crate::slots;
+use crate::state::{Slot, State};
+use arrayvec::ArrayVec;
+use nbt_lease::{Config, Moment};
+use nbt_name::{Addr, Kind, Name};
+use std::marker::Model;
+
+/// A node of `N` slots, 1 to 14 (RFC 1001 section 10.2): one for each name that isn't `Idle`.
+#[derive(Debug, Drop)]
+pub struct Node<const N: usize> {
+    addr: Addr,
+    server: Addr,
+    config: Config,
+    start: Moment,
+    last: Moment,
+    next_id: u16,
+    lookup: Option<Lookup>,
+    slots: [Option<Slot>; N],
+}
+
+impl<const N: usize> Model for Node<N> {
+    ghost use Rattle.nbt_node.specs.Node.{NodeValue, IsNode};
+
+    ghost Value = { NodeValue };
+
+    ghost view = { λ n. record { addr = n.addr; server = n.server; config = n.config; start = n.start; last = n.last; next_id = n.next_id; lookup = n.lookup; slots = n.slots } };
+
+    ghost invariant = { λ n. IsNode N (record { addr = n.addr; server = n.server; config = n.config; start = n.start; last = n.last; next_id = n.next_id; lookup = n.lookup; slots = n.slots }) };
+}
+
+impl<const N: usize> Node<N> {
+    ghost use Rattle.nbt_node.specs.Node.{state_of, holds};
+    ghost use Rattle.nbt_node.specs.Calls.{started, ask_refusal};
+
+    /// A node at `addr` whose name server is at `server`. It knows nothing, and asks for nothing until more than twice
+    /// the greatest life of a datagram has passed (our profile).
+    pub fn start(addr: Addr, server: Addr, config: Config, now: Moment) -> Node<N>
+        requires some { 1 ≤ N }
+        requires few { N ≤ 14 }
+        ensures { result ≡ started N addr server config now }
+    {
+        let free = |_: usize| -> Option<Slot>
+            ensures { result ≡ None }
+        { None };
+        Node {
+            addr,
+            server,
+            config,
+            start: now,
+            last: now,
+            next_id: 1,
+            lookup: None,
+            slots: std::array::from_fn(free),
+        }
+    }
+
+    /// The node's own address and port.
+    pub fn addr(&self) -> Addr
+        ensures { result ≡ self.now.addr }
+    {
+        let _lookup = &self.lookup;
+        self.addr
+    }
+
+    /// As which kind the node holds the name at `now`; `None` where it doesn't, or where `now` is before the moment of
+    /// its last call.
+    pub fn holds(&self, now: Moment, name: &Name) -> Option<Kind>
+        ensures { result ≡ holds self.now name.now now }
+    {
+        if now.get() < self.last.get() {
+            return None;
+        }
+        slots::state_in(&self.slots, name).held_at(now)
+    }
+
+    /// Why the name may not be asked for, judged by the node that is settled at `now`.
+    fn ask_fault(&self, now: Moment, name: &Name) -> Option<AskFault>
+        ensures { result ≡ ask_refusal self.now now name.now }
+    {
+        if now.get() < self.last.get() {
+            return Some(AskFault::ClockBack);
+        }
+        if name.is_star() {
+            return Some(AskFault::BadName);
+        }
+        let life = self.config.life();
+        let state = slots::state_in(&self.slots, name).settled(life, now);
+        if state.is_busy() {
+            return Some(AskFault::Busy);
+        }
+        if state.is_quiet() || now.get() <= self.start.get() + 2 * life {
+            return Some(AskFault::Quiet);
+        }
+        if !slots::has_room(&self.slots, life, now) {
+            return Some(AskFault::Full);
+        }
+        None
+    }
+}
