@@ -33,6 +33,7 @@ name_tells a b = go (same_name a b) refl
   where
     absurd_of : false ≡ true → ⊥
     absurd_of e = cc
+
     go : (t : Bool) → same_name a b ≡ t → ((same_name a b ≡ true) × (a ≡ b)) ⊎ ((same_name a b ≡ false) × (a ≢ b))
     go true e = inl (e, same_name-true a b e)
     go false e = inr (e, λ same. absurd_of (sym e ∙ ap (λ (n : NameValue). same_name a n) (sym same) ∙ same_name-same a))
@@ -99,20 +100,21 @@ module _ (life now : ℕ) where
   state_in-settled (None ∷ rest) q apart = state_in-settled rest q apart
   state_in-settled (Some s ∷ rest) q apart =
       elim (name_tells s.name q) [
-        inr other ↦
-          skips (slot_of s.name (settled life now s.state)) (map (settled_slot life now) rest) q (slot_of-other s.name (settled life now s.state) q other.0)
-          ∙ state_in-settled rest q apart.1
-          ∙ rw other.0 refl
+        | inr other ↦
+            skips (slot_of s.name (settled life now s.state)) (map (settled_slot life now) rest) q (slot_of-other s.name (settled life now s.state) q other.0)
+            ∙ state_in-settled rest q apart.1
+            ∙ rw other.0 refl
         | inl same ↦ here (settled life now s.state) same.0 same.1 refl
       ]
     where
       gone : s.name ≡ q → state_in (map (settled_slot life now) rest) q ≡ Idle
       gone same = absent (map (settled_slot life now) rest) q (subst (λ (n : NameValue). is_in (map (settled_slot life now) rest) n ≡ false) same (is_in-settled rest s.name apart.0))
+
       here : (state : State) → same_name s.name q ≡ true → s.name ≡ q → settled life now s.state ≡ state
           → state_in (slot_of s.name state ∷ map (settled_slot life now) rest) q ≡ settled life now (cond (same_name s.name q) s.state (state_in rest q))
       here state yes_is same is =
           elim (slot_tells s.name state) [
-            inl idle ↦ rw (idle.1, yes_is, is, idle.0) (gone same)
+            | inl idle ↦ rw (idle.1, yes_is, is, idle.0) (gone same)
             | inr kept ↦ rw (kept.1, yes_is) (sym is)
           ]
 
@@ -125,15 +127,16 @@ module _ (life now : ℕ) where
       taken : (state : State) → (state_in (map (settled_slot life now) rest) q ≡ Idle → is_in (map (settled_slot life now) rest) q ≡ false)
           → state ≢ Idle → cond (same_name s.name q) state (state_in (map (settled_slot life now) rest) q) ≡ Idle → (same_name s.name q || is_in (map (settled_slot life now) rest) q) ≡ false
       taken state behind kept e = elim (name_tells s.name q) [
-          inl same ↦ absurd (kept (rw same.0 at e))
-          | inr other ↦ rw other.0 (behind (rw other.0 at e))
-        ]
+        | inl same ↦ absurd (kept (rw same.0 at e))
+        | inr other ↦ rw other.0 (behind (rw other.0 at e))
+      ]
+
       go : (state : State) → (state_in (map (settled_slot life now) rest) q ≡ Idle → is_in (map (settled_slot life now) rest) q ≡ false)
           → state_in (slot_of s.name state ∷ map (settled_slot life now) rest) q ≡ Idle → is_in (slot_of s.name state ∷ map (settled_slot life now) rest) q ≡ false
       go state behind e = elim (slot_tells s.name state) [
-          inl free ↦ rw free.1 (behind (rw free.1 at e))
-          | inr kept ↦ rw kept.1 (taken state behind kept.0 (rw kept.1 at e))
-        ]
+        | inl free ↦ rw free.1 (behind (rw free.1 at e))
+        | inr kept ↦ rw kept.1 (taken state behind kept.0 (rw kept.1 at e))
+      ]
 
 -- ---- a state put into a slot
 
@@ -141,7 +144,7 @@ module _ (life now : ℕ) where
 own_slot : (n : NameValue) (state : State) (rest : List (Option Slot)) → is_in rest n ≡ false → state_in (slot_of n state ∷ rest) n ≡ state
 own_slot n state rest out =
     elim (slot_tells n state) [
-      inl free ↦ rw free.1 (absent rest n out ∙ sym free.0)
+      | inl free ↦ rw free.1 (absent rest n out ∙ sym free.0)
       | inr kept ↦ rw (kept.1, same_name-same n) refl
     ]
 
@@ -149,20 +152,28 @@ pub put-other : (xs : List (Option Slot)) (name : NameValue) (state : State) (q 
 put-other [] name state q ne = refl
 put-other (None ∷ rest) name state q ne = put-other rest name state q ne
 put-other (Some s ∷ rest) name state q ne = elim (name_tells s.name name) [
-    inl same ↦
+  | inl same ↦
       rw same.0
       (skips (slot_of name state) rest q (slot_of-other name state q (same_name-other name q (λ e. ne (sym e))))
       ∙ sym (skips (Some s) rest q (same_name-other s.name q (λ e. ne (sym e ∙ same.1)))))
-    | inr other ↦ rw other.0 (ap (λ (t : State). cond (same_name s.name q) s.state t) (put-other rest name state q ne))
-  ]
+  | inr other ↦ rw other.0 (ap (λ (t : State). cond (same_name s.name q) s.state t) (put-other rest name state q ne))
+]
 
 pub put-same : (xs : List (Option Slot)) (name : NameValue) (state : State) → AreDistinct xs → is_in xs name ≡ true → state_in (put xs name state) name ≡ state
 put-same [] name state apart there = absurd cc
 put-same (None ∷ rest) name state apart there = put-same rest name state apart there
 put-same (Some s ∷ rest) name state apart there = elim (name_tells s.name name) [
-    inl same ↦ rw same.0 (own_slot name state rest (subst (λ (n : NameValue). is_in rest n ≡ false) same.1 apart.0))
-    | inr other ↦ rw (other.0, other.0) (put-same rest name state apart.1 (rw other.0 at there))
-  ]
+  | inl same ↦ rw same.0 (own_slot name state rest (subst (λ (n : NameValue). is_in rest n ≡ false) same.1 apart.0))
+  | inr other ↦ rw (other.0, other.0) (put-same rest name state apart.1 (rw other.0 at there))
+]
+
+-- a name without a slot is not put anywhere
+pub put-absent : (xs : List (Option Slot)) (name : NameValue) (state : State) → is_in xs name ≡ false → put xs name state ≡ xs
+put-absent [] name state out = refl
+put-absent (None ∷ rest) name state out = ap (λ (ys : List (Option Slot)). None ∷ ys) (put-absent rest name state out)
+put-absent (Some s ∷ rest) name state out =
+    let parts = or_false (same_name s.name name) (is_in rest name) out in
+    rw parts.0 (ap (λ (ys : List (Option Slot)). Some s ∷ ys) (put-absent rest name state parts.1))
 
 is_in-put : (xs : List (Option Slot)) (name : NameValue) (state : State) (q : NameValue) → is_in xs q ≡ false → is_in (put xs name state) q ≡ false
 is_in-put [] name state q out = refl
@@ -170,7 +181,7 @@ is_in-put (None ∷ rest) name state q out = is_in-put rest name state q out
 is_in-put (Some s ∷ rest) name state q out =
     let parts = or_false (same_name s.name q) (is_in rest q) out in
     elim (name_tells s.name name) [
-      inl same ↦ rw same.0 (not_in_step (slot_of name state) rest q (slot_of-other name state q (subst (λ (n : NameValue). same_name n q ≡ false) same.1 parts.0)) parts.1)
+      | inl same ↦ rw same.0 (not_in_step (slot_of name state) rest q (slot_of-other name state q (subst (λ (n : NameValue). same_name n q ≡ false) same.1 parts.0)) parts.1)
       | inr other ↦ rw other.0 (or_none (same_name s.name q) (is_in (put rest name state) q) parts.0 (is_in-put rest name state q parts.1))
     ]
 
@@ -178,9 +189,9 @@ pub distinct-put : (xs : List (Option Slot)) (name : NameValue) (state : State) 
 distinct-put [] name state apart = tt
 distinct-put (None ∷ rest) name state apart = distinct-put rest name state apart
 distinct-put (Some s ∷ rest) name state apart = elim (name_tells s.name name) [
-    inl same ↦ rw same.0 (distinct_step name state rest (subst (λ (n : NameValue). is_in rest n ≡ false) same.1 apart.0) apart.1)
-    | inr other ↦ rw other.0 (is_in-put rest name state s.name apart.0, distinct-put rest name state apart.1)
-  ]
+  | inl same ↦ rw same.0 (distinct_step name state rest (subst (λ (n : NameValue). is_in rest n ≡ false) same.1 apart.0) apart.1)
+  | inr other ↦ rw other.0 (is_in-put rest name state s.name apart.0, distinct-put rest name state apart.1)
+]
 
 -- ---- a name put into a free slot
 
@@ -226,14 +237,53 @@ pub length-put : (xs : List (Option Slot)) (name : NameValue) (state : State) �
 length-put [] name state = refl
 length-put (None ∷ rest) name state = ap suc (length-put rest name state)
 length-put (Some s ∷ rest) name state = elim (name_tells s.name name) [
-    inl same ↦ rw same.0 refl
-    | inr other ↦ rw other.0 (ap suc (length-put rest name state))
-  ]
+  | inl same ↦ rw same.0 refl
+  | inr other ↦ rw other.0 (ap suc (length-put rest name state))
+]
 
 pub length-take_slot : (xs : List (Option Slot)) (name : NameValue) (state : State) → length (take_slot xs name state) ≡ length xs
 length-take_slot [] name state = refl
 length-take_slot (None ∷ rest) name state = refl
 length-take_slot (Some s ∷ rest) name state = ap suc (length-take_slot rest name state)
+
+-- ---- the slots once a name has another state
+
+pub changed_slots : (xs ys zs : List (Option Slot)) (name : NameValue) (state : State) → false ≡ is_in xs name → ys ≡ put xs name state → zs ≡ take_slot ys name state → zs ≡ with_state xs name state
+changed_slots xs ys zs name state out put_is take_is =
+    take_is ∙ ap (λ (ws : List (Option Slot)). take_slot ws name state) (put_is ∙ put-absent xs name state (sym out)) ∙ sym (rw (sym out) refl)
+
+pub distinct-with_state : (xs : List (Option Slot)) (name : NameValue) (state : State) → AreDistinct xs → AreDistinct (with_state xs name state)
+distinct-with_state xs name state apart = go (is_in xs name) refl
+  where
+    go : (b : Bool) → is_in xs name ≡ b → AreDistinct (cond b (put xs name state) (take_slot xs name state))
+    go true e = distinct-put xs name state apart
+    go false e = distinct-take xs name state e apart
+
+pub length-with_state : (xs : List (Option Slot)) (name : NameValue) (state : State) → length (with_state xs name state) ≡ length xs
+length-with_state xs name state = go (is_in xs name)
+  where
+    go : (b : Bool) → length (cond b (put xs name state) (take_slot xs name state)) ≡ length xs
+    go true = length-put xs name state
+    go false = length-take_slot xs name state
+
+pub with_state-other : (xs : List (Option Slot)) (name : NameValue) (state : State) (q : NameValue) → q ≢ name → state_in (with_state xs name state) q ≡ state_in xs q
+with_state-other xs name state q ne = go (is_in xs name)
+  where
+    go : (b : Bool) → state_in (cond b (put xs name state) (take_slot xs name state)) q ≡ state_in xs q
+    go true = put-other xs name state q ne
+    go false = take-other xs name state q ne
+
+-- the name has a slot, or there is room for one, or it needs none
+pub with_state-same : (xs : List (Option Slot)) (name : NameValue) (state : State) → AreDistinct xs → (is_in xs name ≡ false → (has_room xs ≡ true) ⊎ (state ≡ Idle)) → state_in (with_state xs name state) name ≡ state
+with_state-same xs name state apart room = go (is_in xs name) refl
+  where
+    free : is_in xs name ≡ false → (has_room xs ≡ true) ⊎ (state ≡ Idle) → state_in (take_slot xs name state) name ≡ state
+    free out (inl some) = take-same xs name state out some
+    free out (inr idle) = rw idle (ap (λ (ys : List (Option Slot)). state_in ys name) (take-idle xs name) ∙ absent xs name out)
+
+    go : (b : Bool) → is_in xs name ≡ b → state_in (cond b (put xs name state) (take_slot xs name state)) name ≡ state
+    go true e = put-same xs name state apart e
+    go false e = free e (room e)
 
 -- ---- slots that are all free
 

@@ -1,3 +1,4 @@
 pub mod Places
 pub mod Table
 pub mod Known
+pub mod Moving

@@ -29,7 +29,7 @@ module _ (node : NodeValue) (now : ℕ) (name : NameValue) where
       → (rcode ≡ 7 → (after ≡ Resting last) × (told ≡ is_lost)) → (rcode ≢ 7 → (after ≡ state) × (told ≡ nothing)) → Move node now name state (hear (registered rcode r)) after None told node.next_id
   asking_demanded state after told kind ttl id first last tries due rcode r is other demand silent =
       elim (eqb_tells rcode 7) [
-        inl seven ↦ let d = demand seven.1 in rw (is, seven.1, d.0, d.1) (loses_asked kind ttl id first last tries due r other)
+        | inl seven ↦ let d = demand seven.1 in rw (is, seven.1, d.0, d.1) (loses_asked kind ttl id first last tries due r other)
         | inr not_seven ↦ let s = silent not_seven.1 in stays state after (registered rcode r) told s.0 s.1 (rw is (neither (eqb r.id id) (eqb rcode 7) (ne_eqb r.id id other) not_seven.0))
       ]
 
@@ -38,7 +38,7 @@ module _ (node : NodeValue) (now : ℕ) (name : NameValue) where
       → Move node now name state (hear (registered rcode r)) after None told node.next_id
   held_demanded state after told kind ttl until renew last pending rcode r is other demand silent =
       elim (eqb_tells rcode 7) [
-        inl seven ↦ let d = demand seven.1 in rw (is, d.0, d.1) (loses_held kind ttl until renew last rcode pending r (λ zero_is. absurd (omega (arith, seven.1, zero_is))) (inr seven.1))
+        | inl seven ↦ let d = demand seven.1 in rw (is, d.0, d.1) (loses_held kind ttl until renew last rcode pending r (λ zero_is. absurd (omega (arith, seven.1, zero_is))) (inr seven.1))
         | inr not_seven ↦ let s = silent not_seven.1 in stays state after (registered rcode r) told s.0 s.1 (rw is (neither (has_id pending r.id) (eqb rcode 7) other not_seven.0))
       ]
 

@@ -1,6 +1,6 @@
 -- The moves of one name at a node: what events make of its state, what is sent, and what the node's user is told
 -- (RFC 1001 section 15.2, RFC 1002 section 5.1.2; the states and timers are our profile's).
-use Rattle.std.specs.Prelude.{◌≡◌, ◌≢◌, ℕ, ◌+◌, ◌*◌, ◌<◌, ◌≤◌, Bool, true, false, ◌&&◌, ◌||◌, nat_eq, nat_lt, nat_le, if◌then◌else◌, ◌⊎◌, List, map, Option, Some, None, min}
+use Rattle.std.specs.Prelude.{◌≡◌, ◌≢◌, ℕ, ◌+◌, ◌*◌, ◌<◌, ◌≤◌, Bool, true, false, ◌&&◌, ◌||◌, nat_eq, nat_lt, nat_le, if◌then◌else◌, ◌⊎◌, List, Option, Some, None, min}
 use Rattle.nbt_name.specs.declared.addr.Kind.{Kind}
 use Rattle.nbt_name.specs.Wire.{NameValue}
 use Rattle.nbt_packet.specs.declared.message.Registration.{Registration}
@@ -12,7 +12,7 @@ use Rattle.nbt_node.specs.declared.state.State.{State}
 use Rattle.nbt_node.specs.declared.state.State.TheVariants.{Idle, Asking, Held, Releasing, Resting}
 use Rattle.nbt_node.specs.declared.state.Refresh.{Refresh}
 use Rattle.nbt_node.specs.Settling.{settled}
-use Rattle.nbt_node.specs.Node.{NodeValue, settled_node, settled_slot, state_of, state_at, with_state, OthersByTimeAlone}
+use Rattle.nbt_node.specs.Node.{NodeValue, state_of, state_at, changed, OthersByTimeAlone}
 
 -- what happens to a name: it is asked for, given back or polled, or the server says something about it
 pub data NameEvent : Type 0 where
@@ -93,41 +93,39 @@ matters state message = false
 -- The table: a state, an event, the state afterwards, what is sent to the server, what is told, and the next id.
 pub data Move (node : NodeValue) (now : ℕ) (name : NameValue) : State → NameEvent → State → Option MessageValue → Told → ℕ → Type 0 where
   asks : (kind : Kind) (ttl : ℕ) → node.start + 2 * node.config.life < now
-    → Move node now name Idle (ask kind ttl) (Asking kind ttl node.next_id now now 1 (next_due now)) (Some (registration (claim node node.next_id name kind ttl))) nothing (id_after node.next_id)
+      → Move node now name Idle (ask kind ttl) (Asking kind ttl node.next_id now now 1 (next_due now)) (Some (registration (claim node node.next_id name kind ttl))) nothing (id_after node.next_id)
   gives_back : (kind : Kind) (ttl until renew last : ℕ) (pending : Option Refresh)
-    → Move node now name (Held kind ttl until renew last pending) give_back (Releasing kind node.next_id now 1 (next_due now)) (Some (release node.next_id name kind node.addr.ip)) nothing (id_after node.next_id)
-
+      → Move node now name (Held kind ttl until renew last pending) give_back (Releasing kind node.next_id now 1 (next_due now)) (Some (release node.next_id name kind node.addr.ip)) nothing (id_after node.next_id)
   -- a sending that is due: the same request once more, or a refresh
   asks_again : (kind : Kind) (ttl id first last tries due : ℕ) → is_next now tries due ≡ true
-    → Move node now name (Asking kind ttl id first last tries due) poll (Asking kind ttl id first now (tries + 1) (next_due now)) (Some (registration (claim node id name kind ttl))) nothing node.next_id
+      → Move node now name (Asking kind ttl id first last tries due) poll (Asking kind ttl id first now (tries + 1) (next_due now)) (Some (registration (claim node id name kind ttl))) nothing node.next_id
   gives_back_again : (kind : Kind) (id last tries due : ℕ) → is_next now tries due ≡ true
-    → Move node now name (Releasing kind id last tries due) poll (Releasing kind id now (tries + 1) (next_due now)) (Some (release id name kind node.addr.ip)) nothing node.next_id
+      → Move node now name (Releasing kind id last tries due) poll (Releasing kind id now (tries + 1) (next_due now)) (Some (release id name kind node.addr.ip)) nothing node.next_id
   refreshes_again : (kind : Kind) (ttl until renew last : ℕ) (p : Refresh) → is_next now p.tries p.due ≡ true
-    → Move node now name (Held kind ttl until renew last (Some p)) poll (Held kind ttl until renew now (Some (record { id = p.id; first = p.first; tries = p.tries + 1; due = next_due now })))
+      → Move node now name (Held kind ttl until renew last (Some p)) poll (Held kind ttl until renew now (Some (record { id = p.id; first = p.first; tries = p.tries + 1; due = next_due now })))
       (Some (refresh (claim node p.id name kind ttl))) nothing node.next_id
   refreshes : (kind : Kind) (ttl until renew last : ℕ) → renew ≤ now → last + 2 * node.config.life < now
-    → Move node now name (Held kind ttl until renew last None) poll (Held kind ttl until renew now (Some (record { id = node.next_id; first = now; tries = 1; due = next_due now })))
+      → Move node now name (Held kind ttl until renew last None) poll (Held kind ttl until renew now (Some (record { id = node.next_id; first = now; tries = 1; due = next_due now })))
       (Some (refresh (claim node node.next_id name kind ttl))) nothing (id_after node.next_id)
-
   -- a reply of the server: a hold is counted from the transaction's first sending
   granted_to : (kind : Kind) (ttl id first last tries due : ℕ) (r : Registration) → r.id ≡ id
-    → Move node now name (Asking kind ttl id first last tries due) (hear (registered 0 r)) (Held kind ttl (first + 1000 * granted node.config.longest r.ttl) (first + 500 * granted node.config.longest r.ttl) last None) None (is_granted (granted node.config.longest r.ttl)) node.next_id
+      → Move node now name (Asking kind ttl id first last tries due) (hear (registered 0 r)) (Held kind ttl (first + 1000 * granted node.config.longest r.ttl) (first + 500 * granted node.config.longest r.ttl) last None) None (is_granted (granted node.config.longest r.ttl)) node.next_id
   renewed_to : (kind : Kind) (ttl until renew last : ℕ) (p : Refresh) (r : Registration) → r.id ≡ p.id
-    → Move node now name (Held kind ttl until renew last (Some p)) (hear (registered 0 r)) (Held kind ttl (p.first + 1000 * granted node.config.longest r.ttl) (p.first + 500 * granted node.config.longest r.ttl) last None) None (is_renewed (granted node.config.longest r.ttl)) node.next_id
+      → Move node now name (Held kind ttl until renew last (Some p)) (hear (registered 0 r)) (Held kind ttl (p.first + 1000 * granted node.config.longest r.ttl) (p.first + 500 * granted node.config.longest r.ttl) last None) None (is_renewed (granted node.config.longest r.ttl)) node.next_id
   refused_to : (kind : Kind) (ttl id first last tries due rcode : ℕ) (r : Registration) → r.id ≡ id → rcode ≢ 0
-    → Move node now name (Asking kind ttl id first last tries due) (hear (registered rcode r)) (Resting last) None (is_refused rcode) node.next_id
+      → Move node now name (Asking kind ttl id first last tries due) (hear (registered rcode r)) (Resting last) None (is_refused rcode) node.next_id
   loses_asked : (kind : Kind) (ttl id first last tries due : ℕ) (r : Registration) → r.id ≢ id
-    → Move node now name (Asking kind ttl id first last tries due) (hear (registered 7 r)) (Resting last) None is_lost node.next_id
+      → Move node now name (Asking kind ttl id first last tries due) (hear (registered 7 r)) (Resting last) None is_lost node.next_id
   loses_held : (kind : Kind) (ttl until renew last rcode : ℕ) (pending : Option Refresh) (r : Registration) → rcode ≢ 0 → (has_id pending r.id ≡ true) ⊎ (rcode ≡ 7)
-    → Move node now name (Held kind ttl until renew last pending) (hear (registered rcode r)) (Resting last) None is_lost node.next_id
+      → Move node now name (Held kind ttl until renew last pending) (hear (registered rcode r)) (Resting last) None is_lost node.next_id
   freed : (kind : Kind) (id last tries due rcode : ℕ) (n : NameValue) (k : Kind) (a : ℕ)
-    → Move node now name (Releasing kind id last tries due) (hear (released id rcode n k a)) (Resting last) None (is_freed rcode) node.next_id
+      → Move node now name (Releasing kind id last tries due) (hear (released id rcode n k a)) (Resting last) None (is_freed rcode) node.next_id
   asking_waits : (kind : Kind) (ttl id first last tries due : ℕ) (n : NameValue) (t : ℕ)
-    → Move node now name (Asking kind ttl id first last tries due) (hear (wait id n t)) (Asking kind ttl id first last tries (put_off now t)) None waits node.next_id
+      → Move node now name (Asking kind ttl id first last tries due) (hear (wait id n t)) (Asking kind ttl id first last tries (put_off now t)) None waits node.next_id
   giving_back_waits : (kind : Kind) (id last tries due : ℕ) (n : NameValue) (t : ℕ)
-    → Move node now name (Releasing kind id last tries due) (hear (wait id n t)) (Releasing kind id last tries (put_off now t)) None waits node.next_id
+      → Move node now name (Releasing kind id last tries due) (hear (wait id n t)) (Releasing kind id last tries (put_off now t)) None waits node.next_id
   refresh_waits : (kind : Kind) (ttl until renew last : ℕ) (p : Refresh) (n : NameValue) (t : ℕ)
-    → Move node now name (Held kind ttl until renew last (Some p)) (hear (wait p.id n t)) (Held kind ttl until renew last (Some (record p { due = put_off now t }))) None waits node.next_id
+      → Move node now name (Held kind ttl until renew last (Some p)) (hear (wait p.id n t)) (Held kind ttl until renew last (Some (record p { due = put_off now t }))) None waits node.next_id
   unmoved : (state : State) (message : MessageValue) → matters state message ≡ false → Move node now name state (hear message) state None nothing node.next_id
 
 -- One name moves, from its state at the moment; what comes of it is settled once more. Every other name changes by
@@ -137,4 +135,4 @@ pub record NameMoves (old : NodeValue) (now : ℕ) (name : NameValue) (event : N
   pub move : Move old now name (state_at old now name) event after sent told new.next_id
   pub named : state_of new name ≡ settled old.config.life now after
   pub others : OthersByTimeAlone old now name new
-  pub node : new ≡ record (settled_node old now) { next_id = new.next_id; slots = with_state (map (settled_slot old.config.life now) old.slots) name (settled old.config.life now after) }
+  pub node : new ≡ changed old now name after new.next_id

@@ -97,6 +97,11 @@ settled_node node now = record node { last = now; lookup = settled_lookup now no
 
 -- ---- one name
 
+-- once a name has moved to a state at a moment, which settles there
+abbrev pub changed : NodeValue → ℕ → NameValue → State → (next_id : ℕ) → NodeValue
+changed node now name after next_id =
+    record (settled_node node now) { next_id = next_id; slots = with_state (map (settled_slot node.config.life now) node.slots) name (settled node.config.life now after) }
+
 abbrev pub state_of : NodeValue → NameValue → State
 state_of node name = state_in node.slots name
 

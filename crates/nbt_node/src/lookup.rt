@@ -1,5 +1,9 @@
 //! Looking up who holds a name, and what names an end holds (RFC 1002 sections 4.2.12 and 4.2.17).
 
+ghost use Rattle.std.specs.Prelude.{◌≡◌};
+
+use crate::settling::is_over;
+use nbt_lease::Moment;
 use nbt_name::{Addr, Name};
 
 /// What a lookup asks for.
@@ -21,4 +25,19 @@ pub struct Lookup {
     pub wanted: Wanted,
     pub tries: u8,
     pub due: u64,
+}
+
+impl Lookup {
+    ghost use Rattle.nbt_node.specs.Node.{settled_lookup};
+
+    /// Ends a lookup that time has ended at `now`.
+    pub fn settle(lookup: &mut Option<Lookup>, now: Moment)
+        ensures { lookup.new ≡ settled_lookup now lookup.old }
+    {
+        if let Some(open) = lookup {
+            if is_over(open.tries, open.due, now) {
+                *lookup = None;
+            }
+        }
+    }
 }

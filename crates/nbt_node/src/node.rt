@@ -1,15 +1,18 @@
 //! An end node: the names that it asks for and holds.
 
-ghost use Rattle.std.specs.Prelude.{◌≡◌, ◌≤◌, None};
+ghost use Rattle.std.specs.Prelude.{◌≡◌, ◌≤◌, [], None, OnOk, OnErr};
 ghost use Rattle.std.specs.Result.{result_err};
 
+use crate::asking::{claim, id_after, next_due};
 use crate::fault::AskFault;
 use crate::lookup::Lookup;
 use crate::slots;
 use crate::state::{Slot, State};
+use crate::writing::write;
 use arrayvec::ArrayVec;
 use nbt_lease::{Config, Moment};
 use nbt_name::{Addr, Kind, Name};
+use nbt_packet::Message;
 use std::marker::Model;
 
 /// A node of `N` slots, 1 to 14 (RFC 1001 section 10.2): one for each name that isn't `Idle`.
@@ -36,8 +39,9 @@ impl<const N: usize> Model for Node<N> {
 }
 
 impl<const N: usize> Node<N> {
-    ghost use Rattle.nbt_node.specs.Node.{state_of, holds};
-    ghost use Rattle.nbt_node.specs.Calls.{started, ask_refusal};
+    ghost use Rattle.nbt_node.specs.Node.{holds, changed, AreDistinct};
+    ghost use Rattle.nbt_node.specs.Moves.{ask};
+    ghost use Rattle.nbt_node.specs.Calls.{started, ask_refusal, Sends};
 
     /// A node at `addr` whose name server is at `server`. It knows nothing, and asks for nothing until more than twice
     /// the greatest life of a datagram has passed (our profile).
@@ -102,5 +106,57 @@ impl<const N: usize> Node<N> {
             return Some(AskFault::Full);
         }
         None
+    }
+
+    /// Settles the node at `now`, gives the name another state, which settles too, and takes the next id.
+    fn change(&mut self, now: Moment, name: &Name, after: &State, next_id: u16)
+        ensures node { self.new ≡ changed self.old now name.now after.now next_id }
+        ensures apart { AreDistinct self.old.slots }
+    {
+        let life = self.config.life();
+        Lookup::settle(&mut self.lookup, now);
+        slots::settle(&mut self.slots, life, now);
+        slots::change(&mut self.slots, name, &after.settled(life, now));
+        self.next_id = next_id;
+        self.last = now;
+    }
+
+    /// Asks the server for the name, for `ttl` seconds or, where that is 0, as long as may be: `out` then holds the
+    /// NAME REGISTRATION REQUEST for the server, and nothing else (RFC 1002 section 4.2.2). Refused in this order, the
+    /// node staying as it was and `out` empty: `ClockBack` (4), where `now` is before the moment of an earlier call;
+    /// `BadName` (5), where the name begins with `*`; `Busy` (2), where the name was asked for already or is held;
+    /// `Quiet` (1), where no more than twice the greatest life of a datagram has passed since the node's start, or since
+    /// the last sending about the name; `Full` (3), where no slot is free.
+    pub fn ask(
+        &mut self,
+        now: Moment,
+        name: &Name,
+        kind: Kind,
+        ttl: u32,
+        out: &mut ArrayVec<u8, 576>,
+    ) -> Result<(), AskFault>
+        ensures refused { result_err result ≡ ask_refusal self.old now name.now }
+        ensures ok { OnOk result (Sends self.old now name.now (ask kind ttl) self.new out.new.items) }
+        ensures err { OnErr result ((self.new ≡ self.old) × (out.new.items ≡ [])) }
+    {
+        out.clear();
+        match self.ask_fault(now, name) {
+            Some(fault) => return Err(fault),
+            None => {}
+        }
+        let id = self.next_id;
+        let message = Message::Registration(claim(self.addr.ip, id, name, kind, ttl));
+        let asking = State::Asking {
+            kind,
+            ttl,
+            id,
+            first: now,
+            last: now,
+            tries: 1,
+            due: next_due(now),
+        };
+        self.change(now, name, &asking, id_after(id));
+        write(&message, out);
+        Ok(())
     }
 }

@@ -137,7 +137,9 @@ pub fn on_released<'a>(state: &State, rcode: u8, id: u16) -> Outcome<'a>
 {
     match state {
         State::Releasing {
-            id: asked, last, ..
+            id: asked,
+            last,
+            ..
         } => {
             if *asked != id {
                 return unmoved(state);

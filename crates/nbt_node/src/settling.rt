@@ -48,10 +48,16 @@ impl State {
     {
         match self {
             State::Asking {
-                last, tries, due, ..
+                last,
+                tries,
+                due,
+                ..
             }
             | State::Releasing {
-                last, tries, due, ..
+                last,
+                tries,
+                due,
+                ..
             } if is_over(*tries, *due, now) => rested(*last, life, now),
             State::Held { until, last, .. } if *until <= now.get() => rested(*last, life, now),
             State::Held {

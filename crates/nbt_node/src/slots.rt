@@ -1,7 +1,7 @@
 //! The slots of a node: each is free, or has a name that isn't `Idle`.
 
 ghost use Rattle.std.specs.Prelude.{◌≡◌, ◌≤◌, ◌↔◌, map, is_none, if◌then◌else◌};
-ghost use Rattle.nbt_node.specs.Node.{same_name, state_in, slot_of, settled_slot, is_named, has_room, put, take_slot};
+ghost use Rattle.nbt_node.specs.Node.{same_name, state_in, slot_of, settled_slot, is_named, is_in, has_room, put, take_slot, with_state};
 ghost use Rattle.nbt_node.specs.Settling.{settled};
 
 use crate::state::{Slot, State};
@@ -95,15 +95,17 @@ fn put_into(slot: &mut Option<Slot>, name: &Name, state: &State) -> bool
     }
 }
 
-/// Puts another state into the name's slot, where it has one.
-pub fn put(slots: &mut [Option<Slot>], name: &Name, state: &State)
-    ensures { slots.new ≡ put slots.old name.now state.now }
+/// Puts another state into the name's slot. Returns whether it has one.
+fn put(slots: &mut [Option<Slot>], name: &Name, state: &State) -> bool
+    ensures found { result ≡ is_in slots.old name.now }
+    ensures slots { slots.new ≡ put slots.old name.now state.now }
 {
     for slot in slots.iter_mut() {
         if put_into(slot, name, state) {
-            return;
+            return true;
         }
     }
+    false
 }
 
 /// Puts a name and its state into a free slot. Returns whether it did.
@@ -124,7 +126,7 @@ fn take_into(slot: &mut Option<Slot>, name: &Name, state: &State) -> bool
 }
 
 /// Puts a name and its state into the lowest free slot, where there is one.
-pub fn take(slots: &mut [Option<Slot>], name: &Name, state: &State)
+fn take(slots: &mut [Option<Slot>], name: &Name, state: &State)
     ensures { slots.new ≡ take_slot slots.old name.now state.now }
 {
     for slot in slots.iter_mut() {
@@ -132,4 +134,14 @@ pub fn take(slots: &mut [Option<Slot>], name: &Name, state: &State)
             return;
         }
     }
+}
+
+/// Puts another state into the name's slot, or else into the lowest free one.
+pub fn change(slots: &mut [Option<Slot>], name: &Name, state: &State)
+    ensures { slots.new ≡ with_state slots.old name.now state.now }
+{
+    if put(slots, name, state) {
+        return;
+    }
+    take(slots, name, state);
 }

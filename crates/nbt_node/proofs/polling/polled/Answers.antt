@@ -16,12 +16,12 @@ returns-else-not-is_next-2-clause-moves c = λ node own_is id_is life_is.
 pub returns-after-pending-clause-moves : goal.returns-after-pending-clause-moves
 returns-after-pending-clause-moves c = λ node own_is id_is life_is.
     elim c.match-pending.branch [
-      in-Some+else-not-is_next-3 w ↦
-        rw (c.claim-in-Held.ensures.value, c.in-Held.is, w.in-Some.is, w.refresh-is, w.next_due-in-Some.ensures, ← own_is, ← id_is)
-        (refreshes_again c.in-Held.kind c.in-Held.ttl c.in-Held.until c.in-Held.renew c.in-Held.last w.in-Some.refresh (sym w.if-not-is_next-3.ensures))
+      | in-Some+else-not-is_next-3 w ↦
+          rw (c.claim-in-Held.ensures.value, c.in-Held.is, w.in-Some.is, w.refresh-is, w.next_due-in-Some.ensures, ← own_is, ← id_is)
+          (refreshes_again c.in-Held.kind c.in-Held.ttl c.in-Held.until c.in-Held.renew c.in-Held.last w.in-Some.refresh (sym w.if-not-is_next-3.ensures))
       | in-None+else-get-renew+else-get-life w ↦
-        let ready : c.in-Held.renew ≤ c.args.now = omega arith in
-        let rested : c.in-Held.last + 2 * node.config.life < c.args.now = omega (arith, life_is) in
-        rw (c.claim-in-Held.ensures.value, c.in-Held.is, w.in-None.is, w.refresh-is, w.next_due-in-None.ensures, w.id_after.ensures, ← own_is, ← id_is)
-        (refreshes c.in-Held.kind c.in-Held.ttl c.in-Held.until c.in-Held.renew c.in-Held.last ready rested)
+          let ready : c.in-Held.renew ≤ c.args.now = omega arith in
+          let rested : c.in-Held.last + 2 * node.config.life < c.args.now = omega (arith, life_is) in
+          rw (c.claim-in-Held.ensures.value, c.in-Held.is, w.in-None.is, w.refresh-is, w.next_due-in-None.ensures, w.id_after.ensures, ← own_is, ← id_is)
+          (refreshes c.in-Held.kind c.in-Held.ttl c.in-Held.until c.in-Held.renew c.in-Held.last ready rested)
     ]

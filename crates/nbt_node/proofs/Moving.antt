@@ -1,0 +1,129 @@
+-- What a call that moves one name makes of the node.
+use Rattle.std.proofs.Common.{◌≡◌, ◌≢◌, ℕ, ◌+◌, ◌*◌, ◌<◌, ◌≤◌, Bool, true, false, cond, List, [], ◌∷◌, length, map, Option, Some, None, refl, sym, ap, subst, ◌∙◌, arith, inl, inr, leb-false}
+use Rattle.std.specs.Prelude.{◌⊎◌, ◌||◌, nat_lt, nat_le}
+use Rattle.std.proofs.lemmas.List.{length-map}
+use Rattle.nbt_name.specs.declared.addr.Kind.{Kind}
+use Rattle.nbt_name.specs.Wire.{NameValue}
+use Rattle.nbt_packet.specs.Message.{MessageValue}
+use Rattle.nbt_packet.specs.Text.{text}
+use Rattle.nbt_packet.specs.Spelling.{Spells}
+use Rattle.nbt_node.specs.declared.fault.AskFault.TheVariants as fault
+use Rattle.nbt_node.specs.declared.state.State.{State}
+use Rattle.nbt_node.specs.declared.state.State.TheVariants.{Idle, Asking, Held, Releasing, Resting}
+use Rattle.nbt_node.specs.declared.state.Slot.{Slot}
+use Rattle.nbt_node.specs.Settling.{settled}
+use Rattle.nbt_node.specs.Node.{NodeValue, IsNode, is_in, has_room, AreDistinct, state_in, with_state, settled_slot, state_of, state_at, changed, Passes, settled_node}
+use Rattle.nbt_node.specs.Moves.{NameEvent, ask, give_back, poll, hear, Told, Move, NameMoves, asks, gives_back, asks_again, gives_back_again, refreshes_again, refreshes, granted_to, renewed_to, refused_to, loses_asked, loses_held, freed, asking_waits, giving_back_waits, refresh_waits, unmoved}
+use Rattle.nbt_node.specs.Calls.{is_busy, is_quiet, ask_refusal}
+use Rattle.nbt_node.proofs.Known.{absent, distinct-settled, state_in-settled, idle_is_out, distinct-with_state, length-with_state, with_state-other, with_state-same}
+
+-- what the node keeps, it keeps
+pub keeps : (old new : NodeValue) (count life now : ℕ) (xs ys zs : List (Option Slot)) (name : NameValue) (state : State) → IsNode count old → old.slots ≡ xs → new.slots ≡ zs
+    → ys ≡ map (settled_slot life now) xs → zs ≡ with_state ys name state → IsNode count new
+keeps old new count life now xs ys zs name state is old_is new_is settles changes =
+    let apart : AreDistinct xs = subst AreDistinct old_is is.apart in
+    let apart_then : AreDistinct ys = rw settles (distinct-settled life now xs apart) in
+    record {
+      few = is.few;
+      some = is.some;
+      count_is = ap length (new_is ∙ changes) ∙ length-with_state ys name state ∙ ap length settles ∙ length-map xs (settled_slot life now) ∙ ap length (sym old_is) ∙ is.count_is;
+      apart = subst AreDistinct (sym (new_is ∙ changes)) (distinct-with_state ys name state apart_then);
+    }
+
+-- a name that is Idle stays so, unless it is asked for
+from_idle : (node : NodeValue) (now : ℕ) (name : NameValue) (before : State) (event : NameEvent) (after : State) (sent : Option MessageValue) (told : Told) (next : ℕ) → Move node now name before event after sent told next
+    → before ≡ Idle → ((kind : Kind) (ttl : ℕ) → event ≢ ask kind ttl) → after ≡ Idle
+from_idle node now name _ _ _ _ _ _ (asks kind ttl rested) idle other = absurd (other kind ttl refl)
+from_idle node now name _ _ _ _ _ _ (gives_back kind ttl until renew last pending) idle other = absurd cc
+from_idle node now name _ _ _ _ _ _ (asks_again kind ttl id first last tries due ready) idle other = absurd cc
+from_idle node now name _ _ _ _ _ _ (gives_back_again kind id last tries due ready) idle other = absurd cc
+from_idle node now name _ _ _ _ _ _ (refreshes_again kind ttl until renew last p ready) idle other = absurd cc
+from_idle node now name _ _ _ _ _ _ (refreshes kind ttl until renew last ready rested) idle other = absurd cc
+from_idle node now name _ _ _ _ _ _ (granted_to kind ttl id first last tries due r same) idle other = absurd cc
+from_idle node now name _ _ _ _ _ _ (renewed_to kind ttl until renew last p r same) idle other = absurd cc
+from_idle node now name _ _ _ _ _ _ (refused_to kind ttl id first last tries due rcode r same bad) idle other = absurd cc
+from_idle node now name _ _ _ _ _ _ (loses_asked kind ttl id first last tries due r differs) idle other = absurd cc
+from_idle node now name _ _ _ _ _ _ (loses_held kind ttl until renew last rcode pending r bad why) idle other = absurd cc
+from_idle node now name _ _ _ _ _ _ (freed kind id last tries due rcode n k a) idle other = absurd cc
+from_idle node now name _ _ _ _ _ _ (asking_waits kind ttl id first last tries due n t) idle other = absurd cc
+from_idle node now name _ _ _ _ _ _ (giving_back_waits kind id last tries due n t) idle other = absurd cc
+from_idle node now name _ _ _ _ _ _ (refresh_waits kind ttl until renew last p n t) idle other = absurd cc
+from_idle node now name _ _ _ _ _ _ (unmoved state message out) idle other = idle
+
+module _ (old new : NodeValue) (now : ℕ) (name : NameValue) where
+  -- a move of one name is the node's
+  name_moves : (event : NameEvent) (after : State) (sent : Option MessageValue) (told : Told) (next : ℕ) → Move old now name (state_at old now name) event after sent told next
+      → new ≡ changed old now name after next → AreDistinct old.slots
+      → (is_in (map (settled_slot old.config.life now) old.slots) name ≡ false → (has_room (map (settled_slot old.config.life now) old.slots) ≡ true) ⊎ (settled old.config.life now after ≡ Idle))
+      → NameMoves old now name event new sent told
+  name_moves event after sent told next move is apart room =
+      let next_is : new.next_id ≡ next = ap (λ (n : NodeValue). n.next_id) is in
+      let slots_are : new.slots ≡ with_state (map (settled_slot old.config.life now) old.slots) name (settled old.config.life now after) = ap (λ (n : NodeValue). n.slots) is in
+      record {
+        after = after;
+        move = subst (λ (id : ℕ). Move old now name (state_at old now name) event after sent told id) (sym next_is) move;
+        named =
+            ap (λ (xs : List (Option Slot)). state_in xs name) slots_are
+            ∙ with_state-same (map (settled_slot old.config.life now) old.slots) name (settled old.config.life now after) (distinct-settled old.config.life now old.slots apart) room;
+        others = λ q ne.
+            ap (λ (xs : List (Option Slot)). state_in xs q) slots_are
+            ∙ with_state-other (map (settled_slot old.config.life now) old.slots) name (settled old.config.life now after) q ne
+            ∙ state_in-settled old.config.life now old.slots q apart;
+        node = is ∙ ap (λ (id : ℕ). changed old now name after id) (sym next_is);
+      }
+
+  -- of a name that is asked for, and by any other event
+  pub moves_asked : (event : NameEvent) (after : State) (sent : Option MessageValue) (told : Told) (next : ℕ) → Move old now name (state_at old now name) event after sent told next
+      → new ≡ changed old now name after next → AreDistinct old.slots → has_room (map (settled_slot old.config.life now) old.slots) ≡ true → NameMoves old now name event new sent told
+  moves_asked event after sent told next move is apart room = name_moves event after sent told next move is apart (λ out. inl room)
+
+  pub moves_known : (event : NameEvent) (after : State) (sent : Option MessageValue) (told : Told) (next : ℕ) → Move old now name (state_at old now name) event after sent told next
+      → new ≡ changed old now name after next → AreDistinct old.slots → ((kind : Kind) (ttl : ℕ) → event ≢ ask kind ttl) → NameMoves old now name event new sent told
+  moves_known event after sent told next move is apart other =
+      name_moves event after sent told next move is apart
+      (λ out. inr (ap (settled old.config.life now) (from_idle old now name (state_at old now name) event after sent told next move (idle_at out) other)))
+    where
+      idle_at : is_in (map (settled_slot old.config.life now) old.slots) name ≡ false → state_at old now name ≡ Idle
+      idle_at out = sym (state_in-settled old.config.life now old.slots name apart) ∙ absent (map (settled_slot old.config.life now) old.slots) name out
+
+-- ---- what is known where an ask isn't refused
+
+pub record MayAsk (node : NodeValue) (now : ℕ) (name : NameValue) : Type 0 where
+  pub idle : state_at node now name ≡ Idle
+  pub rested : node.start + 2 * node.config.life < now
+  pub room : has_room (map (settled_slot node.config.life now) node.slots) ≡ true
+
+none_of : {X : Type 0} (b : Bool) (x : X) (o : Option X) → None ≡ cond b (Some x) o → (b ≡ false) × (None ≡ o)
+none_of true x o e = absurd cc
+none_of false x o e = (refl, e)
+
+or_false : (a b : Bool) → (a || b) ≡ false → (a ≡ false) × (b ≡ false)
+or_false true b e = absurd cc
+or_false false b e = (refl, e)
+
+neither_is_idle : (state : State) → is_busy state ≡ false → is_quiet state ≡ false → state ≡ Idle
+neither_is_idle Idle busy quiet = refl
+neither_is_idle (Asking kind ttl id first last tries due) busy quiet = absurd cc
+neither_is_idle (Held kind ttl until renew last pending) busy quiet = absurd cc
+neither_is_idle (Releasing kind id last tries due) busy quiet = absurd cc
+neither_is_idle (Resting last) busy quiet = absurd cc
+
+pub may_ask : (node : NodeValue) (now : ℕ) (name : NameValue) → None ≡ ask_refusal node now name → MayAsk node now name
+may_ask node now name e =
+    let clock = none_of (nat_lt now node.last) _ _ e in
+    let star = none_of _ _ _ clock.1 in
+    let busy = none_of (is_busy (state_at node now name)) _ _ star.1 in
+    let quiet = none_of (is_quiet (state_at node now name) || nat_le now (node.start + 2 * node.config.life)) _ _ busy.1 in
+    let still = or_false (is_quiet (state_at node now name)) (nat_le now (node.start + 2 * node.config.life)) quiet.0 in
+    record {
+      idle = neither_is_idle (state_at node now name) busy.0 still.0;
+      rested = above now (node.start + 2 * node.config.life) still.1;
+      room = roomy (has_room (map (settled_slot node.config.life now) node.slots)) quiet.1;
+    }
+  where
+    above : (a b : ℕ) → nat_le a b ≡ false → b < a
+    above a b e = leb-false a b e
+
+    roomy : (b : Bool) → None ≡ cond b None (Some fault.Full) → b ≡ true
+    roomy true e = refl
+    roomy false e = absurd cc
