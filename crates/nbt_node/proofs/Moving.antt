@@ -127,3 +127,19 @@ may_ask node now name e =
     roomy : (b : Bool) → None ≡ cond b None (Some fault.Full) → b ≡ true
     roomy true e = refl
     roomy false e = absurd cc
+
+-- ---- time alone
+
+pub settles : (old new : NodeValue) (count life now : ℕ) (xs ys : List (Option Slot)) → IsNode count old → old.slots ≡ xs → new.slots ≡ ys → ys ≡ map (settled_slot life now) xs → IsNode count new
+settles old new count life now xs ys is old_is new_is settled_is = record {
+  few = is.few;
+  some = is.some;
+  count_is = ap length (new_is ∙ settled_is) ∙ length-map xs (settled_slot life now) ∙ ap length (sym old_is) ∙ is.count_is;
+  apart = subst AreDistinct (sym (new_is ∙ settled_is)) (distinct-settled life now xs (subst AreDistinct old_is is.apart));
+}
+
+pub passes : (old new : NodeValue) (now : ℕ) → new ≡ settled_node old now → AreDistinct old.slots → Passes old now new
+passes old new now is apart = record {
+  node = is;
+  names = λ q. ap (λ (n : NodeValue). state_in n.slots q) is ∙ state_in-settled old.config.life now old.slots q apart;
+}

@@ -5,13 +5,14 @@ use Rattle.std.specs.Prelude.{◌⊎◌, ◌||◌}
 use Rattle.nbt_name.specs.declared.addr.Kind.{Kind}
 use Rattle.nbt_name.specs.Wire.{NameValue}
 use Rattle.nbt_packet.specs.declared.message.Registration.{Registration}
-use Rattle.nbt_packet.specs.Message.{MessageValue, registered, released, wait}
+use Rattle.nbt_packet.specs.Message.{MessageValue, registered, released, wait, release}
 use Rattle.nbt_lease.specs.Config.{granted}
 use Rattle.nbt_node.specs.declared.state.State.{State}
 use Rattle.nbt_node.specs.declared.state.State.TheVariants.{Idle, Asking, Held, Releasing, Resting}
 use Rattle.nbt_node.specs.declared.state.Refresh.{Refresh}
 use Rattle.nbt_node.specs.Node.{NodeValue}
-use Rattle.nbt_node.specs.Moves.{Move, NameEvent, hear, Told, nothing, is_granted, is_renewed, is_refused, is_lost, is_freed, waits, matters, has_id, put_off, unmoved, granted_to, renewed_to, refused_to, loses_asked, loses_held, freed, asking_waits, giving_back_waits, refresh_waits}
+use Rattle.nbt_node.specs.Calls.{held_kind}
+use Rattle.nbt_node.specs.Moves.{Move, NameEvent, hear, give_back, gives_back, id_after, next_due, Told, nothing, is_granted, is_renewed, is_refused, is_lost, is_freed, waits, matters, has_id, put_off, unmoved, granted_to, renewed_to, refused_to, loses_asked, loses_held, freed, asking_waits, giving_back_waits, refresh_waits}
 
 pub differs : (a b : ℕ) → b ≢ a → eqb a b ≡ false
 differs a b ne = ne_eqb a b (λ e. ne (sym e))
@@ -62,3 +63,12 @@ module _ (node : NodeValue) (now : ℕ) (name : NameValue) where
       → Move node now name state (hear (registered rcode r)) after None (is_renewed seconds) node.next_id
   held_renewed state after kind ttl until renew last pending p rcode seconds r is one same good g held =
       rw (is, one, good, held, ← g) (renewed_to kind ttl until renew last p r same)
+
+  -- a name that is held is given back
+  pub held_given_back : (state : State) (kind : Kind) → held_kind state ≡ Some kind
+      → Move node now name state give_back (Releasing kind node.next_id now 1 (next_due now)) (Some (release node.next_id name kind node.addr.ip)) nothing (id_after node.next_id)
+  held_given_back Idle kind e = absurd cc
+  held_given_back (Asking k ttl id first last tries due) kind e = absurd cc
+  held_given_back (Held k ttl until renew last pending) kind e = let same : k ≡ kind = cc in rw same (gives_back kind ttl until renew last pending)
+  held_given_back (Releasing k id last tries due) kind e = absurd cc
+  held_given_back (Resting last) kind e = absurd cc

@@ -1,9 +1,9 @@
 -- What each call of a node does, on message values (our profile; RFC 1002 section 5.1).
-use Rattle.std.specs.Prelude.{◌≡◌, ◌≢◌, ℕ, ◌+◌, ◌*◌, Bool, true, false, ◌&&◌, ◌||◌, not, nat_eq, nat_lt, nat_le, if◌then◌else◌, List, [], ◌∷◌, ◌++◌, map, slice_index, replicate, Option, Some, None}
+use Rattle.std.specs.Prelude.{◌≡◌, ◌≢◌, ℕ, ◌+◌, ◌*◌, Bool, true, false, ◌&&◌, ◌||◌, not, nat_eq, nat_lt, nat_le, is_some, if◌then◌else◌, List, [], ◌∷◌, ◌++◌, map, slice_index, replicate, Option, Some, None}
 use Rattle.nbt_name.specs.declared.addr.Addr.{Addr}
 use Rattle.nbt_name.specs.declared.addr.Kind.{Kind}
 use Rattle.nbt_name.specs.Wire.{NameValue}
-use Rattle.nbt_packet.specs.Message.{MessageValue}
+use Rattle.nbt_packet.specs.Message.{MessageValue, query, status_request}
 use Rattle.nbt_packet.specs.Text.{text}
 use Rattle.nbt_packet.specs.Spelling.{Spells}
 use Rattle.nbt_lease.specs.Config.{ConfigValue}
@@ -11,11 +11,16 @@ use Rattle.nbt_node.specs.declared.fault.AskFault.{AskFault}
 use Rattle.nbt_node.specs.declared.fault.AskFault.TheVariants as asks
 use Rattle.nbt_node.specs.declared.fault.ReleaseFault.{ReleaseFault}
 use Rattle.nbt_node.specs.declared.fault.ReleaseFault.TheVariants as releases
+use Rattle.nbt_node.specs.declared.fault.LookupFault.{LookupFault}
+use Rattle.nbt_node.specs.declared.fault.LookupFault.TheVariants as lookups
+use Rattle.nbt_node.specs.declared.lookup.Lookup.{Lookup}
+use Rattle.nbt_node.specs.declared.lookup.Wanted.{Wanted}
+use Rattle.nbt_node.specs.declared.lookup.Wanted.TheVariants.{Entries, Names}
 use Rattle.nbt_node.specs.declared.state.State.{State}
 use Rattle.nbt_node.specs.declared.state.State.TheVariants.{Idle, Asking, Held, Releasing, Resting}
 use Rattle.nbt_node.specs.declared.state.Slot.{Slot}
-use Rattle.nbt_node.specs.Node.{NodeValue, has_room, settled_slot, state_at}
-use Rattle.nbt_node.specs.Moves.{NameEvent, NameMoves, nothing}
+use Rattle.nbt_node.specs.Node.{NodeValue, has_room, settled_slot, settled_lookup, settled_node, state_at, ByTimeAlone, Passes}
+use Rattle.nbt_node.specs.Moves.{NameEvent, poll, NameMoves, nothing, id_after, next_due, is_next, is_due}
 
 -- a node that knows nothing
 abbrev pub started : (slots : ℕ) → Addr → Addr → ConfigValue → ℕ → NodeValue
@@ -36,9 +41,9 @@ is_quiet (Releasing kind id last tries due) = true
 is_quiet (Resting last) = true
 is_quiet state = false
 
-abbrev pub is_held : State → Bool
-is_held (Held kind ttl until renew last pending) = true
-is_held state = false
+abbrev pub held_kind : State → Option Kind
+held_kind (Held kind ttl until renew last pending) = Some kind
+held_kind state = None
 
 abbrev pub ask_refusal : NodeValue → ℕ → NameValue → Option AskFault
 ask_refusal node now name =
@@ -51,13 +56,77 @@ ask_refusal node now name =
 abbrev pub release_refusal : NodeValue → ℕ → NameValue → Option ReleaseFault
 release_refusal node now name =
     if nat_lt now node.last then Some releases.ClockBack
-    else (if is_held (state_at node now name) then None else Some releases.NotHeld)
+    else (if is_some (held_kind (state_at node now name)) then None else Some releases.NotHeld)
+
+abbrev pub is_open : NodeValue → ℕ → Bool
+is_open node now = is_some (settled_lookup now node.lookup)
+
+abbrev pub resolve_refusal : NodeValue → ℕ → NameValue → Option LookupFault
+resolve_refusal node now name =
+    if nat_lt now node.last then Some lookups.ClockBack
+    else (if is_star name then Some lookups.BadName
+    else (if is_open node now then Some lookups.Busy else None))
+
+abbrev pub status_refusal : NodeValue → ℕ → Option LookupFault
+status_refusal node now =
+    if nat_lt now node.last then Some lookups.ClockBack
+    else (if is_open node now then Some lookups.Busy else None)
 
 -- ---- what is sent
 
--- A name moves by an event, and the octets are the written form of what is sent, which spells it.
+-- the octets are the written form of a message, which they spell, or there are none
+abbrev pub AreWritten : Option MessageValue → List ℕ → Type 0
+AreWritten None octets = octets ≡ []
+AreWritten (Some message) octets = (octets ≡ text message) × Spells octets message
+
+-- A name moves by an event, and what is sent is written.
 pub record Sends (old : NodeValue) (now : ℕ) (name : NameValue) (event : NameEvent) (new : NodeValue) (octets : List ℕ) : Type 0 where
   pub message : MessageValue
   pub moves : NameMoves old now name event new (Some message) nothing
-  pub written : octets ≡ text message
-  pub spells : Spells octets message
+  pub written : AreWritten (Some message) octets
+
+-- ---- lookups
+
+-- what a lookup asks (RFC 1002 sections 4.2.12 and 4.2.17)
+abbrev pub question : Lookup → MessageValue
+question l = question_of l.wanted l.id l.name
+  where
+    question_of : Wanted → ℕ → NameValue → MessageValue
+    question_of Entries id name = query id name
+    question_of Names id name = status_request id name
+
+-- every name by time alone, and the lookup as it is now
+abbrev pub with_lookup : NodeValue → ℕ → Option Lookup → (next_id : ℕ) → NodeValue
+with_lookup node now lookup next_id = record (settled_node node now) { lookup = lookup; next_id = next_id }
+
+pub record LooksUp (old : NodeValue) (now : ℕ) (lookup : Option Lookup) (next_id : ℕ) (new : NodeValue) : Type 0 where
+  pub node : new ≡ with_lookup old now lookup next_id
+  pub names : ByTimeAlone old now new
+
+-- a lookup opens
+pub record Opens (old : NodeValue) (now : ℕ) (name : NameValue) (to : Addr) (wanted : Wanted) (new : NodeValue) (octets : List ℕ) : Type 0 where
+  pub opens : LooksUp old now (Some (record { id = old.next_id; name = name; to = to; wanted = wanted; tries = 1; due = next_due now })) (id_after old.next_id) new
+  pub written : AreWritten (Some (question (record { id = old.next_id; name = name; to = to; wanted = wanted; tries = 1; due = next_due now }))) octets
+
+-- ---- polls: the lowest slot that has something due, and the lookup last
+
+abbrev pub first_due : (life now : ℕ) → List (Option Slot) → Option Slot
+first_due life now [] = None
+first_due life now (None ∷ rest) = first_due life now rest
+first_due life now (Some slot ∷ rest) = if is_due life now slot.state then Some slot else first_due life now rest
+
+abbrev pub slot_due : NodeValue → ℕ → Option Slot
+slot_due node now = first_due node.config.life now (map (settled_slot node.config.life now) node.slots)
+
+abbrev pub due_lookup : ℕ → Option Lookup → Option Lookup
+due_lookup now None = None
+due_lookup now (Some l) = if is_next now l.tries l.due then Some l else None
+
+abbrev pub lookup_due : NodeValue → ℕ → Option Lookup
+lookup_due node now = due_lookup now (settled_lookup now node.lookup)
+
+pub data Polls (old : NodeValue) (now : ℕ) : NodeValue → Option Addr → List ℕ → Type 0 where
+  polls_name : (slot : Slot) (new : NodeValue) (octets : List ℕ) → slot_due old now ≡ Some slot → Sends old now slot.name poll new octets → Polls old now new (Some old.server) octets
+  polls_lookup : (l : Lookup) (new : NodeValue) (octets : List ℕ) → slot_due old now ≡ None → lookup_due old now ≡ Some l
+    → LooksUp old now (Some (record l { tries = l.tries + 1; due = next_due now })) old.next_id new → AreWritten (Some (question l)) octets → Polls old now new (Some l.to) octets
+  polls_nothing : (new : NodeValue) → slot_due old now ≡ None → lookup_due old now ≡ None → Passes old now new → Polls old now new None []

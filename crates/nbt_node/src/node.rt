@@ -3,8 +3,8 @@
 ghost use Rattle.std.specs.Prelude.{◌≡◌, ◌≤◌, [], None, OnOk, OnErr};
 ghost use Rattle.std.specs.Result.{result_err};
 
-use crate::asking::{claim, id_after, next_due};
-use crate::fault::AskFault;
+use crate::asking::{claim, id_after, next_due, release};
+use crate::fault::{AskFault, ReleaseFault};
 use crate::lookup::Lookup;
 use crate::slots;
 use crate::state::{Slot, State};
@@ -39,9 +39,9 @@ impl<const N: usize> Model for Node<N> {
 }
 
 impl<const N: usize> Node<N> {
-    ghost use Rattle.nbt_node.specs.Node.{holds, changed, AreDistinct};
-    ghost use Rattle.nbt_node.specs.Moves.{ask};
-    ghost use Rattle.nbt_node.specs.Calls.{started, ask_refusal, Sends};
+    ghost use Rattle.nbt_node.specs.Node.{holds, changed, settled_node, AreDistinct};
+    ghost use Rattle.nbt_node.specs.Moves.{ask, give_back};
+    ghost use Rattle.nbt_node.specs.Calls.{started, ask_refusal, release_refusal, Sends};
 
     /// A node at `addr` whose name server is at `server`. It knows nothing, and asks for nothing until more than twice
     /// the greatest life of a datagram has passed (our profile).
@@ -158,5 +158,53 @@ impl<const N: usize> Node<N> {
         self.change(now, name, &asking, id_after(id));
         write(&message, out);
         Ok(())
+    }
+
+    /// Gives the name back: `out` then holds the NAME RELEASE REQUEST for the server, and nothing else (RFC 1002 section
+    /// 4.2.9). The name isn't held any more, and may not be asked for until more than twice the greatest life of a
+    /// datagram has passed since the last sending about it. Refused in this order, the node staying as it was and `out`
+    /// empty: `ClockBack` (4), where `now` is before the moment of an earlier call; `NotHeld` (1), where the name isn't
+    /// held.
+    pub fn release(
+        &mut self,
+        now: Moment,
+        name: &Name,
+        out: &mut ArrayVec<u8, 576>,
+    ) -> Result<(), ReleaseFault>
+        ensures refused { result_err result ≡ release_refusal self.old now name.now }
+        ensures ok { OnOk result (Sends self.old now name.now give_back self.new out.new.items) }
+        ensures err { OnErr result ((self.new ≡ self.old) × (out.new.items ≡ [])) }
+    {
+        out.clear();
+        if now.get() < self.last.get() {
+            return Err(ReleaseFault::ClockBack);
+        }
+        let state = slots::state_in(&self.slots, name).settled(self.config.life(), now);
+        let kind = match state.held_kind() {
+            Some(kind) => kind,
+            None => return Err(ReleaseFault::NotHeld),
+        };
+        let id = self.next_id;
+        let message = release(self.addr.ip, id, name, kind);
+        let releasing = State::Releasing {
+            kind,
+            id,
+            last: now,
+            tries: 1,
+            due: next_due(now),
+        };
+        self.change(now, name, &releasing, id_after(id));
+        write(&message, out);
+        Ok(())
+    }
+
+    /// Settles every name and the lookup at `now`.
+    fn settle(&mut self, now: Moment)
+        ensures node { self.new ≡ settled_node self.old now }
+        ensures apart { AreDistinct self.old.slots }
+    {
+        Lookup::settle(&mut self.lookup, now);
+        slots::settle(&mut self.slots, self.config.life(), now);
+        self.last = now;
     }
 }

@@ -39,7 +39,7 @@ pub fn pending_at(pending: Option<Refresh>, now: Moment) -> Option<Refresh>
 
 impl State {
     ghost use Rattle.nbt_node.specs.Node.{held_at};
-    ghost use Rattle.nbt_node.specs.Calls.{is_busy, is_quiet};
+    ghost use Rattle.nbt_node.specs.Calls.{is_busy, is_quiet, held_kind};
 
     /// The state in which time's own moves end at `now`.
     pub fn settled(&self, life: u64, now: Moment) -> State
@@ -102,5 +102,15 @@ impl State {
         ensures { result ≡ is_quiet self.now }
     {
         matches!(self, State::Releasing { .. } | State::Resting { .. })
+    }
+
+    /// As which kind the name is held.
+    pub fn held_kind(&self) -> Option<Kind>
+        ensures { result ≡ held_kind self.now }
+    {
+        match self {
+            State::Held { kind, .. } => Some(*kind),
+            _ => None,
+        }
     }
 }
