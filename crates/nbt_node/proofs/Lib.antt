@@ -2,3 +2,4 @@ pub mod Places
 pub mod Table
 pub mod Known
 pub mod Moving
+pub mod Due

@@ -3,9 +3,9 @@ use Rattle.std.specs.Prelude.{◌≡◌, ◌≢◌, ℕ, ◌+◌, ◌*◌, Bool,
 use Rattle.nbt_name.specs.declared.addr.Addr.{Addr}
 use Rattle.nbt_name.specs.declared.addr.Kind.{Kind}
 use Rattle.nbt_name.specs.Wire.{NameValue}
-use Rattle.nbt_packet.specs.Message.{MessageValue, query, status_request}
+use Rattle.nbt_packet.specs.Message.{MessageValue, query, status_request, message_of, HoldsNumbers, Fits}
 use Rattle.nbt_packet.specs.Text.{text}
-use Rattle.nbt_packet.specs.Spelling.{Spells}
+use Rattle.nbt_packet.specs.Spelling.{Spells, HasFewRows}
 use Rattle.nbt_lease.specs.Config.{ConfigValue}
 use Rattle.nbt_node.specs.declared.fault.AskFault.{AskFault}
 use Rattle.nbt_node.specs.declared.fault.AskFault.TheVariants as asks
@@ -16,11 +16,12 @@ use Rattle.nbt_node.specs.declared.fault.LookupFault.TheVariants as lookups
 use Rattle.nbt_node.specs.declared.lookup.Lookup.{Lookup}
 use Rattle.nbt_node.specs.declared.lookup.Wanted.{Wanted}
 use Rattle.nbt_node.specs.declared.lookup.Wanted.TheVariants.{Entries, Names}
+use Rattle.nbt_node.specs.declared.polling.Sending.{Sending}
 use Rattle.nbt_node.specs.declared.state.State.{State}
 use Rattle.nbt_node.specs.declared.state.State.TheVariants.{Idle, Asking, Held, Releasing, Resting}
 use Rattle.nbt_node.specs.declared.state.Slot.{Slot}
 use Rattle.nbt_node.specs.Node.{NodeValue, has_room, settled_slot, settled_lookup, settled_node, state_at, ByTimeAlone, Passes}
-use Rattle.nbt_node.specs.Moves.{NameEvent, poll, NameMoves, nothing, id_after, next_due, is_next, is_due}
+use Rattle.nbt_node.specs.Moves.{NameEvent, poll, Move, NameMoves, nothing, id_after, next_due, is_next, is_due}
 
 -- a node that knows nothing
 abbrev pub started : (slots : ℕ) → Addr → Addr → ConfigValue → ℕ → NodeValue
@@ -114,6 +115,15 @@ abbrev pub first_due : (life now : ℕ) → List (Option Slot) → Option Slot
 first_due life now [] = None
 first_due life now (None ∷ rest) = first_due life now rest
 first_due life now (Some slot ∷ rest) = if is_due life now slot.state then Some slot else first_due life now rest
+
+-- what is sent about a name in a state by a node with this address, next id and life, and what is so next
+pub record IsSending (life now own id : ℕ) (name : NameValue) (state : State) (sending : Sending) : Type 0 where
+  pub moves : (node : NodeValue) → node.addr.ip ≡ own → node.next_id ≡ id → node.config.life ≡ life
+      → Move node now name state poll sending.state (Some (message_of sending.message)) nothing sending.next_id
+  pub name_is : sending.name ≡ name
+  pub numbers : HoldsNumbers (message_of sending.message)
+  pub fits : Fits (message_of sending.message)
+  pub few : HasFewRows (message_of sending.message)
 
 abbrev pub slot_due : NodeValue → ℕ → Option Slot
 slot_due node now = first_due node.config.life now (map (settled_slot node.config.life now) node.slots)

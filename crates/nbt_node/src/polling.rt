@@ -1,20 +1,21 @@
 //! What is sent again when its time has come, and when a hold is refreshed (RFC 1002 sections 5.1.2.4 and 6.1.1).
 
-ghost use Rattle.std.specs.Prelude.{◌≡◌, ◌≤◌, false, Some, IfSome, IsNone};
-ghost use Rattle.nbt_packet.specs.Message.{message_of, HoldsNumbers, Fits};
-ghost use Rattle.nbt_packet.specs.Spelling.{HasFewRows};
-ghost use Rattle.nbt_node.specs.Node.{NodeValue};
-ghost use Rattle.nbt_node.specs.Moves.{Move, poll, nothing, is_next, is_due};
+ghost use Rattle.std.specs.Prelude.{◌≡◌, ◌≤◌, List, ◌∷◌, map, Option, Some, None, is_some, IfSome, IsNone};
+ghost use Rattle.nbt_node.specs.declared.state.Slot.{Slot as Kept};
+ghost use Rattle.nbt_node.specs.Node.{settled_slot};
+ghost use Rattle.nbt_node.specs.Moves.{is_next, is_due};
+ghost use Rattle.nbt_node.specs.Calls.{first_due, IsSending};
 
 use crate::asking::{claim, id_after, next_due, release};
 use crate::settling::SENDINGS;
-use crate::state::{Refresh, State};
+use crate::state::{Refresh, Slot, State};
 use nbt_lease::Moment;
 use nbt_name::Name;
 use nbt_packet::Message;
 
 /// What is sent about a name, and what is then its state and the next id.
 pub struct Sending<'a> {
+    pub name: Name,
     pub state: State,
     pub message: Message<'a>,
     pub next_id: u16,
@@ -28,7 +29,7 @@ pub fn is_next(tries: u8, due: u64, now: Moment) -> bool
 }
 
 /// What is to be sent about a name, if anything: by a node with this address and next id.
-pub fn polled<'a>(
+fn polled<'a>(
     state: &State,
     name: &Name,
     own: u32,
@@ -37,10 +38,8 @@ pub fn polled<'a>(
     now: Moment,
 ) -> Option<Sending<'a>>
     requires { life ≤ 60000 }
-    ensures nothing_due { IsNone result → is_due life now state.now ≡ false }
-    ensures moves { IfSome result (λ s. (node : NodeValue) → node.addr.ip ≡ own → node.next_id ≡ id → node.config.life ≡ life
-        → Move node now name.now state.now poll s.state (Some (message_of s.message)) nothing s.next_id) }
-    ensures whole { IfSome result (λ s. HoldsNumbers (message_of s.message) × Fits (message_of s.message) × HasFewRows (message_of s.message)) }
+    ensures due { is_some result ≡ is_due life now state.now }
+    ensures sending { IfSome result (λ s. IsSending life now own id name.now state.now s) }
 {
     match state {
         State::Asking {
@@ -56,6 +55,7 @@ pub fn polled<'a>(
                 return None;
             }
             Some(Sending {
+                name: name.copy(),
                 state: State::Asking {
                     kind: *kind,
                     ttl: *ttl,
@@ -80,6 +80,7 @@ pub fn polled<'a>(
                 return None;
             }
             Some(Sending {
+                name: name.copy(),
                 state: State::Releasing {
                     kind: *kind,
                     id: *asked,
@@ -130,6 +131,7 @@ pub fn polled<'a>(
                 }
             };
             Some(Sending {
+                name: name.copy(),
                 message: Message::Refresh(claim(own, refresh.id, name, *kind, *ttl)),
                 state: State::Held {
                     kind: *kind,
@@ -145,4 +147,50 @@ pub fn polled<'a>(
         State::Idle => None,
         State::Resting { .. } => None,
     }
+}
+
+/// The same of a slot, once it is settled at `now`.
+fn slot_due<'a>(
+    slot: &Option<Slot>,
+    own: u32,
+    id: u16,
+    life: u64,
+    now: Moment,
+) -> Option<Sending<'a>>
+    requires { life ≤ 60000 }
+    ensures nothing_due { IsNone result → (rest : List (Option Kept)) → first_due life now (settled_slot life now slot.now ∷ rest) ≡ first_due life now rest }
+    ensures sending { IfSome result (λ s. (kept : Kept) × ((rest : List (Option Kept)) → first_due life now (settled_slot life now slot.now ∷ rest) ≡ Some kept) × IsSending life now own id kept.name kept.state s) }
+{
+    match slot {
+        Some(kept) => polled(
+            &kept.state.settled(life, now),
+            &kept.name,
+            own,
+            id,
+            life,
+            now,
+        ),
+        None => None,
+    }
+}
+
+/// The same of the first slot that has something to send.
+pub fn first_due<'a>(
+    slots: &[Option<Slot>],
+    own: u32,
+    id: u16,
+    life: u64,
+    now: Moment,
+) -> Option<Sending<'a>>
+    requires { life ≤ 60000 }
+    ensures nothing_due { IsNone result → first_due life now (map (settled_slot life now) slots.now) ≡ None }
+    ensures sending { IfSome result (λ s. (kept : Kept) × (first_due life now (map (settled_slot life now) slots.now) ≡ Some kept) × IsSending life now own id kept.name kept.state s) }
+{
+    for slot in slots {
+        match slot_due(slot, own, id, life, now) {
+            Some(sending) => return Some(sending),
+            None => {}
+        }
+    }
+    None
 }
