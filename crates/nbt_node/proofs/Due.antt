@@ -15,9 +15,9 @@ use Rattle.nbt_node.proofs.Known.{slot_tells, same_name-same, name_tells}
 module _ (life now own id : ℕ) where
   first_here : (name : NameValue) (state : State) → is_due life now state ≡ true → (rest : List (Option Slot)) → first_due life now (slot_of name state ∷ rest) ≡ Some (record { name = name; state = state })
   first_here name state due rest = elim (slot_tells name state) [
-      inl idle ↦ absurd (never (sym due ∙ ap (is_due life now) idle.0))
-      | inr kept ↦ rw (kept.1, due) refl
-    ]
+    | inl idle ↦ absurd (never (sym due ∙ ap (is_due life now) idle.0))
+    | inr kept ↦ rw (kept.1, due) refl
+  ]
     where
       never : true ≡ false → ⊥
       never e = cc
@@ -37,6 +37,7 @@ known_due life now (Some s ∷ rest) slot apart first = go (is_due life now s.st
   where
     clash : false ≡ true → ⊥
     clash e = cc
+
     go : (b : Bool) → is_due life now s.state ≡ b → (first_due life now rest ≡ Some slot → (state_in rest slot.name ≡ slot.state) × (is_in rest slot.name ≡ true))
         → (state_in (Some s ∷ rest) slot.name ≡ slot.state) × (is_in (Some s ∷ rest) slot.name ≡ true)
     go true due behind =
@@ -45,6 +46,6 @@ known_due life now (Some s ∷ rest) slot apart first = go (is_due life now s.st
     go false due behind =
         let found = behind (rw due at first) in
         elim (name_tells s.name slot.name) [
-          inl same ↦ absurd (clash (sym apart.0 ∙ ap (λ (n : NameValue). is_in rest n) same.1 ∙ found.1))
+          | inl same ↦ absurd (clash (sym apart.0 ∙ ap (λ (n : NameValue). is_in rest n) same.1 ∙ found.1))
           | inr other ↦ rw other.0 found
         ]

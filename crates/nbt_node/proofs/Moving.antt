@@ -1,20 +1,24 @@
 -- What a call that moves one name makes of the node.
 use Rattle.std.proofs.Common.{◌≡◌, ◌≢◌, ℕ, ◌+◌, ◌*◌, ◌<◌, ◌≤◌, Bool, true, false, cond, List, [], ◌∷◌, length, map, Option, Some, None, refl, sym, ap, subst, ◌∙◌, arith, inl, inr, leb-false}
-use Rattle.std.specs.Prelude.{◌⊎◌, ◌||◌, nat_lt, nat_le}
+use Rattle.std.specs.Prelude.{◌⊎◌, ◌||◌, nat_lt, nat_le, MatchOption}
 use Rattle.std.proofs.lemmas.List.{length-map}
+use Rattle.nbt_name.specs.declared.addr.Addr.{Addr}
 use Rattle.nbt_name.specs.declared.addr.Kind.{Kind}
 use Rattle.nbt_name.specs.Wire.{NameValue}
-use Rattle.nbt_packet.specs.Message.{MessageValue}
+use Rattle.nbt_packet.specs.Message.{MessageValue, message_of}
 use Rattle.nbt_packet.specs.Text.{text}
 use Rattle.nbt_packet.specs.Spelling.{Spells}
 use Rattle.nbt_node.specs.declared.fault.AskFault.TheVariants as fault
+use Rattle.nbt_node.specs.declared.lookup.Lookup.{Lookup}
+use Rattle.nbt_node.specs.declared.polling.Sending.{Sending}
 use Rattle.nbt_node.specs.declared.state.State.{State}
 use Rattle.nbt_node.specs.declared.state.State.TheVariants.{Idle, Asking, Held, Releasing, Resting}
 use Rattle.nbt_node.specs.declared.state.Slot.{Slot}
 use Rattle.nbt_node.specs.Settling.{settled}
 use Rattle.nbt_node.specs.Node.{NodeValue, IsNode, is_in, has_room, AreDistinct, state_in, with_state, settled_slot, state_of, state_at, changed, Passes, settled_node}
-use Rattle.nbt_node.specs.Moves.{NameEvent, ask, give_back, poll, hear, Told, Move, NameMoves, asks, gives_back, asks_again, gives_back_again, refreshes_again, refreshes, granted_to, renewed_to, refused_to, loses_asked, loses_held, freed, asking_waits, giving_back_waits, refresh_waits, unmoved}
-use Rattle.nbt_node.specs.Calls.{is_busy, is_quiet, ask_refusal}
+use Rattle.nbt_node.specs.Moves.{NameEvent, ask, give_back, poll, hear, next_due, nothing, Told, Move, NameMoves, asks, gives_back, asks_again, gives_back_again, refreshes_again, refreshes, granted_to, renewed_to, refused_to, loses_asked, loses_held, freed, asking_waits, giving_back_waits, refresh_waits, unmoved}
+use Rattle.nbt_node.specs.Calls.{is_busy, is_quiet, ask_refusal, AreWritten, question, LooksUp, slot_due, lookup_due, due_lookup, IsSending, Polls, polls_name, polls_lookup, polls_nothing}
+use Rattle.nbt_node.proofs.Due.{known_due}
 use Rattle.nbt_node.proofs.Known.{absent, distinct-settled, state_in-settled, idle_is_out, distinct-with_state, length-with_state, with_state-other, with_state-same}
 
 -- what the node keeps, it keeps
@@ -143,3 +147,51 @@ passes old new now is apart = record {
   node = is;
   names = λ q. ap (λ (n : NodeValue). state_in n.slots q) is ∙ state_in-settled old.config.life now old.slots q apart;
 }
+
+-- ---- lookups
+
+pub looks_up : (old mid new : NodeValue) (now : ℕ) (lookup : Option Lookup) (next : ℕ) → mid ≡ settled_node old now → new ≡ record mid { lookup = lookup; next_id = next } → AreDistinct old.slots → LooksUp old now lookup next new
+looks_up old mid new now lookup next mid_is new_is apart = record {
+  node = new_is ∙ ap (λ (n : NodeValue). let m : NodeValue = record n { lookup = lookup; next_id = next } in m) mid_is;
+  names = λ q.
+      ap (λ (n : NodeValue). state_in n.slots q) new_is
+      ∙ ap (λ (n : NodeValue). state_in n.slots q) mid_is
+      ∙ state_in-settled old.config.life now old.slots q apart;
+}
+
+module _ (old mid new : NodeValue) (now : ℕ) (before after : Option Lookup) (to : Option Addr) (octets : List ℕ) (mid_is : mid ≡ settled_node old now) (before_is : mid.lookup ≡ before)
+    (new_is : new ≡ record mid { lookup = after }) (apart : AreDistinct old.slots) (no_slot : slot_due old now ≡ None) where
+  lookup_is : lookup_due old now ≡ due_lookup now before
+  lookup_is = ap (λ (n : NodeValue). due_lookup now n.lookup) (sym mid_is) ∙ ap (due_lookup now) before_is
+
+  pub polled_lookup : MatchOption (due_lookup now before) ((after ≡ before) × (to ≡ None) × (octets ≡ []))
+      (λ l. (after ≡ Some (record l { tries = l.tries + 1; due = next_due now })) × (to ≡ Some l.to) × AreWritten (Some (question l)) octets) → Polls old now new to octets
+  polled_lookup polled = go (due_lookup now before) refl polled
+    where
+      go : (o : Option Lookup) → due_lookup now before ≡ o → MatchOption o ((after ≡ before) × (to ≡ None) × (octets ≡ []))
+          (λ l. (after ≡ Some (record l { tries = l.tries + 1; due = next_due now })) × (to ≡ Some l.to) × AreWritten (Some (question l)) octets) → Polls old now new to octets
+      go None e (same, nowhere, empty) =
+          let unchanged : new ≡ mid = new_is ∙ ap (λ (l : Option Lookup). let m : NodeValue = record mid { lookup = l } in m) (same ∙ sym before_is) in
+          rw (nowhere, empty) (polls_nothing new no_slot (lookup_is ∙ e) (passes old new now (unchanged ∙ mid_is) apart))
+      go (Some l) e (next, there, written) =
+          rw there (
+          polls_lookup l new octets no_slot (lookup_is ∙ e)
+          (looks_up old mid new now (Some (record l { tries = l.tries + 1; due = next_due now })) old.next_id mid_is
+          (new_is ∙ ap (λ (o : Option Lookup). let m : NodeValue = record mid { lookup = o } in m) next ∙ ap (λ (id : ℕ). let m : NodeValue = record mid { lookup = Some (record l { tries = l.tries + 1; due = next_due now }); next_id = id } in m) (ap (λ (n : NodeValue). n.next_id) mid_is)) apart)
+          written
+          )
+
+-- ---- a poll that sends what a name has due
+
+pub polls_sending : (old new : NodeValue) (now : ℕ) (kept : Slot) (sending : Sending) (octets : List ℕ) → AreDistinct old.slots → slot_due old now ≡ Some kept
+    → IsSending old.config.life now old.addr.ip old.next_id kept.name kept.state sending → new ≡ changed old now sending.name sending.state sending.next_id
+    → AreWritten (Some (message_of sending.message)) octets → Polls old now new (Some old.server) octets
+polls_sending old new now kept sending octets apart due is new_is written =
+    let known : state_in (map (settled_slot old.config.life now) old.slots) kept.name ≡ kept.state =
+    (known_due old.config.life now (map (settled_slot old.config.life now) old.slots) kept (distinct-settled old.config.life now old.slots apart) due).0
+    in
+    let state_is : state_at old now kept.name ≡ kept.state = sym (state_in-settled old.config.life now old.slots kept.name apart) ∙ known in
+    let move : Move old now kept.name (state_at old now kept.name) poll sending.state (Some (message_of sending.message)) nothing sending.next_id = rw state_is (is.moves old refl refl refl) in
+    let whole : new ≡ changed old now kept.name sending.state sending.next_id = new_is ∙ ap (λ (n : NameValue). changed old now n sending.state sending.next_id) is.name_is in
+    polls_name kept new octets due
+    (record { message = message_of sending.message; moves = moves_known old new now kept.name poll sending.state (Some (message_of sending.message)) nothing sending.next_id move whole apart (λ kind ttl e. cc); written = written })

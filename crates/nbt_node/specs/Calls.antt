@@ -138,5 +138,5 @@ lookup_due node now = due_lookup now (settled_lookup now node.lookup)
 pub data Polls (old : NodeValue) (now : ℕ) : NodeValue → Option Addr → List ℕ → Type 0 where
   polls_name : (slot : Slot) (new : NodeValue) (octets : List ℕ) → slot_due old now ≡ Some slot → Sends old now slot.name poll new octets → Polls old now new (Some old.server) octets
   polls_lookup : (l : Lookup) (new : NodeValue) (octets : List ℕ) → slot_due old now ≡ None → lookup_due old now ≡ Some l
-    → LooksUp old now (Some (record l { tries = l.tries + 1; due = next_due now })) old.next_id new → AreWritten (Some (question l)) octets → Polls old now new (Some l.to) octets
+      → LooksUp old now (Some (record l { tries = l.tries + 1; due = next_due now })) old.next_id new → AreWritten (Some (question l)) octets → Polls old now new (Some l.to) octets
   polls_nothing : (new : NodeValue) → slot_due old now ≡ None → lookup_due old now ≡ None → Passes old now new → Polls old now new None []

@@ -1,10 +1,13 @@
 //! Looking up who holds a name, and what names an end holds (RFC 1002 sections 4.2.12 and 4.2.17).
 
-ghost use Rattle.std.specs.Prelude.{◌≡◌};
-
+use crate::asking::next_due;
+use crate::polling::is_next;
 use crate::settling::is_over;
+use crate::writing::write;
+use arrayvec::ArrayVec;
 use nbt_lease::Moment;
 use nbt_name::{Addr, Name};
+use nbt_packet::Message;
 
 /// What a lookup asks for.
 #[derive(Clone, Copy, Debug, PartialEq, Eq)]
@@ -28,7 +31,25 @@ pub struct Lookup {
 }
 
 impl Lookup {
+    ghost use Rattle.std.specs.Prelude.{◌≡◌, ◌+◌, [], None, Some, is_some, MatchOption};
+    ghost use Rattle.nbt_packet.specs.Message.{message_of, HoldsNumbers, Fits};
+    ghost use Rattle.nbt_packet.specs.Spelling.{HasFewRows};
     ghost use Rattle.nbt_node.specs.Node.{settled_lookup};
+    ghost use Rattle.nbt_node.specs.Moves.{next_due};
+    ghost use Rattle.nbt_node.specs.Calls.{question, due_lookup, AreWritten};
+
+    /// The request of a lookup.
+    pub fn question<'a>(&self) -> Message<'a>
+        ensures value { message_of result ≡ question self.now }
+        ensures numbers { HoldsNumbers (message_of result) }
+    {
+        let _is_a_name = self.name.octets();
+        let (id, name) = (self.id, self.name.copy());
+        match self.wanted {
+            Wanted::Entries => Message::Query { id, name },
+            Wanted::Names => Message::StatusRequest { id, name },
+        }
+    }
 
     /// Ends a lookup that time has ended at `now`.
     pub fn settle(lookup: &mut Option<Lookup>, now: Moment)
@@ -38,6 +59,41 @@ impl Lookup {
             if is_over(open.tries, open.due, now) {
                 *lookup = None;
             }
+        }
+    }
+
+    /// Whether a lookup is open at `now`.
+    pub fn is_open(lookup: &Option<Lookup>, now: Moment) -> bool
+        ensures { result ≡ is_some (settled_lookup now lookup.now) }
+    {
+        match lookup {
+            Some(open) => !is_over(open.tries, open.due, now),
+            None => false,
+        }
+    }
+
+    /// Sends a lookup's request once more, where that is due. Returns the end that is asked.
+    pub fn poll(
+        lookup: &mut Option<Lookup>,
+        now: Moment,
+        out: &mut ArrayVec<u8, 576>,
+    ) -> Option<Addr>
+        requires { out.old.items ≡ [] }
+        ensures { MatchOption (due_lookup now lookup.old)
+            ((lookup.new ≡ lookup.old) × (result ≡ None) × (out.new.items ≡ []))
+            (λ l. (lookup.new ≡ Some (record l { tries = l.tries + 1; due = next_due now })) × (result ≡ Some l.to) × AreWritten (Some (question l)) out.new.items) }
+    {
+        match lookup {
+            Some(open) => {
+                if !is_next(open.tries, open.due, now) {
+                    return None;
+                }
+                open.tries += 1;
+                open.due = next_due(now);
+                write(&open.question(), out);
+                Some(open.to)
+            }
+            None => None,
         }
     }
 }

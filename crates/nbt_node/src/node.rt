@@ -1,11 +1,12 @@
 //! An end node: the names that it asks for and holds.
 
-ghost use Rattle.std.specs.Prelude.{◌≡◌, ◌≤◌, [], None, OnOk, OnErr};
+ghost use Rattle.std.specs.Prelude.{◌≡◌, ◌≤◌, ◌<◌, ◌↔◌, [], None, OnOk, OnErr, IfOk, IsErr};
 ghost use Rattle.std.specs.Result.{result_err};
 
 use crate::asking::{claim, id_after, next_due, release};
-use crate::fault::{AskFault, ReleaseFault};
-use crate::lookup::Lookup;
+use crate::fault::{AskFault, ClockBack, LookupFault, ReleaseFault};
+use crate::lookup::{Lookup, Wanted};
+use crate::polling::first_due;
 use crate::slots;
 use crate::state::{Slot, State};
 use crate::writing::write;
@@ -39,9 +40,9 @@ impl<const N: usize> Model for Node<N> {
 }
 
 impl<const N: usize> Node<N> {
-    ghost use Rattle.nbt_node.specs.Node.{holds, changed, settled_node, AreDistinct};
+    ghost use Rattle.nbt_node.specs.Node.{holds, changed, settled_node, lookup_open, AreDistinct};
     ghost use Rattle.nbt_node.specs.Moves.{ask, give_back};
-    ghost use Rattle.nbt_node.specs.Calls.{started, ask_refusal, release_refusal, Sends};
+    ghost use Rattle.nbt_node.specs.Calls.{started, ask_refusal, release_refusal, resolve_refusal, status_refusal, Sends, Opens, Polls, slot_due};
 
     /// A node at `addr` whose name server is at `server`. It knows nothing, and asks for nothing until more than twice
     /// the greatest life of a datagram has passed (our profile).
@@ -206,5 +207,132 @@ impl<const N: usize> Node<N> {
         Lookup::settle(&mut self.lookup, now);
         slots::settle(&mut self.slots, self.config.life(), now);
         self.last = now;
+    }
+
+    /// Sends at most one datagram that is due at `now`: that of the lowest slot that has one, or else the lookup's.
+    /// Returns the address for which it stands in `out`, or `None`, `out` being empty. Whoever polls calls until
+    /// `None`. A request is sent again 5,000 ms after its last sending, three times in all, and a hold is refreshed
+    /// after half its time, but only where more than twice the greatest life of a datagram has passed since the last
+    /// sending about the name (RFC 1002 sections 5.1.2.4 and 6.1.1; the numbers are our profile's). Refused with
+    /// `ClockBack` (4) where `now` is before the moment of an earlier call: the node stays as it was, and `out` is empty.
+    pub fn poll(
+        &mut self,
+        now: Moment,
+        out: &mut ArrayVec<u8, 576>,
+    ) -> Result<Option<Addr>, ClockBack>
+        ensures refused { IsErr result ↔ (now < self.old.last) }
+        ensures ok { IfOk result (λ to. Polls self.old now self.new to out.new.items) }
+        ensures err { OnErr result ((self.new ≡ self.old) × (out.new.items ≡ [])) }
+    {
+        out.clear();
+        if now.get() < self.last.get() {
+            return Err(ClockBack);
+        }
+        let life = self.config.life();
+        match first_due(&self.slots, self.addr.ip, self.next_id, life, now) {
+            Some(sending) => {
+                self.change(now, &sending.name, &sending.state, sending.next_id);
+                write(&sending.message, out);
+                Ok(Some(self.server))
+            }
+            None => Ok(self.poll_lookup(now, out)),
+        }
+    }
+
+    fn poll_lookup(&mut self, now: Moment, out: &mut ArrayVec<u8, 576>) -> Option<Addr>
+        requires slot { slot_due self.old now ≡ None }
+        requires empty { out.old.items ≡ [] }
+        ensures { Polls self.old now self.new result out.new.items }
+    {
+        self.settle(now);
+        Lookup::poll(&mut self.lookup, now, out)
+    }
+
+    /// Whether a lookup is open at `now`; `false` where `now` is before the moment of the last call.
+    pub fn lookup_open(&self, now: Moment) -> bool
+        ensures { result ≡ lookup_open self.now now }
+    {
+        now.get() >= self.last.get() && Lookup::is_open(&self.lookup, now)
+    }
+
+    /// Looks up at the server who holds the name: `out` then holds the NAME QUERY REQUEST for the server, and nothing
+    /// else (RFC 1002 section 4.2.12). Refused in this order, the node staying as it was and `out` empty: `ClockBack`
+    /// (4), where `now` is before the moment of an earlier call; `BadName` (5), where the name begins with `*`; `Busy`
+    /// (2), where a lookup is open. No name's state changes but by time.
+    pub fn resolve(
+        &mut self,
+        now: Moment,
+        name: &Name,
+        out: &mut ArrayVec<u8, 576>,
+    ) -> Result<(), LookupFault>
+        ensures refused { result_err result ≡ resolve_refusal self.old now name.now }
+        ensures ok { OnOk result (Opens self.old now name.now self.old.server Wanted.Entries self.new out.new.items) }
+        ensures err { OnErr result ((self.new ≡ self.old) × (out.new.items ≡ [])) }
+    {
+        out.clear();
+        if now.get() < self.last.get() {
+            return Err(LookupFault::ClockBack);
+        }
+        if name.is_star() {
+            return Err(LookupFault::BadName);
+        }
+        if Lookup::is_open(&self.lookup, now) {
+            return Err(LookupFault::Busy);
+        }
+        let server = self.server;
+        self.look_up(now, name, server, Wanted::Entries, out);
+        Ok(())
+    }
+
+    /// Asks the end at `to` for the names that it holds: `out` then holds the NODE STATUS REQUEST for it, and nothing
+    /// else (RFC 1002 section 4.2.17). Refused in this order, the node staying as it was and `out` empty: `ClockBack`
+    /// (4), where `now` is before the moment of an earlier call; `Busy` (2), where a lookup is open. No name's state
+    /// changes but by time.
+    pub fn name_status(
+        &mut self,
+        now: Moment,
+        to: Addr,
+        name: &Name,
+        out: &mut ArrayVec<u8, 576>,
+    ) -> Result<(), LookupFault>
+        ensures refused { result_err result ≡ status_refusal self.old now }
+        ensures ok { OnOk result (Opens self.old now name.now to Wanted.Names self.new out.new.items) }
+        ensures err { OnErr result ((self.new ≡ self.old) × (out.new.items ≡ [])) }
+    {
+        out.clear();
+        if now.get() < self.last.get() {
+            return Err(LookupFault::ClockBack);
+        }
+        if Lookup::is_open(&self.lookup, now) {
+            return Err(LookupFault::Busy);
+        }
+        self.look_up(now, name, to, Wanted::Names, out);
+        Ok(())
+    }
+
+    /// Opens a lookup at the end at `to`.
+    fn look_up(
+        &mut self,
+        now: Moment,
+        name: &Name,
+        to: Addr,
+        wanted: Wanted,
+        out: &mut ArrayVec<u8, 576>,
+    )
+        ensures { Opens self.old now name.now to wanted self.new out.new.items }
+    {
+        self.settle(now);
+        let id = self.next_id;
+        let lookup = Lookup {
+            id,
+            name: name.copy(),
+            to,
+            wanted,
+            tries: 1,
+            due: next_due(now),
+        };
+        write(&lookup.question(), out);
+        self.next_id = id_after(id);
+        self.lookup = Some(lookup);
     }
 }

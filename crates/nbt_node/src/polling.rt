@@ -14,6 +14,7 @@ use nbt_name::Name;
 use nbt_packet::Message;
 
 /// What is sent about a name, and what is then its state and the next id.
+#[derive(Drop)]
 pub struct Sending<'a> {
     pub name: Name,
     pub state: State,

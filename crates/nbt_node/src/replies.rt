@@ -21,6 +21,7 @@ const CONFLICT: u8 = 7;
 const LONGEST_WAIT: u32 = 60;
 
 /// What became of a name by a reply.
+#[derive(Drop)]
 pub struct Outcome<'a> {
     pub state: State,
     pub event: Event<'a>,
