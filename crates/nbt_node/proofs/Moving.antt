@@ -17,7 +17,7 @@ use Rattle.nbt_node.specs.declared.state.Slot.{Slot}
 use Rattle.nbt_node.specs.Settling.{settled}
 use Rattle.nbt_node.specs.Node.{NodeValue, IsNode, is_in, has_room, AreDistinct, state_in, with_state, settled_slot, state_of, state_at, changed, Passes, settled_node}
 use Rattle.nbt_node.specs.Moves.{NameEvent, ask, give_back, poll, hear, next_due, nothing, Told, Move, NameMoves, asks, gives_back, asks_again, gives_back_again, refreshes_again, refreshes, granted_to, renewed_to, refused_to, loses_asked, loses_held, freed, asking_waits, giving_back_waits, refresh_waits, unmoved}
-use Rattle.nbt_node.specs.Calls.{is_busy, is_quiet, ask_refusal, AreWritten, question, LooksUp, slot_due, lookup_due, due_lookup, IsSending, Polls, polls_name, polls_lookup, polls_nothing}
+use Rattle.nbt_node.specs.Calls.{is_busy, is_quiet, ask_refusal, AreWritten, question, LooksUp, slot_due, lookup_due, due_lookup, IsSending, Polls, polls_name, polls_lookup, polls_nothing, same_end, Hears, from_server, from_stranger}
 use Rattle.nbt_node.proofs.Due.{known_due}
 use Rattle.nbt_node.proofs.Known.{absent, distinct-settled, state_in-settled, idle_is_out, distinct-with_state, length-with_state, with_state-other, with_state-same}
 
@@ -195,3 +195,19 @@ polls_sending old new now kept sending octets apart due is new_is written =
     let whole : new ≡ changed old now kept.name sending.state sending.next_id = new_is ∙ ap (λ (n : NameValue). changed old now n sending.state sending.next_id) is.name_is in
     polls_name kept new octets due
     (record { message = message_of sending.message; moves = moves_known old new now kept.name poll sending.state (Some (message_of sending.message)) nothing sending.next_id move whole apart (λ kind ttl e. cc); written = written })
+
+-- ---- what is said about a name
+
+-- by a stranger, and by the server; the node as the code has it open is the node before
+pub ignored : (old inside new : NodeValue) (now : ℕ) (from : Addr) (name : NameValue) (message : MessageValue) → inside ≡ old → false ≡ same_end from inside.server → new ≡ settled_node old now → AreDistinct old.slots
+    → Hears old now from name message new None nothing
+ignored old inside new now from name message inside_is stranger new_is apart =
+    from_stranger new (ap (λ (n : NodeValue). same_end from n.server) (sym inside_is) ∙ sym stranger) (passes old new now new_is apart)
+
+pub heard : (old inside new : NodeValue) (now : ℕ) (from : Addr) (name : NameValue) (message : MessageValue) → inside ≡ old → true ≡ same_end from inside.server → (state after : State) (told : Told) → state ≡ state_at old now name
+    → Move old now name state (hear message) after None told old.next_id → new ≡ changed old now name after inside.next_id → AreDistinct old.slots → Hears old now from name message new None told
+heard old inside new now from name message inside_is server state after told state_is move new_is apart =
+    let move_at : Move old now name (state_at old now name) (hear message) after None told old.next_id = rw (← state_is) move in
+    let whole : new ≡ changed old now name after old.next_id = new_is ∙ ap (λ (n : NodeValue). changed old now name after n.next_id) inside_is in
+    from_server new told (ap (λ (n : NodeValue). same_end from n.server) (sym inside_is) ∙ sym server)
+    (moves_known old new now name (hear message) after None told old.next_id move_at whole apart (λ kind ttl e. cc))

@@ -12,6 +12,7 @@ mod replies;
 mod settling;
 mod slots;
 mod state;
+mod status;
 mod writing;
 
 pub use event::Event;

@@ -1,5 +1,8 @@
 //! Looking up who holds a name, and what names an end holds (RFC 1002 sections 4.2.12 and 4.2.17).
 
+ghost use Rattle.std.specs.Prelude.{◌≡◌};
+ghost use Rattle.nbt_node.specs.Calls.{same_end};
+
 use crate::asking::next_due;
 use crate::polling::is_next;
 use crate::settling::is_over;
@@ -28,6 +31,13 @@ pub struct Lookup {
     pub wanted: Wanted,
     pub tries: u8,
     pub due: u64,
+}
+
+/// Whether two ends are one: by address and port.
+pub fn is_same_end(a: Addr, b: Addr) -> bool
+    ensures { result ≡ same_end a b }
+{
+    a == b
 }
 
 impl Lookup {

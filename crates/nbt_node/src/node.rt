@@ -1,19 +1,21 @@
 //! An end node: the names that it asks for and holds.
 
-ghost use Rattle.std.specs.Prelude.{◌≡◌, ◌≤◌, ◌<◌, ◌↔◌, [], None, OnOk, OnErr, IfOk, IsErr};
+ghost use Rattle.std.specs.Prelude.{◌≡◌, ℕ, ◌≤◌, ◌<◌, ◌↔◌, [], None, OnOk, OnErr, IfOk, IsErr};
 ghost use Rattle.std.specs.Result.{result_err};
 
 use crate::asking::{claim, id_after, next_due, release};
+use crate::event::Event;
 use crate::fault::{AskFault, ClockBack, LookupFault, ReleaseFault};
-use crate::lookup::{Lookup, Wanted};
+use crate::lookup::{Lookup, Wanted, is_same_end};
 use crate::polling::first_due;
+use crate::replies::{on_registered, on_released, on_wait};
 use crate::slots;
 use crate::state::{Slot, State};
 use crate::writing::write;
 use arrayvec::ArrayVec;
 use nbt_lease::{Config, Moment};
 use nbt_name::{Addr, Kind, Name};
-use nbt_packet::Message;
+use nbt_packet::{Message, Registration};
 use std::marker::Model;
 
 /// A node of `N` slots, 1 to 14 (RFC 1001 section 10.2): one for each name that isn't `Idle`.
@@ -40,9 +42,11 @@ impl<const N: usize> Model for Node<N> {
 }
 
 impl<const N: usize> Node<N> {
-    ghost use Rattle.nbt_node.specs.Node.{holds, changed, settled_node, lookup_open, AreDistinct};
-    ghost use Rattle.nbt_node.specs.Moves.{ask, give_back};
-    ghost use Rattle.nbt_node.specs.Calls.{started, ask_refusal, release_refusal, resolve_refusal, status_refusal, Sends, Opens, Polls, slot_due};
+    ghost use Rattle.nbt_name.specs.declared.addr.Kind.{Kind as NameKind};
+    ghost use Rattle.nbt_packet.specs.Message.{registered, released, wait};
+    ghost use Rattle.nbt_node.specs.Node.{holds, changed, settled_node, state_at, lookup_open, AreDistinct};
+    ghost use Rattle.nbt_node.specs.Moves.{ask, give_back, told_of};
+    ghost use Rattle.nbt_node.specs.Calls.{started, ask_refusal, release_refusal, resolve_refusal, status_refusal, Sends, Opens, Polls, slot_due, Hears};
 
     /// A node at `addr` whose name server is at `server`. It knows nothing, and asks for nothing until more than twice
     /// the greatest life of a datagram has passed (our profile).
@@ -180,8 +184,7 @@ impl<const N: usize> Node<N> {
         if now.get() < self.last.get() {
             return Err(ReleaseFault::ClockBack);
         }
-        let state = slots::state_in(&self.slots, name).settled(self.config.life(), now);
-        let kind = match state.held_kind() {
+        let kind = match self.state_at(now, name).held_kind() {
             Some(kind) => kind,
             None => return Err(ReleaseFault::NotHeld),
         };
@@ -334,5 +337,77 @@ impl<const N: usize> Node<N> {
         write(&lookup.question(), out);
         self.next_id = id_after(id);
         self.lookup = Some(lookup);
+    }
+
+    /// A registration's reply.
+    fn hear_registered<'a>(
+        &mut self,
+        now: Moment,
+        from: Addr,
+        rcode: u8,
+        r: &Registration,
+    ) -> Event<'a>
+        ensures { Hears self.old now from r.now.name (registered rcode r.now) self.new None (told_of result) }
+    {
+        if !is_same_end(from, self.server) {
+            self.settle(now);
+            return Event::Nothing;
+        }
+        let state = self.state_at(now, &r.name);
+        let outcome = on_registered(&state, rcode, r.id, self.config.granted(r.ttl));
+        let id = self.next_id;
+        self.change(now, &r.name, &outcome.state, id);
+        outcome.event
+    }
+
+    /// A release's reply.
+    fn hear_released<'a>(
+        &mut self,
+        now: Moment,
+        from: Addr,
+        id: u16,
+        rcode: u8,
+        name: &Name,
+    ) -> Event<'a>
+        ensures { (k : NameKind) (a : ℕ) → Hears self.old now from name.now (released id rcode name.now k a) self.new None (told_of result) }
+    {
+        if !is_same_end(from, self.server) {
+            self.settle(now);
+            return Event::Nothing;
+        }
+        let state = self.state_at(now, name);
+        let outcome = on_released(&state, rcode, id);
+        let id = self.next_id;
+        self.change(now, name, &outcome.state, id);
+        outcome.event
+    }
+
+    /// A WACK.
+    fn hear_wait<'a>(
+        &mut self,
+        now: Moment,
+        from: Addr,
+        id: u16,
+        name: &Name,
+        ttl: u32,
+    ) -> Event<'a>
+        ensures { Hears self.old now from name.now (wait id name.now ttl) self.new None (told_of result) }
+    {
+        if !is_same_end(from, self.server) {
+            self.settle(now);
+            return Event::Nothing;
+        }
+        let state = self.state_at(now, name);
+        let outcome = on_wait(&state, id, ttl, now);
+        let id = self.next_id;
+        self.change(now, name, &outcome.state, id);
+        outcome.event
+    }
+
+    /// The name's state at `now`.
+    fn state_at(&self, now: Moment, name: &Name) -> State
+        ensures { result ≡ state_at self.now now name.now }
+    {
+        slots::state_in(&self.slots, name).settled(self.config.life(), now)
     }
 }

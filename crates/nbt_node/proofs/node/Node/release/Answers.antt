@@ -15,9 +15,7 @@ returns-clause-ok g c =
     let old : NodeValue = c.args.self.now in
     let releasing : State = Releasing c.in-Some.kind c.self.inside.next_id c.args.now 1 c.next_due.result in
     let sent : MessageValue = message_of c.release-message.result in
-    let state_is : c.settled-state.result ≡ state_at old c.args.now c.args.name.now =
-    c.settled-state.ensures ∙ rw (c.state_in.ensures, c.life.ensures.value) (ap (λ (n : NodeValue). state_at n c.args.now c.args.name.now) c.self.view_is) in
-    let held : held_kind (state_at old c.args.now c.args.name.now) ≡ Some c.in-Some.kind = ap held_kind (sym state_is) ∙ sym c.in-Some.ensures in
+    let held : held_kind (state_at old c.args.now c.args.name.now) ≡ Some c.in-Some.kind = ap held_kind (sym c.state_at.ensures) ∙ sym c.in-Some.ensures in
     let id_is : c.self.inside.next_id ≡ old.next_id = ap (λ (n : NodeValue). n.next_id) c.self.view_is in
     let own_is : c.self.inside.addr.ip ≡ old.addr.ip = ap (λ (n : NodeValue). n.addr.ip) c.self.view_is in
     let move : Move old c.args.now c.args.name.now (state_at old c.args.now c.args.name.now) give_back releasing (Some sent) nothing c.id_after.result =
