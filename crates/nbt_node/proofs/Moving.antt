@@ -17,7 +17,7 @@ use Rattle.nbt_node.specs.declared.state.Slot.{Slot}
 use Rattle.nbt_node.specs.Settling.{settled}
 use Rattle.nbt_node.specs.Node.{NodeValue, IsNode, is_in, has_room, AreDistinct, state_in, with_state, settled_slot, state_of, state_at, changed, Passes, settled_node}
 use Rattle.nbt_node.specs.Moves.{NameEvent, ask, give_back, poll, hear, next_due, nothing, Told, Move, NameMoves, asks, gives_back, asks_again, gives_back_again, refreshes_again, refreshes, granted_to, renewed_to, refused_to, loses_asked, loses_held, freed, asking_waits, giving_back_waits, refresh_waits, unmoved}
-use Rattle.nbt_node.specs.Calls.{is_busy, is_quiet, ask_refusal, AreWritten, question, LooksUp, slot_due, lookup_due, due_lookup, IsSending, Polls, polls_name, polls_lookup, polls_nothing, same_end, Hears, from_server, from_stranger}
+use Rattle.nbt_node.specs.Calls.{is_busy, is_quiet, ask_refusal, AreWritten, question, LooksUp, slot_due, lookup_due, due_lookup, IsSending, Polls, polls_name, polls_lookup, polls_nothing, same_end, Hears, from_server, from_stranger, ends, Ends, is_answered, is_unanswered}
 use Rattle.nbt_node.proofs.Due.{known_due}
 use Rattle.nbt_node.proofs.Known.{absent, distinct-settled, state_in-settled, idle_is_out, distinct-with_state, length-with_state, with_state-other, with_state-same}
 
@@ -211,3 +211,17 @@ heard old inside new now from name message inside_is server state after told sta
     let whole : new ≡ changed old now name after old.next_id = new_is ∙ ap (λ (n : NodeValue). changed old now name after n.next_id) inside_is in
     from_server new told (ap (λ (n : NodeValue). same_end from n.server) (sym inside_is) ∙ sym server)
     (moves_known old new now name (hear message) after None told old.next_id move_at whole apart (λ kind ttl e. cc))
+
+-- ---- what may end the lookup: the node as the code has it open is the settled one
+
+pub unanswered : (old mid inside : NodeValue) (now : ℕ) (from : Addr) (message : MessageValue) (told : Told) → mid ≡ settled_node old now → inside ≡ mid → AreDistinct old.slots
+    → false ≡ ends inside.lookup from message → Ends old now from message told mid None nothing
+unanswered old mid inside now from message told mid_is inside_is apart other =
+    is_unanswered mid (ap (λ (n : NodeValue). ends n.lookup from message) (sym (inside_is ∙ mid_is)) ∙ sym other) (passes old mid now mid_is apart)
+
+pub answered : (old mid inside new : NodeValue) (now : ℕ) (from : Addr) (message : MessageValue) (told : Told) → mid ≡ settled_node old now → inside ≡ mid → new ≡ record inside { lookup = None } → AreDistinct old.slots
+    → true ≡ ends inside.lookup from message → Ends old now from message told new None told
+answered old mid inside new now from message told mid_is inside_is new_is apart end =
+    let next_is : inside.next_id ≡ old.next_id = ap (λ (n : NodeValue). n.next_id) (inside_is ∙ mid_is) in
+    let whole : new ≡ record inside { lookup = None; next_id = old.next_id } = new_is ∙ ap (λ (id : ℕ). let n : NodeValue = record inside { lookup = None; next_id = id } in n) next_is in
+    is_answered new (ap (λ (n : NodeValue). ends n.lookup from message) (sym (inside_is ∙ mid_is)) ∙ sym end) (looks_up old inside new now None old.next_id (inside_is ∙ mid_is) whole apart)

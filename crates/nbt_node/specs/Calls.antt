@@ -175,12 +175,13 @@ pub data Lists (old : NodeValue) (now id : ℕ) (name : NameValue) : NodeValue �
 
 -- a lookup ends by what it asks for, or by word that it isn't there, with its id and its name where one is told, and
 -- only from the end that was asked
-abbrev pub wants : Wanted → MessageValue → Bool
-wants Entries (found id name ttl entries) = true
-wants Names (status id name names) = true
-wants Entries (not_found id rcode name) = true
-wants Names (not_found id rcode name) = true
-wants wanted message = false
+abbrev pub wants : MessageValue → Wanted → Bool
+wants (found id name ttl entries) Entries = true
+wants (found id name ttl entries) Names = false
+wants (status id name names) Entries = false
+wants (status id name names) Names = true
+wants (not_found id rcode name) wanted = true
+wants message wanted = false
 
 abbrev pub tells_name : Option NameValue → NameValue → Bool
 tells_name None asked = true
@@ -188,7 +189,7 @@ tells_name (Some name) asked = same_name name asked
 
 abbrev pub ends : Option Lookup → Addr → MessageValue → Bool
 ends None from message = false
-ends (Some l) from message = same_end from l.to && (wants l.wanted message && (nat_eq (id_of message) l.id && tells_name (name_in message) l.name))
+ends (Some l) from message = same_end from l.to && (wants message l.wanted && (nat_eq (id_of message) l.id && tells_name (name_in message) l.name))
 
 pub data Ends (old : NodeValue) (now : ℕ) (from : Addr) (message : MessageValue) (told : Told) : NodeValue → Option MessageValue → Told → Type 0 where
   is_answered : (new : NodeValue) → ends (settled_lookup now old.lookup) from message ≡ true → LooksUp old now None old.next_id new → Ends old now from message told new None told

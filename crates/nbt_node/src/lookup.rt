@@ -6,6 +6,7 @@ ghost use Rattle.nbt_node.specs.Calls.{same_end};
 use crate::asking::next_due;
 use crate::polling::is_next;
 use crate::settling::is_over;
+use crate::slots::is_same_name;
 use crate::writing::write;
 use arrayvec::ArrayVec;
 use nbt_lease::Moment;
@@ -41,12 +42,12 @@ pub fn is_same_end(a: Addr, b: Addr) -> bool
 }
 
 impl Lookup {
-    ghost use Rattle.std.specs.Prelude.{◌≡◌, ◌+◌, [], None, Some, is_some, MatchOption};
-    ghost use Rattle.nbt_packet.specs.Message.{message_of, HoldsNumbers, Fits};
-    ghost use Rattle.nbt_packet.specs.Spelling.{HasFewRows};
+    ghost use Rattle.std.specs.Prelude.{◌≡◌, ◌+◌, [], None, Some, is_some, nat_eq, ◌&&◌, MatchOption};
+    ghost use Rattle.nbt_packet.specs.Message.{message_of, HoldsNumbers};
+    ghost use Rattle.nbt_packet.specs.Spelling.{id_of, name_in};
     ghost use Rattle.nbt_node.specs.Node.{settled_lookup};
     ghost use Rattle.nbt_node.specs.Moves.{next_due};
-    ghost use Rattle.nbt_node.specs.Calls.{question, due_lookup, AreWritten};
+    ghost use Rattle.nbt_node.specs.Calls.{question, due_lookup, wants, tells_name, ends, AreWritten};
 
     /// The request of a lookup.
     pub fn question<'a>(&self) -> Message<'a>
@@ -104,6 +105,43 @@ impl Lookup {
                 Some(open.to)
             }
             None => None,
+        }
+    }
+
+    /// Whether a message from an end ends the lookup: it is what the lookup asks for, or word that it isn't there, with
+    /// the lookup's id and name, from the end that was asked.
+    pub fn ends(lookup: &Option<Lookup>, from: Addr, message: &Message<'_>) -> bool
+        ensures { result ≡ ends lookup.now from (message_of message.now) }
+    {
+        match lookup {
+            Some(open) => is_same_end(from, open.to) && open.is_told(message),
+            None => false,
+        }
+    }
+
+    /// Whether a message tells what the lookup asks for, with its id and its name where it has one.
+    fn is_told(&self, message: &Message<'_>) -> bool
+        ensures { result ≡ (wants (message_of message.now) self.now.wanted && (nat_eq (id_of (message_of message.now)) self.now.id && tells_name (name_in (message_of message.now)) self.now.name)) }
+    {
+        match message {
+            Message::Found { id, name, .. } => {
+                self.wanted == Wanted::Entries && *id == self.id && is_same_name(name, &self.name)
+            }
+            Message::Status { id, name, .. } => {
+                self.wanted == Wanted::Names && *id == self.id && is_same_name(name, &self.name)
+            }
+            Message::NotFound { id, name, .. } => *id == self.id && self.is_named(name),
+            _ => false,
+        }
+    }
+
+    /// Whether this is the lookup's name, where it is one.
+    fn is_named(&self, name: &Option<Name>) -> bool
+        ensures { result ≡ tells_name name.now self.now.name }
+    {
+        match name {
+            Some(name) => is_same_name(name, &self.name),
+            None => true,
         }
     }
 }

@@ -1,6 +1,6 @@
 //! An end node: the names that it asks for and holds.
 
-ghost use Rattle.std.specs.Prelude.{◌≡◌, ℕ, ◌≤◌, ◌<◌, ◌↔◌, [], None, OnOk, OnErr, IfOk, IsErr};
+ghost use Rattle.std.specs.Prelude.{◌≡◌, ℕ, ◌≤◌, ◌<◌, ◌↔◌, [], Option, None, OnOk, OnErr, IfOk, IsErr};
 ghost use Rattle.std.specs.Result.{result_err};
 
 use crate::asking::{claim, id_after, next_due, release};
@@ -11,11 +11,12 @@ use crate::polling::first_due;
 use crate::replies::{on_registered, on_released, on_wait};
 use crate::slots;
 use crate::state::{Slot, State};
+use crate::status::{listed, write_names};
 use crate::writing::write;
 use arrayvec::ArrayVec;
 use nbt_lease::{Config, Moment};
 use nbt_name::{Addr, Kind, Name};
-use nbt_packet::{Message, Registration};
+use nbt_packet::{Message, Registration, read};
 use std::marker::Model;
 
 /// A node of `N` slots, 1 to 14 (RFC 1001 section 10.2): one for each name that isn't `Idle`.
@@ -43,10 +44,10 @@ impl<const N: usize> Model for Node<N> {
 
 impl<const N: usize> Node<N> {
     ghost use Rattle.nbt_name.specs.declared.addr.Kind.{Kind as NameKind};
-    ghost use Rattle.nbt_packet.specs.Message.{registered, released, wait};
+    ghost use Rattle.nbt_packet.specs.Message.{MessageValue, message_of, registered, released, wait};
     ghost use Rattle.nbt_node.specs.Node.{holds, changed, settled_node, state_at, lookup_open, AreDistinct};
     ghost use Rattle.nbt_node.specs.Moves.{ask, give_back, told_of};
-    ghost use Rattle.nbt_node.specs.Calls.{started, ask_refusal, release_refusal, resolve_refusal, status_refusal, Sends, Opens, Polls, slot_due, Hears};
+    ghost use Rattle.nbt_node.specs.Calls.{started, ask_refusal, release_refusal, resolve_refusal, status_refusal, Sends, Opens, Polls, slot_due, Hears, Lists, Ends, Takes, Handles, AreWritten, is_listed_for};
 
     /// A node at `addr` whose name server is at `server`. It knows nothing, and asks for nothing until more than twice
     /// the greatest life of a datagram has passed (our profile).
@@ -337,6 +338,130 @@ impl<const N: usize> Node<N> {
         write(&lookup.question(), out);
         self.next_id = id_after(id);
         self.lookup = Some(lookup);
+    }
+
+    /// Takes a datagram from an end, and returns what it was to the node. A reply of the server counts only from the
+    /// server's address and port, with the id and name of what is open; a conflict demand (RCODE 7) drops a name that is
+    /// asked for or held, whatever its id (our profile). A lookup ends only by the end that was asked. A status request
+    /// for a name that begins with `*`, or that the node holds, is replied to whoever sent it: `out` then holds the NODE
+    /// STATUS RESPONSE for `from`, at most 576 octets (RFC 1002 section 4.2.18); else `out` is empty. Refused with
+    /// `ClockBack` (4) where `now` is before the moment of an earlier call: the node stays as it was, and `out` is empty.
+    pub fn on_datagram<'a>(
+        &mut self,
+        now: Moment,
+        from: Addr,
+        octets: &'a [u8],
+        out: &mut ArrayVec<u8, 576>,
+    ) -> Result<Event<'a>, ClockBack>
+        ensures refused { IsErr result ↔ (now < self.old.last) }
+        ensures ok { IfOk result (λ event. Handles self.old now from octets.now self.new (told_of event) out.new.items) }
+        ensures err { OnErr result ((self.new ≡ self.old) × (out.new.items ≡ [])) }
+    {
+        out.clear();
+        if now.get() < self.last.get() {
+            return Err(ClockBack);
+        }
+        match read(octets) {
+            Some(message) => Ok(self.take(now, from, &message, out)),
+            None => {
+                self.settle(now);
+                Ok(Event::Nothing)
+            }
+        }
+    }
+
+    /// What a message from an end makes of the node.
+    fn take<'a>(
+        &mut self,
+        now: Moment,
+        from: Addr,
+        message: &Message<'a>,
+        out: &mut ArrayVec<u8, 576>,
+    ) -> Event<'a>
+        requires { out.old.items ≡ [] }
+        ensures { (sent : Option MessageValue) × Takes self.old now from (message_of message.now) self.new sent (told_of result) × AreWritten sent out.new.items }
+    {
+        match message {
+            Message::Registered {
+                rcode,
+                registration,
+            } => self.hear_registered(now, from, *rcode, registration),
+            Message::Released {
+                id,
+                rcode,
+                name,
+                ..
+            } => self.hear_released(now, from, *id, *rcode, name),
+            Message::Wait { id, name, ttl } => self.hear_wait(now, from, *id, name, *ttl),
+            Message::StatusRequest { id, name } => self.list_names(now, *id, name, out),
+            Message::Found { entries, .. } => self.end_lookup(
+                now,
+                from,
+                message,
+                Event::Found(entries),
+            ),
+            Message::NotFound { .. } => self.end_lookup(now, from, message, Event::NotFound),
+            Message::Status { names, .. } => self.end_lookup(
+                now,
+                from,
+                message,
+                Event::Status(names),
+            ),
+            Message::Registration(_)
+            | Message::Overwrite(_)
+            | Message::Refresh(_)
+            | Message::Release { .. }
+            | Message::Query { .. } => {
+                self.settle(now);
+                Event::Nothing
+            }
+        }
+    }
+
+    /// A status request. The names are those of the node that is settled at `now`.
+    fn list_names<'a>(
+        &mut self,
+        now: Moment,
+        id: u16,
+        name: &Name,
+        out: &mut ArrayVec<u8, 576>,
+    ) -> Event<'a>
+        requires { out.old.items ≡ [] }
+        ensures { (sent : Option MessageValue) × Lists self.old now id name.now self.new sent (told_of result) × AreWritten sent out.new.items }
+    {
+        let is_listed_for = self.is_listed_for(now, name);
+        self.settle(now);
+        if !is_listed_for {
+            return Event::Nothing;
+        }
+        let names = listed(&self.slots, name.scope());
+        write_names(id, name, names.as_slice(), out);
+        Event::Reply
+    }
+
+    /// Whether a status request for this name is replied to.
+    fn is_listed_for(&self, now: Moment, name: &Name) -> bool
+        ensures { result ≡ is_listed_for self.now now name.now }
+    {
+        name.is_star() || self.state_at(now, name).held_kind().is_some()
+    }
+
+    /// What may end the lookup, and is then told.
+    fn end_lookup<'a>(
+        &mut self,
+        now: Moment,
+        from: Addr,
+        message: &Message<'_>,
+        event: Event<'a>,
+    ) -> Event<'a>
+        ensures { Ends self.old now from (message_of message.now) (told_of event.entry) self.new None (told_of result) }
+    {
+        self.settle(now);
+        if !Lookup::ends(&self.lookup, from, message) {
+            return Event::Nothing;
+        }
+        self.lookup = None;
+        event
     }
 
     /// A registration's reply.

@@ -8,7 +8,8 @@ use crate::state::{Slot, State};
 use nbt_lease::Moment;
 use nbt_name::Name;
 
-fn is_same_name(a: &Name, b: &Name) -> bool
+/// Whether two names are one.
+pub fn is_same_name(a: &Name, b: &Name) -> bool
     ensures { result ≡ same_name a.now b.now }
 {
     a == b

@@ -1,12 +1,15 @@
 //! The names that a status reply lists (RFC 1002 section 4.2.18).
 
-ghost use Rattle.std.specs.Prelude.{◌≡◌, ◌+◌, ◌*◌, ◌%◌, ◌≤◌, ◌++◌, length};
+ghost use Rattle.std.specs.Prelude.{◌≡◌, ◌+◌, ◌*◌, ◌%◌, ◌≤◌, ◌++◌, length, Some};
 ghost use Rattle.std.specs.List.{flat_map};
-ghost use Rattle.nbt_node.specs.Calls.{listed};
+ghost use Rattle.nbt_packet.specs.Message.{status};
+ghost use Rattle.nbt_node.specs.Calls.{listed, AreWritten};
 
 use crate::state::Slot;
+use crate::writing::write;
 use arrayvec::ArrayVec;
-use nbt_packet::status_name_octets;
+use nbt_name::Name;
+use nbt_packet::{Message, status_name_octets};
 
 /// The octets of the names that are held in one scope, in order of slots.
 pub fn listed(slots: &[Option<Slot>], scope: &[u8]) -> ArrayVec<u8, 252>
@@ -42,4 +45,19 @@ fn list(slot: &Option<Slot>, scope: &[u8], names: &mut ArrayVec<u8, 252>)
     };
     let octets = status_name_octets(kept.name.octets(), kind);
     names.try_extend_from_slice(&octets).unwrap();
+}
+
+/// Leaves in `out` the reply that lists these names, and nothing else.
+pub fn write_names(id: u16, name: &Name, names: &[u8], out: &mut ArrayVec<u8, 576>)
+    requires most { length names.now ≤ 252 }
+    requires whole { length names.now % 18 ≡ 0 }
+    ensures { AreWritten (Some (status id name.now names.now)) out.new.items }
+{
+    let _is_a_name = name.octets();
+    let reply = Message::Status {
+        id,
+        name: name.copy(),
+        names,
+    };
+    write(&reply, out);
 }
