@@ -3,3 +3,4 @@ pub mod Table
 pub mod Known
 pub mod Moving
 pub mod Due
+pub mod Steps

@@ -5,6 +5,7 @@
 mod asking;
 mod event;
 mod fault;
+pub mod laws;
 mod lookup;
 mod node;
 mod polling;
