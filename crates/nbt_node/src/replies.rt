@@ -38,6 +38,17 @@ fn unmoved<'a>(state: &State) -> Outcome<'a>
     }
 }
 
+/// The transaction is over, and the name isn't held: it rests from the last sending about it.
+fn rests<'a>(last: Moment, event: Event<'a>) -> Outcome<'a>
+    ensures state { result.state ≡ State.Resting last }
+    ensures told { result.event ≡ event.entry }
+{
+    Outcome {
+        state: State::Resting { last },
+        event,
+    }
+}
+
 /// A hold of these seconds from the transaction's first sending; half of them later it is refreshed.
 fn hold(kind: Kind, ttl: u32, first: Moment, last: Moment, seconds: u32) -> State
     requires { seconds ≤ 1000000 }
@@ -62,10 +73,7 @@ fn demanded<'a>(state: &State, last: Moment, rcode: u8) -> Outcome<'a>
     if rcode != CONFLICT {
         return unmoved(state);
     }
-    Outcome {
-        state: State::Resting { last },
-        event: Event::Lost,
-    }
+    rests(last, Event::Lost)
 }
 
 /// What the reply to a registration or a refresh, with this RCODE and id, makes of a name. A hold is counted from the
@@ -89,10 +97,7 @@ pub fn on_registered<'a>(state: &State, rcode: u8, id: u16, seconds: u32) -> Out
                 return demanded(state, *last, rcode);
             }
             if rcode != 0 {
-                return Outcome {
-                    state: State::Resting { last: *last },
-                    event: Event::Refused(rcode),
-                };
+                return rests(*last, Event::Refused(rcode));
             }
             Outcome {
                 state: hold(*kind, *ttl, *first, *last, seconds),
@@ -113,10 +118,7 @@ pub fn on_registered<'a>(state: &State, rcode: u8, id: u16, seconds: u32) -> Out
                         return demanded(state, *last, rcode);
                     }
                     if rcode != 0 {
-                        return Outcome {
-                            state: State::Resting { last: *last },
-                            event: Event::Lost,
-                        };
+                        return rests(*last, Event::Lost);
                     }
                     Outcome {
                         state: hold(*kind, *ttl, refresh.first, *last, seconds),
@@ -138,17 +140,14 @@ pub fn on_released<'a>(state: &State, rcode: u8, id: u16) -> Outcome<'a>
 {
     match state {
         State::Releasing {
-            id: asked,
+            id: given_back,
             last,
             ..
         } => {
-            if *asked != id {
+            if *given_back != id {
                 return unmoved(state);
             }
-            Outcome {
-                state: State::Resting { last: *last },
-                event: Event::Freed(rcode),
-            }
+            rests(*last, Event::Freed(rcode))
         }
         State::Idle => unmoved(state),
         State::Asking { .. } => unmoved(state),
@@ -181,13 +180,13 @@ fn put_off(state: &State, id: u16, due: u64) -> Option<State>
         State::Asking {
             kind,
             ttl,
-            id: asked,
+            id: opened,
             first,
             last,
             tries,
             ..
         } => {
-            if *asked != id {
+            if *opened != id {
                 return None;
             }
             Some(State::Asking {
@@ -202,12 +201,12 @@ fn put_off(state: &State, id: u16, due: u64) -> Option<State>
         }
         State::Releasing {
             kind,
-            id: asked,
+            id: opened,
             last,
             tries,
             ..
         } => {
-            if *asked != id {
+            if *opened != id {
                 return None;
             }
             Some(State::Releasing {

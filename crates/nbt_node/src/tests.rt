@@ -22,8 +22,10 @@ const SERVER: Addr = Addr {
 /// The requests about FRED: a registration with id 1, a refresh and a release with id 2.
 const REGISTRATION: &[u8; 68] =
     b"\x00\x01\x29\x00\x00\x01\x00\x00\x00\x00\x00\x01 EGFCEFEECACACACACACACACACACACACA\x00\x00\x20\x00\x01\xC0\x0C\x00\x20\x00\x01\x00\x00\x00\x3C\x00\x06\x20\x00\x7F\x00\x00\x02";
+
 const REFRESH: &[u8; 68] =
     b"\x00\x02\x40\x00\x00\x01\x00\x00\x00\x00\x00\x01 EGFCEFEECACACACACACACACACACACACA\x00\x00\x20\x00\x01\xC0\x0C\x00\x20\x00\x01\x00\x00\x00\x3C\x00\x06\x20\x00\x7F\x00\x00\x02";
+
 const RELEASE: &[u8; 68] =
     b"\x00\x02\x30\x00\x00\x01\x00\x00\x00\x00\x00\x01 EGFCEFEECACACACACACACACACACACACA\x00\x00\x20\x00\x01\xC0\x0C\x00\x20\x00\x01\x00\x00\x00\x00\x00\x06\x20\x00\x7F\x00\x00\x02";
 
@@ -34,12 +36,14 @@ const WACK: &[u8; 58] =
 /// The query of FRED with id 1, and its negative response.
 const QUERY: &[u8; 50] =
     b"\x00\x01\x01\x00\x00\x01\x00\x00\x00\x00\x00\x00 EGFCEFEECACACACACACACACACACACACA\x00\x00\x20\x00\x01";
+
 const NOT_FOUND: &[u8; 56] =
     b"\x00\x01\x85\x83\x00\x00\x00\x01\x00\x00\x00\x00 EGFCEFEECACACACACACACACACACACACA\x00\x00\x0A\x00\x01\x00\x00\x00\x00\x00\x00";
 
 /// A status request for `*` with id 9, and the reply of a node that holds FRED alone.
 const STATUS_REQUEST: &[u8; 50] =
     b"\x00\x09\x00\x00\x00\x01\x00\x00\x00\x00\x00\x00 CKAAAAAAAAAAAAAAAAAAAAAAAAAAAAAA\x00\x00\x21\x00\x01";
+
 const STATUS: &[u8; 121] =
     b"\x00\x09\x84\x00\x00\x00\x00\x01\x00\x00\x00\x00 CKAAAAAAAAAAAAAAAAAAAAAAAAAAAAAA\x00\x00\x21\x00\x01\x00\x00\x00\x00\x00\x41\x01FRED            \x24\x00\x00\x00\x00\x00\x00\x00\x00\x00\x00\x00\x00\x00\x00\x00\x00\x00\x00\x00\x00\x00\x00\x00\x00\x00\x00\x00\x00\x00\x00\x00\x00\x00\x00\x00\x00\x00\x00\x00\x00\x00\x00\x00\x00\x00\x00\x00";
 
@@ -214,7 +218,9 @@ fn a_full_node_keeps_its_name(rt: HostRuntime) -> Result<(), Fail> {
 }
 
 #[test]
-fn a_conflict_demand_drops_a_name_and_only_the_server_makes_one(rt: HostRuntime) -> Result<(), Fail> {
+fn a_conflict_demand_drops_a_name_and_only_the_server_makes_one(
+    rt: HostRuntime,
+) -> Result<(), Fail> {
     let mut node = holder(&rt)?;
     let mut out = ArrayVec::new();
     let demand = response(5, [0xAD, 0x87], 0);
@@ -315,7 +321,8 @@ fn the_names_of_another_end(rt: HostRuntime) -> Result<(), Fail> {
     let mut out = ArrayVec::new();
     node.name_status(at(60_000)?, OWN, &fred()?, &mut out)?;
     assert_eq!(rt; out.len(), 50);
-    let reply = b"\x00\x01\x84\x00\x00\x00\x00\x01\x00\x00\x00\x00 EGFCEFEECACACACACACACACACACACACA\x00\x00\x21\x00\x01\x00\x00\x00\x00\x00\x13\x01FRED            \x24\x00";
+    let reply =
+        b"\x00\x01\x84\x00\x00\x00\x00\x01\x00\x00\x00\x00 EGFCEFEECACACACACACACACACACACACA\x00\x00\x21\x00\x01\x00\x00\x00\x00\x00\x13\x01FRED            \x24\x00";
     let event = node.on_datagram(at(60_001)?, OWN, reply, &mut out)?;
     assert!(rt; event == Event::Status(b"FRED            \x24\x00"));
     Ok(())

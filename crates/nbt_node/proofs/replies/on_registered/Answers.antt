@@ -10,8 +10,9 @@ returns-then-asked-id c = λ node now name r id_is seconds_is.
 
 pub returns-then-rcode-ne0 : goal.returns-then-rcode-ne0
 returns-then-rcode-ne0 c = λ node now name r id_is seconds_is.
-    asking_refused node now name c.args.state.now c.in-Asking.kind c.in-Asking.ttl c.in-Asking.asked c.in-Asking.first c.in-Asking.last c.in-Asking.tries c.in-Asking.due c.args.rcode r c.in-Asking.is
-    (id_is ∙ sym c.if-asked-id.false) c.if-rcode-ne0.true
+    rw (c.rests.ensures.state, c.rests.ensures.told)
+    (asking_refused node now name c.args.state.now c.in-Asking.kind c.in-Asking.ttl c.in-Asking.asked c.in-Asking.first c.in-Asking.last c.in-Asking.tries c.in-Asking.due c.args.rcode r c.in-Asking.is
+    (id_is ∙ sym c.if-asked-id.false) c.if-rcode-ne0.true)
 
 pub returns-else-rcode-ne0 : goal.returns-else-rcode-ne0
 returns-else-rcode-ne0 c = λ node now name r id_is seconds_is.
@@ -30,8 +31,9 @@ returns-then-refresh-id c = λ node now name r id_is seconds_is.
 
 pub returns-then-rcode-ne0-2 : goal.returns-then-rcode-ne0-2
 returns-then-rcode-ne0-2 c = λ node now name r id_is seconds_is.
-    held_refused node now name c.args.state.now c.in-Held.kind c.in-Held.ttl c.in-Held.until c.in-Held.renew c.in-Held.last c.in-Held.pending c.in-Some.refresh c.args.rcode r c.in-Held.is c.in-Some.is
-    (id_is ∙ sym c.if-refresh-id.false) c.if-rcode-ne0-2.true
+    rw (c.rests-then-rcode-ne0-2.ensures.state, c.rests-then-rcode-ne0-2.ensures.told)
+    (held_refused node now name c.args.state.now c.in-Held.kind c.in-Held.ttl c.in-Held.until c.in-Held.renew c.in-Held.last c.in-Held.pending c.in-Some.refresh c.args.rcode r c.in-Held.is c.in-Some.is
+    (id_is ∙ sym c.if-refresh-id.false) c.if-rcode-ne0-2.true)
 
 pub returns-else-rcode-ne0-2 : goal.returns-else-rcode-ne0-2
 returns-else-rcode-ne0-2 c = λ node now name r id_is seconds_is.

@@ -2,13 +2,13 @@ use Rattle.std.proofs.Common.{◌≡◌, sym}
 use Rattle.nbt_node.specs.Moves.{asking_waits, giving_back_waits, refresh_waits}
 use Rattle.nbt_node.proofs.replies.put_off.Goals as goal
 
-pub returns-else-asked-id-clause-moved : goal.returns-else-asked-id-clause-moved
-returns-else-asked-id-clause-moved c = λ node now t name n later.
-    rw (c.in-Asking.is, c.if-asked-id.false, ← later) (asking_waits c.in-Asking.kind c.in-Asking.ttl c.args.id c.in-Asking.first c.in-Asking.last c.in-Asking.tries c.in-Asking.due n t)
+pub returns-else-opened-id-clause-moved : goal.returns-else-opened-id-clause-moved
+returns-else-opened-id-clause-moved c = λ node now t name n later.
+    rw (c.in-Asking.is, c.if-opened-id.false, ← later) (asking_waits c.in-Asking.kind c.in-Asking.ttl c.args.id c.in-Asking.first c.in-Asking.last c.in-Asking.tries c.in-Asking.due n t)
 
-pub returns-else-asked-id-2-clause-moved : goal.returns-else-asked-id-2-clause-moved
-returns-else-asked-id-2-clause-moved c = λ node now t name n later.
-    rw (c.in-Releasing.is, c.if-asked-id-2.false, ← later) (giving_back_waits c.in-Releasing.kind c.args.id c.in-Releasing.last c.in-Releasing.tries c.in-Releasing.due n t)
+pub returns-else-opened-id-2-clause-moved : goal.returns-else-opened-id-2-clause-moved
+returns-else-opened-id-2-clause-moved c = λ node now t name n later.
+    rw (c.in-Releasing.is, c.if-opened-id-2.false, ← later) (giving_back_waits c.in-Releasing.kind c.args.id c.in-Releasing.last c.in-Releasing.tries c.in-Releasing.due n t)
 
 pub returns-else-refresh-id-clause-moved : goal.returns-else-refresh-id-clause-moved
 returns-else-refresh-id-clause-moved c = λ node now t name n later.
