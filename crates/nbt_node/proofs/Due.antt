@@ -9,7 +9,8 @@ use Rattle.nbt_node.specs.declared.state.Slot.{Slot}
 use Rattle.nbt_node.specs.Settling.{settled}
 use Rattle.nbt_node.specs.Node.{same_name, is_in, AreDistinct, state_in, slot_of, settled_slot}
 use Rattle.nbt_node.specs.Moves.{is_due}
-use Rattle.nbt_node.specs.Calls.{first_due, IsSending}
+use Rattle.nbt_node.specs.Calls.{first_due}
+use Rattle.nbt_node.specs.Sending.{IsSending}
 use Rattle.nbt_node.proofs.Known.{slot_tells, same_name-same, name_tells}
 
 module _ (life now own id : ℕ) where

@@ -4,3 +4,4 @@ pub mod Known
 pub mod Moving
 pub mod Due
 pub mod Steps
+pub mod OneMove

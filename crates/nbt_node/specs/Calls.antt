@@ -1,13 +1,11 @@
 -- What each call of a node does, on message values (our profile; RFC 1002 section 5.1).
-use Rattle.std.specs.Prelude.{◌≡◌, ◌≢◌, ℕ, ◌+◌, ◌*◌, Bool, true, false, ◌&&◌, ◌||◌, not, nat_eq, nat_lt, nat_le, is_some, if◌then◌else◌, List, [], ◌∷◌, ◌++◌, map, slice_index, replicate, Option, Some, None}
-use Rattle.std.specs.List.{flat_map}
-use Rattle.std.specs.Str.{bytes_eq}
+use Rattle.std.specs.Prelude.{◌≡◌, ℕ, ◌+◌, ◌*◌, Bool, true, false, ◌||◌, nat_eq, nat_lt, nat_le, is_some, if◌then◌else◌, List, [], ◌∷◌, map, slice_index, replicate, Option, Some, None}
 use Rattle.nbt_name.specs.declared.addr.Addr.{Addr}
 use Rattle.nbt_name.specs.declared.addr.Kind.{Kind}
 use Rattle.nbt_name.specs.Wire.{NameValue}
-use Rattle.nbt_packet.specs.Message.{MessageValue, registration, overwrite, refresh, release, query, status_request, registered, released, found, not_found, status, wait, message_of, HoldsNumbers, Fits}
-use Rattle.nbt_packet.specs.Text.{text, status_name}
-use Rattle.nbt_packet.specs.Spelling.{Spells, HasFewRows, id_of, name_in}
+use Rattle.nbt_packet.specs.Message.{MessageValue, query, status_request}
+use Rattle.nbt_packet.specs.Text.{text}
+use Rattle.nbt_packet.specs.Spelling.{Spells}
 use Rattle.nbt_lease.specs.Config.{ConfigValue}
 use Rattle.nbt_node.specs.declared.fault.AskFault.{AskFault}
 use Rattle.nbt_node.specs.declared.fault.AskFault.TheVariants as asks
@@ -18,12 +16,11 @@ use Rattle.nbt_node.specs.declared.fault.LookupFault.TheVariants as lookups
 use Rattle.nbt_node.specs.declared.lookup.Lookup.{Lookup}
 use Rattle.nbt_node.specs.declared.lookup.Wanted.{Wanted}
 use Rattle.nbt_node.specs.declared.lookup.Wanted.TheVariants.{Entries, Names}
-use Rattle.nbt_node.specs.declared.polling.Sending.{Sending}
 use Rattle.nbt_node.specs.declared.state.State.{State}
 use Rattle.nbt_node.specs.declared.state.State.TheVariants.{Idle, Asking, Held, Releasing, Resting}
 use Rattle.nbt_node.specs.declared.state.Slot.{Slot}
-use Rattle.nbt_node.specs.Node.{NodeValue, same_name, has_room, settled_slot, settled_lookup, settled_node, state_at, ByTimeAlone, Passes}
-use Rattle.nbt_node.specs.Moves.{NameEvent, poll, hear, Move, NameMoves, Told, nothing, replied, finds, finds_none, lists, id_after, next_due, is_next, is_due}
+use Rattle.nbt_node.specs.Node.{NodeValue, has_room, settled_slot, settled_lookup, settled_node, state_at, ByTimeAlone, Passes}
+use Rattle.nbt_node.specs.Moves.{NameEvent, poll, NameMoves, nothing, id_after, next_due, is_next, is_due}
 
 -- a node that knows nothing
 abbrev pub started : (slots : ℕ) → Addr → Addr → ConfigValue → ℕ → NodeValue
@@ -118,15 +115,6 @@ first_due life now [] = None
 first_due life now (None ∷ rest) = first_due life now rest
 first_due life now (Some slot ∷ rest) = if is_due life now slot.state then Some slot else first_due life now rest
 
--- what is sent about a name in a state by a node with this address, next id and life, and what is so next
-pub record IsSending (life now own id : ℕ) (name : NameValue) (state : State) (sending : Sending) : Type 0 where
-  pub moves : (node : NodeValue) → node.addr.ip ≡ own → node.next_id ≡ id → node.config.life ≡ life
-      → Move node now name state poll sending.state (Some (message_of sending.message)) nothing sending.next_id
-  pub name_is : sending.name ≡ name
-  pub numbers : HoldsNumbers (message_of sending.message)
-  pub fits : Fits (message_of sending.message)
-  pub few : HasFewRows (message_of sending.message)
-
 abbrev pub slot_due : NodeValue → ℕ → Option Slot
 slot_due node now = first_due node.config.life now (map (settled_slot node.config.life now) node.slots)
 
@@ -142,80 +130,3 @@ pub data Polls (old : NodeValue) (now : ℕ) : NodeValue → Option Addr → Lis
   polls_lookup : (l : Lookup) (new : NodeValue) (octets : List ℕ) → slot_due old now ≡ None → lookup_due old now ≡ Some l
       → LooksUp old now (Some (record l { tries = l.tries + 1; due = next_due now })) old.next_id new → AreWritten (Some (question l)) octets → Polls old now new (Some l.to) octets
   polls_nothing : (new : NodeValue) → slot_due old now ≡ None → lookup_due old now ≡ None → Passes old now new → Polls old now new None []
-
--- ---- datagrams
-
-abbrev pub same_end : Addr → Addr → Bool
-same_end a b = nat_eq a.ip b.ip && nat_eq a.port b.port
-
--- what is said about a name counts only from the node's server, its address and port
-pub data Hears (old : NodeValue) (now : ℕ) (from : Addr) (name : NameValue) (message : MessageValue) : NodeValue → Option MessageValue → Told → Type 0 where
-  from_server : (new : NodeValue) (told : Told) → same_end from old.server ≡ true → NameMoves old now name (hear message) new None told → Hears old now from name message new None told
-  from_stranger : (new : NodeValue) → same_end from old.server ≡ false → Passes old now new → Hears old now from name message new None nothing
-
--- a status reply lists the held names of the scope that is asked for, in order of slots (RFC 1002 section 4.2.18)
-abbrev pub listed_as : List ℕ → Option Kind → List ℕ
-listed_as octets None = []
-listed_as octets (Some kind) = status_name octets kind
-
-abbrev pub listed : (scope : List ℕ) → Option Slot → List ℕ
-listed scope None = []
-listed scope (Some slot) = if bytes_eq slot.name.scope scope then listed_as slot.name.octets (held_kind slot.state) else []
-
-abbrev pub names_listed : NodeValue → ℕ → NameValue → List ℕ
-names_listed node now name = flat_map (listed name.scope) (map (settled_slot node.config.life now) node.slots)
-
--- a status request for a name that begins with `*`, or is held, is replied to whoever sent it
-abbrev pub is_listed_for : NodeValue → ℕ → NameValue → Bool
-is_listed_for node now name = is_star name || is_some (held_kind (state_at node now name))
-
-pub data Lists (old : NodeValue) (now id : ℕ) (name : NameValue) : NodeValue → Option MessageValue → Told → Type 0 where
-  lists_names : (new : NodeValue) → is_listed_for old now name ≡ true → Passes old now new → Lists old now id name new (Some (status id name (names_listed old now name))) replied
-  lists_nothing : (new : NodeValue) → is_listed_for old now name ≡ false → Passes old now new → Lists old now id name new None nothing
-
--- a lookup ends by what it asks for, or by word that it isn't there, with its id and its name where one is told, and
--- only from the end that was asked
-abbrev pub wants : MessageValue → Wanted → Bool
-wants (found id name ttl entries) Entries = true
-wants (found id name ttl entries) Names = false
-wants (status id name names) Entries = false
-wants (status id name names) Names = true
-wants (not_found id rcode name) wanted = true
-wants message wanted = false
-
-abbrev pub tells_name : Option NameValue → NameValue → Bool
-tells_name None asked = true
-tells_name (Some name) asked = same_name name asked
-
-abbrev pub ends : Option Lookup → Addr → MessageValue → Bool
-ends None from message = false
-ends (Some l) from message = same_end from l.to && (wants message l.wanted && (nat_eq (id_of message) l.id && tells_name (name_in message) l.name))
-
-pub data Ends (old : NodeValue) (now : ℕ) (from : Addr) (message : MessageValue) (told : Told) : NodeValue → Option MessageValue → Told → Type 0 where
-  is_answered : (new : NodeValue) → ends (settled_lookup now old.lookup) from message ≡ true → LooksUp old now None old.next_id new → Ends old now from message told new None told
-  is_unanswered : (new : NodeValue) → ends (settled_lookup now old.lookup) from message ≡ false → Passes old now new → Ends old now from message told new None nothing
-
--- nothing but time
-pub data Idles (old : NodeValue) (now : ℕ) : NodeValue → Option MessageValue → Told → Type 0 where
-  idles : (new : NodeValue) → Passes old now new → Idles old now new None nothing
-
--- what a message from an end makes of the node, what is sent back to that end, and what is told
-abbrev pub Takes : NodeValue → ℕ → Addr → MessageValue → NodeValue → Option MessageValue → Told → Type 0
-Takes old now from (registered rcode r) = Hears old now from r.name (registered rcode r)
-Takes old now from (released id rcode name kind addr) = Hears old now from name (released id rcode name kind addr)
-Takes old now from (wait id name ttl) = Hears old now from name (wait id name ttl)
-Takes old now from (status_request id name) = Lists old now id name
-Takes old now from (found id name ttl entries) = Ends old now from (found id name ttl entries) (finds entries)
-Takes old now from (not_found id rcode name) = Ends old now from (not_found id rcode name) finds_none
-Takes old now from (status id name names) = Ends old now from (status id name names) (lists names)
-Takes old now from message = Idles old now
-
--- and what octets do, by the message that they spell, if any
-pub data TakesOctets (old : NodeValue) (now : ℕ) (from : Addr) (octets : List ℕ) : NodeValue → Option MessageValue → Told → Type 0 where
-  spelled : (message : MessageValue) (new : NodeValue) (sent : Option MessageValue) (told : Told) → Spells octets message → Takes old now from message new sent told → TakesOctets old now from octets new sent told
-  unspelled : (new : NodeValue) → ((message : MessageValue) → Spells octets message → ⊥) → Passes old now new → TakesOctets old now from octets new None nothing
-
-pub record Handles (old : NodeValue) (now : ℕ) (from : Addr) (octets : List ℕ) (new : NodeValue) (told : Told) (out : List ℕ) : Type 0 where
-  pub sent : Option MessageValue
-  pub takes : TakesOctets old now from octets new sent told
-  pub written : AreWritten sent out

@@ -3,3 +3,5 @@ pub mod Settling
 pub mod Node
 pub mod Moves
 pub mod Calls
+pub mod Datagrams
+pub mod Sending

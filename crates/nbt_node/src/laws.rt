@@ -1,8 +1,12 @@
 //! What holds of a name's states and moves, whatever the code does: laws over the definitions alone.
 
-ghost use Rattle.std.specs.Prelude.{◌≡◌, ℕ, ◌≤◌};
+ghost use Rattle.std.specs.Prelude.{◌≡◌, ℕ, ◌≤◌, Option};
+ghost use Rattle.nbt_name.specs.Wire.{NameValue};
+ghost use Rattle.nbt_packet.specs.Message.{MessageValue};
 ghost use Rattle.nbt_node.specs.declared.state.State.{State};
 ghost use Rattle.nbt_node.specs.Settling.{settled};
+ghost use Rattle.nbt_node.specs.Node.{NodeValue};
+ghost use Rattle.nbt_node.specs.Moves.{NameEvent, Told, Move};
 
 /// Time's own moves end: a state that is settled at a moment stays as it is there.
 pub fn settling_ends()
@@ -12,4 +16,10 @@ pub fn settling_ends()
 /// Settling at one moment, and then at a later one, is settling at the later one.
 pub fn settling_in_steps()
     ensures { (life a b : ℕ) (state : State) → a ≤ b → settled life b (settled life a state) ≡ settled life b state }
+{}
+
+/// No two lines of the table of moves are about one event on one state.
+pub fn one_move()
+    ensures { (node : NodeValue) (now : ℕ) (name : NameValue) (before : State) (event : NameEvent) (a b : State) (m n : Option MessageValue) (t u : Told) (i j : ℕ)
+        → Move node now name before event a m t i → Move node now name before event b n u j → (a ≡ b) × (m ≡ n) × (t ≡ u) × (i ≡ j) }
 {}

@@ -1,7 +1,7 @@
 //! Looking up who holds a name, and what names an end holds (RFC 1002 sections 4.2.12 and 4.2.17).
 
 ghost use Rattle.std.specs.Prelude.{◌≡◌};
-ghost use Rattle.nbt_node.specs.Calls.{same_end};
+ghost use Rattle.nbt_node.specs.Datagrams.{same_end};
 
 use crate::asking::next_due;
 use crate::polling::is_next;
@@ -47,7 +47,8 @@ impl Lookup {
     ghost use Rattle.nbt_packet.specs.Spelling.{id_of, name_in};
     ghost use Rattle.nbt_node.specs.Node.{settled_lookup};
     ghost use Rattle.nbt_node.specs.Moves.{next_due};
-    ghost use Rattle.nbt_node.specs.Calls.{question, due_lookup, wants, tells_name, ends, AreWritten};
+    ghost use Rattle.nbt_node.specs.Calls.{question, due_lookup, AreWritten};
+    ghost use Rattle.nbt_node.specs.Datagrams.{wants, tells_name, ends};
 
     /// The request of a lookup.
     pub fn question<'a>(&self) -> Message<'a>

@@ -47,7 +47,8 @@ impl<const N: usize> Node<N> {
     ghost use Rattle.nbt_packet.specs.Message.{MessageValue, message_of, registered, released, wait};
     ghost use Rattle.nbt_node.specs.Node.{holds, changed, settled_node, state_at, lookup_open, AreDistinct};
     ghost use Rattle.nbt_node.specs.Moves.{ask, give_back, told_of};
-    ghost use Rattle.nbt_node.specs.Calls.{started, ask_refusal, release_refusal, resolve_refusal, status_refusal, Sends, Opens, Polls, slot_due, Hears, Lists, Ends, Takes, Handles, AreWritten, is_listed_for};
+    ghost use Rattle.nbt_node.specs.Calls.{started, ask_refusal, release_refusal, resolve_refusal, status_refusal, Sends, Opens, Polls, slot_due, AreWritten};
+    ghost use Rattle.nbt_node.specs.Datagrams.{Hears, Lists, Ends, Takes, Handles, is_listed_for};
 
     /// A node at `addr` whose name server is at `server`. It knows nothing, and asks for nothing until more than twice
     /// the greatest life of a datagram has passed (our profile).
@@ -75,6 +76,7 @@ impl<const N: usize> Node<N> {
     pub fn addr(&self) -> Addr
         ensures { result ≡ self.now.addr }
     {
+        // The proof opens the node by a field that may be absent.
         let _lookup = &self.lookup;
         self.addr
     }

@@ -4,7 +4,8 @@ ghost use Rattle.std.specs.Prelude.{◌≡◌, ◌≤◌, List, ◌∷◌, map, 
 ghost use Rattle.nbt_node.specs.declared.state.Slot.{Slot as Kept};
 ghost use Rattle.nbt_node.specs.Node.{settled_slot};
 ghost use Rattle.nbt_node.specs.Moves.{is_next, is_due};
-ghost use Rattle.nbt_node.specs.Calls.{first_due, IsSending};
+ghost use Rattle.nbt_node.specs.Calls.{first_due};
+ghost use Rattle.nbt_node.specs.Sending.{IsSending};
 
 use crate::asking::{claim, id_after, next_due, release};
 use crate::settling::SENDINGS;

@@ -3,7 +3,8 @@
 ghost use Rattle.std.specs.Prelude.{◌≡◌, ◌+◌, ◌*◌, ◌%◌, ◌≤◌, ◌++◌, length, Some};
 ghost use Rattle.std.specs.List.{flat_map};
 ghost use Rattle.nbt_packet.specs.Message.{status};
-ghost use Rattle.nbt_node.specs.Calls.{listed, AreWritten};
+ghost use Rattle.nbt_node.specs.Calls.{AreWritten};
+ghost use Rattle.nbt_node.specs.Datagrams.{listed};
 
 use crate::state::Slot;
 use crate::writing::write;

@@ -1,7 +1,7 @@
 //! A node over moments: it asks for FRED, holds it, refreshes and gives it back; the octets are those of our profile over
 //! RFC 1002's layouts. A datagram lives 1,000 ms at most, the longest lease is 60 s, and the node is started at 0.
 
-use crate::laws::{settling_ends, settling_in_steps};
+use crate::laws::{one_move, settling_ends, settling_in_steps};
 use crate::{AskFault, ClockBack, Event, LookupFault, Node, ReleaseFault};
 use arrayvec::ArrayVec;
 use nbt_lease::{Config, Moment};
@@ -71,13 +71,31 @@ fn node() -> Result<Node<2>, Fail> {
     Ok(Node::start(OWN, SERVER, config, at(0)?))
 }
 
+/// Why FRED isn't asked for at a moment, for 60 s.
+fn ask(node: &mut Node<2>, ms: u64, out: &mut ArrayVec<u8, 576>) -> Result<Option<AskFault>, Fail> {
+    Ok(node.ask(at(ms)?, &fred()?, Kind::Unique, 60, out).err())
+}
+
+fn poll(node: &mut Node<2>, ms: u64, out: &mut ArrayVec<u8, 576>) -> Result<Option<Addr>, Fail> {
+    Ok(node.poll(at(ms)?, out)?)
+}
+
+fn hear<'a>(node: &mut Node<2>, ms: u64, from: Addr, octets: &'a [u8]) -> Result<Event<'a>, Fail> {
+    let mut out = ArrayVec::new();
+    Ok(node.on_datagram(at(ms)?, from, octets, &mut out)?)
+}
+
+fn holds(node: &Node<2>, ms: u64) -> Result<Option<Kind>, Fail> {
+    Ok(node.holds(at(ms)?, &fred()?))
+}
+
 /// A node that asked for FRED at 60,000, and holds it by a reply at 60,900.
 fn holder(rt: &impl Abort) -> Result<Node<2>, Fail> {
     let mut node = node()?;
     let mut out = ArrayVec::new();
-    node.ask(at(60_000)?, &fred()?, Kind::Unique, 60, &mut out)?;
+    assert_eq!(rt; ask(&mut node, 60_000, &mut out)?, None);
     let reply = response(1, [0xAD, 0x80], 60);
-    let event = node.on_datagram(at(60_900)?, SERVER, &reply, &mut out)?;
+    let event = hear(&mut node, 60_900, SERVER, &reply)?;
     assert!(rt; event == Event::Granted(60));
     Ok(node)
 }
@@ -86,15 +104,12 @@ fn holder(rt: &impl Abort) -> Result<Node<2>, Fail> {
 fn a_node_is_quiet_for_two_lives_after_its_start(rt: HostRuntime) -> Result<(), Fail> {
     let mut node = node()?;
     let mut out = ArrayVec::new();
-    let refused = node.ask(at(2_000)?, &fred()?, Kind::Unique, 60, &mut out);
-    assert_eq!(rt; refused, Err(AskFault::Quiet));
-    node.ask(at(2_001)?, &fred()?, Kind::Unique, 60, &mut out)?;
+    assert_eq!(rt; ask(&mut node, 2_000, &mut out)?, Some(AskFault::Quiet));
+    assert_eq!(rt; ask(&mut node, 2_001, &mut out)?, None);
     assert!(rt; out.as_slice() == REGISTRATION.as_slice());
-    let refused = node.ask(at(2_002)?, &fred()?, Kind::Unique, 60, &mut out);
-    assert_eq!(rt; refused, Err(AskFault::Busy));
-    let refused = node.ask(at(1_999)?, &fred()?, Kind::Unique, 60, &mut out);
-    assert_eq!(rt; refused, Err(AskFault::ClockBack));
-    assert_eq!(rt; node.poll(at(2_001)?, &mut out)?, None);
+    assert_eq!(rt; ask(&mut node, 2_002, &mut out)?, Some(AskFault::Busy));
+    assert_eq!(rt; ask(&mut node, 1_999, &mut out)?, Some(AskFault::ClockBack));
+    assert_eq!(rt; poll(&mut node, 2_001, &mut out)?, None);
     assert_eq!(rt; node.poll(at(2_000)?, &mut out), Err(ClockBack));
     let star = Name::any(b"")?;
     let refused = node.ask(at(2_002)?, &star, Kind::Unique, 60, &mut out);
@@ -108,17 +123,17 @@ fn a_node_is_quiet_for_two_lives_after_its_start(rt: HostRuntime) -> Result<(), 
 fn a_late_reply_counts_from_the_first_sending(rt: HostRuntime) -> Result<(), Fail> {
     let mut node = holder(&rt)?;
     let mut out = ArrayVec::new();
-    assert_eq!(rt; node.holds(at(119_999)?, &fred()?), Some(Kind::Unique));
-    assert_eq!(rt; node.holds(at(120_000)?, &fred()?), None);
-    assert_eq!(rt; node.holds(at(60_899)?, &fred()?), None);
-    assert_eq!(rt; node.poll(at(89_999)?, &mut out)?, None);
-    assert_eq!(rt; node.poll(at(90_000)?, &mut out)?, Some(SERVER));
+    assert_eq!(rt; holds(&node, 119_999)?, Some(Kind::Unique));
+    assert_eq!(rt; holds(&node, 120_000)?, None);
+    assert_eq!(rt; holds(&node, 60_899)?, None);
+    assert_eq!(rt; poll(&mut node, 89_999, &mut out)?, None);
+    assert_eq!(rt; poll(&mut node, 90_000, &mut out)?, Some(SERVER));
     assert!(rt; out.as_slice() == REFRESH.as_slice());
     let reply = response(2, [0xAD, 0x80], 60);
-    let event = node.on_datagram(at(91_000)?, SERVER, &reply, &mut out)?;
+    let event = hear(&mut node, 91_000, SERVER, &reply)?;
     assert!(rt; event == Event::Renewed(60));
-    assert_eq!(rt; node.holds(at(149_999)?, &fred()?), Some(Kind::Unique));
-    assert_eq!(rt; node.holds(at(150_000)?, &fred()?), None);
+    assert_eq!(rt; holds(&node, 149_999)?, Some(Kind::Unique));
+    assert_eq!(rt; holds(&node, 150_000)?, None);
     Ok(())
 }
 
@@ -126,14 +141,14 @@ fn a_late_reply_counts_from_the_first_sending(rt: HostRuntime) -> Result<(), Fai
 fn a_reply_after_a_retry_counts_from_the_first_sending(rt: HostRuntime) -> Result<(), Fail> {
     let mut node = node()?;
     let mut out = ArrayVec::new();
-    node.ask(at(60_000)?, &fred()?, Kind::Unique, 60, &mut out)?;
-    assert_eq!(rt; node.poll(at(65_000)?, &mut out)?, Some(SERVER));
+    assert_eq!(rt; ask(&mut node, 60_000, &mut out)?, None);
+    assert_eq!(rt; poll(&mut node, 65_000, &mut out)?, Some(SERVER));
     assert!(rt; out.as_slice() == REGISTRATION.as_slice());
     let reply = response(1, [0xAD, 0x80], 60);
-    let event = node.on_datagram(at(65_900)?, SERVER, &reply, &mut out)?;
+    let event = hear(&mut node, 65_900, SERVER, &reply)?;
     assert!(rt; event == Event::Granted(60));
-    assert_eq!(rt; node.holds(at(119_999)?, &fred()?), Some(Kind::Unique));
-    assert_eq!(rt; node.holds(at(120_000)?, &fred()?), None);
+    assert_eq!(rt; holds(&node, 119_999)?, Some(Kind::Unique));
+    assert_eq!(rt; holds(&node, 120_000)?, None);
     Ok(())
 }
 
@@ -141,16 +156,16 @@ fn a_reply_after_a_retry_counts_from_the_first_sending(rt: HostRuntime) -> Resul
 fn a_request_is_sent_three_times_and_given_up(rt: HostRuntime) -> Result<(), Fail> {
     let mut node = node()?;
     let mut out = ArrayVec::new();
-    node.ask(at(60_000)?, &fred()?, Kind::Unique, 60, &mut out)?;
+    assert_eq!(rt; ask(&mut node, 60_000, &mut out)?, None);
     for (moment, sends) in [
         (64_999, None),
         (65_000, Some(SERVER)),
         (70_000, Some(SERVER)),
         (74_999, None),
     ] {
-        assert_eq!(rt; node.poll(at(moment)?, &mut out)?, sends);
+        assert_eq!(rt; poll(&mut node, moment, &mut out)?, sends);
     }
-    node.ask(at(75_000)?, &fred()?, Kind::Unique, 60, &mut out)?;
+    assert_eq!(rt; ask(&mut node, 75_000, &mut out)?, None);
     assert_eq!(rt; out.len(), 68);
     Ok(())
 }
@@ -159,11 +174,11 @@ fn a_request_is_sent_three_times_and_given_up(rt: HostRuntime) -> Result<(), Fai
 fn a_wack_puts_the_next_sending_off_by_a_minute_at_most(rt: HostRuntime) -> Result<(), Fail> {
     let mut node = node()?;
     let mut out = ArrayVec::new();
-    node.ask(at(60_000)?, &fred()?, Kind::Unique, 60, &mut out)?;
-    let event = node.on_datagram(at(60_500)?, SERVER, WACK, &mut out)?;
+    assert_eq!(rt; ask(&mut node, 60_000, &mut out)?, None);
+    let event = hear(&mut node, 60_500, SERVER, WACK)?;
     assert!(rt; event == Event::Wait);
-    assert_eq!(rt; node.poll(at(120_499)?, &mut out)?, None);
-    assert_eq!(rt; node.poll(at(120_500)?, &mut out)?, Some(SERVER));
+    assert_eq!(rt; poll(&mut node, 120_499, &mut out)?, None);
+    assert_eq!(rt; poll(&mut node, 120_500, &mut out)?, Some(SERVER));
     Ok(())
 }
 
@@ -171,15 +186,14 @@ fn a_wack_puts_the_next_sending_off_by_a_minute_at_most(rt: HostRuntime) -> Resu
 fn a_hold_that_is_over_when_its_reply_comes(rt: HostRuntime) -> Result<(), Fail> {
     let mut node = node()?;
     let mut out = ArrayVec::new();
-    node.ask(at(60_000)?, &fred()?, Kind::Unique, 60, &mut out)?;
-    node.on_datagram(at(60_500)?, SERVER, WACK, &mut out)?;
+    assert_eq!(rt; ask(&mut node, 60_000, &mut out)?, None);
+    hear(&mut node, 60_500, SERVER, WACK)?;
     let reply = response(1, [0xAD, 0x80], 1);
-    let event = node.on_datagram(at(61_500)?, SERVER, &reply, &mut out)?;
+    let event = hear(&mut node, 61_500, SERVER, &reply)?;
     assert!(rt; event == Event::Granted(1));
-    assert_eq!(rt; node.holds(at(61_500)?, &fred()?), None);
-    let refused = node.ask(at(62_000)?, &fred()?, Kind::Unique, 60, &mut out);
-    assert_eq!(rt; refused, Err(AskFault::Quiet));
-    node.ask(at(62_001)?, &fred()?, Kind::Unique, 60, &mut out)?;
+    assert_eq!(rt; holds(&node, 61_500)?, None);
+    assert_eq!(rt; ask(&mut node, 62_000, &mut out)?, Some(AskFault::Quiet));
+    assert_eq!(rt; ask(&mut node, 62_001, &mut out)?, None);
     Ok(())
 }
 
@@ -192,13 +206,12 @@ fn a_name_rests_after_its_release(rt: HostRuntime) -> Result<(), Fail> {
     let refused = node.release(at(70_000)?, &fred()?, &mut out);
     assert_eq!(rt; refused, Err(ReleaseFault::NotHeld));
     let reply = response(2, [0xB4, 0x00], 0);
-    let event = node.on_datagram(at(70_400)?, SERVER, &reply, &mut out)?;
+    let event = hear(&mut node, 70_400, SERVER, &reply)?;
     assert!(rt; event == Event::Freed(0));
     for moment in [70_500, 72_000] {
-        let refused = node.ask(at(moment)?, &fred()?, Kind::Unique, 60, &mut out);
-        assert_eq!(rt; refused, Err(AskFault::Quiet));
+        assert_eq!(rt; ask(&mut node, moment, &mut out)?, Some(AskFault::Quiet));
     }
-    node.ask(at(72_001)?, &fred()?, Kind::Unique, 60, &mut out)?;
+    assert_eq!(rt; ask(&mut node, 72_001, &mut out)?, None);
     assert_eq!(rt; out.len(), 68);
     Ok(())
 }
@@ -234,13 +247,13 @@ fn a_conflict_demand_drops_a_name_and_only_the_server_makes_one(
             port: 138,
         },
     ] {
-        let event = node.on_datagram(at(61_000)?, from, &demand, &mut out)?;
+        let event = hear(&mut node, 61_000, from, &demand)?;
         assert!(rt; event == Event::Nothing);
-        assert_eq!(rt; node.holds(at(61_000)?, &fred()?), Some(Kind::Unique));
+        assert_eq!(rt; holds(&node, 61_000)?, Some(Kind::Unique));
     }
-    let event = node.on_datagram(at(61_000)?, SERVER, &demand, &mut out)?;
+    let event = hear(&mut node, 61_000, SERVER, &demand)?;
     assert!(rt; event == Event::Lost);
-    assert_eq!(rt; node.holds(at(61_000)?, &fred()?), None);
+    assert_eq!(rt; holds(&node, 61_000)?, None);
     Ok(())
 }
 
@@ -248,16 +261,15 @@ fn a_conflict_demand_drops_a_name_and_only_the_server_makes_one(
 fn a_reply_with_another_id_and_a_challenge_are_nothing(rt: HostRuntime) -> Result<(), Fail> {
     let mut node = node()?;
     let mut out = ArrayVec::new();
-    node.ask(at(60_000)?, &fred()?, Kind::Unique, 60, &mut out)?;
+    assert_eq!(rt; ask(&mut node, 60_000, &mut out)?, None);
     for (id, flags) in [(2, [0xAD, 0x80]), (1, [0xAD, 0x00])] {
         let reply = response(id, flags, 60);
-        let event = node.on_datagram(at(60_900)?, SERVER, &reply, &mut out)?;
+        let event = hear(&mut node, 60_900, SERVER, &reply)?;
         assert!(rt; event == Event::Nothing);
-        let refused = node.ask(at(60_900)?, &fred()?, Kind::Unique, 60, &mut out);
-        assert_eq!(rt; refused, Err(AskFault::Busy));
+        assert_eq!(rt; ask(&mut node, 60_900, &mut out)?, Some(AskFault::Busy));
     }
     let refusal = response(1, [0xAD, 0x86], 0);
-    let event = node.on_datagram(at(60_900)?, SERVER, &refusal, &mut out)?;
+    let event = hear(&mut node, 60_900, SERVER, &refusal)?;
     assert!(rt; event == Event::Refused(6));
     Ok(())
 }
@@ -271,7 +283,7 @@ fn a_lookup_is_sent_three_times(rt: HostRuntime) -> Result<(), Fail> {
     let refused = node.resolve(at(60_000)?, &fred()?, &mut out);
     assert_eq!(rt; refused, Err(LookupFault::Busy));
     for moment in [65_000, 70_000] {
-        assert_eq!(rt; node.poll(at(moment)?, &mut out)?, Some(SERVER));
+        assert_eq!(rt; poll(&mut node, moment, &mut out)?, Some(SERVER));
         assert!(rt; out.as_slice() == QUERY.as_slice());
     }
     assert!(rt; node.lookup_open(at(74_999)?));
@@ -285,14 +297,14 @@ fn a_lookup_ends_by_the_end_that_was_asked(rt: HostRuntime) -> Result<(), Fail> 
     let mut out = ArrayVec::new();
     node.resolve(at(60_000)?, &fred()?, &mut out)?;
     let found = response(1, [0x85, 0x80], 60);
-    let event = node.on_datagram(at(60_001)?, OWN, &found, &mut out)?;
+    let event = hear(&mut node, 60_001, OWN, &found)?;
     assert!(rt; event == Event::Nothing);
-    let event = node.on_datagram(at(60_001)?, SERVER, &found, &mut out)?;
+    let event = hear(&mut node, 60_001, SERVER, &found)?;
     assert!(rt; event == Event::Found(b"\x20\x00\x7F\x00\x00\x02"));
     assert!(rt; !node.lookup_open(at(60_001)?));
     let mut other = self::node()?;
     other.resolve(at(60_000)?, &fred()?, &mut out)?;
-    let event = other.on_datagram(at(60_001)?, SERVER, NOT_FOUND, &mut out)?;
+    let event = hear(&mut other, 60_001, SERVER, NOT_FOUND)?;
     assert!(rt; event == Event::NotFound);
     Ok(())
 }
@@ -323,7 +335,7 @@ fn the_names_of_another_end(rt: HostRuntime) -> Result<(), Fail> {
     assert_eq!(rt; out.len(), 50);
     let reply =
         b"\x00\x01\x84\x00\x00\x00\x00\x01\x00\x00\x00\x00 EGFCEFEECACACACACACACACACACACACA\x00\x00\x21\x00\x01\x00\x00\x00\x00\x00\x13\x01FRED            \x24\x00";
-    let event = node.on_datagram(at(60_001)?, OWN, reply, &mut out)?;
+    let event = hear(&mut node, 60_001, OWN, reply)?;
     assert!(rt; event == Event::Status(b"FRED            \x24\x00"));
     Ok(())
 }
@@ -332,6 +344,7 @@ fn the_names_of_another_end(rt: HostRuntime) -> Result<(), Fail> {
 fn refusals_have_their_numbers(rt: HostRuntime) -> Result<(), Fail> {
     settling_ends();
     settling_in_steps();
+    one_move();
     assert_eq!(rt; AskFault::Full.number(), 3);
     assert_eq!(rt; ReleaseFault::ClockBack.number(), 4);
     assert_eq!(rt; LookupFault::Busy.number(), 2);

@@ -1,6 +1,6 @@
 use Rattle.std.proofs.Common.{◌≡◌, ◌*◌, ◌%◌, ◌≤◌, length, take}
 use Rattle.std.specs.List.{flat_map}
-use Rattle.nbt_node.specs.Calls.{listed}
+use Rattle.nbt_node.specs.Datagrams.{listed}
 use Rattle.nbt_node.proofs.status.listed.Given as goal
 
 abbrev pub invariant-loop-slot : goal.invariant-loop-slot

@@ -1,6 +1,6 @@
 use Rattle.std.proofs.Common.{◌≡◌, Option, Some, None, refl}
 use Rattle.nbt_packet.specs.Message.{MessageValue, message_of}
-use Rattle.nbt_node.specs.Calls.{spelled, unspelled}
+use Rattle.nbt_node.specs.Datagrams.{spelled, unspelled}
 use Rattle.nbt_node.specs.Moves.{told_of}
 use Rattle.nbt_node.proofs.Moving.{passes}
 use Rattle.nbt_node.proofs.node.Node.on_datagram.Goals as goal

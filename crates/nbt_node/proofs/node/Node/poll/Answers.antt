@@ -1,7 +1,8 @@
 use Rattle.std.proofs.Common.{◌≡◌, ℕ, Option, Some, map, sym, ap, subst, ◌∙◌}
 use Rattle.nbt_node.specs.declared.state.Slot.{Slot}
 use Rattle.nbt_node.specs.Node.{NodeValue, settled_slot}
-use Rattle.nbt_node.specs.Calls.{first_due, slot_due, IsSending}
+use Rattle.nbt_node.specs.Calls.{first_due, slot_due}
+use Rattle.nbt_node.specs.Sending.{IsSending}
 use Rattle.nbt_node.proofs.Moving.{polls_sending}
 use Rattle.nbt_node.proofs.node.Node.poll.Goals as goal
 
