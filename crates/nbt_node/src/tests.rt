@@ -235,7 +235,6 @@ fn a_conflict_demand_drops_a_name_and_only_the_server_makes_one(
     rt: HostRuntime,
 ) -> Result<(), Fail> {
     let mut node = holder(&rt)?;
-    let mut out = ArrayVec::new();
     let demand = response(5, [0xAD, 0x87], 0);
     for from in [
         Addr {
