@@ -9,7 +9,7 @@ use nbt_lease::Moment;
 use nbt_name::{Kind, Name};
 use nbt_packet::{Message, Registration};
 
-/// After how many milliseconds a request is sent again (RFC 1002 section 6.1.1).
+/// After how many milliseconds a request is sent again (RFC 1002 section 6).
 const RETRY: u64 = 5_000;
 
 /// When a request that is sent at `now` is due again.

@@ -219,7 +219,7 @@ impl<const N: usize> Node<N> {
     /// Returns the address for which it stands in `out`, or `None`, `out` being empty. Whoever polls calls until
     /// `None`. A request is sent again 5,000 ms after its last sending, three times in all, and a hold is refreshed
     /// after half its time, but only where more than twice the greatest life of a datagram has passed since the last
-    /// sending about the name (RFC 1002 sections 5.1.2.4 and 6.1.1; the numbers are our profile's). Refused with
+    /// sending about the name (RFC 1002 sections 5.1.2.6 and 6; the numbers are our profile's). Refused with
     /// `ClockBack` (4) where `now` is before the moment of an earlier call: the node stays as it was, and `out` is empty.
     pub fn poll(
         &mut self,

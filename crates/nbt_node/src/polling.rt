@@ -1,9 +1,13 @@
-//! What is sent again when its time has come, and when a hold is refreshed (RFC 1002 sections 5.1.2.4 and 6.1.1).
+//! What is sent again when its time has come, and when a hold is refreshed (RFC 1002 sections 5.1.2.6 and 6).
 
-ghost use Rattle.std.specs.Prelude.{◌≡◌, ◌≤◌, List, ◌∷◌, map, Option, Some, None, is_some, IfSome, IsNone};
+ghost use Rattle.std.specs.Prelude.{◌≡◌, ℕ, ◌≤◌, List, ◌∷◌, map, Option, Some, None, is_some, IfSome, IsNone};
 ghost use Rattle.nbt_node.specs.declared.state.Slot.{Slot as Kept};
-ghost use Rattle.nbt_node.specs.Node.{settled_slot};
-ghost use Rattle.nbt_node.specs.Moves.{is_next, is_due};
+ghost use Rattle.nbt_name.specs.declared.addr.Kind.{Kind as NameKind};
+ghost use Rattle.nbt_name.specs.Wire.{NameValue};
+ghost use Rattle.nbt_packet.specs.Message.{refresh};
+ghost use Rattle.nbt_node.specs.Node.{NodeValue, settled_slot};
+ghost use Rattle.nbt_node.specs.Moves as spec;
+ghost use Rattle.nbt_node.specs.Moves.{Move, poll, nothing, is_next, is_due};
 ghost use Rattle.nbt_node.specs.Calls.{first_due};
 ghost use Rattle.nbt_node.specs.Sending.{IsSending};
 
@@ -102,35 +106,9 @@ fn polled<'a>(
             last,
             pending,
         } => {
-            let (refresh, next_id) = match pending {
-                Some(refresh) => {
-                    if !is_next(refresh.tries, refresh.due, now) {
-                        return None;
-                    }
-                    (
-                        Refresh {
-                            id: refresh.id,
-                            first: refresh.first,
-                            tries: refresh.tries + 1,
-                            due: next_due(now),
-                        },
-                        id,
-                    )
-                }
-                None => {
-                    if now.get() < *renew || now.get() <= last.get() + 2 * life {
-                        return None;
-                    }
-                    (
-                        Refresh {
-                            id,
-                            first: now,
-                            tries: 1,
-                            due: next_due(now),
-                        },
-                        id_after(id),
-                    )
-                }
+            let (refresh, next_id) = match next_refresh(pending, *renew, *last, id, life, now) {
+                Some(next) => next,
+                None => return None,
             };
             Some(Sending {
                 name: name.copy(),
@@ -148,6 +126,49 @@ fn polled<'a>(
         }
         State::Idle => None,
         State::Resting { .. } => None,
+    }
+}
+
+/// The refresh that is open once one was sent at `now`, and then the next id: the open one's once more, where it is due,
+/// or else a new one.
+fn next_refresh(
+    pending: &Option<Refresh>,
+    renew: u64,
+    last: Moment,
+    id: u16,
+    life: u64,
+    now: Moment,
+) -> Option<(Refresh, u16)>
+    requires { life ≤ 60000 }
+    ensures due { (kind : NameKind) (ttl until : ℕ) → is_some result ≡ is_due life now (State.Held kind ttl until renew last pending.now) }
+    ensures moves { IfSome result (λ r. (node : NodeValue) (name : NameValue) (kind : NameKind) (ttl until : ℕ) → node.next_id ≡ id → node.config.life ≡ life
+        → Move node now name (State.Held kind ttl until renew last pending.now) poll (State.Held kind ttl until renew now (Some r.0)) (Some (refresh (spec.claim node r.0.id name kind ttl))) nothing r.1) }
+{
+    match pending {
+        Some(refresh) => {
+            if !is_next(refresh.tries, refresh.due, now) {
+                return None;
+            }
+            let again = Refresh {
+                id: refresh.id,
+                first: refresh.first,
+                tries: refresh.tries + 1,
+                due: next_due(now),
+            };
+            Some((again, id))
+        }
+        None => {
+            if now.get() < renew || now.get() <= last.get() + 2 * life {
+                return None;
+            }
+            let opened = Refresh {
+                id,
+                first: now,
+                tries: 1,
+                due: next_due(now),
+            };
+            Some((opened, id_after(id)))
+        }
     }
 }
 

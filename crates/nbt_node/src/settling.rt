@@ -7,7 +7,7 @@ use crate::state::{Refresh, State};
 use nbt_lease::Moment;
 use nbt_name::Kind;
 
-/// How often a request is sent in all (RFC 1002 section 6.1.1).
+/// How often a request is sent in all (RFC 1002 section 6).
 pub const SENDINGS: u8 = 3;
 
 /// A transaction is over where its request was sent three times and the next sending would be due.

@@ -49,7 +49,7 @@ pub enum State {
     },
 }
 
-/// A refresh that no reply has ended (RFC 1002 section 5.1.2.4).
+/// A refresh that no reply has ended (RFC 1002 section 5.1.2.6).
 #[derive(Clone, Copy, Debug, PartialEq, Eq)]
 pub struct Refresh {
     pub id: u16,

@@ -1,7 +1,6 @@
-use Rattle.std.proofs.Common.{◌≡◌, ◌<◌, ◌≤◌, ◌+◌, ◌*◌, refl, sym, arith}
-use Rattle.nbt_node.specs.Moves.{asks_again, gives_back_again, refreshes_again, refreshes}
+use Rattle.std.proofs.Common.{◌≡◌, sym}
+use Rattle.nbt_node.specs.Moves.{asks_again, gives_back_again}
 use Rattle.nbt_node.proofs.polling.polled.Goals as goal
-use Rattle.nbt_node.proofs.polling.polled.Goals.{in-Some+else-not-is_next-3, in-None+else-get-renew+else-get-life}
 
 pub returns-else-not-is_next-clause-sending : goal.returns-else-not-is_next-clause-sending
 returns-else-not-is_next-clause-sending c = record {
@@ -25,19 +24,16 @@ returns-else-not-is_next-2-clause-sending c = record {
   few = rw c.release.ensures.value tt;
 }
 
-pub returns-after-pending-clause-sending : goal.returns-after-pending-clause-sending
-returns-after-pending-clause-sending c = record {
+pub returns-in-None-clause-due : goal.returns-in-None-clause-due
+returns-in-None-clause-due c = rw c.in-Held.is (c.in-None.ensures.due c.in-Held.kind c.in-Held.ttl c.in-Held.until)
+
+pub returns-in-Some-clause-due : goal.returns-in-Some-clause-due
+returns-in-Some-clause-due c = rw c.in-Held.is (c.in-Some.ensures.due c.in-Held.kind c.in-Held.ttl c.in-Held.until)
+
+pub returns-in-Some-clause-sending : goal.returns-in-Some-clause-sending
+returns-in-Some-clause-sending c = record {
   moves = λ node own_is id_is life_is.
-      elim c.match-pending.branch [
-        | in-Some+else-not-is_next-3 w ↦
-            rw (c.claim-in-Held.ensures.value, c.in-Held.is, w.in-Some.is, w.refresh-is, w.next_due-in-Some.ensures, ← own_is, ← id_is)
-            (refreshes_again c.in-Held.kind c.in-Held.ttl c.in-Held.until c.in-Held.renew c.in-Held.last w.in-Some.refresh (sym w.if-not-is_next-3.ensures))
-        | in-None+else-get-renew+else-get-life w ↦
-            let ready : c.in-Held.renew ≤ c.args.now = omega arith in
-            let rested : c.in-Held.last + 2 * node.config.life < c.args.now = omega (arith, life_is) in
-            rw (c.claim-in-Held.ensures.value, c.in-Held.is, w.in-None.is, w.refresh-is, w.next_due-in-None.ensures, w.id_after.ensures, ← own_is, ← id_is)
-            (refreshes c.in-Held.kind c.in-Held.ttl c.in-Held.until c.in-Held.renew c.in-Held.last ready rested)
-      ];
+      rw (c.claim-in-Held.ensures.value, c.in-Held.is, ← own_is) (c.in-Some.ensures.moves node c.args.name.now c.in-Held.kind c.in-Held.ttl c.in-Held.until id_is life_is);
   name_is = c.copy-in-Held.ensures;
   numbers = c.claim-in-Held.ensures.whole;
   fits = tt;
