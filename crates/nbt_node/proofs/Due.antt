@@ -1,13 +1,12 @@
 -- The first slot that has something due.
-use Rattle.std.proofs.Common.{◌≡◌, ◌≢◌, ℕ, Bool, true, false, cond, List, [], ◌∷◌, map, Option, Some, None, refl, sym, ap, subst, ◌∙◌, arith, inl, inr}
-use Rattle.std.specs.Prelude.{◌⊎◌, is_some, IfSome}
+use Rattle.std.proofs.Common.{◌≡◌, ℕ, Bool, true, false, List, [], ◌∷◌, Option, Some, None, refl, sym, ap, subst, ◌∙◌, inl, inr}
+use Rattle.std.specs.Prelude.{is_some, IfSome}
 use Rattle.nbt_name.specs.Wire.{NameValue}
 use Rattle.nbt_node.specs.declared.polling.Sending.{Sending}
 use Rattle.nbt_node.specs.declared.state.State.{State}
-use Rattle.nbt_node.specs.declared.state.State.TheVariants.{Idle}
 use Rattle.nbt_node.specs.declared.state.Slot.{Slot}
 use Rattle.nbt_node.specs.Settling.{settled}
-use Rattle.nbt_node.specs.Node.{same_name, is_in, AreDistinct, state_in, slot_of, settled_slot}
+use Rattle.nbt_node.specs.Node.{is_in, AreDistinct, state_in, slot_of}
 use Rattle.nbt_node.specs.Moves.{is_due}
 use Rattle.nbt_node.specs.Calls.{first_due}
 use Rattle.nbt_node.specs.Sending.{IsSending}

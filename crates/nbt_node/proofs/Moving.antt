@@ -1,13 +1,11 @@
 -- What a call that moves one name makes of the node.
-use Rattle.std.proofs.Common.{◌≡◌, ◌≢◌, ℕ, ◌+◌, ◌*◌, ◌<◌, ◌≤◌, Bool, true, false, cond, List, [], ◌∷◌, length, map, Option, Some, None, refl, sym, ap, subst, ◌∙◌, arith, inl, inr, leb-false}
+use Rattle.std.proofs.Common.{◌≡◌, ◌≢◌, ℕ, ◌+◌, ◌*◌, ◌<◌, Bool, true, false, cond, List, [], length, map, Option, Some, None, refl, sym, ap, subst, ◌∙◌, inl, inr, leb-false}
 use Rattle.std.specs.Prelude.{◌⊎◌, ◌||◌, nat_lt, nat_le, MatchOption}
 use Rattle.std.proofs.lemmas.List.{length-map}
 use Rattle.nbt_name.specs.declared.addr.Addr.{Addr}
 use Rattle.nbt_name.specs.declared.addr.Kind.{Kind}
 use Rattle.nbt_name.specs.Wire.{NameValue}
 use Rattle.nbt_packet.specs.Message.{MessageValue, message_of}
-use Rattle.nbt_packet.specs.Text.{text}
-use Rattle.nbt_packet.specs.Spelling.{Spells}
 use Rattle.nbt_node.specs.declared.fault.AskFault.TheVariants as fault
 use Rattle.nbt_node.specs.declared.lookup.Lookup.{Lookup}
 use Rattle.nbt_node.specs.declared.polling.Sending.{Sending}
@@ -15,13 +13,13 @@ use Rattle.nbt_node.specs.declared.state.State.{State}
 use Rattle.nbt_node.specs.declared.state.State.TheVariants.{Idle, Asking, Held, Releasing, Resting}
 use Rattle.nbt_node.specs.declared.state.Slot.{Slot}
 use Rattle.nbt_node.specs.Settling.{settled}
-use Rattle.nbt_node.specs.Node.{NodeValue, IsNode, is_in, has_room, AreDistinct, state_in, with_state, settled_slot, state_of, state_at, changed, Passes, settled_node}
-use Rattle.nbt_node.specs.Moves.{NameEvent, ask, give_back, poll, hear, next_due, nothing, Told, Move, NameMoves, asks, gives_back, asks_again, gives_back_again, refreshes_again, refreshes, granted_to, renewed_to, refused_to, loses_asked, loses_held, freed, asking_waits, giving_back_waits, refresh_waits, unmoved}
+use Rattle.nbt_node.specs.Node.{NodeValue, IsNode, is_in, has_room, AreDistinct, state_in, with_state, settled_slot, state_at, changed, Passes, settled_node}
+use Rattle.nbt_node.specs.Moves.{NameEvent, ask, poll, hear, next_due, nothing, Told, Move, NameMoves, asks, gives_back, asks_again, gives_back_again, refreshes_again, refreshes, granted_to, renewed_to, refused_to, loses_asked, loses_held, freed, asking_waits, giving_back_waits, refresh_waits, unmoved}
 use Rattle.nbt_node.specs.Calls.{is_busy, is_quiet, ask_refusal, AreWritten, question, LooksUp, slot_due, lookup_due, due_lookup, Polls, polls_name, polls_lookup, polls_nothing}
 use Rattle.nbt_node.specs.Datagrams.{same_end, Hears, from_server, from_stranger, ends, Ends, is_answered, is_unanswered}
 use Rattle.nbt_node.specs.Sending.{IsSending}
 use Rattle.nbt_node.proofs.Due.{known_due}
-use Rattle.nbt_node.proofs.Known.{absent, distinct-settled, state_in-settled, idle_is_out, distinct-with_state, length-with_state, with_state-other, with_state-same}
+use Rattle.nbt_node.proofs.Known.{absent, distinct-settled, state_in-settled, distinct-with_state, length-with_state, with_state-other, with_state-same}
 
 -- what the node keeps, it keeps
 pub keeps : (old new : NodeValue) (count life now : ℕ) (xs ys zs : List (Option Slot)) (name : NameValue) (state : State) → IsNode count old → old.slots ≡ xs → new.slots ≡ zs

@@ -1,14 +1,12 @@
 -- Where a name's slot is, and what putting a state there changes.
-use Rattle.std.proofs.Common.{◌≡◌, ◌≢◌, ℕ, suc, ◌+◌, ◌<◌, Bool, true, false, cond, List, [], ◌∷◌, ◌++◌, length, take, drop, map, get_or, set, Option, Some, None, refl, sym, ap, subst, ◌∙◌, arith, add-one}
-use Rattle.std.specs.Prelude.{◌⊎◌, ◌||◌, is_none}
+use Rattle.std.proofs.Common.{◌≡◌, ℕ, suc, ◌<◌, Bool, true, false, cond, List, ◌∷◌, ◌++◌, length, take, drop, get_or, set, Option, Some, None, refl, sym, ap, subst, ◌∙◌}
+use Rattle.std.specs.Prelude.{is_none}
 use Rattle.std.proofs.Math.Seq.{drop-cons}
 use Rattle.std.proofs.lemmas.List.{set_split}
 use Rattle.nbt_name.specs.Wire.{NameValue}
 use Rattle.nbt_node.specs.declared.state.State.{State}
-use Rattle.nbt_node.specs.declared.state.State.TheVariants.{Idle, Asking, Held, Releasing, Resting}
 use Rattle.nbt_node.specs.declared.state.Slot.{Slot}
-use Rattle.nbt_node.specs.Settling.{settled}
-use Rattle.nbt_node.specs.Node.{same_name, is_named, is_in, has_room, state_in, slot_of, put, take_slot, with_state, settled_slot}
+use Rattle.nbt_node.specs.Node.{is_named, slot_of, put, take_slot}
 
 put_here : (slot : Option Slot) (rest : List (Option Slot)) (name : NameValue) (state : State) → true ≡ is_named slot name → put (slot ∷ rest) name state ≡ slot_of name state ∷ rest
 put_here None rest name state here = absurd cc

@@ -1,18 +1,18 @@
 -- Lines of the table of moves, from what the code knows of a state.
-use Rattle.std.proofs.Common.{◌≡◌, ◌≢◌, ℕ, ◌+◌, ◌*◌, Bool, true, false, eqb, Option, Some, None, refl, sym, ap, subst, ◌∙◌, arith, inl, inr, ne_eqb, eq-eqb, zero}
+use Rattle.std.proofs.Common.{◌≡◌, ◌≢◌, ℕ, ◌+◌, ◌*◌, Bool, false, eqb, Option, Some, None, refl, sym, arith, inl, inr, ne_eqb, eq-eqb}
 use Rattle.std.proofs.lemmas.Bool.Decides.{eqb_tells}
-use Rattle.std.specs.Prelude.{◌⊎◌, ◌||◌}
+use Rattle.std.specs.Prelude.{◌||◌}
 use Rattle.nbt_name.specs.declared.addr.Kind.{Kind}
 use Rattle.nbt_name.specs.Wire.{NameValue}
 use Rattle.nbt_packet.specs.declared.message.Registration.{Registration}
-use Rattle.nbt_packet.specs.Message.{MessageValue, registered, released, wait, release}
+use Rattle.nbt_packet.specs.Message.{MessageValue, registered, release}
 use Rattle.nbt_lease.specs.Config.{granted}
 use Rattle.nbt_node.specs.declared.state.State.{State}
 use Rattle.nbt_node.specs.declared.state.State.TheVariants.{Idle, Asking, Held, Releasing, Resting}
 use Rattle.nbt_node.specs.declared.state.Refresh.{Refresh}
 use Rattle.nbt_node.specs.Node.{NodeValue}
 use Rattle.nbt_node.specs.Calls.{held_kind}
-use Rattle.nbt_node.specs.Moves.{Move, NameEvent, hear, give_back, gives_back, id_after, next_due, Told, nothing, is_granted, is_renewed, is_refused, is_lost, is_freed, waits, matters, has_id, put_off, unmoved, granted_to, renewed_to, refused_to, loses_asked, loses_held, freed, asking_waits, giving_back_waits, refresh_waits}
+use Rattle.nbt_node.specs.Moves.{Move, hear, give_back, gives_back, id_after, next_due, Told, nothing, is_granted, is_renewed, is_refused, is_lost, matters, has_id, unmoved, granted_to, renewed_to, refused_to, loses_asked, loses_held}
 
 pub differs : (a b : ℕ) → b ≢ a → eqb a b ≡ false
 differs a b ne = ne_eqb a b (λ e. ne (sym e))

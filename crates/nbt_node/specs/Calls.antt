@@ -17,7 +17,7 @@ use Rattle.nbt_node.specs.declared.lookup.Lookup.{Lookup}
 use Rattle.nbt_node.specs.declared.lookup.Wanted.{Wanted}
 use Rattle.nbt_node.specs.declared.lookup.Wanted.TheVariants.{Entries, Names}
 use Rattle.nbt_node.specs.declared.state.State.{State}
-use Rattle.nbt_node.specs.declared.state.State.TheVariants.{Idle, Asking, Held, Releasing, Resting}
+use Rattle.nbt_node.specs.declared.state.State.TheVariants.{Asking, Held, Releasing, Resting}
 use Rattle.nbt_node.specs.declared.state.Slot.{Slot}
 use Rattle.nbt_node.specs.Node.{NodeValue, has_room, settled_slot, settled_lookup, settled_node, state_at, ByTimeAlone, Passes}
 use Rattle.nbt_node.specs.Moves.{NameEvent, poll, NameMoves, nothing, id_after, next_due, is_next, is_due}

@@ -1,4 +1,4 @@
-use Rattle.std.proofs.Common.{◌≡◌, ◌<◌, ◌≤◌, ◌+◌, ◌*◌, sym, arith}
+use Rattle.std.proofs.Common.{◌<◌, ◌≤◌, ◌+◌, ◌*◌, sym, arith}
 use Rattle.nbt_node.specs.Moves.{refreshes_again, refreshes}
 use Rattle.nbt_node.proofs.polling.next_refresh.Goals as goal
 

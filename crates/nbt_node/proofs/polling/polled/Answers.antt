@@ -1,4 +1,4 @@
-use Rattle.std.proofs.Common.{◌≡◌, sym}
+use Rattle.std.proofs.Common.{sym}
 use Rattle.nbt_node.specs.Moves.{asks_again, gives_back_again}
 use Rattle.nbt_node.proofs.polling.polled.Goals as goal
 

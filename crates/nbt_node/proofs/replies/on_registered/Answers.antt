@@ -1,4 +1,4 @@
-use Rattle.std.proofs.Common.{◌≡◌, refl, sym, ◌∙◌}
+use Rattle.std.proofs.Common.{refl, sym, ◌∙◌}
 use Rattle.nbt_packet.specs.Message.{registered}
 use Rattle.nbt_node.proofs.Table.{stays, differs, asking_demanded, held_demanded, asking_refused, held_refused, asking_granted, held_renewed}
 use Rattle.nbt_node.proofs.replies.on_registered.Goals as goal

@@ -1,4 +1,3 @@
-use Rattle.std.proofs.Common.{◌≡◌, sym}
 use Rattle.nbt_node.specs.Moves.{asking_waits, giving_back_waits, refresh_waits}
 use Rattle.nbt_node.proofs.replies.put_off.Goals as goal
 

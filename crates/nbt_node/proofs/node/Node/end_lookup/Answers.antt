@@ -1,6 +1,5 @@
-use Rattle.std.proofs.Common.{◌≡◌, refl, sym, ap, ◌∙◌}
+use Rattle.std.proofs.Common.{refl}
 use Rattle.nbt_packet.specs.Message.{message_of}
-use Rattle.nbt_node.specs.Node.{NodeValue}
 use Rattle.nbt_node.proofs.Moving.{unanswered, answered}
 use Rattle.nbt_node.proofs.node.Node.end_lookup.Goals as goal
 

@@ -1,4 +1,3 @@
-use Rattle.std.proofs.Common.{◌≡◌}
 use Rattle.nbt_packet.specs.Message.{wait}
 use Rattle.nbt_node.specs.Moves.{told_of}
 use Rattle.nbt_node.proofs.Moving.{ignored, heard}

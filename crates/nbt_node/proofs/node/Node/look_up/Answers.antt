@@ -1,9 +1,9 @@
-use Rattle.std.proofs.Common.{◌≡◌, ℕ, List, Option, Some, refl, sym, ap, subst, ◌∙◌}
+use Rattle.std.proofs.Common.{◌≡◌, Some, refl, ap, subst, ◌∙◌}
 use Rattle.nbt_packet.specs.Message.{MessageValue, message_of}
 use Rattle.nbt_packet.specs.Text.{text}
 use Rattle.nbt_packet.specs.Spelling.{Spells}
 use Rattle.nbt_node.specs.declared.lookup.Lookup.{Lookup}
-use Rattle.nbt_node.specs.Node.{NodeValue, settled_node}
+use Rattle.nbt_node.specs.Node.{NodeValue}
 use Rattle.nbt_node.specs.Moves.{next_due, id_after}
 use Rattle.nbt_node.specs.Calls.{question}
 use Rattle.nbt_node.proofs.Moving.{looks_up}

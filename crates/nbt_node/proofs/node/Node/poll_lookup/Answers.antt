@@ -1,4 +1,4 @@
-use Rattle.std.proofs.Common.{◌≡◌, refl, ◌∙◌}
+use Rattle.std.proofs.Common.{refl, ◌∙◌}
 use Rattle.nbt_node.proofs.Moving.{polled_lookup}
 use Rattle.nbt_node.proofs.node.Node.poll_lookup.Goals as goal
 

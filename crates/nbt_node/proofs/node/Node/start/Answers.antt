@@ -1,4 +1,4 @@
-use Rattle.std.proofs.Common.{◌≡◌, ℕ, ◌<◌, length, None, Option, List, get_or, ap}
+use Rattle.std.proofs.Common.{◌≡◌, length, None, Option, List, ap}
 use Rattle.std.specs.Prelude.{replicate}
 use Rattle.nbt_node.specs.declared.state.Slot.{Slot}
 use Rattle.nbt_node.specs.Node.{NodeValue}

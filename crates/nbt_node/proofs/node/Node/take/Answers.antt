@@ -1,6 +1,5 @@
-use Rattle.std.proofs.Common.{◌≡◌, Option, Some, None, sym, ap, subst, inl, inr}
-use Rattle.nbt_packet.specs.Message.{MessageValue, registered, released, found, not_found, status, wait, status_request, message_of}
-use Rattle.nbt_node.specs.Node.{NodeValue}
+use Rattle.std.proofs.Common.{◌≡◌, None, ap, subst, inl, inr}
+use Rattle.nbt_packet.specs.Message.{MessageValue, found, not_found, status, message_of}
 use Rattle.nbt_node.specs.Datagrams.{Ends, Idles, idles}
 use Rattle.nbt_node.specs.Moves.{told_of, finds, finds_none, lists, nothing}
 use Rattle.nbt_node.proofs.Moving.{passes}
