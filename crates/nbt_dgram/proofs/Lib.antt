@@ -1,0 +1,4 @@
+pub mod Octets
+pub mod Outcome
+pub mod Words
+pub mod ReadBack

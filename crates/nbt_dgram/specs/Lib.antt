@@ -1,0 +1,5 @@
+pub mod Numbers
+pub mod Fields
+pub mod Dgram
+pub mod Text
+pub mod Decoding

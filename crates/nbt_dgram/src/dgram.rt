@@ -1,0 +1,151 @@
+//! A datagram, as its parts.
+//!
+//! ```text
+//!                      1 1 1 1 1 1 1 1 1 1 2 2 2 2 2 2 2 2 2 2 3 3
+//!  0 1 2 3 4 5 6 7 8 9 0 1 2 3 4 5 6 7 8 9 0 1 2 3 4 5 6 7 8 9 0 1
+//! +-+-+-+-+-+-+-+-+-+-+-+-+-+-+-+-+-+-+-+-+-+-+-+-+-+-+-+-+-+-+-+-+
+//! |   MSG_TYPE    |0 0 0 0|SNT|F|M|           DGM_ID              |
+//! +-+-+-+-+-+-+-+-+-+-+-+-+-+-+-+-+-+-+-+-+-+-+-+-+-+-+-+-+-+-+-+-+
+//! |                           SOURCE_IP                           |
+//! +-+-+-+-+-+-+-+-+-+-+-+-+-+-+-+-+-+-+-+-+-+-+-+-+-+-+-+-+-+-+-+-+
+//! |          SOURCE_PORT          |          DGM_LENGTH           |
+//! +-+-+-+-+-+-+-+-+-+-+-+-+-+-+-+-+-+-+-+-+-+-+-+-+-+-+-+-+-+-+-+-+
+//! |         PACKET_OFFSET         |                               |
+//! +-+-+-+-+-+-+-+-+-+-+-+-+-+-+-+-+                               +
+//! /                  SOURCE_NAME, DESTINATION_NAME                /
+//! /                           USER_DATA                           /
+//! +-+-+-+-+-+-+-+-+-+-+-+-+-+-+-+-+-+-+-+-+-+-+-+-+-+-+-+-+-+-+-+-+
+//! ```
+//!
+//! RFC 1002 sections 4.4.1 to 4.4.5. DGM_LENGTH counts what stands behind PACKET_OFFSET. PACKET_OFFSET counts octets
+//! of data, and names stand in the first fragment alone: our profile's choices.
+
+ghost use Rattle.std.specs.Prelude.{◌≡◌, ◌≤◌, length};
+ghost use Rattle.nbt_name.specs.Wire.{wire};
+
+use crate::msg_type::{Delivery, Lookup, MsgType};
+use nbt_name::{Addr, Name};
+
+/// Who sends a datagram, and whom it is for.
+#[derive(Debug, PartialEq, Eq, Drop)]
+pub struct Names {
+    /// SOURCE_NAME.
+    pub source: Name,
+    /// DESTINATION_NAME.
+    pub destination: Name,
+}
+
+/// Where a fragment stands in its datagram.
+#[derive(Debug, PartialEq, Eq, Drop)]
+pub enum Part {
+    /// At the beginning, with the names (F set).
+    First(Names),
+    /// Behind as many octets of data, without names (F clear).
+    Later(u16),
+}
+
+/// A fragment of a datagram with data, or a whole one (RFC 1002 section 4.4.2).
+#[derive(Debug, PartialEq, Eq, Drop)]
+pub struct Fragment<'a> {
+    /// Who the datagram is for.
+    pub delivery: Delivery,
+    /// Where the fragment stands, and the names where it is the first.
+    pub part: Part,
+    /// Whether other fragments follow (M).
+    pub more: bool,
+    /// USER_DATA, lent from the packet's octets.
+    pub payload: &'a [u8],
+}
+
+/// What stands behind the ten octets that each datagram begins with.
+#[derive(Debug, PartialEq, Eq, Drop)]
+pub enum Body<'a> {
+    /// 0x10 to 0x12: a fragment, or a whole datagram.
+    Fragment(Fragment<'a>),
+    /// 0x13: the error's code (RFC 1002 section 4.4.3). 0x82 is destination name not present, 0x83 invalid source name
+    /// format, 0x84 invalid destination name format; any other is read too.
+    Error(u8),
+    /// 0x14 to 0x16: the name that is asked for (RFC 1002 sections 4.4.4 and 4.4.5).
+    Lookup(Lookup, Name),
+}
+
+/// A packet of the datagram service (RFC 1002 section 4.4). Of FLAGS it keeps F and M alone, and these of a fragment
+/// alone.
+#[derive(Debug, PartialEq, Eq, Drop)]
+pub struct Dgram<'a> {
+    /// DGM_ID, by which the fragments of one datagram are known.
+    pub id: u16,
+    /// SOURCE_IP and SOURCE_PORT.
+    pub source: Addr,
+    /// The rest.
+    pub body: Body<'a>,
+}
+
+/// The most octets that DGM_LENGTH counts.
+const LENGTH_MOST: usize = 65535;
+
+/// How many octets a name's wire form has beside its scope (RFC 1002 section 4.1).
+const NAME_WITHOUT_SCOPE: usize = 34;
+
+impl Part {
+    ghost use Rattle.std.specs.Prelude.{◌≡◌, ◌≤◌, length};
+    ghost use Rattle.nbt_dgram.specs.Text.{offset_of, names_text};
+
+    /// PACKET_OFFSET: how many octets of data stand before the fragment's.
+    pub fn offset(&self) -> u16
+        ensures { result ≡ offset_of self.now }
+    {
+        match self {
+            Part::First(_) => 0,
+            Part::Later(offset) => *offset,
+        }
+    }
+
+    /// How many octets the names take: 68 to 510, or none.
+    pub(crate) fn names_len(&self) -> usize
+        ensures value { result ≡ length (names_text self.now) }
+        ensures bound { result ≤ 510 }
+    {
+        match self {
+            Part::First(names) => name_len(&names.source) + name_len(&names.destination),
+            Part::Later(_) => 0,
+        }
+    }
+}
+
+/// How many octets a name's wire form has: 34 to 255.
+fn name_len(name: &Name) -> usize
+    ensures value { result ≡ length (wire name.now) }
+    ensures bound { result ≤ 255 }
+{
+    NAME_WITHOUT_SCOPE + name.scope().len()
+}
+
+impl Dgram<'_> {
+    ghost use Rattle.std.specs.Prelude.{◌≡◌, ◌↔◌, IsTrue};
+    ghost use Rattle.nbt_dgram.specs.Dgram.{type_of, body_of, dgram_of};
+    ghost use Rattle.nbt_dgram.specs.Text.{Fits};
+
+    /// Whether the datagram has a written form: its names and its data, where it has them, are at most 65,535 octets.
+    pub fn fits(&self) -> bool
+        ensures { IsTrue result ↔ Fits (dgram_of self.now) }
+    {
+        match &self.body {
+            Body::Fragment(fragment) => {
+                fragment.part.names_len() + fragment.payload.len() <= LENGTH_MOST
+            }
+            Body::Error(_) | Body::Lookup(_, _) => true,
+        }
+    }
+
+    /// MSG_TYPE.
+    pub fn msg_type(&self) -> MsgType
+        ensures { result ≡ type_of (body_of self.now.body) }
+    {
+        match &self.body {
+            Body::Fragment(fragment) => MsgType::Data(fragment.delivery),
+            Body::Error(_) => MsgType::Error,
+            Body::Lookup(lookup, _) => MsgType::Lookup(*lookup),
+        }
+    }
+}

@@ -1,0 +1,25 @@
+//! What holds of datagrams, whatever the code does: laws over the definitions alone.
+
+ghost use Rattle.std.specs.Prelude.{◌≡◌, ℕ, ◌⊎◌, List, ◌++◌, length};
+ghost use Rattle.nbt_name.specs.Wire.{AreOctets};
+ghost use Rattle.nbt_dgram.specs.declared.fault.DgramFault.{DgramFault};
+ghost use Rattle.nbt_dgram.specs.Dgram.{DgramValue, DgramIs, FaultIs};
+ghost use Rattle.nbt_dgram.specs.Text.{HoldsNumbers, Fits, text};
+
+/// All octets begin with a datagram or have a fault, only one of the two, and with one value.
+pub fn one_datagram_or_fault()
+    ensures found { (octets : List ℕ) → AreOctets octets → ((d : DgramValue) × (n : ℕ) × DgramIs octets d n) ⊎ ((fault : DgramFault) × FaultIs octets fault) }
+    ensures one_datagram { (octets : List ℕ) (a b : DgramValue) (n m : ℕ) → AreOctets octets → DgramIs octets a n → DgramIs octets b m → (a ≡ b) × (n ≡ m) }
+    ensures one_fault { (octets : List ℕ) (f g : DgramFault) → AreOctets octets → FaultIs octets f → FaultIs octets g → f ≡ g }
+    ensures not_both { (octets : List ℕ) (d : DgramValue) (n : ℕ) (fault : DgramFault) → AreOctets octets → DgramIs octets d n → FaultIs octets fault → ⊥ }
+{
+    nbt_name::laws::one_name_or_fault();
+}
+
+/// The written form of each datagram that fits, followed by any octets, is read as that datagram, and takes its own
+/// length.
+pub fn written_form_is_read()
+    ensures { (d : DgramValue) (rest : List ℕ) → HoldsNumbers d → Fits d → DgramIs (text d ++ rest) d (length (text d)) }
+{
+    nbt_name::laws::wire_form_is_read();
+}

@@ -1,0 +1,15 @@
+//! NetBIOS datagrams (RFC 1001 section 17, RFC 1002 sections 4.4 and 5.3). No call takes memory.
+#![tactic(auto)]
+
+mod decoding;
+mod dgram;
+mod fault;
+pub mod laws;
+mod msg_type;
+mod writing;
+
+pub use decoding::decode;
+pub use dgram::{Body, Dgram, Fragment, Names, Part};
+pub use fault::{DgramFault, DgramFaultKind, Full};
+pub use msg_type::{Delivery, Lookup, MsgType};
+pub use writing::encode;
