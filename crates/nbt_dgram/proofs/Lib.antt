@@ -2,3 +2,4 @@ pub mod Octets
 pub mod Outcome
 pub mod Words
 pub mod ReadBack
+pub mod Cutting

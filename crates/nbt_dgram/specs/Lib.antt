@@ -3,3 +3,4 @@ pub mod Fields
 pub mod Dgram
 pub mod Text
 pub mod Decoding
+pub mod Pieces

@@ -149,3 +149,14 @@ impl Dgram<'_> {
         }
     }
 }
+
+impl Default for Dgram<'_> {
+    /// A blank, which stands in the unused places of an `ArrayVec`: an error with code 0 from nowhere.
+    fn default() -> Self {
+        Dgram {
+            id: 0,
+            source: Addr { ip: 0, port: 0 },
+            body: Body::Error(0),
+        }
+    }
+}

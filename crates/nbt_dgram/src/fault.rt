@@ -109,3 +109,17 @@ impl Full {
         1
     }
 }
+
+/// 1: more than 512 octets of data (our profile).
+#[derive(Clone, Copy, Debug, PartialEq, Eq, Error)]
+#[error("TooLong")]
+pub struct TooLong;
+
+impl TooLong {
+    /// The number of the refusal, 1 (our profile).
+    pub fn number(self) -> u8
+        ensures { result ≡ 1 }
+    {
+        1
+    }
+}

@@ -6,10 +6,12 @@ mod dgram;
 mod fault;
 pub mod laws;
 mod msg_type;
+mod splitting;
 mod writing;
 
 pub use decoding::decode;
 pub use dgram::{Body, Dgram, Fragment, Names, Part};
-pub use fault::{DgramFault, DgramFaultKind, Full};
+pub use fault::{DgramFault, DgramFaultKind, Full, TooLong};
 pub use msg_type::{Delivery, Lookup, MsgType};
+pub use splitting::{Fragments, split};
 pub use writing::encode;
