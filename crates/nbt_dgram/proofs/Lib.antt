@@ -3,3 +3,7 @@ pub mod Outcome
 pub mod Words
 pub mod ReadBack
 pub mod Cutting
+pub mod Marks
+pub mod Agreeing
+pub mod SlotLists
+pub mod Holding

@@ -4,3 +4,6 @@ pub mod Dgram
 pub mod Text
 pub mod Decoding
 pub mod Pieces
+pub mod Slot
+pub mod Joiner
+pub mod Joining

@@ -6,6 +6,8 @@ use Rattle.nbt_name.specs.declared.fault.NameFaultKind.TheVariants as names
 use Rattle.nbt_dgram.specs.declared.fault.DgramFault.{DgramFault}
 use Rattle.nbt_dgram.specs.declared.fault.DgramFaultKind.{DgramFaultKind}
 use Rattle.nbt_dgram.specs.declared.fault.DgramFaultKind.TheVariants as kinds
+use Rattle.nbt_dgram.specs.declared.joined.Dropped.{Dropped}
+use Rattle.nbt_dgram.specs.declared.joined.Dropped.TheVariants as reasons
 use Rattle.nbt_dgram.specs.declared.msg_type.Delivery.TheVariants.{DirectUnique, DirectGroup, Broadcast}
 use Rattle.nbt_dgram.specs.declared.msg_type.Lookup.TheVariants.{Request, Positive, Negative}
 use Rattle.nbt_dgram.specs.declared.msg_type.MsgType.{MsgType}
@@ -37,6 +39,12 @@ fault_number kinds.Long = 5
 fault_number kinds.BadType = 6
 fault_number kinds.BadOffset = 7
 fault_number kinds.BadLength = 8
+
+abbrev pub dropped_number : Dropped → ℕ
+dropped_number reasons.TooLong = 1
+dropped_number reasons.Conflict = 2
+dropped_number reasons.Full = 3
+dropped_number reasons.ClockBack = 4
 
 -- a name's fault, as a datagram's
 abbrev pub kind_of : NameFaultKind → DgramFaultKind

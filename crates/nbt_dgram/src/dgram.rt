@@ -35,6 +35,20 @@ pub struct Names {
     pub destination: Name,
 }
 
+impl Names {
+    ghost use Rattle.std.specs.Prelude.{◌≡◌};
+
+    /// Equal names.
+    pub fn copy(&self) -> Names
+        ensures { result ≡ self.now }
+    {
+        Names {
+            source: self.source.copy(),
+            destination: self.destination.copy(),
+        }
+    }
+}
+
 /// Where a fragment stands in its datagram.
 #[derive(Debug, PartialEq, Eq, Drop)]
 pub enum Part {
@@ -55,6 +69,43 @@ pub struct Fragment<'a> {
     pub more: bool,
     /// USER_DATA, lent from the packet's octets.
     pub payload: &'a [u8],
+}
+
+impl Fragment<'_> {
+    ghost use Rattle.std.specs.Prelude.{◌≡◌, ◌<◌, ◌^◌, true, false, IfSome, IfNone};
+    ghost use Rattle.nbt_dgram.specs.declared.dgram.Names.{Names};
+    ghost use Rattle.nbt_dgram.specs.declared.dgram.Part.TheVariants.{First};
+    ghost use Rattle.nbt_dgram.specs.Dgram.{fragment_of};
+    ghost use Rattle.nbt_dgram.specs.Pieces.{begin_of, end_of};
+
+    /// The names, where the fragment is the first and the last one: a whole datagram.
+    pub(crate) fn names_if_whole(&self) -> Option<&Names>
+        ensures whole { IfSome result (λ names. (self.now.part ≡ First names.now) × (self.now.more ≡ false)) }
+        ensures part { IfNone result ((names : Names) → self.now.part ≡ First names → self.now.more ≡ true) }
+    {
+        let Part::First(names) = &self.part else {
+            return None;
+        };
+        if self.more {
+            return None;
+        }
+        Some(names)
+    }
+
+    /// How many octets of data stand before the fragment's.
+    pub(crate) fn begin(&self) -> usize
+        ensures value { result ≡ begin_of (fragment_of self.now) }
+        ensures bound { result < 2 ^ 16 }
+    {
+        usize::from(self.part.offset())
+    }
+
+    /// How many octets of data there are up to the fragment's end.
+    pub(crate) fn end(&self) -> usize
+        ensures { result ≡ end_of (fragment_of self.now) }
+    {
+        self.begin() + self.payload.len()
+    }
 }
 
 /// What stands behind the ten octets that each datagram begins with.

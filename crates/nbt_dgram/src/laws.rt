@@ -3,7 +3,11 @@
 ghost use Rattle.std.specs.Prelude.{◌≡◌, ℕ, ◌⊎◌, List, ◌++◌, length};
 ghost use Rattle.nbt_name.specs.Wire.{AreOctets};
 ghost use Rattle.nbt_dgram.specs.declared.fault.DgramFault.{DgramFault};
-ghost use Rattle.nbt_dgram.specs.Dgram.{DgramValue, DgramIs, FaultIs};
+ghost use Rattle.nbt_dgram.specs.declared.dgram.Names.{Names};
+ghost use Rattle.nbt_dgram.specs.declared.slot.Slot.{Slot};
+ghost use Rattle.nbt_dgram.specs.Dgram.{FragmentValue, DgramValue, DgramIs, FaultIs};
+ghost use Rattle.nbt_dgram.specs.Pieces.{MakesUp};
+ghost use Rattle.nbt_dgram.specs.Slot.{IsWhole, Since};
 ghost use Rattle.nbt_dgram.specs.Text.{HoldsNumbers, Fits, text};
 
 /// All octets begin with a datagram or have a fault, only one of the two, and with one value.
@@ -23,3 +27,15 @@ pub fn written_form_is_read()
 {
     nbt_name::laws::wire_form_is_read();
 }
+
+/// Fragments make up at most one row of data.
+pub fn fragments_make_up_one_whole()
+    ensures { (fragments : List FragmentValue) (a b : List ℕ) → MakesUp fragments a → MakesUp fragments b → a ≡ b }
+{}
+
+/// What a joiner knows of a datagram is whole exactly where the fragments that joined since it began make up data; and
+/// it is these data.
+pub fn a_slot_is_whole_where_its_fragments_make_up_data()
+    ensures made_up { (fragments : List FragmentValue) (s : Slot) (names : Names) (whole : List ℕ) → Since fragments s → IsWhole s names whole → MakesUp fragments whole }
+    ensures is_whole { (fragments : List FragmentValue) (s : Slot) (whole : List ℕ) → Since fragments s → MakesUp fragments whole → (names : Names) × IsWhole s names whole }
+{}

@@ -4,14 +4,21 @@
 mod decoding;
 mod dgram;
 mod fault;
+mod joined;
+mod joiner;
+mod known;
 pub mod laws;
 mod msg_type;
+mod slot;
+mod slots;
 mod splitting;
 mod writing;
 
 pub use decoding::decode;
 pub use dgram::{Body, Dgram, Fragment, Names, Part};
 pub use fault::{DgramFault, DgramFaultKind, Full, TooLong};
+pub use joined::{Dropped, Joined, Payload};
+pub use joiner::Joiner;
 pub use msg_type::{Delivery, Lookup, MsgType};
 pub use splitting::{Fragments, split};
 pub use writing::encode;

@@ -1,0 +1,25 @@
+use Rattle.std.proofs.Common.{◌≡◌, ◌≤◌, sym, ◌∙◌, ap, arith}
+use Rattle.nbt_dgram.specs.Dgram.{fragment_of, body_of}
+use Rattle.nbt_dgram.specs.Joiner.{joined_of, clock_back, alone, joins}
+use Rattle.nbt_dgram.proofs.SlotLists.{all_kept_room}
+use Rattle.nbt_dgram.proofs.joiner.Joiner.put.Goals as goal
+
+pub returns-then-get-self : goal.returns-then-get-self
+returns-then-get-self g c = rw (← c.self.view_is) (clock_back (omega (arith, c.get.ensures.value, c.if-get-self.true)))
+
+pub invariant_of-self : goal.invariant_of-self
+invariant_of-self g c = rw c.give_up.ensures.kept (all_kept_room c.args.now c.self.inside.slots c.self.invariant)
+
+pub returns : goal.returns
+returns g c =
+    rw (← c.self.view_is, c.get-self-inside.ensures.value)
+    (joins (fragment_of c.in-Fragment.fragment) (joined_of c.join.result) c.join.new.slots (omega (arith, c.get.ensures.value, c.if-get-self.false)) (ap body_of c.in-Fragment.is) c.in_default-names_if_whole.ensures.part
+    (rw c.give_up.ensures.kept at c.join.ensures.joins))
+
+pub join-requires : goal.join-requires
+join-requires g c = rw c.give_up.ensures.kept (all_kept_room c.args.now c.self.inside.slots c.self.invariant)
+
+pub returns-in-Some : goal.returns-in-Some
+returns-in-Some g c =
+    rw (← c.self.view_is, c.get-self-inside.ensures.value, c.give_up.ensures.kept, c.copy.ensures)
+    (alone (fragment_of c.in-Fragment.fragment) c.in-Some.names.now (omega (arith, c.get.ensures.value, c.if-get-self.false)) (ap body_of c.in-Fragment.is) c.in-Some.ensures.whole.0 c.in-Some.ensures.whole.1)

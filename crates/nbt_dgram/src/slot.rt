@@ -1,0 +1,146 @@
+//! An unfinished datagram, and what its fragments say (RFC 1002 section 5.3.1).
+
+ghost use Rattle.std.specs.Prelude.{◌≡◌, ℕ, ◌+◌, ◌<◌, ◌≤◌, ◌↔◌, false, List, length, IsTrue, IfSome, IfNone, Some, None};
+ghost use Rattle.nbt_dgram.specs.declared.dgram.Names.{Names};
+ghost use Rattle.nbt_dgram.specs.declared.dgram.Part.TheVariants.{First};
+ghost use Rattle.nbt_dgram.specs.Dgram.{fragment_of};
+ghost use Rattle.nbt_dgram.specs.Pieces.{begin_of, end_of};
+ghost use Rattle.nbt_dgram.specs.Slot.{known_at, fresh, Agrees, joined, IsWhole};
+
+use crate::dgram::{Fragment, Names, Part};
+use crate::known;
+use crate::msg_type::Delivery;
+use crate::splitting::DATA_MOST;
+use arrayvec::ArrayVec;
+use nbt_lease::Moment;
+use nbt_name::Addr;
+
+/// By what the fragments of one datagram are known: SOURCE_IP, SOURCE_PORT and DGM_ID.
+#[derive(Clone, Copy, Debug, PartialEq, Eq)]
+pub(crate) struct Key {
+    pub(crate) source: Addr,
+    pub(crate) id: u16,
+}
+
+/// What is known of an unfinished datagram.
+#[derive(Debug, Drop)]
+pub(crate) struct Slot {
+    pub(crate) key: Key,
+    /// The moment of the fragment that took the slot.
+    pub(crate) began: Moment,
+    pub(crate) delivery: Delivery,
+    /// The names, once the first fragment came.
+    pub(crate) names: Option<Names>,
+    /// How many octets of data there are, once the last fragment came.
+    pub(crate) end: Option<usize>,
+    /// The octets of data, where they are known.
+    pub(crate) octets: [Option<u8>; 512],
+}
+
+impl Slot {
+    /// A slot that begins now, of which nothing is known but the type.
+    pub(crate) fn new(key: Key, now: Moment, delivery: Delivery) -> Slot
+        ensures { result ≡ fresh key now delivery }
+    {
+        Slot {
+            key,
+            began: now,
+            delivery,
+            names: None,
+            end: None,
+            octets: [None; 512],
+        }
+    }
+
+    /// Whether the fragment agrees with what is known.
+    pub(crate) fn agrees(&self, fragment: &Fragment<'_>) -> bool
+        requires whole { length self.now.octets ≡ 512 }
+        requires fits { end_of (fragment_of fragment.now) ≤ 512 }
+        ensures { IsTrue result ↔ Agrees self.now (fragment_of fragment.now) }
+    {
+        if !is_same_type(self.delivery, fragment.delivery) {
+            return false;
+        }
+        if !are_same_names(&self.names, &fragment.part) {
+            return false;
+        }
+        if !is_same_end(self.end, fragment.end(), fragment.more) {
+            return false;
+        }
+        if !is_behind_all(&self.octets, fragment.end(), fragment.more) {
+            return false;
+        }
+        known::agree(&self.octets, fragment.begin(), fragment.payload)
+    }
+
+    /// Takes in what the fragment says.
+    pub(crate) fn join(&mut self, fragment: &Fragment<'_>)
+        requires whole { length self.old.octets ≡ 512 }
+        requires fits { end_of (fragment_of fragment.now) ≤ 512 }
+        ensures { self.new ≡ joined (fragment_of fragment.now) self.old }
+    {
+        if let Part::First(names) = &fragment.part {
+            self.names = Some(names.copy());
+        }
+        if !fragment.more {
+            self.end = Some(fragment.end());
+        }
+        known::write(&mut self.octets, fragment.begin(), fragment.payload);
+    }
+
+    /// The names and the data, where the names, the end and every octet below it are known.
+    pub(crate) fn whole(&self) -> Option<(Names, ArrayVec<u8, 512>)>
+        requires { length self.now.octets ≡ 512 }
+        ensures whole { IfSome result (λ found. IsWhole self.now found.0 found.1.items) }
+        ensures unfinished { IfNone result ((names : Names) (payload : List ℕ) → ¬ IsWhole self.now names payload) }
+    {
+        let names = self.names.as_ref()?;
+        let end = self.end?;
+        if end > DATA_MOST {
+            return None;
+        }
+        let payload = known::read(&self.octets, end)?;
+        Some((names.copy(), payload))
+    }
+}
+
+fn is_same_type(known: Delivery, delivery: Delivery) -> bool
+    ensures { IsTrue result ↔ (known ≡ delivery) }
+{
+    known == delivery
+}
+
+/// Whether a first fragment's names are those that are known.
+fn are_same_names(known: &Option<Names>, part: &Part) -> bool
+    ensures { IsTrue result ↔ ((a b : Names) → known.now ≡ Some a → part.now ≡ First b → a ≡ b) }
+{
+    match (known, part) {
+        (Some(known), Part::First(names)) => are_equal(known, names),
+        _ => true,
+    }
+}
+
+fn are_equal(a: &Names, b: &Names) -> bool
+    ensures { IsTrue result ↔ (a.now ≡ b.now) }
+{
+    a == b
+}
+
+/// Whether a fragment doesn't pass the known end, and is the last one only at that end.
+fn is_same_end(known: Option<usize>, end: usize, more: bool) -> bool
+    ensures { IsTrue result ↔ ((known_end : ℕ) → known ≡ Some known_end → (end ≤ known_end) × (more ≡ false → end ≡ known_end)) }
+{
+    match known {
+        Some(known) if more => end <= known,
+        Some(known) => end == known,
+        None => true,
+    }
+}
+
+/// Whether a fragment is not the last one, or ends behind all known octets.
+fn is_behind_all(known: &[Option<u8>], end: usize, more: bool) -> bool
+    requires { end ≤ length known.now }
+    ensures { IsTrue result ↔ (more ≡ false → (place octet : ℕ) → known_at known.now place ≡ Some octet → place < end) }
+{
+    more || known::end_by(known, end)
+}

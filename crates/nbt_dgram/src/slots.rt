@@ -1,0 +1,173 @@
+//! The slots of a joiner, each free or with an unfinished datagram.
+
+ghost use Rattle.std.specs.Prelude.{◌≡◌, ◌<◌, ◌≤◌, length, map, count_by, Some, IfSome, IfNone};
+ghost use Rattle.std.specs.List.{position, All};
+ghost use Rattle.nbt_dgram.specs.Dgram.{fragment_of};
+ghost use Rattle.nbt_dgram.specs.Pieces.{end_of};
+ghost use Rattle.nbt_dgram.specs.Joiner as spec;
+ghost use Rattle.nbt_dgram.specs.Joiner.{kept, emptied, is_free, Joins, HasRoom, joined_of};
+ghost use Rattle.nbt_dgram.specs.Joining.{JoinsSlot, IsTaken, JoinsAt, Begins};
+
+use crate::dgram::Fragment;
+use crate::joined::{Dropped, Joined, Payload};
+use crate::slot::{Key, Slot};
+use crate::splitting::DATA_MOST;
+use nbt_lease::Moment;
+
+/// How long the fragments of a datagram are waited for, in milliseconds (our profile; RFC 1002 section 5.3.1 leaves it
+/// to each end).
+const TIMEOUT: u64 = 2000;
+
+/// Empties the slots that are too old, and returns how many these were.
+pub(crate) fn give_up(slots: &mut [Option<Slot>], now: Moment) -> usize
+    ensures kept { slots.new ≡ map (kept now) slots.old }
+    ensures count { result ≡ count_by (spec.is_old now) slots.old }
+{
+    let mut count = 0;
+    for slot in slots.iter_mut() {
+        if give_up_one(slot, now) {
+            count += 1;
+        }
+    }
+    count
+}
+
+/// Empties a slot that is too old, and returns whether it is.
+fn give_up_one(slot: &mut Option<Slot>, now: Moment) -> bool
+    ensures kept { slot.new ≡ kept now slot.old }
+    ensures old { result ≡ spec.is_old now slot.old }
+{
+    let old = is_old(slot, now);
+    if old {
+        *slot = None;
+    }
+    old
+}
+
+/// Whether a slot's datagram is too old.
+fn is_old(slot: &Option<Slot>, now: Moment) -> bool
+    ensures { result ≡ spec.is_old now slot.now }
+{
+    match slot {
+        Some(slot) => slot.began.get() + TIMEOUT < now.get(),
+        None => false,
+    }
+}
+
+/// Joins a fragment to the slot of its key, or begins one.
+pub(crate) fn join(
+    slots: &mut [Option<Slot>],
+    now: Moment,
+    key: Key,
+    fragment: &Fragment<'_>,
+) -> Joined<'static>
+    requires { All HasRoom slots.old }
+    ensures joins { Joins slots.old now key (fragment_of fragment.now) (joined_of result) slots.new }
+    ensures room { All HasRoom slots.new }
+{
+    if fragment.end() > DATA_MOST {
+        empty(slots, &key);
+        return Joined::Dropped(Dropped::TooLong);
+    }
+    let Some(place) = find(slots, &key) else {
+        return begin(slots, now, key, fragment);
+    };
+    match join_at(slots, place, fragment) {
+        Joined::Waiting => Joined::Waiting,
+        done => {
+            empty(slots, &key);
+            done
+        }
+    }
+}
+
+/// Begins a slot with its first fragment, in the lowest free place.
+fn begin(
+    slots: &mut [Option<Slot>],
+    now: Moment,
+    key: Key,
+    fragment: &Fragment<'_>,
+) -> Joined<'static>
+    requires { end_of (fragment_of fragment.now) ≤ 512 }
+    ensures { Begins slots.old now key (fragment_of fragment.now) (joined_of result) slots.new }
+{
+    let Some(place) = find_free(slots) else {
+        return Joined::Dropped(Dropped::Full);
+    };
+    let mut slot = Slot::new(key, now, fragment.delivery);
+    slot.join(fragment);
+    slots[place] = Some(slot);
+    Joined::Waiting
+}
+
+/// Joins a fragment to the slot in this place.
+fn join_at(slots: &mut [Option<Slot>], place: usize, fragment: &Fragment<'_>) -> Joined<'static>
+    requires fits { end_of (fragment_of fragment.now) ≤ 512 }
+    requires taken { IsTaken slots.old place }
+    requires room { All HasRoom slots.old }
+    ensures { JoinsAt slots.old place (fragment_of fragment.now) (joined_of result) slots.new }
+{
+    match &mut slots[place] {
+        Some(slot) => join_slot(slot, fragment),
+        None => Joined::Waiting,
+    }
+}
+
+fn join_slot(slot: &mut Slot, fragment: &Fragment<'_>) -> Joined<'static>
+    requires fits { end_of (fragment_of fragment.now) ≤ 512 }
+    requires room { length slot.old.octets ≡ 512 }
+    ensures { JoinsSlot slot.old (fragment_of fragment.now) (joined_of result) slot.new }
+{
+    if !slot.agrees(fragment) {
+        return Joined::Dropped(Dropped::Conflict);
+    }
+    slot.join(fragment);
+    match slot.whole() {
+        Some((names, payload)) => Joined::Whole(names, Payload::Joined(payload)),
+        None => Joined::Waiting,
+    }
+}
+
+/// Empties the slot of this key.
+fn empty(slots: &mut [Option<Slot>], key: &Key)
+    ensures { slots.new ≡ map (emptied key.now) slots.old }
+{
+    for slot in slots.iter_mut() {
+        empty_one(slot, key);
+    }
+}
+
+fn empty_one(slot: &mut Option<Slot>, key: &Key)
+    ensures { slot.new ≡ emptied key.now slot.old }
+{
+    if is_of(slot, key) {
+        *slot = None;
+    }
+}
+
+/// The place of the slot of this key.
+fn find(slots: &[Option<Slot>], key: &Key) -> Option<usize>
+    ensures { result ≡ position (spec.is_of key.now) slots.now }
+{
+    slots.iter().position(|slot| is_of(slot, key))
+}
+
+/// The lowest free place.
+fn find_free(slots: &[Option<Slot>]) -> Option<usize>
+    ensures { result ≡ position is_free slots.now }
+{
+    slots.iter().position(|slot| slot.is_none())
+}
+
+fn is_of(slot: &Option<Slot>, key: &Key) -> bool
+    ensures { result ≡ spec.is_of key.now slot.now }
+{
+    match slot {
+        Some(slot) => {
+            slot.key.id == key.id
+                && slot.key.source.ip == key.source.ip
+                && slot.key.source.port == key.source.port
+        }
+        None => false,
+    }
+}
