@@ -1,5 +1,5 @@
 pub mod Octets
-pub mod Outcome
+pub mod OneDatagram
 pub mod Words
 pub mod ReadBack
 pub mod Cutting

@@ -7,3 +7,4 @@ pub mod Pieces
 pub mod Slot
 pub mod Joiner
 pub mod Joining
+pub mod Accepting

@@ -1,6 +1,7 @@
 //! NetBIOS datagrams (RFC 1001 section 17, RFC 1002 sections 4.4 and 5.3). No call takes memory.
 #![tactic(auto)]
 
+mod accepting;
 mod decoding;
 mod dgram;
 mod fault;
@@ -9,16 +10,19 @@ mod joiner;
 mod known;
 pub mod laws;
 mod msg_type;
+mod outcome;
 mod slot;
 mod slots;
 mod splitting;
 mod writing;
 
+pub use accepting::accept;
 pub use decoding::decode;
 pub use dgram::{Body, Dgram, Fragment, Names, Part};
 pub use fault::{DgramFault, DgramFaultKind, Full, TooLong};
 pub use joined::{Dropped, Joined, Payload};
 pub use joiner::Joiner;
 pub use msg_type::{Delivery, Lookup, MsgType};
+pub use outcome::Accept;
 pub use splitting::{Fragments, split};
 pub use writing::encode;

@@ -15,6 +15,17 @@ pub enum Delivery {
     Broadcast,
 }
 
+impl Delivery {
+    ghost use Rattle.std.specs.Prelude.{◌≡◌, ◌↔◌, IsTrue};
+
+    /// Whether this is the other one.
+    pub(crate) fn is(self, other: Delivery) -> bool
+        ensures { IsTrue result ↔ (self ≡ other) }
+    {
+        self == other
+    }
+}
+
 /// What is asked of a datagram distribution server, or told by it. It is read and written, and not acted on (our
 /// profile).
 #[derive(Clone, Copy, Debug, PartialEq, Eq)]

@@ -58,7 +58,7 @@ impl Slot {
         requires fits { end_of (fragment_of fragment.now) ≤ 512 }
         ensures { IsTrue result ↔ Agrees self.now (fragment_of fragment.now) }
     {
-        if !is_same_type(self.delivery, fragment.delivery) {
+        if !self.delivery.is(fragment.delivery) {
             return false;
         }
         if !are_same_names(&self.names, &fragment.part) {
@@ -102,12 +102,6 @@ impl Slot {
         let payload = known::read(&self.octets, end)?;
         Some((names.copy(), payload))
     }
-}
-
-fn is_same_type(known: Delivery, delivery: Delivery) -> bool
-    ensures { IsTrue result ↔ (known ≡ delivery) }
-{
-    known == delivery
 }
 
 /// Whether a first fragment's names are those that are known.

@@ -2,7 +2,7 @@ use Rattle.std.proofs.Common.{ℕ, List, arith}
 use Rattle.nbt_name.specs.declared.form.Form.TheVariants.{Plain}
 use Rattle.nbt_name.specs.Wire.{AreOctets}
 use Rattle.nbt_dgram.specs.Fields.{end_at, within}
-use Rattle.nbt_dgram.proofs.Outcome.{NameLaw, NameLaws, take_fits, dgram_iff, fault_iff}
+use Rattle.nbt_dgram.proofs.OneDatagram.{NameLaw, NameLaws, take_fits, dgram_iff, fault_iff}
 use Rattle.nbt_dgram.proofs.decoding.decode.Goals as goal
 
 -- names are determined, on octets

@@ -3,7 +3,7 @@ use Rattle.nbt_name.specs.declared.form.Form.TheVariants.{Plain}
 use Rattle.nbt_name.specs.Wire.{AreOctets}
 use Rattle.nbt_dgram.specs.Dgram.{DgramValue}
 use Rattle.nbt_dgram.specs.Fields.{end_at, within}
-use Rattle.nbt_dgram.proofs.Outcome.{NameLaw, NameLaws, take_fits, one_dgram, one_fault, not_both, dgram_found}
+use Rattle.nbt_dgram.proofs.OneDatagram.{NameLaw, NameLaws, take_fits, one_dgram, one_fault, not_both, dgram_found}
 use Rattle.nbt_dgram.proofs.laws.one_datagram_or_fault.Goals as goal
 
 -- names are determined, on octets

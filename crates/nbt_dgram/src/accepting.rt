@@ -1,0 +1,107 @@
+//! What a node makes of a datagram's octets (RFC 1002 section 5.3.4).
+
+ghost use Rattle.std.specs.Prelude.{◌≡◌, ◌≢◌, []};
+ghost use Rattle.nbt_dgram.specs.declared.msg_type.Delivery.TheVariants.{Broadcast};
+ghost use Rattle.nbt_dgram.specs.Dgram.{fragment, fragment_of, body_of, dgram_of};
+ghost use Rattle.nbt_dgram.specs.Joiner.{whole, joined_of, octets_of, IsData};
+ghost use Rattle.nbt_dgram.specs.Text.{text};
+ghost use Rattle.nbt_dgram.specs.Accepting.{accept_of, Accepts, Hands, PutsUp, not_present};
+
+use crate::decoding::decode;
+use crate::dgram::{Body, Dgram, Names};
+use crate::joined::{Joined, Payload};
+use crate::joiner::Joiner;
+use crate::msg_type::Delivery;
+use crate::outcome::Accept;
+use crate::writing::encode;
+use arrayvec::ArrayVec;
+use nbt_lease::Moment;
+use nbt_name::Addr;
+use nbt_node::Node;
+
+/// The error's code: destination name not present (RFC 1002 section 4.4.3).
+const NOT_PRESENT: u8 = 0x82;
+
+/// What the octets of one datagram mean for a node.
+pub fn accept<'a, const S: usize, const N: usize>(
+    joiner: &mut Joiner<S>,
+    now: Moment,
+    node: &Node<N>,
+    own: Addr,
+    octets: &'a [u8],
+    out: &mut ArrayVec<u8, 576>,
+) -> Accept<'a>
+    ensures { Accepts joiner.old now node.now own octets.now (accept_of result) out.new.items joiner.new }
+{
+    out.clear();
+    let Ok((dgram, _)) = decode(octets) else {
+        return Accept::Nothing;
+    };
+    match &dgram.body {
+        Body::Fragment(fragment) => put_up(joiner, now, node, own, &dgram, fragment.delivery, out),
+        Body::Error(code) => Accept::Error(dgram.id, *code),
+        Body::Lookup(_, _) => Accept::Nothing,
+    }
+}
+
+/// Puts a datagram to the joiner, but one to all ends of a scope.
+fn put_up<'a, const S: usize, const N: usize>(
+    joiner: &mut Joiner<S>,
+    now: Moment,
+    node: &Node<N>,
+    own: Addr,
+    dgram: &Dgram<'a>,
+    delivery: Delivery,
+    out: &mut ArrayVec<u8, 576>,
+) -> Accept<'a>
+    requires body { IsData (dgram_of dgram.now) }
+    requires empty { out.old.items ≡ [] }
+    ensures { PutsUp joiner.old now node.now own (dgram_of dgram.now) delivery (accept_of result) out.new.items joiner.new }
+{
+    if delivery.is(Delivery::Broadcast) {
+        return Accept::Nothing;
+    }
+    match joiner.put(now, dgram) {
+        Joined::Whole(names, payload) => {
+            hand_up(now, node, own, dgram, delivery, names, payload, out)
+        }
+        Joined::Waiting => Accept::Waiting,
+        Joined::Dropped(_) => Accept::Nothing,
+    }
+}
+
+/// Hands a whole datagram up where the node holds the destination name.
+fn hand_up<'a, const N: usize>(
+    now: Moment,
+    node: &Node<N>,
+    own: Addr,
+    dgram: &Dgram<'_>,
+    delivery: Delivery,
+    names: Names,
+    payload: Payload<'a>,
+    out: &mut ArrayVec<u8, 576>,
+) -> Accept<'a>
+    requires { out.old.items ≡ [] }
+    ensures { Hands node.now now own (dgram_of dgram.now) delivery (whole names (octets_of payload.entry)) (accept_of result) out.new.items }
+{
+    if node.holds(now, &names.destination).is_some() {
+        return Accept::Up(names, payload);
+    }
+    if !delivery.is(Delivery::DirectUnique) {
+        return Accept::Nothing;
+    }
+    refuse(dgram.id, own, out);
+    Accept::Reply(dgram.source)
+}
+
+/// Leaves in `out` the error packet that says that the destination name is not held here.
+fn refuse(id: u16, own: Addr, out: &mut ArrayVec<u8, 576>)
+    ensures { out.new.items ≡ text (not_present id own) }
+{
+    let error = Dgram {
+        id,
+        source: own,
+        body: Body::Error(NOT_PRESENT),
+    };
+    encode(&error, out).unwrap();
+}

@@ -1,0 +1,20 @@
+//! What a datagram's octets lead to.
+
+use crate::dgram::Names;
+use crate::joined::Payload;
+use nbt_name::Addr;
+
+/// What a datagram's octets mean for a node.
+#[derive(Debug, Drop)]
+pub enum Accept<'a> {
+    /// A datagram for a name that the node holds: its names and its data.
+    Up(Names, Payload<'a>),
+    /// An error packet for this address stands in the buffer.
+    Reply(Addr),
+    /// An error of another end: the datagram's id, and the code.
+    Error(u16, u8),
+    /// Other fragments are missing.
+    Waiting,
+    /// Nothing.
+    Nothing,
+}
