@@ -1,11 +1,11 @@
 -- The tests that together say whether a fragment agrees with a slot.
-use Rattle.std.proofs.Common.{◌≡◌, ℕ, ◌+◌, ◌-◌, ◌<◌, ◌≤◌, Bool, false, length, Some, IsTrue, ◌↔◌, refl, sym, ap, subst, ◌∙◌, arith}
+use Rattle.std.proofs.Common.{◌≡◌, ℕ, ◌+◌, ◌-◌, ◌<◌, ◌≤◌, Bool, false, length, Some, IsTrue, ◌↔◌, sym, ap, ◌∙◌, arith}
 use Rattle.std.specs.Prelude.{slice_index}
 use Rattle.nbt_dgram.specs.declared.dgram.Names.{Names}
 use Rattle.nbt_dgram.specs.declared.dgram.Part.TheVariants.{First}
 use Rattle.nbt_dgram.specs.declared.slot.Slot.{Slot}
 use Rattle.nbt_dgram.specs.Dgram.{FragmentValue}
-use Rattle.nbt_dgram.specs.Pieces.{begin_of, end_of, octet_in}
+use Rattle.nbt_dgram.specs.Pieces.{begin_of, end_of}
 use Rattle.nbt_dgram.specs.Slot.{known_at, Agrees}
 
 pub agrees_iff : (s : Slot) (f : FragmentValue) (begin end last : ℕ) (r : Bool) → begin ≡ begin_of f → end ≡ end_of f → last ≡ end_of f → s.delivery ≡ f.delivery

@@ -1,5 +1,5 @@
 -- The packets of split data make up the data.
-use Rattle.std.proofs.Common.{◌≡◌, ℕ, ◌+◌, ◌-◌, ◌<◌, ◌≤◌, false, List, [], ◌∷◌, ◌++◌, length, take, drop, refl, sym, ap, subst, ◌∙◌, arith, inl, inr}
+use Rattle.std.proofs.Common.{◌≡◌, ℕ, ◌+◌, ◌-◌, ◌<◌, ◌≤◌, List, [], ◌∷◌, ◌++◌, length, take, drop, refl, sym, ap, subst, ◌∙◌, arith, inl, inr}
 use Rattle.std.specs.Prelude.{◌⊎◌, slice_index}
 use Rattle.std.specs.List.{Contains}
 use Rattle.std.proofs.lemmas.Bool.{cases_lt}
@@ -8,11 +8,10 @@ use Rattle.std.proofs.lemmas.List.Elements.{Contains-push_cases}
 use Rattle.nbt_name.specs.declared.addr.Addr.{Addr}
 use Rattle.nbt_dgram.specs.declared.msg_type.Delivery.{Delivery}
 use Rattle.nbt_dgram.specs.declared.dgram.Names.{Names}
-use Rattle.nbt_dgram.specs.declared.dgram.Part.{Part}
-use Rattle.nbt_dgram.specs.declared.dgram.Part.TheVariants.{First, Later}
+use Rattle.nbt_dgram.specs.declared.dgram.Part.TheVariants.{First}
 use Rattle.nbt_dgram.specs.Dgram.{FragmentValue, DgramValue}
 use Rattle.nbt_dgram.specs.Text.{names_text}
-use Rattle.nbt_dgram.specs.Pieces.{begin_of, end_of, Covers, octet_in, MakesUp, one, front_of, back_of, size_of, packet, in_one, in_two, IsSplit}
+use Rattle.nbt_dgram.specs.Pieces.{Covers, octet_in, MakesUp, one, front_of, back_of, size_of, packet, in_one, in_two, IsSplit}
 
 -- ---- the members of short lists
 

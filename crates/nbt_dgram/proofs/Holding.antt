@@ -1,8 +1,8 @@
 -- A slot is whole exactly where the fragments that joined it since it began make up data.
-use Rattle.std.proofs.Common.{◌≡◌, ℕ, zero, suc, ◌+◌, ◌-◌, ◌<◌, ◌≤◌, Bool, true, false, cond, List, [], ◌∷◌, ◌++◌, length, map, take, get_or, replicate, Option, Some, None, refl, sym, ap, subst, ◌∙◌, arith, inl, inr}
-use Rattle.std.specs.Prelude.{◌⊎◌, ◌↔◌, slice_index}
+use Rattle.std.proofs.Common.{◌≡◌, ℕ, ◌+◌, ◌<◌, ◌≤◌, Bool, true, false, cond, List, [], ◌∷◌, ◌++◌, length, map, take, Option, Some, None, refl, sym, ap, subst, ◌∙◌, arith, inl, inr}
+use Rattle.std.specs.Prelude.{◌⊎◌, slice_index}
 use Rattle.std.specs.List.{Contains}
-use Rattle.std.proofs.lemmas.Bool.{cases_lt, cases_eq}
+use Rattle.std.proofs.lemmas.Bool.{cases_lt}
 use Rattle.std.proofs.lemmas.List.{ext_get_or, length-map, length-take-le, length-replicate, get_or-replicate, get_or-take, get_or_past}
 use Rattle.std.proofs.lemmas.List.Elements.{Contains-append_left, Contains-push, Contains-push_cases}
 use Rattle.nbt_dgram.specs.declared.msg_type.Delivery.{Delivery}
@@ -13,7 +13,7 @@ use Rattle.nbt_dgram.specs.declared.slot.Key.{Key}
 use Rattle.nbt_dgram.specs.declared.slot.Slot.{Slot}
 use Rattle.nbt_dgram.specs.Dgram.{FragmentValue}
 use Rattle.nbt_dgram.specs.Pieces.{begin_of, end_of, Covers, octet_in, MakesUp}
-use Rattle.nbt_dgram.specs.Slot.{nothing, fresh, known_at, Agrees, names_with, octets_with, joined, IsWhole, Since, begun, one_more}
+use Rattle.nbt_dgram.specs.Slot.{nothing, fresh, known_at, Agrees, names_with, joined, IsWhole, Since, begun, one_more}
 use Rattle.nbt_dgram.proofs.Marks.{map_at, written-length, written_before, written_inside, written_behind}
 
 -- what a slot says of the fragments that joined it

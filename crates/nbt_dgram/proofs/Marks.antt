@@ -1,7 +1,7 @@
 -- Lists of octets of which some are known.
-use Rattle.std.proofs.Common.{◌≡◌, ℕ, zero, suc, ◌+◌, ◌-◌, ◌<◌, ◌≤◌, List, [], ◌∷◌, ◌++◌, length, map, take, drop, get_or, Option, Some, None, refl, sym, ap, subst, ◌∙◌, arith}
-use Rattle.std.specs.Prelude.{slice_index, slice_index_or}
-use Rattle.std.proofs.lemmas.List.{length-append, length-map, length-take, length-take-le, length-drop, get_or_append_left, get_or-append_right, get_or-take, get_or-drop}
+use Rattle.std.proofs.Common.{◌≡◌, ℕ, zero, suc, ◌+◌, ◌-◌, ◌<◌, ◌≤◌, List, [], ◌∷◌, ◌++◌, length, map, take, drop, get_or, Option, Some, None, refl, ap, ◌∙◌, arith}
+use Rattle.std.specs.Prelude.{slice_index}
+use Rattle.std.proofs.lemmas.List.{length-append, length-map, length-take-le, length-drop, get_or_append_left, get_or-append_right, get_or-take, get_or-drop}
 use Rattle.nbt_dgram.specs.Slot.{known_at, octets_with}
 
 pub map_at : (xs : List ℕ) (k : ℕ) → k < length xs → get_or (map Some xs) k None ≡ Some (get_or xs k 0)

@@ -1,5 +1,5 @@
 -- The first octet, where there is one.
-use Rattle.std.proofs.Common.{◌≡◌, ℕ, ◌<◌, List, [], ◌∷◌, length, Option, Some, None, refl, arith}
+use Rattle.std.proofs.Common.{◌≡◌, ℕ, ◌<◌, List, [], ◌∷◌, length, Some, None, refl, arith}
 use Rattle.std.specs.Prelude.{slice_get}
 use Rattle.nbt_dgram.specs.Fields.{octet_at}
 

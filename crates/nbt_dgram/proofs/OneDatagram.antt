@@ -1,6 +1,6 @@
 -- What octets spell is determined: one datagram, or one fault. It is computed here from what each name's place gives.
-use Rattle.std.proofs.Common.{◌≡◌, ℕ, zero, suc, ◌+◌, ◌<◌, ◌≤◌, Bool, true, false, cond, ltb, eqb, List, [], ◌∷◌, length, take, Option, Some, None, Result, Ok, Err, refl, sym, ap, subst, ◌∙◌, arith, inl, inr, lt-ltb, le-ltb}
-use Rattle.std.specs.Prelude.{◌⊎◌, ◌↔◌, IfOk, IfErr, slice_range, slice_index}
+use Rattle.std.proofs.Common.{◌≡◌, ℕ, zero, suc, ◌<◌, ◌≤◌, Bool, true, false, cond, ltb, eqb, List, [], ◌∷◌, length, take, Result, Ok, Err, refl, sym, ap, subst, ◌∙◌, arith, inl, inr, lt-ltb, le-ltb}
+use Rattle.std.specs.Prelude.{◌⊎◌, ◌↔◌, IfOk, IfErr, slice_range}
 use Rattle.std.proofs.lemmas.Bool.{cases_lt, cases_eq}
 use Rattle.nbt_name.specs.declared.fault.NameFault.{NameFault}
 use Rattle.nbt_name.specs.Wire.{NameValue, AreOctets}
@@ -8,7 +8,6 @@ use Rattle.nbt_name.specs.Reading.{PlainNameAt, PlainFaultAt}
 use Rattle.nbt_dgram.specs.declared.fault.DgramFault.{DgramFault}
 use Rattle.nbt_dgram.specs.declared.msg_type.Delivery.{Delivery}
 use Rattle.nbt_dgram.specs.declared.msg_type.Delivery.TheVariants.{DirectUnique, DirectGroup, Broadcast}
-use Rattle.nbt_dgram.specs.declared.msg_type.Lookup.{Lookup}
 use Rattle.nbt_dgram.specs.declared.msg_type.Lookup.TheVariants.{Request, Positive, Negative}
 use Rattle.nbt_dgram.specs.declared.msg_type.MsgType.{MsgType}
 use Rattle.nbt_dgram.specs.declared.msg_type.MsgType.TheVariants as types

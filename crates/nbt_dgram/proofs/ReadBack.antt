@@ -1,18 +1,16 @@
 -- The written form of each datagram that fits is that datagram.
-use Rattle.std.proofs.Common.{◌≡◌, ℕ, ◌+◌, ◌^◌, ◌<◌, ◌≤◌, Bool, true, false, List, [], ◌∷◌, ◌++◌, length, take, drop, refl, sym, ap, subst, ◌∙◌, arith, append_assoc}
+use Rattle.std.proofs.Common.{◌≡◌, ℕ, ◌+◌, ◌^◌, ◌<◌, ◌≤◌, Bool, true, false, List, ◌++◌, length, refl, sym, ap, subst, ◌∙◌, arith, append_assoc}
 use Rattle.std.specs.Prelude.{slice_range, slice_index}
 use Rattle.std.proofs.Common.{get_or-drop}
 use Rattle.std.proofs.lemmas.List.{length-append, take_at}
 use Rattle.byteorder.specs.Numbers.{big_number-reads_back}
 use Rattle.nbt_name.specs.declared.addr.Addr.{Addr}
-use Rattle.nbt_name.specs.Wire.{NameValue, wire}
+use Rattle.nbt_name.specs.Wire.{wire}
 use Rattle.nbt_name.specs.Reading.{PlainNameAt}
 use Rattle.nbt_dgram.specs.declared.msg_type.MsgType.{MsgType}
-use Rattle.nbt_dgram.specs.declared.msg_type.MsgType.TheVariants as types
-use Rattle.nbt_dgram.specs.declared.dgram.Names.{Names}
 use Rattle.nbt_dgram.specs.declared.dgram.Part.{Part}
 use Rattle.nbt_dgram.specs.declared.dgram.Part.TheVariants.{First, Later}
-use Rattle.nbt_dgram.specs.Numbers.{type_number, head_size}
+use Rattle.nbt_dgram.specs.Numbers.{head_size}
 use Rattle.nbt_dgram.specs.Fields.{octet_at, word, long, word_at, long_at, first_at, more_at, offset_at, length_at, end_at, within}
 use Rattle.nbt_dgram.specs.Dgram.{FragmentValue, BodyValue, fragment, error, lookup, DgramValue, type_of, IsTypeAt, NamesAt, PartAt, FragmentAt, BodyAt, DgramIs}
 use Rattle.nbt_dgram.specs.Text.{offset_of, names_text, dgm_length, flags_by, flags_of, head, body_text, text, IsPart, BodyHolds, BodyFits, HoldsNumbers, Fits}

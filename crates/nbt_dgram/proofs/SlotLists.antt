@@ -1,8 +1,8 @@
 -- Lists of slots: what a loop over them leaves, and what joining in one place and emptying one key leave.
-use Rattle.std.proofs.Common.{◌≡◌, ℕ, zero, suc, ◌+◌, ◌-◌, ◌<◌, ◌≤◌, Bool, true, false, cond, eqb, List, [], ◌∷◌, ◌++◌, length, map, take, drop, set, get_or, replicate, Option, Some, None, refl, sym, ap, subst, ◌∙◌, arith}
-use Rattle.std.specs.Prelude.{slice_get, count_by, ◌&&◌, nat_eq}
+use Rattle.std.proofs.Common.{◌≡◌, ℕ, zero, suc, ◌+◌, ◌-◌, ◌<◌, ◌≤◌, Bool, true, false, cond, List, [], ◌∷◌, ◌++◌, length, map, take, drop, set, get_or, replicate, Option, Some, None, refl, sym, ap, subst, ◌∙◌, arith}
+use Rattle.std.specs.Prelude.{slice_get, count_by}
 use Rattle.std.specs.List.{position, All}
-use Rattle.std.proofs.lemmas.List.{map-set, set-get_or, length-map, length-take-le, length-set, length-replicate, get_or-replicate, same_lists, get_or-append_right, get_or-drop}
+use Rattle.std.proofs.lemmas.List.{map-set, set-get_or, length-map, length-take-le, length-replicate, get_or-replicate, same_lists, get_or-append_right, get_or-drop}
 use Rattle.std.proofs.lemmas.List.Edits.{map_over_more}
 use Rattle.std.proofs.lemmas.List.Elements.{All-map, All-weaker, All-set, All-get_or}
 use Rattle.std.proofs.lemmas.List.Sums.{count_by_more_yes, count_by_more_no}
@@ -13,8 +13,8 @@ use Rattle.nbt_dgram.specs.declared.joined.Joined.{Joined}
 use Rattle.nbt_dgram.specs.declared.joined.Joined.TheVariants as results
 use Rattle.nbt_dgram.specs.Dgram.{FragmentValue}
 use Rattle.nbt_dgram.specs.Pieces.{begin_of, end_of}
-use Rattle.nbt_dgram.specs.Slot.{nothing, fresh, joined, octets_with}
-use Rattle.nbt_dgram.specs.Joiner.{JoinedValue, whole, waiting, dropped, joined_of, is_old, kept, is_of, emptied, is_free, HasRoom, Joins, too_long, no_room, begins, conflicts, waits, completes}
+use Rattle.nbt_dgram.specs.Slot.{nothing, fresh, joined}
+use Rattle.nbt_dgram.specs.Joiner.{JoinedValue, waiting, joined_of, is_old, kept, is_of, emptied, HasRoom, Joins, no_room, begins, conflicts, waits, completes}
 use Rattle.nbt_dgram.specs.Joining.{JoinsSlot, disagrees, unfinished, finished, IsTaken, JoinsAt, Begins, no_place, in_place}
 use Rattle.nbt_dgram.proofs.Marks.{written-length}
 

@@ -1,12 +1,12 @@
 -- What a node makes of the octets of one datagram (RFC 1002 section 5.3.4; the choices are our profile's).
-use Rattle.std.specs.Prelude.{◌≡◌, ◌≢◌, ℕ, List, [], Option, Some, None}
+use Rattle.std.specs.Prelude.{◌≡◌, ◌≢◌, ℕ, List, [], Some, None}
 use Rattle.nbt_name.specs.declared.addr.Addr.{Addr}
 use Rattle.nbt_name.specs.declared.addr.Kind.{Kind}
 use Rattle.nbt_name.specs.Wire.{NameValue}
 use Rattle.nbt_node.specs.Node.{NodeValue, holds}
 use Rattle.nbt_dgram.specs.declared.fault.DgramFault.{DgramFault}
 use Rattle.nbt_dgram.specs.declared.msg_type.Delivery.{Delivery}
-use Rattle.nbt_dgram.specs.declared.msg_type.Delivery.TheVariants.{DirectUnique, DirectGroup, Broadcast}
+use Rattle.nbt_dgram.specs.declared.msg_type.Delivery.TheVariants.{DirectUnique, Broadcast}
 use Rattle.nbt_dgram.specs.declared.msg_type.Lookup.{Lookup}
 use Rattle.nbt_dgram.specs.declared.dgram.Names.{Names}
 use Rattle.nbt_dgram.specs.declared.joined.Dropped.{Dropped}

@@ -1,5 +1,5 @@
 -- What the joiner's private functions do to a slot, and to the slots.
-use Rattle.std.specs.Prelude.{◌≡◌, ℕ, ◌<◌, ◌≤◌, List, length, slice_set, slice_get, Option, Some, None}
+use Rattle.std.specs.Prelude.{◌≡◌, ℕ, ◌<◌, List, length, slice_set, slice_get, Option, Some, None}
 use Rattle.std.specs.List.{position}
 use Rattle.nbt_dgram.specs.declared.dgram.Names.{Names}
 use Rattle.nbt_dgram.specs.declared.slot.Key.{Key}

@@ -1,11 +1,10 @@
 -- Fragments and the data that they make up (our profile, in the sense of RFC 1002 section 5.3.1): a fragment has an
 -- offset, its octets, and is the first, the last, both or neither.
-use Rattle.std.specs.Prelude.{◌≡◌, ℕ, ◌+◌, ◌-◌, ◌<◌, ◌≤◌, Bool, true, false, List, [], ◌∷◌, ◌++◌, length, map, slice_index}
+use Rattle.std.specs.Prelude.{◌≡◌, ℕ, ◌+◌, ◌-◌, ◌<◌, ◌≤◌, true, false, List, [], ◌∷◌, ◌++◌, length, map, slice_index}
 use Rattle.std.specs.List.{Contains}
 use Rattle.nbt_name.specs.declared.addr.Addr.{Addr}
 use Rattle.nbt_dgram.specs.declared.msg_type.Delivery.{Delivery}
 use Rattle.nbt_dgram.specs.declared.dgram.Names.{Names}
-use Rattle.nbt_dgram.specs.declared.dgram.Part.{Part}
 use Rattle.nbt_dgram.specs.declared.dgram.Part.TheVariants.{First, Later}
 use Rattle.nbt_dgram.specs.Dgram.{FragmentValue, fragment, DgramValue}
 use Rattle.nbt_dgram.specs.Text.{offset_of, names_text}

@@ -22,7 +22,19 @@ use nbt_node::Node;
 /// The error's code: destination name not present (RFC 1002 section 4.4.3).
 const NOT_PRESENT: u8 = 0x82;
 
-/// What the octets of one datagram mean for a node.
+/// What the octets of one datagram mean for a node whose datagrams come to `own`.
+///
+/// - `Up` where a datagram for one end or a group (0x10, 0x11) is whole by `Joiner::put`, and the node holds the
+///   destination name at `now`, of either kind.
+/// - `Reply` where one for one end (0x10) is whole, and the node doesn't hold that name: the error packet with its id,
+///   the code 0x82 and `own` as its source stands in `out`, for its SOURCE_IP and SOURCE_PORT. A moment before the
+///   node's last call holds no name.
+/// - `Error` for an error packet (0x13), with its id and its code.
+/// - `Waiting` where other fragments are missing.
+/// - `Nothing` for all else: what can't be read, is dropped, is for a group that isn't held, or has another type. Only
+///   0x10 and 0x11 are put to the joiner.
+///
+/// `out` is empty but for `Reply`. RFC 1002 sections 5.3.3 and 5.3.4, in our profile's choice.
 pub fn accept<'a, const S: usize, const N: usize>(
     joiner: &mut Joiner<S>,
     now: Moment,

@@ -176,6 +176,14 @@ impl Dgram<'_> {
     ghost use Rattle.std.specs.Prelude.{◌≡◌, ◌↔◌, IsTrue};
     ghost use Rattle.nbt_dgram.specs.Dgram.{type_of, body_of, dgram_of};
     ghost use Rattle.nbt_dgram.specs.Text.{Fits};
+    ghost use Rattle.nbt_dgram.specs.Joiner.{IsData};
+
+    /// Whether the datagram has data: whether its type is 0x10 to 0x12.
+    pub fn has_data(&self) -> bool
+        ensures { IsTrue result ↔ IsData (dgram_of self.now) }
+    {
+        matches!(self.body, Body::Fragment(_))
+    }
 
     /// Whether the datagram has a written form: its names and its data, where it has them, are at most 65,535 octets.
     pub fn fits(&self) -> bool

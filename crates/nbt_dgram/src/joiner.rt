@@ -9,7 +9,10 @@ use crate::slots;
 use nbt_lease::Moment;
 use std::marker::Model;
 
-/// The fragments of up to `S` unfinished datagrams.
+/// The fragments of up to `S` unfinished datagrams. A datagram is known by its SOURCE_IP, SOURCE_PORT and DGM_ID.
+///
+/// It takes 8 + 1,584 `S` octets of memory: a slot has the two names, and at most 512 octets of data, each with a mark
+/// whether it is known.
 #[derive(Debug, Drop)]
 pub struct Joiner<const S: usize> {
     /// The moment of the last packet or sweep, in milliseconds.
@@ -33,7 +36,7 @@ impl<const S: usize> Joiner<S> {
     ghost use Rattle.nbt_dgram.specs.Dgram.{dgram_of};
     ghost use Rattle.nbt_dgram.specs.Joiner.{joiner_of, joined_of, IsData, Puts, Sweeps};
 
-    /// A joiner without unfinished datagrams.
+    /// A joiner without unfinished datagrams, whose last moment is 0.
     pub fn new() -> Self
         ensures { result ≡ joiner_of 0 (replicate S None) }
     {
@@ -43,7 +46,21 @@ impl<const S: usize> Joiner<S> {
         }
     }
 
-    /// Puts a datagram with data, or a fragment of one.
+    /// Takes a packet with data: a whole datagram, or a fragment of one. That it has data is the caller's:
+    /// `Dgram::has_data` tests it. In this order:
+    ///
+    /// - `ClockBack` (4) where `now` is before an earlier packet or sweep; nothing changes then. Otherwise each
+    ///   datagram that began more than 2,000 ms before is given up first.
+    /// - A packet with F set and M clear is `Whole` at once, of any length, and touches no slot.
+    /// - `TooLong` (1) where the fragment ends past 512 octets; its datagram's slot is emptied.
+    /// - `Full` (3) where no slot has its datagram, and none is free.
+    /// - `Conflict` (2) where it doesn't agree with the fragments before it: it has another type, other names, another
+    ///   octet at a known place, ends past the known end or, as the last one, elsewhere, or is the last one before a
+    ///   known octet. Its datagram's slot is emptied.
+    /// - `Whole` where the first fragment, the last one and every octet between are known; the slot is then free.
+    ///   Otherwise `Waiting`.
+    ///
+    /// Our profile, after RFC 1002 section 5.3.1.
     pub fn put<'a>(&mut self, now: Moment, dgram: &Dgram<'a>) -> Joined<'a>
         requires { IsData (dgram_of dgram.now) }
         ensures { Puts self.old now (dgram_of dgram.now) (joined_of result) self.new }
@@ -66,7 +83,8 @@ impl<const S: usize> Joiner<S> {
         slots::join(&mut self.slots, now, key, fragment)
     }
 
-    /// Gives up what is too old.
+    /// Gives up each datagram that began more than 2,000 ms before, and returns how many these were; where `now` is
+    /// before an earlier packet or sweep, 0, and nothing changes.
     pub fn sweep(&mut self, now: Moment) -> usize
         ensures { Sweeps self.old now result self.new }
     {

@@ -1,4 +1,4 @@
-use Rattle.std.proofs.Common.{◌≡◌, Option, Some, None, Bool, true, false, sym, ◌∙◌, refl}
+use Rattle.std.proofs.Common.{◌≡◌, Option, Some, None, true, false, sym, ◌∙◌, refl}
 use Rattle.std.specs.Prelude.{is_some}
 use Rattle.nbt_dgram.specs.Accepting.{handed_up, refused, silent}
 use Rattle.nbt_dgram.proofs.accepting.hand_up.Goals as goal

@@ -1,5 +1,3 @@
-use Rattle.std.proofs.Common.{◌≡◌, sym, ◌∙◌, refl, subst}
-use Rattle.nbt_dgram.specs.declared.msg_type.Delivery.TheVariants.{Broadcast}
 use Rattle.nbt_dgram.specs.Joiner.{waiting, dropped, whole, octets_of}
 use Rattle.nbt_dgram.specs.Accepting.{to_all, to_some, unfinished, was_dropped}
 use Rattle.nbt_dgram.proofs.accepting.put_up.Goals as goal

@@ -1,4 +1,4 @@
-use Rattle.std.proofs.Common.{refl, sym, ◌∙◌}
+use Rattle.std.proofs.Common.{refl}
 use Rattle.std.proofs.lemmas.Result.{err_from_is_err_and}
 use Rattle.nbt_dgram.specs.Dgram.{fragment_bad, lookup_bad}
 use Rattle.nbt_dgram.proofs.decoding.body_at.Goals as goal

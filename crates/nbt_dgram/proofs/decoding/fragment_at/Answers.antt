@@ -1,4 +1,4 @@
-use Rattle.std.proofs.Common.{refl, sym, ◌∙◌, arith, ap, subst, ◌≤◌, length, take, ℕ}
+use Rattle.std.proofs.Common.{sym, ◌∙◌, subst, ◌≤◌, length, take, ℕ}
 use Rattle.std.proofs.lemmas.Result.{err_from_is_err_and}
 use Rattle.nbt_dgram.specs.Fields.{end_at}
 use Rattle.nbt_dgram.specs.Dgram.{NamesFault, offset_bad, fragment_cut, names_bad}

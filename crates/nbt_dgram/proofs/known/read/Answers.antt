@@ -1,4 +1,4 @@
-use Rattle.std.proofs.Common.{take, arith}
+use Rattle.std.proofs.Common.{take}
 use Rattle.nbt_dgram.proofs.Marks.{no_gap}
 use Rattle.nbt_dgram.proofs.known.read.Goals as goal
 

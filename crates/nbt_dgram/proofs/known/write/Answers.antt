@@ -1,4 +1,4 @@
-use Rattle.std.proofs.Common.{◌≡◌, ◌<◌, ◌+◌, ℕ, List, Option, length, map, Some, None, sym, ◌∙◌, ap, arith, get_or, slice_set}
+use Rattle.std.proofs.Common.{◌≡◌, length, map, Some, None, arith}
 use Rattle.std.proofs.lemmas.List.{length-map}
 use Rattle.std.proofs.lemmas.List.Edits.{paste_more}
 use Rattle.nbt_dgram.proofs.Marks.{map_at}

@@ -1,4 +1,4 @@
-use Rattle.std.proofs.Common.{◌≡◌, map, Some, length}
+use Rattle.std.proofs.Common.{◌≡◌, map, Some}
 use lib.Seq.{paste}
 use Rattle.nbt_dgram.proofs.known.write.Given as goal
 

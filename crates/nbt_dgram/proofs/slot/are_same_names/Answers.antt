@@ -1,4 +1,4 @@
-use Rattle.std.proofs.Common.{◌≡◌, Option, Some, sym, ◌∙◌, Bool, true, refl, subst, IsTrue, ◌↔◌}
+use Rattle.std.proofs.Common.{◌≡◌, Option, Some, sym, ◌∙◌, Bool, IsTrue, ◌↔◌}
 use Rattle.nbt_dgram.specs.declared.dgram.Names.{Names}
 use Rattle.nbt_dgram.specs.declared.dgram.Part.{Part}
 use Rattle.nbt_dgram.specs.declared.dgram.Part.TheVariants.{First}

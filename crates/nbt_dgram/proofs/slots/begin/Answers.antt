@@ -1,4 +1,4 @@
-use Rattle.std.proofs.Common.{sym, ◌∙◌}
+use Rattle.std.proofs.Common.{sym}
 use Rattle.nbt_dgram.specs.Joining.{no_place, in_place}
 use Rattle.nbt_dgram.proofs.slots.begin.Goals as goal
 

@@ -1,4 +1,4 @@
-use Rattle.std.proofs.Common.{◌≡◌, ◌<◌, ◌≤◌, sym, ◌∙◌, arith}
+use Rattle.std.proofs.Common.{◌<◌, ◌≤◌, sym, arith}
 use Rattle.nbt_dgram.specs.Dgram.{fragment_of}
 use Rattle.nbt_dgram.specs.Pieces.{end_of}
 use Rattle.nbt_dgram.specs.Joiner.{joined_of, too_long}

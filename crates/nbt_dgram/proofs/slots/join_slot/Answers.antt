@@ -1,4 +1,3 @@
-use Rattle.std.proofs.Common.{sym, ◌∙◌}
 use Rattle.nbt_dgram.specs.Joining.{disagrees, unfinished, finished}
 use Rattle.nbt_dgram.proofs.slots.join_slot.Goals as goal
 

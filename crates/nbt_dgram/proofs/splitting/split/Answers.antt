@@ -1,9 +1,9 @@
-use Rattle.std.proofs.Common.{◌≡◌, ℕ, ◌+◌, ◌-◌, ◌<◌, ◌≤◌, List, [], ◌∷◌, length, map, ap, ◌∙◌, arith}
+use Rattle.std.proofs.Common.{◌≡◌, ℕ, ◌+◌, ◌-◌, ◌<◌, ◌≤◌, [], ◌∷◌, length, ap, arith}
 use Rattle.nbt_dgram.specs.declared.dgram.Names.{Names}
 use Rattle.nbt_dgram.specs.declared.dgram.Part.TheVariants.{First}
-use Rattle.nbt_dgram.specs.Dgram.{dgram_of, DgramValue}
+use Rattle.nbt_dgram.specs.Dgram.{DgramValue}
 use Rattle.nbt_dgram.specs.Text.{names_text}
-use Rattle.nbt_dgram.specs.Pieces.{one, front_of, back_of, size_of, packet}
+use Rattle.nbt_dgram.specs.Pieces.{one, size_of}
 use Rattle.nbt_dgram.proofs.Cutting.{one_is_split, cut_is_split}
 use Rattle.nbt_dgram.proofs.splitting.split.Goals as goal
 

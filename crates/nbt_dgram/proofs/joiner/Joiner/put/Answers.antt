@@ -1,4 +1,4 @@
-use Rattle.std.proofs.Common.{◌≡◌, ◌≤◌, sym, ◌∙◌, ap, arith}
+use Rattle.std.proofs.Common.{ap, arith}
 use Rattle.nbt_dgram.specs.Dgram.{fragment_of, body_of}
 use Rattle.nbt_dgram.specs.Joiner.{joined_of, clock_back, alone, joins}
 use Rattle.nbt_dgram.proofs.SlotLists.{all_kept_room}

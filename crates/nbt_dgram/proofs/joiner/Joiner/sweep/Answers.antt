@@ -1,4 +1,4 @@
-use Rattle.std.proofs.Common.{◌≡◌, ◌≤◌, sym, ◌∙◌, ap, arith}
+use Rattle.std.proofs.Common.{arith}
 use Rattle.nbt_dgram.specs.Joiner.{too_early, given_up}
 use Rattle.nbt_dgram.proofs.SlotLists.{all_kept_room}
 use Rattle.nbt_dgram.proofs.joiner.Joiner.sweep.Goals as goal

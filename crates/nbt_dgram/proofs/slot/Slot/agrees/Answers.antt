@@ -1,4 +1,3 @@
-use Rattle.std.proofs.Common.{refl}
 use Rattle.nbt_dgram.specs.Dgram.{fragment_of}
 use Rattle.nbt_dgram.proofs.Agreeing.{agrees_iff}
 use Rattle.nbt_dgram.proofs.slot.Slot.agrees.Goals as goal
