@@ -7,3 +7,5 @@ pub mod Marks
 pub mod Agreeing
 pub mod SlotLists
 pub mod Holding
+pub mod OnePut
+pub mod OneAccept

@@ -1,12 +1,16 @@
 //! What holds of datagrams, whatever the code does: laws over the definitions alone.
 
 ghost use Rattle.std.specs.Prelude.{◌≡◌, ℕ, ◌⊎◌, List, ◌++◌, length};
+ghost use Rattle.nbt_name.specs.declared.addr.Addr.{Addr};
 ghost use Rattle.nbt_name.specs.Wire.{AreOctets};
+ghost use Rattle.nbt_node.specs.Node.{NodeValue};
 ghost use Rattle.nbt_dgram.specs.declared.fault.DgramFault.{DgramFault};
 ghost use Rattle.nbt_dgram.specs.declared.dgram.Names.{Names};
 ghost use Rattle.nbt_dgram.specs.declared.slot.Slot.{Slot};
 ghost use Rattle.nbt_dgram.specs.Dgram.{FragmentValue, DgramValue, DgramIs, FaultIs};
 ghost use Rattle.nbt_dgram.specs.Pieces.{MakesUp};
+ghost use Rattle.nbt_dgram.specs.Joiner.{JoinedValue, JoinerValue, Puts};
+ghost use Rattle.nbt_dgram.specs.Accepting.{AcceptValue, Accepts};
 ghost use Rattle.nbt_dgram.specs.Slot.{IsWhole, Since};
 ghost use Rattle.nbt_dgram.specs.Text.{HoldsNumbers, Fits, text};
 
@@ -39,3 +43,16 @@ pub fn a_slot_is_whole_where_its_fragments_make_up_data()
     ensures made_up { (fragments : List FragmentValue) (s : Slot) (names : Names) (whole : List ℕ) → Since fragments s → IsWhole s names whole → MakesUp fragments whole }
     ensures is_whole { (fragments : List FragmentValue) (s : Slot) (whole : List ℕ) → Since fragments s → MakesUp fragments whole → (names : Names) × IsWhole s names whole }
 {}
+
+/// A packet does one thing to a joiner: what it leads to, and the joiner afterwards, are determined.
+pub fn a_packet_does_one_thing()
+    ensures { (old : JoinerValue) (now : ℕ) (d : DgramValue) (j k : JoinedValue) (x y : JoinerValue) → Puts old now d j x → Puts old now d k y → (j ≡ k) × (x ≡ y) }
+{}
+
+/// Octets mean one thing for a node: what they lead to, what is sent, and the joiner afterwards, are determined.
+pub fn octets_mean_one_thing()
+    ensures { (old : JoinerValue) (now : ℕ) (node : NodeValue) (own : Addr) (octets : List ℕ) → AreOctets octets → (u v : AcceptValue) (o p : List ℕ) (x y : JoinerValue)
+        → Accepts old now node own octets u o x → Accepts old now node own octets v p y → (u ≡ v) × (o ≡ p) × (x ≡ y) }
+{
+    nbt_name::laws::one_name_or_fault();
+}

@@ -1,8 +1,9 @@
 //! Datagrams from outside: the packets of our profile over RFC 1002's layouts, FRED's and TEAM's.
 
 use crate::laws::{
-    a_slot_is_whole_where_its_fragments_make_up_data, fragments_make_up_one_whole,
-    one_datagram_or_fault, written_form_is_read,
+    a_packet_does_one_thing, a_slot_is_whole_where_its_fragments_make_up_data,
+    fragments_make_up_one_whole, octets_mean_one_thing, one_datagram_or_fault,
+    written_form_is_read,
 };
 use crate::{
     Accept, Body, Delivery, Dgram, DgramFault, DgramFaultKind, Dropped, Fragment, Fragments, Full,
@@ -428,6 +429,8 @@ fn a_joiner_takes_1584_octets_a_slot(rt: HostRuntime) -> Result<(), Fail> {
 fn the_laws_are_called() -> Result<(), Fail> {
     one_datagram_or_fault();
     written_form_is_read();
+    a_packet_does_one_thing();
+    octets_mean_one_thing();
     fragments_make_up_one_whole();
     a_slot_is_whole_where_its_fragments_make_up_data();
     Ok(())
