@@ -9,3 +9,4 @@ pub mod SlotLists
 pub mod Holding
 pub mod OnePut
 pub mod OneAccept
+pub mod Fitting

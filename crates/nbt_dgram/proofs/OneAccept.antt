@@ -6,7 +6,7 @@ use Rattle.nbt_name.specs.Wire.{NameValue}
 use Rattle.nbt_node.specs.Node.{NodeValue, holds}
 use Rattle.nbt_dgram.specs.declared.fault.DgramFault.{DgramFault}
 use Rattle.nbt_dgram.specs.declared.msg_type.Delivery.{Delivery}
-use Rattle.nbt_dgram.specs.declared.msg_type.Delivery.TheVariants.{DirectUnique, DirectGroup, Broadcast}
+use Rattle.nbt_dgram.specs.declared.msg_type.Delivery.TheVariants.{DirectUnique, Broadcast}
 use Rattle.nbt_dgram.specs.declared.msg_type.Lookup.{Lookup}
 use Rattle.nbt_dgram.specs.declared.dgram.Names.{Names}
 use Rattle.nbt_dgram.specs.declared.joined.Dropped.{Dropped}

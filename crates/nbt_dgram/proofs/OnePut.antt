@@ -1,14 +1,13 @@
 -- What a packet does to a joiner is determined.
-use Rattle.std.proofs.Common.{◌≡◌, ℕ, ◌+◌, ◌<◌, ◌≤◌, true, false, List, [], ◌∷◌, length, map, take, Option, Some, None, refl, sym, ap, subst, ◌∙◌, arith}
+use Rattle.std.proofs.Common.{◌≡◌, ℕ, ◌<◌, ◌≤◌, true, false, List, [], ◌∷◌, length, map, take, Option, Some, None, refl, sym, ap, subst, ◌∙◌, arith}
 use Rattle.std.specs.Prelude.{slice_set, slice_get}
 use Rattle.std.specs.List.{position}
 use Rattle.nbt_dgram.specs.declared.dgram.Names.{Names}
-use Rattle.nbt_dgram.specs.declared.dgram.Part.{Part}
-use Rattle.nbt_dgram.specs.declared.dgram.Part.TheVariants.{First, Later}
+use Rattle.nbt_dgram.specs.declared.dgram.Part.TheVariants.{First}
 use Rattle.nbt_dgram.specs.declared.joined.Dropped.TheVariants as reasons
 use Rattle.nbt_dgram.specs.declared.slot.Key.{Key}
 use Rattle.nbt_dgram.specs.declared.slot.Slot.{Slot}
-use Rattle.nbt_dgram.specs.Dgram.{FragmentValue, BodyValue, fragment, error, lookup, DgramValue}
+use Rattle.nbt_dgram.specs.Dgram.{FragmentValue, BodyValue, fragment, DgramValue}
 use Rattle.nbt_dgram.specs.Pieces.{end_of}
 use Rattle.nbt_dgram.specs.Slot.{fresh, Agrees, joined, IsWhole}
 use Rattle.nbt_dgram.specs.Joiner.{JoinedValue, whole, waiting, dropped, is_of, is_free, emptied, Joins, too_long, no_room, begins, conflicts, waits, completes, JoinerValue, joiner_of, key_of, kept, Puts, clock_back, alone, joins}

@@ -6,6 +6,7 @@ ghost use Rattle.nbt_name.specs.Reading.{PlainNameAt, PlainFaultAt};
 ghost use Rattle.nbt_dgram.specs.declared.fault.DgramFault.{DgramFault};
 ghost use Rattle.nbt_dgram.specs.Numbers.{fault_within as name_fault, short, bad_offset, head_size};
 ghost use Rattle.nbt_dgram.specs.Fields.{octet_at, word_at, long_at, first_at, more_at, offset_at, end_at, within as counted};
+ghost use Rattle.nbt_dgram.specs.Text.{Fits};
 ghost use Rattle.nbt_dgram.specs.Decoding.{NameFaultAt, IsReadPart};
 ghost use Rattle.nbt_dgram.specs.Dgram.{DgramValue, IsTypeAt, NamesAt, PartAt, FragmentAt, BodyAt, DgramIs, NamesFault, FragmentFault, FaultIs, type_of, fragment_of, body_of, dgram_of, decoded};
 
@@ -34,6 +35,9 @@ pub fn decode(octets: &[u8]) -> Result<(Dgram<'_>, usize), DgramFault>
     ensures dgram { (d : DgramValue) (n : ℕ) → (decoded result ≡ Ok (d, n)) ↔ DgramIs octets.now d n }
     ensures fault { (fault : DgramFault) → (decoded result ≡ Err fault) ↔ FaultIs octets.now fault }
     ensures within { IfOk result (λ read. read.1 ≤ length octets.now) }
+
+    // What was read can be written.
+    ensures fits { IfOk result (λ read. Fits (dgram_of read.0)) }
 {
     nbt_name::laws::one_name_or_fault();
     dgram_at(octets)

@@ -32,6 +32,11 @@ pub fn written_form_is_read()
     nbt_name::laws::wire_form_is_read();
 }
 
+/// What is read can be written: each datagram that octets begin with fits.
+pub fn what_is_read_fits()
+    ensures { (octets : List ℕ) (d : DgramValue) (n : ℕ) → AreOctets octets → DgramIs octets d n → Fits d }
+{}
+
 /// Fragments make up at most one row of data.
 pub fn fragments_make_up_one_whole()
     ensures { (fragments : List FragmentValue) (a b : List ℕ) → MakesUp fragments a → MakesUp fragments b → a ≡ b }

@@ -2,7 +2,7 @@
 
 use crate::laws::{
     a_packet_does_one_thing, a_slot_is_whole_where_its_fragments_make_up_data,
-    fragments_make_up_one_whole, octets_mean_one_thing, one_datagram_or_fault,
+    fragments_make_up_one_whole, octets_mean_one_thing, one_datagram_or_fault, what_is_read_fits,
     written_form_is_read,
 };
 use crate::{
@@ -431,6 +431,7 @@ fn the_laws_are_called() -> Result<(), Fail> {
     written_form_is_read();
     a_packet_does_one_thing();
     octets_mean_one_thing();
+    what_is_read_fits();
     fragments_make_up_one_whole();
     a_slot_is_whole_where_its_fragments_make_up_data();
     Ok(())

@@ -1,3 +1,6 @@
+use Rattle.std.proofs.lemmas.Result.{IfOk-weaker}
+use Rattle.nbt_dgram.specs.Dgram.{dgram_of}
+use Rattle.nbt_dgram.proofs.Fitting.{read_fits}
 use Rattle.std.proofs.Common.{ℕ, List, arith}
 use Rattle.nbt_name.specs.declared.form.Form.TheVariants.{Plain}
 use Rattle.nbt_name.specs.Wire.{AreOctets}
@@ -24,3 +27,6 @@ returns-clause-dgram c = dgram_iff c.args.octets.now (laws c) c.dgram_at.result 
 
 pub returns-clause-fault : goal.returns-clause-fault
 returns-clause-fault c = fault_iff c.args.octets.now (laws c) c.dgram_at.result c.dgram_at.ensures.dgram c.dgram_at.ensures.fault
+
+pub returns-clause-fits : goal.returns-clause-fits
+returns-clause-fits c = IfOk-weaker c.dgram_at.result _ _ (λ read. read_fits c.args.octets.now (λ k. omega (arith, c.type_inv.octets k)) (dgram_of read.0) read.1) c.dgram_at.ensures.dgram

@@ -1,10 +1,9 @@
-use Rattle.std.proofs.Common.{◌≡◌, ℕ, List, ap}
+use Rattle.std.proofs.Common.{ℕ, List}
 use Rattle.nbt_name.specs.declared.form.Form.TheVariants.{Plain}
 use Rattle.nbt_name.specs.Wire.{AreOctets}
-use Rattle.nbt_dgram.specs.Dgram.{DgramValue}
 use Rattle.nbt_dgram.specs.Fields.{end_at, within}
 use Rattle.nbt_dgram.proofs.OneAccept.{one_accept}
-use Rattle.nbt_dgram.proofs.OneDatagram.{NameLaw, NameLaws, take_fits, one_dgram, one_fault, not_both, dgram_found}
+use Rattle.nbt_dgram.proofs.OneDatagram.{NameLaw, NameLaws, take_fits}
 use Rattle.nbt_dgram.proofs.laws.octets_mean_one_thing.Goals as goal
 
 -- names are determined, on octets
