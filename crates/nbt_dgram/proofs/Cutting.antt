@@ -1,5 +1,5 @@
 -- The packets of split data make up the data.
-use Rattle.std.proofs.Common.{◌≡◌, ℕ, ◌+◌, ◌-◌, ◌<◌, ◌≤◌, List, [], ◌∷◌, ◌++◌, length, take, drop, refl, sym, ap, subst, ◌∙◌, arith, inl, inr}
+use Rattle.std.proofs.Common.{◌≡◌, ℕ, ◌+◌, ◌-◌, ◌<◌, ◌≤◌, List, [], ◌∷◌, ◌++◌, length, take, drop, refl, sym, ap, subst, ◌∙◌, arith, inl, inr, false}
 use Rattle.std.specs.Prelude.{◌⊎◌, slice_index}
 use Rattle.std.specs.List.{Contains}
 use Rattle.std.proofs.lemmas.Bool.{cases_lt}
@@ -51,6 +51,11 @@ one_makes_up delivery names payload =
       covered = λ place within. (f, the_first f [], (omega arith, omega arith));
       agrees = λ g member. subst (Agrees payload) (only f g member) agree;
     }
+
+pub alone_makes_up : (f : FragmentValue) (names : Names) → f.part ≡ First names → f.more ≡ false → MakesUp (f ∷ []) f.payload
+alone_makes_up f names part last =
+    let same : one f.delivery names f.payload ≡ f = λ i. record { delivery = f.delivery; part = sym part i; more = sym last i; payload = f.payload } in
+    subst (λ (g : FragmentValue). MakesUp (g ∷ []) f.payload) same (one_makes_up f.delivery names f.payload)
 
 two_make_up : (delivery : Delivery) (names : Names) (front back : List ℕ) → MakesUp (front_of delivery names front ∷ back_of delivery (length front) back ∷ []) (front ++ back)
 unfolding Agrees

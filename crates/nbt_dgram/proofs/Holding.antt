@@ -3,7 +3,7 @@ use Rattle.std.proofs.Common.{◌≡◌, ℕ, ◌+◌, ◌<◌, ◌≤◌, Bool,
 use Rattle.std.specs.Prelude.{◌⊎◌, slice_index}
 use Rattle.std.specs.List.{Contains}
 use Rattle.std.proofs.lemmas.Bool.{cases_lt}
-use Rattle.std.proofs.lemmas.List.{ext_get_or, length-map, length-take-le, length-replicate, get_or-replicate, get_or-take, get_or_past}
+use Rattle.std.proofs.lemmas.List.{ext_get_or, length-map, length-take-le, length-replicate, get_or-take}
 use Rattle.std.proofs.lemmas.List.Elements.{Contains-append_left, Contains-push, Contains-push_cases}
 use Rattle.nbt_dgram.specs.declared.msg_type.Delivery.{Delivery}
 use Rattle.nbt_dgram.specs.declared.dgram.Names.{Names}
@@ -14,7 +14,7 @@ use Rattle.nbt_dgram.specs.declared.slot.Slot.{Slot}
 use Rattle.nbt_dgram.specs.Dgram.{FragmentValue}
 use Rattle.nbt_dgram.specs.Pieces.{begin_of, end_of, Covers, octet_in, MakesUp}
 use Rattle.nbt_dgram.specs.Slot.{nothing, fresh, known_at, Agrees, names_with, joined, IsWhole, Since, begun, one_more}
-use Rattle.nbt_dgram.proofs.Marks.{map_at, written-length, written_before, written_inside, written_behind}
+use Rattle.nbt_dgram.proofs.Marks.{nothing_known, map_at, written-length, written_before, written_inside, written_behind}
 
 -- what a slot says of the fragments that joined it
 record Holds (fragments : List FragmentValue) (s : Slot) : Type 0 where
@@ -32,14 +32,6 @@ record Holds (fragments : List FragmentValue) (s : Slot) : Type 0 where
 
 none_in : {X : Type 0} (x : X) → Contains [] x → ⊥
 none_in x h = omega (arith, h.1)
-
-nothing_known : (place octet : ℕ) → known_at nothing place ≡ Some octet → ⊥
-unfolding nothing
-nothing_known place octet e =
-    elim (cases_lt place 512) [
-      | inl below ↦ (let none : known_at nothing place ≡ None = get_or-replicate {A = Option ℕ} 512 place None None below in cc)
-      | inr above ↦ (let none : known_at nothing place ≡ None = get_or_past nothing place None (omega (arith, length-replicate {A = Option ℕ} 512 None)) in cc)
-    ]
 
 nothing_room : length nothing ≡ 512
 unfolding nothing

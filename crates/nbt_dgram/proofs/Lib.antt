@@ -10,3 +10,4 @@ pub mod Holding
 pub mod OnePut
 pub mod OneAccept
 pub mod Fitting
+pub mod History

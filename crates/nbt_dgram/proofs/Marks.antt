@@ -1,8 +1,9 @@
 -- Lists of octets of which some are known.
-use Rattle.std.proofs.Common.{◌≡◌, ℕ, zero, suc, ◌+◌, ◌-◌, ◌<◌, ◌≤◌, List, [], ◌∷◌, ◌++◌, length, map, take, drop, get_or, Option, Some, None, refl, ap, ◌∙◌, arith}
+use Rattle.std.proofs.Common.{◌≡◌, ℕ, zero, suc, ◌+◌, ◌-◌, ◌<◌, ◌≤◌, List, [], ◌∷◌, ◌++◌, length, map, take, drop, get_or, Option, Some, None, refl, ap, ◌∙◌, arith, inl, inr}
 use Rattle.std.specs.Prelude.{slice_index}
-use Rattle.std.proofs.lemmas.List.{length-append, length-map, length-take-le, length-drop, get_or_append_left, get_or-append_right, get_or-take, get_or-drop}
-use Rattle.nbt_dgram.specs.Slot.{known_at, octets_with}
+use Rattle.std.proofs.lemmas.List.{length-append, length-map, length-take-le, length-drop, length-replicate, get_or_append_left, get_or-append_right, get_or-take, get_or-drop, get_or-replicate, get_or_past}
+use Rattle.std.proofs.lemmas.Bool.{cases_lt}
+use Rattle.nbt_dgram.specs.Slot.{nothing, known_at, octets_with}
 
 pub map_at : (xs : List ℕ) (k : ℕ) → k < length xs → get_or (map Some xs) k None ≡ Some (get_or xs k 0)
 map_at [] k less = absurd (omega arith)
@@ -51,3 +52,13 @@ written_behind begin payload known place fits above =
     get_or-append_right (take begin known) (map Some payload ++ drop (begin + length payload) known) begin place None front (omega arith)
     ∙ get_or-append_right (map Some payload) (drop (begin + length payload) known) (length payload) (place - begin) None marks (omega arith)
     ∙ get_or-drop (begin + length payload) known (place - begin - length payload) None ∙ ap (known_at known) same
+
+-- ---- of a slot that begins, nothing is known
+
+pub nothing_known : (place octet : ℕ) → known_at nothing place ≡ Some octet → ⊥
+unfolding nothing
+nothing_known place octet e =
+    elim (cases_lt place 512) [
+      | inl below ↦ (let none : known_at nothing place ≡ None = get_or-replicate {A = Option ℕ} 512 place None None below in cc)
+      | inr above ↦ (let none : known_at nothing place ≡ None = get_or_past nothing place None (omega (arith, length-replicate {A = Option ℕ} 512 None)) in cc)
+    ]

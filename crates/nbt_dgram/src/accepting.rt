@@ -68,7 +68,8 @@ fn put_up<'a, const S: usize, const N: usize>(
 ) -> Accept<'a>
     requires body { IsData (dgram_of dgram.now) }
     requires empty { out.old.items ≡ [] }
-    ensures { PutsUp joiner.old now node.now own (dgram_of dgram.now) delivery (accept_of result) out.new.items joiner.new }
+    ensures { PutsUp joiner.old now node.now own (dgram_of dgram.now) delivery
+        (accept_of result) out.new.items joiner.new }
 {
     if delivery.is(Delivery::Broadcast) {
         return Accept::Nothing;
@@ -94,7 +95,8 @@ fn hand_up<'a, const N: usize>(
     out: &mut ArrayVec<u8, 576>,
 ) -> Accept<'a>
     requires { out.old.items ≡ [] }
-    ensures { Hands node.now now own (dgram_of dgram.now) delivery (whole names (octets_of payload.entry)) (accept_of result) out.new.items }
+    ensures { Hands node.now now own (dgram_of dgram.now) delivery (whole names (octets_of payload.entry))
+        (accept_of result) out.new.items }
 {
     if node.holds(now, &names.destination).is_some() {
         return Accept::Up(names, payload);

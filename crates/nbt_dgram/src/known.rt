@@ -8,7 +8,8 @@ use arrayvec::ArrayVec;
 /// Whether each octet that is known where the payload would stand is the payload's.
 pub(crate) fn agree(known: &[Option<u8>], begin: usize, payload: &[u8]) -> bool
     requires { begin + length payload.now ≤ length known.now }
-    ensures { IsTrue result ↔ ((k octet : ℕ) → k < length payload.now → known_at known.now (begin + k) ≡ Some octet → octet ≡ slice_index payload.now k) }
+    ensures { IsTrue result ↔ ((k octet : ℕ) → k < length payload.now
+        → known_at known.now (begin + k) ≡ Some octet → octet ≡ slice_index payload.now k) }
 {
     for (k, octet) in payload.iter().enumerate() {
         if !allows(known[begin + k], *octet) {

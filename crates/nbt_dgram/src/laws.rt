@@ -1,25 +1,29 @@
 //! What holds of datagrams, whatever the code does: laws over the definitions alone.
 
-ghost use Rattle.std.specs.Prelude.{◌≡◌, ℕ, ◌⊎◌, List, ◌++◌, length};
+ghost use Rattle.std.specs.Prelude.{◌≡◌, ℕ, ◌⊎◌, List, [], ◌∷◌, ◌++◌, length, replicate, None};
 ghost use Rattle.nbt_name.specs.declared.addr.Addr.{Addr};
 ghost use Rattle.nbt_name.specs.Wire.{AreOctets};
 ghost use Rattle.nbt_node.specs.Node.{NodeValue};
 ghost use Rattle.nbt_dgram.specs.declared.fault.DgramFault.{DgramFault};
 ghost use Rattle.nbt_dgram.specs.declared.dgram.Names.{Names};
 ghost use Rattle.nbt_dgram.specs.declared.slot.Slot.{Slot};
-ghost use Rattle.nbt_dgram.specs.Dgram.{FragmentValue, DgramValue, DgramIs, FaultIs};
+ghost use Rattle.nbt_dgram.specs.Dgram.{FragmentValue, fragment, DgramValue, DgramIs, FaultIs};
 ghost use Rattle.nbt_dgram.specs.Pieces.{MakesUp};
-ghost use Rattle.nbt_dgram.specs.Joiner.{JoinedValue, JoinerValue, Puts};
+ghost use Rattle.nbt_dgram.specs.Joiner.{JoinedValue, whole, JoinerValue, Puts, Sweeps, AreJoined};
 ghost use Rattle.nbt_dgram.specs.Accepting.{AcceptValue, Accepts};
 ghost use Rattle.nbt_dgram.specs.Slot.{IsWhole, Since};
 ghost use Rattle.nbt_dgram.specs.Text.{HoldsNumbers, Fits, text};
 
 /// All octets begin with a datagram or have a fault, only one of the two, and with one value.
 pub fn one_datagram_or_fault()
-    ensures found { (octets : List ℕ) → AreOctets octets → ((d : DgramValue) × (n : ℕ) × DgramIs octets d n) ⊎ ((fault : DgramFault) × FaultIs octets fault) }
-    ensures one_datagram { (octets : List ℕ) (a b : DgramValue) (n m : ℕ) → AreOctets octets → DgramIs octets a n → DgramIs octets b m → (a ≡ b) × (n ≡ m) }
-    ensures one_fault { (octets : List ℕ) (f g : DgramFault) → AreOctets octets → FaultIs octets f → FaultIs octets g → f ≡ g }
-    ensures not_both { (octets : List ℕ) (d : DgramValue) (n : ℕ) (fault : DgramFault) → AreOctets octets → DgramIs octets d n → FaultIs octets fault → ⊥ }
+    ensures found { (octets : List ℕ) → AreOctets octets
+        → ((d : DgramValue) × (n : ℕ) × DgramIs octets d n) ⊎ ((fault : DgramFault) × FaultIs octets fault) }
+    ensures one_datagram { (octets : List ℕ) (a b : DgramValue) (n m : ℕ) → AreOctets octets
+        → DgramIs octets a n → DgramIs octets b m → (a ≡ b) × (n ≡ m) }
+    ensures one_fault { (octets : List ℕ) (f g : DgramFault) → AreOctets octets
+        → FaultIs octets f → FaultIs octets g → f ≡ g }
+    ensures not_both { (octets : List ℕ) (d : DgramValue) (n : ℕ) (fault : DgramFault) → AreOctets octets
+        → DgramIs octets d n → FaultIs octets fault → ⊥ }
 {
     nbt_name::laws::one_name_or_fault();
 }
@@ -27,7 +31,8 @@ pub fn one_datagram_or_fault()
 /// The written form of each datagram that fits, followed by any octets, is read as that datagram, and takes its own
 /// length.
 pub fn written_form_is_read()
-    ensures { (d : DgramValue) (rest : List ℕ) → HoldsNumbers d → Fits d → DgramIs (text d ++ rest) d (length (text d)) }
+    ensures { (d : DgramValue) (rest : List ℕ) → HoldsNumbers d → Fits d
+        → DgramIs (text d ++ rest) d (length (text d)) }
 {
     nbt_name::laws::wire_form_is_read();
 }
@@ -45,19 +50,37 @@ pub fn fragments_make_up_one_whole()
 /// What a joiner knows of a datagram is whole exactly where the fragments that joined since it began make up data; and
 /// it is these data.
 pub fn a_slot_is_whole_where_its_fragments_make_up_data()
-    ensures made_up { (fragments : List FragmentValue) (s : Slot) (names : Names) (whole : List ℕ) → Since fragments s → IsWhole s names whole → MakesUp fragments whole }
-    ensures is_whole { (fragments : List FragmentValue) (s : Slot) (whole : List ℕ) → Since fragments s → MakesUp fragments whole → (names : Names) × IsWhole s names whole }
+    ensures made_up { (fragments : List FragmentValue) (s : Slot) (names : Names) (payload : List ℕ) → Since fragments s
+        → IsWhole s names payload → MakesUp fragments payload }
+    ensures is_whole { (fragments : List FragmentValue) (s : Slot) (payload : List ℕ) → Since fragments s
+        → MakesUp fragments payload → (names : Names) × IsWhole s names payload }
+{}
+
+/// All that a joiner knows, fragments have said that joined since the datagram began; so what is handed up is the
+/// packet's own, or what such fragments make up with it.
+pub fn a_joiner_hands_up_what_fragments_make_up()
+    ensures begins { (count : ℕ) → AreJoined (replicate count None) }
+    ensures put { (old new : JoinerValue) (now : ℕ) (d : DgramValue) (j : JoinedValue) → AreJoined old.slots
+        → Puts old now d j new → AreJoined new.slots }
+    ensures swept { (old new : JoinerValue) (now count : ℕ) → AreJoined old.slots
+        → Sweeps old now count new → AreJoined new.slots }
+    ensures handed_up { (old new : JoinerValue) (now : ℕ) (d : DgramValue) (f : FragmentValue) (names : Names)
+        (payload : List ℕ) → AreJoined old.slots → d.body ≡ fragment f → Puts old now d (whole names payload) new
+        → (fragments : List FragmentValue) × MakesUp (fragments ++ f ∷ []) payload }
 {}
 
 /// A packet does one thing to a joiner: what it leads to, and the joiner afterwards, are determined.
 pub fn a_packet_does_one_thing()
-    ensures { (old : JoinerValue) (now : ℕ) (d : DgramValue) (j k : JoinedValue) (x y : JoinerValue) → Puts old now d j x → Puts old now d k y → (j ≡ k) × (x ≡ y) }
+    ensures { (old : JoinerValue) (now : ℕ) (d : DgramValue) (j k : JoinedValue) (x y : JoinerValue)
+        → Puts old now d j x → Puts old now d k y → (j ≡ k) × (x ≡ y) }
 {}
 
 /// Octets mean one thing for a node: what they lead to, what is sent, and the joiner afterwards, are determined.
 pub fn octets_mean_one_thing()
-    ensures { (old : JoinerValue) (now : ℕ) (node : NodeValue) (own : Addr) (octets : List ℕ) → AreOctets octets → (u v : AcceptValue) (o p : List ℕ) (x y : JoinerValue)
-        → Accepts old now node own octets u o x → Accepts old now node own octets v p y → (u ≡ v) × (o ≡ p) × (x ≡ y) }
+    ensures { (old : JoinerValue) (now : ℕ) (node : NodeValue) (own : Addr) (octets : List ℕ) → AreOctets octets
+        → (u v : AcceptValue) (o p : List ℕ) (x y : JoinerValue)
+        → Accepts old now node own octets u o x → Accepts old now node own octets v p y
+        → (u ≡ v) × (o ≡ p) × (x ≡ y) }
 {
     nbt_name::laws::one_name_or_fault();
 }

@@ -122,7 +122,8 @@ fn are_equal(a: &Names, b: &Names) -> bool
 
 /// Whether a fragment doesn't pass the known end, and is the last one only at that end.
 fn is_same_end(known: Option<usize>, end: usize, more: bool) -> bool
-    ensures { IsTrue result ↔ ((known_end : ℕ) → known ≡ Some known_end → (end ≤ known_end) × (more ≡ false → end ≡ known_end)) }
+    ensures { IsTrue result ↔ ((known_end : ℕ) → known ≡ Some known_end
+        → (end ≤ known_end) × (more ≡ false → end ≡ known_end)) }
 {
     match known {
         Some(known) if more => end <= known,

@@ -109,7 +109,7 @@ fn join_at(slots: &mut [Option<Slot>], place: usize, fragment: &Fragment<'_>) ->
 {
     match &mut slots[place] {
         Some(slot) => join_slot(slot, fragment),
-        None => Joined::Waiting,
+        None => unreachable!(),
     }
 }
 

@@ -32,7 +32,8 @@ pub fn split<'a>(
     payload: &'a [u8],
 ) -> Result<Fragments<'a>, TooLong>
     ensures long { IsErr result ↔ (512 < length payload.now) }
-    ensures split { IfOk result (λ packets. IsSplit delivery id own (record { source = source.now; destination = destination.now }) payload.now (map dgram_of packets.items)) }
+    ensures split { IfOk result (λ packets. IsSplit delivery id own
+        (record { source = source.now; destination = destination.now }) payload.now (map dgram_of packets.items)) }
 {
     if payload.len() > DATA_MOST {
         return Err(TooLong);
@@ -61,7 +62,8 @@ fn packet<'a>(
     more: bool,
     payload: &'a [u8],
 ) -> Dgram<'a>
-    ensures { dgram_of result ≡ of_fragment id own (record { delivery = delivery; part = part; more = more; payload = payload.now }) }
+    ensures { dgram_of result
+        ≡ of_fragment id own (record { delivery = delivery; part = part; more = more; payload = payload.now }) }
 {
     let fragment = Fragment {
         delivery,

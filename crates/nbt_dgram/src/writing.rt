@@ -45,7 +45,8 @@ pub fn encode(dgram: &Dgram<'_>, out: &mut ArrayVec<u8, 576>) -> Result<(), Full
 
 /// The ten octets that each datagram begins with (RFC 1002 section 4.4.1).
 fn put_head(out: &mut ArrayVec<u8, 576>, dgram: &Dgram<'_>)
-    ensures { out.new.items ≡ spec.head (type_of (body_of dgram.now.body)) (flags_of (body_of dgram.now.body)) dgram.now.id dgram.now.source }
+    ensures { out.new.items ≡ spec.head (type_of (body_of dgram.now.body)) (flags_of (body_of dgram.now.body))
+        dgram.now.id dgram.now.source }
 {
     out.clear();
     out.push(dgram.msg_type().number());
