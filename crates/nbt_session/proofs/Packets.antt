@@ -1,0 +1,126 @@
+-- No packet's text begins another.
+use Rattle.std.proofs.Common.{◌≡◌, ℕ, ◌+◌, ◌*◌, ◌/◌, ◌%◌, ◌<◌, ◌≤◌, ◌^◌, List, [], ◌∷◌, ◌++◌, length, take, drop, refl, sym, ap, ◌∙◌, arith}
+use Rattle.std.proofs.lemmas.List.{length-append, take_at, drop_at}
+use Rattle.byteorder.specs.Endian.{big_bytes, big_number}
+use Rattle.byteorder.specs.Numbers.{big_number-reads_back}
+use Rattle.nbt_name.specs.declared.addr.Addr.{Addr}
+use Rattle.nbt_name.specs.declared.fault.NameFault.{NameFault}
+use Rattle.nbt_name.specs.Wire.{NameValue, IsName, letters, wire}
+use Rattle.nbt_name.specs.Reading.{PlainNameAt, PlainFaultAt}
+use Rattle.nbt_session.specs.declared.packet.PacketType.{PacketType}
+use Rattle.nbt_session.specs.declared.packet.PacketType.TheVariants.{Message, Request, Positive, Negative, Retarget, KeepAlive}
+use Rattle.nbt_session.specs.Packet.{PacketValue, message, request, positive, negative, retarget, keep_alive, octet_of, most, HasLength, framed, type_of, body_of, text, IsPacket}
+
+-- the laws of names that are used
+pub record NameLaws : Type 0 where
+  pub apart : (a b : NameValue) (x y : List ℕ) → IsName a → IsName b → wire a ++ x ≡ wire b ++ y → (a ≡ b) × (x ≡ y)
+  pub wire_is : (name : NameValue) (front rest : List ℕ) → IsName name → PlainNameAt (front ++ wire name ++ rest) (length front) name (length front + length (wire name))
+
+-- fronts of one length
+pub split_front : (us vs x y : List ℕ) → length us ≡ length vs → us ++ x ≡ vs ++ y → (us ≡ vs) × (x ≡ y)
+split_front us vs x y n e =
+    (sym (take_at us x (length us) refl) ∙ ap (take (length us)) e ∙ take_at vs y (length us) (sym n), sym (drop_at us x (length us) refl) ∙ ap (drop (length us)) e ∙ drop_at vs y (length us) (sym n))
+
+length-letters : (os : List ℕ) → length (letters os) ≡ 2 * length os
+length-letters [] = refl
+length-letters (o ∷ os) = omega (arith, length-letters os)
+
+pub length-wire : (n : NameValue) → IsName n → length (wire n) ≡ 34 + length n.scope
+length-wire n is = omega (arith, length-append (letters n.octets ++ n.scope) (0 ∷ []), length-append (letters n.octets) n.scope, length-letters n.octets, is.sixteen)
+
+-- no two types have one octet
+pub octet_apart : (a b : PacketType) → octet_of a ≡ octet_of b → a ≡ b
+octet_apart Message Message e = refl
+octet_apart Request Request e = refl
+octet_apart Positive Positive e = refl
+octet_apart Negative Negative e = refl
+octet_apart Retarget Retarget e = refl
+octet_apart KeepAlive KeepAlive e = refl
+octet_apart Message _ e = absurd (omega arith)
+octet_apart Request _ e = absurd (omega arith)
+octet_apart Positive _ e = absurd (omega arith)
+octet_apart Negative _ e = absurd (omega arith)
+octet_apart Retarget _ e = absurd (omega arith)
+octet_apart KeepAlive _ e = absurd (omega arith)
+
+pub most_fits : (kind : PacketType) → most kind ≤ 131071
+most_fits Message = omega arith
+most_fits Request = omega arith
+most_fits Positive = omega arith
+most_fits Negative = omega arith
+most_fits Retarget = omega arith
+most_fits KeepAlive = omega arith
+
+-- a packet's octets are as many as its type has
+pub body_fits : (p : PacketValue) → IsPacket p → HasLength (type_of p) (length (body_of p))
+body_fits (message octets) is = (omega arith, is.0)
+body_fits (request called calling) is =
+    let total = length-append (wire called) (wire calling) in
+    let a = length-wire called is.0 in
+    let b = length-wire calling is.1 in
+    (omega (arith, total, a, b), omega (arith, total, a, b, is.0.fits, is.1.fits))
+body_fits positive is = (omega arith, omega arith)
+body_fits (negative code) is = (omega arith, omega arith)
+body_fits (retarget to) is = (omega arith, omega arith)
+body_fits keep_alive is = (omega arith, omega arith)
+
+same_addr : (a b : Addr) → a.ip ≡ b.ip → a.port ≡ b.port → a ≡ b
+same_addr a b p q = λ i. record { ip = p i; port = q i }
+
+retarget_apart : (a b : Addr) → a.ip < 2 ^ 32 → a.port < 2 ^ 16 → b.ip < 2 ^ 32 → b.port < 2 ^ 16 → big_bytes 4 a.ip ++ big_bytes 2 a.port ≡ big_bytes 4 b.ip ++ big_bytes 2 b.port → a ≡ b
+retarget_apart a b ai ap' bi bp e =
+    let parts = split_front (big_bytes 4 a.ip) (big_bytes 4 b.ip) (big_bytes 2 a.port) (big_bytes 2 b.port) refl e in
+    same_addr a b
+    (sym (big_number-reads_back 4 a.ip [] ai) ∙ ap (λ (xs : List ℕ). big_number 4 (xs ++ [])) parts.0 ∙ big_number-reads_back 4 b.ip [] bi)
+    (sym (big_number-reads_back 2 a.port [] ap') ∙ ap (λ (xs : List ℕ). big_number 2 (xs ++ [])) parts.1 ∙ big_number-reads_back 2 b.port [] bp)
+
+requests_apart : NameLaws → (a b c d : NameValue) → IsName a → IsName b → IsName c → IsName d → wire a ++ wire b ≡ wire c ++ wire d → request a b ≡ request c d
+requests_apart names a b c d is_a is_b is_c is_d e =
+    let firsts = names.apart a c (wire b) (wire d) is_a is_c e in
+    let seconds = names.apart b d [] [] is_b is_d (ap (λ (xs : List ℕ). xs ++ []) firsts.1) in
+    let one : a ≡ c = firsts.0 in
+    let other : b ≡ d = seconds.0 in
+    cc
+
+-- a packet is its type and its octets
+packet_by : NameLaws → (p q : PacketValue) → IsPacket p → IsPacket q → type_of p ≡ type_of q → body_of p ≡ body_of q → p ≡ q
+packet_by names (message xs) (message ys) is_p is_q t e = ap message e
+packet_by names (request a b) (request c d) is_p is_q t e = requests_apart names a b c d is_p.0 is_p.1 is_q.0 is_q.1 e
+packet_by names positive positive is_p is_q t e = refl
+packet_by names (negative a) (negative b) is_p is_q t e = cc
+packet_by names (retarget a) (retarget b) is_p is_q t e = ap retarget (retarget_apart a b is_p.0 is_p.1 is_q.0 is_q.1 e)
+packet_by names keep_alive keep_alive is_p is_q t e = refl
+packet_by names (message xs) _ is_p is_q t e = cc
+packet_by names (request a b) _ is_p is_q t e = cc
+packet_by names positive _ is_p is_q t e = cc
+packet_by names (negative a) _ is_p is_q t e = cc
+packet_by names (retarget a) _ is_p is_q t e = cc
+packet_by names keep_alive _ is_p is_q t e = cc
+
+-- Framed octets in front of others: their type and their length are the same, and so are the octets.
+pub record SameFrame (a b : PacketType) (us vs x y : List ℕ) : Type 0 where
+  pub kind : a ≡ b
+  pub body : us ≡ vs
+  pub rest : x ≡ y
+
+pub frame_apart : (a b : PacketType) (us vs x y : List ℕ) → length us ≤ 131071 → length vs ≤ 131071 → framed a us ++ x ≡ framed b vs ++ y → SameFrame a b us vs x y
+frame_apart a b us vs x y fits_u fits_v e =
+    let octet : octet_of a ≡ octet_of b = cc in
+    let flags : length us / 65536 ≡ length vs / 65536 = cc in
+    let high : length us / 256 % 256 ≡ length vs / 256 % 256 = cc in
+    let low : length us % 256 ≡ length vs % 256 = cc in
+    let tails : us ++ x ≡ vs ++ y = cc in
+    let parts = split_front us vs x y (same_count (length us) (length vs) fits_u fits_v flags high low) tails in
+    record { kind = octet_apart a b octet; body = parts.0; rest = parts.1 }
+  where
+    same_count : (n m : ℕ) → n ≤ 131071 → m ≤ 131071 → n / 65536 ≡ m / 65536 → n / 256 % 256 ≡ m / 256 % 256 → n % 256 ≡ m % 256 → n ≡ m
+    same_count n m a b p q r = omega arith
+
+pub body_short : (p : PacketValue) → IsPacket p → length (body_of p) ≤ 131071
+body_short p is = omega (arith, (body_fits p is).1, most_fits (type_of p))
+
+-- no text begins another
+pub text_apart : NameLaws → (p q : PacketValue) (x y : List ℕ) → IsPacket p → IsPacket q → text p ++ x ≡ text q ++ y → (p ≡ q) × (x ≡ y)
+text_apart names p q x y is_p is_q e =
+    let same = frame_apart (type_of p) (type_of q) (body_of p) (body_of q) x y (body_short p is_p) (body_short q is_q) e in
+    (packet_by names p q is_p is_q same.kind same.body, same.rest)

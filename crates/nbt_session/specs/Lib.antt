@@ -1,0 +1,4 @@
+pub mod Numbers
+pub mod Packet
+pub mod Stream
+pub mod Taking

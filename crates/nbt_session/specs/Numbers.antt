@@ -1,0 +1,22 @@
+-- The numbers of faults and refusals (our profile).
+use Rattle.std.specs.Prelude.{ℕ}
+use Rattle.nbt_session.specs.declared.fault.FaultKind.{FaultKind}
+use Rattle.nbt_session.specs.declared.fault.FaultKind.TheVariants.{BadType, BadFlags, BadLength, BadName}
+use Rattle.nbt_session.specs.declared.fault.StreamFault.{StreamFault}
+use Rattle.nbt_session.specs.declared.fault.StreamFault.TheVariants as streams
+use Rattle.nbt_session.specs.declared.fault.EncodeFault.{EncodeFault}
+use Rattle.nbt_session.specs.declared.fault.EncodeFault.TheVariants as encodes
+
+abbrev pub kind_number : FaultKind → ℕ
+kind_number BadType = 1
+kind_number BadFlags = 2
+kind_number BadLength = 3
+kind_number BadName = 4
+
+abbrev pub stream_fault_number : StreamFault → ℕ
+stream_fault_number (streams.Malformed fault) = kind_number fault.kind
+stream_fault_number streams.OutOfMemory = 5
+
+abbrev pub encode_fault_number : EncodeFault → ℕ
+encode_fault_number encodes.TooLong = 1
+encode_fault_number encodes.OutOfMemory = 2

@@ -1,0 +1,54 @@
+//! What holds of session packets and streams, whatever the code does: laws over the definitions alone.
+
+ghost use Rattle.std.specs.Prelude.{◌≡◌, ℕ, List, ◌++◌, [], Ok, Err};
+ghost use Rattle.nbt_session.specs.declared.fault.Fault.{Fault};
+ghost use Rattle.nbt_session.specs.declared.fault.StreamFault.TheVariants.{Malformed, OutOfMemory};
+ghost use Rattle.nbt_session.specs.Packet.{PacketValue, IsPacket, text};
+ghost use Rattle.nbt_session.specs.Stream.{Begins, StreamIs, HasFault};
+ghost use Rattle.nbt_session.specs.Taking.{StreamState, holding, Takes, Taken, Run};
+
+/// Each packet's text, whatever follows it, begins with that packet and with no other, and has no fault
+/// (RFC 1002 section 4.3).
+pub fn text_is_read()
+    ensures read { (packet : PacketValue) (rest : List ℕ) → IsPacket packet → Begins (text packet ++ rest) packet rest }
+    ensures one_packet { (octets : List ℕ) (a b : PacketValue) (x y : List ℕ) → Begins octets a x → Begins octets b y → (a ≡ b) × (x ≡ y) }
+    ensures no_fault { (octets : List ℕ) (packet : PacketValue) (rest : List ℕ) (fault : Fault) → Begins octets packet rest → HasFault octets fault → ⊥ }
+{
+    nbt_name::laws::no_wire_form_begins_another();
+    nbt_name::laws::wire_form_is_read();
+    nbt_name::laws::one_name_or_fault();
+}
+
+/// Octets have one fault at most, and keep it, whatever comes behind them.
+pub fn one_fault()
+    ensures one { (octets : List ℕ) (a b : Fault) → HasFault octets a → HasFault octets b → a ≡ b }
+    ensures stays { (octets more : List ℕ) (fault : Fault) → HasFault octets fault → HasFault (octets ++ more) fault }
+{
+    nbt_name::laws::one_name_or_fault();
+}
+
+/// Octets are packets and a rest in one way.
+pub fn one_stream()
+    ensures { (octets : List ℕ) (a b : List PacketValue) (x y : List ℕ) → StreamIs octets a x → StreamIs octets b y → (a ≡ b) × (x ≡ y) }
+{
+    text_is_read();
+}
+
+/// However a stream of octets is cut into pieces, the packets that are answered and the octets that are held are those
+/// of the octets taken; and a fault is answered where those octets and the piece go on with one.
+pub fn cutting_changes_nothing()
+    ensures packets { (octets : List ℕ) (packets : List PacketValue) (rest : List ℕ) → Run (holding []) octets packets (holding rest) → StreamIs octets packets rest }
+    ensures fault { (octets piece : List ℕ) (packets : List PacketValue) (rest : List ℕ) (fault : Fault) (after : StreamState) → Run (holding []) octets packets (holding rest)
+        → Takes piece (holding rest) (Err (Malformed fault)) after → StreamIs (octets ++ piece) packets (rest ++ piece) × HasFault (rest ++ piece) fault }
+{
+    text_is_read();
+}
+
+/// A stream that is given a piece has one answer, and is in one state afterwards, unless memory is refused.
+pub fn one_answer()
+    ensures { (piece : List ℕ) (before a b : StreamState) (x y : Taken) → Takes piece before x a → Takes piece before y b
+        → (x ≡ Err OutOfMemory → ⊥) → (y ≡ Err OutOfMemory → ⊥) → (x ≡ y) × (a ≡ b) }
+{
+    text_is_read();
+    one_fault();
+}
