@@ -7,9 +7,9 @@ use Rattle.nbt_name.specs.Reading.{PlainNameAt, PlainFaultAt}
 use Rattle.nbt_session.specs.declared.fault.Fault.{Fault}
 use Rattle.nbt_session.specs.declared.packet.PacketType.{PacketType}
 use Rattle.nbt_session.specs.declared.packet.PacketType.TheVariants.{Message, Request, Positive, Negative, Retarget, KeepAlive}
-use Rattle.nbt_session.specs.Packet.{PacketValue, message, request, positive, negative, retarget, keep_alive, octet_of, HasLength, framed, type_of, body_of, text, IsPacket}
+use Rattle.nbt_session.specs.Packet.{PacketValue, message, request, positive, negative, retarget, keep_alive, octet_of, HasLength, header, framed, type_of, body_of, text, IsPacket}
 use Rattle.nbt_session.specs.Stream.{Begins, name_fault, RequestFault, called_bad, calling_bad, not_filled, count, HasFault, type_bad, flags_bad, length_bad, request_bad}
-use Rattle.nbt_session.proofs.Packets.{NameLaws, octet_apart, body_fits, body_short, frame_apart}
+use Rattle.nbt_session.proofs.Packets.{NameLaws, octet_apart, most_fits, body_fits, body_short, header_apart, frame_apart}
 
 -- a plain name or a fault stands at a place, in one way
 pub record PlainLaws : Type 0 where
@@ -82,19 +82,26 @@ length_is n flags high low le e f g = omega arith
 has_by : (a b : PacketType) (n m : ℕ) → a ≡ b → n ≡ m → HasLength a n → HasLength b m
 has_by a b n m e f has = subst (λ (k : PacketType). HasLength k m) e (subst (λ (k : ℕ). HasLength a k) f has)
 
--- what frames octets has a length that the type has
-frame_has_length : (octets : List ℕ) (kind kind2 : PacketType) (flags high low : ℕ) (rest body rest2 : List ℕ) → octets ≡ octet_of kind ∷ flags ∷ high ∷ low ∷ rest → octets ≡ framed kind2 body ++ rest2
-    → length body ≤ 131071 → HasLength kind2 (length body) → ¬ HasLength kind (count flags high low) → ⊥
-frame_has_length octets kind kind2 flags high low rest body rest2 e e2 fits has wrong =
+-- behind a header there is no other length
+header_has_length : (octets : List ℕ) (kind kind2 : PacketType) (flags high low : ℕ) (rest : List ℕ) (n : ℕ) (tail : List ℕ) → octets ≡ octet_of kind ∷ flags ∷ high ∷ low ∷ rest → octets ≡ header kind2 n ++ tail
+    → n ≤ 131071 → HasLength kind2 n → ¬ HasLength kind (count flags high low) → ⊥
+header_has_length octets kind kind2 flags high low rest n tail e e2 fits has wrong =
     let octet : octet_of kind2 ≡ octet_of kind = cc in
-    let f : flags ≡ length body / 65536 = cc in
-    let h : high ≡ length body / 256 % 256 = cc in
-    let l : low ≡ length body % 256 = cc in
-    wrong (has_by kind2 kind (length body) (count flags high low) (octet_apart kind2 kind octet) (sym (length_is (length body) flags high low fits f h l)) has)
+    let f : flags ≡ n / 65536 = cc in
+    let h : high ≡ n / 256 % 256 = cc in
+    let l : low ≡ n % 256 = cc in
+    wrong (has_by kind2 kind n (count flags high low) (octet_apart kind2 kind octet) (sym (length_is n flags high low fits f h l)) has)
 
-request_has_length : (octets : List ℕ) (kind : PacketType) (flags high low : ℕ) (rest body rest2 : List ℕ) → octets ≡ octet_of kind ∷ flags ∷ high ∷ low ∷ rest → octets ≡ framed Request body ++ rest2
-    → HasLength Request (length body) → ¬ HasLength kind (count flags high low) → ⊥
-request_has_length octets kind flags high low rest body rest2 e e2 has wrong = frame_has_length octets kind Request flags high low rest body rest2 e e2 (request_length body has) has wrong
+-- a header without what it counts has no fault
+pub sound : (kind : PacketType) (n : ℕ) (tail : List ℕ) (f : Fault) → HasLength kind n → (kind ≡ Request → length tail < n) → HasFault (header kind n ++ tail) f → ⊥
+sound kind n tail _ has short (type_bad t rest e unknown) = unknown kind cc
+sound kind n tail _ has short (flags_bad kind2 flags rest e bits) =
+    let same : flags ≡ n / 65536 = cc in omega (arith, has.1, most_fits kind)
+sound kind n tail _ has short (length_bad kind2 flags high low rest e one wrong) =
+    header_has_length (header kind n ++ tail) kind2 kind flags high low rest n tail e refl (omega (arith, has.1, most_fits kind)) has wrong
+sound kind n tail _ has short (request_bad body rest f e has2 bad) =
+    let same = header_apart kind Request n (length body) tail (body ++ rest) (omega (arith, has.1, most_fits kind)) (request_length body has2) e in
+    omega (arith, short same.kind, same.count, ap length same.tail, length-append body rest)
 
 pub one_fault : PlainLaws → (octets : List ℕ) (f g : Fault) → HasFault octets f → HasFault octets g → f ≡ g
 one_fault laws octets _ _ (type_bad t rest e unknown) (type_bad t2 rest2 e2 unknown2) = refl
@@ -111,11 +118,11 @@ one_fault laws octets _ _ (length_bad kind flags high low rest e one wrong) (typ
 one_fault laws octets _ _ (length_bad kind2 flags2 high low rest2 e2 one wrong) (flags_bad kind flags rest e bits) =
     let same : flags ≡ flags2 = cc in absurd (omega arith)
 one_fault laws octets _ _ (length_bad kind flags high low rest e one wrong) (length_bad kind2 flags2 high2 low2 rest2 e2 one2 wrong2) = refl
-one_fault laws octets _ _ (length_bad kind flags high low rest e one wrong) (request_bad body rest2 f e2 has bad) = absurd (request_has_length octets kind flags high low rest body rest2 e e2 has wrong)
+one_fault laws octets _ _ (length_bad kind flags high low rest e one wrong) (request_bad body rest2 f e2 has bad) = absurd (header_has_length octets kind Request flags high low rest (length body) (body ++ rest2) e e2 (request_length body has) has wrong)
 one_fault laws octets _ _ (request_bad body rest2 f e2 has bad) (type_bad t rest e unknown) = absurd (unknown Request cc)
 one_fault laws octets _ _ (request_bad body rest2 f e2 has bad) (flags_bad kind flags rest e bits) =
     let same : flags ≡ length body / 65536 = cc in absurd (omega (arith, short_of (length body) has.1))
-one_fault laws octets _ _ (request_bad body rest2 f e2 has bad) (length_bad kind flags high low rest e one wrong) = absurd (request_has_length octets kind flags high low rest body rest2 e e2 has wrong)
+one_fault laws octets _ _ (request_bad body rest2 f e2 has bad) (length_bad kind flags high low rest e one wrong) = absurd (header_has_length octets kind Request flags high low rest (length body) (body ++ rest2) e e2 (request_length body has) has wrong)
 one_fault laws octets _ _ (request_bad body rest f e has bad) (request_bad body2 rest2 g e2 has2 bad2) =
     let same = frame_apart Request Request body body2 rest rest2 (request_length body has) (request_length body2 has2) (sym e ∙ e2) in
     one_request_fault laws body2 f g (subst (λ (xs : List ℕ). RequestFault xs f) same.body bad) bad2
@@ -134,7 +141,7 @@ no_fault names laws octets p rest _ (is, e) (type_bad t rest2 e2 unknown) = unkn
 no_fault names laws octets p rest _ (is, e) (flags_bad kind flags rest2 e2 bits) =
     let same : flags ≡ length (body_of p) / 65536 = cc in omega (arith, body_short p is)
 no_fault names laws octets p rest _ (is, e) (length_bad kind flags high low rest2 e2 one wrong) =
-    frame_has_length octets kind (type_of p) flags high low rest2 (body_of p) rest e2 e (body_short p is) (body_fits p is) wrong
+    header_has_length octets kind (type_of p) flags high low rest2 (length (body_of p)) (body_of p ++ rest) e2 e (body_short p is) (body_fits p is) wrong
 no_fault names laws octets p rest _ (is, e) (request_bad body rest2 f e2 has bad) =
     let same = frame_apart (type_of p) Request (body_of p) body rest rest2 (body_short p is) (request_length body has) (sym e ∙ e2) in
     is_request names laws p body f is same.kind same.body bad

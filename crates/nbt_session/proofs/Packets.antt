@@ -9,7 +9,7 @@ use Rattle.nbt_name.specs.Wire.{NameValue, IsName, letters, wire}
 use Rattle.nbt_name.specs.Reading.{PlainNameAt, PlainFaultAt}
 use Rattle.nbt_session.specs.declared.packet.PacketType.{PacketType}
 use Rattle.nbt_session.specs.declared.packet.PacketType.TheVariants.{Message, Request, Positive, Negative, Retarget, KeepAlive}
-use Rattle.nbt_session.specs.Packet.{PacketValue, message, request, positive, negative, retarget, keep_alive, octet_of, most, HasLength, framed, type_of, body_of, text, IsPacket}
+use Rattle.nbt_session.specs.Packet.{PacketValue, message, request, positive, negative, retarget, keep_alive, octet_of, most, HasLength, header, framed, type_of, body_of, text, IsPacket}
 
 -- the laws of names that are used
 pub record NameLaws : Type 0 where
@@ -97,7 +97,25 @@ packet_by names (negative a) _ is_p is_q t e = cc
 packet_by names (retarget a) _ is_p is_q t e = cc
 packet_by names keep_alive _ is_p is_q t e = cc
 
--- Framed octets in front of others: their type and their length are the same, and so are the octets.
+-- Headers in front of others: their type and their length are the same, and so is what follows.
+pub record SameHeader (a b : PacketType) (n m : ℕ) (x y : List ℕ) : Type 0 where
+  pub kind : a ≡ b
+  pub count : n ≡ m
+  pub tail : x ≡ y
+
+pub header_apart : (a b : PacketType) (n m : ℕ) (x y : List ℕ) → n ≤ 131071 → m ≤ 131071 → header a n ++ x ≡ header b m ++ y → SameHeader a b n m x y
+header_apart a b n m x y fits_n fits_m e =
+    let octet : octet_of a ≡ octet_of b = cc in
+    let flags : n / 65536 ≡ m / 65536 = cc in
+    let high : n / 256 % 256 ≡ m / 256 % 256 = cc in
+    let low : n % 256 ≡ m % 256 = cc in
+    let tails : x ≡ y = cc in
+    record { kind = octet_apart a b octet; count = same_count n m fits_n fits_m flags high low; tail = tails }
+  where
+    same_count : (n m : ℕ) → n ≤ 131071 → m ≤ 131071 → n / 65536 ≡ m / 65536 → n / 256 % 256 ≡ m / 256 % 256 → n % 256 ≡ m % 256 → n ≡ m
+    same_count n m a b p q r = omega arith
+
+-- Framed octets in front of others: their type is the same, and so are the octets.
 pub record SameFrame (a b : PacketType) (us vs x y : List ℕ) : Type 0 where
   pub kind : a ≡ b
   pub body : us ≡ vs
@@ -105,16 +123,9 @@ pub record SameFrame (a b : PacketType) (us vs x y : List ℕ) : Type 0 where
 
 pub frame_apart : (a b : PacketType) (us vs x y : List ℕ) → length us ≤ 131071 → length vs ≤ 131071 → framed a us ++ x ≡ framed b vs ++ y → SameFrame a b us vs x y
 frame_apart a b us vs x y fits_u fits_v e =
-    let octet : octet_of a ≡ octet_of b = cc in
-    let flags : length us / 65536 ≡ length vs / 65536 = cc in
-    let high : length us / 256 % 256 ≡ length vs / 256 % 256 = cc in
-    let low : length us % 256 ≡ length vs % 256 = cc in
-    let tails : us ++ x ≡ vs ++ y = cc in
-    let parts = split_front us vs x y (same_count (length us) (length vs) fits_u fits_v flags high low) tails in
-    record { kind = octet_apart a b octet; body = parts.0; rest = parts.1 }
-  where
-    same_count : (n m : ℕ) → n ≤ 131071 → m ≤ 131071 → n / 65536 ≡ m / 65536 → n / 256 % 256 ≡ m / 256 % 256 → n % 256 ≡ m % 256 → n ≡ m
-    same_count n m a b p q r = omega arith
+    let same = header_apart a b (length us) (length vs) (us ++ x) (vs ++ y) fits_u fits_v e in
+    let parts = split_front us vs x y same.count same.tail in
+    record { kind = same.kind; body = parts.0; rest = parts.1 }
 
 pub body_short : (p : PacketValue) → IsPacket p → length (body_of p) ≤ 131071
 body_short p is = omega (arith, (body_fits p is).1, most_fits (type_of p))

@@ -46,9 +46,13 @@ most KeepAlive = 0
 abbrev pub HasLength : PacketType → ℕ → Type 0
 HasLength kind n = (least kind ≤ n) × (n ≤ most kind)
 
--- TYPE, FLAGS and LENGTH, and as many octets as that says
+-- TYPE, FLAGS and LENGTH
+abbrev pub header : PacketType → ℕ → List ℕ
+header kind n = octet_of kind ∷ n / 65536 ∷ n / 256 % 256 ∷ n % 256 ∷ []
+
+-- a header, and the octets that it counts
 abbrev pub framed : PacketType → List ℕ → List ℕ
-framed kind body = octet_of kind ∷ length body / 65536 ∷ length body / 256 % 256 ∷ length body % 256 ∷ body
+framed kind body = header kind (length body) ++ body
 
 abbrev pub type_of : PacketValue → PacketType
 type_of (message octets) = Message

@@ -2,9 +2,13 @@
 //! listens.
 #![tactic(auto)]
 
+mod body;
 mod fault;
+mod header;
 pub mod laws;
 mod packet;
+mod writing;
 
 pub use fault::{EncodeFault, Fault, FaultKind, StreamFault};
 pub use packet::Packet;
+pub use writing::encode;

@@ -1,6 +1,11 @@
 //! Session packets (RFC 1002 section 4.3), and what their first octet and their length say.
 
+ghost use Rattle.std.specs.Prelude.{◌≡◌, ◌≢◌, IfSome, IfNone};
+
 use nbt_name::{Addr, Name};
+
+/// The most octets of a message: what 17 bits of length can say (RFC 1002 section 4.3.1).
+pub(crate) const MESSAGE_MOST: usize = 0x1FFFF;
 
 /// A packet of a session (RFC 1002 section 4.3.1).
 #[derive(Debug, PartialEq, Eq, Drop)]
@@ -39,4 +44,54 @@ pub enum PacketType {
     Retarget,
     /// 0x85.
     KeepAlive,
+}
+
+impl PacketType {
+    ghost use Rattle.nbt_session.specs.declared.packet.PacketType.{PacketType};
+    ghost use Rattle.nbt_session.specs.Packet.{octet_of, least, most};
+
+    /// The type that an octet says, or nothing where no packet has it.
+    pub(crate) fn of(octet: u8) -> Option<PacketType>
+        ensures found { IfSome result (λ kind. octet_of kind ≡ octet) }
+        ensures none { IfNone result ((kind : PacketType) → octet_of kind ≢ octet) }
+    {
+        match octet {
+            0x00 => Some(PacketType::Message),
+            0x81 => Some(PacketType::Request),
+            0x82 => Some(PacketType::Positive),
+            0x83 => Some(PacketType::Negative),
+            0x84 => Some(PacketType::Retarget),
+            0x85 => Some(PacketType::KeepAlive),
+            _ => None,
+        }
+    }
+
+    /// The octet that says the type.
+    pub(crate) fn octet(self) -> u8
+        ensures { result ≡ octet_of self }
+    {
+        match self {
+            PacketType::Message => 0x00,
+            PacketType::Request => 0x81,
+            PacketType::Positive => 0x82,
+            PacketType::Negative => 0x83,
+            PacketType::Retarget => 0x84,
+            PacketType::KeepAlive => 0x85,
+        }
+    }
+
+    /// The least and the greatest length of the type's packets, without the header's four octets (RFC 1002 sections
+    /// 4.3.2 to 4.3.7). A request has two names of 34 to 255 octets.
+    pub(crate) fn lengths(self) -> (usize, usize)
+        ensures least { result.0 ≡ least self }
+        ensures most { result.1 ≡ most self }
+    {
+        match self {
+            PacketType::Message => (0, MESSAGE_MOST),
+            PacketType::Request => (68, 510),
+            PacketType::Positive | PacketType::KeepAlive => (0, 0),
+            PacketType::Negative => (1, 1),
+            PacketType::Retarget => (6, 6),
+        }
+    }
 }
