@@ -1,3 +1,4 @@
+pub mod Held
 pub mod Numbers
 pub mod Packet
 pub mod Stream

@@ -70,6 +70,17 @@ impl StreamFault {
     }
 }
 
+impl From<Fault> for StreamFault {
+    ghost use Rattle.std.specs.Prelude.{◌≡◌};
+    ghost use Rattle.nbt_session.specs.declared.fault.StreamFault.TheVariants.{Malformed};
+
+    ghost from_gives = { λ fault stream. stream ≡ Malformed fault };
+
+    fn from(fault: Fault) -> StreamFault {
+        StreamFault::Malformed(fault)
+    }
+}
+
 impl From<AllocError> for StreamFault {
     ghost use Rattle.std.specs.Prelude.{◌≡◌};
     ghost use Rattle.nbt_session.specs.declared.fault.StreamFault.TheVariants.{OutOfMemory};

@@ -7,8 +7,10 @@ mod fault;
 mod header;
 pub mod laws;
 mod packet;
+mod stream;
 mod writing;
 
 pub use fault::{EncodeFault, Fault, FaultKind, StreamFault};
 pub use packet::Packet;
+pub use stream::Stream;
 pub use writing::encode;
