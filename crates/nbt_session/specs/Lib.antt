@@ -1,3 +1,5 @@
+pub mod Caller
+pub mod Event
 pub mod Held
 pub mod Numbers
 pub mod Packet

@@ -1,5 +1,7 @@
 -- The numbers of faults and refusals (our profile).
 use Rattle.std.specs.Prelude.{ℕ}
+use Rattle.nbt_session.specs.declared.caller.Failure.{Failure}
+use Rattle.nbt_session.specs.declared.caller.Failure.TheVariants as failures
 use Rattle.nbt_session.specs.declared.fault.FaultKind.{FaultKind}
 use Rattle.nbt_session.specs.declared.fault.FaultKind.TheVariants.{BadType, BadFlags, BadLength, BadName}
 use Rattle.nbt_session.specs.declared.fault.StreamFault.{StreamFault}
@@ -20,3 +22,9 @@ stream_fault_number streams.OutOfMemory = 5
 abbrev pub encode_fault_number : EncodeFault → ℕ
 encode_fault_number encodes.TooLong = 1
 encode_fault_number encodes.OutOfMemory = 2
+
+abbrev pub failure_number : Failure → ℕ
+failure_number failures.NoConnection = 1
+failure_number (failures.Refused code) = 2
+failure_number failures.Protocol = 3
+failure_number failures.TooManyTries = 4

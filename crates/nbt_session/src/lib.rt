@@ -3,6 +3,8 @@
 #![tactic(auto)]
 
 mod body;
+mod caller;
+mod event;
 mod fault;
 mod header;
 pub mod laws;
@@ -10,6 +12,8 @@ mod packet;
 mod stream;
 mod writing;
 
+pub use caller::{Caller, CallerAnswer, Failure};
+pub use event::Event;
 pub use fault::{EncodeFault, Fault, FaultKind, StreamFault};
 pub use packet::Packet;
 pub use stream::Stream;
