@@ -16,7 +16,7 @@ use Rattle.nbt_session.specs.declared.packet.Packet.TheVariants as packets
 use Rattle.nbt_session.specs.declared.packet.PacketType.TheVariants.{Message, KeepAlive}
 use Rattle.nbt_session.specs.Event.{EventValue, event_of, connected, packet, lost}
 use Rattle.nbt_session.specs.Packet.{PacketValue, retarget, type_of, packet_of}
-use Rattle.nbt_session.specs.Caller.{AnswerValue, answer_of, connect, fail, CallerMoves, is_not_connected, is_cut_off, is_not_connected_at_last, is_cut_off_at_last, is_retargeted, is_retargeted_at_last}
+use Rattle.nbt_session.specs.Caller.{AnswerValue, answer_of, connect, fail, CallerMoves, connects, is_not_connected, is_cut_off, is_not_connected_at_last, is_cut_off_at_last, is_spoken_to_unasked, is_taken, is_refused, is_retargeted, is_retargeted_at_last, waits_on, gets_a_message_for_an_answer, gets_a_request_for_an_answer, gets_a_message, stays_alive, ends, gets_what_has_no_place, waits_connected_already, is_open_already, stays_closed, stays_failed}
 
 -- an equal line
 pub moves_by : {called calling : NameValue} {s : CallerState} (e f : EventValue) (t u : CallerState) (a b : AnswerValue) → e ≡ f → t ≡ u → a ≡ b → CallerMoves called calling s f u b → CallerMoves called calling s e t a
@@ -84,3 +84,38 @@ no_keep_alive (packets.Request called calling) none e = cc
 no_keep_alive packets.Positive none e = cc
 no_keep_alive (packets.Negative code) none e = cc
 no_keep_alive (packets.Retarget to) none e = cc
+
+-- ---- one line at a time
+
+pub one_call_move : (called calling : NameValue) (s t u : CallerState) (e : EventValue) (a b : AnswerValue) → CallerMoves called calling s e t a → CallerMoves called calling s e u b → (t ≡ u) × (a ≡ b)
+one_call_move called calling _ _ _ _ _ _ (connects to tries) (connects to2 tries2) = (refl, refl)
+one_call_move called calling _ _ _ _ _ _ (is_not_connected to tries less) (is_not_connected to2 tries2 less2) = (refl, refl)
+one_call_move called calling _ _ _ _ _ _ (is_not_connected to tries less) (is_not_connected_at_last to2) = absurd (omega arith)
+one_call_move called calling _ _ _ _ _ _ (is_not_connected_at_last to) (is_not_connected to2 tries2 less2) = absurd (omega arith)
+one_call_move called calling _ _ _ _ _ _ (is_not_connected_at_last to) (is_not_connected_at_last to2) = (refl, refl)
+one_call_move called calling _ _ _ _ _ _ (is_cut_off to tries less) (is_cut_off to2 tries2 less2) = (refl, refl)
+one_call_move called calling _ _ _ _ _ _ (is_cut_off to tries less) (is_cut_off_at_last to2) = absurd (omega arith)
+one_call_move called calling _ _ _ _ _ _ (is_cut_off_at_last to) (is_cut_off to2 tries2 less2) = absurd (omega arith)
+one_call_move called calling _ _ _ _ _ _ (is_cut_off_at_last to) (is_cut_off_at_last to2) = (refl, refl)
+one_call_move called calling _ _ _ _ _ _ (is_spoken_to_unasked to tries p) (is_spoken_to_unasked to2 tries2 p2) = (refl, refl)
+one_call_move called calling _ _ _ _ _ _ (is_taken to tries) (is_taken to2 tries2) = (refl, refl)
+one_call_move called calling _ _ _ _ _ _ (is_refused to tries code) (is_refused to2 tries2 code2) = (refl, refl)
+one_call_move called calling _ _ _ _ _ _ (is_retargeted to other tries less) (is_retargeted to2 other2 tries2 less2) = (refl, refl)
+one_call_move called calling _ _ _ _ _ _ (is_retargeted to other tries less) (is_retargeted_at_last to2 other2) = absurd (omega arith)
+one_call_move called calling _ _ _ _ _ _ (is_retargeted_at_last to other) (is_retargeted to2 other2 tries2 less2) = absurd (omega arith)
+one_call_move called calling _ _ _ _ _ _ (is_retargeted_at_last to other) (is_retargeted_at_last to2 other2) = (refl, refl)
+one_call_move called calling _ _ _ _ _ _ (waits_on to tries) (waits_on to2 tries2) = (refl, refl)
+one_call_move called calling _ _ _ _ _ _ (gets_a_message_for_an_answer to tries octets) (gets_a_message_for_an_answer to2 tries2 octets2) = (refl, refl)
+one_call_move called calling _ _ _ _ _ _ (gets_a_request_for_an_answer to tries x y) (gets_a_request_for_an_answer to2 tries2 x2 y2) = (refl, refl)
+one_call_move called calling _ _ _ _ _ _ (gets_a_message octets) (gets_a_message octets2) = (refl, refl)
+one_call_move called calling _ _ _ _ _ _ (gets_a_message octets) (gets_what_has_no_place p no_message no_alive) = absurd (no_message refl)
+one_call_move called calling _ _ _ _ _ _ stays_alive stays_alive = (refl, refl)
+one_call_move called calling _ _ _ _ _ _ stays_alive (gets_what_has_no_place p no_message no_alive) = absurd (no_alive refl)
+one_call_move called calling _ _ _ _ _ _ ends ends = (refl, refl)
+one_call_move called calling _ _ _ _ _ _ (gets_what_has_no_place p no_message no_alive) (gets_a_message octets) = absurd (no_message refl)
+one_call_move called calling _ _ _ _ _ _ (gets_what_has_no_place p no_message no_alive) stays_alive = absurd (no_alive refl)
+one_call_move called calling _ _ _ _ _ _ (gets_what_has_no_place p no_message no_alive) (gets_what_has_no_place p2 no_message2 no_alive2) = (refl, refl)
+one_call_move called calling _ _ _ _ _ _ (waits_connected_already to tries) (waits_connected_already to2 tries2) = (refl, refl)
+one_call_move called calling _ _ _ _ _ _ is_open_already is_open_already = (refl, refl)
+one_call_move called calling _ _ _ _ _ _ (stays_closed event) (stays_closed event2) = (refl, refl)
+one_call_move called calling _ _ _ _ _ _ (stays_failed event) (stays_failed event2) = (refl, refl)

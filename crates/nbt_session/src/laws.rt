@@ -1,8 +1,12 @@
 //! What holds of session packets and streams, whatever the code does: laws over the definitions alone.
 
 ghost use Rattle.std.specs.Prelude.{◌≡◌, ℕ, List, ◌++◌, [], Ok, Err};
+ghost use Rattle.nbt_name.specs.Wire.{NameValue};
+ghost use Rattle.nbt_session.specs.declared.caller.CallerState.{CallerState};
 ghost use Rattle.nbt_session.specs.declared.fault.Fault.{Fault};
 ghost use Rattle.nbt_session.specs.declared.fault.StreamFault.TheVariants.{Malformed, OutOfMemory};
+ghost use Rattle.nbt_session.specs.Caller.{AnswerValue, CallerMoves};
+ghost use Rattle.nbt_session.specs.Event.{EventValue};
 ghost use Rattle.nbt_session.specs.Packet.{PacketValue, IsPacket, text};
 ghost use Rattle.nbt_session.specs.Stream.{Begins, StreamIs, HasFault};
 ghost use Rattle.nbt_session.specs.Taking.{StreamState, holding, Takes, Taken, Run};
@@ -52,3 +56,8 @@ pub fn one_answer()
     text_is_read();
     one_fault();
 }
+
+/// What happens to a call has one line of its table: one state afterwards and one answer.
+pub fn one_call_move()
+    ensures { (called calling : NameValue) (before a b : CallerState) (event : EventValue) (x y : AnswerValue) → CallerMoves called calling before event a x → CallerMoves called calling before event b y → (a ≡ b) × (x ≡ y) }
+{}
