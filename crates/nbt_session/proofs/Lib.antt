@@ -1,5 +1,7 @@
+pub mod Answering
 pub mod Calls
 pub mod Cells
+pub mod Entries
 pub mod Faults
 pub mod Joining
 pub mod Packets

@@ -1,0 +1,328 @@
+//! The end that listens (RFC 1001 section 16.1.1, RFC 1002 section 5.3.2).
+
+ghost use Rattle.std.specs.Prelude.{◌≡◌, ◌≢◌, ℕ, ◌<◌, ◌≤◌, ◌↔◌, List, [], ◌∷◌, ◌++◌, length, replicate, Option, is_some, IfSome, IfNone, OnOk, OnErr, IsErr, IsTrue, All, Any};
+ghost use Rattle.std.specs.Bool.{OnTrue, OnFalse};
+ghost use Rattle.nbt_name.specs.declared.addr.Kind.{Kind};
+ghost use Rattle.nbt_name.specs.Wire.{NameValue};
+ghost use Rattle.nbt_session.specs.declared.listener.Entry.{Entry};
+ghost use Rattle.nbt_session.specs.declared.listener.Slot.TheVariants.{Free, Fresh, Open};
+ghost use Rattle.nbt_session.specs.Event.{event_of, packet};
+ghost use Rattle.nbt_session.specs.Listener as spec;
+ghost use Rattle.nbt_session.specs.Listener.{Without, TakesCall, FirstThatTakes, CallMoves, SlotMoves, ListenerMoves, Tells, answer_of, send_and_close};
+ghost use Rattle.nbt_session.specs.Packet.{negative, packet_of};
+
+use crate::event::Event;
+use crate::packet::Packet;
+use arrayvec::ArrayVec;
+use nbt_name::{Addr, Name};
+use std::marker::Model;
+use thiserror::Error;
+
+/// A NEGATIVE SESSION RESPONSE's code: not listening on the called name (RFC 1002 section 4.3.4).
+const NOT_LISTENING: u8 = 0x80;
+/// Not listening for the calling name.
+const NOT_LISTENING_FOR: u8 = 0x81;
+/// The called name isn't present.
+const NOT_PRESENT: u8 = 0x82;
+/// Insufficient resources.
+const INSUFFICIENT: u8 = 0x83;
+/// Unspecified.
+const UNSPECIFIED: u8 = 0x8F;
+
+/// Calls that are taken: to a name, by anybody or by one name; here, or at the address that they are retargeted to.
+#[derive(Debug, PartialEq, Eq, Drop)]
+pub struct Entry {
+    /// The name that is called.
+    pub called: Name,
+    /// The one name that may call, or none where any may.
+    pub calling: Option<Name>,
+    /// Where the call is to be made instead.
+    pub retarget: Option<Addr>,
+}
+
+impl Default for Entry {
+    /// An entry for the name `*`, which no node holds: it takes no call.
+    fn default() -> Entry {
+        Entry {
+            called: Name::any(&[]).unwrap(),
+            calling: None,
+            retarget: None,
+        }
+    }
+}
+
+/// As many entries stand as there is room for.
+#[derive(Clone, Copy, Debug, PartialEq, Eq, Error)]
+#[error("Full")]
+pub struct Full;
+
+/// Where a connection stands.
+#[derive(Clone, Copy, Debug, PartialEq, Eq)]
+pub enum Slot {
+    /// There is none.
+    Free,
+    /// It stands, and no request came.
+    Fresh,
+    /// The call was taken.
+    Open,
+}
+
+/// What the end that listens does next with a connection.
+#[derive(Debug, PartialEq, Eq, Drop)]
+pub enum ListenerAnswer {
+    /// Nothing.
+    Nothing,
+    /// Sends the packet.
+    Send(Packet),
+    /// Sends the packet, and then closes the connection.
+    SendAndClose(Packet),
+    /// Closes the connection.
+    Close,
+    /// Hands up a message's octets.
+    Up(Vec<u8>),
+}
+
+/// A listener of up to `L` entries, over `M` connections. No call of it takes memory.
+#[derive(Debug, Drop)]
+pub struct Listener<const L: usize, const M: usize> {
+    entries: ArrayVec<Entry, L>,
+    slots: [Slot; M],
+    most: usize,
+}
+
+impl<const L: usize, const M: usize> Model for Listener<L, M> {
+    ghost use Rattle.nbt_session.specs.Listener.{ListenerValue};
+
+    ghost Value = { ListenerValue };
+
+    ghost view = { λ l. record { entries = l.entries.items; slots = l.slots; most = l.most } };
+}
+
+impl<const L: usize, const M: usize> Listener<L, M> {
+    /// A listener that takes no calls yet, and of whose connections `most` may be open at a time.
+    pub fn new(most: usize) -> Listener<L, M>
+        requires { most ≤ M }
+        ensures { result ≡ record { entries = []; slots = replicate M Free; most = most } }
+    {
+        Listener {
+            entries: ArrayVec::new(),
+            slots: [Slot::Free; M],
+            most,
+        }
+    }
+
+    /// Takes calls by the entry from now on, where no earlier entry takes them. `Full` where `L` entries stand; nothing
+    /// changes then.
+    pub fn listen(&mut self, entry: Entry) -> Result<(), Full>
+        ensures ok { OnOk result (self.new ≡ record self.old { entries = self.old.entries ++ entry ∷ [] }) }
+        ensures full { IsErr result ↔ (length self.old.entries ≡ L) }
+        ensures err { OnErr result (self.new ≡ self.old) }
+    {
+        if self.entries.is_full() {
+            return Err(Full);
+        }
+        self.entries.push(entry);
+        Ok(())
+    }
+
+    /// Takes away all entries of the name.
+    pub fn unlisten(&mut self, called: &Name)
+        ensures entries { Without called.now self.old.entries self.new.entries }
+        ensures slots { self.new.slots ≡ self.old.slots }
+        ensures most { self.new.most ≡ self.old.most }
+    {
+        without(&mut self.entries, called);
+    }
+
+    /// What is done where something happens to a connection, by a node that holds the called name or doesn't.
+    fn moved(&mut self, held: bool, slot: usize, event: Event) -> ListenerAnswer
+        requires { slot < M }
+        ensures { (holds : NameValue → Option Kind) → Tells holds (event_of event) held → ListenerMoves holds self.old slot (event_of event) self.new (answer_of result) }
+    {
+        let opened = open_count(&self.slots);
+        let (after, answer) = match self.slots[slot] {
+            Slot::Free => on_free(event),
+            Slot::Fresh => on_fresh(self.entries.as_slice(), self.most, opened, held, event),
+            Slot::Open => on_open(event),
+        };
+        self.slots[slot] = after;
+        answer
+    }
+}
+
+/// How many connections are open.
+fn open_count(slots: &[Slot]) -> usize
+    ensures { result ≡ spec.open_count slots.now }
+{
+    slots.iter().filter(|slot| slot.is_open()).count()
+}
+
+impl Slot {
+    ghost use Rattle.nbt_session.specs.Listener.{is_open};
+
+    fn is_open(&self) -> bool
+        ensures { result ≡ is_open self.now }
+    {
+        match self {
+            Slot::Open => true,
+            Slot::Free | Slot::Fresh => false,
+        }
+    }
+}
+
+/// There is no connection.
+fn on_free(event: Event) -> (Slot, ListenerAnswer)
+    ensures { (holds : NameValue → Option Kind) (entries : List Entry) (most opened : ℕ) → SlotMoves holds entries most opened Free (event_of event) result.0 (answer_of result.1) }
+{
+    match event {
+        Event::Connected => (Slot::Fresh, ListenerAnswer::Nothing),
+        Event::Packet(_) => (Slot::Free, ListenerAnswer::Nothing),
+        Event::Lost => (Slot::Free, ListenerAnswer::Nothing),
+    }
+}
+
+/// The connection stands, and no request came.
+fn on_fresh(
+    entries: &[Entry],
+    most: usize,
+    opened: usize,
+    held: bool,
+    event: Event,
+) -> (Slot, ListenerAnswer)
+    ensures { (holds : NameValue → Option Kind) → Tells holds (event_of event) held → SlotMoves holds entries.now most opened Fresh (event_of event) result.0 (answer_of result.1) }
+{
+    match event {
+        Event::Connected => (Slot::Fresh, ListenerAnswer::Nothing),
+        Event::Packet(packet) => on_first(entries, most, opened, held, &packet),
+        Event::Lost => (Slot::Free, ListenerAnswer::Nothing),
+    }
+}
+
+/// The first packet came, or one after keep alives.
+fn on_first(
+    entries: &[Entry],
+    most: usize,
+    opened: usize,
+    held: bool,
+    first: &Packet,
+) -> (Slot, ListenerAnswer)
+    ensures { (holds : NameValue → Option Kind) → Tells holds (packet (packet_of first.now)) held → SlotMoves holds entries.now most opened Fresh (packet (packet_of first.now)) result.0 (answer_of result.1) }
+{
+    match first {
+        Packet::Request { called, calling } => {
+            on_call(entries, most, opened, held, called, calling)
+        }
+        Packet::KeepAlive => (Slot::Fresh, ListenerAnswer::Nothing),
+        _ => refused(UNSPECIFIED),
+    }
+}
+
+/// The session is open.
+fn on_open(event: Event) -> (Slot, ListenerAnswer)
+    ensures { (holds : NameValue → Option Kind) (entries : List Entry) (most opened : ℕ) → SlotMoves holds entries most opened Open (event_of event) result.0 (answer_of result.1) }
+{
+    let packet = match event {
+        Event::Connected => return (Slot::Open, ListenerAnswer::Nothing),
+        Event::Lost => return (Slot::Free, ListenerAnswer::Nothing),
+        Event::Packet(packet) => packet,
+    };
+    match packet {
+        Packet::Message(octets) => (Slot::Open, ListenerAnswer::Up(octets)),
+        Packet::KeepAlive => (Slot::Open, ListenerAnswer::Nothing),
+        _ => (Slot::Free, ListenerAnswer::Close),
+    }
+}
+
+/// A call.
+fn on_call(
+    entries: &[Entry],
+    most: usize,
+    opened: usize,
+    held: bool,
+    called: &Name,
+    calling: &Name,
+) -> (Slot, ListenerAnswer)
+    ensures { (holds : NameValue → Option Kind) → held ≡ is_some (holds called.now) → CallMoves holds entries.now most opened called.now calling.now result.0 (answer_of result.1) }
+{
+    if !held {
+        return refused(NOT_PRESENT);
+    }
+    let Some(entry) = first_that_takes(entries, called, calling) else {
+        if listens_on(entries, called) {
+            return refused(NOT_LISTENING_FOR);
+        }
+        return refused(NOT_LISTENING);
+    };
+    if opened >= most {
+        return refused(INSUFFICIENT);
+    }
+    match entry.retarget {
+        Some(to) => (
+            Slot::Free,
+            ListenerAnswer::SendAndClose(Packet::Retarget(to)),
+        ),
+        None => (Slot::Open, ListenerAnswer::Send(Packet::Positive)),
+    }
+}
+
+fn refused(code: u8) -> (Slot, ListenerAnswer)
+    ensures slot { result.0 ≡ Free }
+    ensures answer { answer_of result.1 ≡ send_and_close (negative code) }
+{
+    (
+        Slot::Free,
+        ListenerAnswer::SendAndClose(Packet::Negative(code)),
+    )
+}
+
+/// The first entry that takes the call.
+fn first_that_takes<'a>(entries: &'a [Entry], called: &Name, calling: &Name) -> Option<&'a Entry>
+    ensures found { IfSome result (λ entry. FirstThatTakes entries.now called.now calling.now entry.now) }
+    ensures none { IfNone result (All (λ e. ¬ TakesCall e called.now calling.now) entries.now) }
+{
+    for entry in entries {
+        if takes(entry, called, calling) {
+            return Some(entry);
+        }
+    }
+    None
+}
+
+/// Whether an entry has the called name.
+fn listens_on(entries: &[Entry], called: &Name) -> bool
+    ensures some { OnTrue result (Any (λ e. e.called ≡ called.now) entries.now) }
+    ensures none { OnFalse result (All (λ e. e.called ≢ called.now) entries.now) }
+{
+    for entry in entries {
+        if is_same(&entry.called, called) {
+            return true;
+        }
+    }
+    false
+}
+
+/// Whether the entry takes the call.
+fn takes(entry: &Entry, called: &Name, calling: &Name) -> bool
+    ensures { IsTrue result ↔ TakesCall entry.now called.now calling.now }
+{
+    if !is_same(&entry.called, called) {
+        return false;
+    }
+    match &entry.calling {
+        Some(one) => is_same(one, calling),
+        None => true,
+    }
+}
+
+/// Takes away all entries of the name.
+fn without<const L: usize>(entries: &mut ArrayVec<Entry, L>, called: &Name)
+    ensures { Without called.now entries.old.items entries.new.items }
+{
+    entries.retain(|entry| !is_same(&entry.called, called));
+}
+
+fn is_same(a: &Name, b: &Name) -> bool
+    ensures { IsTrue result ↔ (a.now ≡ b.now) }
+{
+    a == b
+}
