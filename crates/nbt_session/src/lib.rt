@@ -20,3 +20,6 @@ pub use listener::{Entry, Full, Listener, ListenerAnswer};
 pub use packet::Packet;
 pub use stream::Stream;
 pub use writing::encode;
+
+#[cfg(test)]
+mod tests;
