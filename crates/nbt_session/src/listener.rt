@@ -4,6 +4,7 @@ ghost use Rattle.std.specs.Prelude.{◌≡◌, ◌≢◌, ℕ, ◌<◌, ◌≤�
 ghost use Rattle.std.specs.Bool.{OnTrue, OnFalse};
 ghost use Rattle.nbt_name.specs.declared.addr.Kind.{Kind};
 ghost use Rattle.nbt_name.specs.Wire.{NameValue};
+ghost use Rattle.nbt_node.specs.Node.{holds as node_holds};
 ghost use Rattle.nbt_session.specs.declared.listener.Entry.{Entry};
 ghost use Rattle.nbt_session.specs.declared.listener.Slot.TheVariants.{Free, Fresh, Open};
 ghost use Rattle.nbt_session.specs.Event.{event_of, packet};
@@ -14,7 +15,9 @@ ghost use Rattle.nbt_session.specs.Packet.{negative, packet_of};
 use crate::event::Event;
 use crate::packet::Packet;
 use arrayvec::ArrayVec;
+use nbt_lease::Moment;
 use nbt_name::{Addr, Name};
+use nbt_node::Node;
 use std::marker::Model;
 use thiserror::Error;
 
@@ -134,7 +137,31 @@ impl<const L: usize, const M: usize> Listener<L, M> {
         without(&mut self.entries, called);
     }
 
-    /// What is done where something happens to a connection, by a node that holds the called name or doesn't.
+    /// What the listener does when something happens to a connection, by the names that the node holds at `now`
+    /// (RFC 1002 section 5.3.2; what may follow what is our profile). A call is refused by the first reason that
+    /// applies, with the code of a NEGATIVE SESSION RESPONSE: the node doesn't hold the called name (0x82), no entry
+    /// has it (0x80), none of these takes the calling name (0x81), `most` connections are open (0x83). Else the first
+    /// entry that takes it says whether it is retargeted or taken. That `slot` is below `M` is the caller's.
+    pub fn on<const N: usize>(
+        &mut self,
+        now: Moment,
+        node: &Node<N>,
+        slot: usize,
+        event: Event,
+    ) -> ListenerAnswer
+        requires { slot < M }
+        ensures { ListenerMoves (λ name. node_holds node.now name now) self.old slot (event_of event) self.new (answer_of result) }
+    {
+        let held = match &event {
+            Event::Packet(Packet::Request { called, calling: _ }) => {
+                node.holds(now, called).is_some()
+            }
+            _ => false,
+        };
+        self.moved(held, slot, event)
+    }
+
+    /// The same, by a node that holds the called name or doesn't.
     fn moved(&mut self, held: bool, slot: usize, event: Event) -> ListenerAnswer
         requires { slot < M }
         ensures { (holds : NameValue → Option Kind) → Tells holds (event_of event) held → ListenerMoves holds self.old slot (event_of event) self.new (answer_of result) }
