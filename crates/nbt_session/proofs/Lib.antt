@@ -4,6 +4,7 @@ pub mod Cells
 pub mod Entries
 pub mod Faults
 pub mod Joining
+pub mod Lines
 pub mod Packets
 pub mod Spelling
 pub mod Streams

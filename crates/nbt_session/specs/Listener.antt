@@ -108,3 +108,8 @@ answer_of (answers.Up octets) = up octets.items
 abbrev pub Tells : (NameValue → Option Kind) → EventValue → Bool → Type 0
 Tells holds (packet (request called calling)) held = held ≡ is_some (holds called)
 Tells holds _ held = Unit {0}
+
+-- the call goes on: here, or elsewhere
+pub data LetsIn : ListenerAnswerValue → Type 0 where
+  here : LetsIn (send positive)
+  elsewhere : (to : Addr) → LetsIn (send_and_close (retarget to))

@@ -1,13 +1,15 @@
 //! What holds of session packets and streams, whatever the code does: laws over the definitions alone.
 
-ghost use Rattle.std.specs.Prelude.{◌≡◌, ℕ, List, ◌++◌, [], Ok, Err};
+ghost use Rattle.std.specs.Prelude.{◌≡◌, ℕ, ◌≤◌, List, ◌++◌, [], Option, Some, Ok, Err};
+ghost use Rattle.nbt_name.specs.declared.addr.Kind.{Kind};
 ghost use Rattle.nbt_name.specs.Wire.{NameValue};
 ghost use Rattle.nbt_session.specs.declared.caller.CallerState.{CallerState};
 ghost use Rattle.nbt_session.specs.declared.fault.Fault.{Fault};
 ghost use Rattle.nbt_session.specs.declared.fault.StreamFault.TheVariants.{Malformed, OutOfMemory};
 ghost use Rattle.nbt_session.specs.Caller.{AnswerValue, CallerMoves};
-ghost use Rattle.nbt_session.specs.Event.{EventValue};
-ghost use Rattle.nbt_session.specs.Packet.{PacketValue, IsPacket, text};
+ghost use Rattle.nbt_session.specs.Event.{EventValue, packet};
+ghost use Rattle.nbt_session.specs.Listener.{ListenerValue, ListenerAnswerValue, ListenerMoves, LetsIn, open_count};
+ghost use Rattle.nbt_session.specs.Packet.{PacketValue, IsPacket, request, text};
 ghost use Rattle.nbt_session.specs.Stream.{Begins, StreamIs, HasFault};
 ghost use Rattle.nbt_session.specs.Taking.{StreamState, holding, Takes, Taken, Run};
 
@@ -60,4 +62,21 @@ pub fn one_answer()
 /// What happens to a call has one line of its table: one state afterwards and one answer.
 pub fn one_call_move()
     ensures { (called calling : NameValue) (before a b : CallerState) (event : EventValue) (x y : AnswerValue) → CallerMoves called calling before event a x → CallerMoves called calling before event b y → (a ≡ b) × (x ≡ y) }
+{}
+
+/// What happens to a connection has one line of the listener's table: one listener afterwards and one answer.
+pub fn one_listener_move()
+    ensures { (holds : NameValue → Option Kind) (before a b : ListenerValue) (slot : ℕ) (event : EventValue) (x y : ListenerAnswerValue) → ListenerMoves holds before slot event a x → ListenerMoves holds before slot event b y → (a ≡ b) × (x ≡ y) }
+{}
+
+/// A call is taken, or sent elsewhere, only where the node holds the called name.
+pub fn calls_go_to_held_names()
+    ensures { (holds : NameValue → Option Kind) (before after : ListenerValue) (slot : ℕ) (event : EventValue) (answer : ListenerAnswerValue) → ListenerMoves holds before slot event after answer → LetsIn answer
+        → (called calling : NameValue) × (kind : Kind) × (event ≡ packet (request called calling)) × (holds called ≡ Some kind) }
+{}
+
+/// No more than `most` connections are open at a time.
+pub fn at_most_so_many_are_open()
+    ensures { (holds : NameValue → Option Kind) (before after : ListenerValue) (slot : ℕ) (event : EventValue) (answer : ListenerAnswerValue) → ListenerMoves holds before slot event after answer
+        → open_count before.slots ≤ before.most → open_count after.slots ≤ after.most }
 {}
