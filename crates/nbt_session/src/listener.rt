@@ -320,8 +320,8 @@ fn listens_on(entries: &[Entry], called: &Name) -> bool
     ensures some { OnTrue result (Any (λ e. e.called ≡ called.now) entries.now) }
     ensures none { OnFalse result (All (λ e. e.called ≢ called.now) entries.now) }
 {
-    for entry in entries {
-        if is_same(&entry.called, called) {
+    for one in entries {
+        if is_same(&one.called, called) {
             return true;
         }
     }

@@ -1,6 +1,6 @@
 //! A session's stream of octets, packet by packet (RFC 1002 section 4.3).
 
-ghost use Rattle.std.specs.Prelude.{◌≡◌, ◌+◌, ◌≤◌, [], ◌++◌, length, List, ℕ};
+ghost use Rattle.std.specs.Prelude.{◌≡◌, ◌+◌, ◌≤◌, [], ◌++◌, length, List, ℕ, IfOk};
 ghost use Rattle.nbt_session.specs.Taking.{Takes, holding, taken};
 
 use crate::body::packet_in;
@@ -51,6 +51,7 @@ impl Stream {
     /// place counted from the packet's first octet, and then for ever.
     pub fn take(&mut self, piece: &[u8]) -> Result<(usize, Option<Packet>), StreamFault>
         ensures takes { Takes piece.now self.old (taken result) self.new }
+        ensures within { IfOk result (λ t. t.0 ≤ length piece.now) }
         ensures most { (held : List ℕ) → self.new ≡ holding held → length held ≤ 131075 }
     {
         if let Some(fault) = self.fault {
@@ -78,6 +79,7 @@ impl Held {
         requires { IsHeld self.old }
         ensures held { IsHeld self.new }
         ensures takes { Takes piece.now (holding (octets_of self.old)) (taken result) (state_after self.new result) }
+        ensures within { IfOk result (λ t. t.0 ≤ length piece.now) }
     {
         let begin = piece.len().min(self.header.remaining_capacity());
         let header = joined(&self.header, &piece[..begin]);
