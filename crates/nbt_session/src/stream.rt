@@ -1,11 +1,12 @@
 //! A session's stream of octets, packet by packet (RFC 1002 section 4.3).
 
-ghost use Rattle.std.specs.Prelude.{◌≡◌, ◌+◌, ◌≤◌, [], ◌++◌, length, List, ℕ, IfOk};
+ghost use Rattle.std.specs.Prelude.{◌≡◌, ◌+◌, ◌≤◌, [], ◌++◌, length, List, ℕ, None, IfOk, IfErr};
+ghost use Rattle.nbt_session.specs.Stream.{HasFault};
 ghost use Rattle.nbt_session.specs.Taking.{Takes, holding, taken};
 
 use crate::body::packet_in;
 use crate::fault::{Fault, StreamFault};
-use crate::header::{HEADER, frame_of};
+use crate::header::{Frame, HEADER, frame_of};
 use crate::packet::Packet;
 use arrayvec::ArrayVec;
 use std::alloc::Global;
@@ -39,6 +40,7 @@ impl Stream {
         Stream {
             held: Held {
                 header: ArrayVec::new(),
+                frame: None,
                 body: Vec::new(alloc),
             },
             fault: None,
@@ -65,15 +67,28 @@ impl Stream {
     }
 }
 
-/// What came of the next packet: its header, and what stands behind it.
+/// What came of the next packet.
 #[derive(Debug, Drop)]
 pub(crate) struct Held {
+    /// What came of the header, while it isn't whole.
     header: ArrayVec<u8, HEADER>,
+    /// What the header says, once it is whole.
+    frame: Option<Frame>,
+    /// What came behind it.
     body: Vec<u8>,
 }
 
+/// How far a piece brings the header.
+#[derive(Debug, Drop)]
+pub(crate) enum Reach {
+    /// It isn't whole with the whole piece. This came of it.
+    Cut(ArrayVec<u8, HEADER>),
+    /// It says this, with so many octets of the piece.
+    Whole(Frame, usize),
+}
+
 impl Held {
-    ghost use Rattle.nbt_session.specs.Held.{octets_of, IsHeld, state_after};
+    ghost use Rattle.nbt_session.specs.Held.{octets_of, IsHeld, Reaches, state_after};
 
     fn take(&mut self, piece: &[u8]) -> Result<(usize, Option<Packet>), StreamFault>
         requires { IsHeld self.old }
@@ -81,17 +96,18 @@ impl Held {
         ensures takes { Takes piece.now (holding (octets_of self.old)) (taken result) (state_after self.new result) }
         ensures within { IfOk result (λ t. t.0 ≤ length piece.now) }
     {
-        let begin = piece.len().min(self.header.remaining_capacity());
-        let header = joined(&self.header, &piece[..begin]);
-        let Some(frame) = frame_of(header.as_slice())? else {
-            self.header = header;
-            return Ok((begin, None));
+        let (frame, begin) = match self.reach(piece)? {
+            Reach::Whole(frame, begin) => (frame, begin),
+            Reach::Cut(header) => {
+                self.header = header;
+                return Ok((piece.len(), None));
+            }
         };
         let rest = &piece[begin..];
         let missing = frame.count - self.body.len();
         if rest.len() < missing {
             self.body.extend_from_slice(rest)?;
-            self.header = header;
+            self.frame = Some(frame);
             return Ok((piece.len(), None));
         }
         self.body.extend_from_slice(&rest[..missing])?;
@@ -99,13 +115,31 @@ impl Held {
         Ok((begin + missing, Some(packet)))
     }
 
+    /// Reads the header, with the octets of the piece that belong to it.
+    fn reach(&self, piece: &[u8]) -> Result<Reach, Fault>
+        requires { IsHeld self.now }
+        ensures reaches { IfOk result (Reaches self.now piece.now) }
+        ensures fault { IfErr result (HasFault (octets_of self.now ++ piece.now)) }
+    {
+        if let Some(frame) = self.frame {
+            return Ok(Reach::Whole(frame, 0));
+        }
+        let begin = piece.len().min(self.header.remaining_capacity());
+        let header = joined(&self.header, &piece[..begin]);
+        match frame_of(header.as_slice())? {
+            Some(frame) => Ok(Reach::Whole(frame, begin)),
+            None => Ok(Reach::Cut(header)),
+        }
+    }
+
     /// What stands behind the header. Nothing is held afterwards.
     fn give_up(&mut self) -> Vec<u8>
         ensures body { result.items ≡ self.old.body.items }
-        ensures nothing { (self.new.header.items ≡ []) × (self.new.body.items ≡ []) }
+        ensures nothing { (self.new.header.items ≡ []) × (self.new.frame ≡ None) × (self.new.body.items ≡ []) }
     {
         let alloc = *self.body.allocator();
         self.header = ArrayVec::new();
+        self.frame = None;
         mem::replace(&mut self.body, Vec::new(alloc))
     }
 }
