@@ -10,7 +10,8 @@ use Rattle.nbt_session.specs.declared.packet.Packet.{Packet}
 use Rattle.nbt_session.specs.declared.packet.Packet.TheVariants as packets
 use Rattle.nbt_session.specs.declared.packet.PacketType.TheVariants.{Request}
 use Rattle.nbt_session.specs.Event.{EventValue}
-use Rattle.nbt_session.specs.Listener.{ListenerAnswerValue, answer_of, CallMoves, SlotMoves, Tells}
+use Rattle.nbt_session.specs.Inner.Listening.{Tells}
+use Rattle.nbt_session.specs.Listener.{ListenerAnswerValue, answer_of, CallMoves, SlotMoves}
 use Rattle.nbt_session.specs.Packet.{type_of, packet_of}
 
 -- an equal line

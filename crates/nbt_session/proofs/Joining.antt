@@ -8,7 +8,7 @@ use Rattle.nbt_session.specs.declared.header.Frame.{Frame}
 use Rattle.nbt_session.specs.declared.packet.PacketType.{PacketType}
 use Rattle.nbt_session.specs.declared.packet.PacketType.TheVariants.{Request}
 use Rattle.nbt_session.specs.declared.stream.Held.{Held}
-use Rattle.nbt_session.specs.Held.{octets_by, IsHeldAs, IsHeld, state_of, Completes}
+use Rattle.nbt_session.specs.Inner.Held.{octets_by, IsHeldAs, IsHeld, state_of, Completes}
 use Rattle.nbt_session.specs.Packet.{PacketValue, HasLength, header, framed, type_of, body_of, text, IsPacket}
 use Rattle.nbt_session.specs.Stream.{IsPartial, RequestFault, HasFault, type_bad, flags_bad, length_bad, request_bad}
 use Rattle.nbt_session.specs.Taking.{StreamState, holding, failed, Taken, Takes, packet_is_whole, piece_is_held, fault_is_seen, memory_is_refused}

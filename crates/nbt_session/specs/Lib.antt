@@ -1,6 +1,6 @@
 pub mod Caller
 pub mod Event
-pub mod Held
+pub mod Inner
 pub mod Listener
 pub mod Numbers
 pub mod Packet

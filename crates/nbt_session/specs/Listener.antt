@@ -1,5 +1,5 @@
 -- The end that listens: RFC 1002 section 5.3.2 and our profile.
-use Rattle.std.specs.Prelude.{◌≡◌, ◌≢◌, ℕ, ◌<◌, ◌≤◌, Bool, true, false, List, [], ◌∷◌, slice_get, slice_set, Option, Some, None, is_some, All, Any, count_by}
+use Rattle.std.specs.Prelude.{◌≡◌, ◌≢◌, ℕ, ◌<◌, ◌≤◌, Bool, true, false, List, [], ◌∷◌, slice_get, slice_set, Option, Some, None, All, Any, count_by}
 use Rattle.std.specs.List.{AllWithin}
 use Rattle.nbt_name.specs.declared.addr.Addr.{Addr}
 use Rattle.nbt_name.specs.declared.addr.Kind.{Kind}
@@ -103,11 +103,6 @@ answer_of (answers.Send p) = send (packet_of p)
 answer_of (answers.SendAndClose p) = send_and_close (packet_of p)
 answer_of answers.Close = close
 answer_of (answers.Up octets) = up octets.items
-
--- whether the node holds the name that is called
-abbrev pub Tells : (NameValue → Option Kind) → EventValue → Bool → Type 0
-Tells holds (packet (request called calling)) held = held ≡ is_some (holds called)
-Tells holds _ held = Unit {0}
 
 -- the call goes on: here, or elsewhere
 pub data LetsIn : ListenerAnswerValue → Type 0 where

@@ -17,8 +17,10 @@ ghost use Rattle.nbt_session.specs.Taking.{StreamState, holding, Takes, Taken, R
 /// (RFC 1002 section 4.3).
 pub fn text_is_read()
     ensures read { (packet : PacketValue) (rest : List ℕ) → IsPacket packet → Begins (text packet ++ rest) packet rest }
-    ensures one_packet { (octets : List ℕ) (a b : PacketValue) (x y : List ℕ) → Begins octets a x → Begins octets b y → (a ≡ b) × (x ≡ y) }
-    ensures no_fault { (octets : List ℕ) (packet : PacketValue) (rest : List ℕ) (fault : Fault) → Begins octets packet rest → HasFault octets fault → ⊥ }
+    ensures one_packet { (octets : List ℕ) (a b : PacketValue) (x y : List ℕ)
+        → Begins octets a x → Begins octets b y → (a ≡ b) × (x ≡ y) }
+    ensures no_fault { (octets : List ℕ) (packet : PacketValue) (rest : List ℕ) (fault : Fault)
+        → Begins octets packet rest → HasFault octets fault → ⊥ }
 {
     nbt_name::laws::no_wire_form_begins_another();
     nbt_name::laws::wire_form_is_read();
@@ -35,7 +37,8 @@ pub fn one_fault()
 
 /// Octets are packets and a rest in one way.
 pub fn one_stream()
-    ensures { (octets : List ℕ) (a b : List PacketValue) (x y : List ℕ) → StreamIs octets a x → StreamIs octets b y → (a ≡ b) × (x ≡ y) }
+    ensures { (octets : List ℕ) (a b : List PacketValue) (x y : List ℕ)
+        → StreamIs octets a x → StreamIs octets b y → (a ≡ b) × (x ≡ y) }
 {
     text_is_read();
 }
@@ -43,16 +46,19 @@ pub fn one_stream()
 /// However a stream of octets is cut into pieces, the packets that are answered and the octets that are held are those
 /// of the octets taken; and a fault is answered where those octets and the piece go on with one.
 pub fn cutting_changes_nothing()
-    ensures packets { (octets : List ℕ) (packets : List PacketValue) (rest : List ℕ) → Run (holding []) octets packets (holding rest) → StreamIs octets packets rest }
-    ensures fault { (octets piece : List ℕ) (packets : List PacketValue) (rest : List ℕ) (fault : Fault) (after : StreamState) → Run (holding []) octets packets (holding rest)
-        → Takes piece (holding rest) (Err (Malformed fault)) after → StreamIs (octets ++ piece) packets (rest ++ piece) × HasFault (rest ++ piece) fault }
+    ensures packets { (octets : List ℕ) (packets : List PacketValue) (rest : List ℕ)
+        → Run (holding []) octets packets (holding rest) → StreamIs octets packets rest }
+    ensures fault { (octets piece : List ℕ) (packets : List PacketValue) (rest : List ℕ) (fault : Fault) (after : StreamState)
+        → Run (holding []) octets packets (holding rest) → Takes piece (holding rest) (Err (Malformed fault)) after
+        → StreamIs (octets ++ piece) packets (rest ++ piece) × HasFault (rest ++ piece) fault }
 {
     text_is_read();
 }
 
 /// A stream that is given a piece has one answer, and is in one state afterwards, unless memory is refused.
 pub fn one_answer()
-    ensures { (piece : List ℕ) (before a b : StreamState) (x y : Taken) → Takes piece before x a → Takes piece before y b
+    ensures { (piece : List ℕ) (before a b : StreamState) (x y : Taken)
+        → Takes piece before x a → Takes piece before y b
         → (x ≡ Err OutOfMemory → ⊥) → (y ≡ Err OutOfMemory → ⊥) → (x ≡ y) × (a ≡ b) }
 {
     text_is_read();
@@ -61,22 +67,26 @@ pub fn one_answer()
 
 /// What happens to a call has one line of its table: one state afterwards and one answer.
 pub fn one_call_move()
-    ensures { (called calling : NameValue) (before a b : CallerState) (event : EventValue) (x y : AnswerValue) → CallerMoves called calling before event a x → CallerMoves called calling before event b y → (a ≡ b) × (x ≡ y) }
+    ensures { (called calling : NameValue) (before a b : CallerState) (event : EventValue) (x y : AnswerValue)
+        → CallerMoves called calling before event a x → CallerMoves called calling before event b y → (a ≡ b) × (x ≡ y) }
 {}
 
 /// What happens to a connection has one line of the listener's table: one listener afterwards and one answer.
 pub fn one_listener_move()
-    ensures { (holds : NameValue → Option Kind) (before a b : ListenerValue) (slot : ℕ) (event : EventValue) (x y : ListenerAnswerValue) → ListenerMoves holds before slot event a x → ListenerMoves holds before slot event b y → (a ≡ b) × (x ≡ y) }
+    ensures { (holds : NameValue → Option Kind) (before a b : ListenerValue) (slot : ℕ) (event : EventValue) (x y : ListenerAnswerValue)
+        → ListenerMoves holds before slot event a x → ListenerMoves holds before slot event b y → (a ≡ b) × (x ≡ y) }
 {}
 
 /// A call is taken, or sent elsewhere, only where the node holds the called name.
 pub fn calls_go_to_held_names()
-    ensures { (holds : NameValue → Option Kind) (before after : ListenerValue) (slot : ℕ) (event : EventValue) (answer : ListenerAnswerValue) → ListenerMoves holds before slot event after answer → LetsIn answer
+    ensures { (holds : NameValue → Option Kind) (before after : ListenerValue) (slot : ℕ) (event : EventValue) (answer : ListenerAnswerValue)
+        → ListenerMoves holds before slot event after answer → LetsIn answer
         → (called calling : NameValue) × (kind : Kind) × (event ≡ packet (request called calling)) × (holds called ≡ Some kind) }
 {}
 
 /// No more than `most` connections are open at a time.
 pub fn at_most_so_many_are_open()
-    ensures { (holds : NameValue → Option Kind) (before after : ListenerValue) (slot : ℕ) (event : EventValue) (answer : ListenerAnswerValue) → ListenerMoves holds before slot event after answer
+    ensures { (holds : NameValue → Option Kind) (before after : ListenerValue) (slot : ℕ) (event : EventValue) (answer : ListenerAnswerValue)
+        → ListenerMoves holds before slot event after answer
         → open_count before.slots ≤ before.most → open_count after.slots ≤ after.most }
 {}

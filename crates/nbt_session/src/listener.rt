@@ -8,8 +8,9 @@ ghost use Rattle.nbt_node.specs.Node.{holds as node_holds};
 ghost use Rattle.nbt_session.specs.declared.listener.Entry.{Entry};
 ghost use Rattle.nbt_session.specs.declared.listener.Slot.TheVariants.{Free, Fresh, Open};
 ghost use Rattle.nbt_session.specs.Event.{event_of, packet};
+ghost use Rattle.nbt_session.specs.Inner.Listening.{Tells};
 ghost use Rattle.nbt_session.specs.Listener as spec;
-ghost use Rattle.nbt_session.specs.Listener.{Without, TakesCall, FirstThatTakes, CallMoves, SlotMoves, ListenerMoves, Tells, answer_of, send_and_close};
+ghost use Rattle.nbt_session.specs.Listener.{Without, TakesCall, FirstThatTakes, CallMoves, SlotMoves, ListenerMoves, answer_of, send_and_close};
 ghost use Rattle.nbt_session.specs.Packet.{negative, packet_of};
 
 use crate::event::Event;
@@ -164,7 +165,8 @@ impl<const L: usize, const M: usize> Listener<L, M> {
     /// The same, by a node that holds the called name or doesn't.
     fn moved(&mut self, held: bool, slot: usize, event: Event) -> ListenerAnswer
         requires { slot < M }
-        ensures { (holds : NameValue → Option Kind) → Tells holds (event_of event) held → ListenerMoves holds self.old slot (event_of event) self.new (answer_of result) }
+        ensures { (holds : NameValue → Option Kind) → Tells holds (event_of event) held
+            → ListenerMoves holds self.old slot (event_of event) self.new (answer_of result) }
     {
         let opened = open_count(&self.slots);
         let (after, answer) = match self.slots[slot] {
@@ -199,7 +201,8 @@ impl Slot {
 
 /// There is no connection.
 fn on_free(event: Event) -> (Slot, ListenerAnswer)
-    ensures { (holds : NameValue → Option Kind) (entries : List Entry) (most opened : ℕ) → SlotMoves holds entries most opened Free (event_of event) result.0 (answer_of result.1) }
+    ensures { (holds : NameValue → Option Kind) (entries : List Entry) (most opened : ℕ)
+        → SlotMoves holds entries most opened Free (event_of event) result.0 (answer_of result.1) }
 {
     match event {
         Event::Connected => (Slot::Fresh, ListenerAnswer::Nothing),
@@ -216,7 +219,8 @@ fn on_fresh(
     held: bool,
     event: Event,
 ) -> (Slot, ListenerAnswer)
-    ensures { (holds : NameValue → Option Kind) → Tells holds (event_of event) held → SlotMoves holds entries.now most opened Fresh (event_of event) result.0 (answer_of result.1) }
+    ensures { (holds : NameValue → Option Kind) → Tells holds (event_of event) held
+        → SlotMoves holds entries.now most opened Fresh (event_of event) result.0 (answer_of result.1) }
 {
     match event {
         Event::Connected => (Slot::Fresh, ListenerAnswer::Nothing),
@@ -233,7 +237,8 @@ fn on_first(
     held: bool,
     first: &Packet,
 ) -> (Slot, ListenerAnswer)
-    ensures { (holds : NameValue → Option Kind) → Tells holds (packet (packet_of first.now)) held → SlotMoves holds entries.now most opened Fresh (packet (packet_of first.now)) result.0 (answer_of result.1) }
+    ensures { (holds : NameValue → Option Kind) → Tells holds (packet (packet_of first.now)) held
+        → SlotMoves holds entries.now most opened Fresh (packet (packet_of first.now)) result.0 (answer_of result.1) }
 {
     match first {
         Packet::Request { called, calling } => {
@@ -246,7 +251,8 @@ fn on_first(
 
 /// The session is open.
 fn on_open(event: Event) -> (Slot, ListenerAnswer)
-    ensures { (holds : NameValue → Option Kind) (entries : List Entry) (most opened : ℕ) → SlotMoves holds entries most opened Open (event_of event) result.0 (answer_of result.1) }
+    ensures { (holds : NameValue → Option Kind) (entries : List Entry) (most opened : ℕ)
+        → SlotMoves holds entries most opened Open (event_of event) result.0 (answer_of result.1) }
 {
     let packet = match event {
         Event::Connected => return (Slot::Open, ListenerAnswer::Nothing),
@@ -269,7 +275,8 @@ fn on_call(
     called: &Name,
     calling: &Name,
 ) -> (Slot, ListenerAnswer)
-    ensures { (holds : NameValue → Option Kind) → held ≡ is_some (holds called.now) → CallMoves holds entries.now most opened called.now calling.now result.0 (answer_of result.1) }
+    ensures { (holds : NameValue → Option Kind) → held ≡ is_some (holds called.now)
+        → CallMoves holds entries.now most opened called.now calling.now result.0 (answer_of result.1) }
 {
     if !held {
         return refused(NOT_PRESENT);

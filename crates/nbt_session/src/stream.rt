@@ -23,7 +23,7 @@ pub struct Stream {
 
 impl Model for Stream {
     ghost use Rattle.nbt_session.specs.Taking.{StreamState};
-    ghost use Rattle.nbt_session.specs.Held.{state_of, IsHeld};
+    ghost use Rattle.nbt_session.specs.Inner.Held.{state_of, IsHeld};
 
     ghost Value = { StreamState };
 
@@ -88,7 +88,7 @@ pub(crate) enum Reach {
 }
 
 impl Held {
-    ghost use Rattle.nbt_session.specs.Held.{octets_of, IsHeld, Reaches, state_after};
+    ghost use Rattle.nbt_session.specs.Inner.Held.{octets_of, IsHeld, Reaches, state_after};
 
     fn take(&mut self, piece: &[u8]) -> Result<(usize, Option<Packet>), StreamFault>
         requires { IsHeld self.old }
