@@ -6,7 +6,7 @@ use Rattle.nbt_name.specs.declared.addr.Addr.{Addr}
 use Rattle.nbt_name.specs.Wire.{NameValue}
 use Rattle.nbt_session.specs.declared.caller.CallerAnswer.{CallerAnswer}
 use Rattle.nbt_session.specs.declared.caller.CallerState.{CallerState}
-use Rattle.nbt_session.specs.declared.caller.CallerState.TheVariants.{Connecting, Waiting, Open, Failed}
+use Rattle.nbt_session.specs.declared.caller.CallerState.TheVariants.{Connecting, Waiting, Failed}
 use Rattle.nbt_session.specs.declared.caller.Failure.{Failure}
 use Rattle.nbt_session.specs.declared.caller.Failure.TheVariants.{NoConnection, TooManyTries}
 use Rattle.nbt_session.specs.declared.event.Event.{Event}
@@ -14,8 +14,8 @@ use Rattle.nbt_session.specs.declared.event.Event.TheVariants as events
 use Rattle.nbt_session.specs.declared.packet.Packet.{Packet}
 use Rattle.nbt_session.specs.declared.packet.Packet.TheVariants as packets
 use Rattle.nbt_session.specs.declared.packet.PacketType.TheVariants.{Message, KeepAlive}
-use Rattle.nbt_session.specs.Event.{EventValue, event_of, connected, packet, lost}
-use Rattle.nbt_session.specs.Packet.{PacketValue, retarget, type_of, packet_of}
+use Rattle.nbt_session.specs.Event.{EventValue, event_of, packet, lost}
+use Rattle.nbt_session.specs.Packet.{retarget, type_of, packet_of}
 use Rattle.nbt_session.specs.Caller.{AnswerValue, answer_of, connect, fail, CallerMoves, connects, is_not_connected, is_cut_off, is_not_connected_at_last, is_cut_off_at_last, is_spoken_to_unasked, is_taken, is_refused, is_retargeted, is_retargeted_at_last, waits_on, gets_a_message_for_an_answer, gets_a_request_for_an_answer, gets_a_message, stays_alive, ends, gets_what_has_no_place, waits_connected_already, is_open_already, stays_closed, stays_failed}
 
 -- an equal line

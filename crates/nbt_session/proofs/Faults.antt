@@ -1,13 +1,13 @@
 -- Octets have one fault at most, keep it, and don't begin with a packet then.
-use Rattle.std.proofs.Common.{◌≡◌, ◌≢◌, ℕ, ◌+◌, ◌*◌, ◌/◌, ◌%◌, ◌<◌, ◌≤◌, List, [], ◌∷◌, ◌++◌, length, refl, sym, ap, subst, ◌∙◌, arith, append_assoc}
+use Rattle.std.proofs.Common.{◌≡◌, ℕ, ◌/◌, ◌%◌, ◌<◌, ◌≤◌, List, [], ◌∷◌, ◌++◌, length, refl, sym, ap, subst, ◌∙◌, arith, append_assoc}
 use Rattle.std.proofs.lemmas.List.{length-append, append-nil}
 use Rattle.nbt_name.specs.declared.fault.NameFault.{NameFault}
 use Rattle.nbt_name.specs.Wire.{NameValue, IsName, wire}
 use Rattle.nbt_name.specs.Reading.{PlainNameAt, PlainFaultAt}
 use Rattle.nbt_session.specs.declared.fault.Fault.{Fault}
 use Rattle.nbt_session.specs.declared.packet.PacketType.{PacketType}
-use Rattle.nbt_session.specs.declared.packet.PacketType.TheVariants.{Message, Request, Positive, Negative, Retarget, KeepAlive}
-use Rattle.nbt_session.specs.Packet.{PacketValue, message, request, positive, negative, retarget, keep_alive, octet_of, HasLength, header, framed, type_of, body_of, text, IsPacket}
+use Rattle.nbt_session.specs.declared.packet.PacketType.TheVariants.{Request}
+use Rattle.nbt_session.specs.Packet.{PacketValue, message, request, positive, negative, retarget, keep_alive, octet_of, HasLength, header, framed, type_of, body_of, IsPacket}
 use Rattle.nbt_session.specs.Stream.{Begins, name_fault, RequestFault, called_bad, calling_bad, not_filled, count, HasFault, type_bad, flags_bad, length_bad, request_bad}
 use Rattle.nbt_session.proofs.Packets.{NameLaws, octet_apart, most_fits, body_fits, body_short, header_apart, frame_apart}
 

@@ -1,5 +1,5 @@
 -- What a piece makes of what is held.
-use Rattle.std.proofs.Common.{◌≡◌, ℕ, ◌+◌, ◌-◌, ◌<◌, ◌≤◌, List, [], ◌∷◌, ◌++◌, length, take, drop, min, Option, Some, None, Ok, Err, refl, sym, ap, subst, ◌∙◌, arith, append_assoc}
+use Rattle.std.proofs.Common.{◌≡◌, ℕ, ◌+◌, ◌-◌, ◌<◌, ◌≤◌, List, [], ◌++◌, length, take, drop, min, Option, Some, None, Ok, Err, refl, sym, ap, subst, ◌∙◌, arith, append_assoc}
 use Rattle.std.proofs.Math.Seq.{take-add}
 use Rattle.std.proofs.lemmas.List.{length-append, length-take, length-drop, append-nil, take-append-drop, take_all}
 use Rattle.nbt_session.specs.declared.fault.Fault.{Fault}
@@ -9,7 +9,7 @@ use Rattle.nbt_session.specs.declared.packet.PacketType.{PacketType}
 use Rattle.nbt_session.specs.declared.packet.PacketType.TheVariants.{Request}
 use Rattle.nbt_session.specs.declared.stream.Held.{Held}
 use Rattle.nbt_session.specs.Inner.Held.{octets_by, IsHeldAs, IsHeld, state_of, Completes}
-use Rattle.nbt_session.specs.Packet.{PacketValue, HasLength, header, framed, type_of, body_of, text, IsPacket}
+use Rattle.nbt_session.specs.Packet.{PacketValue, HasLength, header, framed, type_of, body_of, IsPacket}
 use Rattle.nbt_session.specs.Stream.{IsPartial, RequestFault, HasFault, type_bad, flags_bad, length_bad, request_bad}
 use Rattle.nbt_session.specs.Taking.{StreamState, holding, failed, Taken, Takes, packet_is_whole, piece_is_held, fault_is_seen, memory_is_refused}
 use Rattle.nbt_session.proofs.Packets.{most_fits, body_short, header_apart}

@@ -1,6 +1,6 @@
 -- The listener's table: one line at a time, and what its lines keep.
-use Rattle.std.proofs.Common.{◌≡◌, ◌≢◌, ℕ, zero, suc, ◌+◌, ◌<◌, ◌≤◌, Bool, true, false, cond, List, [], ◌∷◌, length, get_or, Option, Some, None, refl, sym, ap, subst, ◌∙◌, arith, inl, inr}
-use Rattle.std.specs.Prelude.{slice_get, slice_set, slice_index_or, All, Any, count_by, ◌⊎◌}
+use Rattle.std.proofs.Common.{◌≡◌, ◌≢◌, ℕ, zero, suc, ◌+◌, ◌<◌, ◌≤◌, cond, List, [], ◌∷◌, length, get_or, Option, Some, None, refl, sym, ap, subst, ◌∙◌, arith, inl, inr}
+use Rattle.std.specs.Prelude.{slice_get, slice_set, slice_index_or, All, Any, ◌⊎◌}
 use Rattle.std.specs.List.{AllWithin}
 use Rattle.std.proofs.lemmas.Bool.{cases_lt}
 use Rattle.std.proofs.lemmas.List.Sums.{sum_by-set}
@@ -11,8 +11,8 @@ use Rattle.nbt_session.specs.declared.listener.Entry.{Entry}
 use Rattle.nbt_session.specs.declared.listener.Slot.{Slot}
 use Rattle.nbt_session.specs.declared.listener.Slot.TheVariants.{Free, Fresh, Open}
 use Rattle.nbt_session.specs.Event.{EventValue, packet}
-use Rattle.nbt_session.specs.Packet.{PacketValue, request, positive, retarget}
-use Rattle.nbt_session.specs.Listener.{ListenerValue, ListenerAnswerValue, send, send_and_close, is_open, open_count, TakesCall, FirstThatTakes, CallMoves, name_is_not_present, nobody_listens, nobody_listens_for_it, too_many_are_open, goes_elsewhere, is_taken, SlotMoves, stands, is_lost, is_called, waits_on, gets_no_request, gets_a_message, stays_alive, gets_what_has_no_place, is_not_there, stands_already, is_open_already, ListenerMoves, LetsIn, here, elsewhere}
+use Rattle.nbt_session.specs.Packet.{request, retarget}
+use Rattle.nbt_session.specs.Listener.{ListenerValue, ListenerAnswerValue, send_and_close, is_open, open_count, TakesCall, FirstThatTakes, CallMoves, name_is_not_present, nobody_listens, nobody_listens_for_it, too_many_are_open, goes_elsewhere, is_taken, SlotMoves, stands, is_lost, is_called, waits_on, gets_no_request, gets_a_message, stays_alive, gets_what_has_no_place, is_not_there, stands_already, is_open_already, ListenerMoves, LetsIn}
 
 got : {X : Type 0} (xs : List X) (k : ℕ) (x d : X) → slice_get xs k ≡ Some x → (slice_index_or xs k d ≡ x) × (k < length xs)
 got [] k x d e = absurd cc

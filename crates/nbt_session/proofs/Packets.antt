@@ -4,9 +4,8 @@ use Rattle.std.proofs.lemmas.List.{length-append, take_at, drop_at}
 use Rattle.byteorder.specs.Endian.{big_bytes, big_number}
 use Rattle.byteorder.specs.Numbers.{big_number-reads_back}
 use Rattle.nbt_name.specs.declared.addr.Addr.{Addr}
-use Rattle.nbt_name.specs.declared.fault.NameFault.{NameFault}
 use Rattle.nbt_name.specs.Wire.{NameValue, IsName, letters, wire}
-use Rattle.nbt_name.specs.Reading.{PlainNameAt, PlainFaultAt}
+use Rattle.nbt_name.specs.Reading.{PlainNameAt}
 use Rattle.nbt_session.specs.declared.packet.PacketType.{PacketType}
 use Rattle.nbt_session.specs.declared.packet.PacketType.TheVariants.{Message, Request, Positive, Negative, Retarget, KeepAlive}
 use Rattle.nbt_session.specs.Packet.{PacketValue, message, request, positive, negative, retarget, keep_alive, octet_of, most, HasLength, header, framed, type_of, body_of, text, IsPacket}

@@ -1,12 +1,12 @@
 -- Octets are packets and a rest in one way, however they are cut into pieces.
-use Rattle.std.proofs.Common.{◌≡◌, ℕ, zero, suc, ◌+◌, ◌-◌, ◌<◌, ◌≤◌, List, [], ◌∷◌, ◌++◌, length, take, drop, Option, Some, None, Result, Ok, Err, refl, sym, ap, subst, ◌∙◌, arith, append_assoc}
-use Rattle.std.specs.List.{flat_map, AllByRecursion}
-use Rattle.std.proofs.lemmas.List.{length-append, append-nil, take-append-drop, length-drop, take_all}
+use Rattle.std.proofs.Common.{◌≡◌, ℕ, ◌≤◌, List, [], ◌∷◌, ◌++◌, length, take, drop, Some, None, Ok, Err, refl, sym, ap, subst, ◌∙◌, arith, append_assoc}
+use Rattle.std.specs.List.{flat_map}
+use Rattle.std.proofs.lemmas.List.{append-nil, take-append-drop, length-drop, take_all}
 use Rattle.nbt_session.specs.declared.fault.Fault.{Fault}
 use Rattle.nbt_session.specs.declared.fault.StreamFault.TheVariants.{Malformed, OutOfMemory}
 use Rattle.nbt_session.specs.Packet.{PacketValue, IsPacket, text}
 use Rattle.nbt_session.specs.Stream.{Begins, IsPartial, StreamIs, HasFault}
-use Rattle.nbt_session.specs.Taking.{StreamState, holding, failed, Taken, Takes, packet_is_whole, piece_is_held, fault_is_seen, fault_stays, memory_is_refused, Run, ends, answers, waits, starves}
+use Rattle.nbt_session.specs.Taking.{StreamState, holding, Taken, Takes, packet_is_whole, piece_is_held, fault_is_seen, fault_stays, memory_is_refused, Run, ends, answers, waits, starves}
 
 -- the laws of texts and faults that are used
 abbrev pub OnePacket : Type 0

@@ -1,5 +1,5 @@
 -- The end that calls: RFC 1002 section 5.3.1 and our profile.
-use Rattle.std.specs.Prelude.{◌≡◌, ◌≢◌, ℕ, ◌+◌, ◌<◌, ◌≤◌, List}
+use Rattle.std.specs.Prelude.{◌≢◌, ℕ, ◌+◌, ◌<◌, ◌≤◌, List}
 use Rattle.nbt_name.specs.declared.addr.Addr.{Addr}
 use Rattle.nbt_name.specs.Wire.{NameValue}
 use Rattle.nbt_session.specs.declared.caller.CallerAnswer.{CallerAnswer}
@@ -8,7 +8,6 @@ use Rattle.nbt_session.specs.declared.caller.CallerState.{CallerState}
 use Rattle.nbt_session.specs.declared.caller.CallerState.TheVariants.{Connecting, Waiting, Open, Closed, Failed}
 use Rattle.nbt_session.specs.declared.caller.Failure.{Failure}
 use Rattle.nbt_session.specs.declared.caller.Failure.TheVariants.{NoConnection, Refused, Protocol, TooManyTries}
-use Rattle.nbt_session.specs.declared.packet.PacketType.{PacketType}
 use Rattle.nbt_session.specs.declared.packet.PacketType.TheVariants.{Message, KeepAlive}
 use Rattle.nbt_session.specs.Event.{EventValue, connected, packet, lost}
 use Rattle.nbt_session.specs.Packet.{PacketValue, message, request, positive, negative, retarget, keep_alive, type_of, packet_of}

@@ -9,7 +9,6 @@ use Rattle.nbt_session.specs.declared.listener.ListenerAnswer.{ListenerAnswer}
 use Rattle.nbt_session.specs.declared.listener.ListenerAnswer.TheVariants as answers
 use Rattle.nbt_session.specs.declared.listener.Slot.{Slot}
 use Rattle.nbt_session.specs.declared.listener.Slot.TheVariants.{Free, Fresh, Open}
-use Rattle.nbt_session.specs.declared.packet.PacketType.{PacketType}
 use Rattle.nbt_session.specs.declared.packet.PacketType.TheVariants.{Message, Request, KeepAlive}
 use Rattle.nbt_session.specs.Event.{EventValue, connected, packet, lost}
 use Rattle.nbt_session.specs.Packet.{PacketValue, message, request, positive, negative, retarget, keep_alive, type_of, packet_of}

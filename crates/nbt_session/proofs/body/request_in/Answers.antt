@@ -1,6 +1,6 @@
-use Rattle.std.proofs.Common.{arith, refl}
-use Rattle.nbt_session.specs.Stream.{RequestFault, called_bad, calling_bad, not_filled}
-use Rattle.nbt_session.proofs.Spelling.{fault_within, name_is, names_fill}
+use Rattle.std.proofs.Common.{arith}
+use Rattle.nbt_session.specs.Stream.{called_bad, calling_bad, not_filled}
+use Rattle.nbt_session.proofs.Spelling.{fault_within, names_fill}
 use Rattle.nbt_session.proofs.body.request_in.Goals as goal
 
 pub fault_of-requires : goal.fault_of-requires

@@ -1,8 +1,8 @@
-use Rattle.std.proofs.Common.{refl, sym, ap, ◌∙◌}
+use Rattle.std.proofs.Common.{refl, ap, ◌∙◌}
 use Rattle.nbt_name.specs.Wire.{NameValue}
 use Rattle.nbt_session.specs.Event.{event_of}
 use Rattle.nbt_session.specs.Packet.{packet_of, request}
-use Rattle.nbt_session.specs.Caller.{answer_of, send, connects, is_spoken_to_unasked}
+use Rattle.nbt_session.specs.Caller.{send, connects, is_spoken_to_unasked}
 use Rattle.nbt_session.proofs.Calls.{moves_by, answers_by, event_by, lost_connecting}
 use Rattle.nbt_session.proofs.caller.connecting.Goals as goal
 use Rattle.nbt_session.proofs.caller.connecting.Goals.{in-Connected, in-Packet, in-Lost}

@@ -1,5 +1,5 @@
-use Rattle.std.proofs.Common.{refl, ap, ◌∙◌}
-use Rattle.nbt_session.specs.Event.{event_of, packet}
+use Rattle.std.proofs.Common.{refl, ap}
+use Rattle.nbt_session.specs.Event.{event_of}
 use Rattle.nbt_session.specs.Packet.{packet_of}
 use Rattle.nbt_session.specs.Caller.{is_open_already, ends, gets_a_message, stays_alive, gets_what_has_no_place}
 use Rattle.nbt_session.proofs.Calls.{moves_by, came, no_message, no_keep_alive}

@@ -1,4 +1,4 @@
-use Rattle.std.proofs.Common.{refl, ap, ◌∙◌, arith}
+use Rattle.std.proofs.Common.{refl, ap}
 use Rattle.nbt_session.specs.Event.{event_of}
 use Rattle.nbt_session.specs.Caller.{waits_connected_already, is_taken, is_refused, waits_on, gets_a_message_for_an_answer, gets_a_request_for_an_answer}
 use Rattle.nbt_session.proofs.Calls.{moves_by, answers_by, event_by, came, lost_waiting, retargeted}

@@ -1,6 +1,5 @@
-use Rattle.std.proofs.Common.{ℕ, ◌∷◌, ◌+◌, ◌*◌, sym, ap, ◌∙◌, arith, subst, List}
-use Rattle.nbt_session.specs.declared.fault.Fault.{Fault}
-use Rattle.nbt_session.specs.Stream.{HasFault, type_bad, flags_bad, length_bad}
+use Rattle.std.proofs.Common.{ℕ, ◌∷◌, sym, ap, ◌∙◌, arith}
+use Rattle.nbt_session.specs.Stream.{type_bad, flags_bad}
 use Rattle.nbt_session.proofs.Cells.{one_cell, two_cells, whole_header, header_is, length_wrong, header_sound}
 use Rattle.nbt_session.proofs.header.frame_of.Goals as goal
 use Rattle.nbt_session.proofs.header.frame_of.Goals.{then-count-least-via-then-count-least, then-count-least-via-else-count-least+then-count-most}

@@ -1,7 +1,7 @@
 use Rattle.std.proofs.Common.{refl, sym, ◌∙◌}
 use Rattle.nbt_name.specs.declared.form.Form.TheVariants.{Plain}
 use Rattle.nbt_session.proofs.Packets.{NameLaws, text_apart}
-use Rattle.nbt_session.proofs.Faults.{PlainLaws, no_fault}
+use Rattle.nbt_session.proofs.Faults.{no_fault}
 use Rattle.nbt_session.proofs.laws.text_is_read.Goals as goal
 
 names : (c : goal.After-one_name_or_fault) → NameLaws

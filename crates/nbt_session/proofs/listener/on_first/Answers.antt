@@ -1,4 +1,4 @@
-use Rattle.std.proofs.Common.{ap, ◌∙◌}
+use Rattle.std.proofs.Common.{ap}
 use Rattle.nbt_session.specs.declared.packet.Packet.{Packet}
 use Rattle.nbt_session.specs.Event.{packet}
 use Rattle.nbt_session.specs.Packet.{packet_of}

@@ -1,4 +1,4 @@
-use Rattle.std.proofs.Common.{refl, ap}
+use Rattle.std.proofs.Common.{ap}
 use Rattle.nbt_session.specs.Event.{event_of}
 use Rattle.nbt_session.specs.Packet.{packet_of}
 use Rattle.nbt_session.specs.declared.listener.Slot.TheVariants.{Free}

@@ -1,4 +1,4 @@
-use Rattle.std.proofs.Common.{refl, ap, subst, ◌∙◌, arith}
+use Rattle.std.proofs.Common.{subst}
 use Rattle.nbt_session.specs.Event.{event_of}
 use Rattle.nbt_session.specs.Caller.{CallerValue, CallerMoves, answer_of, stays_closed, stays_failed}
 use Rattle.nbt_session.proofs.Calls.{state_by, answers_by}
