@@ -95,7 +95,7 @@ pub record ListenerMoves (holds : NameValue → Option Kind) (old : ListenerValu
   pub moves : SlotMoves holds old.entries old.most (open_count old.slots) before event after answer
   pub others : new ≡ record old { slots = slice_set old.slots slot after }
 
--- what the code answers, as a value
+-- what the code returns, as a value
 abbrev pub answer_of : ListenerAnswer → ListenerAnswerValue
 answer_of answers.Nothing = nothing
 answer_of (answers.Send p) = send (packet_of p)

@@ -27,7 +27,7 @@ pub data Takes (piece : List ℕ) : StreamState → Taken → StreamState → Ty
   fault_stays : (fault : Fault) → Takes piece (failed fault) (Err (Malformed fault)) (failed fault)
   memory_is_refused : (held : List ℕ) → Takes piece (holding held) (Err OutOfMemory) (holding held)
 
--- Pieces given one after the other: the octets taken in all, the packets answered, and the state afterwards.
+-- Pieces given one after the other: the octets taken in all, the packets returned, and the state afterwards.
 pub data Run : StreamState → List ℕ → List PacketValue → StreamState → Type 0 where
   ends : (s : StreamState) → Run s [] [] s
   answers : (piece octets : List ℕ) (n : ℕ) (packet : PacketValue) (packets : List PacketValue) (s t u : StreamState)
@@ -37,7 +37,7 @@ pub data Run : StreamState → List ℕ → List PacketValue → StreamState →
   starves : (piece octets : List ℕ) (packets : List PacketValue) (s t u : StreamState)
       → Takes piece s (Err OutOfMemory) t → Run t octets packets u → Run s octets packets u
 
--- what the code answers, as a value
+-- what the code returns, as a value
 abbrev pub packet_if : Option Packet → Option PacketValue
 packet_if None = None
 packet_if (Some p) = Some (packet_of p)

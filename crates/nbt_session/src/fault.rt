@@ -50,7 +50,7 @@ pub struct Fault {
 /// Why a stream took no octets (our profile's numbers).
 #[derive(Clone, Copy, Debug, PartialEq, Eq, Error)]
 pub enum StreamFault {
-    /// 1 to 4: what comes next on the stream is no packet. The stream answers this from then on.
+    /// 1 to 4: what comes next on the stream is no packet. The stream returns this from then on.
     #[error("{0}")]
     Malformed(Fault),
     /// 5: memory was refused. The stream is as it was.

@@ -43,8 +43,8 @@ pub fn one_stream()
     text_is_read();
 }
 
-/// However a stream of octets is cut into pieces, the packets that are answered and the octets that are held are those
-/// of the octets taken; and a fault is answered where those octets and the piece go on with one.
+/// However a stream of octets is cut into pieces, the packets that are returned and the octets that are held are those
+/// of the octets taken; and a fault is returned where those octets and the piece go on with one.
 pub fn cutting_changes_nothing()
     ensures packets { (octets : List ℕ) (packets : List PacketValue) (rest : List ℕ)
         → Run (holding []) octets packets (holding rest) → StreamIs octets packets rest }

@@ -65,7 +65,7 @@ fn patched(rt: &HostRuntime, octets: &[u8], patches: &[(usize, u8)]) -> Result<V
     Ok(copy)
 }
 
-/// What `take` answers, asked again where memory was refused.
+/// What `take` returns, called again where memory was refused.
 fn take(stream: &mut Stream, piece: &[u8]) -> Result<(usize, Option<Packet>), StreamFault>
     ensures { IfOk result (λ t. t.0 ≤ length piece.now) }
 {
@@ -290,7 +290,7 @@ fn faults_of_a_request(rt: HostRuntime) -> Result<(), Fail> {
 }
 
 /// With `rt try --test --fail-alloc N` the Nth allocation is refused. Where it is one of the stream's, nothing is
-/// taken, and the same call with memory answers as if nothing had been.
+/// taken, and the same call with memory returns what it would have.
 #[test]
 fn refused_memory_leaves_the_stream(rt: HostRuntime) -> Result<(), Fail> {
     laws::one_answer();
