@@ -29,8 +29,10 @@ pub data ListenerAnswerValue : Type 0 where
 -- without the entries of a name
 pub data Without (called : NameValue) : List Entry → List Entry → Type 0 where
   empty : Without called [] []
-  goes : (entry : Entry) (old new : List Entry) → entry.called ≡ called → Without called old new → Without called (entry ∷ old) new
-  stays : (entry : Entry) (old new : List Entry) → entry.called ≢ called → Without called old new → Without called (entry ∷ old) (entry ∷ new)
+  goes : (entry : Entry) (old new : List Entry) → entry.called ≡ called → Without called old new
+      → Without called (entry ∷ old) new
+  stays : (entry : Entry) (old new : List Entry) → entry.called ≢ called → Without called old new
+      → Without called (entry ∷ old) (entry ∷ new)
 
 -- how many connections are open
 abbrev pub is_open : Slot → Bool
@@ -62,27 +64,34 @@ pub data CallMoves (holds : NameValue → Option Kind) (entries : List Entry) (m
   name_is_not_present : holds called ≡ None → CallMoves holds entries most opened called calling Free (send_and_close (negative 0x82))
   nobody_listens : (kind : Kind) → holds called ≡ Some kind → All (λ e. e.called ≢ called) entries
       → CallMoves holds entries most opened called calling Free (send_and_close (negative 0x80))
-  nobody_listens_for_it : (kind : Kind) → holds called ≡ Some kind → Any (λ e. e.called ≡ called) entries → All (λ e. ¬ TakesCall e called calling) entries
+  nobody_listens_for_it : (kind : Kind) → holds called ≡ Some kind → Any (λ e. e.called ≡ called) entries
+      → All (λ e. ¬ TakesCall e called calling) entries
       → CallMoves holds entries most opened called calling Free (send_and_close (negative 0x81))
-  too_many_are_open : (kind : Kind) (entry : Entry) → holds called ≡ Some kind → FirstThatTakes entries called calling entry → most ≤ opened
+  too_many_are_open : (kind : Kind) (entry : Entry) → holds called ≡ Some kind
+      → FirstThatTakes entries called calling entry → most ≤ opened
       → CallMoves holds entries most opened called calling Free (send_and_close (negative 0x83))
-  goes_elsewhere : (kind : Kind) (entry : Entry) (to : Addr) → holds called ≡ Some kind → FirstThatTakes entries called calling entry → opened < most
+  goes_elsewhere : (kind : Kind) (entry : Entry) (to : Addr) → holds called ≡ Some kind
+      → FirstThatTakes entries called calling entry → opened < most
       → entry.retarget ≡ Some to → CallMoves holds entries most opened called calling Free (send_and_close (retarget to))
-  is_taken : (kind : Kind) (entry : Entry) → holds called ≡ Some kind → FirstThatTakes entries called calling entry → opened < most
+  is_taken : (kind : Kind) (entry : Entry) → holds called ≡ Some kind → FirstThatTakes entries called calling entry
+      → opened < most
       → entry.retarget ≡ None → CallMoves holds entries most opened called calling Open (send positive)
 
 -- What one connection does: where it stands, what happens, where it stands afterwards, and the answer.
-pub data SlotMoves (holds : NameValue → Option Kind) (entries : List Entry) (most opened : ℕ) : Slot → EventValue → Slot → ListenerAnswerValue → Type 0 where
+pub data SlotMoves (holds : NameValue → Option Kind) (entries : List Entry) (most opened : ℕ) : Slot → EventValue
+    → Slot → ListenerAnswerValue → Type 0 where
   stands : SlotMoves holds entries most opened Free connected Fresh nothing
   is_lost : (slot : Slot) → SlotMoves holds entries most opened slot lost Free nothing
-  is_called : (called calling : NameValue) (after : Slot) (answer : ListenerAnswerValue) → CallMoves holds entries most opened called calling after answer
+  is_called : (called calling : NameValue) (after : Slot) (answer : ListenerAnswerValue)
+      → CallMoves holds entries most opened called calling after answer
       → SlotMoves holds entries most opened Fresh (packet (request called calling)) after answer
   waits_on : SlotMoves holds entries most opened Fresh (packet keep_alive) Fresh nothing
   gets_no_request : (p : PacketValue) → type_of p ≢ Request → type_of p ≢ KeepAlive
       → SlotMoves holds entries most opened Fresh (packet p) Free (send_and_close (negative 0x8F))
   gets_a_message : (octets : List ℕ) → SlotMoves holds entries most opened Open (packet (message octets)) Open (up octets)
   stays_alive : SlotMoves holds entries most opened Open (packet keep_alive) Open nothing
-  gets_what_has_no_place : (p : PacketValue) → type_of p ≢ Message → type_of p ≢ KeepAlive → SlotMoves holds entries most opened Open (packet p) Free close
+  gets_what_has_no_place : (p : PacketValue) → type_of p ≢ Message → type_of p ≢ KeepAlive
+      → SlotMoves holds entries most opened Open (packet p) Free close
   is_not_there : (p : PacketValue) → SlotMoves holds entries most opened Free (packet p) Free nothing
   stands_already : SlotMoves holds entries most opened Fresh connected Fresh nothing
   is_open_already : SlotMoves holds entries most opened Open connected Open nothing

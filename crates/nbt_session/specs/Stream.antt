@@ -48,9 +48,11 @@ name_fault f = name_fault_by f.kind f.place
 -- LENGTH does.
 pub data RequestFault (body : List ℕ) : Fault → Type 0 where
   called_bad : (fault : NameFault) → PlainFaultAt body 0 fault → RequestFault body (name_fault fault)
-  calling_bad : (called : NameValue) (next : ℕ) (fault : NameFault) → PlainNameAt body 0 called next → PlainFaultAt body next fault
+  calling_bad : (called : NameValue) (next : ℕ) (fault : NameFault) → PlainNameAt body 0 called next
+      → PlainFaultAt body next fault
       → RequestFault body (name_fault fault)
-  not_filled : (called calling : NameValue) (next end : ℕ) → PlainNameAt body 0 called next → PlainNameAt body next calling end
+  not_filled : (called calling : NameValue) (next end : ℕ) → PlainNameAt body 0 called next
+      → PlainNameAt body next calling end
       → end < length body → RequestFault body (bad BadLength 2)
 
 -- LENGTH with its 17th bit
@@ -60,9 +62,13 @@ count flags high low = 65536 * flags + 256 * high + low
 -- The octets have a fault, as soon as those are there that it names: TYPE is no packet's, FLAGS has another bit than
 -- E, LENGTH isn't the type's, or a request that is whole has a fault.
 pub data HasFault (octets : List ℕ) : Fault → Type 0 where
-  type_bad : (octet : ℕ) (rest : List ℕ) → octets ≡ octet ∷ rest → ((kind : PacketType) → octet_of kind ≢ octet) → HasFault octets (bad BadType 0)
-  flags_bad : (kind : PacketType) (flags : ℕ) (rest : List ℕ) → octets ≡ octet_of kind ∷ flags ∷ rest → 1 < flags → HasFault octets (bad BadFlags 1)
-  length_bad : (kind : PacketType) (flags high low : ℕ) (rest : List ℕ) → octets ≡ octet_of kind ∷ flags ∷ high ∷ low ∷ rest → flags ≤ 1
+  type_bad : (octet : ℕ) (rest : List ℕ) → octets ≡ octet ∷ rest → ((kind : PacketType) → octet_of kind ≢ octet)
+      → HasFault octets (bad BadType 0)
+  flags_bad : (kind : PacketType) (flags : ℕ) (rest : List ℕ) → octets ≡ octet_of kind ∷ flags ∷ rest → 1 < flags
+      → HasFault octets (bad BadFlags 1)
+  length_bad : (kind : PacketType) (flags high low : ℕ) (rest : List ℕ)
+      → octets ≡ octet_of kind ∷ flags ∷ high ∷ low ∷ rest → flags ≤ 1
       → ¬ HasLength kind (count flags high low) → HasFault octets (bad BadLength 2)
-  request_bad : (body rest : List ℕ) (fault : Fault) → octets ≡ framed Request body ++ rest → HasLength Request (length body)
+  request_bad : (body rest : List ℕ) (fault : Fault) → octets ≡ framed Request body ++ rest
+      → HasLength Request (length body)
       → RequestFault body fault → HasFault octets fault

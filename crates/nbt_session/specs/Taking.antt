@@ -19,11 +19,13 @@ Taken = Result (ℕ × Option PacketValue) StreamFault
 -- What a stream makes of a piece. A packet is whole: what was held and what is taken are its text. None is: the whole
 -- piece joins what is held. They have a fault: so it stays. Memory is refused: nothing is taken and nothing changes.
 pub data Takes (piece : List ℕ) : StreamState → Taken → StreamState → Type 0 where
-  packet_is_whole : (held : List ℕ) (n : ℕ) (packet : PacketValue) → n ≤ length piece → IsPacket packet → held ++ take n piece ≡ text packet
+  packet_is_whole : (held : List ℕ) (n : ℕ) (packet : PacketValue) → n ≤ length piece → IsPacket packet
+      → held ++ take n piece ≡ text packet
       → Takes piece (holding held) (Ok (n, Some packet)) (holding [])
   piece_is_held : (held : List ℕ) → IsPartial (held ++ piece) → ((fault : Fault) → HasFault (held ++ piece) fault → ⊥)
       → Takes piece (holding held) (Ok (length piece, None)) (holding (held ++ piece))
-  fault_is_seen : (held : List ℕ) (fault : Fault) → HasFault (held ++ piece) fault → Takes piece (holding held) (Err (Malformed fault)) (failed fault)
+  fault_is_seen : (held : List ℕ) (fault : Fault) → HasFault (held ++ piece) fault
+      → Takes piece (holding held) (Err (Malformed fault)) (failed fault)
   fault_stays : (fault : Fault) → Takes piece (failed fault) (Err (Malformed fault)) (failed fault)
   memory_is_refused : (held : List ℕ) → Takes piece (holding held) (Err OutOfMemory) (holding held)
 
@@ -31,7 +33,8 @@ pub data Takes (piece : List ℕ) : StreamState → Taken → StreamState → Ty
 pub data Run : StreamState → List ℕ → List PacketValue → StreamState → Type 0 where
   ends : (s : StreamState) → Run s [] [] s
   answers : (piece octets : List ℕ) (n : ℕ) (packet : PacketValue) (packets : List PacketValue) (s t u : StreamState)
-      → Takes piece s (Ok (n, Some packet)) t → Run t octets packets u → Run s (take n piece ++ octets) (packet ∷ packets) u
+      → Takes piece s (Ok (n, Some packet)) t → Run t octets packets u
+      → Run s (take n piece ++ octets) (packet ∷ packets) u
   waits : (piece octets : List ℕ) (n : ℕ) (packets : List PacketValue) (s t u : StreamState)
       → Takes piece s (Ok (n, None)) t → Run t octets packets u → Run s (take n piece ++ octets) packets u
   starves : (piece octets : List ℕ) (packets : List PacketValue) (s t u : StreamState)
