@@ -141,3 +141,8 @@ pub record OctetsNeedMemory (server : ServerValue) (now ip : ℕ) (octets : List
 abbrev pub written : Option MessageValue → List ℕ
 written None = []
 written (Some reply) = text reply
+
+-- they spell it
+abbrev pub Spelled : Option MessageValue → List ℕ → Type 0
+Spelled None octets = Unit {0}
+Spelled (Some reply) octets = Spells octets reply

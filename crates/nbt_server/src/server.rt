@@ -34,7 +34,7 @@ impl Model for Server {
 }
 
 impl Server {
-    ghost use Rattle.nbt_server.specs.Serving.{ServerValue, ServesOctets, OctetsNeedMemory, written};
+    ghost use Rattle.nbt_server.specs.Serving.{ServerValue, ServesOctets, OctetsNeedMemory, written, Spelled};
 
     /// A server without leases, which starts at `now`. It takes no memory.
     pub fn start(alloc: Global, config: Config, now: Moment) -> Server
@@ -76,7 +76,7 @@ impl Server {
     ) -> Result<bool, ServerFault>
         ensures served { IfOk result (λ is_reply. (reply : Option MessageValue)
             × ServesOctets self.old now from.ip octets.now reply (leases_at now self.new.table.rows)
-            × (is_reply ≡ is_some reply) × (out.new.items ≡ written reply)) }
+            × (is_reply ≡ is_some reply) × (out.new.items ≡ written reply) × Spelled reply out.new.items) }
 
         // When it is refused, and what that leaves.
         ensures clock_back { IsErrOf result ServerFault.ClockBack ↔ (now < self.old.last) }

@@ -8,7 +8,8 @@ ghost use Rattle.nbt_packet.specs.Spelling.{HasFewRows};
 ghost use Rattle.nbt_packet.specs.Text.{text};
 ghost use Rattle.nbt_lease.specs.Config.{IsConfig};
 ghost use Rattle.nbt_lease.specs.Lease.{leases_at};
-ghost use Rattle.nbt_server.specs.Serving.{AsksFor, IsOwn, fault_rcode, refusal, release_rcode, seconds_until, entries, Serves, NeedsMemory, written};
+ghost use Rattle.nbt_server.specs.Serving.{AsksFor, IsOwn, fault_rcode, refusal, release_rcode, seconds_until, entries, Serves, NeedsMemory, written, Spelled};
+ghost use Rattle.nbt_packet.specs.Spelling.{Spells};
 
 use arrayvec::ArrayVec;
 use nbt_lease::{GrantFault, Moment, Released, Table};
@@ -42,7 +43,7 @@ pub(crate) fn serve(
     requires empty { out.old.items ≡ [] }
     ensures served { IfOk result (λ is_reply. (reply : Option MessageValue)
         × Serves table.old now ip (message_of message.entry) reply (leases_at now table.new.rows)
-        × (is_reply ≡ is_some reply) × (out.new.items ≡ written reply)) }
+        × (is_reply ≡ is_some reply) × (out.new.items ≡ written reply) × Spelled reply out.new.items) }
     ensures memory { OnErr result (NeedsMemory table.old now ip (message_of message.entry)) }
     ensures refused { OnErr result ((leases_at now table.new.rows ≡ leases_at now table.old.rows) × (out.new.items ≡ [])) }
     ensures config { table.new.config ≡ table.old.config }
@@ -107,7 +108,7 @@ fn is_own(ip: u32, name: &Name, addr: u32) -> bool
     addr == ip && !name.is_star()
 }
 
-/// The reply to a registration or a refresh (RFC 1002 sections 5.1.4.1 and 5.1.4.3).
+/// The reply to a registration or a refresh (RFC 1002 section 5.1.4.1).
 fn lease(
     table: &mut Table,
     now: Moment,
@@ -166,7 +167,7 @@ fn refuse(asked: Registration, rcode: u8) -> Message<'static>
     }
 }
 
-/// Releases a name, and returns the RCODE of the response (RFC 1002 section 5.1.4.4).
+/// Releases a name, and returns the RCODE of the response (RFC 1002 section 5.1.4.1).
 fn release(table: &mut Table, now: Moment, ip: u32, name: &Name, addr: u32) -> u8
     requires { table.old.last ≤ now }
     ensures served { (id : ℕ) (kind : Kind)
@@ -198,7 +199,7 @@ fn find(table: &Table, now: Moment, id: u16, name: Name, out: &mut ArrayVec<u8, 
     requires time { table.now.last ≤ now }
     ensures { (reply : MessageValue)
         × ((ip : ℕ) → Serves table.now now ip (query id name) (Some reply) (leases_at now table.now.rows))
-        × (out.new.items ≡ text reply) }
+        × (out.new.items ≡ text reply) × Spells out.new.items reply }
 {
     let Some(end) = table.least_end(now, &name) else {
         let missing = Message::NotFound {
@@ -245,9 +246,11 @@ fn entries_of(table: &Table, now: Moment, name: &Name) -> ArrayVec<u8, ENTRIES_M
 fn put(reply: &Message<'_>, out: &mut ArrayVec<u8, 576>)
     requires fits { Fits (message_of reply.now) }
     requires few { HasFewRows (message_of reply.now) }
-    ensures { out.new.items ≡ text (message_of reply.now) }
+    ensures form { out.new.items ≡ text (message_of reply.now) }
+    ensures spells { Spells out.new.items (message_of reply.now) }
 {
     nbt_packet::laws::few_rows_are_written();
+    nbt_packet::laws::written_form_is_read();
     let written = encode(reply, out);
     prove!(written.is_ok());
 }

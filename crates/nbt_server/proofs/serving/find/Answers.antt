@@ -6,7 +6,7 @@ use Rattle.nbt_server.proofs.Rules.{entries_fit, ends_in_time}
 use Rattle.nbt_server.proofs.serving.find.Goals as goal
 
 pub returns-in_default : goal.returns-in_default
-returns-in_default c = (not_found c.args.id 3 (Some c.args.name), λ ip. finds_none _ _ c.in_default.ensures.end, c.put.ensures)
+returns-in_default c = (not_found c.args.id 3 (Some c.args.name), λ ip. finds_none _ _ c.in_default.ensures.end, c.put.ensures.form, c.put.ensures.spells)
 
 pub seconds_left-requires : goal.seconds_left-requires
 seconds_left-requires c =
@@ -28,5 +28,6 @@ pub returns : goal.returns
 returns c = (
   found c.args.id c.args.name c.seconds_left.result c.as_slice.result.now,
   λ ip. rw (c.seconds_left.ensures, c.as_slice.ensures.value, c.entries_of-entries.ensures.entries) (finds c.args.id c.args.name c.in-Some.end c.in-Some.ensures.end),
-  c.put-2.ensures,
+  c.put-2.ensures.form,
+  c.put-2.ensures.spells,
 )
