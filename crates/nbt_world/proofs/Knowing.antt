@@ -1,0 +1,142 @@
+-- What time, a sending, a reply, a start and a crash make of what holds of one node and one name.
+use Rattle.std.proofs.Common.{◌≡◌, ◌≢◌, ℕ, ◌+◌, ◌*◌, ◌<◌, ◌≤◌, Bool, true, false, cond, ltb, leb, Option, Some, None, refl, sym, ap, subst, arith, inl, inr}
+use Rattle.std.specs.Prelude.{◌⊎◌, if◌then◌else◌, ◌&&◌}
+use Rattle.std.proofs.lemmas.Bool.{ltb-true, ltb-false, leb-true, leb-false, cases_Bool}
+use Rattle.nbt_name.specs.declared.addr.Kind.{Kind}
+use Rattle.nbt_name.specs.Wire.{NameValue}
+use Rattle.nbt_packet.specs.Message.{MessageValue, registration, refresh, release, registered, released}
+use Rattle.nbt_node.specs.declared.state.State.{State}
+use Rattle.nbt_node.specs.declared.state.State.TheVariants.{Idle, Asking, Held, Releasing, Resting}
+use Rattle.nbt_node.specs.declared.state.Refresh.{Refresh}
+use Rattle.nbt_node.specs.Settling.{is_over, rested, pending_at, settled}
+use Rattle.nbt_node.specs.Node.{NodeValue}
+use Rattle.nbt_node.specs.Moves.{NameEvent, ask, give_back, poll, hear, Told, Move, asks, gives_back, asks_again, gives_back_again, refreshes_again, refreshes, granted_to, renewed_to, refused_to, loses_asked, loses_held, freed, asking_waits, giving_back_waits, refresh_waits, unmoved}
+use Rattle.nbt_world.specs.World.{IsDeliverable}
+use Rattle.nbt_world.specs.Kept.{IsRequest, AsksAs, Known, last_of, bound, Wants, WantsIn, RequestsEnded}
+
+-- ---- time
+
+-- a state is what it was, or has less: it asks for nothing and holds nothing, and its last sending stays or has ended
+pub data Fades (life now start : ℕ) (s t : State) : Type 0 where
+  stays : last_of t start ≡ last_of s start → ((kind : Kind) → WantsIn t kind → WantsIn s kind) → Fades life now start s t
+  ends : last_of s start + 2 * life < now → t ≡ Idle → Fades life now start s t
+
+-- what remains of a state once time has ended it
+rests : (life now start last : ℕ) (s : State) → last_of s start ≡ last → Fades life now start s (rested life now last)
+rests life now start last s e = go (ltb (last + 2 * life) now) refl
+  where
+    go : (t : Bool) → ltb (last + 2 * life) now ≡ t → Fades life now start s (cond t Idle (Resting last))
+    go true p = ends (rw e (ltb-true (last + 2 * life) now p)) refl
+    go false p = stays (sym e) (λ kind w. elim w [ ])
+
+pub fades : (life now start : ℕ) (s : State) → Fades life now start s (settled life now s)
+fades life now start Idle = stays refl (λ kind w. w)
+fades life now start (Asking kind ttl id first last tries due) = go (is_over now tries due)
+  where
+    go : (t : Bool) → Fades life now start (Asking kind ttl id first last tries due) (cond t (rested life now last) (Asking kind ttl id first last tries due))
+    go true = rests life now start last (Asking kind ttl id first last tries due) refl
+    go false = stays refl (λ kind w. w)
+fades life now start (Held kind ttl until renew last pending) = go (leb until now)
+  where
+    go : (t : Bool) → Fades life now start (Held kind ttl until renew last pending) (cond t (rested life now last) (Held kind ttl until renew last (pending_at now pending)))
+    go true = rests life now start last (Held kind ttl until renew last pending) refl
+    go false = stays refl (λ kind w. w)
+fades life now start (Releasing kind id last tries due) = go (is_over now tries due)
+  where
+    go : (t : Bool) → Fades life now start (Releasing kind id last tries due) (cond t (rested life now last) (Releasing kind id last tries due))
+    go true = rests life now start last (Releasing kind id last tries due) refl
+    go false = stays refl (λ kind w. w)
+fades life now start (Resting last) = rests life now start last (Resting last) refl
+
+abbrev pub knows : ℕ → State → Option Known
+knows start state = Some (record { start = start; state = state })
+
+-- requests have ended after time's own moves
+pub ended-fades : (life now start : ℕ) (asked : ℕ → MessageValue → Type 0) (s t : State) → Fades life now start s t
+    → RequestsEnded life now asked (knows start s) → RequestsEnded life now asked (knows start t)
+ended-fades life now start asked s t (stays same wants) kept = record {
+  ended = λ moment m a d. rw same (kept.ended moment m a d);
+  one_kind = λ kind moment m w a d. kept.one_kind kind moment m (wants kind w) a d;
+}
+ended-fades life now start asked s t (ends over idle) kept = record {
+  ended = λ moment m a d. let before = kept.ended moment m a d in absurd (omega arith);
+  one_kind = λ kind moment m w a d. let before = kept.ended moment m a d in absurd (omega arith);
+}
+
+-- ---- replies
+
+-- what is heard makes a state want nothing new, and its last sending stays
+pub fades-heard : (life start : ℕ) {node : NodeValue} {now : ℕ} {name : NameValue} {s t : State} {m : MessageValue} {told : Told} {next : ℕ}
+    → Move node now name s (hear m) t None told next → Fades life now start s t
+fades-heard life start (granted_to kind ttl id first last tries due r e) = stays refl (λ k w. w)
+fades-heard life start (renewed_to kind ttl until renew last p r e) = stays refl (λ k w. w)
+fades-heard life start (refused_to kind ttl id first last tries due rcode r e ne) = stays refl (λ k w. elim w [ ])
+fades-heard life start (loses_asked kind ttl id first last tries due r ne) = stays refl (λ k w. elim w [ ])
+fades-heard life start (loses_held kind ttl until renew last rcode pending r ne c) = stays refl (λ k w. elim w [ ])
+fades-heard life start (freed kind id last tries due rcode n k a) = stays refl (λ j w. elim w [ ])
+fades-heard life start (asking_waits kind ttl id first last tries due n t) = stays refl (λ k w. w)
+fades-heard life start (giving_back_waits kind id last tries due n t) = stays refl (λ k w. elim w [ ])
+fades-heard life start (refresh_waits kind ttl until renew last p n t) = stays refl (λ k w. w)
+fades-heard life start (unmoved state message e) = stays refl (λ k w. w)
+
+-- ---- sendings
+
+-- what is sent about a name: a request of the kind that the node wants from then on, which it wanted before, or else the
+-- name was idle and has rested since the start
+pub record IsSent (life now start : ℕ) (name : NameValue) (s t : State) (m : MessageValue) : Type 0 where
+  pub last_is : last_of t start ≡ now
+  pub request : IsRequest name m
+  pub kind_is : (kind : Kind) → WantsIn t kind → AsksAs kind m
+  pub before : (kind : Kind) → WantsIn t kind → WantsIn s kind ⊎ (last_of s start + 2 * life < now)
+
+pub is_sent : {node : NodeValue} {now : ℕ} {name : NameValue} {s t : State} {event : NameEvent} {m : MessageValue} {told : Told} {next : ℕ}
+    → Move node now name s event t (Some m) told next → IsSent node.config.life now node.start name s t m
+is_sent (asks kind ttl rested) = record { last_is = refl; request = refl; kind_is = λ k w. w; before = λ k w. inr rested }
+is_sent (gives_back kind ttl until renew last pending) = record { last_is = refl; request = refl; kind_is = λ k w. elim w [ ]; before = λ k w. elim w [ ] }
+is_sent (asks_again kind ttl id first last tries due e) = record { last_is = refl; request = refl; kind_is = λ k w. w; before = λ k w. inl w }
+is_sent (gives_back_again kind id last tries due e) = record { last_is = refl; request = refl; kind_is = λ k w. elim w [ ]; before = λ k w. elim w [ ] }
+is_sent (refreshes_again kind ttl until renew last p e) = record { last_is = refl; request = refl; kind_is = λ k w. w; before = λ k w. inl w }
+is_sent (refreshes kind ttl until renew last due rested) = record { last_is = refl; request = refl; kind_is = λ k w. w; before = λ k w. inl w }
+
+-- after a sending: what the network has is what it had, and the request that was sent now
+pub ended-sent : (life now start : ℕ) (name : NameValue) (old new : ℕ → MessageValue → Type 0) (s t : State) (m : MessageValue) → IsSent life now start name s t m
+    → ((moment : ℕ) (message : MessageValue) → old moment message → moment ≤ now)
+    → ((moment : ℕ) (message : MessageValue) → new moment message → old moment message ⊎ ((moment ≡ now) × (message ≡ m)))
+    → RequestsEnded life now old (knows start s) → RequestsEnded life now new (knows start t)
+ended-sent life now start name old new s t m is past more kept = record {
+  ended = λ moment message a d. rw is.last_is (latest moment message (more moment message a));
+  one_kind = λ kind moment message w a d. asked_as kind moment message w d (more moment message a);
+}
+  where
+    latest : (moment : ℕ) (message : MessageValue) → old moment message ⊎ ((moment ≡ now) × (message ≡ m)) → moment ≤ now
+    latest moment message (inl a) = past moment message a
+    latest moment message (inr e) = let at = e.0 in omega arith
+
+    earlier : (kind : Kind) (moment : ℕ) (message : MessageValue) → old moment message → IsDeliverable life now moment → WantsIn s kind ⊎ (last_of s start + 2 * life < now) → AsksAs kind message
+    earlier kind moment message a d (inl w) = kept.one_kind kind moment message w a d
+    earlier kind moment message a d (inr over) = let before = kept.ended moment message a d in absurd (omega arith)
+
+    asked_as : (kind : Kind) (moment : ℕ) (message : MessageValue) → WantsIn t kind → IsDeliverable life now moment → old moment message ⊎ ((moment ≡ now) × (message ≡ m)) → AsksAs kind message
+    asked_as kind moment message w d (inl a) = earlier kind moment message a d (is.before kind w)
+    asked_as kind moment message w d (inr e) = rw e.1 (is.kind_is kind w)
+
+-- ---- the clock, the network, a start and a crash
+
+-- a later moment, and no more requests
+pub ended-frame : (life now later : ℕ) (old new : ℕ → MessageValue → Type 0) (k : Option Known) → now ≤ later
+    → ((moment : ℕ) (message : MessageValue) → new moment message → old moment message)
+    → RequestsEnded life now old k → RequestsEnded life later new k
+ended-frame life now later old new None le fewer kept = record {
+  ended = λ moment message a d. let before = kept.ended moment message (fewer moment message a) (omega arith) in omega arith;
+  one_kind = λ kind moment message w a d. elim w [ ];
+}
+ended-frame life now later old new (Some k) le fewer kept = record {
+  ended = λ moment message a d. kept.ended moment message (fewer moment message a) (omega arith);
+  one_kind = λ kind moment message w a d. kept.one_kind kind moment message w (fewer moment message a) (omega arith);
+}
+
+pub ended-start : (life now : ℕ) (asked : ℕ → MessageValue → Type 0) → RequestsEnded life now asked None → RequestsEnded life now asked (knows now Idle)
+ended-start life now asked kept = record { ended = kept.ended; one_kind = λ kind moment message w a d. elim w [ ] }
+
+pub ended-down : (life now : ℕ) (asked : ℕ → MessageValue → Type 0) → ((moment : ℕ) (message : MessageValue) → asked moment message → moment ≤ now) → RequestsEnded life now asked None
+ended-down life now asked past = record { ended = λ moment message a d. past moment message a; one_kind = λ kind moment message w a d. elim w [ ] }

@@ -1,0 +1,205 @@
+-- One step of the world: what an event makes of it, a line for each outcome (our profile).
+use Rattle.std.specs.Prelude.{◌≡◌, ◌≢◌, ℕ, ◌+◌, ◌^◌, ◌<◌, ◌≤◌, min, zero, suc, List, [], ◌∷◌, ◌++◌, length, slice_get, Option, Some, None}
+use Rattle.std.specs.Global.{Vec}
+use Rattle.nbt_name.specs.declared.addr.Addr.{Addr}
+use Rattle.nbt_name.specs.declared.addr.Kind.{Kind}
+use Rattle.nbt_name.specs.Wire.{NameValue}
+use Rattle.nbt_packet.specs.Message.{MessageValue}
+use Rattle.nbt_packet.specs.Text.{text}
+use Rattle.nbt_packet.specs.Spelling.{Spells}
+use Rattle.nbt_lease.specs.Config.{ConfigValue}
+use Rattle.nbt_lease.specs.Lease.{Leases, leases_at}
+use Rattle.nbt_server.specs.Serving.{ServerValue, ServesOctets, OctetsNeedMemory, written}
+use Rattle.nbt_node.specs.declared.fault.AskFault.{AskFault}
+use Rattle.nbt_node.specs.declared.fault.ReleaseFault.{ReleaseFault}
+use Rattle.nbt_node.specs.declared.fault.LookupFault.{LookupFault}
+use Rattle.nbt_node.specs.declared.lookup.Wanted.TheVariants.{Entries, Names}
+use Rattle.nbt_node.specs.Numbers.{ask_fault_number, release_fault_number, lookup_fault_number}
+use Rattle.nbt_node.specs.Node.{NodeValue}
+use Rattle.nbt_node.specs.Moves.{ask, give_back, Told}
+use Rattle.nbt_node.specs.Calls.{started, ask_refusal, release_refusal, resolve_refusal, status_refusal, Sends, Opens, Polls, Handles}
+use Rattle.nbt_world.specs.declared.doing.Given.{Given}
+use Rattle.nbt_world.specs.declared.doing.Given.TheVariants as g
+use Rattle.nbt_world.specs.declared.ends.Ends.{Ends}
+use Rattle.nbt_world.specs.declared.ends.Taken.{Taken}
+use Rattle.nbt_world.specs.declared.ends.Taken.TheVariants as t
+use Rattle.nbt_world.specs.declared.network.Datagram.{Datagram}
+use Rattle.nbt_world.specs.declared.event.Event.{Event}
+use Rattle.nbt_world.specs.declared.event.Event.TheVariants.{Tick, Start, Crash, Ask, Release, Resolve, NameStatus, Poll, Deliver, Stranger}
+use Rattle.nbt_world.specs.declared.event.Outcome.{Outcome}
+use Rattle.nbt_world.specs.declared.event.Outcome.TheVariants as o
+use Rattle.nbt_world.specs.World.{WorldValue, addr_of, node_of, IsOfEnd, with_server, with_node, datagram, IsDeliverable}
+
+-- ---- what a node does at an event of its own
+
+-- what a call gives: nothing, a refusal with its number, or octets for an end
+pub data GivenValue : Type 0 where
+  nothing : GivenValue
+  refusal : (number : ℕ) → GivenValue
+  octets_to : Addr → List ℕ → GivenValue
+
+abbrev pub given_of : Given → List ℕ → GivenValue
+given_of g.Nothing octets = nothing
+given_of (g.Refusal number) octets = refusal number
+given_of (g.To to) octets = octets_to to octets
+
+-- the number of the node that is to do something
+abbrev pub number_in : Event → Option ℕ
+number_in (Ask number name kind ttl) = Some number
+number_in (Release number name) = Some number
+number_in (Resolve number name) = Some number
+number_in (NameStatus number to name) = Some number
+number_in (Poll number) = Some number
+number_in _ = None
+
+pub data Does (old : NodeValue) (now : ℕ) : Event → NodeValue → GivenValue → Type 0 where
+  asks : (number : ℕ) (name : NameValue) (kind : Kind) (ttl : ℕ) (new : NodeValue) (octets : List ℕ) → ask_refusal old now name ≡ None → Sends old now name (ask kind ttl) new octets
+      → Does old now (Ask number name kind ttl) new (octets_to old.server octets)
+  ask_refused : (number : ℕ) (name : NameValue) (kind : Kind) (ttl : ℕ) (fault : AskFault) → ask_refusal old now name ≡ Some fault
+      → Does old now (Ask number name kind ttl) old (refusal (ask_fault_number fault))
+  gives_back : (number : ℕ) (name : NameValue) (new : NodeValue) (octets : List ℕ) → release_refusal old now name ≡ None → Sends old now name give_back new octets
+      → Does old now (Release number name) new (octets_to old.server octets)
+  release_refused : (number : ℕ) (name : NameValue) (fault : ReleaseFault) → release_refusal old now name ≡ Some fault
+      → Does old now (Release number name) old (refusal (release_fault_number fault))
+  resolves : (number : ℕ) (name : NameValue) (new : NodeValue) (octets : List ℕ) → resolve_refusal old now name ≡ None → Opens old now name old.server Entries new octets
+      → Does old now (Resolve number name) new (octets_to old.server octets)
+  resolve_refused : (number : ℕ) (name : NameValue) (fault : LookupFault) → resolve_refusal old now name ≡ Some fault
+      → Does old now (Resolve number name) old (refusal (lookup_fault_number fault))
+  asks_status : (number : ℕ) (to : Addr) (name : NameValue) (new : NodeValue) (octets : List ℕ) → status_refusal old now ≡ None → Opens old now name to Names new octets
+      → Does old now (NameStatus number to name) new (octets_to to octets)
+  status_refused : (number : ℕ) (to : Addr) (name : NameValue) (fault : LookupFault) → status_refusal old now ≡ Some fault
+      → Does old now (NameStatus number to name) old (refusal (lookup_fault_number fault))
+  polls : (number : ℕ) (to : Addr) (new : NodeValue) (octets : List ℕ) → Polls old now new (Some to) octets → Does old now (Poll number) new (octets_to to octets)
+  polls_nothing : (number : ℕ) (new : NodeValue) (octets : List ℕ) → Polls old now new None octets → Does old now (Poll number) new nothing
+
+-- ---- what an end does: it starts, crashes, and takes a datagram
+
+-- the end of this number is there and down, and is up
+abbrev pub IsDown : Ends → ℕ → Type 0
+IsDown ends zero = ends.server ≡ None
+IsDown ends (suc index) = (addr : Addr) × (addr_of ends (suc index) ≡ Some addr) × (node_of ends (suc index) ≡ None)
+
+abbrev pub IsUp : Ends → ℕ → Type 0
+IsUp ends zero = (server : ServerValue) × (ends.server ≡ Some server)
+IsUp ends (suc index) = (node : NodeValue) × (node_of ends (suc index) ≡ Some node)
+
+-- a server that starts: it has no lease
+pub record IsNew (config : ConfigValue) (now : ℕ) (server : ServerValue) : Type 0 where
+  pub start : server.start ≡ now
+  pub last : server.last ≡ now
+  pub config_is : server.table.config ≡ config
+  pub empty : server.table.rows ≡ []
+
+-- an end that was down starts, and knows nothing
+pub data Starts (config : ConfigValue) (now : ℕ) (old : Ends) : ℕ → Ends → Type 0 where
+  server_starts : (server : ServerValue) → old.server ≡ None → IsNew config now server → Starts config now old 0 (with_server old (Some server))
+  node_starts : (index : ℕ) (addr : Addr) → addr_of old (suc index) ≡ Some addr → node_of old (suc index) ≡ None
+      → Starts config now old (suc index) (with_node old (suc index) (Some (started 14 addr old.server_addr config now)))
+
+-- an end that was up is down, and nothing of it is kept
+pub data Crashes (old : Ends) : ℕ → Ends → Type 0 where
+  server_crashes : (server : ServerValue) → old.server ≡ Some server → Crashes old 0 (with_server old None)
+  node_crashes : (index : ℕ) (node : NodeValue) → node_of old (suc index) ≡ Some node → Crashes old (suc index) (with_node old (suc index) None)
+
+-- A server takes a datagram: which leases live afterwards is all that is said of its table.
+pub record ServerTakes (now : ℕ) (old : ServerValue) (ip : ℕ) (octets : List ℕ) (reply : Option MessageValue) (new : ServerValue) : Type 0 where
+  pub serves : ServesOctets old now ip octets reply (leases_at now new.table.rows)
+  pub start : new.start ≡ old.start
+  pub config : new.table.config ≡ old.table.config
+  pub last : new.last ≡ now
+
+-- memory was refused to it: the leases are as before
+pub record ServerForgets (now : ℕ) (old : ServerValue) (ip : ℕ) (octets : List ℕ) (new : ServerValue) : Type 0 where
+  pub needs : OctetsNeedMemory old now ip octets
+  pub leases : leases_at now new.table.rows ≡ leases_at now old.table.rows
+  pub start : new.start ≡ old.start
+  pub config : new.table.config ≡ old.table.config
+  pub last : new.last ≡ now
+
+-- what becomes of a datagram at an end: the end is down, has no memory for it, or takes it, with a reply or none
+pub data TakenValue : Type 0 where
+  is_down : TakenValue
+  is_lost : TakenValue
+  takes : Option MessageValue → TakenValue
+
+pub data ServerDoes (now : ℕ) (old : ServerValue) (ip : ℕ) (octets : List ℕ) : TakenValue → ServerValue → Type 0 where
+  server_takes : (reply : Option MessageValue) (new : ServerValue) → ServerTakes now old ip octets reply new → ServerDoes now old ip octets (takes reply) new
+  server_forgets : (new : ServerValue) → ServerForgets now old ip octets new → ServerDoes now old ip octets is_lost new
+
+pub record NodeHears (now : ℕ) (old : NodeValue) (from : Addr) (octets : List ℕ) (reply : Option MessageValue) (new : NodeValue) : Type 0 where
+  pub told : Told
+  pub out : List ℕ
+  pub handles : Handles old now from octets new told out
+  pub sent_is : handles.sent ≡ reply
+
+pub data Takes (now : ℕ) (old : Ends) (from : Addr) (octets : List ℕ) : ℕ → TakenValue → Ends → Type 0 where
+  finds_down : (number : ℕ) → IsDown old number → Takes now old from octets number is_down old
+  by_server : (server new : ServerValue) (taken : TakenValue) → old.server ≡ Some server → ServerDoes now server from.ip octets taken new
+      → Takes now old from octets 0 taken (with_server old (Some new))
+  by_node : (index : ℕ) (node new : NodeValue) (reply : Option MessageValue) → node_of old (suc index) ≡ Some node → NodeHears now node from octets reply new
+      → Takes now old from octets (suc index) (takes reply) (with_node old (suc index) (Some new))
+
+-- how the code says it, the octets of a reply being those in its buffer
+abbrev pub IsTaken : Taken → List ℕ → TakenValue → Type 0
+IsTaken t.Down octets taken = taken ≡ is_down
+IsTaken t.Lost octets taken = taken ≡ is_lost
+IsTaken t.Silent octets taken = taken ≡ takes None
+IsTaken t.Replies octets taken = (reply : MessageValue) × (taken ≡ takes (Some reply)) × (octets ≡ text reply) × Spells octets reply
+
+-- ---- what comes of it
+
+-- the node is another, and what it gave was sent
+abbrev pub after : WorldValue → (number : ℕ) → NodeValue → GivenValue → WorldValue
+after world number new nothing = record world { ends = with_node world.ends number (Some new) }
+after world number new (refusal fault) = record world { ends = with_node world.ends number (Some new) }
+after world number new (octets_to to octets) =
+    record world { ends = with_node world.ends number (Some new); sent = world.sent ++ datagram new.addr to world.now octets ∷ [] }
+
+abbrev pub outcome_of : WorldValue → GivenValue → Outcome
+outcome_of world nothing = o.Nothing
+outcome_of world (refusal number) = o.Refused number
+outcome_of world (octets_to to octets) = o.Sent (length world.sent)
+
+-- the ends are these, and the reply to a datagram was sent
+abbrev pub after_taking : WorldValue → Ends → (from to : Addr) → TakenValue → WorldValue
+after_taking world ends from to is_down = record world { ends = ends }
+after_taking world ends from to is_lost = record world { ends = ends }
+after_taking world ends from to (takes None) = record world { ends = ends }
+after_taking world ends from to (takes (Some reply)) = record world { ends = ends; sent = world.sent ++ datagram from to world.now (text reply) ∷ [] }
+
+abbrev pub outcome_of_taking : WorldValue → TakenValue → Outcome
+outcome_of_taking world is_down = o.Down
+outcome_of_taking world is_lost = o.Lost
+outcome_of_taking world (takes None) = o.Taken
+outcome_of_taking world (takes (Some reply)) = o.Sent (length world.sent)
+
+-- ---- a step
+
+pub data Step (old : WorldValue) : Event → Outcome → WorldValue → Type 0 where
+  ticks : (ms : ℕ) → Step old (Tick ms) o.Done (record old { now = min (old.now + ms) (2 ^ 60) })
+
+  starts : (number : ℕ) (ends : Ends) → Starts old.config old.now old.ends number ends → Step old (Start number) o.Done (record old { ends = ends })
+  starts_nothing : (number : ℕ) → ¬ IsDown old.ends number → Step old (Start number) o.Nothing old
+  crashes : (number : ℕ) (ends : Ends) → Crashes old.ends number ends → Step old (Crash number) o.Done (record old { ends = ends })
+  crashes_nothing : (number : ℕ) → ¬ IsUp old.ends number → Step old (Crash number) o.Nothing old
+
+  -- a node does something of its own, or is down
+  node_does : (event : Event) (number : ℕ) (node new : NodeValue) (given : GivenValue) → number_in event ≡ Some number → node_of old.ends number ≡ Some node → Does node old.now event new given
+      → Step old event (outcome_of old given) (after old number new given)
+  node_is_down : (event : Event) (number : ℕ) → number_in event ≡ Some number → node_of old.ends number ≡ None → Step old event o.Down old
+
+  -- a datagram of the list is delivered: to nobody, too late, or to an end, whose reply goes back
+  no_datagram : (k : ℕ) → slice_get old.sent k ≡ None → Step old (Deliver k) o.Nobody old
+  no_end : (k : ℕ) (d : Datagram) → slice_get old.sent k ≡ Some d → ((number : ℕ) → addr_of old.ends number ≢ Some d.to) → Step old (Deliver k) o.Nobody old
+  too_late : (k : ℕ) (d : Datagram) (number : ℕ) → slice_get old.sent k ≡ Some d → addr_of old.ends number ≡ Some d.to → ¬ IsDeliverable old.config.life old.now d.moment
+      → Step old (Deliver k) o.Lost old
+  delivered : (k : ℕ) (d : Datagram) (number : ℕ) (taken : TakenValue) (ends : Ends) → slice_get old.sent k ≡ Some d → addr_of old.ends number ≡ Some d.to
+      → IsDeliverable old.config.life old.now d.moment → Takes old.now old.ends d.from d.octets.items number taken ends
+      → Step old (Deliver k) (outcome_of_taking old taken) (after_taking old ends d.to d.from taken)
+
+  -- a datagram comes from an address that is no end's
+  from_an_end : (from : Addr) (number : ℕ) (octets : Vec ℕ) → IsOfEnd old.ends from.ip → Step old (Stranger from number octets) o.Nobody old
+  to_no_end : (from : Addr) (number : ℕ) (octets : Vec ℕ) → addr_of old.ends number ≡ None → Step old (Stranger from number octets) o.Nobody old
+  from_a_stranger : (from addr : Addr) (number : ℕ) (octets : Vec ℕ) (taken : TakenValue) (ends : Ends) → ¬ IsOfEnd old.ends from.ip → addr_of old.ends number ≡ Some addr
+      → Takes old.now old.ends from octets.items number taken ends
+      → Step old (Stranger from number octets) (outcome_of_taking old taken) (after_taking old ends addr from taken)

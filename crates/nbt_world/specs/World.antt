@@ -1,0 +1,64 @@
+-- The world: all ends, the network between them, and one clock (our profile).
+use Rattle.std.specs.Prelude.{◌≡◌, ℕ, ◌+◌, ◌<◌, ◌≤◌, zero, suc, List, [], ◌∷◌, ◌++◌, length, slice_get, replicate, Option, Some, None}
+use Rattle.std.specs.Option.{option_map}
+use Rattle.nbt_name.specs.declared.addr.Addr.{Addr}
+use Rattle.nbt_lease.specs.Config.{ConfigValue}
+use Rattle.nbt_server.specs.Serving.{ServerValue}
+use Rattle.nbt_node.specs.Node.{NodeValue}
+use Rattle.nbt_world.specs.declared.ends.End.{End}
+use Rattle.nbt_world.specs.declared.ends.Ends.{Ends}
+use Rattle.nbt_world.specs.declared.network.Datagram.{Datagram}
+
+-- The clock, the limits, the server and the nodes, each with its address and what it is while it is up, and every
+-- datagram that was ever sent, in order.
+pub record WorldValue : Type 0 where
+  pub now : ℕ
+  pub config : ConfigValue
+  pub ends : Ends
+  pub sent : List Datagram
+
+-- ---- ends: 0 is the server, and the nodes are numbered from 1
+
+abbrev pub addr_at : List End → (index : ℕ) → Option Addr
+addr_at nodes index = option_map (λ end. end.addr) (slice_get nodes index)
+
+abbrev pub addr_of : Ends → ℕ → Option Addr
+addr_of ends zero = Some ends.server_addr
+addr_of ends (suc index) = addr_at ends.nodes.items index
+
+abbrev pub node_in : Option End → Option NodeValue
+node_in None = None
+node_in (Some end) = end.node
+
+-- the node of this number, where there is one and it is up
+abbrev pub node_of : Ends → ℕ → Option NodeValue
+node_of ends zero = None
+node_of ends (suc index) = node_in (slice_get ends.nodes.items index)
+
+-- some end has this 32-bit address
+abbrev pub IsOfEnd : Ends → (ip : ℕ) → Type 0
+IsOfEnd ends ip = (number : ℕ) × (addr : Addr) × (addr_of ends number ≡ Some addr) × (addr.ip ≡ ip)
+
+-- ---- changes of one thing, all else as it was
+
+abbrev pub with_server : Ends → Option ServerValue → Ends
+with_server ends server = record ends { server = server }
+
+abbrev pub put_node : List End → ℕ → Option NodeValue → List End
+put_node [] index value = []
+put_node (end ∷ ends) zero value = record end { node = value } ∷ ends
+put_node (end ∷ ends) (suc index) value = end ∷ put_node ends index value
+
+-- the node of this number is now this, or down
+abbrev pub with_node : Ends → ℕ → Option NodeValue → Ends
+with_node ends zero value = ends
+with_node ends (suc index) value = record ends { nodes = record { items = put_node ends.nodes.items index value } }
+
+-- ---- the network
+
+abbrev pub datagram : (from to : Addr) → (moment : ℕ) → List ℕ → Datagram
+datagram from to moment octets = record { from = from; to = to; moment = moment; octets = record { items = octets } }
+
+-- A datagram may be delivered until the greatest life has passed since it was sent, any number of times.
+abbrev pub IsDeliverable : (life now : ℕ) → (sent : ℕ) → Type 0
+IsDeliverable life now sent = now ≤ sent + life

@@ -1,0 +1,257 @@
+//! The ends of a world: the server and its nodes.
+
+ghost use Rattle.std.specs.Prelude.{◌≡◌, ◌≢◌, ℕ, ◌≤◌, ◌↔◌, Some, None, MatchOption, MatchBool, IsTrue, IsSome, IsNone, IfSome, Option};
+ghost use Rattle.nbt_packet.specs.Message.{MessageValue};
+ghost use Rattle.nbt_node.specs.Node.{NodeValue};
+ghost use Rattle.nbt_node.specs.Calls.{started};
+ghost use Rattle.nbt_server.specs.Serving.{ServerValue};
+ghost use Rattle.nbt_name.specs.declared.addr.Addr.{Addr};
+ghost use Rattle.nbt_world.specs.World.{addr_at};
+ghost use Rattle.nbt_world.specs.Step.{TakenValue, takes, ServerDoes, NodeHears, IsTaken};
+
+use crate::doing::{Given, SLOTS, does};
+use crate::event::Event;
+use arrayvec::ArrayVec;
+use nbt_lease::{Config, Moment};
+use nbt_name::Addr;
+use nbt_node::Node;
+use nbt_server::{Server, ServerFault};
+use std::alloc::Global;
+
+/// A node's address, and what it is while it is up.
+#[derive(Debug, Drop)]
+pub struct End {
+    pub addr: Addr,
+    pub node: Option<Node<SLOTS>>,
+}
+
+/// All ends: the server's address, what it is while it is up, and the nodes in order of their numbers.
+#[derive(Drop)]
+pub struct Ends {
+    pub server_addr: Addr,
+    pub server: Option<Server>,
+    pub nodes: ArrayVec<End, 8>,
+}
+
+/// What becomes of a datagram at an end: the end is down, has no memory for it, takes it, or replies with the octets in
+/// the buffer.
+pub enum Taken {
+    Down,
+    Lost,
+    Silent,
+    Replies,
+}
+
+impl Ends {
+    ghost use Rattle.nbt_world.specs.World.{addr_of, node_of, IsOfEnd, with_node};
+    ghost use Rattle.nbt_world.specs.Step.{number_in, given_of, Does, Starts, Crashes, Takes, IsDown, IsUp, TakenValue, IsTaken};
+
+    /// The address of the end of this number, if there is one.
+    pub fn addr(&self, number: usize) -> Option<Addr>
+        ensures { result ≡ addr_of self.now number }
+    {
+        if number == 0 {
+            return Some(self.server_addr);
+        }
+        match self.nodes.as_slice().get(number - 1) {
+            Some(end) => Some(end.addr),
+            None => None,
+        }
+    }
+
+    /// The number of the end at this address and port, if there is one.
+    pub fn find(&self, addr: Addr) -> Option<usize>
+        ensures found { IfSome result (λ number. addr_of self.now number ≡ Some addr) }
+        ensures none { IsNone result → (number : ℕ) → addr_of self.now number ≢ Some addr }
+    {
+        if self.server_addr == addr {
+            return Some(0);
+        }
+        Some(place_of(self.nodes.as_slice(), addr)? + 1)
+    }
+
+    /// Whether some end has this 32-bit address.
+    pub fn has_ip(&self, ip: u32) -> bool
+        ensures { IsTrue result ↔ IsOfEnd self.now ip }
+    {
+        self.server_addr.ip == ip || any_has_ip(self.nodes.as_slice(), ip)
+    }
+
+    /// Starts the end of this number where it is down. Returns whether it was.
+    pub fn start(&mut self, alloc: Global, number: usize, config: Config, now: Moment) -> bool
+        ensures { MatchBool result (Starts config now self.old number self.new) ((¬ IsDown self.old number) × (self.new ≡ self.old)) }
+    {
+        if number == 0 {
+            if self.server.is_some() {
+                return false;
+            }
+            self.server = Some(Server::start(alloc, config, now));
+            return true;
+        }
+        if number > self.nodes.len() {
+            return false;
+        }
+        let server = self.server_addr;
+        start_node(&mut self.nodes[number - 1], server, config, now)
+    }
+
+    /// Crashes the end of this number where it is up. Returns whether it was.
+    pub fn crash(&mut self, number: usize) -> bool
+        ensures { MatchBool result (Crashes self.old number self.new) ((¬ IsUp self.old number) × (self.new ≡ self.old)) }
+    {
+        if number == 0 {
+            if self.server.is_none() {
+                return false;
+            }
+            self.server = None;
+            return true;
+        }
+        if number > self.nodes.len() {
+            return false;
+        }
+        crash_node(&mut self.nodes[number - 1])
+    }
+
+    /// A node does what an event says, where it is there and up: its address, and what it gives.
+    pub fn node_event(
+        &mut self,
+        number: usize,
+        now: Moment,
+        event: &Event,
+        out: &mut ArrayVec<u8, 576>,
+    ) -> Option<(Addr, Given)>
+        requires own { IsSome (number_in event.now) }
+        requires server { (node : NodeValue) → node_of self.old number ≡ Some node → node.server ≡ self.old.server_addr }
+        requires time { (node : NodeValue) → node_of self.old number ≡ Some node → node.last ≤ now }
+        ensures down { IsNone result → (node_of self.old number ≡ None) × (self.new ≡ self.old) }
+        ensures does { IfSome result (λ given. (node : NodeValue) × (new : NodeValue) × (node_of self.old number ≡ Some node) × Does node now event.now new (given_of given.1 out.new.items)
+            × (self.new ≡ with_node self.old number (Some new)) × (given.0 ≡ new.addr)) }
+    {
+        if number == 0 || number > self.nodes.len() {
+            return None;
+        }
+        let server = self.server_addr;
+        let end = &mut self.nodes[number - 1];
+        match &mut end.node {
+            Some(node) => {
+                let given = does(node, server, now, event, out);
+                Some((node.addr(), given))
+            }
+            None => None,
+        }
+    }
+
+    /// The end of this number takes a datagram.
+    pub fn take(
+        &mut self,
+        number: usize,
+        now: Moment,
+        from: Addr,
+        octets: &[u8],
+        out: &mut ArrayVec<u8, 576>,
+    ) -> Taken
+        requires there { IsSome (addr_of self.old number) }
+        requires node { (node : NodeValue) → node_of self.old number ≡ Some node → node.last ≤ now }
+        requires server { (server : ServerValue) → self.old.server ≡ Some server → server.last ≤ now }
+        ensures { (taken : TakenValue) × Takes now self.old from octets.now number taken self.new × IsTaken result out.new.items taken }
+    {
+        if number == 0 {
+            return match &mut self.server {
+                Some(server) => serve(server, now, from, octets, out),
+                None => Taken::Down,
+            };
+        }
+        let end = &mut self.nodes[number - 1];
+        match &mut end.node {
+            Some(node) => hear(node, now, from, octets, out),
+            None => Taken::Down,
+        }
+    }
+}
+
+/// Starts a node that is down. Returns whether it was.
+fn start_node(end: &mut End, server: Addr, config: Config, now: Moment) -> bool
+    ensures { MatchBool result ((end.old.node ≡ None) × (end.new ≡ record end.old { node = Some (started 14 end.old.addr server config now) })) (IsSome end.old.node × (end.new ≡ end.old)) }
+{
+    if end.node.is_some() {
+        return false;
+    }
+    end.node = Some(Node::start(end.addr, server, config, now));
+    true
+}
+
+/// Crashes a node that is up. Returns whether it was.
+fn crash_node(end: &mut End) -> bool
+    ensures { MatchBool result (IsSome end.old.node × (end.new ≡ record end.old { node = None })) ((end.old.node ≡ None) × (end.new ≡ end.old)) }
+{
+    if end.node.is_none() {
+        return false;
+    }
+    end.node = None;
+    true
+}
+
+/// The server takes a datagram.
+fn serve(
+    server: &mut Server,
+    now: Moment,
+    from: Addr,
+    octets: &[u8],
+    out: &mut ArrayVec<u8, 576>,
+) -> Taken
+    requires { server.old.last ≤ now }
+    ensures { (taken : TakenValue) × ServerDoes now server.old from.ip octets.now taken server.new × IsTaken result out.new.items taken }
+{
+    match server.on_datagram(now, from, octets, out) {
+        Ok(true) => Taken::Replies,
+        Ok(false) => Taken::Silent,
+        Err(ServerFault::OutOfMemory) => Taken::Lost,
+        Err(ServerFault::ClockBack) => unreachable!(),
+    }
+}
+
+/// A node takes a datagram.
+fn hear(
+    node: &mut Node<SLOTS>,
+    now: Moment,
+    from: Addr,
+    octets: &[u8],
+    out: &mut ArrayVec<u8, 576>,
+) -> Taken
+    requires { node.old.last ≤ now }
+    ensures { (reply : Option MessageValue) × NodeHears now node.old from octets.now reply node.new × IsTaken result out.new.items (takes reply) }
+{
+    if node.on_datagram(now, from, octets, out).is_err() {
+        unreachable!();
+    }
+    if out.is_empty() {
+        Taken::Silent
+    } else {
+        Taken::Replies
+    }
+}
+
+/// The place of the node at an address.
+fn place_of(nodes: &[End], addr: Addr) -> Option<usize>
+    ensures found { IfSome result (λ index. addr_at nodes.now index ≡ Some addr) }
+    ensures none { IsNone result → (index : ℕ) → addr_at nodes.now index ≢ Some addr }
+{
+    for (index, end) in nodes.iter().enumerate() {
+        if end.addr == addr {
+            return Some(index);
+        }
+    }
+    None
+}
+
+/// Whether some node has this 32-bit address.
+fn any_has_ip(nodes: &[End], ip: u32) -> bool
+    ensures { IsTrue result ↔ ((index : ℕ) × (addr : Addr) × (addr_at nodes.now index ≡ Some addr) × (addr.ip ≡ ip)) }
+{
+    for end in nodes {
+        if end.addr.ip == ip {
+            return true;
+        }
+    }
+    false
+}

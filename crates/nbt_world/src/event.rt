@@ -1,0 +1,65 @@
+//! What happens in a world, and what comes of it.
+
+use nbt_name::{Addr, Kind, Name};
+use thiserror::Error;
+
+/// What happens next in a world. Ends are numbered: 0 is the server, and the nodes are numbered from 1. Datagrams are
+/// numbered from 0, in the order of their sending.
+#[derive(Debug, Drop)]
+pub enum Event {
+    /// The clock goes on by so many milliseconds, at most to 2^60.
+    Tick(u64),
+    /// An end starts, and knows nothing of before.
+    Start(usize),
+    /// An end crashes, and nothing of it is kept.
+    Crash(usize),
+    /// A node asks for a name, for these seconds.
+    Ask {
+        node: usize,
+        name: Name,
+        kind: Kind,
+        ttl: u32,
+    },
+    /// A node gives a name back.
+    Release { node: usize, name: Name },
+    /// A node asks the server who holds a name.
+    Resolve { node: usize, name: Name },
+    /// A node asks the end at an address which names it holds.
+    NameStatus { node: usize, to: Addr, name: Name },
+    /// A node sends what is due.
+    Poll(usize),
+    /// The datagram of this number is delivered.
+    Deliver(usize),
+    /// A datagram comes from an address that is no end's, to the end of a number.
+    Stranger {
+        from: Addr,
+        to: usize,
+        octets: Vec<u8>,
+    },
+}
+
+/// What came of an event.
+#[derive(Clone, Copy, Debug, PartialEq, Eq)]
+pub enum Outcome {
+    /// The clock went on, or the end started or crashed.
+    Done,
+    /// The datagram of this number was sent.
+    Sent(usize),
+    /// The node refused the call, with this number.
+    Refused(u8),
+    /// Nothing was to do: the end is so already, or nothing was due.
+    Nothing,
+    /// The end is down, or the world has no such node.
+    Down,
+    /// There is no such datagram or no end at its address; or a stranger's address is an end's.
+    Nobody,
+    /// The datagram's life has passed, or memory was refused to the server for it.
+    Lost,
+    /// The end took the datagram and sent none.
+    Taken,
+}
+
+/// Memory was refused to the world, which then is as it was.
+#[derive(Clone, Copy, Debug, PartialEq, Eq, Error)]
+#[error("OutOfMemory")]
+pub struct OutOfMemory;
