@@ -1,1 +1,13 @@
 pub mod Knowing
+pub mod Places
+pub mod Replies
+pub mod Keeping
+pub mod Clock
+pub mod Naming
+pub mod Events
+pub mod Deliveries
+pub mod Starting
+pub mod Worlds
+pub mod Running
+pub mod Holding
+pub mod Apart

@@ -83,3 +83,46 @@ Wants (Some k) kind = WantsIn k.state kind
 pub record RequestsEnded (life now : ℕ) (asked : ℕ → MessageValue → Type 0) (k : Option Known) : Type 0 where
   pub ended : (moment : ℕ) (message : MessageValue) → asked moment message → IsDeliverable life now moment → moment ≤ bound now k
   pub one_kind : (kind : Kind) (moment : ℕ) (message : MessageValue) → Wants k kind → asked moment message → IsDeliverable life now moment → AsksAs kind message
+
+-- ---- what holds of the ends and of the network
+
+-- one server and 1 to 8 nodes, no two ends with one 32-bit address
+pub record AreEnds (ends : Ends) : Type 0 where
+  pub some : 1 ≤ length ends.nodes.items
+  pub few : length ends.nodes.items ≤ 8
+  pub apart : (i j : ℕ) (a b : Addr) → addr_of ends i ≡ Some a → addr_of ends j ≡ Some b → a.ip ≡ b.ip → i ≡ j
+
+-- a node that is up has the world's addresses and limits, and wasn't called later than now
+pub record IsNodeOf (world : WorldValue) (addr : Addr) (node : NodeValue) : Type 0 where
+  pub addr_is : node.addr ≡ addr
+  pub server_is : node.server ≡ world.ends.server_addr
+  pub config_is : node.config ≡ world.config
+  pub past : node.last ≤ world.now
+
+-- the server that is up has the world's limits, and sound leases, none of which ends later than the longest lease from
+-- now
+pub record IsServerOf (world : WorldValue) (server : ServerValue) : Type 0 where
+  pub config_is : server.table.config ≡ world.config
+  pub past : server.last ≤ world.now
+  pub sound : IsSound world.config world.now (leases_at world.now server.table.rows)
+
+-- Each datagram was sent by an end, not later than now, and is the written form of a message that it spells, and no
+-- other.
+pub record IsSent (ends : Ends) (now : ℕ) (d : Datagram) : Type 0 where
+  pub number : ℕ
+  pub message : MessageValue
+  pub past : d.moment ≤ now
+  pub sender : addr_of ends number ≡ Some d.from
+  pub written : d.octets.items ≡ text message
+  pub spelled : Spells d.octets.items message
+  pub only : (m : MessageValue) → Spells d.octets.items m → m ≡ message
+
+-- ---- what every world keeps
+
+pub record IsKept (world : WorldValue) : Type 0 where
+  pub ends : AreEnds world.ends
+  pub nodes : (number : ℕ) (addr : Addr) (node : NodeValue) → addr_of world.ends number ≡ Some addr → node_of world.ends number ≡ Some node → IsNodeOf world addr node
+  pub server : (server : ServerValue) → world.ends.server ≡ Some server → IsServerOf world server
+  pub sent : (d : Datagram) → Contains world.sent d → IsSent world.ends world.now d
+  pub requests : (number : ℕ) (addr : Addr) (name : NameValue) → addr_of world.ends number ≡ Some addr
+      → RequestsEnded world.config.life world.now (Asked world.sent addr.ip name) (known (node_of world.ends number) name)

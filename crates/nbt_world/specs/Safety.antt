@@ -18,10 +18,13 @@ held_by (Some node) name now = holds node name now
 abbrev pub holding : WorldValue → (number : ℕ) → NameValue → Option Kind
 holding world number name = held_by (node_of world.ends number) name world.now
 
+-- These two don't both hold the name, unless both as a group.
+abbrev pub MayHold : WorldValue → (i j : ℕ) → NameValue → Type 0
+MayHold world i j name = (k l : Kind) → i ≢ j → holding world i name ≡ Some k → holding world j name ≡ Some l → (k ≡ Group) × (l ≡ Group)
+
 -- No two nodes hold one name, unless both as a group.
 abbrev pub IsSafe : WorldValue → Type 0
-IsSafe world =
-    (name : NameValue) (i j : ℕ) (k l : Kind) → i ≢ j → holding world i name ≡ Some k → holding world j name ≡ Some l → (k ≡ Group) × (l ≡ Group)
+IsSafe world = (name : NameValue) (i j : ℕ) → MayHold world i j name
 
 -- These events, in order, lead from a world through these worlds: the first is that world itself, and the last is
 -- where they end.

@@ -203,3 +203,10 @@ pub data Step (old : WorldValue) : Event → Outcome → WorldValue → Type 0 w
   from_a_stranger : (from addr : Addr) (number : ℕ) (octets : Vec ℕ) (taken : TakenValue) (ends : Ends) → ¬ IsOfEnd old.ends from.ip → addr_of old.ends number ≡ Some addr
       → Takes old.now old.ends from octets.items number taken ends
       → Step old (Stranger from number octets) (outcome_of_taking old taken) (after_taking old ends addr from taken)
+
+-- room for a datagram is made for all other events
+abbrev pub TakesNoMemory : Event → Type 0
+TakesNoMemory (Tick ms) = Unit {0}
+TakesNoMemory (Start number) = Unit {0}
+TakesNoMemory (Crash number) = Unit {0}
+TakesNoMemory _ = ⊥

@@ -1,5 +1,5 @@
 -- The world: all ends, the network between them, and one clock (our profile).
-use Rattle.std.specs.Prelude.{◌≡◌, ℕ, ◌+◌, ◌<◌, ◌≤◌, zero, suc, List, [], ◌∷◌, ◌++◌, length, slice_get, replicate, Option, Some, None}
+use Rattle.std.specs.Prelude.{◌≡◌, ℕ, ◌+◌, ◌<◌, ◌≤◌, zero, suc, List, [], ◌∷◌, ◌++◌, length, map, slice_get, Option, Some, None}
 use Rattle.std.specs.Option.{option_map}
 use Rattle.nbt_name.specs.declared.addr.Addr.{Addr}
 use Rattle.nbt_lease.specs.Config.{ConfigValue}
@@ -62,3 +62,31 @@ datagram from to moment octets = record { from = from; to = to; moment = moment;
 -- A datagram may be delivered until the greatest life has passed since it was sent, any number of times.
 abbrev pub IsDeliverable : (life now : ℕ) → (sent : ℕ) → Type 0
 IsDeliverable life now sent = now ≤ sent + life
+
+-- ---- the beginning
+
+-- one of the addresses has these 32 bits, and no two have the same
+abbrev pub StandsIn : (ip : ℕ) → List Addr → Type 0
+StandsIn ip addrs = (index : ℕ) × (addr : Addr) × (slice_get addrs index ≡ Some addr) × (addr.ip ≡ ip)
+
+abbrev pub AreApart : List Addr → Type 0
+AreApart addrs = (i j : ℕ) (a b : Addr) → slice_get addrs i ≡ Some a → slice_get addrs j ≡ Some b → a.ip ≡ b.ip → i ≡ j
+
+-- two to nine addresses, of which no two are equal in their 32 bits: the server's, and then the nodes'
+pub record AreAddrs (addrs : List Addr) : Type 0 where
+  pub some : 2 ≤ length addrs
+  pub few : length addrs ≤ 9
+  pub apart : AreApart addrs
+
+-- ends at these addresses, which are all down
+abbrev pub ends_at : Addr → List Addr → Ends
+ends_at server others = record { server_addr = server; server = None; nodes = record { items = map (λ addr. record { addr = addr; node = None }) others } }
+
+-- all ends are down, the clock is at 0, and no datagram was sent
+pub record IsFresh (config : ConfigValue) (addrs : List Addr) (world : WorldValue) : Type 0 where
+  pub now : world.now ≡ 0
+  pub config_is : world.config ≡ config
+  pub addrs_are : (number : ℕ) → addr_of world.ends number ≡ slice_get addrs number
+  pub no_server : world.ends.server ≡ None
+  pub no_node : (number : ℕ) → node_of world.ends number ≡ None
+  pub nothing_sent : world.sent ≡ []

@@ -1,19 +1,19 @@
 //! The ends of a world: the server and its nodes.
 
-ghost use Rattle.std.specs.Prelude.{◌≡◌, ◌≢◌, ℕ, ◌≤◌, ◌↔◌, Some, None, MatchOption, MatchBool, IsTrue, IsSome, IsNone, IfSome, Option};
+ghost use Rattle.std.specs.Prelude.{◌≡◌, ◌≢◌, ℕ, ◌≤◌, ◌↔◌, length, Some, None, MatchOption, MatchBool, IsTrue, IsSome, IsNone, IfSome, Option};
 ghost use Rattle.nbt_packet.specs.Message.{MessageValue};
 ghost use Rattle.nbt_node.specs.Node.{NodeValue};
 ghost use Rattle.nbt_node.specs.Calls.{started};
 ghost use Rattle.nbt_server.specs.Serving.{ServerValue};
 ghost use Rattle.nbt_name.specs.declared.addr.Addr.{Addr};
-ghost use Rattle.nbt_world.specs.World.{addr_at};
+ghost use Rattle.nbt_world.specs.World.{addr_at, StandsIn, AreApart};
 ghost use Rattle.nbt_world.specs.Step.{TakenValue, takes, ServerDoes, NodeHears, IsTaken};
 
 use crate::doing::{Given, SLOTS, does};
 use crate::event::Event;
 use arrayvec::ArrayVec;
 use nbt_lease::{Config, Moment};
-use nbt_name::Addr;
+use nbt_name::{Addr, Kind, Name};
 use nbt_node::Node;
 use nbt_server::{Server, ServerFault};
 use std::alloc::Global;
@@ -33,6 +33,45 @@ pub struct Ends {
     pub nodes: ArrayVec<End, 8>,
 }
 
+/// A node that holds a name, by its number, and as which kind.
+#[derive(Clone, Copy, Debug, PartialEq, Eq)]
+pub struct Holder {
+    pub node: usize,
+    pub kind: Kind,
+}
+
+impl Default for Holder {
+    fn default() -> Holder {
+        Holder {
+            node: 0,
+            kind: Kind::Unique,
+        }
+    }
+}
+
+impl Default for End {
+    fn default() -> End {
+        End {
+            addr: Addr { ip: 0, port: 0 },
+            node: None,
+        }
+    }
+}
+
+impl End {
+    ghost use Rattle.nbt_world.specs.Safety.{held_by};
+
+    /// As which kind the node holds the name at a moment; `None` where it is down.
+    pub fn holding(&self, now: Moment, name: &Name) -> Option<Kind>
+        ensures { result ≡ held_by self.now.node name.now now }
+    {
+        match &self.node {
+            Some(node) => node.holds(now, name),
+            None => None,
+        }
+    }
+}
+
 /// What becomes of a datagram at an end: the end is down, has no memory for it, takes it, or replies with the octets in
 /// the buffer.
 pub enum Taken {
@@ -43,8 +82,27 @@ pub enum Taken {
 }
 
 impl Ends {
-    ghost use Rattle.nbt_world.specs.World.{addr_of, node_of, IsOfEnd, with_node};
+    ghost use Rattle.nbt_world.specs.World.{ends_at, addr_of, node_of, IsOfEnd, with_node};
     ghost use Rattle.nbt_world.specs.Step.{number_in, given_of, Does, Starts, Crashes, Takes, IsDown, IsUp, TakenValue, IsTaken};
+
+    /// A server and nodes at these addresses, which are all down.
+    pub fn new(server_addr: Addr, others: &[Addr]) -> Ends
+        requires { length others.now ≤ 8 }
+        ensures { result ≡ ends_at server_addr others.now }
+    {
+        let mut nodes = ArrayVec::new();
+        for addr in others {
+            nodes.push(End {
+                addr: *addr,
+                node: None,
+            });
+        }
+        Ends {
+            server_addr,
+            server: None,
+            nodes,
+        }
+    }
 
     /// The address of the end of this number, if there is one.
     pub fn addr(&self, number: usize) -> Option<Addr>
@@ -250,6 +308,32 @@ fn any_has_ip(nodes: &[End], ip: u32) -> bool
 {
     for end in nodes {
         if end.addr.ip == ip {
+            return true;
+        }
+    }
+    false
+}
+
+/// Whether no two of the addresses are equal in their 32 bits.
+pub fn are_apart(addrs: &[Addr]) -> bool
+    ensures { IsTrue result ↔ AreApart addrs.now }
+{
+    let mut rest = addrs;
+    while let Some((first, others)) = rest.split_first() {
+        if stands_in(others, first.ip) {
+            return false;
+        }
+        rest = others;
+    }
+    true
+}
+
+/// Whether one of the addresses has these 32 bits.
+fn stands_in(addrs: &[Addr], ip: u32) -> bool
+    ensures { IsTrue result ↔ StandsIn ip addrs.now }
+{
+    for addr in addrs {
+        if addr.ip == ip {
             return true;
         }
     }

@@ -9,5 +9,6 @@ mod event;
 mod network;
 mod world;
 
+pub use ends::Holder;
 pub use event::{Event, OutOfMemory, Outcome};
-pub use world::World;
+pub use world::{Addrs, World};

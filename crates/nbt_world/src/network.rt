@@ -1,5 +1,15 @@
 //! The network between the ends.
 
+ghost use Rattle.std.specs.Prelude.{◌≡◌, ℕ, ◌<◌, Some, [], ◌∷◌, ◌++◌};
+ghost use Rattle.std.specs.Vec.{vec_len, vec_capacity};
+ghost use Rattle.nbt_node.specs.Node.{NodeValue};
+ghost use Rattle.nbt_world.specs.declared.ends.Ends.{Ends as EndsValue};
+ghost use Rattle.nbt_world.specs.World.{WorldValue, with_node};
+ghost use Rattle.nbt_world.specs.Step.{given_of, after, outcome_of, TakenValue, IsTaken, after_taking, outcome_of_taking};
+
+use crate::doing::Given;
+use crate::ends::Taken;
+use crate::event::Outcome;
 use arrayvec::ArrayVec;
 use nbt_lease::Moment;
 use nbt_name::Addr;
@@ -12,4 +22,73 @@ pub struct Datagram {
     /// When it was sent.
     pub moment: Moment,
     pub octets: ArrayVec<u8, 576>,
+}
+
+/// Sends a datagram, for which there is room, and returns its number.
+fn send(sent: &mut Vec<Datagram>, datagram: Datagram) -> usize
+    requires { vec_len sent.old < vec_capacity sent.old }
+    ensures number { result ≡ vec_len sent.old }
+    ensures sent { sent.new.items ≡ sent.old.items ++ datagram ∷ [] }
+{
+    let number = sent.len();
+    let pushed = sent.push(datagram);
+    prove!(pushed.is_ok());
+    number
+}
+
+/// Sends what a node's call gave, where it gave a datagram.
+pub fn give(
+    sent: &mut Vec<Datagram>,
+    given: Given,
+    from: Addr,
+    moment: Moment,
+    octets: ArrayVec<u8, 576>,
+) -> Outcome
+    requires { vec_len sent.old < vec_capacity sent.old }
+    ensures { (world : WorldValue) (number : ℕ) (new : NodeValue) → world.sent ≡ sent.old.items → world.now ≡ moment → new.addr ≡ from
+        → (result ≡ outcome_of world (given_of given octets.items))
+        × (after world number new (given_of given octets.items) ≡ record world { ends = with_node world.ends number (Some new); sent = sent.new.items }) }
+{
+    match given {
+        Given::Nothing => Outcome::Nothing,
+        Given::Refusal(fault) => Outcome::Refused(fault),
+        Given::To(to) => Outcome::Sent(send(
+            sent,
+            Datagram {
+                from,
+                to,
+                moment,
+                octets,
+            },
+        )),
+    }
+}
+
+/// Sends an end's reply to a datagram, where it has one.
+pub fn reply(
+    sent: &mut Vec<Datagram>,
+    taken: Taken,
+    from: Addr,
+    to: Addr,
+    moment: Moment,
+    octets: ArrayVec<u8, 576>,
+) -> Outcome
+    requires { vec_len sent.old < vec_capacity sent.old }
+    ensures { (world : WorldValue) (ends : EndsValue) (value : TakenValue) → world.sent ≡ sent.old.items → world.now ≡ moment → IsTaken taken octets.items value
+        → (result ≡ outcome_of_taking world value) × (after_taking world ends from to value ≡ record world { ends = ends; sent = sent.new.items }) }
+{
+    match taken {
+        Taken::Down => Outcome::Down,
+        Taken::Lost => Outcome::Lost,
+        Taken::Silent => Outcome::Taken,
+        Taken::Replies => Outcome::Sent(send(
+            sent,
+            Datagram {
+                from,
+                to,
+                moment,
+                octets,
+            },
+        )),
+    }
 }

@@ -1,14 +1,38 @@
-//! The world.
+//! The world: its events, one at a time and in a row.
 
-use crate::ends::Ends;
-use crate::network::Datagram;
+ghost use Rattle.std.specs.Prelude.{◌≡◌, ◌≤◌, ◌<◌, ◌↔◌, ℕ, Some, None, List, length, take, slice_index_or, IsOk, IsTrue, IfOk, OnOk, IfErr, OnErr, MatchResult, Contains};
+ghost use Rattle.nbt_name.specs.declared.addr.Kind.{Kind as KindValue};
+ghost use Rattle.nbt_world.specs.World.{WorldValue, AreAddrs, IsFresh};
+ghost use Rattle.nbt_world.specs.Step.{Step, number_in, TakesNoMemory};
+ghost use Rattle.nbt_world.specs.Safety.{Run, holding, MayHold};
+ghost use Rattle.nbt_world.specs.declared.ends.Holder.{Holder as HolderValue};
+
+use crate::ends::{Ends, Holder, are_apart};
+use crate::event::{Event, OutOfMemory, Outcome};
+use crate::network::{Datagram, give, reply};
+use arrayvec::ArrayVec;
 use nbt_lease::{Config, Moment};
+use nbt_name::{Addr, Kind, Name};
+use std::alloc::Global;
 use std::marker::Model;
+use thiserror::Error;
+
+/// The last moment of the clock, in milliseconds (our profile).
+const LAST: u64 = 1 << 60;
+
+/// The most nodes of a world.
+const NODES_MOST: usize = 8;
+
+/// The addresses of a world's ends aren't 2 to 9, or two of them are equal in their 32 bits.
+#[derive(Clone, Copy, Debug, PartialEq, Eq, Error)]
+#[error("Addrs")]
+pub struct Addrs;
 
 /// All ends of a network, the datagrams between them, and one clock.
 #[derive(Drop)]
 pub struct World {
-    now: Moment,
+    alloc: Global,
+    clock: Moment,
     config: Config,
     ends: Ends,
     sent: Vec<Datagram>,
@@ -16,8 +40,222 @@ pub struct World {
 
 impl Model for World {
     ghost use Rattle.nbt_world.specs.World.{WorldValue};
+    ghost use Rattle.nbt_world.specs.Kept.{IsKept};
 
     ghost Value = { WorldValue };
 
-    ghost view = { λ w. record { now = w.now; config = w.config; ends = w.ends; sent = w.sent.items } };
+    ghost view = { λ w. record { now = w.clock; config = w.config; ends = w.ends; sent = w.sent.items } };
+
+    ghost invariant = { λ w. IsKept (record { now = w.clock; config = w.config; ends = w.ends; sent = w.sent.items }) };
+}
+
+impl World {
+    /// A world with a server at the first of the addresses and a node at each other one, numbered from 1, each of 14
+    /// slots. All ends are down, the clock is at 0, and no datagram was sent. Refused exactly where there aren't 2 to 9
+    /// addresses, or where two are equal in their 32 bits, whatever their ports. Takes no memory.
+    pub fn new(alloc: Global, config: Config, addrs: &[Addr]) -> Result<World, Addrs>
+        ensures found { IsOk result ↔ AreAddrs addrs.now }
+        ensures world { IfOk result (λ world. IsFresh config addrs.now world) }
+    {
+        let Some((server_addr, others)) = addrs.split_first() else {
+            return Err(Addrs);
+        };
+        if others.is_empty() || others.len() > NODES_MOST || !are_apart(addrs) {
+            return Err(Addrs);
+        }
+        Ok(World {
+            alloc,
+            clock: Moment::zero(),
+            config,
+            ends: Ends::new(*server_addr, others),
+            sent: Vec::new(alloc),
+        })
+    }
+
+    /// The clock goes on.
+    fn tick(&mut self, ms: u64) -> Outcome
+        ensures { Step self.old (Event.Tick ms) result self.new }
+    {
+        nbt_lease::laws::leases_stay_sound();
+        let later = self.clock.get().saturating_add(ms).min(LAST);
+        if let Some(now) = Moment::new(later) {
+            self.clock = now;
+        } else {
+            unreachable!();
+        }
+        Outcome::Done
+    }
+
+    /// An end starts.
+    fn start(&mut self, number: usize) -> Outcome
+        ensures { Step self.old (Event.Start number) result self.new }
+    {
+        if self.ends.start(self.alloc, number, self.config, self.clock) {
+            Outcome::Done
+        } else {
+            Outcome::Nothing
+        }
+    }
+
+    /// An end crashes.
+    fn crash(&mut self, number: usize) -> Outcome
+        ensures { Step self.old (Event.Crash number) result self.new }
+    {
+        if self.ends.crash(number) {
+            Outcome::Done
+        } else {
+            Outcome::Nothing
+        }
+    }
+
+    /// A node does something of its own.
+    fn node_event(&mut self, number: usize, event: &Event) -> Result<Outcome, OutOfMemory>
+        requires { number_in event.now ≡ Some number }
+        ensures step { IfOk result (λ outcome. Step self.old event.now outcome self.new) }
+        ensures refused { OnErr result (self.new ≡ self.old) }
+    {
+        nbt_packet::laws::one_message_spelled();
+        if self.sent.try_reserve(1).is_err() {
+            return Err(OutOfMemory);
+        }
+        let mut octets = ArrayVec::new();
+        let done = self.ends.node_event(number, self.clock, event, &mut octets);
+        let Some((from, given)) = done else {
+            return Ok(Outcome::Down);
+        };
+        Ok(give(&mut self.sent, given, from, self.clock, octets))
+    }
+
+    /// A datagram of the list is delivered.
+    fn deliver(&mut self, k: usize) -> Result<Outcome, OutOfMemory>
+        ensures step { IfOk result (λ outcome. Step self.old (Event.Deliver k) outcome self.new) }
+        ensures refused { OnErr result (self.new ≡ self.old) }
+    {
+        nbt_packet::laws::one_message_spelled();
+        nbt_lease::laws::leases_stay_sound();
+        if self.sent.try_reserve(1).is_err() {
+            return Err(OutOfMemory);
+        }
+        let Some(datagram) = self.sent.as_slice().get(k) else {
+            return Ok(Outcome::Nobody);
+        };
+        let from = datagram.from;
+        let to = datagram.to;
+        let Some(number) = self.ends.find(to) else {
+            return Ok(Outcome::Nobody);
+        };
+        if datagram.moment.get() + self.config.life() < self.clock.get() {
+            return Ok(Outcome::Lost);
+        }
+        let mut octets = ArrayVec::new();
+        let taken = self.ends.take(number, self.clock, from, datagram.octets.as_slice(), &mut octets);
+        Ok(reply(&mut self.sent, taken, to, from, self.clock, octets))
+    }
+
+    /// A datagram comes from an address that is no end's.
+    fn stranger(
+        &mut self,
+        from: Addr,
+        number: usize,
+        octets: &Vec<u8>,
+    ) -> Result<Outcome, OutOfMemory>
+        ensures step { IfOk result (λ outcome. Step self.old (Event.Stranger from number octets.now) outcome self.new) }
+        ensures refused { OnErr result (self.new ≡ self.old) }
+    {
+        nbt_packet::laws::one_message_spelled();
+        nbt_lease::laws::leases_stay_sound();
+        if self.sent.try_reserve(1).is_err() {
+            return Err(OutOfMemory);
+        }
+        if self.ends.has_ip(from.ip) {
+            return Ok(Outcome::Nobody);
+        }
+        let Some(addr) = self.ends.addr(number) else {
+            return Ok(Outcome::Nobody);
+        };
+        let mut out = ArrayVec::new();
+        let taken = self.ends.take(number, self.clock, from, octets.as_slice(), &mut out);
+        Ok(reply(&mut self.sent, taken, addr, from, self.clock, out))
+    }
+
+    /// What happens next: the clock goes on, an end starts or crashes, a node does something of its own, a datagram of
+    /// the list is delivered, or one comes from a stranger. Returns what came of it. `OutOfMemory` only where room for
+    /// one datagram more was refused: then the world is as it was. A `Tick`, `Start` or `Crash` takes no memory.
+    pub fn step(&mut self, event: &Event) -> Result<Outcome, OutOfMemory>
+        ensures step { IfOk result (λ outcome. Step self.old event.now outcome self.new) }
+        ensures refused { OnErr result (self.new ≡ self.old) }
+        ensures memory { TakesNoMemory event.now → IsOk result }
+    {
+        match event {
+            Event::Tick(ms) => Ok(self.tick(*ms)),
+            Event::Start(number) => Ok(self.start(*number)),
+            Event::Crash(number) => Ok(self.crash(*number)),
+            Event::Ask { node, .. } => self.node_event(*node, event),
+            Event::Release { node, .. } => self.node_event(*node, event),
+            Event::Resolve { node, .. } => self.node_event(*node, event),
+            Event::NameStatus { node, .. } => self.node_event(*node, event),
+            Event::Poll(node) => self.node_event(*node, event),
+            Event::Deliver(k) => self.deliver(*k),
+            Event::Stranger { from, to, octets } => self.stranger(*from, *to, octets),
+        }
+    }
+
+    /// The events in order, as far as memory is there. With `OutOfMemory`, the number of the event that it was refused
+    /// to: the world is then as after those before it.
+    pub fn run(&mut self, events: &[Event]) -> Result<(), (usize, OutOfMemory)>
+        ensures ran { OnOk result ((worlds : List WorldValue) × Run events.now self.old worlds self.new) }
+        ensures stopped { IfErr result (λ stop. (stop.0 < length events.now) × (worlds : List WorldValue) × Run (take stop.0 events.now) self.old worlds self.new) }
+    {
+        for (number, event) in events.iter().enumerate() {
+            match self.step(event) {
+                Ok(_) => {}
+                Err(fault) => return Err((number, fault)),
+            }
+        }
+        Ok(())
+    }
+
+    /// As which kind the node of this number holds the name now; `None` where it doesn't, where it is down, and where
+    /// there is none.
+    fn holding(&self, number: usize, name: &Name) -> Option<Kind>
+        ensures { result ≡ holding self.now number name.now }
+    {
+        if number == 0 || number > self.ends.nodes.len() {
+            return None;
+        }
+        self.ends.nodes.as_slice()[number - 1].holding(self.clock, name)
+    }
+
+    /// Whether these two, if they are different nodes, don't both hold the name now, unless both as a group.
+    pub fn no_two_holders(&self, i: usize, j: usize, name: &Name) -> bool
+        ensures { IsTrue result ↔ MayHold self.now i j name.now }
+    {
+        if i == j {
+            return true;
+        }
+        match (self.holding(i, name), self.holding(j, name)) {
+            (Some(Kind::Group), Some(Kind::Group)) => true,
+            (Some(_), Some(_)) => false,
+            _ => true,
+        }
+    }
+
+    /// The nodes that hold the name now, with their kinds, in order of their numbers. Takes no memory.
+    pub fn holders(&self, name: &Name) -> ArrayVec<Holder, 8>
+        ensures exactly { (number : ℕ) (kind : KindValue) → Contains result.items (record { node = number; kind = kind }) ↔ (holding self.now number name.now ≡ Some kind) }
+        ensures in_order { (i j : ℕ) (d : HolderValue) → i < j → j < length result.items → (slice_index_or result.items i d).node < (slice_index_or result.items j d).node }
+    {
+        let nodes = self.ends.nodes.as_slice();
+        let mut holders = ArrayVec::new();
+        for (index, end) in nodes.iter().enumerate() {
+            match end.holding(self.clock, name) {
+                Some(kind) => holders.push(Holder {
+                    node: index + 1,
+                    kind,
+                }),
+                None => {}
+            }
+        }
+        holders
+    }
 }

@@ -1,0 +1,87 @@
+-- Addresses that are apart, and the world that is made at them.
+use Rattle.std.proofs.Common.{◌≡◌, ◌≢◌, ℕ, zero, suc, ◌+◌, ◌<◌, ◌≤◌, List, [], ◌∷◌, ◌++◌, length, map, Option, Some, None, refl, sym, ap, subst, ◌∙◌, arith}
+use Rattle.std.specs.Prelude.{slice_get, Contains, ◌↔◌}
+use Rattle.std.specs.Option.{option_map}
+use Rattle.std.proofs.lemmas.List.{length-map}
+use Rattle.std.proofs.lemmas.Option.{none-some, same_Some}
+use Rattle.nbt_name.specs.declared.addr.Addr.{Addr}
+use Rattle.nbt_name.specs.Wire.{NameValue}
+use Rattle.nbt_packet.specs.Message.{MessageValue}
+use Rattle.nbt_lease.specs.Config.{ConfigValue}
+use Rattle.nbt_node.specs.Node.{NodeValue}
+use Rattle.nbt_world.specs.declared.ends.End.{End}
+use Rattle.nbt_world.specs.declared.ends.Ends.{Ends}
+use Rattle.nbt_world.specs.declared.network.Datagram.{Datagram}
+use Rattle.nbt_world.specs.World.{WorldValue, addr_at, addr_of, node_in, node_of, StandsIn, AreApart, AreAddrs, ends_at, IsFresh}
+use Rattle.nbt_world.specs.Kept.{Asked, known, RequestsEnded, IsKept}
+use Rattle.nbt_world.proofs.Knowing.{ended-down}
+
+pub apart_none : AreApart []
+apart_none i j a b p q same = absurd (none-some a p)
+
+-- one address more, which doesn't stand among the others
+pub apart_more : (first : Addr) (others : List Addr) → (StandsIn first.ip others → ⊥) → AreApart (first ∷ others) ↔ AreApart others
+apart_more first others off = (λ apart i j a b p q same. down i j (apart (suc i) (suc j) a b p q same), λ apart i j a b p q same. up apart i j a b p q same)
+  where
+    down : (i j : ℕ) → suc i ≡ suc j → i ≡ j
+    down i j e = omega arith
+
+    up : AreApart others → (i j : ℕ) (a b : Addr) → slice_get (first ∷ others) i ≡ Some a → slice_get (first ∷ others) j ≡ Some b → a.ip ≡ b.ip → i ≡ j
+    up apart zero zero a b p q same = refl
+    up apart zero (suc j) a b p q same = absurd (off (j, b, q, sym same ∙ ap (λ (x : Addr). x.ip) (sym (same_Some first a p))))
+    up apart (suc i) zero a b p q same = absurd (off (i, a, p, same ∙ ap (λ (x : Addr). x.ip) (sym (same_Some first b q))))
+    up apart (suc i) (suc j) a b p q same = ap suc (apart i j a b p q same)
+
+pub not_apart : (first : Addr) (others : List Addr) → StandsIn first.ip others → AreApart (first ∷ others) → ⊥
+not_apart first others is apart = zero_suc is.0 (apart zero (suc is.0) first is.1 refl is.2 (sym is.3))
+  where
+    zero_suc : (k : ℕ) → zero ≡ suc k → ⊥
+    zero_suc k e = cc
+
+-- ---- the world at them
+
+abbrev pub end_of : Addr → End
+end_of a = record { addr = a; node = None }
+
+at_place : (others : List Addr) (i : ℕ) → addr_at (map (λ a. record { addr = a; node = None }) others) i ≡ slice_get others i
+at_place [] i = refl
+at_place (a ∷ others) zero = refl
+at_place (a ∷ others) (suc i) = at_place others i
+
+down_at : (others : List Addr) (i : ℕ) → node_in (slice_get (map (λ a. record { addr = a; node = None }) others) i) ≡ None
+down_at [] i = refl
+down_at (a ∷ others) zero = refl
+down_at (a ∷ others) (suc i) = down_at others i
+
+pub addrs_at : (server : Addr) (others : List Addr) (n : ℕ) → addr_of (ends_at server others) n ≡ slice_get (server ∷ others) n
+addrs_at server others zero = refl
+addrs_at server others (suc i) = at_place others i
+
+pub none_at : (server : Addr) (others : List Addr) (n : ℕ) → node_of (ends_at server others) n ≡ None
+none_at server others zero = refl
+none_at server others (suc i) = down_at others i
+
+abbrev pub fresh : ConfigValue → Addr → List Addr → WorldValue
+fresh config server others = record { now = 0; config = config; ends = ends_at server others; sent = [] }
+
+pub is_fresh : (config : ConfigValue) (server : Addr) (others : List Addr) → IsFresh config (server ∷ others) (fresh config server others)
+is_fresh config server others = record { now = refl; config_is = refl; addrs_are = addrs_at server others; no_server = refl; no_node = none_at server others; nothing_sent = refl }
+
+nothing_among : (d : Datagram) → Contains [] d → ⊥
+nothing_among d c = let lt = c.1 in absurd (omega arith)
+
+counted : (others : List Addr) → length (map (λ (a : Addr). end_of a) others) ≡ length others
+counted others = length-map others end_of
+
+pub fresh_kept : (config : ConfigValue) (server : Addr) (others : List Addr) → AreAddrs (server ∷ others) → IsKept (fresh config server others)
+fresh_kept config server others are = record {
+  ends = record {
+    some = let n = counted others in let some = are.some in omega arith;
+    few = let n = counted others in let few = are.few in omega arith;
+    apart = λ i j a b p q same. are.apart i j a b (sym (addrs_at server others i) ∙ p) (sym (addrs_at server others j) ∙ q) same;
+  };
+  nodes = λ n a node p up. absurd (none-some node (sym (none_at server others n) ∙ up));
+  server = λ s up. absurd (none-some s up);
+  sent = λ d c. absurd (nothing_among d c);
+  requests = λ n a name p. rw (none_at server others n) (ended-down config.life 0 (Asked [] a.ip name) (λ moment message asked. absurd (nothing_among asked.datagram asked.among)));
+}

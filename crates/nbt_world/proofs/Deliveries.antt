@@ -1,0 +1,210 @@
+-- What a world keeps when an end takes a datagram, and when an end starts or crashes.
+use Rattle.std.proofs.Common.{◌≡◌, ◌≢◌, ℕ, zero, suc, ◌+◌, ◌*◌, ◌<◌, ◌≤◌, List, [], ◌∷◌, ◌++◌, Option, Some, None, refl, sym, ap, subst, ◌∙◌, arith, inl, inr}
+use Rattle.std.specs.Prelude.{◌⊎◌, Result}
+use Rattle.std.proofs.lemmas.Option.{none-some, same_Some}
+use Rattle.nbt_name.specs.declared.addr.Addr.{Addr}
+use Rattle.nbt_name.specs.Wire.{NameValue}
+use Rattle.nbt_packet.specs.Message.{MessageValue, registration, overwrite, refresh, release, query, status_request, registered, released, found, not_found, status, wait}
+use Rattle.nbt_packet.specs.Text.{text}
+use Rattle.nbt_packet.specs.Spelling.{Spells}
+use Rattle.nbt_lease.specs.Config.{ConfigValue}
+use Rattle.nbt_lease.specs.Lease.{Leases, Rows, TableValue, leases_at, IsSound}
+use Rattle.nbt_node.specs.Node.{NodeValue, ByTimeAlone, Passes}
+use Rattle.nbt_node.specs.Moves.{NameEvent, hear, Told, NameMoves}
+use Rattle.nbt_node.specs.Calls.{AreWritten, Hears, from_server, from_stranger, Lists, lists_names, lists_nothing, names_listed, Ends as LookupEnds, is_answered, is_unanswered, Idles, idles, Takes as NodeTakes, TakesOctets, spelled, unspelled, Handles}
+use Rattle.nbt_lease.specs.declared.fault.GrantFault.{GrantFault}
+use Rattle.nbt_lease.specs.declared.lease.Grant.{Grant}
+use Rattle.nbt_lease.specs.declared.lease.Released.{Released}
+use Rattle.nbt_lease.specs.Rules.{Asked as Asking, Grants, Releases}
+use Rattle.nbt_server.specs.Serving.{ServerValue, Serves, ServesOctets}
+use Rattle.nbt_server.specs.Serving as serving
+use Rattle.nbt_world.specs.declared.ends.Ends.{Ends}
+use Rattle.nbt_world.specs.declared.network.Datagram.{Datagram}
+use Rattle.nbt_world.specs.World.{WorldValue, addr_of, node_of, with_server, with_node, datagram}
+use Rattle.nbt_world.specs.Step.{NodeHears, TakenValue, takes, after_taking, ServerDoes, server_takes, server_forgets, Takes, finds_down, by_server, by_node}
+use Rattle.nbt_world.specs.Kept.{IsRequest, Asked, known, RequestsEnded, IsServerOf, IsKept}
+use Rattle.nbt_world.proofs.Keeping.{server_changes}
+use Rattle.nbt_world.proofs.Naming.{OneMessage, names_apart, Stays, stays_by_moves, is_new, nothing_new, name_by_time, name_hears, UpAt, up_at, node_moves}
+use Rattle.nbt_world.proofs.Events.{stays_by_lookup, stays_by_time, time_kept, other_kept}
+
+-- ---- a node hears something about a name
+
+hears_kept : (w : WorldValue) (i : ℕ) (node new : NodeValue) (name : NameValue) (m : MessageValue) (told : Told) → IsKept w → node_of w.ends (suc i) ≡ Some node → NameMoves node w.now name (hear m) new None told
+    → IsKept (record w { ends = with_node w.ends (suc i) (Some new) })
+hears_kept w i node new name m told kept up moves =
+    let at = up_at w i node kept up in
+    let stays = stays_by_moves w.now node new name _ _ _ moves in
+    node_moves w i node new w.sent kept at stays (nothing_new w at.addr) (λ q. names at stays q (names_apart q name))
+  where
+    names : (at : UpAt w i node) → Stays node w.now new → (q : NameValue) → (q ≡ name) ⊎ (q ≢ name) → RequestsEnded node.config.life w.now (Asked w.sent (at.addr).ip q) (known (Some new) q)
+    names at stays q (inl e) =
+      subst (λ (n : NameValue). RequestsEnded node.config.life w.now (Asked w.sent (at.addr).ip n) (known (Some new) n)) (sym e)
+        (name_hears w.now node new name m told (Asked w.sent (at.addr).ip name) stays.start_is moves (at.requests name))
+    names at stays q (inr ne) = name_by_time w.now node new q (Asked w.sent (at.addr).ip q) (Asked w.sent (at.addr).ip q) stays.start_is (moves.others q ne) (λ moment message a. a) (at.requests q)
+
+-- the world after a node took a datagram, and its reply was sent
+abbrev pub replied_world : WorldValue → (i : ℕ) → NodeValue → Addr → Option MessageValue → WorldValue
+replied_world w i new to None = record w { ends = with_node w.ends (suc i) (Some new) }
+replied_world w i new to (Some m) = record w { ends = with_node w.ends (suc i) (Some new); sent = w.sent ++ datagram new.addr to w.now (text m) ∷ [] }
+
+passes_kept : (w : WorldValue) (i : ℕ) (node new : NodeValue) → IsKept w → node_of w.ends (suc i) ≡ Some node → Passes node w.now new → IsKept (record w { ends = with_node w.ends (suc i) (Some new) })
+passes_kept w i node new kept up passes = time_kept w i node new kept up (stays_by_time w.now node new passes) passes.names
+
+heard_kept : (w : WorldValue) (i : ℕ) (node new : NodeValue) (from to : Addr) (name : NameValue) (m : MessageValue) (sent : Option MessageValue) (told : Told) → IsKept w → node_of w.ends (suc i) ≡ Some node
+    → Hears node w.now from name m new sent told → IsKept (replied_world w i new to sent)
+heard_kept w i node new from to name m sent told kept up (from_server n t same moves) = hears_kept w i node new name m told kept up moves
+heard_kept w i node new from to name m sent told kept up (from_stranger n other passes) = passes_kept w i node new kept up passes
+
+lists_kept : OneMessage → (w : WorldValue) (i : ℕ) (node new : NodeValue) (to : Addr) (id : ℕ) (name : NameValue) (sent : Option MessageValue) (told : Told) (out : List ℕ) → IsKept w → node_of w.ends (suc i) ≡ Some node
+    → Lists node w.now id name new sent told → AreWritten sent out → IsKept (replied_world w i new to sent)
+lists_kept law w i node new to id name sent told out kept up (lists_names n is passes) written =
+    other_kept law w i node new to _ (status id name (names_listed node w.now name)) kept up (stays_by_time w.now node new passes) passes.names (refl, subst (λ (xs : List ℕ). Spells xs (status id name (names_listed node w.now name))) written.0 written.1) (λ q r. r)
+lists_kept law w i node new to id name sent told out kept up (lists_nothing n is passes) written = passes_kept w i node new kept up passes
+
+ended_kept : (w : WorldValue) (i : ℕ) (node new : NodeValue) (from to : Addr) (m : MessageValue) (sent : Option MessageValue) (t told : Told) → IsKept w → node_of w.ends (suc i) ≡ Some node
+    → LookupEnds node w.now from m t new sent told → IsKept (replied_world w i new to sent)
+ended_kept w i node new from to m sent t told kept up (is_answered n is looks) = time_kept w i node new kept up (stays_by_lookup w.now node new _ _ looks) looks.names
+ended_kept w i node new from to m sent t told kept up (is_unanswered n is passes) = passes_kept w i node new kept up passes
+
+idles_kept : (w : WorldValue) (i : ℕ) (node new : NodeValue) (to : Addr) (sent : Option MessageValue) (told : Told) → IsKept w → node_of w.ends (suc i) ≡ Some node
+    → Idles node w.now new sent told → IsKept (replied_world w i new to sent)
+idles_kept w i node new to sent told kept up (idles n passes) = passes_kept w i node new kept up passes
+
+takes_kept : OneMessage → (w : WorldValue) (i : ℕ) (node new : NodeValue) (from to : Addr) (m : MessageValue) (sent : Option MessageValue) (told : Told) (out : List ℕ) → IsKept w → node_of w.ends (suc i) ≡ Some node
+    → NodeTakes node w.now from m new sent told → AreWritten sent out → IsKept (replied_world w i new to sent)
+takes_kept law w i node new from to (registration r) sent told out kept up t written = idles_kept w i node new to sent told kept up t
+takes_kept law w i node new from to (overwrite r) sent told out kept up t written = idles_kept w i node new to sent told kept up t
+takes_kept law w i node new from to (refresh r) sent told out kept up t written = idles_kept w i node new to sent told kept up t
+takes_kept law w i node new from to (release id name kind addr) sent told out kept up t written = idles_kept w i node new to sent told kept up t
+takes_kept law w i node new from to (query id name) sent told out kept up t written = idles_kept w i node new to sent told kept up t
+takes_kept law w i node new from to (status_request id name) sent told out kept up t written = lists_kept law w i node new to id name sent told out kept up t written
+takes_kept law w i node new from to (registered rcode r) sent told out kept up t written = heard_kept w i node new from to _ _ sent told kept up t
+takes_kept law w i node new from to (released id rcode name kind addr) sent told out kept up t written = heard_kept w i node new from to _ _ sent told kept up t
+takes_kept law w i node new from to (found id name ttl entries) sent told out kept up t written = ended_kept w i node new from to _ sent _ told kept up t
+takes_kept law w i node new from to (not_found id rcode name) sent told out kept up t written = ended_kept w i node new from to _ sent _ told kept up t
+takes_kept law w i node new from to (status id name names) sent told out kept up t written = ended_kept w i node new from to _ sent _ told kept up t
+takes_kept law w i node new from to (wait id name ttl) sent told out kept up t written = heard_kept w i node new from to _ _ sent told kept up t
+
+octets_kept : OneMessage → (w : WorldValue) (i : ℕ) (node new : NodeValue) (from to : Addr) (octets : List ℕ) (sent : Option MessageValue) (told : Told) (out : List ℕ) → IsKept w → node_of w.ends (suc i) ≡ Some node
+    → TakesOctets node w.now from octets new sent told → AreWritten sent out → IsKept (replied_world w i new to sent)
+octets_kept law w i node new from to octets sent told out kept up (spelled m n s t is does) written = takes_kept law w i node new from to m sent told out kept up does written
+octets_kept law w i node new from to octets sent told out kept up (unspelled n no_message passes) written = passes_kept w i node new kept up passes
+
+heard_addr : (now : ℕ) (node new : NodeValue) (from : Addr) (name : NameValue) (m : MessageValue) (sent : Option MessageValue) (told : Told) → Hears node now from name m new sent told → new.addr ≡ node.addr
+heard_addr now node new from name m sent told (from_server n t same moves) = (stays_by_moves now node new name _ _ _ moves).addr_is
+heard_addr now node new from name m sent told (from_stranger n other passes) = (stays_by_time now node new passes).addr_is
+
+ended_addr : (now : ℕ) (node new : NodeValue) (from : Addr) (m : MessageValue) (t : Told) (sent : Option MessageValue) (told : Told) → LookupEnds node now from m t new sent told → new.addr ≡ node.addr
+ended_addr now node new from m t sent told (is_answered n is looks) = (stays_by_lookup now node new _ _ looks).addr_is
+ended_addr now node new from m t sent told (is_unanswered n is passes) = (stays_by_time now node new passes).addr_is
+
+listed_addr : (now : ℕ) (node new : NodeValue) (id : ℕ) (name : NameValue) (sent : Option MessageValue) (told : Told) → Lists node now id name new sent told → new.addr ≡ node.addr
+listed_addr now node new id name sent told (lists_names n is passes) = (stays_by_time now node new passes).addr_is
+listed_addr now node new id name sent told (lists_nothing n is passes) = (stays_by_time now node new passes).addr_is
+
+idle_addr : (now : ℕ) (node new : NodeValue) (sent : Option MessageValue) (told : Told) → Idles node now new sent told → new.addr ≡ node.addr
+idle_addr now node new sent told (idles n passes) = (stays_by_time now node new passes).addr_is
+
+taken_addr : (now : ℕ) (node new : NodeValue) (from : Addr) (m : MessageValue) (sent : Option MessageValue) (told : Told) → NodeTakes node now from m new sent told → new.addr ≡ node.addr
+taken_addr now node new from (registration r) sent told t = idle_addr now node new sent told t
+taken_addr now node new from (overwrite r) sent told t = idle_addr now node new sent told t
+taken_addr now node new from (refresh r) sent told t = idle_addr now node new sent told t
+taken_addr now node new from (release id name kind addr) sent told t = idle_addr now node new sent told t
+taken_addr now node new from (query id name) sent told t = idle_addr now node new sent told t
+taken_addr now node new from (status_request id name) sent told t = listed_addr now node new id name sent told t
+taken_addr now node new from (registered rcode r) sent told t = heard_addr now node new from r.name _ sent told t
+taken_addr now node new from (released id rcode name kind addr) sent told t = heard_addr now node new from name _ sent told t
+taken_addr now node new from (found id name ttl entries) sent told t = ended_addr now node new from _ _ sent told t
+taken_addr now node new from (not_found id rcode name) sent told t = ended_addr now node new from _ _ sent told t
+taken_addr now node new from (status id name names) sent told t = ended_addr now node new from _ _ sent told t
+taken_addr now node new from (wait id name ttl) sent told t = heard_addr now node new from name _ sent told t
+
+stays_by_octets : (now : ℕ) (node new : NodeValue) (from : Addr) (octets : List ℕ) (sent : Option MessageValue) (told : Told) → TakesOctets node now from octets new sent told → new.addr ≡ node.addr
+stays_by_octets now node new from octets sent told (spelled m n s t is does) = taken_addr now node new from m sent told does
+stays_by_octets now node new from octets sent told (unspelled n no_message passes) = (stays_by_time now node new passes).addr_is
+
+node_hears_kept : OneMessage → (w : WorldValue) (i : ℕ) (node new : NodeValue) (from addr : Addr) (octets : List ℕ) (reply : Option MessageValue) → IsKept w → addr_of w.ends (suc i) ≡ Some addr → node_of w.ends (suc i) ≡ Some node
+    → NodeHears w.now node from octets reply new → IsKept (after_taking w (with_node w.ends (suc i) (Some new)) addr from (takes reply))
+node_hears_kept law w i node new from addr octets reply kept at up hears = as_taken reply same (subst (λ (r : Option MessageValue). IsKept (replied_world w i new from r)) hears.sent_is left)
+  where
+    left : IsKept (replied_world w i new from (hears.handles).sent)
+    left = octets_kept law w i node new from from octets (hears.handles).sent hears.told hears.out kept up (hears.handles).takes (hears.handles).written
+
+    same : new.addr ≡ addr
+    same =
+      let here = up_at w i node kept up in
+      stays_by_octets w.now node new from octets _ _ (hears.handles).takes ∙ (here.is).addr_is ∙ same_Some here.addr addr (sym here.at ∙ at)
+
+    as_taken : (r : Option MessageValue) → new.addr ≡ addr → IsKept (replied_world w i new from r) → IsKept (after_taking w (with_node w.ends (suc i) (Some new)) addr from (takes r))
+    as_taken None e kept = kept
+    as_taken (Some m) e kept = subst (λ (a : Addr). IsKept (record w { ends = with_node w.ends (suc i) (Some new); sent = w.sent ++ datagram a from w.now (text m) ∷ [] })) e kept
+
+-- ---- the server takes a datagram
+
+-- the laws of leases that this rests on
+abbrev pub GrantsSound : Type 0
+GrantsSound = (table : TableValue) (now : ℕ) (name : NameValue) (a : Asking) (result : Result Grant GrantFault) (after : Leases) → IsSound table.config now (leases_at now table.rows) → Grants table now name a result after → IsSound table.config now after
+
+abbrev pub ReleasesSound : Type 0
+ReleasesSound = (table : TableValue) (now : ℕ) (name : NameValue) (addr : ℕ) (result : Released) (after : Leases) → IsSound table.config now (leases_at now table.rows) → Releases table now name addr result after → IsSound table.config now after
+
+serves_sound : GrantsSound → ReleasesSound → (table : TableValue) (now ip : ℕ) (m : MessageValue) (reply : Option MessageValue) (after : Leases) → IsSound table.config now (leases_at now table.rows)
+    → Serves table now ip m reply after → IsSound table.config now after
+serves_sound g r table now ip m reply after sound (serving.registers k a result l asks own grants) = g table now a.name _ result after sound grants
+serves_sound g r table now ip m reply after sound (serving.refuses k a asks own) = sound
+serves_sound g r table now ip m reply after sound (serving.refuses_overwrite a) = sound
+serves_sound g r table now ip m reply after sound (serving.releases id name kind addr result l own releases) = r table now name addr result after sound releases
+serves_sound g r table now ip m reply after sound (serving.refuses_release id name kind addr own) = sound
+serves_sound g r table now ip m reply after sound (serving.finds id name end least) = sound
+serves_sound g r table now ip m reply after sound (serving.finds_none id name none) = sound
+serves_sound g r table now ip m reply after sound (serving.passes_over k is) = sound
+
+serves_octets_sound : GrantsSound → ReleasesSound → (server : ServerValue) (now ip : ℕ) (octets : List ℕ) (reply : Option MessageValue) (after : Leases) → IsSound server.table.config now (leases_at now server.table.rows)
+    → ServesOctets server now ip octets reply after → IsSound server.table.config now after
+serves_octets_sound g r server now ip octets reply after sound (serving.is_silent early) = sound
+serves_octets_sound g r server now ip octets reply after sound (serving.is_no_message none) = sound
+serves_octets_sound g r server now ip octets reply after sound (serving.serves m p l speaks spells does) = serves_sound g r server.table now ip m reply after sound does
+
+server_takes_kept : OneMessage → GrantsSound → ReleasesSound → (w : WorldValue) (server new : ServerValue) (from addr : Addr) (octets : List ℕ) (taken : TakenValue) → IsKept w → w.ends.server ≡ Some server → addr_of w.ends 0 ≡ Some addr
+    → ServerDoes w.now server from.ip octets taken new → ((m : MessageValue) → taken ≡ takes (Some m) → Spells (text m) m)
+    → IsKept (after_taking w (with_server w.ends (Some new)) addr from taken)
+server_takes_kept law g r w server new from addr octets taken kept up at (server_takes reply n t) spells = go reply (λ m e. spells m (ap takes e))
+  where
+    is : IsServerOf w new
+    is =
+      let k = kept.server server up in
+      record {
+        config_is = t.config ∙ k.config_is;
+        past = let e = t.last in omega arith;
+        sound = subst (λ (c : ConfigValue). IsSound c w.now (leases_at w.now new.table.rows)) k.config_is
+          (serves_octets_sound g r server w.now from.ip octets reply _ (subst (λ (c : ConfigValue). IsSound c w.now (leases_at w.now server.table.rows)) (sym k.config_is) k.sound) t.serves);
+      }
+
+    is_its : (s : ServerValue) → Some new ≡ Some s → IsServerOf w s
+    is_its s e = subst (λ (x : ServerValue). IsServerOf w x) (same_Some new s e) is
+
+    go : (p : Option MessageValue) → ((m : MessageValue) → p ≡ Some m → Spells (text m) m) → IsKept (after_taking w (with_server w.ends (Some new)) addr from (takes p))
+    go None spelling = server_changes w (Some new) w.sent kept is_its (nothing_new w w.ends.server_addr)
+    go (Some m) spelling =
+      server_changes w (Some new) (w.sent ++ datagram addr from w.now (text m) ∷ []) kept is_its
+        (is_new law w 0 w.ends.server_addr (datagram addr from w.now (text m)) m refl (record { from_is = sym (same_Some w.ends.server_addr addr at); now_is = refl; written = refl; spelled = spelling m refl }))
+server_takes_kept law g r w server new from addr octets taken kept up at (server_forgets n t) spells =
+    server_changes w (Some new) w.sent kept (λ s e. subst (λ (x : ServerValue). IsServerOf w x) (same_Some new s e) is) (nothing_new w w.ends.server_addr)
+  where
+    is : IsServerOf w new
+    is =
+      let k = kept.server server up in
+      record {
+        config_is = t.config ∙ k.config_is;
+        past = let e = t.last in omega arith;
+        sound = subst (λ (l : Leases). IsSound w.config w.now l) (sym t.leases) k.sound;
+      }
+
+-- ---- an end takes a datagram
+
+pub taking_kept : OneMessage → GrantsSound → ReleasesSound → (w : WorldValue) (from addr : Addr) (octets : List ℕ) (number : ℕ) (taken : TakenValue) (ends : Ends) → IsKept w → addr_of w.ends number ≡ Some addr
+    → Takes w.now w.ends from octets number taken ends → ((m : MessageValue) → taken ≡ takes (Some m) → Spells (text m) m)
+    → IsKept (after_taking w ends addr from taken)
+taking_kept law g r w from addr octets number taken ends kept at (finds_down n down) spells = kept
+taking_kept law g r w from addr octets number taken ends kept at (by_server server new t up does) spells = server_takes_kept law g r w server new from addr octets taken kept up at does spells
+taking_kept law g r w from addr octets number taken ends kept at (by_node i node new reply up hears) spells = node_hears_kept law w i node new from addr octets reply kept at up hears

@@ -1,0 +1,140 @@
+-- What a world keeps at a node's own events: it asks, gives back, sends again, looks up, or nothing is due.
+use Rattle.std.proofs.Common.{◌≡◌, ◌≢◌, ℕ, zero, suc, ◌≤◌, List, [], ◌∷◌, ◌++◌, Option, Some, None, refl, sym, ap, subst, ◌∙◌, arith, inl, inr}
+use Rattle.std.specs.Prelude.{◌⊎◌}
+use Rattle.std.proofs.lemmas.Option.{none-some, same_Some}
+use Rattle.nbt_name.specs.declared.addr.Addr.{Addr}
+use Rattle.nbt_name.specs.Wire.{NameValue}
+use Rattle.nbt_packet.specs.Message.{MessageValue}
+use Rattle.nbt_packet.specs.Text.{text}
+use Rattle.nbt_packet.specs.Spelling.{Spells}
+use Rattle.nbt_node.specs.declared.lookup.Lookup.{Lookup}
+use Rattle.nbt_node.specs.declared.lookup.Wanted.{Wanted}
+use Rattle.nbt_node.specs.declared.lookup.Wanted.TheVariants.{Entries, Names}
+use Rattle.nbt_node.specs.Node.{NodeValue, ByTimeAlone, Passes}
+use Rattle.nbt_node.specs.Moves.{NameEvent, NameMoves, next_due}
+use Rattle.nbt_node.specs.Calls.{AreWritten, Sends, LooksUp, question, Opens, Polls, polls_name, polls_lookup, polls_nothing as nothing_due}
+use Rattle.nbt_world.specs.declared.event.Event.{Event}
+use Rattle.nbt_world.specs.declared.network.Datagram.{Datagram}
+use Rattle.nbt_world.specs.World.{WorldValue, node_of, with_node, datagram}
+use Rattle.nbt_world.specs.Step.{GivenValue, nothing, refusal, octets_to, Does, asks, ask_refused, gives_back, release_refused, resolves, resolve_refused, asks_status, status_refused, polls, polls_nothing, after}
+use Rattle.nbt_world.specs.Kept.{IsRequest, Asked, known, RequestsEnded, IsNodeOf, IsKept}
+use Rattle.nbt_world.proofs.Keeping.{IsNew, asked_past, addr_there, node_changes}
+use Rattle.nbt_world.proofs.Naming.{OneMessage, names_apart, request_one, Sending, is_new, nothing_new, others_fewer, own_more, Stays, stays_by_moves, name_by_time, name_sends, UpAt, up_at, node_moves}
+use Rattle.nbt_world.proofs.Knowing.{is_sent}
+
+-- ---- a request about a name: asked for, given back, or sent again
+
+pub sends_kept : OneMessage → (w : WorldValue) (i : ℕ) (node new : NodeValue) (name : NameValue) (event : NameEvent) (to : Addr) (octets : List ℕ) → IsKept w → node_of w.ends (suc i) ≡ Some node
+    → Sends node w.now name event new octets
+    → IsKept (record w { ends = with_node w.ends (suc i) (Some new); sent = w.sent ++ datagram new.addr to w.now octets ∷ [] })
+sends_kept law w i node new name event to octets kept up sends =
+    let at = up_at w i node kept up in
+    let stays = stays_by_moves w.now node new name event _ _ sends.moves in
+    let sending : Sending w at.addr (datagram new.addr to w.now octets) sends.message =
+      record { from_is = stays.addr_is ∙ (at.is).addr_is; now_is = refl; written = (sends.written).0; spelled = (sends.written).1 } in
+    node_moves w i node new (w.sent ++ datagram new.addr to w.now octets ∷ []) kept at stays
+      (is_new law w (suc i) at.addr (datagram new.addr to w.now octets) sends.message at.at sending)
+      (λ q. names at stays sending q (names_apart q name))
+  where
+    names : (at : UpAt w i node) → Stays node w.now new → Sending w at.addr (datagram new.addr to w.now octets) sends.message → (q : NameValue) → (q ≡ name) ⊎ (q ≢ name)
+        → RequestsEnded node.config.life w.now (Asked (w.sent ++ datagram new.addr to w.now octets ∷ []) (at.addr).ip q) (known (Some new) q)
+    names at stays sending q (inl e) =
+      subst (λ (n : NameValue). RequestsEnded node.config.life w.now (Asked (w.sent ++ datagram new.addr to w.now octets ∷ []) (at.addr).ip n) (known (Some new) n)) (sym e)
+        (name_sends w.now node new name event sends.message _ (Asked w.sent (at.addr).ip name) (Asked (w.sent ++ datagram new.addr to w.now octets ∷ []) (at.addr).ip name) stays.start_is sends.moves
+          (asked_past w (at.addr).ip name w.sent kept.sent)
+          (own_more law w at.addr (datagram new.addr to w.now octets) sends.message (at.addr).ip name sending)
+          (at.requests name))
+    names at stays sending q (inr ne) =
+      name_by_time w.now node new q (Asked w.sent (at.addr).ip q) (Asked (w.sent ++ datagram new.addr to w.now octets ∷ []) (at.addr).ip q) stays.start_is ((sends.moves).others q ne)
+        (others_fewer law w at.addr (datagram new.addr to w.now octets) sends.message (at.addr).ip q sending
+          (λ r. ne (request_one sends.message q name r (is_sent (sends.moves).move).request)))
+        (at.requests q)
+
+-- ---- time alone, and what is no request
+
+pub stays_by_lookup : (now : ℕ) (old new : NodeValue) (lookup : Option Lookup) (next : ℕ) → LooksUp old now lookup next new → Stays old now new
+stays_by_lookup now old new lookup next looks = record {
+  addr_is = ap (λ (n : NodeValue). n.addr) looks.node;
+  server_is = ap (λ (n : NodeValue). n.server) looks.node;
+  config_is = ap (λ (n : NodeValue). n.config) looks.node;
+  start_is = ap (λ (n : NodeValue). n.start) looks.node;
+  last_is = ap (λ (n : NodeValue). n.last) looks.node;
+}
+
+pub stays_by_time : (now : ℕ) (old new : NodeValue) → Passes old now new → Stays old now new
+stays_by_time now old new passes = record {
+  addr_is = ap (λ (n : NodeValue). n.addr) passes.node;
+  server_is = ap (λ (n : NodeValue). n.server) passes.node;
+  config_is = ap (λ (n : NodeValue). n.config) passes.node;
+  start_is = ap (λ (n : NodeValue). n.start) passes.node;
+  last_is = ap (λ (n : NodeValue). n.last) passes.node;
+}
+
+pub time_kept : (w : WorldValue) (i : ℕ) (node new : NodeValue) → IsKept w → node_of w.ends (suc i) ≡ Some node → Stays node w.now new → ByTimeAlone node w.now new
+    → IsKept (record w { ends = with_node w.ends (suc i) (Some new) })
+time_kept w i node new kept up stays names =
+    let at = up_at w i node kept up in
+    node_moves w i node new w.sent kept at stays (nothing_new w at.addr)
+      (λ q. name_by_time w.now node new q (Asked w.sent (at.addr).ip q) (Asked w.sent (at.addr).ip q) stays.start_is (names q) (λ moment message a. a) (at.requests q))
+
+-- a datagram that is no request
+pub other_kept : OneMessage → (w : WorldValue) (i : ℕ) (node new : NodeValue) (to : Addr) (octets : List ℕ) (m : MessageValue) → IsKept w → node_of w.ends (suc i) ≡ Some node → Stays node w.now new → ByTimeAlone node w.now new
+    → AreWritten (Some m) octets → ((q : NameValue) → IsRequest q m → ⊥)
+    → IsKept (record w { ends = with_node w.ends (suc i) (Some new); sent = w.sent ++ datagram new.addr to w.now octets ∷ [] })
+other_kept law w i node new to octets m kept up stays names written off =
+    let at = up_at w i node kept up in
+    let sending : Sending w at.addr (datagram new.addr to w.now octets) m =
+      record { from_is = stays.addr_is ∙ (at.is).addr_is; now_is = refl; written = written.0; spelled = written.1 } in
+    node_moves w i node new (w.sent ++ datagram new.addr to w.now octets ∷ []) kept at stays
+      (is_new law w (suc i) at.addr (datagram new.addr to w.now octets) m at.at sending)
+      (λ q. name_by_time w.now node new q (Asked w.sent (at.addr).ip q) (Asked (w.sent ++ datagram new.addr to w.now octets ∷ []) (at.addr).ip q) stays.start_is (names q)
+        (others_fewer law w at.addr (datagram new.addr to w.now octets) m (at.addr).ip q sending (off q)) (at.requests q))
+
+-- a call that was refused leaves the node
+pub refused_kept : (w : WorldValue) (i : ℕ) (node : NodeValue) → IsKept w → node_of w.ends (suc i) ≡ Some node → IsKept (record w { ends = with_node w.ends (suc i) (Some node) })
+refused_kept w i node kept up =
+    let there = addr_there w.ends (suc i) node up in
+    node_changes w i there.0 (Some node) w.sent kept there.1
+      (λ x e. subst (λ (y : NodeValue). IsNodeOf w there.0 y) (same_Some node x e) (kept.nodes (suc i) there.0 node there.1 up)) (nothing_new w there.0)
+      (λ q. subst (λ (x : Option NodeValue). RequestsEnded w.config.life w.now (Asked w.sent (there.0).ip q) (known x q)) up (kept.requests (suc i) there.0 q there.1))
+
+-- ---- a node's own event
+
+question_off : (l : Lookup) (q : NameValue) → IsRequest q (question l) → ⊥
+question_off l q = go l.wanted
+  where
+    go : (wanted : Wanted) → IsRequest q (question (record l { wanted = wanted })) → ⊥
+    go Entries r = r
+    go Names r = r
+
+opens_kept : OneMessage → (w : WorldValue) (i : ℕ) (node new : NodeValue) (name : NameValue) (to : Addr) (wanted : Wanted) (octets : List ℕ) → IsKept w → node_of w.ends (suc i) ≡ Some node
+    → Opens node w.now name to wanted new octets → IsKept (record w { ends = with_node w.ends (suc i) (Some new); sent = w.sent ++ datagram new.addr to w.now octets ∷ [] })
+opens_kept law w i node new name to wanted octets kept up opens =
+    other_kept law w i node new to octets _ kept up (stays_by_lookup w.now node new _ _ opens.opens) ((opens.opens).names) opens.written
+      (question_off (record { id = node.next_id; name = name; to = to; wanted = wanted; tries = 1; due = next_due w.now }))
+
+polls_kept : OneMessage → (w : WorldValue) (i : ℕ) (node new : NodeValue) (x : Option Addr) (octets : List ℕ) → IsKept w → node_of w.ends (suc i) ≡ Some node → Polls node w.now new x octets
+    → (to : Addr) → x ≡ Some to → IsKept (record w { ends = with_node w.ends (suc i) (Some new); sent = w.sent ++ datagram new.addr to w.now octets ∷ [] })
+polls_kept law w i node new x octets kept up (polls_name slot n o due sends) to e = sends_kept law w i node new slot.name _ to octets kept up sends
+polls_kept law w i node new x octets kept up (polls_lookup l n o none due looks written) to e =
+    other_kept law w i node new to octets (question l) kept up (stays_by_lookup w.now node new _ _ looks) looks.names written (question_off l)
+polls_kept law w i node new x octets kept up (nothing_due n none no_lookup passes) to e = absurd (none-some to e)
+
+idle_kept : (w : WorldValue) (i : ℕ) (node new : NodeValue) (x : Option Addr) (octets : List ℕ) → IsKept w → node_of w.ends (suc i) ≡ Some node → Polls node w.now new x octets → x ≡ None
+    → IsKept (record w { ends = with_node w.ends (suc i) (Some new) })
+idle_kept w i node new x octets kept up (polls_name slot n o due sends) e = absurd (none-some node.server (sym e))
+idle_kept w i node new x octets kept up (polls_lookup l n o none due looks written) e = absurd (none-some l.to (sym e))
+idle_kept w i node new x octets kept up (nothing_due n none no_lookup passes) e = time_kept w i node new kept up (stays_by_time w.now node new passes) passes.names
+
+pub does_kept : OneMessage → (w : WorldValue) (i : ℕ) (node new : NodeValue) (event : Event) (given : GivenValue) → IsKept w → node_of w.ends (suc i) ≡ Some node → Does node w.now event new given
+    → IsKept (after w (suc i) new given)
+does_kept law w i node new event given kept up (asks number name kind ttl n octets none sends) = sends_kept law w i node new name _ node.server octets kept up sends
+does_kept law w i node new event given kept up (ask_refused number name kind ttl fault is) = refused_kept w i node kept up
+does_kept law w i node new event given kept up (gives_back number name n octets none sends) = sends_kept law w i node new name _ node.server octets kept up sends
+does_kept law w i node new event given kept up (release_refused number name fault is) = refused_kept w i node kept up
+does_kept law w i node new event given kept up (resolves number name n octets none opens) = opens_kept law w i node new name node.server Entries octets kept up opens
+does_kept law w i node new event given kept up (resolve_refused number name fault is) = refused_kept w i node kept up
+does_kept law w i node new event given kept up (asks_status number to name n octets none opens) = opens_kept law w i node new name to Names octets kept up opens
+does_kept law w i node new event given kept up (status_refused number to name fault is) = refused_kept w i node kept up
+does_kept law w i node new event given kept up (polls number to n octets p) = polls_kept law w i node new (Some to) octets kept up p to refl
+does_kept law w i node new event given kept up (polls_nothing number n octets p) = idle_kept w i node new None octets kept up p refl

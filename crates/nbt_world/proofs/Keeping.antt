@@ -1,0 +1,188 @@
+-- What a world keeps when its clock goes on, when one node changes, and when the server does: what holds of all the
+-- other ends and names stays, and so only what is new has to be shown.
+use Rattle.std.proofs.Common.{◌≡◌, ◌≢◌, ℕ, zero, suc, ◌+◌, ◌*◌, ◌<◌, ◌≤◌, List, [], ◌∷◌, ◌++◌, length, Option, Some, None, refl, sym, ap, subst, ◌∙◌, arith, inl, inr}
+use Rattle.std.specs.Prelude.{slice_get, Contains, ◌⊎◌}
+use Rattle.std.proofs.lemmas.Bool.{cases_eq}
+use Rattle.std.proofs.lemmas.Option.{none-some, same_Some}
+use Rattle.nbt_name.specs.declared.addr.Addr.{Addr}
+use Rattle.nbt_name.specs.Wire.{NameValue}
+use Rattle.nbt_packet.specs.Message.{MessageValue}
+use Rattle.nbt_lease.specs.Config.{ConfigValue}
+use Rattle.nbt_lease.specs.Lease.{Rows, leases_at, IsSound}
+use Rattle.nbt_server.specs.Serving.{ServerValue}
+use Rattle.nbt_node.specs.Node.{NodeValue}
+use Rattle.nbt_world.specs.declared.ends.End.{End}
+use Rattle.nbt_world.specs.declared.ends.Ends.{Ends}
+use Rattle.nbt_world.specs.declared.network.Datagram.{Datagram}
+use Rattle.nbt_world.specs.World.{WorldValue, IsDeliverable, addr_at, addr_of, node_in, node_of, put_node, with_server, with_node}
+use Rattle.nbt_world.specs.Kept.{Asked, Known, known, RequestsEnded, AreEnds, IsNodeOf, IsServerOf, IsSent, IsKept}
+use Rattle.nbt_world.proofs.Knowing.{ended-frame, ended-down}
+
+-- ---- one node is another
+
+put_addr : (nodes : List End) (i : ℕ) (x : Option NodeValue) (j : ℕ) → addr_at (put_node nodes i x) j ≡ addr_at nodes j
+put_addr [] i x j = refl
+put_addr (end ∷ nodes) zero x zero = refl
+put_addr (end ∷ nodes) zero x (suc j) = refl
+put_addr (end ∷ nodes) (suc i) x zero = refl
+put_addr (end ∷ nodes) (suc i) x (suc j) = put_addr nodes i x j
+
+put_other : (nodes : List End) (i : ℕ) (x : Option NodeValue) (j : ℕ) → j ≢ i → node_in (slice_get (put_node nodes i x) j) ≡ node_in (slice_get nodes j)
+put_other [] i x j ne = refl
+put_other (end ∷ nodes) zero x zero ne = absurd (ne refl)
+put_other (end ∷ nodes) zero x (suc j) ne = refl
+put_other (end ∷ nodes) (suc i) x zero ne = refl
+put_other (end ∷ nodes) (suc i) x (suc j) ne = put_other nodes i x j (λ e. ne (ap suc e))
+
+put_here : (nodes : List End) (i : ℕ) (x : Option NodeValue) (addr : Addr) → addr_at nodes i ≡ Some addr → node_in (slice_get (put_node nodes i x) i) ≡ x
+put_here [] i x addr at = absurd (none-some addr at)
+put_here (end ∷ nodes) zero x addr at = refl
+put_here (end ∷ nodes) (suc i) x addr at = put_here nodes i x addr at
+
+put_length : (nodes : List End) (i : ℕ) (x : Option NodeValue) → length (put_node nodes i x) ≡ length nodes
+put_length [] i x = refl
+put_length (end ∷ nodes) zero x = refl
+put_length (end ∷ nodes) (suc i) x = ap suc (put_length nodes i x)
+
+pub addr_with : (ends : Ends) (i : ℕ) (x : Option NodeValue) (n : ℕ) → addr_of (with_node ends (suc i) x) n ≡ addr_of ends n
+addr_with ends i x zero = refl
+addr_with ends i x (suc j) = put_addr ends.nodes.items i x j
+
+pub node_with_other : (ends : Ends) (i : ℕ) (x : Option NodeValue) (n : ℕ) → n ≢ suc i → node_of (with_node ends (suc i) x) n ≡ node_of ends n
+node_with_other ends i x zero ne = refl
+node_with_other ends i x (suc j) ne = put_other ends.nodes.items i x j (λ e. ne (ap suc e))
+
+pub node_with_here : (ends : Ends) (i : ℕ) (x : Option NodeValue) (addr : Addr) → addr_of ends (suc i) ≡ Some addr → node_of (with_node ends (suc i) x) (suc i) ≡ x
+node_with_here ends i x addr at = put_here ends.nodes.items i x addr at
+
+pub addr_there : (ends : Ends) (n : ℕ) (node : NodeValue) → node_of ends n ≡ Some node → (addr : Addr) × (addr_of ends n ≡ Some addr)
+addr_there ends zero node is = absurd (none-some node is)
+addr_there ends (suc i) node is = go (slice_get ends.nodes.items i) refl is
+  where
+    go : (o : Option End) → slice_get ends.nodes.items i ≡ o → node_in o ≡ Some node → (addr : Addr) × (addr_of ends (suc i) ≡ Some addr)
+    go None e up = absurd (none-some node up)
+    go (Some end) e up = (end.addr, rw e refl)
+
+-- ---- what was sent
+
+-- the same datagram, where each end is where it was and the clock has not gone back
+pub sent_frame : (old new : Ends) (now later : ℕ) (d : Datagram) → ((n : ℕ) → addr_of new n ≡ addr_of old n) → now ≤ later → IsSent old now d → IsSent new later d
+sent_frame old new now later d same le is = record {
+  number = is.number;
+  message = is.message;
+  past = let past = is.past in omega arith;
+  sender = same is.number ∙ is.sender;
+  written = is.written;
+  spelled = is.spelled;
+  only = is.only;
+}
+
+-- a request was sent by now
+pub asked_past : (w : WorldValue) (ip : ℕ) (name : NameValue) (sent : List Datagram) → ((d : Datagram) → Contains sent d → IsSent w.ends w.now d) → (moment : ℕ) (message : MessageValue) → Asked sent ip name moment message → moment ≤ w.now
+asked_past w ip name sent all moment message a = let past = (all a.datagram a.among).past in let at = a.moment_is in omega arith
+
+-- what is new in the list isn't from this address
+pub asked_before : (old new : List Datagram) (from : Addr) (ip : ℕ) (name : NameValue) → from.ip ≢ ip → ((d : Datagram) → Contains new d → Contains old d ⊎ (d.from ≡ from))
+    → (moment : ℕ) (message : MessageValue) → Asked new ip name moment message → Asked old ip name moment message
+asked_before old new from ip name ne from_new moment message a = go (from_new a.datagram a.among)
+  where
+    go : Contains old a.datagram ⊎ (a.datagram.from ≡ from) → Asked old ip name moment message
+    go (inl c) = record { datagram = a.datagram; among = c; sender = a.sender; moment_is = a.moment_is; spelled = a.spelled; request = a.request }
+    go (inr e) = absurd (ne (ap (λ (f : Addr). f.ip) (sym e) ∙ a.sender))
+
+-- ---- one node changes
+
+-- what is new in the list was sent by this end
+abbrev pub IsNew : WorldValue → Addr → List Datagram → Type 0
+IsNew w addr sent = (d : Datagram) → Contains sent d → Contains w.sent d ⊎ ((d.from ≡ addr) × IsSent w.ends w.now d)
+
+all_sent : (w : WorldValue) (addr : Addr) (sent : List Datagram) → IsKept w → IsNew w addr sent → (d : Datagram) → Contains sent d → IsSent w.ends w.now d
+all_sent w addr sent kept new d c = go (new d c)
+  where
+    go : Contains w.sent d ⊎ ((d.from ≡ addr) × IsSent w.ends w.now d) → IsSent w.ends w.now d
+    go (inl old) = kept.sent d old
+    go (inr is) = is.1
+
+from_new : (w : WorldValue) (addr : Addr) (sent : List Datagram) → IsNew w addr sent → (d : Datagram) → Contains sent d → Contains w.sent d ⊎ (d.from ≡ addr)
+from_new w addr sent new d c = go (new d c)
+  where
+    go : Contains w.sent d ⊎ ((d.from ≡ addr) × IsSent w.ends w.now d) → Contains w.sent d ⊎ (d.from ≡ addr)
+    go (inl old) = inl old
+    go (inr is) = inr is.0
+
+pub node_changes : (w : WorldValue) (i : ℕ) (addr : Addr) (x : Option NodeValue) (sent : List Datagram) → IsKept w → addr_of w.ends (suc i) ≡ Some addr
+    → ((node : NodeValue) → x ≡ Some node → IsNodeOf w addr node) → IsNew w addr sent
+    → ((name : NameValue) → RequestsEnded w.config.life w.now (Asked sent addr.ip name) (known x name))
+    → IsKept (record w { ends = with_node w.ends (suc i) x; sent = sent })
+node_changes w i addr x sent kept at is new names = record {
+  ends = record {
+    some = let e = put_length w.ends.nodes.items i x in let some = kept.ends.some in omega arith;
+    few = let e = put_length w.ends.nodes.items i x in let few = kept.ends.few in omega arith;
+    apart = λ j k a b p q same. kept.ends.apart j k a b (sym (addr_with w.ends i x j) ∙ p) (sym (addr_with w.ends i x k) ∙ q) same;
+  };
+  nodes = λ n a node p up. node_at n a node (sym (addr_with w.ends i x n) ∙ p) up (cases_eq n (suc i));
+  server = λ server up. let k = kept.server server up in record { config_is = k.config_is; past = k.past; sound = k.sound };
+  sent = λ d c. sent_frame w.ends (with_node w.ends (suc i) x) w.now w.now d (addr_with w.ends i x) (omega arith) (all_sent w addr sent kept new d c);
+  requests = λ n a name p. requests_at n a name (sym (addr_with w.ends i x n) ∙ p) (cases_eq n (suc i));
+}
+  where
+    same_addr : (n : ℕ) (a : Addr) → addr_of w.ends n ≡ Some a → n ≡ suc i → addr ≡ a
+    same_addr n a p e = same_Some addr a (sym at ∙ ap (addr_of w.ends) (sym e) ∙ p)
+
+    value_at : (n : ℕ) → n ≡ suc i → node_of (with_node w.ends (suc i) x) n ≡ x
+    value_at n e = ap (node_of (with_node w.ends (suc i) x)) e ∙ node_with_here w.ends i x addr at
+
+    node_at : (n : ℕ) (a : Addr) (node : NodeValue) → addr_of w.ends n ≡ Some a → node_of (with_node w.ends (suc i) x) n ≡ Some node → (n ≡ suc i) ⊎ (n ≡ suc i → ⊥)
+        → IsNodeOf (record w { ends = with_node w.ends (suc i) x; sent = sent }) a node
+    node_at n a node p up (inl e) =
+      let k = is node (sym (value_at n e) ∙ up) in
+      record { addr_is = k.addr_is ∙ same_addr n a p e; server_is = k.server_is; config_is = k.config_is; past = k.past }
+    node_at n a node p up (inr ne) =
+      let k = kept.nodes n a node p (sym (node_with_other w.ends i x n ne) ∙ up) in
+      record { addr_is = k.addr_is; server_is = k.server_is; config_is = k.config_is; past = k.past }
+
+    requests_at : (n : ℕ) (a : Addr) (name : NameValue) → addr_of w.ends n ≡ Some a → (n ≡ suc i) ⊎ (n ≡ suc i → ⊥)
+        → RequestsEnded w.config.life w.now (Asked sent a.ip name) (known (node_of (with_node w.ends (suc i) x) n) name)
+    requests_at n a name p (inl e) = rw (value_at n e, ← same_addr n a p e) (names name)
+    requests_at n a name p (inr ne) =
+      rw (node_with_other w.ends i x n ne)
+        (ended-frame w.config.life w.now w.now (Asked w.sent a.ip name) (Asked sent a.ip name) (known (node_of w.ends n) name) (omega arith)
+          (asked_before w.sent sent addr a.ip name (λ same. ne (kept.ends.apart n (suc i) a addr p at (sym same))) (from_new w addr sent new))
+          (kept.requests n a name p))
+
+-- ---- the server changes
+
+pub server_addr_with : (ends : Ends) (x : Option ServerValue) (n : ℕ) → addr_of (with_server ends x) n ≡ addr_of ends n
+server_addr_with ends x zero = refl
+server_addr_with ends x (suc j) = refl
+
+server_node_with : (ends : Ends) (x : Option ServerValue) (n : ℕ) → node_of (with_server ends x) n ≡ node_of ends n
+server_node_with ends x zero = refl
+server_node_with ends x (suc j) = refl
+
+pub server_changes : (w : WorldValue) (x : Option ServerValue) (sent : List Datagram) → IsKept w
+    → ((server : ServerValue) → x ≡ Some server → IsServerOf w server) → IsNew w w.ends.server_addr sent
+    → IsKept (record w { ends = with_server w.ends x; sent = sent })
+server_changes w x sent kept is new = record {
+  ends = record {
+    some = kept.ends.some;
+    few = kept.ends.few;
+    apart = λ j k a b p q same. kept.ends.apart j k a b (sym (server_addr_with w.ends x j) ∙ p) (sym (server_addr_with w.ends x k) ∙ q) same;
+  };
+  nodes = λ n a node p up.
+    let k = kept.nodes n a node (sym (server_addr_with w.ends x n) ∙ p) (sym (server_node_with w.ends x n) ∙ up) in
+    record { addr_is = k.addr_is; server_is = k.server_is; config_is = k.config_is; past = k.past };
+  server = λ server up. let k = is server up in record { config_is = k.config_is; past = k.past; sound = k.sound };
+  sent = λ d c. sent_frame w.ends (with_server w.ends x) w.now w.now d (server_addr_with w.ends x) (omega arith) (all_sent w w.ends.server_addr sent kept new d c);
+  requests = λ n a name p. requests_at n a name (sym (server_addr_with w.ends x n) ∙ p);
+}
+  where
+    requests_at : (n : ℕ) (a : Addr) (name : NameValue) → addr_of w.ends n ≡ Some a → RequestsEnded w.config.life w.now (Asked sent a.ip name) (known (node_of (with_server w.ends x) n) name)
+    requests_at zero a name p = ended-down w.config.life w.now (Asked sent a.ip name) (asked_past w a.ip name sent (all_sent w w.ends.server_addr sent kept new))
+    requests_at (suc j) a name p =
+      ended-frame w.config.life w.now w.now (Asked w.sent a.ip name) (Asked sent a.ip name) (known (node_of w.ends (suc j)) name) (omega arith)
+        (asked_before w.sent sent w.ends.server_addr a.ip name (λ same. zero_suc j (kept.ends.apart zero (suc j) w.ends.server_addr a refl p same)) (from_new w w.ends.server_addr sent new))
+        (kept.requests (suc j) a name p)
+      where
+        zero_suc : (k : ℕ) → zero ≡ suc k → ⊥
+        zero_suc k e = cc

@@ -1,0 +1,211 @@
+-- What a world keeps when one node has moved: each name by time alone, but one that asks, sends again or hears.
+use Rattle.std.proofs.Common.{◌≡◌, ◌≢◌, ℕ, zero, suc, ◌+◌, ◌*◌, ◌<◌, ◌≤◌, Bool, true, false, List, [], ◌∷◌, ◌++◌, length, Option, Some, None, refl, sym, ap, subst, ◌∙◌, arith, inl, inr}
+use Rattle.std.specs.Prelude.{Contains, ◌⊎◌, ◌&&◌}
+use Rattle.std.specs.Str.{bytes_eq}
+use Rattle.std.proofs.lemmas.Bool.{cases_Bool}
+use Rattle.std.proofs.lemmas.Slice.Eq.{bytes_eq-Decides}
+use Rattle.std.proofs.lemmas.List.Elements.{Contains-push_cases}
+use Rattle.std.proofs.lemmas.Option.{none-some, same_Some}
+use Rattle.nbt_name.specs.declared.addr.Addr.{Addr}
+use Rattle.nbt_name.specs.Wire.{NameValue}
+use Rattle.nbt_packet.specs.Message.{MessageValue, registration, overwrite, refresh, release, query, status_request, registered, released, found, not_found, status, wait}
+use Rattle.nbt_packet.specs.Text.{text}
+use Rattle.nbt_packet.specs.Spelling.{Spells}
+use Rattle.nbt_lease.specs.Config.{ConfigValue}
+use Rattle.nbt_node.specs.declared.state.State.{State}
+use Rattle.nbt_node.specs.Settling.{settled}
+use Rattle.nbt_node.specs.Node.{NodeValue, state_of, state_at, ByTimeAlone}
+use Rattle.nbt_node.specs.Moves.{NameEvent, hear, Told, Move, NameMoves}
+use Rattle.nbt_world.specs.declared.network.Datagram.{Datagram}
+use Rattle.nbt_world.specs.World.{WorldValue, addr_of, node_of, with_node, datagram}
+use Rattle.nbt_world.specs.Kept.{IsRequest, Asked, known, RequestsEnded, IsNodeOf, IsSent, IsKept}
+use Rattle.nbt_world.proofs.Knowing.{Fades, fades, fades-heard, knows, ended-fades, ended-frame, ended-sent, is_sent}
+use Rattle.nbt_world.proofs.Keeping.{IsNew, node_changes, addr_there, asked_past}
+
+-- the law of messages that this rests on
+abbrev pub OneMessage : Type 0
+OneMessage = (octets : List ℕ) (m n : MessageValue) → Spells octets m → Spells octets n → m ≡ n
+
+-- ---- names
+
+pub names_apart : (a b : NameValue) → (a ≡ b) ⊎ (a ≢ b)
+names_apart a b = go (cases_Bool (bytes_eq a.octets b.octets)) (cases_Bool (bytes_eq a.scope b.scope))
+  where
+    equal : a.octets ≡ b.octets → a.scope ≡ b.scope → a ≡ b
+    equal p q = λ i. record { octets = p i; scope = q i }
+
+    off : (t : Bool) → t ≡ false → t ≡ true → ⊥
+    off t p q = cc
+
+    go : (bytes_eq a.octets b.octets ≡ true) ⊎ (bytes_eq a.octets b.octets ≡ false) → (bytes_eq a.scope b.scope ≡ true) ⊎ (bytes_eq a.scope b.scope ≡ false) → (a ≡ b) ⊎ (a ≢ b)
+    go (inl p) (inl q) = inl (equal ((bytes_eq-Decides a.octets b.octets).0 p) ((bytes_eq-Decides a.scope b.scope).0 q))
+    go (inl p) (inr q) = inr (λ e. off (bytes_eq a.scope b.scope) q ((bytes_eq-Decides a.scope b.scope).1 (ap (λ (n : NameValue). n.scope) e)))
+    go (inr p) q = inr (λ e. off (bytes_eq a.octets b.octets) p ((bytes_eq-Decides a.octets b.octets).1 (ap (λ (n : NameValue). n.octets) e)))
+
+-- a request is about one name
+pub request_one : (m : MessageValue) (a b : NameValue) → IsRequest a m → IsRequest b m → a ≡ b
+request_one (registration r) a b p q = sym p ∙ q
+request_one (overwrite r) a b p q = elim p [ ]
+request_one (refresh r) a b p q = sym p ∙ q
+request_one (release id name kind addr) a b p q = sym p ∙ q
+request_one (query id name) a b p q = elim p [ ]
+request_one (status_request id name) a b p q = elim p [ ]
+request_one (registered rcode r) a b p q = elim p [ ]
+request_one (released id rcode name kind addr) a b p q = elim p [ ]
+request_one (found id name ttl entries) a b p q = elim p [ ]
+request_one (not_found id rcode name) a b p q = elim p [ ]
+request_one (status id name names) a b p q = elim p [ ]
+request_one (wait id name ttl) a b p q = elim p [ ]
+
+-- ---- one datagram more
+
+-- a datagram that an end sends now
+pub record Sending (w : WorldValue) (addr : Addr) (d : Datagram) (m : MessageValue) : Type 0 where
+  pub from_is : d.from ≡ addr
+  pub now_is : d.moment ≡ w.now
+  pub written : d.octets.items ≡ text m
+  pub spelled : Spells d.octets.items m
+
+pub is_new : OneMessage → (w : WorldValue) (n : ℕ) (addr : Addr) (d : Datagram) (m : MessageValue) → addr_of w.ends n ≡ Some addr → Sending w addr d m → IsNew w addr (w.sent ++ d ∷ [])
+is_new law w n addr d m at s x c = go (Contains-push_cases w.sent d x c)
+  where
+    is : IsSent w.ends w.now d
+    is = record {
+      number = n;
+      message = m;
+      past = let e = s.now_is in omega arith;
+      sender = at ∙ ap Some (sym s.from_is);
+      written = s.written;
+      spelled = s.spelled;
+      only = λ k spells. law d.octets.items k m spells s.spelled;
+    }
+
+    go : Contains w.sent x ⊎ (d ≡ x) → Contains w.sent x ⊎ ((x.from ≡ addr) × IsSent w.ends w.now x)
+    go (inl c) = inl c
+    go (inr e) = inr (subst (λ (y : Datagram). (y.from ≡ addr) × IsSent w.ends w.now y) e (s.from_is, is))
+
+pub nothing_new : (w : WorldValue) (addr : Addr) → IsNew w addr w.sent
+nothing_new w addr d c = inl c
+
+-- what the network then has of requests: what it had, and this message where it is one
+pub asks_more : OneMessage → (w : WorldValue) (addr : Addr) (d : Datagram) (m : MessageValue) (ip : ℕ) (q : NameValue) → Sending w addr d m
+    → (moment : ℕ) (message : MessageValue) → Asked (w.sent ++ d ∷ []) ip q moment message → Asked w.sent ip q moment message ⊎ ((moment ≡ w.now) × (message ≡ m) × IsRequest q m)
+asks_more law w addr d m ip q s moment message a = go (Contains-push_cases w.sent d a.datagram a.among)
+  where
+    go : Contains w.sent a.datagram ⊎ (d ≡ a.datagram) → Asked w.sent ip q moment message ⊎ ((moment ≡ w.now) × (message ≡ m) × IsRequest q m)
+    go (inl c) = inl (record { datagram = a.datagram; among = c; sender = a.sender; moment_is = a.moment_is; spelled = a.spelled; request = a.request })
+    go (inr e) =
+      let same = law d.octets.items message m (subst (λ (y : Datagram). Spells y.octets.items message) (sym e) a.spelled) s.spelled in
+      inr (sym a.moment_is ∙ ap (λ (y : Datagram). y.moment) (sym e) ∙ s.now_is, same, subst (λ (k : MessageValue). IsRequest q k) same a.request)
+
+-- ---- one name of one node
+
+-- the node after a call at a moment: what never changes, and its last moment
+pub record Stays (old : NodeValue) (now : ℕ) (new : NodeValue) : Type 0 where
+  pub addr_is : new.addr ≡ old.addr
+  pub server_is : new.server ≡ old.server
+  pub config_is : new.config ≡ old.config
+  pub start_is : new.start ≡ old.start
+  pub last_is : new.last ≡ now
+
+pub node_stays : (w : WorldValue) (addr : Addr) (old new : NodeValue) → Stays old w.now new → IsNodeOf w addr old → IsNodeOf w addr new
+node_stays w addr old new stays is = record {
+  addr_is = stays.addr_is ∙ is.addr_is;
+  server_is = stays.server_is ∙ is.server_is;
+  config_is = stays.config_is ∙ is.config_is;
+  past = let e = stays.last_is in omega arith;
+}
+
+known_as : (life now : ℕ) (asked : ℕ → MessageValue → Type 0) (new : NodeValue) (q : NameValue) (start : ℕ) (s : State) → new.start ≡ start → state_of new q ≡ s
+    → RequestsEnded life now asked (knows start s) → RequestsEnded life now asked (known (Some new) q)
+known_as life now asked new q start s e f kept = rw (e, f) kept
+
+-- by time alone, and no more requests
+pub name_by_time : (now : ℕ) (old new : NodeValue) (q : NameValue) (asked more : ℕ → MessageValue → Type 0) → new.start ≡ old.start → state_of new q ≡ state_at old now q
+    → ((moment : ℕ) (message : MessageValue) → more moment message → asked moment message)
+    → RequestsEnded old.config.life now asked (known (Some old) q) → RequestsEnded old.config.life now more (known (Some new) q)
+name_by_time now old new q asked more start state fewer kept =
+    known_as old.config.life now more new q old.start (state_at old now q) start state
+      (ended-frame old.config.life now now asked more (knows old.start (state_at old now q)) (omega arith) fewer
+        (ended-fades old.config.life now old.start asked (state_of old q) (state_at old now q) (fades old.config.life now old.start (state_of old q)) kept))
+
+-- the name about which a request was sent
+pub name_sends : (now : ℕ) (old new : NodeValue) (name : NameValue) (event : NameEvent) (m : MessageValue) (told : Told) (asked more : ℕ → MessageValue → Type 0) → new.start ≡ old.start
+    → NameMoves old now name event new (Some m) told
+    → ((moment : ℕ) (message : MessageValue) → asked moment message → moment ≤ now)
+    → ((moment : ℕ) (message : MessageValue) → more moment message → asked moment message ⊎ ((moment ≡ now) × (message ≡ m)))
+    → RequestsEnded old.config.life now asked (known (Some old) name) → RequestsEnded old.config.life now more (known (Some new) name)
+name_sends now old new name event m told asked more start moves past grows kept =
+    known_as old.config.life now more new name old.start (settled old.config.life now moves.after) start moves.named
+      (ended-fades old.config.life now old.start more moves.after (settled old.config.life now moves.after) (fades old.config.life now old.start moves.after)
+        (ended-sent old.config.life now old.start name asked more (state_at old now name) moves.after m (is_sent moves.move) past grows
+          (ended-fades old.config.life now old.start asked (state_of old name) (state_at old now name) (fades old.config.life now old.start (state_of old name)) kept)))
+
+-- the name about which something was heard
+pub name_hears : (now : ℕ) (old new : NodeValue) (name : NameValue) (m : MessageValue) (told : Told) (asked : ℕ → MessageValue → Type 0) → new.start ≡ old.start
+    → NameMoves old now name (hear m) new None told
+    → RequestsEnded old.config.life now asked (known (Some old) name) → RequestsEnded old.config.life now asked (known (Some new) name)
+name_hears now old new name m told asked start moves kept =
+    known_as old.config.life now asked new name old.start (settled old.config.life now moves.after) start moves.named
+      (ended-fades old.config.life now old.start asked moves.after (settled old.config.life now moves.after) (fades old.config.life now old.start moves.after)
+        (ended-fades old.config.life now old.start asked (state_at old now name) moves.after (fades-heard old.config.life old.start moves.move)
+          (ended-fades old.config.life now old.start asked (state_of old name) (state_at old now name) (fades old.config.life now old.start (state_of old name)) kept)))
+
+-- ---- one node has moved
+
+-- The node of a number in a world: where it is, and what holds of it.
+pub record UpAt (w : WorldValue) (i : ℕ) (node : NodeValue) : Type 0 where
+  pub addr : Addr
+  pub at : addr_of w.ends (suc i) ≡ Some addr
+  pub up : node_of w.ends (suc i) ≡ Some node
+  pub is : IsNodeOf w addr node
+  pub requests : (q : NameValue) → RequestsEnded node.config.life w.now (Asked w.sent addr.ip q) (known (Some node) q)
+
+pub up_at : (w : WorldValue) (i : ℕ) (node : NodeValue) → IsKept w → node_of w.ends (suc i) ≡ Some node → UpAt w i node
+up_at w i node kept up =
+    let there = addr_there w.ends (suc i) node up in
+    let is = kept.nodes (suc i) there.0 node there.1 up in
+    record {
+      addr = there.0;
+      at = there.1;
+      up = up;
+      is = is;
+      requests = λ q.
+        subst (λ (c : ConfigValue). RequestsEnded c.life w.now (Asked w.sent (there.0).ip q) (known (Some node) q)) (sym is.config_is)
+          (subst (λ (x : Option NodeValue). RequestsEnded w.config.life w.now (Asked w.sent (there.0).ip q) (known x q)) up (kept.requests (suc i) there.0 q there.1));
+    }
+
+-- The world after the node is another, with what is new in the list.
+pub node_moves : (w : WorldValue) (i : ℕ) (node new : NodeValue) (sent : List Datagram) → IsKept w → (at : UpAt w i node) → Stays node w.now new → IsNew w at.addr sent
+    → ((q : NameValue) → RequestsEnded node.config.life w.now (Asked sent (at.addr).ip q) (known (Some new) q))
+    → IsKept (record w { ends = with_node w.ends (suc i) (Some new); sent = sent })
+node_moves w i node new sent kept at stays fresh names =
+    node_changes w i at.addr (Some new) sent kept at.at
+      (λ x e. subst (λ (y : NodeValue). IsNodeOf w at.addr y) (same_Some new x e) (node_stays w at.addr node new stays at.is)) fresh
+      (λ q. subst (λ (c : ConfigValue). RequestsEnded c.life w.now (Asked sent (at.addr).ip q) (known (Some new) q)) (at.is).config_is (names q))
+
+pub stays_by_moves : (now : ℕ) (old new : NodeValue) (name : NameValue) (event : NameEvent) (sent : Option MessageValue) (told : Told) → NameMoves old now name event new sent told → Stays old now new
+stays_by_moves now old new name event sent told moves = record {
+  addr_is = ap (λ (n : NodeValue). n.addr) moves.node;
+  server_is = ap (λ (n : NodeValue). n.server) moves.node;
+  config_is = ap (λ (n : NodeValue). n.config) moves.node;
+  start_is = ap (λ (n : NodeValue). n.start) moves.node;
+  last_is = ap (λ (n : NodeValue). n.last) moves.node;
+}
+
+-- the others, of which nothing was said
+pub others_fewer : OneMessage → (w : WorldValue) (addr : Addr) (d : Datagram) (m : MessageValue) (ip : ℕ) (q : NameValue) → Sending w addr d m → (IsRequest q m → ⊥)
+    → (moment : ℕ) (message : MessageValue) → Asked (w.sent ++ d ∷ []) ip q moment message → Asked w.sent ip q moment message
+others_fewer law w addr d m ip q s off moment message a = go (asks_more law w addr d m ip q s moment message a)
+  where
+    go : Asked w.sent ip q moment message ⊎ ((moment ≡ w.now) × (message ≡ m) × IsRequest q m) → Asked w.sent ip q moment message
+    go (inl old) = old
+    go (inr is) = absurd (off is.2)
+
+pub own_more : OneMessage → (w : WorldValue) (addr : Addr) (d : Datagram) (m : MessageValue) (ip : ℕ) (q : NameValue) → Sending w addr d m
+    → (moment : ℕ) (message : MessageValue) → Asked (w.sent ++ d ∷ []) ip q moment message → Asked w.sent ip q moment message ⊎ ((moment ≡ w.now) × (message ≡ m))
+own_more law w addr d m ip q s moment message a = go (asks_more law w addr d m ip q s moment message a)
+  where
+    go : Asked w.sent ip q moment message ⊎ ((moment ≡ w.now) × (message ≡ m) × IsRequest q m) → Asked w.sent ip q moment message ⊎ ((moment ≡ w.now) × (message ≡ m))
+    go (inl old) = inl old
+    go (inr is) = inr (is.0, is.1)

@@ -1,0 +1,218 @@
+-- Ends by their numbers and places, and what a change of one of them leaves.
+use Rattle.std.proofs.Common.{◌≡◌, ◌≢◌, ℕ, zero, suc, ◌+◌, ◌-◌, ◌<◌, ◌≤◌, Bool, true, false, List, [], ◌∷◌, ◌++◌, length, get_or, set, take, drop, Option, Some, None, refl, sym, ap, subst, ◌∙◌, arith, inl, inr}
+use Rattle.std.specs.Prelude.{slice_get, is_some, is_none, IsSome, MatchBool, ◌⊎◌}
+use Rattle.std.specs.List.{refill}
+use Rattle.std.proofs.lemmas.List.{take_at, length-set}
+use Rattle.std.proofs.lemmas.Option.{slice_get_read, slice_get_past, none-some, same_Some}
+use Rattle.std.proofs.lemmas.Bool.{cases_lt}
+use Rattle.nbt_name.specs.declared.addr.Addr.{Addr}
+use Rattle.nbt_packet.specs.Message.{MessageValue}
+use Rattle.nbt_lease.specs.Config.{ConfigValue}
+use Rattle.nbt_server.specs.Serving.{ServerValue}
+use Rattle.nbt_node.specs.Node.{NodeValue}
+use Rattle.nbt_node.specs.Calls.{started}
+use Rattle.nbt_world.specs.declared.ends.End.{End}
+use Rattle.nbt_world.specs.declared.ends.Ends.{Ends}
+use Rattle.nbt_world.specs.World.{IsOfEnd, addr_at, addr_of, node_in, node_of, put_node, with_server, with_node}
+use Rattle.nbt_world.specs.Step.{IsDown, IsUp, IsNew, Starts, server_starts, node_starts, Crashes, server_crashes, node_crashes, TakenValue, is_down, takes, ServerDoes, NodeHears, Takes, finds_down, by_server, by_node}
+
+-- ---- numbers
+
+-- a number that isn't 0 is one more than a place
+pub place_from : (P : ℕ → Type 0) (n : ℕ) → n ≢ 0 → P (suc (n - 1)) → P n
+place_from P n ne p = let e : suc (n - 1) ≡ n = omega arith in subst P e p
+
+-- ---- the end at a place, as the code reads it and writes it back
+
+-- The code has lent the nodes, as a list ys, and reads one of them, r.
+pub record Reads (ends : Ends) (n : ℕ) (ys : List End) (r : End) : Type 0 where
+  pub lent : ys ≡ ends.nodes.items
+  pub some : n ≢ 0
+  pub within : n ≤ length ends.nodes.items
+  pub read : r ≡ get_or ys (n - 1) r
+
+-- what the code leaves, with another end at that place
+abbrev pub written_back : (ends : Ends) (n : ℕ) (ys : List End) → End → Ends
+written_back ends n ys e = record ends { nodes = record { items = refill (length ends.nodes.items) ends.nodes.items (set ys (n - 1) e) } }
+
+pub there : (ends : Ends) (n : ℕ) (ys : List End) (r : End) → Reads ends n ys r → slice_get ends.nodes.items (n - 1) ≡ Some (get_or ys (n - 1) r)
+there ends n ys r reads =
+    let some = reads.some in
+    let within = reads.within in
+    let same : r ≡ get_or ends.nodes.items (n - 1) r = rw reads.lent at reads.read in
+    let lt : n - 1 < length ends.nodes.items = omega arith in
+    subst (λ (x : End). slice_get ends.nodes.items (n - 1) ≡ Some x) reads.read (slice_get_read ends.nodes.items (length ends.nodes.items) (n - 1) r refl lt same)
+
+put_is_set : (nodes : List End) (i : ℕ) (e : End) (x : Option NodeValue) → slice_get nodes i ≡ Some e → set nodes i (record e { node = x }) ≡ put_node nodes i x
+put_is_set [] i e x is = absurd (none-some e is)
+put_is_set (end ∷ nodes) zero e x is = ap (λ (f : End). record f { node = x } ∷ nodes) (sym (same_Some end e is))
+put_is_set (end ∷ nodes) (suc i) e x is = ap (λ (rest : List End). end ∷ rest) (put_is_set nodes i e x is)
+
+refilled : (nodes ys : List End) (i : ℕ) (e : End) → ys ≡ nodes → refill (length nodes) nodes (set ys i e) ≡ set nodes i e
+refilled nodes ys i e same =
+    subst (λ (zs : List End). refill (length nodes) nodes (set zs i e) ≡ set nodes i e) (sym same)
+      (take_at (set nodes i e) (drop (length (set nodes i e)) nodes) (length nodes) (length-set nodes i e))
+
+pub written_node : (ends : Ends) (n : ℕ) (ys : List End) (r : End) (x : Option NodeValue) → Reads ends n ys r
+    → written_back ends n ys (record (get_or ys (n - 1) r) { node = x }) ≡ with_node ends n x
+written_node ends n ys r x reads =
+    place_from (λ m. written_back ends n ys (record (get_or ys (n - 1) r) { node = x }) ≡ with_node ends m x) n reads.some
+      (ap (λ (items : List End). record ends { nodes = record { items = items } })
+        (refilled ends.nodes.items ys (n - 1) _ reads.lent ∙ put_is_set ends.nodes.items (n - 1) _ x (there ends n ys r reads)))
+
+pub written_same : (ends : Ends) (n : ℕ) (ys : List End) (r : End) → Reads ends n ys r → written_back ends n ys (get_or ys (n - 1) r) ≡ ends
+written_same ends n ys r reads =
+    ap (λ (items : List End). record ends { nodes = record { items = items } })
+      (refilled ends.nodes.items ys (n - 1) _ reads.lent ∙ set_same ends.nodes.items (n - 1) _ (there ends n ys r reads))
+  where
+    set_same : (nodes : List End) (i : ℕ) (e : End) → slice_get nodes i ≡ Some e → set nodes i e ≡ nodes
+    set_same [] i e is = refl
+    set_same (end ∷ nodes) zero e is = ap (λ (f : End). f ∷ nodes) (sym (same_Some end e is))
+    set_same (end ∷ nodes) (suc i) e is = ap (λ (rest : List End). end ∷ rest) (set_same nodes i e is)
+
+pub node_read : (ends : Ends) (n : ℕ) (ys : List End) (r : End) → Reads ends n ys r → node_of ends n ≡ (get_or ys (n - 1) r).node
+node_read ends n ys r reads =
+    place_from (λ m. node_of ends m ≡ (get_or ys (n - 1) r).node) n reads.some (ap node_in (there ends n ys r reads))
+
+pub addr_read : (ends : Ends) (n : ℕ) (ys : List End) (r : End) → Reads ends n ys r → addr_of ends n ≡ Some (get_or ys (n - 1) r).addr
+addr_read ends n ys r reads =
+    place_from (λ m. addr_of ends m ≡ Some (get_or ys (n - 1) r).addr) n reads.some
+      (ap (λ (o : Option End). addr_some o) (there ends n ys r reads))
+  where
+    addr_some : Option End → Option Addr
+    addr_some None = None
+    addr_some (Some e) = Some e.addr
+
+-- ---- which numbers there are
+
+pub none_past : (ends : Ends) (n : ℕ) → length ends.nodes.items < n → (addr_of ends n ≡ None) × (node_of ends n ≡ None)
+none_past ends n lt =
+    place_from (λ m. (addr_of ends m ≡ None) × (node_of ends m ≡ None)) n (omega arith) (go (n - 1) (omega arith))
+  where
+    go : (i : ℕ) → length ends.nodes.items ≤ i → (addr_of ends (suc i) ≡ None) × (node_of ends (suc i) ≡ None)
+    go i le = let past = slice_get_past ends.nodes.items i le in rw past (refl, refl)
+
+pub within_from : (ends : Ends) (n : ℕ) → IsSome (addr_of ends n) → n ≢ 0 → n ≤ length ends.nodes.items
+within_from ends n some ne = go (cases_lt (length ends.nodes.items) n)
+  where
+    go : (length ends.nodes.items < n) ⊎ (n ≤ length ends.nodes.items) → n ≤ length ends.nodes.items
+    go (inl lt) = absurd (is_none_some (addr_of ends n) (none_past ends n lt).0 some)
+      where
+        is_none_some : (o : Option Addr) → o ≡ None → IsSome o → ⊥
+        is_none_some None e s = cc
+        is_none_some (Some a) e s = cc
+    go (inr le) = le
+
+-- ---- ends that start, crash and take
+
+pub down_past : (ends : Ends) (n : ℕ) → length ends.nodes.items < n → ¬ IsDown ends n
+down_past ends n lt = place_from (λ m. ¬ IsDown ends m) n (omega arith) (λ d. none-some d.0 (sym (none_past ends (suc (n - 1)) (omega arith)).0 ∙ d.1))
+
+pub up_past : (ends : Ends) (n : ℕ) → length ends.nodes.items < n → ¬ IsUp ends n
+up_past ends n lt = place_from (λ m. ¬ IsUp ends m) n (omega arith) (λ u. none-some u.0 (sym (none_past ends (suc (n - 1)) (omega arith)).1 ∙ u.1))
+
+is_there : {X : Type 0} (o : Option X) → is_some o ≡ true → (x : X) × (o ≡ Some x)
+is_there None e = absurd cc
+is_there (Some x) e = (x, refl)
+
+pub server_crashed : (ends : Ends) (n : ℕ) → n ≡ 0 → is_some ends.server ≡ true → Crashes ends n (with_server ends None)
+server_crashed ends n e is =
+    let s = is_there ends.server is in
+    subst (λ (m : ℕ). Crashes ends m (with_server ends None)) (sym e) (server_crashes s.0 s.1)
+
+pub server_stays_down : (ends : Ends) (n : ℕ) → n ≡ 0 → is_none ends.server ≡ true → ¬ IsUp ends n
+server_stays_down ends n e is = subst (λ (m : ℕ). ¬ IsUp ends m) (sym e) (λ u. none_is ends.server u.0 is u.1)
+  where
+    none_is : (o : Option ServerValue) (s : ServerValue) → is_none o ≡ true → o ≡ Some s → ⊥
+    none_is None s is e = cc
+    none_is (Some t) s is e = absurd cc
+
+pub node_crashed : (ends : Ends) (n : ℕ) (ys : List End) (r : End) (b : Bool) (e : End) → Reads ends n ys r
+    → MatchBool b (IsSome (get_or ys (n - 1) r).node × (e ≡ record (get_or ys (n - 1) r) { node = None })) (((get_or ys (n - 1) r).node ≡ None) × (e ≡ get_or ys (n - 1) r))
+    → MatchBool b (Crashes ends n (written_back ends n ys e)) ((¬ IsUp ends n) × (written_back ends n ys e ≡ ends))
+node_crashed ends n ys r true e reads is =
+    let node = is_there (get_or ys (n - 1) r).node is.0 in
+    let left : written_back ends n ys e ≡ with_node ends n None = ap (λ (x : End). written_back ends n ys x) is.1 ∙ written_node ends n ys r None reads in
+    let up : node_of ends n ≡ Some node.0 = node_read ends n ys r reads ∙ node.1 in
+    subst (λ (x : Ends). Crashes ends n x) (sym left) (crashed n reads.some up)
+  where
+    crashed : (m : ℕ) → m ≢ 0 → {node : NodeValue} → node_of ends m ≡ Some node → Crashes ends m (with_node ends m None)
+    crashed zero ne up = absurd (ne refl)
+    crashed (suc i) ne {node} up = node_crashes i node up
+node_crashed ends n ys r false e reads is =
+    (up n reads.some (node_read ends n ys r reads ∙ is.0), ap (λ (x : End). written_back ends n ys x) is.1 ∙ written_same ends n ys r reads)
+  where
+    up : (m : ℕ) → m ≢ 0 → node_of ends m ≡ None → ¬ IsUp ends m
+    up zero ne down = absurd (ne refl)
+    up (suc i) ne down = λ u. none-some u.0 (sym down ∙ u.1)
+
+pub server_took : (now : ℕ) (ends : Ends) (from : Addr) (octets : List ℕ) (n : ℕ) (server new : ServerValue) (taken : TakenValue) → n ≡ 0 → ends.server ≡ Some server
+    → ServerDoes now server from.ip octets taken new → Takes now ends from octets n taken (with_server ends (Some new))
+server_took now ends from octets n server new taken e is does = subst (λ (m : ℕ). Takes now ends from octets m taken (with_server ends (Some new))) (sym e) (by_server server new taken is does)
+
+pub server_is_down : (now : ℕ) (ends : Ends) (from : Addr) (octets : List ℕ) (n : ℕ) → n ≡ 0 → ends.server ≡ None → Takes now ends from octets n is_down ends
+server_is_down now ends from octets n e is = finds_down n (subst (λ (m : ℕ). IsDown ends m) (sym e) is)
+
+pub node_took : (now : ℕ) (ends : Ends) (from : Addr) (octets : List ℕ) (n : ℕ) (ys : List End) (r : End) (node new : NodeValue) (reply : Option MessageValue) → Reads ends n ys r
+    → (get_or ys (n - 1) r).node ≡ Some node → NodeHears now node from octets reply new
+    → Takes now ends from octets n (takes reply) (written_back ends n ys (record (get_or ys (n - 1) r) { node = Some new }))
+node_took now ends from octets n ys r node new reply reads is hears =
+    subst (λ (x : Ends). Takes now ends from octets n (takes reply) x) (sym (written_node ends n ys r (Some new) reads)) (took n reads.some (node_read ends n ys r reads ∙ is))
+  where
+    took : (m : ℕ) → m ≢ 0 → node_of ends m ≡ Some node → Takes now ends from octets m (takes reply) (with_node ends m (Some new))
+    took zero ne up = absurd (ne refl)
+    took (suc i) ne up = by_node i node new reply up hears
+
+pub node_is_down : (now : ℕ) (ends : Ends) (from : Addr) (octets : List ℕ) (n : ℕ) (ys : List End) (r : End) → Reads ends n ys r → (get_or ys (n - 1) r).node ≡ None
+    → Takes now ends from octets n is_down (written_back ends n ys (get_or ys (n - 1) r))
+node_is_down now ends from octets n ys r reads is =
+    subst (λ (x : Ends). Takes now ends from octets n is_down x) (sym (written_same ends n ys r reads)) (finds_down n (down n reads.some (addr_read ends n ys r reads) (node_read ends n ys r reads ∙ is)))
+  where
+    down : (m : ℕ) → m ≢ 0 → {addr : Addr} → addr_of ends m ≡ Some addr → node_of ends m ≡ None → IsDown ends m
+    down zero ne at is = absurd (ne refl)
+    down (suc i) ne {addr} at is = (addr, at, is)
+
+pub server_started : (config : ConfigValue) (now : ℕ) (ends : Ends) (n : ℕ) (server : ServerValue) → n ≡ 0 → is_some ends.server ≡ false → IsNew config now server
+    → Starts config now ends n (with_server ends (Some server))
+server_started config now ends n server e is new =
+    subst (λ (m : ℕ). Starts config now ends m (with_server ends (Some server))) (sym e) (server_starts server (is_nothing ends.server is) new)
+  where
+    is_nothing : (o : Option ServerValue) → is_some o ≡ false → o ≡ None
+    is_nothing None e = refl
+    is_nothing (Some s) e = absurd cc
+
+pub server_stays_up : (ends : Ends) (n : ℕ) → n ≡ 0 → is_some ends.server ≡ true → ¬ IsDown ends n
+server_stays_up ends n e is = subst (λ (m : ℕ). ¬ IsDown ends m) (sym e) (λ down. some_is ends.server is down)
+  where
+    some_is : (o : Option ServerValue) → is_some o ≡ true → o ≡ None → ⊥
+    some_is None is e = absurd cc
+    some_is (Some t) is e = cc
+
+pub node_started : (config : ConfigValue) (now : ℕ) (ends : Ends) (n : ℕ) (ys : List End) (r : End) (b : Bool) (e : End) → Reads ends n ys r
+    → MatchBool b (((get_or ys (n - 1) r).node ≡ None) × (e ≡ record (get_or ys (n - 1) r) { node = Some (started 14 (get_or ys (n - 1) r).addr ends.server_addr config now) }))
+        (IsSome (get_or ys (n - 1) r).node × (e ≡ get_or ys (n - 1) r))
+    → MatchBool b (Starts config now ends n (written_back ends n ys e)) ((¬ IsDown ends n) × (written_back ends n ys e ≡ ends))
+node_started config now ends n ys r true e reads is =
+    let left : written_back ends n ys e ≡ with_node ends n (Some (started 14 (get_or ys (n - 1) r).addr ends.server_addr config now)) =
+      ap (λ (x : End). written_back ends n ys x) is.1 ∙ written_node ends n ys r _ reads in
+    subst (λ (x : Ends). Starts config now ends n x) (sym left) (begun n reads.some (addr_read ends n ys r reads) (node_read ends n ys r reads ∙ is.0))
+  where
+    begun : (m : ℕ) → m ≢ 0 → {addr : Addr} → addr_of ends m ≡ Some addr → node_of ends m ≡ None → Starts config now ends m (with_node ends m (Some (started 14 addr ends.server_addr config now)))
+    begun zero ne at down = absurd (ne refl)
+    begun (suc i) ne {addr} at down = node_starts i addr at down
+node_started config now ends n ys r false e reads is =
+    let node = is_there (get_or ys (n - 1) r).node is.0 in
+    (down n reads.some (node_read ends n ys r reads ∙ node.1), ap (λ (x : End). written_back ends n ys x) is.1 ∙ written_same ends n ys r reads)
+  where
+    down : (m : ℕ) → m ≢ 0 → {node : NodeValue} → node_of ends m ≡ Some node → ¬ IsDown ends m
+    down zero ne up = absurd (ne refl)
+    down (suc i) ne {node} up = λ d. none-some node (sym d.2 ∙ up)
+
+-- ---- 32-bit addresses
+
+pub is_of_end : (ends : Ends) (ip : ℕ) → (ends.server_addr.ip ≡ ip → ⊥) → IsOfEnd ends ip → (index : ℕ) × (addr : Addr) × (addr_at ends.nodes.items index ≡ Some addr) × (addr.ip ≡ ip)
+is_of_end ends ip ne is = go is.0 is.1 is.2 is.3
+  where
+    go : (n : ℕ) (addr : Addr) → addr_of ends n ≡ Some addr → addr.ip ≡ ip → (index : ℕ) × (addr : Addr) × (addr_at ends.nodes.items index ≡ Some addr) × (addr.ip ≡ ip)
+    go zero addr at same = absurd (ne (ap (λ (a : Addr). a.ip) (same_Some ends.server_addr addr at) ∙ same))
+    go (suc i) addr at same = (i, addr, at, same)

@@ -1,0 +1,150 @@
+-- What each event makes of a world, as the code has found it: a line of the step, and a world that keeps what it kept.
+use Rattle.std.proofs.Common.{◌≡◌, ◌≢◌, ℕ, zero, suc, ◌+◌, ◌*◌, ◌^◌, ◌<◌, ◌≤◌, Bool, true, false, List, [], ◌∷◌, ◌++◌, length, ltb, get_or, Option, Some, None, refl, sym, ap, subst, ◌∙◌, arith}
+use Rattle.std.specs.Prelude.{slice_get, MatchBool, min}
+use Rattle.std.proofs.lemmas.Bool.{ltb-true, ltb-false}
+use Rattle.std.proofs.lemmas.Option.{slice_get_read, slice_get_past, none-some, same_Some}
+use Rattle.nbt_name.specs.declared.addr.Addr.{Addr}
+use Rattle.nbt_packet.specs.Message.{MessageValue}
+use Rattle.nbt_packet.specs.Text.{text}
+use Rattle.nbt_packet.specs.Spelling.{Spells}
+use Rattle.nbt_node.specs.Node.{NodeValue}
+use Rattle.nbt_world.specs.declared.ends.Ends.{Ends}
+use Rattle.nbt_world.specs.declared.ends.Taken.{Taken}
+use Rattle.nbt_world.specs.declared.ends.Taken.TheVariants as t
+use Rattle.nbt_world.specs.declared.network.Datagram.{Datagram}
+use Rattle.nbt_world.specs.declared.event.Event.{Event}
+use Rattle.nbt_world.specs.declared.event.Event.TheVariants as e
+use Rattle.nbt_world.specs.declared.event.Outcome.{Outcome}
+use Rattle.nbt_world.specs.declared.event.Outcome.TheVariants as o
+use Rattle.nbt_world.specs.World.{WorldValue, addr_of, node_of, with_node, IsDeliverable}
+use Rattle.nbt_world.specs.Step.{number_in, GivenValue, Does, after, outcome_of, IsDown, IsUp, Starts, Crashes, TakenValue, is_down, is_lost, takes, Takes, IsTaken, after_taking, outcome_of_taking, Step, ticks, starts, starts_nothing, crashes, crashes_nothing, node_does, node_is_down, no_datagram, no_end, too_late, delivered}
+use Rattle.nbt_world.specs.Kept.{IsNodeOf, IsKept}
+use Rattle.nbt_world.proofs.Keeping.{addr_there}
+use Rattle.nbt_world.proofs.Naming.{OneMessage}
+use Rattle.nbt_world.proofs.Events.{does_kept}
+use Rattle.nbt_world.proofs.Deliveries.{GrantsSound, ReleasesSound, taking_kept}
+use Rattle.nbt_world.proofs.Starting.{starts_kept, crashes_kept}
+
+-- nothing has changed
+pub same_world : (w : WorldValue) (ends : Ends) (sent : List Datagram) → ends ≡ w.ends → sent ≡ w.sent → w ≡ record w { ends = ends; sent = sent }
+same_world w ends sent p q = λ i. record w { ends = sym p i; sent = sym q i }
+
+pub node_is_of : (w : WorldValue) (n : ℕ) (node : NodeValue) → IsKept w → node_of w.ends n ≡ Some node → (addr : Addr) × IsNodeOf w addr node
+node_is_of w n node kept up = let there = addr_there w.ends n node up in (there.0, kept.nodes n there.0 node there.1 up)
+
+-- ---- the clock
+
+pub ticked : (w : WorldValue) (ms later : ℕ) → later ≡ min (w.now + ms) (2 ^ 60) → Step w (e.Tick ms) o.Done (record w { now = later })
+ticked w ms later is = subst (λ (n : ℕ). Step w (e.Tick ms) o.Done (record w { now = n })) (sym is) (ticks ms)
+
+-- ---- an end starts, or crashes
+
+pub started_kept : (w : WorldValue) (number : ℕ) (ends : Ends) (b : Bool) → IsKept w → MatchBool b (Starts w.config w.now w.ends number ends) ((¬ IsDown w.ends number) × (ends ≡ w.ends)) → IsKept (record w { ends = ends })
+started_kept w number ends true kept is = starts_kept w number ends kept is
+started_kept w number ends false kept is = subst (λ (x : Ends). IsKept (record w { ends = x })) (sym is.1) kept
+
+pub has_started : (w : WorldValue) (number : ℕ) (ends : Ends) (b : Bool) → b ≡ true → MatchBool b (Starts w.config w.now w.ends number ends) ((¬ IsDown w.ends number) × (ends ≡ w.ends))
+    → Step w (e.Start number) o.Done (record w { ends = ends })
+has_started w number ends true p is = starts number ends is
+has_started w number ends false p is = absurd cc
+
+pub has_not_started : (w : WorldValue) (number : ℕ) (ends : Ends) (b : Bool) → b ≡ false → MatchBool b (Starts w.config w.now w.ends number ends) ((¬ IsDown w.ends number) × (ends ≡ w.ends))
+    → Step w (e.Start number) o.Nothing (record w { ends = ends })
+has_not_started w number ends true p is = absurd cc
+has_not_started w number ends false p is = subst (λ (x : Ends). Step w (e.Start number) o.Nothing (record w { ends = x })) (sym is.1) (starts_nothing number is.0)
+
+pub crashed_kept : (w : WorldValue) (number : ℕ) (ends : Ends) (b : Bool) → IsKept w → MatchBool b (Crashes w.ends number ends) ((¬ IsUp w.ends number) × (ends ≡ w.ends)) → IsKept (record w { ends = ends })
+crashed_kept w number ends true kept is = crashes_kept w number ends kept is
+crashed_kept w number ends false kept is = subst (λ (x : Ends). IsKept (record w { ends = x })) (sym is.1) kept
+
+pub has_crashed : (w : WorldValue) (number : ℕ) (ends : Ends) (b : Bool) → b ≡ true → MatchBool b (Crashes w.ends number ends) ((¬ IsUp w.ends number) × (ends ≡ w.ends))
+    → Step w (e.Crash number) o.Done (record w { ends = ends })
+has_crashed w number ends true p is = crashes number ends is
+has_crashed w number ends false p is = absurd cc
+
+pub has_not_crashed : (w : WorldValue) (number : ℕ) (ends : Ends) (b : Bool) → b ≡ false → MatchBool b (Crashes w.ends number ends) ((¬ IsUp w.ends number) × (ends ≡ w.ends))
+    → Step w (e.Crash number) o.Nothing (record w { ends = ends })
+has_not_crashed w number ends true p is = absurd cc
+has_not_crashed w number ends false p is = subst (λ (x : Ends). Step w (e.Crash number) o.Nothing (record w { ends = x })) (sym is.1) (crashes_nothing number is.0)
+
+-- ---- a node does something
+
+pub stays_down : (w : WorldValue) (event : Event) (number : ℕ) (ends : Ends) (sent : List Datagram) → ends ≡ w.ends → sent ≡ w.sent → number_in event ≡ Some number → node_of w.ends number ≡ None
+    → Step w event o.Down (record w { ends = ends; sent = sent })
+stays_down w event number ends sent p q own down = subst (λ (x : WorldValue). Step w event o.Down x) (same_world w ends sent p q) (node_is_down event number own down)
+
+-- what a node's call has left in the world, and what it gave
+pub record Gave (w : WorldValue) (event : Event) (number : ℕ) (ends : Ends) (sent : List Datagram) (outcome : Outcome) : Type 0 where
+  pub node : NodeValue
+  pub new : NodeValue
+  pub given : GivenValue
+  pub own : number_in event ≡ Some number
+  pub up : node_of w.ends number ≡ Some node
+  pub does : Does node w.now event new given
+  pub ends_is : ends ≡ with_node w.ends number (Some new)
+  pub outcome_is : outcome ≡ outcome_of w given
+  pub left : after w number new given ≡ record w { ends = with_node w.ends number (Some new); sent = sent }
+
+gave_world : (w : WorldValue) (event : Event) (number : ℕ) (ends : Ends) (sent : List Datagram) (outcome : Outcome) (g : Gave w event number ends sent outcome) → after w number g.new g.given ≡ record w { ends = ends; sent = sent }
+gave_world w event number ends sent outcome g = g.left ∙ ap (λ (x : Ends). record w { ends = x; sent = sent }) (sym g.ends_is)
+
+pub gave_kept : OneMessage → (w : WorldValue) (event : Event) (number : ℕ) (ends : Ends) (sent : List Datagram) (outcome : Outcome) → IsKept w → Gave w event number ends sent outcome → IsKept (record w { ends = ends; sent = sent })
+gave_kept law w event number ends sent outcome kept g = subst IsKept (gave_world w event number ends sent outcome g) (at number g.up)
+  where
+    at : (n : ℕ) → node_of w.ends n ≡ Some g.node → IsKept (after w n g.new g.given)
+    at zero up = absurd (none-some g.node up)
+    at (suc i) up = does_kept law w i g.node g.new event g.given kept up g.does
+
+pub gave_step : (w : WorldValue) (event : Event) (number : ℕ) (ends : Ends) (sent : List Datagram) (outcome : Outcome) → Gave w event number ends sent outcome → Step w event outcome (record w { ends = ends; sent = sent })
+gave_step w event number ends sent outcome g =
+    subst (λ (x : Outcome). Step w event x (record w { ends = ends; sent = sent })) (sym g.outcome_is)
+      (subst (λ (x : WorldValue). Step w event (outcome_of w g.given) x) (gave_world w event number ends sent outcome g) (node_does event number g.node g.new g.given g.own g.up g.does))
+
+-- ---- an end takes a datagram
+
+-- what taking it has left in the world
+pub record Took (w : WorldValue) (from to : Addr) (octets : List ℕ) (number : ℕ) (ends : Ends) (sent : List Datagram) (outcome : Outcome) : Type 0 where
+  pub code : Taken
+  pub out : List ℕ
+  pub taken : TakenValue
+  pub at : addr_of w.ends number ≡ Some to
+  pub does : Takes w.now w.ends from octets number taken ends
+  pub is : IsTaken code out taken
+  pub outcome_is : outcome ≡ outcome_of_taking w taken
+  pub left : after_taking w ends to from taken ≡ record w { ends = ends; sent = sent }
+
+spells : (code : Taken) (out : List ℕ) (taken : TakenValue) (m : MessageValue) → IsTaken code out taken → taken ≡ takes (Some m) → Spells (text m) m
+spells t.Down out taken m is same = absurd cc
+spells t.Lost out taken m is same = absurd cc
+spells t.Silent out taken m is same = absurd cc
+spells t.Replies out taken m is same =
+    let one : is.0 ≡ m = cc in
+    subst (λ (k : MessageValue). Spells (text k) k) one (subst (λ (xs : List ℕ). Spells xs is.0) is.2 is.3)
+
+pub took_kept : OneMessage → GrantsSound → ReleasesSound → (w : WorldValue) (from to : Addr) (octets : List ℕ) (number : ℕ) (ends : Ends) (sent : List Datagram) (outcome : Outcome) → IsKept w
+    → Took w from to octets number ends sent outcome → IsKept (record w { ends = ends; sent = sent })
+took_kept law g r w from to octets number ends sent outcome kept k =
+    subst IsKept k.left (taking_kept law g r w from to octets number k.taken ends kept k.at k.does (λ m same. spells k.code k.out k.taken m k.is same))
+
+pub took_step : (w : WorldValue) (from to : Addr) (octets : List ℕ) (number : ℕ) (ends : Ends) (sent : List Datagram) (outcome : Outcome) (event : Event) (k : Took w from to octets number ends sent outcome)
+    → Step w event (outcome_of_taking w k.taken) (after_taking w ends to from k.taken) → Step w event outcome (record w { ends = ends; sent = sent })
+took_step w from to octets number ends sent outcome event k step =
+    subst (λ (x : Outcome). Step w event x (record w { ends = ends; sent = sent })) (sym k.outcome_is) (subst (λ (x : WorldValue). Step w event (outcome_of_taking w k.taken) x) k.left step)
+
+-- ---- the datagrams of the list
+
+pub not_there : (sent : List Datagram) (k : ℕ) → false ≡ ltb k (length sent) → slice_get sent k ≡ None
+not_there sent k p = slice_get_past sent k (ltb-false k (length sent) (sym p))
+
+pub there_is : (sent : List Datagram) (k : ℕ) (d : Datagram) → true ≡ ltb k (length sent) → d ≡ get_or sent k d → slice_get sent k ≡ Some d
+there_is sent k d p q = slice_get_read sent (length sent) k d refl (ltb-true k (length sent) (sym p)) q
+
+pub not_there_in : (xs sent : List Datagram) (k : ℕ) → xs ≡ sent → false ≡ ltb k (length xs) → slice_get sent k ≡ None
+not_there_in xs sent k same p = subst (λ (ys : List Datagram). slice_get ys k ≡ None) same (not_there xs k p)
+
+pub there_in : (xs sent : List Datagram) (k : ℕ) (d : Datagram) → xs ≡ sent → true ≡ ltb k (length xs) → d ≡ get_or xs k d → slice_get sent k ≡ Some d
+there_in xs sent k d same p q = subst (λ (ys : List Datagram). slice_get ys k ≡ Some d) same (there_is xs k d p q)
+
+-- only room was made for a datagram
+pub unchanged : (w : WorldValue) (sent : List Datagram) (event : Event) (outcome : Outcome) → sent ≡ w.sent → Step w event outcome w → Step w event outcome (record w { sent = sent })
+unchanged w sent event outcome same step = subst (λ (x : WorldValue). Step w event outcome x) (same_world w w.ends sent refl same) step

@@ -1,0 +1,42 @@
+use Rattle.std.proofs.Common.{◌≡◌, Some, refl, sym, ◌∙◌, arith}
+use Rattle.std.specs.Prelude.{slice_get}
+use Rattle.nbt_world.specs.Step.{no_datagram, no_end, too_late, delivered}
+use Rattle.nbt_world.proofs.Worlds.{node_is_of, Took, took_kept, took_step, not_there_in, there_in, unchanged}
+use Rattle.nbt_world.proofs.world.World.deliver.Goals as goal
+
+pub returns-in_default-clause-step : goal.returns-in_default-clause-step
+returns-in_default-clause-step c =
+    rw (← c.self.view_is) (unchanged _ _ _ _ c.try_reserve.ensures.items
+      (no_datagram c.args.k (not_there_in c.as_slice.result.now c.self.inside.sent.items c.args.k (c.as_slice.ensures.value ∙ c.try_reserve.ensures.items) (c.in_default.ensures.lookup).0)))
+
+pub returns-in_default-find-clause-step : goal.returns-in_default-find-clause-step
+returns-in_default-find-clause-step c =
+    let there : slice_get c.self.inside.sent.items c.args.k ≡ Some c.in-Some.datagram.now =
+      there_in c.as_slice.result.now c.self.inside.sent.items c.args.k _ (c.as_slice.ensures.value ∙ c.try_reserve.ensures.items) (c.in-Some.ensures.lookup).0 (c.in-Some.ensures.lookup).1 in
+    rw (← c.self.view_is) (unchanged _ _ _ _ c.try_reserve.ensures.items (no_end c.args.k c.in-Some.datagram.now there (c.in_default-find.ensures.none refl)))
+
+pub returns-then-get-life-clause-step : goal.returns-then-get-life-clause-step
+returns-then-get-life-clause-step c =
+    let there : slice_get c.self.inside.sent.items c.args.k ≡ Some c.in-Some.datagram.now =
+      there_in c.as_slice.result.now c.self.inside.sent.items c.args.k _ (c.as_slice.ensures.value ∙ c.try_reserve.ensures.items) (c.in-Some.ensures.lookup).0 (c.in-Some.ensures.lookup).1 in
+    rw (← c.self.view_is) (unchanged _ _ _ _ c.try_reserve.ensures.items
+      (too_late c.args.k c.in-Some.datagram.now c.in-Some-find.number there c.in-Some-find.ensures.found (λ d. omega (arith, c.get-2.ensures.value, c.get-3.ensures.value, c.life.ensures.value))))
+
+took : (c : goal.After-reply) → Took (record { now = c.self.inside.clock; config = c.self.inside.config; ends = c.self.inside.ends; sent = c.self.inside.sent.items }) c.in-Some.datagram.now.from c.in-Some.datagram.now.to
+    c.in-Some.datagram.now.octets.items c.in-Some-find.number c.take-taken.new.self c.reply.new.sent.items c.reply.result
+took c =
+    let t = rw c.as_slice-2.ensures.value at c.take-taken.ensures in
+    let r = c.reply.ensures (record { now = c.self.inside.clock; config = c.self.inside.config; ends = c.self.inside.ends; sent = c.self.inside.sent.items }) c.take-taken.new.self t.0 (sym c.try_reserve.ensures.items) refl t.2 in
+    record { code = c.take-taken.result; out = _; taken = t.0; at = c.in-Some-find.ensures.found; does = t.1; is = t.2; outcome_is = r.0; left = r.1 }
+
+pub invariant_of-self-2 : goal.invariant_of-self-2
+invariant_of-self-2 c = took_kept c.one_message_spelled.ensures c.leases_stay_sound.ensures.granted c.leases_stay_sound.ensures.released _ _ _ _ _ _ _ _ c.self.invariant (took c)
+
+pub returns-clause-step : goal.returns-clause-step
+returns-clause-step c =
+    let there : slice_get c.self.inside.sent.items c.args.k ≡ Some c.in-Some.datagram.now =
+      there_in c.as_slice.result.now c.self.inside.sent.items c.args.k _ (c.as_slice.ensures.value ∙ c.try_reserve.ensures.items) (c.in-Some.ensures.lookup).0 (c.in-Some.ensures.lookup).1 in
+    let t = took c in
+    rw (← c.self.view_is) (took_step _ _ _ _ _ _ _ _ _ t
+      (delivered c.args.k c.in-Some.datagram.now c.in-Some-find.number t.taken c.take-taken.new.self there c.in-Some-find.ensures.found
+        (omega (arith, c.get-2.ensures.value, c.get-3.ensures.value, c.life.ensures.value)) t.does))
