@@ -15,14 +15,14 @@ pub clock_changes : StaySound → (w : WorldValue) (later : ℕ) → w.now ≤ l
 clock_changes law w later le kept = record {
   ends = record { some = kept.ends.some; few = kept.ends.few; apart = kept.ends.apart };
   nodes = λ n a node p up.
-    let k = kept.nodes n a node p up in
-    let past = k.past in
-    record { addr_is = k.addr_is; server_is = k.server_is; config_is = k.config_is; past = omega arith };
+      let k = kept.nodes n a node p up in
+      let past = k.past in
+      record { addr_is = k.addr_is; server_is = k.server_is; config_is = k.config_is; past = omega arith };
   server = λ server up.
-    let k = kept.server server up in
-    let past = k.past in
-    record { config_is = k.config_is; past = omega arith; sound = law w.config w.now later server.table.rows le k.sound };
+      let k = kept.server server up in
+      let past = k.past in
+      record { config_is = k.config_is; past = omega arith; sound = law w.config w.now later server.table.rows le k.sound };
   sent = λ d c. sent_frame w.ends w.ends w.now later d (λ n. refl) le (kept.sent d c);
   requests = λ n a name p.
-    ended-frame w.config.life w.now later (Asked w.sent a.ip name) (Asked w.sent a.ip name) (known (node_of w.ends n) name) le (λ moment message asked. asked) (kept.requests n a name p);
+      ended-frame w.config.life w.now later (Asked w.sent a.ip name) (Asked w.sent a.ip name) (known (node_of w.ends n) name) le (λ moment message asked. asked) (kept.requests n a name p);
 }

@@ -38,7 +38,7 @@ hears_kept w i node new name m told kept up moves =
   where
     names : (at : UpAt w i node) → Stays node w.now new → (q : NameValue) → (q ≡ name) ⊎ (q ≢ name) → RequestsEnded node.config.life w.now (Asked w.sent (at.addr).ip q) (known (Some new) q)
     names at stays q (inl e) =
-      subst (λ (n : NameValue). RequestsEnded node.config.life w.now (Asked w.sent (at.addr).ip n) (known (Some new) n)) (sym e)
+        subst (λ (n : NameValue). RequestsEnded node.config.life w.now (Asked w.sent (at.addr).ip n) (known (Some new) n)) (sym e)
         (name_hears w.now node new name m told (Asked w.sent (at.addr).ip name) stays.start_is moves (at.requests name))
     names at stays q (inr ne) = name_by_time w.now node new q (Asked w.sent (at.addr).ip q) (Asked w.sent (at.addr).ip q) stays.start_is (moves.others q ne) (λ moment message a. a) (at.requests q)
 
@@ -132,8 +132,8 @@ node_hears_kept law w i node new from addr octets reply kept at up hears = as_ta
 
     same : new.addr ≡ addr
     same =
-      let here = up_at w i node kept up in
-      stays_by_octets w.now node new from octets _ _ (hears.handles).takes ∙ (here.is).addr_is ∙ same_Some here.addr addr (sym here.at ∙ at)
+        let here = up_at w i node kept up in
+        stays_by_octets w.now node new from octets _ _ (hears.handles).takes ∙ (here.is).addr_is ∙ same_Some here.addr addr (sym here.at ∙ at)
 
     as_taken : (r : Option MessageValue) → new.addr ≡ addr → IsKept (replied_world w i new from r) → IsKept (after_taking w (with_node w.ends (suc i) (Some new)) addr from (takes r))
     as_taken None e kept = kept
@@ -172,13 +172,13 @@ server_takes_kept law g r w server new from addr octets taken kept up at (server
   where
     is : IsServerOf w new
     is =
-      let k = kept.server server up in
-      record {
-        config_is = t.config ∙ k.config_is;
-        past = let e = t.last in omega arith;
-        sound = subst (λ (c : ConfigValue). IsSound c w.now (leases_at w.now new.table.rows)) k.config_is
-          (serves_octets_sound g r server w.now from.ip octets reply _ (subst (λ (c : ConfigValue). IsSound c w.now (leases_at w.now server.table.rows)) (sym k.config_is) k.sound) t.serves);
-      }
+        let k = kept.server server up in
+        record {
+          config_is = t.config ∙ k.config_is;
+          past = let e = t.last in omega arith;
+          sound = subst (λ (c : ConfigValue). IsSound c w.now (leases_at w.now new.table.rows)) k.config_is
+              (serves_octets_sound g r server w.now from.ip octets reply _ (subst (λ (c : ConfigValue). IsSound c w.now (leases_at w.now server.table.rows)) (sym k.config_is) k.sound) t.serves);
+        }
 
     is_its : (s : ServerValue) → Some new ≡ Some s → IsServerOf w s
     is_its s e = subst (λ (x : ServerValue). IsServerOf w x) (same_Some new s e) is
@@ -186,19 +186,19 @@ server_takes_kept law g r w server new from addr octets taken kept up at (server
     go : (p : Option MessageValue) → ((m : MessageValue) → p ≡ Some m → Spells (text m) m) → IsKept (after_taking w (with_server w.ends (Some new)) addr from (takes p))
     go None spelling = server_changes w (Some new) w.sent kept is_its (nothing_new w w.ends.server_addr)
     go (Some m) spelling =
-      server_changes w (Some new) (w.sent ++ datagram addr from w.now (text m) ∷ []) kept is_its
+        server_changes w (Some new) (w.sent ++ datagram addr from w.now (text m) ∷ []) kept is_its
         (is_new law w 0 w.ends.server_addr (datagram addr from w.now (text m)) m refl (record { from_is = sym (same_Some w.ends.server_addr addr at); now_is = refl; written = refl; spelled = spelling m refl }))
 server_takes_kept law g r w server new from addr octets taken kept up at (server_forgets n t) spells =
     server_changes w (Some new) w.sent kept (λ s e. subst (λ (x : ServerValue). IsServerOf w x) (same_Some new s e) is) (nothing_new w w.ends.server_addr)
   where
     is : IsServerOf w new
     is =
-      let k = kept.server server up in
-      record {
-        config_is = t.config ∙ k.config_is;
-        past = let e = t.last in omega arith;
-        sound = subst (λ (l : Leases). IsSound w.config w.now l) (sym t.leases) k.sound;
-      }
+        let k = kept.server server up in
+        record {
+          config_is = t.config ∙ k.config_is;
+          past = let e = t.last in omega arith;
+          sound = subst (λ (l : Leases). IsSound w.config w.now l) (sym t.leases) k.sound;
+        }
 
 -- ---- an end takes a datagram
 

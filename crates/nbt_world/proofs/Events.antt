@@ -31,23 +31,23 @@ sends_kept law w i node new name event to octets kept up sends =
     let at = up_at w i node kept up in
     let stays = stays_by_moves w.now node new name event _ _ sends.moves in
     let sending : Sending w at.addr (datagram new.addr to w.now octets) sends.message =
-      record { from_is = stays.addr_is ∙ (at.is).addr_is; now_is = refl; written = (sends.written).0; spelled = (sends.written).1 } in
+    record { from_is = stays.addr_is ∙ (at.is).addr_is; now_is = refl; written = (sends.written).0; spelled = (sends.written).1 } in
     node_moves w i node new (w.sent ++ datagram new.addr to w.now octets ∷ []) kept at stays
-      (is_new law w (suc i) at.addr (datagram new.addr to w.now octets) sends.message at.at sending)
-      (λ q. names at stays sending q (names_apart q name))
+    (is_new law w (suc i) at.addr (datagram new.addr to w.now octets) sends.message at.at sending)
+    (λ q. names at stays sending q (names_apart q name))
   where
     names : (at : UpAt w i node) → Stays node w.now new → Sending w at.addr (datagram new.addr to w.now octets) sends.message → (q : NameValue) → (q ≡ name) ⊎ (q ≢ name)
         → RequestsEnded node.config.life w.now (Asked (w.sent ++ datagram new.addr to w.now octets ∷ []) (at.addr).ip q) (known (Some new) q)
     names at stays sending q (inl e) =
-      subst (λ (n : NameValue). RequestsEnded node.config.life w.now (Asked (w.sent ++ datagram new.addr to w.now octets ∷ []) (at.addr).ip n) (known (Some new) n)) (sym e)
+        subst (λ (n : NameValue). RequestsEnded node.config.life w.now (Asked (w.sent ++ datagram new.addr to w.now octets ∷ []) (at.addr).ip n) (known (Some new) n)) (sym e)
         (name_sends w.now node new name event sends.message _ (Asked w.sent (at.addr).ip name) (Asked (w.sent ++ datagram new.addr to w.now octets ∷ []) (at.addr).ip name) stays.start_is sends.moves
-          (asked_past w (at.addr).ip name w.sent kept.sent)
-          (own_more law w at.addr (datagram new.addr to w.now octets) sends.message (at.addr).ip name sending)
-          (at.requests name))
+        (asked_past w (at.addr).ip name w.sent kept.sent)
+        (own_more law w at.addr (datagram new.addr to w.now octets) sends.message (at.addr).ip name sending)
+        (at.requests name))
     names at stays sending q (inr ne) =
-      name_by_time w.now node new q (Asked w.sent (at.addr).ip q) (Asked (w.sent ++ datagram new.addr to w.now octets ∷ []) (at.addr).ip q) stays.start_is ((sends.moves).others q ne)
+        name_by_time w.now node new q (Asked w.sent (at.addr).ip q) (Asked (w.sent ++ datagram new.addr to w.now octets ∷ []) (at.addr).ip q) stays.start_is ((sends.moves).others q ne)
         (others_fewer law w at.addr (datagram new.addr to w.now octets) sends.message (at.addr).ip q sending
-          (λ r. ne (request_one sends.message q name r (is_sent (sends.moves).move).request)))
+        (λ r. ne (request_one sends.message q name r (is_sent (sends.moves).move).request)))
         (at.requests q)
 
 -- ---- time alone, and what is no request
@@ -75,7 +75,7 @@ pub time_kept : (w : WorldValue) (i : ℕ) (node new : NodeValue) → IsKept w �
 time_kept w i node new kept up stays names =
     let at = up_at w i node kept up in
     node_moves w i node new w.sent kept at stays (nothing_new w at.addr)
-      (λ q. name_by_time w.now node new q (Asked w.sent (at.addr).ip q) (Asked w.sent (at.addr).ip q) stays.start_is (names q) (λ moment message a. a) (at.requests q))
+    (λ q. name_by_time w.now node new q (Asked w.sent (at.addr).ip q) (Asked w.sent (at.addr).ip q) stays.start_is (names q) (λ moment message a. a) (at.requests q))
 
 -- a datagram that is no request
 pub other_kept : OneMessage → (w : WorldValue) (i : ℕ) (node new : NodeValue) (to : Addr) (octets : List ℕ) (m : MessageValue) → IsKept w → node_of w.ends (suc i) ≡ Some node → Stays node w.now new → ByTimeAlone node w.now new
@@ -84,19 +84,19 @@ pub other_kept : OneMessage → (w : WorldValue) (i : ℕ) (node new : NodeValue
 other_kept law w i node new to octets m kept up stays names written off =
     let at = up_at w i node kept up in
     let sending : Sending w at.addr (datagram new.addr to w.now octets) m =
-      record { from_is = stays.addr_is ∙ (at.is).addr_is; now_is = refl; written = written.0; spelled = written.1 } in
+    record { from_is = stays.addr_is ∙ (at.is).addr_is; now_is = refl; written = written.0; spelled = written.1 } in
     node_moves w i node new (w.sent ++ datagram new.addr to w.now octets ∷ []) kept at stays
-      (is_new law w (suc i) at.addr (datagram new.addr to w.now octets) m at.at sending)
-      (λ q. name_by_time w.now node new q (Asked w.sent (at.addr).ip q) (Asked (w.sent ++ datagram new.addr to w.now octets ∷ []) (at.addr).ip q) stays.start_is (names q)
-        (others_fewer law w at.addr (datagram new.addr to w.now octets) m (at.addr).ip q sending (off q)) (at.requests q))
+    (is_new law w (suc i) at.addr (datagram new.addr to w.now octets) m at.at sending)
+    (λ q. name_by_time w.now node new q (Asked w.sent (at.addr).ip q) (Asked (w.sent ++ datagram new.addr to w.now octets ∷ []) (at.addr).ip q) stays.start_is (names q)
+    (others_fewer law w at.addr (datagram new.addr to w.now octets) m (at.addr).ip q sending (off q)) (at.requests q))
 
 -- a call that was refused leaves the node
 pub refused_kept : (w : WorldValue) (i : ℕ) (node : NodeValue) → IsKept w → node_of w.ends (suc i) ≡ Some node → IsKept (record w { ends = with_node w.ends (suc i) (Some node) })
 refused_kept w i node kept up =
     let there = addr_there w.ends (suc i) node up in
     node_changes w i there.0 (Some node) w.sent kept there.1
-      (λ x e. subst (λ (y : NodeValue). IsNodeOf w there.0 y) (same_Some node x e) (kept.nodes (suc i) there.0 node there.1 up)) (nothing_new w there.0)
-      (λ q. subst (λ (x : Option NodeValue). RequestsEnded w.config.life w.now (Asked w.sent (there.0).ip q) (known x q)) up (kept.requests (suc i) there.0 q there.1))
+    (λ x e. subst (λ (y : NodeValue). IsNodeOf w there.0 y) (same_Some node x e) (kept.nodes (suc i) there.0 node there.1 up)) (nothing_new w there.0)
+    (λ q. subst (λ (x : Option NodeValue). RequestsEnded w.config.life w.now (Asked w.sent (there.0).ip q) (known x q)) up (kept.requests (suc i) there.0 q there.1))
 
 -- ---- a node's own event
 
@@ -111,7 +111,7 @@ opens_kept : OneMessage → (w : WorldValue) (i : ℕ) (node new : NodeValue) (n
     → Opens node w.now name to wanted new octets → IsKept (record w { ends = with_node w.ends (suc i) (Some new); sent = w.sent ++ datagram new.addr to w.now octets ∷ [] })
 opens_kept law w i node new name to wanted octets kept up opens =
     other_kept law w i node new to octets _ kept up (stays_by_lookup w.now node new _ _ opens.opens) ((opens.opens).names) opens.written
-      (question_off (record { id = node.next_id; name = name; to = to; wanted = wanted; tries = 1; due = next_due w.now }))
+    (question_off (record { id = node.next_id; name = name; to = to; wanted = wanted; tries = 1; due = next_due w.now }))
 
 polls_kept : OneMessage → (w : WorldValue) (i : ℕ) (node new : NodeValue) (x : Option Addr) (octets : List ℕ) → IsKept w → node_of w.ends (suc i) ≡ Some node → Polls node w.now new x octets
     → (to : Addr) → x ≡ Some to → IsKept (record w { ends = with_node w.ends (suc i) (Some new); sent = w.sent ++ datagram new.addr to w.now octets ∷ [] })

@@ -59,21 +59,21 @@ takes_in nodes name now count holders kind held are = record {
 
     all : (index : ℕ) (k : Kind) → index < count + 1 → held_at_place nodes index name now ≡ Some k → (index ≡ count) ⊎ (index ≡ count → ⊥) → Contains (holders ++ record { node = count + 1; kind = kind } ∷ []) (record { node = suc index; kind = k })
     all index k lt is (inl e) =
-      let same : kind ≡ k = same_Some kind k (sym held ∙ sym (ap (λ (n : ℕ). held_at_place nodes n name now) e) ∙ is) in
-      let number : count + 1 ≡ suc index = omega arith in
-      subst (λ (x : Holder). Contains (holders ++ record { node = count + 1; kind = kind } ∷ []) x) (λ i. record { node = number i; kind = same i }) (Contains-push holders (record { node = count + 1; kind = kind }))
+        let same : kind ≡ k = same_Some kind k (sym held ∙ sym (ap (λ (n : ℕ). held_at_place nodes n name now) e) ∙ is) in
+        let number : count + 1 ≡ suc index = omega arith in
+        subst (λ (x : Holder). Contains (holders ++ record { node = count + 1; kind = kind } ∷ []) x) (λ i. record { node = number i; kind = same i }) (Contains-push holders (record { node = count + 1; kind = kind }))
     all index k lt is (inr ne) = Contains-append_left holders _ _ (are.all index k (omega arith) is)
 
     -- the last one has the greatest number
     order : (i j : ℕ) (d : Holder) → i < j → (j < length holders) ⊎ (length holders ≤ j) → j < length holders + 1
         → (get_or (holders ++ record { node = count + 1; kind = kind } ∷ []) i d).node < (get_or (holders ++ record { node = count + 1; kind = kind } ∷ []) j d).node
     order i j d lt (inl inside) within =
-      rw (get_or_append_left holders (record { node = count + 1; kind = kind } ∷ []) d i (omega arith), get_or_append_left holders (record { node = count + 1; kind = kind } ∷ []) d j inside) (are.in_order i j d lt inside)
+        rw (get_or_append_left holders (record { node = count + 1; kind = kind } ∷ []) d i (omega arith), get_or_append_left holders (record { node = count + 1; kind = kind } ∷ []) d j inside) (are.in_order i j d lt inside)
     order i j d lt (inr past) within =
-      let at : length holders ≡ j = omega arith in
-      let inside : i < length holders = omega arith in
-      let o = are.only (get_or holders i d) (i, inside, get_or_same holders i d inside) in
-      rw (get_or_append_left holders (record { node = count + 1; kind = kind } ∷ []) d i inside, get_or_push holders (record { node = count + 1; kind = kind }) d j at) (let a = o.1 in let b = o.2 in omega arith)
+        let at : length holders ≡ j = omega arith in
+        let inside : i < length holders = omega arith in
+        let o = are.only (get_or holders i d) (i, inside, get_or_same holders i d inside) in
+        rw (get_or_append_left holders (record { node = count + 1; kind = kind } ∷ []) d i inside, get_or_push holders (record { node = count + 1; kind = kind }) d j at) (let a = o.1 in let b = o.2 in omega arith)
       where
         get_or_same : (xs : List Holder) (k : ℕ) (d : Holder) → k < length xs → get_or xs k (get_or xs k d) ≡ get_or xs k d
         get_or_same [] k d lt = refl

@@ -135,20 +135,20 @@ node_changes w i addr x sent kept at is new names = record {
     node_at : (n : ℕ) (a : Addr) (node : NodeValue) → addr_of w.ends n ≡ Some a → node_of (with_node w.ends (suc i) x) n ≡ Some node → (n ≡ suc i) ⊎ (n ≡ suc i → ⊥)
         → IsNodeOf (record w { ends = with_node w.ends (suc i) x; sent = sent }) a node
     node_at n a node p up (inl e) =
-      let k = is node (sym (value_at n e) ∙ up) in
-      record { addr_is = k.addr_is ∙ same_addr n a p e; server_is = k.server_is; config_is = k.config_is; past = k.past }
+        let k = is node (sym (value_at n e) ∙ up) in
+        record { addr_is = k.addr_is ∙ same_addr n a p e; server_is = k.server_is; config_is = k.config_is; past = k.past }
     node_at n a node p up (inr ne) =
-      let k = kept.nodes n a node p (sym (node_with_other w.ends i x n ne) ∙ up) in
-      record { addr_is = k.addr_is; server_is = k.server_is; config_is = k.config_is; past = k.past }
+        let k = kept.nodes n a node p (sym (node_with_other w.ends i x n ne) ∙ up) in
+        record { addr_is = k.addr_is; server_is = k.server_is; config_is = k.config_is; past = k.past }
 
     requests_at : (n : ℕ) (a : Addr) (name : NameValue) → addr_of w.ends n ≡ Some a → (n ≡ suc i) ⊎ (n ≡ suc i → ⊥)
         → RequestsEnded w.config.life w.now (Asked sent a.ip name) (known (node_of (with_node w.ends (suc i) x) n) name)
     requests_at n a name p (inl e) = rw (value_at n e, ← same_addr n a p e) (names name)
     requests_at n a name p (inr ne) =
-      rw (node_with_other w.ends i x n ne)
+        rw (node_with_other w.ends i x n ne)
         (ended-frame w.config.life w.now w.now (Asked w.sent a.ip name) (Asked sent a.ip name) (known (node_of w.ends n) name) (omega arith)
-          (asked_before w.sent sent addr a.ip name (λ same. ne (kept.ends.apart n (suc i) a addr p at (sym same))) (from_new w addr sent new))
-          (kept.requests n a name p))
+        (asked_before w.sent sent addr a.ip name (λ same. ne (kept.ends.apart n (suc i) a addr p at (sym same))) (from_new w addr sent new))
+        (kept.requests n a name p))
 
 -- ---- the server changes
 
@@ -170,8 +170,8 @@ server_changes w x sent kept is new = record {
     apart = λ j k a b p q same. kept.ends.apart j k a b (sym (server_addr_with w.ends x j) ∙ p) (sym (server_addr_with w.ends x k) ∙ q) same;
   };
   nodes = λ n a node p up.
-    let k = kept.nodes n a node (sym (server_addr_with w.ends x n) ∙ p) (sym (server_node_with w.ends x n) ∙ up) in
-    record { addr_is = k.addr_is; server_is = k.server_is; config_is = k.config_is; past = k.past };
+      let k = kept.nodes n a node (sym (server_addr_with w.ends x n) ∙ p) (sym (server_node_with w.ends x n) ∙ up) in
+      record { addr_is = k.addr_is; server_is = k.server_is; config_is = k.config_is; past = k.past };
   server = λ server up. let k = is server up in record { config_is = k.config_is; past = k.past; sound = k.sound };
   sent = λ d c. sent_frame w.ends (with_server w.ends x) w.now w.now d (server_addr_with w.ends x) (omega arith) (all_sent w w.ends.server_addr sent kept new d c);
   requests = λ n a name p. requests_at n a name (sym (server_addr_with w.ends x n) ∙ p);
@@ -180,7 +180,7 @@ server_changes w x sent kept is new = record {
     requests_at : (n : ℕ) (a : Addr) (name : NameValue) → addr_of w.ends n ≡ Some a → RequestsEnded w.config.life w.now (Asked sent a.ip name) (known (node_of (with_server w.ends x) n) name)
     requests_at zero a name p = ended-down w.config.life w.now (Asked sent a.ip name) (asked_past w a.ip name sent (all_sent w w.ends.server_addr sent kept new))
     requests_at (suc j) a name p =
-      ended-frame w.config.life w.now w.now (Asked w.sent a.ip name) (Asked sent a.ip name) (known (node_of w.ends (suc j)) name) (omega arith)
+        ended-frame w.config.life w.now w.now (Asked w.sent a.ip name) (Asked sent a.ip name) (known (node_of w.ends (suc j)) name) (omega arith)
         (asked_before w.sent sent w.ends.server_addr a.ip name (λ same. zero_suc j (kept.ends.apart zero (suc j) w.ends.server_addr a refl p same)) (from_new w w.ends.server_addr sent new))
         (kept.requests (suc j) a name p)
       where

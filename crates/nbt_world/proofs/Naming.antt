@@ -95,8 +95,8 @@ asks_more law w addr d m ip q s moment message a = go (Contains-push_cases w.sen
     go : Contains w.sent a.datagram ⊎ (d ≡ a.datagram) → Asked w.sent ip q moment message ⊎ ((moment ≡ w.now) × (message ≡ m) × IsRequest q m)
     go (inl c) = inl (record { datagram = a.datagram; among = c; sender = a.sender; moment_is = a.moment_is; spelled = a.spelled; request = a.request })
     go (inr e) =
-      let same = law d.octets.items message m (subst (λ (y : Datagram). Spells y.octets.items message) (sym e) a.spelled) s.spelled in
-      inr (sym a.moment_is ∙ ap (λ (y : Datagram). y.moment) (sym e) ∙ s.now_is, same, subst (λ (k : MessageValue). IsRequest q k) same a.request)
+        let same = law d.octets.items message m (subst (λ (y : Datagram). Spells y.octets.items message) (sym e) a.spelled) s.spelled in
+        inr (sym a.moment_is ∙ ap (λ (y : Datagram). y.moment) (sym e) ∙ s.now_is, same, subst (λ (k : MessageValue). IsRequest q k) same a.request)
 
 -- ---- one name of one node
 
@@ -126,8 +126,8 @@ pub name_by_time : (now : ℕ) (old new : NodeValue) (q : NameValue) (asked more
     → RequestsEnded old.config.life now asked (known (Some old) q) → RequestsEnded old.config.life now more (known (Some new) q)
 name_by_time now old new q asked more start state fewer kept =
     known_as old.config.life now more new q old.start (state_at old now q) start state
-      (ended-frame old.config.life now now asked more (knows old.start (state_at old now q)) (omega arith) fewer
-        (ended-fades old.config.life now old.start asked (state_of old q) (state_at old now q) (fades old.config.life now old.start (state_of old q)) kept))
+    (ended-frame old.config.life now now asked more (knows old.start (state_at old now q)) (omega arith) fewer
+    (ended-fades old.config.life now old.start asked (state_of old q) (state_at old now q) (fades old.config.life now old.start (state_of old q)) kept))
 
 -- the name about which a request was sent
 pub name_sends : (now : ℕ) (old new : NodeValue) (name : NameValue) (event : NameEvent) (m : MessageValue) (told : Told) (asked more : ℕ → MessageValue → Type 0) → new.start ≡ old.start
@@ -137,9 +137,9 @@ pub name_sends : (now : ℕ) (old new : NodeValue) (name : NameValue) (event : N
     → RequestsEnded old.config.life now asked (known (Some old) name) → RequestsEnded old.config.life now more (known (Some new) name)
 name_sends now old new name event m told asked more start moves past grows kept =
     known_as old.config.life now more new name old.start (settled old.config.life now moves.after) start moves.named
-      (ended-fades old.config.life now old.start more moves.after (settled old.config.life now moves.after) (fades old.config.life now old.start moves.after)
-        (ended-sent old.config.life now old.start name asked more (state_at old now name) moves.after m (is_sent moves.move) past grows
-          (ended-fades old.config.life now old.start asked (state_of old name) (state_at old now name) (fades old.config.life now old.start (state_of old name)) kept)))
+    (ended-fades old.config.life now old.start more moves.after (settled old.config.life now moves.after) (fades old.config.life now old.start moves.after)
+    (ended-sent old.config.life now old.start name asked more (state_at old now name) moves.after m (is_sent moves.move) past grows
+    (ended-fades old.config.life now old.start asked (state_of old name) (state_at old now name) (fades old.config.life now old.start (state_of old name)) kept)))
 
 -- the name about which something was heard
 pub name_hears : (now : ℕ) (old new : NodeValue) (name : NameValue) (m : MessageValue) (told : Told) (asked : ℕ → MessageValue → Type 0) → new.start ≡ old.start
@@ -147,9 +147,9 @@ pub name_hears : (now : ℕ) (old new : NodeValue) (name : NameValue) (m : Messa
     → RequestsEnded old.config.life now asked (known (Some old) name) → RequestsEnded old.config.life now asked (known (Some new) name)
 name_hears now old new name m told asked start moves kept =
     known_as old.config.life now asked new name old.start (settled old.config.life now moves.after) start moves.named
-      (ended-fades old.config.life now old.start asked moves.after (settled old.config.life now moves.after) (fades old.config.life now old.start moves.after)
-        (ended-fades old.config.life now old.start asked (state_at old now name) moves.after (fades-heard old.config.life old.start moves.move)
-          (ended-fades old.config.life now old.start asked (state_of old name) (state_at old now name) (fades old.config.life now old.start (state_of old name)) kept)))
+    (ended-fades old.config.life now old.start asked moves.after (settled old.config.life now moves.after) (fades old.config.life now old.start moves.after)
+    (ended-fades old.config.life now old.start asked (state_at old now name) moves.after (fades-heard old.config.life old.start moves.move)
+    (ended-fades old.config.life now old.start asked (state_of old name) (state_at old now name) (fades old.config.life now old.start (state_of old name)) kept)))
 
 -- ---- one node has moved
 
@@ -171,7 +171,7 @@ up_at w i node kept up =
       up = up;
       is = is;
       requests = λ q.
-        subst (λ (c : ConfigValue). RequestsEnded c.life w.now (Asked w.sent (there.0).ip q) (known (Some node) q)) (sym is.config_is)
+          subst (λ (c : ConfigValue). RequestsEnded c.life w.now (Asked w.sent (there.0).ip q) (known (Some node) q)) (sym is.config_is)
           (subst (λ (x : Option NodeValue). RequestsEnded w.config.life w.now (Asked w.sent (there.0).ip q) (known x q)) up (kept.requests (suc i) there.0 q there.1));
     }
 
@@ -181,8 +181,8 @@ pub node_moves : (w : WorldValue) (i : ℕ) (node new : NodeValue) (sent : List 
     → IsKept (record w { ends = with_node w.ends (suc i) (Some new); sent = sent })
 node_moves w i node new sent kept at stays fresh names =
     node_changes w i at.addr (Some new) sent kept at.at
-      (λ x e. subst (λ (y : NodeValue). IsNodeOf w at.addr y) (same_Some new x e) (node_stays w at.addr node new stays at.is)) fresh
-      (λ q. subst (λ (c : ConfigValue). RequestsEnded c.life w.now (Asked sent (at.addr).ip q) (known (Some new) q)) (at.is).config_is (names q))
+    (λ x e. subst (λ (y : NodeValue). IsNodeOf w at.addr y) (same_Some new x e) (node_stays w at.addr node new stays at.is)) fresh
+    (λ q. subst (λ (c : ConfigValue). RequestsEnded c.life w.now (Asked sent (at.addr).ip q) (known (Some new) q)) (at.is).config_is (names q))
 
 pub stays_by_moves : (now : ℕ) (old new : NodeValue) (name : NameValue) (event : NameEvent) (sent : Option MessageValue) (told : Told) → NameMoves old now name event new sent told → Stays old now new
 stays_by_moves now old new name event sent told moves = record {

@@ -51,19 +51,19 @@ put_is_set (end ∷ nodes) (suc i) e x is = ap (λ (rest : List End). end ∷ re
 refilled : (nodes ys : List End) (i : ℕ) (e : End) → ys ≡ nodes → refill (length nodes) nodes (set ys i e) ≡ set nodes i e
 refilled nodes ys i e same =
     subst (λ (zs : List End). refill (length nodes) nodes (set zs i e) ≡ set nodes i e) (sym same)
-      (take_at (set nodes i e) (drop (length (set nodes i e)) nodes) (length nodes) (length-set nodes i e))
+    (take_at (set nodes i e) (drop (length (set nodes i e)) nodes) (length nodes) (length-set nodes i e))
 
 pub written_node : (ends : Ends) (n : ℕ) (ys : List End) (r : End) (x : Option NodeValue) → Reads ends n ys r
     → written_back ends n ys (record (get_or ys (n - 1) r) { node = x }) ≡ with_node ends n x
 written_node ends n ys r x reads =
     place_from (λ m. written_back ends n ys (record (get_or ys (n - 1) r) { node = x }) ≡ with_node ends m x) n reads.some
-      (ap (λ (items : List End). record ends { nodes = record { items = items } })
-        (refilled ends.nodes.items ys (n - 1) _ reads.lent ∙ put_is_set ends.nodes.items (n - 1) _ x (there ends n ys r reads)))
+    (ap (λ (items : List End). record ends { nodes = record { items = items } })
+    (refilled ends.nodes.items ys (n - 1) _ reads.lent ∙ put_is_set ends.nodes.items (n - 1) _ x (there ends n ys r reads)))
 
 pub written_same : (ends : Ends) (n : ℕ) (ys : List End) (r : End) → Reads ends n ys r → written_back ends n ys (get_or ys (n - 1) r) ≡ ends
 written_same ends n ys r reads =
     ap (λ (items : List End). record ends { nodes = record { items = items } })
-      (refilled ends.nodes.items ys (n - 1) _ reads.lent ∙ set_same ends.nodes.items (n - 1) _ (there ends n ys r reads))
+    (refilled ends.nodes.items ys (n - 1) _ reads.lent ∙ set_same ends.nodes.items (n - 1) _ (there ends n ys r reads))
   where
     set_same : (nodes : List End) (i : ℕ) (e : End) → slice_get nodes i ≡ Some e → set nodes i e ≡ nodes
     set_same [] i e is = refl
@@ -77,7 +77,7 @@ node_read ends n ys r reads =
 pub addr_read : (ends : Ends) (n : ℕ) (ys : List End) (r : End) → Reads ends n ys r → addr_of ends n ≡ Some (get_or ys (n - 1) r).addr
 addr_read ends n ys r reads =
     place_from (λ m. addr_of ends m ≡ Some (get_or ys (n - 1) r).addr) n reads.some
-      (ap (λ (o : Option End). addr_some o) (there ends n ys r reads))
+    (ap (λ (o : Option End). addr_some o) (there ends n ys r reads))
   where
     addr_some : Option End → Option Addr
     addr_some None = None
@@ -190,11 +190,11 @@ server_stays_up ends n e is = subst (λ (m : ℕ). ¬ IsDown ends m) (sym e) (λ
 
 pub node_started : (config : ConfigValue) (now : ℕ) (ends : Ends) (n : ℕ) (ys : List End) (r : End) (b : Bool) (e : End) → Reads ends n ys r
     → MatchBool b (((get_or ys (n - 1) r).node ≡ None) × (e ≡ record (get_or ys (n - 1) r) { node = Some (started 14 (get_or ys (n - 1) r).addr ends.server_addr config now) }))
-        (IsSome (get_or ys (n - 1) r).node × (e ≡ get_or ys (n - 1) r))
+    (IsSome (get_or ys (n - 1) r).node × (e ≡ get_or ys (n - 1) r))
     → MatchBool b (Starts config now ends n (written_back ends n ys e)) ((¬ IsDown ends n) × (written_back ends n ys e ≡ ends))
 node_started config now ends n ys r true e reads is =
     let left : written_back ends n ys e ≡ with_node ends n (Some (started 14 (get_or ys (n - 1) r).addr ends.server_addr config now)) =
-      ap (λ (x : End). written_back ends n ys x) is.1 ∙ written_node ends n ys r _ reads in
+    ap (λ (x : End). written_back ends n ys x) is.1 ∙ written_node ends n ys r _ reads in
     subst (λ (x : Ends). Starts config now ends n x) (sym left) (begun n reads.some (addr_read ends n ys r reads) (node_read ends n ys r reads ∙ is.0))
   where
     begun : (m : ℕ) → m ≢ 0 → {addr : Addr} → addr_of ends m ≡ Some addr → node_of ends m ≡ None → Starts config now ends m (with_node ends m (Some (started 14 addr ends.server_addr config now)))

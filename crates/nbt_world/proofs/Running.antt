@@ -16,7 +16,7 @@ pub run_next : (events : List Event) (k : ℕ) (w last next : WorldValue) (world
     → Run (take k events) w worlds last → Step last event outcome next → Run (take (k + 1) events) w (worlds ++ next ∷ []) next
 run_next events k w last next worlds event outcome within is run step =
     subst (λ (es : List Event). Run es w (worlds ++ next ∷ []) next) (sym (take_more events k event within))
-      (subst (λ (x : Event). Run (take k events ++ x ∷ []) w (worlds ++ next ∷ []) next) is (run_more (take k events) w last next worlds event outcome run step))
+    (subst (λ (x : Event). Run (take k events ++ x ∷ []) w (worlds ++ next ∷ []) next) is (run_more (take k events) w last next worlds event outcome run step))
 
 pub run_whole : (events : List Event) (k : ℕ) (w last : WorldValue) (worlds : List WorldValue) → length events ≤ k → Run (take k events) w worlds last → Run events w worlds last
 run_whole events k w last worlds le run = subst (λ (es : List Event). Run es w worlds last) (take_all k events le) run

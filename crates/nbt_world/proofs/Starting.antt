@@ -39,17 +39,17 @@ starts_kept w number ends kept (server_starts server down new) =
     is = record { config_is = new.config_is; past = let e = new.last in omega arith; sound = new_is_sound w.config w.now server.table.rows new.empty }
 starts_kept w number ends kept (node_starts i addr at down) =
     node_changes w i addr (Some (started 14 addr w.ends.server_addr w.config w.now)) w.sent kept at
-      (λ s e. subst (λ (x : NodeValue). IsNodeOf w addr x) (same_Some (started 14 addr w.ends.server_addr w.config w.now) s e)
-        (record { addr_is = refl; server_is = refl; config_is = refl; past = omega arith }))
-      (nothing_new w addr)
-      (λ q.
-        rw (idle_in 14 q)
-          (ended-start w.config.life w.now (Asked w.sent addr.ip q)
-            (subst (λ (x : Option NodeValue). RequestsEnded w.config.life w.now (Asked w.sent addr.ip q) (known x q)) down (kept.requests (suc i) addr q at))))
+    (λ s e. subst (λ (x : NodeValue). IsNodeOf w addr x) (same_Some (started 14 addr w.ends.server_addr w.config w.now) s e)
+    (record { addr_is = refl; server_is = refl; config_is = refl; past = omega arith }))
+    (nothing_new w addr)
+    (λ q.
+    rw (idle_in 14 q)
+    (ended-start w.config.life w.now (Asked w.sent addr.ip q)
+    (subst (λ (x : Option NodeValue). RequestsEnded w.config.life w.now (Asked w.sent addr.ip q) (known x q)) down (kept.requests (suc i) addr q at))))
 
 pub crashes_kept : (w : WorldValue) (number : ℕ) (ends : Ends) → IsKept w → Crashes w.ends number ends → IsKept (record w { ends = ends })
 crashes_kept w number ends kept (server_crashes server up) = server_changes w None w.sent kept (λ s e. absurd (none-some s e)) (nothing_new w w.ends.server_addr)
 crashes_kept w number ends kept (node_crashes i node up) =
     let there = addr_there w.ends (suc i) node up in
     node_changes w i there.0 None w.sent kept there.1 (λ s e. absurd (none-some s e)) (nothing_new w there.0)
-      (λ q. ended-down w.config.life w.now (Asked w.sent (there.0).ip q) (asked_past w (there.0).ip q w.sent kept.sent))
+    (λ q. ended-down w.config.life w.now (Asked w.sent (there.0).ip q) (asked_past w (there.0).ip q w.sent kept.sent))

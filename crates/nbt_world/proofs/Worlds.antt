@@ -98,7 +98,7 @@ gave_kept law w event number ends sent outcome kept g = subst IsKept (gave_world
 pub gave_step : (w : WorldValue) (event : Event) (number : ℕ) (ends : Ends) (sent : List Datagram) (outcome : Outcome) → Gave w event number ends sent outcome → Step w event outcome (record w { ends = ends; sent = sent })
 gave_step w event number ends sent outcome g =
     subst (λ (x : Outcome). Step w event x (record w { ends = ends; sent = sent })) (sym g.outcome_is)
-      (subst (λ (x : WorldValue). Step w event (outcome_of w g.given) x) (gave_world w event number ends sent outcome g) (node_does event number g.node g.new g.given g.own g.up g.does))
+    (subst (λ (x : WorldValue). Step w event (outcome_of w g.given) x) (gave_world w event number ends sent outcome g) (node_does event number g.node g.new g.given g.own g.up g.does))
 
 -- ---- an end takes a datagram
 

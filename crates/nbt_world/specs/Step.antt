@@ -177,17 +177,14 @@ outcome_of_taking world (takes (Some reply)) = o.Sent (length world.sent)
 
 pub data Step (old : WorldValue) : Event → Outcome → WorldValue → Type 0 where
   ticks : (ms : ℕ) → Step old (Tick ms) o.Done (record old { now = min (old.now + ms) (2 ^ 60) })
-
   starts : (number : ℕ) (ends : Ends) → Starts old.config old.now old.ends number ends → Step old (Start number) o.Done (record old { ends = ends })
   starts_nothing : (number : ℕ) → ¬ IsDown old.ends number → Step old (Start number) o.Nothing old
   crashes : (number : ℕ) (ends : Ends) → Crashes old.ends number ends → Step old (Crash number) o.Done (record old { ends = ends })
   crashes_nothing : (number : ℕ) → ¬ IsUp old.ends number → Step old (Crash number) o.Nothing old
-
   -- a node does something of its own, or is down
   node_does : (event : Event) (number : ℕ) (node new : NodeValue) (given : GivenValue) → number_in event ≡ Some number → node_of old.ends number ≡ Some node → Does node old.now event new given
       → Step old event (outcome_of old given) (after old number new given)
   node_is_down : (event : Event) (number : ℕ) → number_in event ≡ Some number → node_of old.ends number ≡ None → Step old event o.Down old
-
   -- a datagram of the list is delivered: to nobody, too late, or to an end, whose reply goes back
   no_datagram : (k : ℕ) → slice_get old.sent k ≡ None → Step old (Deliver k) o.Nobody old
   no_end : (k : ℕ) (d : Datagram) → slice_get old.sent k ≡ Some d → ((number : ℕ) → addr_of old.ends number ≢ Some d.to) → Step old (Deliver k) o.Nobody old
@@ -196,7 +193,6 @@ pub data Step (old : WorldValue) : Event → Outcome → WorldValue → Type 0 w
   delivered : (k : ℕ) (d : Datagram) (number : ℕ) (taken : TakenValue) (ends : Ends) → slice_get old.sent k ≡ Some d → addr_of old.ends number ≡ Some d.to
       → IsDeliverable old.config.life old.now d.moment → Takes old.now old.ends d.from d.octets.items number taken ends
       → Step old (Deliver k) (outcome_of_taking old taken) (after_taking old ends d.to d.from taken)
-
   -- a datagram comes from an address that is no end's
   from_an_end : (from : Addr) (number : ℕ) (octets : Vec ℕ) → IsOfEnd old.ends from.ip → Step old (Stranger from number octets) o.Nobody old
   to_no_end : (from : Addr) (number : ℕ) (octets : Vec ℕ) → addr_of old.ends number ≡ None → Step old (Stranger from number octets) o.Nobody old

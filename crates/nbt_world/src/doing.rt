@@ -115,7 +115,10 @@ pub fn does(
 {
     match event {
         Event::Ask {
-            name, kind, ttl, ..
+            name,
+            kind,
+            ttl,
+            ..
         } => ask(node, server, now, name, *kind, *ttl, out),
         Event::Release { name, .. } => release(node, server, now, name, out),
         Event::Resolve { name, .. } => resolve(node, server, now, name, out),

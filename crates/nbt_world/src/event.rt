@@ -21,11 +21,21 @@ pub enum Event {
         ttl: u32,
     },
     /// A node gives a name back.
-    Release { node: usize, name: Name },
+    Release {
+        node: usize,
+        name: Name,
+    },
     /// A node asks the server who holds a name.
-    Resolve { node: usize, name: Name },
+    Resolve {
+        node: usize,
+        name: Name,
+    },
     /// A node asks the end at an address which names it holds.
-    NameStatus { node: usize, to: Addr, name: Name },
+    NameStatus {
+        node: usize,
+        to: Addr,
+        name: Name,
+    },
     /// A node sends what is due.
     Poll(usize),
     /// The datagram of this number is delivered.

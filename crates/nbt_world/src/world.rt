@@ -148,7 +148,13 @@ impl World {
             return Ok(Outcome::Lost);
         }
         let mut octets = ArrayVec::new();
-        let taken = self.ends.take(number, self.clock, from, datagram.octets.as_slice(), &mut octets);
+        let taken = self.ends.take(
+            number,
+            self.clock,
+            from,
+            datagram.octets.as_slice(),
+            &mut octets,
+        );
         Ok(reply(&mut self.sent, taken, to, from, self.clock, octets))
     }
 
@@ -174,7 +180,9 @@ impl World {
             return Ok(Outcome::Nobody);
         };
         let mut out = ArrayVec::new();
-        let taken = self.ends.take(number, self.clock, from, octets.as_slice(), &mut out);
+        let taken = self
+            .ends
+            .take(number, self.clock, from, octets.as_slice(), &mut out);
         Ok(reply(&mut self.sent, taken, addr, from, self.clock, out))
     }
 

@@ -7,20 +7,20 @@ use Rattle.nbt_world.proofs.world.World.deliver.Goals as goal
 pub returns-in_default-clause-step : goal.returns-in_default-clause-step
 returns-in_default-clause-step c =
     rw (← c.self.view_is) (unchanged _ _ _ _ c.try_reserve.ensures.items
-      (no_datagram c.args.k (not_there_in c.as_slice.result.now c.self.inside.sent.items c.args.k (c.as_slice.ensures.value ∙ c.try_reserve.ensures.items) (c.in_default.ensures.lookup).0)))
+    (no_datagram c.args.k (not_there_in c.as_slice.result.now c.self.inside.sent.items c.args.k (c.as_slice.ensures.value ∙ c.try_reserve.ensures.items) (c.in_default.ensures.lookup).0)))
 
 pub returns-in_default-find-clause-step : goal.returns-in_default-find-clause-step
 returns-in_default-find-clause-step c =
     let there : slice_get c.self.inside.sent.items c.args.k ≡ Some c.in-Some.datagram.now =
-      there_in c.as_slice.result.now c.self.inside.sent.items c.args.k _ (c.as_slice.ensures.value ∙ c.try_reserve.ensures.items) (c.in-Some.ensures.lookup).0 (c.in-Some.ensures.lookup).1 in
+    there_in c.as_slice.result.now c.self.inside.sent.items c.args.k _ (c.as_slice.ensures.value ∙ c.try_reserve.ensures.items) (c.in-Some.ensures.lookup).0 (c.in-Some.ensures.lookup).1 in
     rw (← c.self.view_is) (unchanged _ _ _ _ c.try_reserve.ensures.items (no_end c.args.k c.in-Some.datagram.now there (c.in_default-find.ensures.none refl)))
 
 pub returns-then-get-life-clause-step : goal.returns-then-get-life-clause-step
 returns-then-get-life-clause-step c =
     let there : slice_get c.self.inside.sent.items c.args.k ≡ Some c.in-Some.datagram.now =
-      there_in c.as_slice.result.now c.self.inside.sent.items c.args.k _ (c.as_slice.ensures.value ∙ c.try_reserve.ensures.items) (c.in-Some.ensures.lookup).0 (c.in-Some.ensures.lookup).1 in
+    there_in c.as_slice.result.now c.self.inside.sent.items c.args.k _ (c.as_slice.ensures.value ∙ c.try_reserve.ensures.items) (c.in-Some.ensures.lookup).0 (c.in-Some.ensures.lookup).1 in
     rw (← c.self.view_is) (unchanged _ _ _ _ c.try_reserve.ensures.items
-      (too_late c.args.k c.in-Some.datagram.now c.in-Some-find.number there c.in-Some-find.ensures.found (λ d. omega (arith, c.get-2.ensures.value, c.get-3.ensures.value, c.life.ensures.value))))
+    (too_late c.args.k c.in-Some.datagram.now c.in-Some-find.number there c.in-Some-find.ensures.found (λ d. omega (arith, c.get-2.ensures.value, c.get-3.ensures.value, c.life.ensures.value))))
 
 took : (c : goal.After-reply) → Took (record { now = c.self.inside.clock; config = c.self.inside.config; ends = c.self.inside.ends; sent = c.self.inside.sent.items }) c.in-Some.datagram.now.from c.in-Some.datagram.now.to
     c.in-Some.datagram.now.octets.items c.in-Some-find.number c.take-taken.new.self c.reply.new.sent.items c.reply.result
@@ -35,8 +35,8 @@ invariant_of-self-2 c = took_kept c.one_message_spelled.ensures c.leases_stay_so
 pub returns-clause-step : goal.returns-clause-step
 returns-clause-step c =
     let there : slice_get c.self.inside.sent.items c.args.k ≡ Some c.in-Some.datagram.now =
-      there_in c.as_slice.result.now c.self.inside.sent.items c.args.k _ (c.as_slice.ensures.value ∙ c.try_reserve.ensures.items) (c.in-Some.ensures.lookup).0 (c.in-Some.ensures.lookup).1 in
+    there_in c.as_slice.result.now c.self.inside.sent.items c.args.k _ (c.as_slice.ensures.value ∙ c.try_reserve.ensures.items) (c.in-Some.ensures.lookup).0 (c.in-Some.ensures.lookup).1 in
     let t = took c in
     rw (← c.self.view_is) (took_step _ _ _ _ _ _ _ _ _ t
-      (delivered c.args.k c.in-Some.datagram.now c.in-Some-find.number t.taken c.take-taken.new.self there c.in-Some-find.ensures.found
-        (omega (arith, c.get-2.ensures.value, c.get-3.ensures.value, c.life.ensures.value)) t.does))
+    (delivered c.args.k c.in-Some.datagram.now c.in-Some-find.number t.taken c.take-taken.new.self there c.in-Some-find.ensures.found
+    (omega (arith, c.get-2.ensures.value, c.get-3.ensures.value, c.life.ensures.value)) t.does))

@@ -24,4 +24,4 @@ pub returns-clause-step : goal.returns-clause-step
 returns-clause-step c =
     let t = took c in
     rw (← c.self.view_is) (took_step _ _ _ _ _ _ _ _ _ t
-      (from_a_stranger c.args.from c.in-Some.addr c.args.number c.args.octets.now t.taken c.take-taken.new.self (λ is. false≢true (c.if-has_ip.ensures.1 is)) (sym c.in-Some.ensures) t.does))
+    (from_a_stranger c.args.from c.in-Some.addr c.args.number c.args.octets.now t.taken c.take-taken.new.self (λ is. false≢true (c.if-has_ip.ensures.1 is)) (sym c.in-Some.ensures) t.does))
