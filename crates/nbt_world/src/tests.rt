@@ -45,12 +45,34 @@ fn world(rt: &HostRuntime) -> Result<World, Fail> {
     Ok(World::new(rt.alloc(), config, &ENDS)?)
 }
 
-fn ask(node: usize, name: Name, kind: Kind) -> Event {
+fn ask(node: usize, name: &Name, kind: Kind) -> Event {
     Event::Ask {
         node,
-        name,
+        name: name.copy(),
         kind,
         ttl: 60,
+    }
+}
+
+fn release(node: usize, name: &Name) -> Event {
+    Event::Release {
+        node,
+        name: name.copy(),
+    }
+}
+
+fn resolve(node: usize, name: &Name) -> Event {
+    Event::Resolve {
+        node,
+        name: name.copy(),
+    }
+}
+
+fn name_status(node: usize, to: Addr, name: &Name) -> Event {
+    Event::NameStatus {
+        node,
+        to,
+        name: name.copy(),
     }
 }
 
@@ -80,11 +102,12 @@ fn holders<R: Abort>(rt: &R, world: &World, name: &Name, nodes: &[usize]) {
 #[test]
 fn a_node_that_crashed_rests_for_two_lives_after_its_start(rt: HostRuntime) -> Result<(), Fail> {
     let mut world = world(&rt)?;
+    let fred = fred()?;
     let steps = [
         (Event::Start(0), Outcome::Done),
         (Event::Start(1), Outcome::Done),
         (Event::Tick(100_000), Outcome::Done),
-        (ask(1, fred()?, Kind::Unique), Outcome::Sent(0)),
+        (ask(1, &fred, Kind::Unique), Outcome::Sent(0)),
         (Event::Crash(1), Outcome::Done),
         (Event::Tick(1), Outcome::Done),
         (Event::Start(1), Outcome::Done),
@@ -92,15 +115,15 @@ fn a_node_that_crashed_rests_for_two_lives_after_its_start(rt: HostRuntime) -> R
         (Event::Deliver(0), Outcome::Sent(1)),
         (Event::Tick(3), Outcome::Done),
         (Event::Deliver(1), Outcome::Taken),
-        (ask(1, fred()?, Kind::Unique), Outcome::Refused(1)),
+        (ask(1, &fred, Kind::Unique), Outcome::Refused(1)),
         (Event::Tick(998), Outcome::Done),
-        (ask(1, fred()?, Kind::Unique), Outcome::Refused(1)),
+        (ask(1, &fred, Kind::Unique), Outcome::Refused(1)),
         (Event::Tick(1), Outcome::Done),
         (Event::Deliver(1), Outcome::Lost),
-        (ask(1, fred()?, Kind::Unique), Outcome::Sent(2)),
+        (ask(1, &fred, Kind::Unique), Outcome::Sent(2)),
     ];
     expect(&rt, &mut world, &steps)?;
-    holders(&rt, &world, &fred()?, &[]);
+    holders(&rt, &world, &fred, &[]);
     Ok(())
 }
 
@@ -109,46 +132,43 @@ fn an_early_ask_after_a_release_is_quiet_and_the_name_goes_to_another(
     rt: HostRuntime,
 ) -> Result<(), Fail> {
     let mut world = world(&rt)?;
+    let fred = fred()?;
     let steps = [
         (Event::Start(0), Outcome::Done),
         (Event::Start(1), Outcome::Done),
         (Event::Start(2), Outcome::Done),
         (Event::Tick(60_000), Outcome::Done),
-        (ask(1, fred()?, Kind::Unique), Outcome::Sent(0)),
+        (ask(1, &fred, Kind::Unique), Outcome::Sent(0)),
         (Event::Deliver(0), Outcome::Sent(1)),
         (Event::Deliver(1), Outcome::Taken),
     ];
     expect(&rt, &mut world, &steps)?;
-    holders(&rt, &world, &fred()?, &[1]);
-    let release = Event::Release {
-        node: 1,
-        name: fred()?,
-    };
+    holders(&rt, &world, &fred, &[1]);
     let steps = [
         (Event::Tick(10_000), Outcome::Done),
-        (release, Outcome::Sent(2)),
+        (release(1, &fred), Outcome::Sent(2)),
         (Event::Tick(500), Outcome::Done),
-        (ask(1, fred()?, Kind::Unique), Outcome::Refused(1)),
+        (ask(1, &fred, Kind::Unique), Outcome::Refused(1)),
         (Event::Tick(500), Outcome::Done),
         (Event::Deliver(2), Outcome::Sent(3)),
-        (ask(2, fred()?, Kind::Unique), Outcome::Sent(4)),
+        (ask(2, &fred, Kind::Unique), Outcome::Sent(4)),
         (Event::Deliver(4), Outcome::Sent(5)),
         (Event::Deliver(5), Outcome::Taken),
     ];
     expect(&rt, &mut world, &steps)?;
-    holders(&rt, &world, &fred()?, &[2]);
+    holders(&rt, &world, &fred, &[2]);
     let steps = [
         (Event::Deliver(3), Outcome::Taken),
         (Event::Tick(1_000), Outcome::Done),
         (Event::Deliver(2), Outcome::Lost),
-        (ask(1, fred()?, Kind::Unique), Outcome::Refused(1)),
+        (ask(1, &fred, Kind::Unique), Outcome::Refused(1)),
         (Event::Tick(1), Outcome::Done),
-        (ask(1, fred()?, Kind::Unique), Outcome::Sent(6)),
+        (ask(1, &fred, Kind::Unique), Outcome::Sent(6)),
         (Event::Deliver(6), Outcome::Sent(7)),
         (Event::Deliver(7), Outcome::Taken),
     ];
     expect(&rt, &mut world, &steps)?;
-    holders(&rt, &world, &fred()?, &[2]);
+    holders(&rt, &world, &fred, &[2]);
     Ok(())
 }
 
@@ -196,21 +216,22 @@ fn strangers_are_heard_and_answered_and_their_datagrams_have_no_number(
 #[test]
 fn two_nodes_hold_a_group(rt: HostRuntime) -> Result<(), Fail> {
     let mut world = world(&rt)?;
+    let team = team()?;
     let steps = [
         (Event::Start(0), Outcome::Done),
         (Event::Start(1), Outcome::Done),
         (Event::Start(2), Outcome::Done),
         (Event::Tick(60_000), Outcome::Done),
-        (ask(1, team()?, Kind::Group), Outcome::Sent(0)),
-        (ask(2, team()?, Kind::Group), Outcome::Sent(1)),
+        (ask(1, &team, Kind::Group), Outcome::Sent(0)),
+        (ask(2, &team, Kind::Group), Outcome::Sent(1)),
         (Event::Deliver(0), Outcome::Sent(2)),
         (Event::Deliver(1), Outcome::Sent(3)),
         (Event::Deliver(2), Outcome::Taken),
         (Event::Deliver(3), Outcome::Taken),
     ];
     expect(&rt, &mut world, &steps)?;
-    holders(&rt, &world, &team()?, &[1, 2]);
-    for holder in world.holders(&team()?).as_slice() {
+    holders(&rt, &world, &team, &[1, 2]);
+    for holder in world.holders(&team).as_slice() {
         assert_eq!(rt; holder.kind, Kind::Group);
     }
     Ok(())
@@ -221,26 +242,16 @@ fn a_lookup_is_open_until_its_answer_and_a_status_request_finds_its_end_down(
     rt: HostRuntime,
 ) -> Result<(), Fail> {
     let mut world = world(&rt)?;
-    let resolve = || -> Result<Event, Fail> {
-        Ok(Event::Resolve {
-            node: 1,
-            name: fred()?,
-        })
-    };
-    let status = Event::NameStatus {
-        node: 1,
-        to: ENDS[2],
-        name: fred()?,
-    };
+    let fred = fred()?;
     let steps = [
         (Event::Start(0), Outcome::Done),
         (Event::Start(1), Outcome::Done),
         (Event::Tick(60_000), Outcome::Done),
-        (resolve()?, Outcome::Sent(0)),
-        (resolve()?, Outcome::Refused(2)),
+        (resolve(1, &fred), Outcome::Sent(0)),
+        (resolve(1, &fred), Outcome::Refused(2)),
         (Event::Deliver(0), Outcome::Sent(1)),
         (Event::Deliver(1), Outcome::Taken),
-        (status, Outcome::Sent(2)),
+        (name_status(1, ENDS[2], &fred), Outcome::Sent(2)),
         (Event::Deliver(2), Outcome::Down),
     ];
     expect(&rt, &mut world, &steps)
@@ -249,12 +260,13 @@ fn a_lookup_is_open_until_its_answer_and_a_status_request_finds_its_end_down(
 #[test]
 fn a_server_that_starts_again_is_silent_and_holds_end_first(rt: HostRuntime) -> Result<(), Fail> {
     let mut world = world(&rt)?;
+    let fred = fred()?;
     let steps = [
         (Event::Start(0), Outcome::Done),
         (Event::Start(1), Outcome::Done),
         (Event::Start(2), Outcome::Done),
         (Event::Tick(69_999), Outcome::Done),
-        (ask(1, fred()?, Kind::Unique), Outcome::Sent(0)),
+        (ask(1, &fred, Kind::Unique), Outcome::Sent(0)),
         (Event::Deliver(0), Outcome::Sent(1)),
         (Event::Deliver(1), Outcome::Taken),
         (Event::Tick(1), Outcome::Done),
@@ -264,35 +276,36 @@ fn a_server_that_starts_again_is_silent_and_holds_end_first(rt: HostRuntime) -> 
         (Event::Start(0), Outcome::Done),
         (Event::Start(0), Outcome::Nothing),
         (Event::Tick(59_998), Outcome::Done),
-        (ask(2, fred()?, Kind::Unique), Outcome::Sent(2)),
+        (ask(2, &fred, Kind::Unique), Outcome::Sent(2)),
         (Event::Deliver(2), Outcome::Taken),
     ];
     expect(&rt, &mut world, &steps)?;
-    holders(&rt, &world, &fred()?, &[1]);
+    holders(&rt, &world, &fred, &[1]);
     let steps = [
         (Event::Tick(1), Outcome::Done),
         (Event::Deliver(2), Outcome::Taken),
     ];
     expect(&rt, &mut world, &steps)?;
-    holders(&rt, &world, &fred()?, &[]);
+    holders(&rt, &world, &fred, &[]);
     let steps = [
         (Event::Tick(1), Outcome::Done),
         (Event::Deliver(2), Outcome::Sent(3)),
         (Event::Deliver(3), Outcome::Taken),
     ];
     expect(&rt, &mut world, &steps)?;
-    holders(&rt, &world, &fred()?, &[2]);
+    holders(&rt, &world, &fred, &[2]);
     Ok(())
 }
 
 #[test]
 fn nodes_that_the_world_has_not(rt: HostRuntime) -> Result<(), Fail> {
     let mut world = world(&rt)?;
+    let fred = fred()?;
     let steps = [
         (Event::Start(5), Outcome::Nothing),
         (Event::Crash(5), Outcome::Nothing),
-        (ask(5, fred()?, Kind::Unique), Outcome::Down),
-        (ask(0, fred()?, Kind::Unique), Outcome::Down),
+        (ask(5, &fred, Kind::Unique), Outcome::Down),
+        (ask(0, &fred, Kind::Unique), Outcome::Down),
         (Event::Start(1), Outcome::Done),
         (Event::Poll(1), Outcome::Nothing),
         (Event::Poll(2), Outcome::Down),
@@ -324,18 +337,20 @@ fn refused_memory_stops_a_run_before_its_event_or_loses_a_datagram(
     rt: HostRuntime,
 ) -> Result<(), Fail> {
     let mut world = world(&rt)?;
+    let fred = fred()?;
     let steps = [
         Event::Start(0),
         Event::Start(1),
         Event::Tick(60_000),
-        ask(1, fred()?, Kind::Unique),
+        ask(1, &fred, Kind::Unique),
         Event::Deliver(0),
         Event::Deliver(0),
     ];
-    if let Err((number, OutOfMemory)) = world.run(&steps) {
+    let events = steps.as_slice();
+    if let Err((number, OutOfMemory)) = world.run(events) {
         assert!(rt; number >= 3);
-        assert!(rt; number < steps.len());
-        world.run(&steps[number..])?;
+        assert!(rt; number < events.len());
+        world.run(&events[number..])?;
     }
     let first = world.step(&Event::Deliver(1));
     let taken = match first {
@@ -343,6 +358,6 @@ fn refused_memory_stops_a_run_before_its_event_or_loses_a_datagram(
         Err(_) => world.step(&Event::Deliver(1))?,
     };
     assert_eq!(rt; taken, Outcome::Taken);
-    holders(&rt, &world, &fred()?, &[1]);
+    holders(&rt, &world, &fred, &[1]);
     Ok(())
 }
