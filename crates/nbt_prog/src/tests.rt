@@ -9,6 +9,7 @@ use std::process::Abort;
 mod answer;
 mod check;
 mod messages;
+mod release;
 mod replies;
 mod show;
 
