@@ -4,3 +4,4 @@ pub mod Arguments
 pub mod Failure
 pub mod Outcome
 pub mod Printed
+pub mod Show

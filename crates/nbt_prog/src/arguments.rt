@@ -1,13 +1,14 @@
 //! What the words of the command line ask for.
 
-ghost use Rattle.std.specs.Prelude.{◌≡◌, ◌≤◌, ◌^◌, ◌⊎◌, ℕ, Ok, Some, IfOk, IfErr, IfSome, codes};
+ghost use Rattle.std.specs.Prelude.{◌≡◌, ◌≤◌, ◌^◌, ◌⊎◌, ◌↔◌, ℕ, Ok, Some, IfOk, IfErr, IfSome, codes};
 ghost use Rattle.clap.specs.Words.{kind_of};
 ghost use Rattle.hex.specs.Hex.{decode_of};
 ghost use Rattle.nbt_prog.specs.Inner.Arguments.{AreGiven, IsFailureOf, IsHexadecimal, IsTime, SpellsTime, argument_of};
+ghost use Rattle.nbt_prog.specs.declared.commands.show.Service.TheVariants.{Dgram};
 ghost use Rattle.nbt_prog.specs.declared.failure.Failure.TheVariants.{Unreadable, Memory};
 
 use crate::commands::answer::AnswerArguments;
-use crate::commands::show::ShowArguments;
+use crate::commands::show::{Service, ShowArguments};
 use crate::failure::Failure;
 use crate::usage;
 use clap::error::ErrorKind;
@@ -54,11 +55,23 @@ fn answer_arguments(alloc: Global, matches: &ArgMatches<'_>) -> Result<AnswerArg
 /// The arguments of `show`.
 fn show_arguments(alloc: Global, matches: &ArgMatches<'_>) -> Result<ShowArguments, Failure>
     ensures given { IfOk result (λ a. decode_of (argument_of matches.now (codes "hex")) ≡ Ok a.octets.items) }
+    ensures service { IfOk result (λ a. (a.service ≡ Dgram) ↔ (argument_of matches.now (codes "kind") ≡ codes "dgram")) }
     ensures failure { IfErr result (λ failure. (failure ≡ Memory)
         ⊎ (¬ (IsHexadecimal (argument_of matches.now (codes "hex"))) × (failure ≡ Unreadable))) }
 {
+    let service = service_of(argument(matches, usage::KIND));
     let octets = hex::decode(alloc, argument(matches, usage::HEX))?;
-    Ok(ShowArguments { octets })
+    Ok(ShowArguments { service, octets })
+}
+
+/// The service that a KIND names, of which there are two.
+fn service_of(kind: &str) -> Service
+    ensures { (result ≡ Dgram) ↔ (kind.now ≡ codes "dgram") }
+{
+    match kind {
+        usage::DGRAM => Service::Dgram,
+        _ => Service::Name,
+    }
 }
 
 /// The text of an argument, which is there, since each is required or has a default.

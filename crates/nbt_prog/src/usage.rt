@@ -54,6 +54,9 @@ data than its message has, or an additional record of another name. A redirect i
 A name is the text of its sixteen octets without the spaces at their end, so `FRED` is FRED<20>. Any other suffix
 prints as `hex:` and 32 digits, of which the last two are the suffix. The labels of a scope follow, each after a dot.
 
+Of a datagram it prints a line for its type, its flags' octet as it stands, its id and its source; `source NAME` and
+`destination NAME` where it has them; `offset N data HEX`, or `error` and the error's code; and how many octets it takes.
+
 Example:
   nbt show name 0001290000010000000000012045474643454645454341434143414341434143414341434143414341434143410000200001c00c002000010000003c000620007f000002
 
@@ -100,10 +103,13 @@ pub const FROM: &str = "from";
 pub const HEX: &str = "hex";
 
 /// The argument that says of which service a packet is.
-const KIND: &str = "kind";
+pub const KIND: &str = "kind";
+
+/// The name of the datagram service.
+pub const DGRAM: &str = "dgram";
 
 /// The kinds of packets that can be shown.
-const KINDS: [&str; 1] = ["name"];
+const KINDS: [&str; 2] = ["name", DGRAM];
 
 /// The option that tells the time.
 pub const AT: &str = "at";

@@ -10,6 +10,8 @@ pub mod NameText
 pub mod PrintedNames
 -- the reader of packets returns one packet, or one fault
 pub mod Packets
+-- the same of datagrams
+pub mod Datagrams
 -- texts that are written one behind another
 pub mod Joining
 -- the words of a vector, one by one

@@ -1,4 +1,5 @@
 pub mod Address
+pub mod DgramText
 pub mod Inner
 pub mod NameText
 pub mod Number

@@ -1,10 +1,12 @@
 //! An address as text: `A.B.C.D:PORT` (our profile).
 
-ghost use Rattle.std.specs.Prelude.{◌≡◌, ℕ, ◌+◌, ◌*◌, ◌<◌, ◌≤◌, ◌^◌, ◌⊎◌, ◌++◌, ◌∷◌, ◌↔◌, List, IfSome, IsSomeAnd, IsTrue, Some, length, slice_index};
+ghost use Rattle.std.specs.Prelude.{◌≡◌, ℕ, ◌+◌, ◌*◌, ◌<◌, ◌≤◌, ◌^◌, ◌⊎◌, ◌++◌, ◌∷◌, ◌↔◌, List, IfSome, IsSomeAnd, OnOk, IsTrue, Some, length, slice_index};
 ghost use Rattle.std.specs.Fmt.{decimal};
-ghost use Rattle.nbt_text.specs.Address.{SpellsAddress};
+ghost use Rattle.std.specs.String.{string_bytes};
+ghost use Rattle.nbt_text.specs.Address.{SpellsAddress, address_text};
 
 use nbt_name::Addr;
+use std::alloc::AllocError;
 
 /// Reads `A.B.C.D:PORT`, where A to D are 0 to 255 and PORT is 0 to 65,535, in decimal without a leading zero.
 pub fn parse_address(text: &str) -> Option<Addr>
@@ -19,6 +21,18 @@ pub fn parse_address(text: &str) -> Option<Addr>
         ip: joined(first, second, third, fourth),
         port,
     })
+}
+
+/// Appends `A.B.C.D:PORT`.
+pub fn write_address(address: Addr, out: &mut String) -> Result<(), AllocError>
+    ensures { OnOk result (string_bytes out.new ≡ string_bytes out.old ++ address_text address) }
+{
+    let first = address.ip / 0x0100_0000;
+    let second = address.ip / 0x0001_0000 % 256;
+    let third = address.ip / 0x0100 % 256;
+    let fourth = address.ip % 256;
+    let port = address.port;
+    write!(out, "{first}.{second}.{third}.{fourth}:{port}")
 }
 
 /// The octets as one number, the first one highest.

@@ -1,9 +1,11 @@
-//! What the commands read and print as text: names, addresses, numbers, octets, packets and vectors (our profile).
+//! What the commands read and print as text: names, addresses, numbers, octets, packets, datagrams and vectors (our
+//! profile).
 //!
 //! Nothing here knows the command line: texts come in as octets, and go out at the end of a `String`.
 #![tactic(auto)]
 
 mod address;
+mod dgram_text;
 mod hexadecimal;
 pub mod laws;
 mod name_text;
@@ -14,6 +16,7 @@ mod vector;
 mod verdicts;
 
 pub use address::parse_address;
+pub use dgram_text::write_dgram;
 pub use hexadecimal::write_hexadecimal;
 pub use name_text::{parse_name, write_name};
 pub use number::parse_number;

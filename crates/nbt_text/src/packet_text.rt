@@ -106,21 +106,21 @@ fn write_type_and_class(rtype: u16, class: u16, out: &mut String) -> Result<(), 
 }
 
 /// Appends the number in four hexadecimal digits.
-fn write_word(number: u16, out: &mut String) -> Result<(), AllocError>
+pub fn write_word(number: u16, out: &mut String) -> Result<(), AllocError>
     ensures { OnOk result (string_bytes out.new ≡ string_bytes out.old ++ four_digits number) }
 {
     write_hexadecimal(&number.to_be_bytes(), out)
 }
 
 /// Appends what ends a line.
-fn end_line(out: &mut String) -> Result<(), AllocError>
+pub fn end_line(out: &mut String) -> Result<(), AllocError>
     ensures { OnOk result (string_bytes out.new ≡ string_bytes out.old ++ newline) }
 {
     out.push_str("\n")
 }
 
 /// Appends the octets in hexadecimal, or `-` where there are none.
-fn write_data(octets: &[u8], out: &mut String) -> Result<(), AllocError>
+pub fn write_data(octets: &[u8], out: &mut String) -> Result<(), AllocError>
     ensures { OnOk result (string_bytes out.new ≡ string_bytes out.old ++ data_text octets.now) }
 {
     if octets.is_empty() {

@@ -2,29 +2,44 @@
 
 ghost use Rattle.std.specs.Prelude.{◌≡◌, IfOk, IfErr};
 ghost use Rattle.std.specs.String.{string_bytes};
-ghost use Rattle.nbt_text.specs.PacketText.{PrintsOctets};
 ghost use Rattle.nbt_prog.specs.Inner.Printed.{is_done};
+ghost use Rattle.nbt_prog.specs.Inner.Show.{Shows};
 
 use crate::failure::Failure;
 use crate::printed::{Ending, Printed};
-use nbt_text::write_packet;
+use nbt_text::{write_dgram, write_packet};
 use std::alloc::Global;
 
-/// The arguments of `show`: the octets of a packet of the name service.
+/// Of which service a packet is.
+#[derive(Clone, Copy, Debug, PartialEq, Eq)]
+pub enum Service {
+    /// The name service.
+    Name,
+    /// The datagram service.
+    Dgram,
+}
+
+/// The arguments of `show`: the octets of a packet, and its service.
 #[derive(Debug, Drop)]
 pub struct ShowArguments {
+    pub service: Service,
     pub octets: Vec<u8>,
 }
 
-/// A line for each part of the packet, for the message that it spells, and for how many octets it takes; or the line
-/// of its fault, and the ending is then `Refused`.
+/// A line for each part of the packet, for the message that one of the name service spells, and for how many octets it
+/// takes; or the line of its fault, and the ending is then `Refused`.
 pub fn run(alloc: Global, arguments: &ShowArguments) -> Result<Printed, Failure>
     ensures shown { IfOk result (λ printed.
-        PrintsOctets arguments.now.octets.items (is_done printed.ending) (string_bytes printed.text)) }
+        Shows arguments.now.service arguments.now.octets.items (is_done printed.ending) (string_bytes printed.text)) }
     ensures failure { IfErr result (λ failure. failure ≡ Failure.Memory) }
 {
     let mut text = String::new(alloc);
-    let ending = if write_packet(arguments.octets.as_slice(), &mut text)? {
+    let octets = arguments.octets.as_slice();
+    let stands = match arguments.service {
+        Service::Name => write_packet(octets, &mut text)?,
+        Service::Dgram => write_dgram(octets, &mut text)?,
+    };
+    let ending = if stands {
         Ending::Done
     } else {
         Ending::Refused

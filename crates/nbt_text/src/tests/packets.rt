@@ -1,6 +1,8 @@
-//! Addresses, numbers, octets, packets and vectors: each call once.
+//! Addresses, numbers, octets, packets, datagrams and vectors: each call once.
 
-use crate::{parse_address, parse_number, write_hexadecimal, write_packet, write_verdicts};
+use crate::{
+    parse_address, parse_number, write_dgram, write_hexadecimal, write_packet, write_verdicts,
+};
 use nbt_name::Addr;
 
 #[test]
@@ -34,6 +36,18 @@ fn octets_that_are_no_packet(rt: HostRuntime) {
     let stands = write_packet(b"\x00\x01", &mut text).expect(&rt, "memory");
     assert!(rt; !stands);
     assert_eq!(rt; text.as_str(), "> fault Short at 2\n");
+}
+
+#[test]
+fn error_of_a_datagram(rt: HostRuntime) {
+    let mut text = String::from_str(rt.alloc(), "> ").expect(&rt, "memory");
+    let octets = b"\x13\x06\x00\x01\x7f\x00\x00\x03\x00\x8a\x82";
+    let stands = write_dgram(octets, &mut text).expect(&rt, "memory");
+    assert!(rt; stands);
+    assert_eq!(rt;
+        text.as_str(),
+        "> type 13 flags 06 id 0001 from 127.0.0.3:138\nerror 82\nlength 11\n"
+    );
 }
 
 #[test]
