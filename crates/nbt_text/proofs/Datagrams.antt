@@ -1,5 +1,5 @@
 -- What the reader of datagrams returns: one datagram, or one fault; and where a datagram has no names.
-use Rattle.std.proofs.Common.{◌≡◌, ℕ, ◌≤◌, ◌<◌, List, [], length, Result, Ok, Err, ap, refl, arith, sym, ◌∙◌}
+use Rattle.std.proofs.Common.{◌≡◌, ℕ, ◌≤◌, ◌<◌, List, [], length, Result, Ok, Err, ap, refl, arith}
 use Rattle.std.specs.Prelude.{◌↔◌}
 use Rattle.nbt_dgram.specs.declared.dgram.Dgram.{Dgram}
 use Rattle.nbt_dgram.specs.declared.dgram.Names.{Names}

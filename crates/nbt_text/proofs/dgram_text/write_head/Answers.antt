@@ -1,4 +1,4 @@
-use Rattle.std.proofs.Common.{◌≡◌, ◌∙◌, ◌++◌, ℕ, List, ap, codes, append_assoc}
+use Rattle.std.proofs.Common.{◌≡◌, ◌∙◌, ◌++◌, ap, codes}
 use Rattle.std.specs.String.{string_bytes}
 use Rattle.nbt_dgram.specs.Dgram.{body_of, type_of}
 use Rattle.nbt_dgram.specs.Numbers.{type_number}
