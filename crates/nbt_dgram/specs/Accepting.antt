@@ -1,4 +1,4 @@
--- What a node makes of the octets of one datagram (RFC 1002 section 5.3.4; the choices are our profile's).
+-- What a node makes of the octets of one datagram (RFC 1002 section 5.3.3; the choices are our profile's).
 use Rattle.std.specs.Prelude.{◌≡◌, ◌≢◌, ℕ, List, [], Some, None}
 use Rattle.nbt_name.specs.declared.addr.Addr.{Addr}
 use Rattle.nbt_name.specs.declared.addr.Kind.{Kind}

@@ -1,4 +1,4 @@
--- A joiner of fragments: what a packet does to it, and what it tells (our profile, after RFC 1002 section 5.3.1).
+-- A joiner of fragments: what a packet does to it, and what it tells (our profile, after RFC 1002 section 5.3.3).
 use Rattle.std.specs.Prelude.{◌≡◌, ℕ, ◌+◌, ◌<◌, ◌≤◌, Bool, true, false, ◌&&◌, nat_eq, nat_lt, if◌then◌else◌, List, length, map, slice_set, slice_get, count_by, Option, Some, None}
 use Rattle.std.specs.List.{position}
 use Rattle.nbt_dgram.specs.declared.dgram.Names.{Names}

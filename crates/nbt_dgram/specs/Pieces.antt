@@ -1,4 +1,4 @@
--- Fragments and the data that they make up (our profile, in the sense of RFC 1002 section 5.3.1): a fragment has an
+-- Fragments and the data that they make up (our profile, in the sense of RFC 1002 section 5.3.3): a fragment has an
 -- offset, its octets, and is the first, the last, both or neither.
 use Rattle.std.specs.Prelude.{◌≡◌, ℕ, ◌+◌, ◌-◌, ◌<◌, ◌≤◌, true, false, List, [], ◌∷◌, ◌++◌, length, map, slice_index}
 use Rattle.std.specs.List.{Contains}

@@ -1,4 +1,4 @@
-//! What a node makes of a datagram's octets (RFC 1002 section 5.3.4).
+//! What a node makes of a datagram's octets (RFC 1002 section 5.3.3).
 
 ghost use Rattle.std.specs.Prelude.{◌≡◌, ◌≢◌, []};
 ghost use Rattle.nbt_dgram.specs.declared.msg_type.Delivery.TheVariants.{Broadcast};
@@ -34,7 +34,7 @@ const NOT_PRESENT: u8 = 0x82;
 /// - `Nothing` for all else: what can't be read, is dropped, is for a group that isn't held, or has another type. Only
 ///   0x10 and 0x11 are put to the joiner.
 ///
-/// `out` is empty but for `Reply`. RFC 1002 sections 5.3.3 and 5.3.4, in our profile's choice.
+/// `out` is empty but for `Reply`. RFC 1002 section 5.3.3, in our profile's choice.
 pub fn accept<'a, const S: usize, const N: usize>(
     joiner: &mut Joiner<S>,
     now: Moment,

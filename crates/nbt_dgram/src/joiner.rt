@@ -1,4 +1,4 @@
-//! Joining fragments (RFC 1002 section 5.3.1).
+//! Joining fragments (RFC 1002 section 5.3.3).
 
 ghost use Rattle.std.specs.Prelude.{◌≡◌};
 
@@ -60,7 +60,7 @@ impl<const S: usize> Joiner<S> {
     /// - `Whole` where the first fragment, the last one and every octet between are known; the slot is then free.
     ///   Otherwise `Waiting`.
     ///
-    /// Our profile, after RFC 1002 section 5.3.1.
+    /// Our profile, after RFC 1002 section 5.3.3.
     pub fn put<'a>(&mut self, now: Moment, dgram: &Dgram<'a>) -> Joined<'a>
         requires { IsData (dgram_of dgram.now) }
         ensures { Puts self.old now (dgram_of dgram.now) (joined_of result) self.new }

@@ -1,4 +1,4 @@
-//! An unfinished datagram, and what its fragments say (RFC 1002 section 5.3.1).
+//! An unfinished datagram, and what its fragments say (RFC 1002 section 5.3.3).
 
 ghost use Rattle.std.specs.Prelude.{◌≡◌, ℕ, ◌+◌, ◌<◌, ◌≤◌, ◌↔◌, false, List, length, IsTrue, IfSome, IfNone, Some, None};
 ghost use Rattle.nbt_dgram.specs.declared.dgram.Names.{Names};

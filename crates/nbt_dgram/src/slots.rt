@@ -14,7 +14,7 @@ use crate::slot::{Key, Slot};
 use crate::splitting::DATA_MOST;
 use nbt_lease::Moment;
 
-/// How long the fragments of a datagram are waited for, in milliseconds (our profile; RFC 1002 section 5.3.1 leaves it
+/// How long the fragments of a datagram are waited for, in milliseconds (our profile; RFC 1002 section 5.3.3 leaves it
 /// to each end).
 const TIMEOUT: u64 = 2000;
 

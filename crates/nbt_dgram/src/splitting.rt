@@ -1,4 +1,4 @@
-//! Splitting data into packets (RFC 1002 section 5.3.1; where the cut lies is our profile's choice).
+//! Splitting data into packets (RFC 1002 section 5.3.2; where the cut lies is our profile's choice).
 
 ghost use Rattle.std.specs.Prelude.{◌≡◌, ◌<◌, ◌↔◌, length, map, IsErr, IfOk};
 ghost use Rattle.nbt_dgram.specs.Dgram.{dgram_of};
@@ -22,7 +22,7 @@ const ROOM: usize = 562;
 /// The packets that carry these data from `source` at `own` to `destination`. Where all fits in 576 octets, that is one
 /// packet with F set and M clear. Otherwise the first has exactly 576 octets, with F and M set, and the second carries
 /// the rest, with neither and without names. `TooLong` (1) exactly where there are more than 512 octets of data. RFC
-/// 1002 section 5.3.1; the cut is our profile's.
+/// 1002 section 5.3.2; the cut is our profile's.
 pub fn split<'a>(
     delivery: Delivery,
     id: u16,

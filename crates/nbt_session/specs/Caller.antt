@@ -1,4 +1,4 @@
--- The end that calls: RFC 1002 section 5.3.1 and our profile.
+-- The end that calls: RFC 1002 section 5.2.1 and our profile.
 use Rattle.std.specs.Prelude.{◌≢◌, ℕ, ◌+◌, ◌<◌, ◌≤◌, List}
 use Rattle.nbt_name.specs.declared.addr.Addr.{Addr}
 use Rattle.nbt_name.specs.Wire.{NameValue}

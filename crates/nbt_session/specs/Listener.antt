@@ -1,4 +1,4 @@
--- The end that listens: RFC 1002 section 5.3.2 and our profile.
+-- The end that listens: RFC 1002 section 5.2.1 and our profile.
 use Rattle.std.specs.Prelude.{◌≡◌, ◌≢◌, ℕ, ◌<◌, ◌≤◌, Bool, true, false, List, [], ◌∷◌, slice_get, slice_set, Option, Some, None, All, Any, count_by}
 use Rattle.std.specs.List.{AllWithin}
 use Rattle.nbt_name.specs.declared.addr.Addr.{Addr}

@@ -1,4 +1,4 @@
-//! The end that calls (RFC 1001 section 16.1, RFC 1002 section 5.3.1).
+//! The end that calls (RFC 1001 section 16.1, RFC 1002 section 5.2.1).
 
 ghost use Rattle.std.specs.Prelude.{◌≡◌, ◌+◌, ◌<◌, ◌≤◌};
 ghost use Rattle.nbt_name.specs.Wire.{NameValue};
@@ -107,7 +107,7 @@ impl Model for Caller {
 }
 
 impl Caller {
-    /// Begins a call, and says where to connect: the first of four tries (RFC 1002 section 5.3.1; the number is our
+    /// Begins a call, and says where to connect: the first of four tries (RFC 1002 section 5.2.1; the number is our
     /// profile's).
     pub fn begin(called: Name, calling: Name, to: Addr) -> (Caller, CallerAnswer)
         ensures caller { result.0 ≡ record { called = called; calling = calling; state = Connecting to 1 } }
@@ -122,7 +122,7 @@ impl Caller {
         (caller, CallerAnswer::Connect(to))
     }
 
-    /// What the caller does when something happens to its connection (RFC 1002 section 5.3.1; what may follow what is
+    /// What the caller does when something happens to its connection (RFC 1002 section 5.2.1; what may follow what is
     /// our profile). A retarget doesn't begin the tries anew.
     pub fn on(&mut self, event: Event) -> CallerAnswer
         ensures moves { CallerMoves self.old.called self.old.calling self.old.state (event_of event) self.new.state (answer_of result) }

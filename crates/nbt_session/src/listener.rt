@@ -1,4 +1,4 @@
-//! The end that listens (RFC 1001 section 16.1.1, RFC 1002 section 5.3.2).
+//! The end that listens (RFC 1001 section 16.1.1, RFC 1002 section 5.2.1).
 
 ghost use Rattle.std.specs.Prelude.{◌≡◌, ◌≢◌, ℕ, ◌<◌, ◌≤◌, ◌↔◌, List, [], ◌∷◌, ◌++◌, length, replicate, Option, is_some, IfSome, IfNone, OnOk, OnErr, IsErr, IsTrue, All, Any};
 ghost use Rattle.std.specs.Bool.{OnTrue, OnFalse};
@@ -139,7 +139,7 @@ impl<const L: usize, const M: usize> Listener<L, M> {
     }
 
     /// What the listener does when something happens to a connection, by the names that the node holds at `now`
-    /// (RFC 1002 section 5.3.2; what may follow what is our profile). A call is refused by the first reason that
+    /// (RFC 1002 section 5.2.1; what may follow what is our profile). A call is refused by the first reason that
     /// applies, with the code of a NEGATIVE SESSION RESPONSE: the node doesn't hold the called name (0x82), no entry
     /// has it (0x80), none of these takes the calling name (0x81), `most` connections are open (0x83). Else the first
     /// entry that takes it says whether it is retargeted or taken. That `slot` is below `M` is the caller's.
