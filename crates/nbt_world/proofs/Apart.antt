@@ -1,19 +1,14 @@
 -- Addresses that are apart, and the world that is made at them.
-use Rattle.std.proofs.Common.{◌≡◌, ◌≢◌, ℕ, zero, suc, ◌+◌, ◌<◌, ◌≤◌, List, [], ◌∷◌, ◌++◌, length, map, Option, Some, None, refl, sym, ap, subst, ◌∙◌, arith}
+use Rattle.std.proofs.Common.{◌≡◌, ℕ, zero, suc, List, [], ◌∷◌, length, map, Some, None, refl, sym, ap, ◌∙◌, arith}
 use Rattle.std.specs.Prelude.{slice_get, Contains, ◌↔◌}
-use Rattle.std.specs.Option.{option_map}
 use Rattle.std.proofs.lemmas.List.{length-map}
 use Rattle.std.proofs.lemmas.Option.{none-some, same_Some}
 use Rattle.nbt_name.specs.declared.addr.Addr.{Addr}
-use Rattle.nbt_name.specs.Wire.{NameValue}
-use Rattle.nbt_packet.specs.Message.{MessageValue}
 use Rattle.nbt_lease.specs.Config.{ConfigValue}
-use Rattle.nbt_node.specs.Node.{NodeValue}
 use Rattle.nbt_world.specs.declared.ends.End.{End}
-use Rattle.nbt_world.specs.declared.ends.Ends.{Ends}
 use Rattle.nbt_world.specs.declared.network.Datagram.{Datagram}
 use Rattle.nbt_world.specs.World.{WorldValue, addr_at, addr_of, node_in, node_of, StandsIn, AreApart, AreAddrs, ends_at, IsFresh}
-use Rattle.nbt_world.specs.Kept.{Asked, known, RequestsEnded, IsKept}
+use Rattle.nbt_world.specs.Kept.{Asked, IsKept}
 use Rattle.nbt_world.proofs.Knowing.{ended-down}
 
 pub apart_none : AreApart []
@@ -84,4 +79,6 @@ fresh_kept config server others are = record {
   server = λ s up. absurd (none-some s up);
   sent = λ d c. absurd (nothing_among d c);
   requests = λ n a name p. rw (none_at server others n) (ended-down config.life 0 (Asked [] a.ip name) (λ moment message asked. absurd (nothing_among asked.datagram asked.among)));
+  replies = λ n a name p.
+      rw (none_at server others n) (record { drawn = λ moment message r d. absurd (nothing_among r.datagram r.among); begun = λ kind first w. elim w [ ] });
 }

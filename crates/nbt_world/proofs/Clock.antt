@@ -1,10 +1,10 @@
 -- What a world keeps when its clock goes on.
-use Rattle.std.proofs.Common.{◌≡◌, ℕ, ◌≤◌, refl, sym, subst, arith}
+use Rattle.std.proofs.Common.{ℕ, ◌≤◌, refl, arith}
 use Rattle.nbt_lease.specs.Config.{ConfigValue}
 use Rattle.nbt_lease.specs.Lease.{Rows, leases_at, IsSound}
 use Rattle.nbt_world.specs.World.{WorldValue, node_of}
-use Rattle.nbt_world.specs.Kept.{Asked, known, IsNodeOf, IsServerOf, IsKept}
-use Rattle.nbt_world.proofs.Knowing.{ended-frame}
+use Rattle.nbt_world.specs.Kept.{Asked, Replied, known, IsKept}
+use Rattle.nbt_world.proofs.Knowing.{ended-frame, fresh-frame}
 use Rattle.nbt_world.proofs.Keeping.{sent_frame}
 
 -- the law of leases that this rests on
@@ -25,4 +25,7 @@ clock_changes law w later le kept = record {
   sent = λ d c. sent_frame w.ends w.ends w.now later d (λ n. refl) le (kept.sent d c);
   requests = λ n a name p.
       ended-frame w.config.life w.now later (Asked w.sent a.ip name) (Asked w.sent a.ip name) (known (node_of w.ends n) name) le (λ moment message asked. asked) (kept.requests n a name p);
+  replies = λ n a name p.
+      fresh-frame w.config.life w.now later (Asked w.sent a.ip name) (Asked w.sent a.ip name) (Replied w.sent w.ends.server_addr a name) (Replied w.sent w.ends.server_addr a name) (known (node_of w.ends n) name) le
+      (λ moment message asked. asked) (λ moment message replied. replied) (kept.replies n a name p);
 }

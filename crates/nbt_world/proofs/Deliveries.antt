@@ -1,30 +1,34 @@
 -- What a world keeps when an end takes a datagram, and when an end starts or crashes.
-use Rattle.std.proofs.Common.{◌≡◌, ◌≢◌, ℕ, zero, suc, ◌+◌, ◌*◌, ◌<◌, ◌≤◌, List, [], ◌∷◌, ◌++◌, Option, Some, None, refl, sym, ap, subst, ◌∙◌, arith, inl, inr}
-use Rattle.std.specs.Prelude.{◌⊎◌, Result}
+use Rattle.std.proofs.Common.{◌≡◌, ◌≢◌, ℕ, suc, List, [], ◌∷◌, ◌++◌, Option, Some, None, refl, sym, ap, subst, ◌∙◌, arith, inl, inr}
+use Rattle.std.specs.Prelude.{◌⊎◌, Result, Ok, Err, Contains}
 use Rattle.std.proofs.lemmas.Option.{none-some, same_Some}
 use Rattle.nbt_name.specs.declared.addr.Addr.{Addr}
 use Rattle.nbt_name.specs.Wire.{NameValue}
 use Rattle.nbt_packet.specs.Message.{MessageValue, registration, overwrite, refresh, release, query, status_request, registered, released, found, not_found, status, wait}
+use Rattle.nbt_packet.specs.declared.message.Registration.{Registration}
 use Rattle.nbt_packet.specs.Text.{text}
 use Rattle.nbt_packet.specs.Spelling.{Spells}
 use Rattle.nbt_lease.specs.Config.{ConfigValue}
-use Rattle.nbt_lease.specs.Lease.{Leases, Rows, TableValue, leases_at, IsSound}
-use Rattle.nbt_node.specs.Node.{NodeValue, ByTimeAlone, Passes}
-use Rattle.nbt_node.specs.Moves.{NameEvent, hear, Told, NameMoves}
-use Rattle.nbt_node.specs.Calls.{AreWritten, Hears, from_server, from_stranger, Lists, lists_names, lists_nothing, names_listed, Ends as LookupEnds, is_answered, is_unanswered, Idles, idles, Takes as NodeTakes, TakesOctets, spelled, unspelled, Handles}
+use Rattle.nbt_lease.specs.Lease.{Leases, TableValue, leases_at, IsSound}
+use Rattle.nbt_node.specs.Node.{NodeValue, Passes}
+use Rattle.nbt_node.specs.Moves.{hear, Told, NameMoves}
+use Rattle.nbt_node.specs.Calls.{AreWritten}
+use Rattle.nbt_node.specs.Datagrams.{Hears, from_server, from_stranger, Lists, lists_names, lists_nothing, names_listed, Ends as LookupEnds, is_answered, is_unanswered, Idles, idles, Takes as NodeTakes, TakesOctets, spelled, unspelled}
 use Rattle.nbt_lease.specs.declared.fault.GrantFault.{GrantFault}
 use Rattle.nbt_lease.specs.declared.lease.Grant.{Grant}
 use Rattle.nbt_lease.specs.declared.lease.Released.{Released}
 use Rattle.nbt_lease.specs.Rules.{Asked as Asking, Grants, Releases}
-use Rattle.nbt_server.specs.Serving.{ServerValue, Serves, ServesOctets}
+use Rattle.nbt_server.specs.Serving.{ServerValue, AsksFor, grant_reply, refusal, refused_error, release_rcode, name_error, seconds_until, entries, Serves, ServesOctets}
 use Rattle.nbt_server.specs.Serving as serving
 use Rattle.nbt_world.specs.declared.ends.Ends.{Ends}
 use Rattle.nbt_world.specs.declared.network.Datagram.{Datagram}
-use Rattle.nbt_world.specs.World.{WorldValue, addr_of, node_of, with_server, with_node, datagram}
+use Rattle.nbt_world.specs.World.{WorldValue, IsDeliverable, IsOfEnd, addr_of, node_of, with_server, with_node, datagram}
 use Rattle.nbt_world.specs.Step.{NodeHears, TakenValue, takes, after_taking, ServerDoes, server_takes, server_forgets, Takes, finds_down, by_server, by_node}
-use Rattle.nbt_world.specs.Kept.{IsRequest, Asked, known, RequestsEnded, IsServerOf, IsKept}
-use Rattle.nbt_world.proofs.Keeping.{server_changes}
-use Rattle.nbt_world.proofs.Naming.{OneMessage, names_apart, Stays, stays_by_moves, is_new, nothing_new, name_by_time, name_hears, UpAt, up_at, node_moves}
+use Rattle.nbt_world.specs.Kept.{IsRequest, IsReply, Asked, Replied, known, RequestsEnded, RepliesFresh, IsServerOf, IsKept}
+use Rattle.std.proofs.lemmas.List.Elements.{Contains-push_cases}
+use Rattle.nbt_world.proofs.Knowing.{Draws, fresh-reply}
+use Rattle.nbt_world.proofs.Keeping.{asked_still, server_changes}
+use Rattle.nbt_world.proofs.Naming.{OneMessage, names_apart, Stays, stays_by_moves, is_new, nothing_new, name_by_time, name_hears, fresh_by_time, fresh_hears, grows_by, UpAt, up_at, node_moves}
 use Rattle.nbt_world.proofs.Events.{stays_by_lookup, stays_by_time, time_kept, other_kept}
 
 -- ---- a node hears something about a name
@@ -34,8 +38,17 @@ hears_kept : (w : WorldValue) (i : ℕ) (node new : NodeValue) (name : NameValue
 hears_kept w i node new name m told kept up moves =
     let at = up_at w i node kept up in
     let stays = stays_by_moves w.now node new name _ _ _ moves in
-    node_moves w i node new w.sent kept at stays (nothing_new w at.addr) (λ q. names at stays q (names_apart q name))
+    node_moves w i node new w.sent kept at stays (nothing_new w at.addr) (λ d c. c) (λ q. names at stays q (names_apart q name)) (λ q. replies at stays q (names_apart q name))
   where
+    replies : (at : UpAt w i node) → Stays node w.now new → (q : NameValue) → (q ≡ name) ⊎ (q ≢ name)
+        → RepliesFresh node.config.life w.now (Asked w.sent (at.addr).ip q) (Replied w.sent w.ends.server_addr at.addr q) (known (Some new) q)
+    replies at stays q (inl e) =
+        subst (λ (n : NameValue). RepliesFresh node.config.life w.now (Asked w.sent (at.addr).ip n) (Replied w.sent w.ends.server_addr at.addr n) (known (Some new) n)) (sym e)
+        (fresh_hears w.now node new name m told (Asked w.sent (at.addr).ip name) (Replied w.sent w.ends.server_addr at.addr name) stays.start_is moves (at.replies name))
+    replies at stays q (inr ne) =
+        fresh_by_time w.now node new q (Asked w.sent (at.addr).ip q) (Asked w.sent (at.addr).ip q) (Replied w.sent w.ends.server_addr at.addr q) (Replied w.sent w.ends.server_addr at.addr q) stays.start_is (moves.others q ne)
+        (λ moment message a. a) (λ moment message r. r) (at.replies q)
+
     names : (at : UpAt w i node) → Stays node w.now new → (q : NameValue) → (q ≡ name) ⊎ (q ≢ name) → RequestsEnded node.config.life w.now (Asked w.sent (at.addr).ip q) (known (Some new) q)
     names at stays q (inl e) =
         subst (λ (n : NameValue). RequestsEnded node.config.life w.now (Asked w.sent (at.addr).ip n) (known (Some new) n)) (sym e)
@@ -58,7 +71,7 @@ heard_kept w i node new from to name m sent told kept up (from_stranger n other 
 lists_kept : OneMessage → (w : WorldValue) (i : ℕ) (node new : NodeValue) (to : Addr) (id : ℕ) (name : NameValue) (sent : Option MessageValue) (told : Told) (out : List ℕ) → IsKept w → node_of w.ends (suc i) ≡ Some node
     → Lists node w.now id name new sent told → AreWritten sent out → IsKept (replied_world w i new to sent)
 lists_kept law w i node new to id name sent told out kept up (lists_names n is passes) written =
-    other_kept law w i node new to _ (status id name (names_listed node w.now name)) kept up (stays_by_time w.now node new passes) passes.names (refl, subst (λ (xs : List ℕ). Spells xs (status id name (names_listed node w.now name))) written.0 written.1) (λ q r. r)
+    other_kept law w i node new to _ (status id name (names_listed node w.now name)) kept up (stays_by_time w.now node new passes) passes.names (refl, subst (λ (xs : List ℕ). Spells xs (status id name (names_listed node w.now name))) written.0 written.1) (λ q r. r) (λ r e. cc)
 lists_kept law w i node new to id name sent told out kept up (lists_nothing n is passes) written = passes_kept w i node new kept up passes
 
 ended_kept : (w : WorldValue) (i : ℕ) (node new : NodeValue) (from to : Addr) (m : MessageValue) (sent : Option MessageValue) (t told : Told) → IsKept w → node_of w.ends (suc i) ≡ Some node
@@ -165,10 +178,104 @@ serves_octets_sound g r server now ip octets reply after sound (serving.is_silen
 serves_octets_sound g r server now ip octets reply after sound (serving.is_no_message none) = sound
 serves_octets_sound g r server now ip octets reply after sound (serving.serves m p l speaks spells does) = serves_sound g r server.table now ip m reply after sound does
 
+-- where a datagram comes from: it is one of the list that may still be delivered, or a stranger's
+pub data Origin (w : WorldValue) (from : Addr) (octets : List ℕ) : Type 0 where
+  listed : (d : Datagram) → Contains w.sent d → d.from ≡ from → d.octets.items ≡ octets → IsDeliverable w.config.life w.now d.moment → Origin w from octets
+  strange : (IsOfEnd w.ends from.ip → ⊥) → Origin w from octets
+
+-- what a reply says was asked: by a request about the name, or by an overwrite
+pub data Asks (name : NameValue) (k : MessageValue) : Type 0 where
+  by_request : IsRequest name k → Asks name k
+  by_overwrite : (r : Registration) → k ≡ overwrite r → Asks name k
+
+asks_for : (name : NameValue) (k : MessageValue) (r : Registration) → AsksFor k r → r.name ≡ name → IsRequest name k
+asks_for name k r (serving.by_registration x) e = e
+asks_for name k r (serving.by_refresh x) e = e
+
+grant_reply_name : (name : NameValue) (r : Registration) (result : Result Grant GrantFault) → IsReply name (grant_reply r result) → r.name ≡ name
+grant_reply_name name r (Ok g) is = is
+grant_reply_name name r (Err f) is = is
+
+serves_asked : (table : TableValue) (now ip : ℕ) (k : MessageValue) (reply : Option MessageValue) (after : Leases) → Serves table now ip k reply after → (m : MessageValue) → reply ≡ Some m → (name : NameValue) → IsReply name m → Asks name k
+serves_asked table now ip k reply after (serving.registers x r result l asks own grants) m e name is =
+    by_request (asks_for name k r asks (grant_reply_name name r result (subst (λ (y : MessageValue). IsReply name y) (sym (same_Some (grant_reply r result) m e)) is)))
+serves_asked table now ip k reply after (serving.refuses x r asks own) m e name is =
+    by_request (asks_for name k r asks (subst (λ (y : MessageValue). IsReply name y) (sym (same_Some (refusal refused_error r) m e)) is))
+serves_asked table now ip k reply after (serving.refuses_overwrite r) m e name is = by_overwrite r refl
+serves_asked table now ip k reply after (serving.releases id n kind addr result l own releases) m e name is =
+    by_request (subst (λ (y : MessageValue). IsReply name y) (sym (same_Some (released id (release_rcode result) n kind addr) m e)) is)
+serves_asked table now ip k reply after (serving.refuses_release id n kind addr own) m e name is =
+    by_request (subst (λ (y : MessageValue). IsReply name y) (sym (same_Some (released id refused_error n kind addr) m e)) is)
+serves_asked table now ip k reply after (serving.finds id n end least) m e name is =
+    absurd (subst (λ (y : MessageValue). IsReply name y) (sym (same_Some (found id n (seconds_until now end) (entries (leases_at now table.rows n))) m e)) is)
+serves_asked table now ip k reply after (serving.finds_none id n none) m e name is =
+    absurd (subst (λ (y : MessageValue). IsReply name y) (sym (same_Some (not_found id name_error (Some n)) m e)) is)
+serves_asked table now ip k reply after (serving.passes_over x own) m e name is = absurd (none-some m e)
+
+serves_no_overwrite : (table : TableValue) (now ip : ℕ) (k : MessageValue) (reply : Option MessageValue) (after : Leases) → Serves table now ip k reply after → (m : MessageValue) → reply ≡ Some m → (r : Registration) → m ≡ overwrite r → ⊥
+serves_no_overwrite table now ip k reply after (serving.registers x a (Ok g) l asks own grants) m e r f = cc
+serves_no_overwrite table now ip k reply after (serving.registers x a (Err g) l asks own grants) m e r f = cc
+serves_no_overwrite table now ip k reply after (serving.refuses x a asks own) m e r f = cc
+serves_no_overwrite table now ip k reply after (serving.refuses_overwrite a) m e r f = cc
+serves_no_overwrite table now ip k reply after (serving.releases id n kind addr result l own releases) m e r f = cc
+serves_no_overwrite table now ip k reply after (serving.refuses_release id n kind addr own) m e r f = cc
+serves_no_overwrite table now ip k reply after (serving.finds id n end least) m e r f = cc
+serves_no_overwrite table now ip k reply after (serving.finds_none id n none) m e r f = cc
+serves_no_overwrite table now ip k reply after (serving.passes_over x own) m e r f = absurd (none-some m e)
+
+-- what a reply to octets was drawn by
+pub record Draw (octets : List ℕ) (name : NameValue) : Type 0 where
+  pub message : MessageValue
+  pub spells : Spells octets message
+  pub asks : Asks name message
+
+octets_asked : (server : ServerValue) (now ip : ℕ) (octets : List ℕ) (reply : Option MessageValue) (after : Leases) → ServesOctets server now ip octets reply after → (m : MessageValue) → reply ≡ Some m → (name : NameValue) → IsReply name m → Draw octets name
+octets_asked server now ip octets reply after (serving.is_silent early) m e name is = absurd (none-some m e)
+octets_asked server now ip octets reply after (serving.is_no_message none) m e name is = absurd (none-some m e)
+octets_asked server now ip octets reply after (serving.serves k p l speaks spells does) m e name is =
+    record { message = k; spells = spells; asks = serves_asked server.table now ip k reply after does m e name is }
+
+octets_no_overwrite : (server : ServerValue) (now ip : ℕ) (octets : List ℕ) (reply : Option MessageValue) (after : Leases) → ServesOctets server now ip octets reply after → (m : MessageValue) → reply ≡ Some m → (r : Registration) → m ≡ overwrite r → ⊥
+octets_no_overwrite server now ip octets reply after (serving.is_silent early) m e r f = absurd (none-some m e)
+octets_no_overwrite server now ip octets reply after (serving.is_no_message none) m e r f = absurd (none-some m e)
+octets_no_overwrite server now ip octets reply after (serving.serves k p l speaks spells does) m e r f = serves_no_overwrite server.table now ip k reply after does m e r f
+
+-- what is new among the replies to an end was drawn by its request
+replies_drawn : OneMessage → (w : WorldValue) (server : ServerValue) (from : Addr) (octets : List ℕ) (reply : Option MessageValue) (after : Leases) (m : MessageValue) → IsKept w → Origin w from octets
+    → ServesOctets server w.now from.ip octets reply after → reply ≡ Some m → (d : Datagram) → d.to ≡ from → d.moment ≡ w.now → Spells d.octets.items m
+    → (n : ℕ) (a : Addr) (name : NameValue) → addr_of w.ends n ≡ Some a
+    → (moment : ℕ) (message : MessageValue) → Replied (w.sent ++ d ∷ []) w.ends.server_addr a name moment message
+    → Replied w.sent w.ends.server_addr a name moment message ⊎ Draws w.config.life w.now (Asked w.sent a.ip name) moment
+replies_drawn law w server from octets reply after m kept origin serves is d to now spells n a name p moment message r = go (Contains-push_cases w.sent d r.datagram r.among)
+  where
+    drawn : d ≡ r.datagram → from ≡ a → Draw octets name → Origin w from octets → Draws w.config.life w.now (Asked w.sent a.ip name) moment
+    drawn e same draw (strange off) = absurd (off (n, a, p, ap (λ (x : Addr). x.ip) (sym same)))
+    drawn e same draw (listed x c f o delivered) = by draw.asks
+      where
+        spelled_in : Spells x.octets.items draw.message
+        spelled_in = subst (λ (xs : List ℕ). Spells xs draw.message) (sym o) draw.spells
+
+        by : Asks name draw.message → Draws w.config.life w.now (Asked w.sent a.ip name) moment
+        by (by_overwrite q f2) = absurd ((kept.sent x c).no_overwrite q (sym ((kept.sent x c).only draw.message spelled_in) ∙ f2))
+        by (by_request q) = record {
+          sent = x.moment;
+          request = draw.message;
+          now_is = sym r.moment_is ∙ ap (λ (y : Datagram). y.moment) (sym e) ∙ now;
+          asked_is = record { datagram = x; among = c; sender = ap (λ (y : Addr). y.ip) (f ∙ same); moment_is = refl; spelled = spelled_in; request = q };
+          delivered = delivered;
+        }
+
+    go : Contains w.sent r.datagram ⊎ (d ≡ r.datagram) → Replied w.sent w.ends.server_addr a name moment message ⊎ Draws w.config.life w.now (Asked w.sent a.ip name) moment
+    go (inl c) = inl (record { datagram = r.datagram; among = c; sender = r.sender; receiver = r.receiver; moment_is = r.moment_is; spelled = r.spelled; reply = r.reply })
+    go (inr e) =
+        let one : message ≡ m = law d.octets.items message m (subst (λ (y : Datagram). Spells y.octets.items message) (sym e) r.spelled) spells in
+        let same : from ≡ a = sym to ∙ ap (λ (y : Datagram). y.to) e ∙ r.receiver in
+        inr (drawn e same (octets_asked server w.now from.ip octets reply after serves m is name (subst (λ (k : MessageValue). IsReply name k) one r.reply)) origin)
+
 server_takes_kept : OneMessage → GrantsSound → ReleasesSound → (w : WorldValue) (server new : ServerValue) (from addr : Addr) (octets : List ℕ) (taken : TakenValue) → IsKept w → w.ends.server ≡ Some server → addr_of w.ends 0 ≡ Some addr
-    → ServerDoes w.now server from.ip octets taken new → ((m : MessageValue) → taken ≡ takes (Some m) → Spells (text m) m)
+    → Origin w from octets → ServerDoes w.now server from.ip octets taken new → ((m : MessageValue) → taken ≡ takes (Some m) → Spells (text m) m)
     → IsKept (after_taking w (with_server w.ends (Some new)) addr from taken)
-server_takes_kept law g r w server new from addr octets taken kept up at (server_takes reply n t) spells = go reply (λ m e. spells m (ap takes e))
+server_takes_kept law g r w server new from addr octets taken kept up at origin (server_takes reply n t) spells = go reply refl (λ m e. spells m (ap takes e))
   where
     is : IsServerOf w new
     is =
@@ -183,13 +290,20 @@ server_takes_kept law g r w server new from addr octets taken kept up at (server
     is_its : (s : ServerValue) → Some new ≡ Some s → IsServerOf w s
     is_its s e = subst (λ (x : ServerValue). IsServerOf w x) (same_Some new s e) is
 
-    go : (p : Option MessageValue) → ((m : MessageValue) → p ≡ Some m → Spells (text m) m) → IsKept (after_taking w (with_server w.ends (Some new)) addr from (takes p))
-    go None spelling = server_changes w (Some new) w.sent kept is_its (nothing_new w w.ends.server_addr)
-    go (Some m) spelling =
+    go : (p : Option MessageValue) → reply ≡ p → ((m : MessageValue) → p ≡ Some m → Spells (text m) m) → IsKept (after_taking w (with_server w.ends (Some new)) addr from (takes p))
+    go None same spelling = server_changes w (Some new) w.sent kept is_its (nothing_new w w.ends.server_addr) kept.replies
+    go (Some m) same spelling =
         server_changes w (Some new) (w.sent ++ datagram addr from w.now (text m) ∷ []) kept is_its
-        (is_new law w 0 w.ends.server_addr (datagram addr from w.now (text m)) m refl (record { from_is = sym (same_Some w.ends.server_addr addr at); now_is = refl; written = refl; spelled = spelling m refl }))
-server_takes_kept law g r w server new from addr octets taken kept up at (server_forgets n t) spells =
-    server_changes w (Some new) w.sent kept (λ s e. subst (λ (x : ServerValue). IsServerOf w x) (same_Some new s e) is) (nothing_new w w.ends.server_addr)
+        (is_new law w 0 w.ends.server_addr (datagram addr from w.now (text m)) m refl
+        (record { from_is = sym (same_Some w.ends.server_addr addr at); now_is = refl; written = refl; spelled = spelling m refl; no_overwrite = octets_no_overwrite server w.now from.ip octets reply _ t.serves m same }))
+        (λ n a name p.
+        fresh-reply w.config.life w.now (Asked w.sent a.ip name) (Asked (w.sent ++ datagram addr from w.now (text m) ∷ []) a.ip name) (Replied w.sent w.ends.server_addr a name)
+        (Replied (w.sent ++ datagram addr from w.now (text m) ∷ []) w.ends.server_addr a name) (known (node_of w.ends n) name) (kept.requests n a name p)
+        (asked_still w.sent (w.sent ++ datagram addr from w.now (text m) ∷ []) a.ip name (grows_by w.sent (datagram addr from w.now (text m))))
+        (replies_drawn law w server from octets reply _ m kept origin t.serves same (datagram addr from w.now (text m)) refl refl (spelling m refl) n a name p)
+        (kept.replies n a name p))
+server_takes_kept law g r w server new from addr octets taken kept up at origin (server_forgets n t) spells =
+    server_changes w (Some new) w.sent kept (λ s e. subst (λ (x : ServerValue). IsServerOf w x) (same_Some new s e) is) (nothing_new w w.ends.server_addr) kept.replies
   where
     is : IsServerOf w new
     is =
@@ -203,8 +317,8 @@ server_takes_kept law g r w server new from addr octets taken kept up at (server
 -- ---- an end takes a datagram
 
 pub taking_kept : OneMessage → GrantsSound → ReleasesSound → (w : WorldValue) (from addr : Addr) (octets : List ℕ) (number : ℕ) (taken : TakenValue) (ends : Ends) → IsKept w → addr_of w.ends number ≡ Some addr
-    → Takes w.now w.ends from octets number taken ends → ((m : MessageValue) → taken ≡ takes (Some m) → Spells (text m) m)
+    → Origin w from octets → Takes w.now w.ends from octets number taken ends → ((m : MessageValue) → taken ≡ takes (Some m) → Spells (text m) m)
     → IsKept (after_taking w ends addr from taken)
-taking_kept law g r w from addr octets number taken ends kept at (finds_down n down) spells = kept
-taking_kept law g r w from addr octets number taken ends kept at (by_server server new t up does) spells = server_takes_kept law g r w server new from addr octets taken kept up at does spells
-taking_kept law g r w from addr octets number taken ends kept at (by_node i node new reply up hears) spells = node_hears_kept law w i node new from addr octets reply kept at up hears
+taking_kept law g r w from addr octets number taken ends kept at origin (finds_down n down) spells = kept
+taking_kept law g r w from addr octets number taken ends kept at origin (by_server server new t up does) spells = server_takes_kept law g r w server new from addr octets taken kept up at origin does spells
+taking_kept law g r w from addr octets number taken ends kept at origin (by_node i node new reply up hears) spells = node_hears_kept law w i node new from addr octets reply kept at up hears

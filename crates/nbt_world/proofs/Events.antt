@@ -1,25 +1,23 @@
 -- What a world keeps at a node's own events: it asks, gives back, sends again, looks up, or nothing is due.
-use Rattle.std.proofs.Common.{◌≡◌, ◌≢◌, ℕ, zero, suc, ◌≤◌, List, [], ◌∷◌, ◌++◌, Option, Some, None, refl, sym, ap, subst, ◌∙◌, arith, inl, inr}
+use Rattle.std.proofs.Common.{◌≡◌, ◌≢◌, ℕ, suc, List, [], ◌∷◌, ◌++◌, Option, Some, None, refl, sym, ap, subst, ◌∙◌, inl, inr}
 use Rattle.std.specs.Prelude.{◌⊎◌}
 use Rattle.std.proofs.lemmas.Option.{none-some, same_Some}
 use Rattle.nbt_name.specs.declared.addr.Addr.{Addr}
 use Rattle.nbt_name.specs.Wire.{NameValue}
-use Rattle.nbt_packet.specs.Message.{MessageValue}
-use Rattle.nbt_packet.specs.Text.{text}
-use Rattle.nbt_packet.specs.Spelling.{Spells}
+use Rattle.nbt_packet.specs.declared.message.Registration.{Registration}
+use Rattle.nbt_packet.specs.Message.{MessageValue, overwrite}
 use Rattle.nbt_node.specs.declared.lookup.Lookup.{Lookup}
 use Rattle.nbt_node.specs.declared.lookup.Wanted.{Wanted}
 use Rattle.nbt_node.specs.declared.lookup.Wanted.TheVariants.{Entries, Names}
 use Rattle.nbt_node.specs.Node.{NodeValue, ByTimeAlone, Passes}
-use Rattle.nbt_node.specs.Moves.{NameEvent, NameMoves, next_due}
+use Rattle.nbt_node.specs.Moves.{NameEvent, next_due}
 use Rattle.nbt_node.specs.Calls.{AreWritten, Sends, LooksUp, question, Opens, Polls, polls_name, polls_lookup, polls_nothing as nothing_due}
 use Rattle.nbt_world.specs.declared.event.Event.{Event}
-use Rattle.nbt_world.specs.declared.network.Datagram.{Datagram}
 use Rattle.nbt_world.specs.World.{WorldValue, node_of, with_node, datagram}
-use Rattle.nbt_world.specs.Step.{GivenValue, nothing, refusal, octets_to, Does, asks, ask_refused, gives_back, release_refused, resolves, resolve_refused, asks_status, status_refused, polls, polls_nothing, after}
-use Rattle.nbt_world.specs.Kept.{IsRequest, Asked, known, RequestsEnded, IsNodeOf, IsKept}
-use Rattle.nbt_world.proofs.Keeping.{IsNew, asked_past, addr_there, node_changes}
-use Rattle.nbt_world.proofs.Naming.{OneMessage, names_apart, request_one, Sending, is_new, nothing_new, others_fewer, own_more, Stays, stays_by_moves, name_by_time, name_sends, UpAt, up_at, node_moves}
+use Rattle.nbt_world.specs.Step.{GivenValue, Does, asks, ask_refused, gives_back, release_refused, resolves, resolve_refused, asks_status, status_refused, polls, polls_nothing, after}
+use Rattle.nbt_world.specs.Kept.{IsRequest, Asked, Replied, known, RequestsEnded, RepliesFresh, IsNodeOf, IsKept}
+use Rattle.nbt_world.proofs.Keeping.{IsNew, from_new, asked_still, replied_before, asked_past, addr_there, node_changes}
+use Rattle.nbt_world.proofs.Naming.{OneMessage, names_apart, request_one, request_no_overwrite, Sending, is_new, nothing_new, others_fewer, own_more, Stays, stays_by_moves, name_by_time, name_sends, fresh_by_time, fresh_sends, grows_by, UpAt, up_at, node_moves}
 use Rattle.nbt_world.proofs.Knowing.{is_sent}
 
 -- ---- a request about a name: asked for, given back, or sent again
@@ -31,11 +29,36 @@ sends_kept law w i node new name event to octets kept up sends =
     let at = up_at w i node kept up in
     let stays = stays_by_moves w.now node new name event _ _ sends.moves in
     let sending : Sending w at.addr (datagram new.addr to w.now octets) sends.message =
-    record { from_is = stays.addr_is ∙ (at.is).addr_is; now_is = refl; written = (sends.written).0; spelled = (sends.written).1 } in
+    record { from_is = stays.addr_is ∙ (at.is).addr_is; now_is = refl; written = (sends.written).0; spelled = (sends.written).1; no_overwrite = request_no_overwrite sends.message name (is_sent (sends.moves).move).request } in
     node_moves w i node new (w.sent ++ datagram new.addr to w.now octets ∷ []) kept at stays
     (is_new law w (suc i) at.addr (datagram new.addr to w.now octets) sends.message at.at sending)
+    (grows_by w.sent (datagram new.addr to w.now octets))
     (λ q. names at stays sending q (names_apart q name))
+    (λ q. replies at stays sending q (names_apart q name))
   where
+    -- nothing new is from the server
+    same : (at : UpAt w i node) → Sending w at.addr (datagram new.addr to w.now octets) sends.message → (q : NameValue) (moment : ℕ) (message : MessageValue)
+        → Replied (w.sent ++ datagram new.addr to w.now octets ∷ []) w.ends.server_addr at.addr q moment message → Replied w.sent w.ends.server_addr at.addr q moment message
+    same at sending q = replied_before w.sent (w.sent ++ datagram new.addr to w.now octets ∷ []) at.addr w.ends.server_addr at.addr q at.no_server
+        (from_new w at.addr (w.sent ++ datagram new.addr to w.now octets ∷ []) (is_new law w (suc i) at.addr (datagram new.addr to w.now octets) sends.message at.at sending))
+
+    replies : (at : UpAt w i node) → Stays node w.now new → Sending w at.addr (datagram new.addr to w.now octets) sends.message → (q : NameValue) → (q ≡ name) ⊎ (q ≢ name)
+        → RepliesFresh node.config.life w.now (Asked (w.sent ++ datagram new.addr to w.now octets ∷ []) (at.addr).ip q) (Replied (w.sent ++ datagram new.addr to w.now octets ∷ []) w.ends.server_addr at.addr q) (known (Some new) q)
+    replies at stays sending q (inl e) =
+        subst (λ (n : NameValue). RepliesFresh node.config.life w.now (Asked (w.sent ++ datagram new.addr to w.now octets ∷ []) (at.addr).ip n) (Replied (w.sent ++ datagram new.addr to w.now octets ∷ []) w.ends.server_addr at.addr n) (known (Some new) n)) (sym e)
+        (fresh_sends w.now node new name event sends.message _ (Asked w.sent (at.addr).ip name) (Asked (w.sent ++ datagram new.addr to w.now octets ∷ []) (at.addr).ip name)
+        (Replied w.sent w.ends.server_addr at.addr name) (Replied (w.sent ++ datagram new.addr to w.now octets ∷ []) w.ends.server_addr at.addr name) stays.start_is sends.moves
+        (asked_past w (at.addr).ip name w.sent kept.sent)
+        (asked_still w.sent (w.sent ++ datagram new.addr to w.now octets ∷ []) (at.addr).ip name (grows_by w.sent (datagram new.addr to w.now octets)))
+        (same at sending name)
+        (at.replies name))
+    replies at stays sending q (inr ne) =
+        fresh_by_time w.now node new q (Asked w.sent (at.addr).ip q) (Asked (w.sent ++ datagram new.addr to w.now octets ∷ []) (at.addr).ip q)
+        (Replied w.sent w.ends.server_addr at.addr q) (Replied (w.sent ++ datagram new.addr to w.now octets ∷ []) w.ends.server_addr at.addr q) stays.start_is ((sends.moves).others q ne)
+        (asked_still w.sent (w.sent ++ datagram new.addr to w.now octets ∷ []) (at.addr).ip q (grows_by w.sent (datagram new.addr to w.now octets)))
+        (same at sending q)
+        (at.replies q)
+
     names : (at : UpAt w i node) → Stays node w.now new → Sending w at.addr (datagram new.addr to w.now octets) sends.message → (q : NameValue) → (q ≡ name) ⊎ (q ≢ name)
         → RequestsEnded node.config.life w.now (Asked (w.sent ++ datagram new.addr to w.now octets ∷ []) (at.addr).ip q) (known (Some new) q)
     names at stays sending q (inl e) =
@@ -74,31 +97,47 @@ pub time_kept : (w : WorldValue) (i : ℕ) (node new : NodeValue) → IsKept w �
     → IsKept (record w { ends = with_node w.ends (suc i) (Some new) })
 time_kept w i node new kept up stays names =
     let at = up_at w i node kept up in
-    node_moves w i node new w.sent kept at stays (nothing_new w at.addr)
+    node_moves w i node new w.sent kept at stays (nothing_new w at.addr) (λ d c. c)
     (λ q. name_by_time w.now node new q (Asked w.sent (at.addr).ip q) (Asked w.sent (at.addr).ip q) stays.start_is (names q) (λ moment message a. a) (at.requests q))
+    (λ q. fresh_by_time w.now node new q (Asked w.sent (at.addr).ip q) (Asked w.sent (at.addr).ip q) (Replied w.sent w.ends.server_addr at.addr q) (Replied w.sent w.ends.server_addr at.addr q)
+    stays.start_is (names q) (λ moment message a. a) (λ moment message r. r) (at.replies q))
 
 -- a datagram that is no request
 pub other_kept : OneMessage → (w : WorldValue) (i : ℕ) (node new : NodeValue) (to : Addr) (octets : List ℕ) (m : MessageValue) → IsKept w → node_of w.ends (suc i) ≡ Some node → Stays node w.now new → ByTimeAlone node w.now new
-    → AreWritten (Some m) octets → ((q : NameValue) → IsRequest q m → ⊥)
+    → AreWritten (Some m) octets → ((q : NameValue) → IsRequest q m → ⊥) → ((r : Registration) → m ≡ overwrite r → ⊥)
     → IsKept (record w { ends = with_node w.ends (suc i) (Some new); sent = w.sent ++ datagram new.addr to w.now octets ∷ [] })
-other_kept law w i node new to octets m kept up stays names written off =
+other_kept law w i node new to octets m kept up stays names written off no_overwrite =
     let at = up_at w i node kept up in
     let sending : Sending w at.addr (datagram new.addr to w.now octets) m =
-    record { from_is = stays.addr_is ∙ (at.is).addr_is; now_is = refl; written = written.0; spelled = written.1 } in
-    node_moves w i node new (w.sent ++ datagram new.addr to w.now octets ∷ []) kept at stays
-    (is_new law w (suc i) at.addr (datagram new.addr to w.now octets) m at.at sending)
+    record { from_is = stays.addr_is ∙ (at.is).addr_is; now_is = refl; written = written.0; spelled = written.1; no_overwrite = no_overwrite } in
+    let fresh : IsNew w at.addr (w.sent ++ datagram new.addr to w.now octets ∷ []) = is_new law w (suc i) at.addr (datagram new.addr to w.now octets) m at.at sending in
+    node_moves w i node new (w.sent ++ datagram new.addr to w.now octets ∷ []) kept at stays fresh (grows_by w.sent (datagram new.addr to w.now octets))
     (λ q. name_by_time w.now node new q (Asked w.sent (at.addr).ip q) (Asked (w.sent ++ datagram new.addr to w.now octets ∷ []) (at.addr).ip q) stays.start_is (names q)
     (others_fewer law w at.addr (datagram new.addr to w.now octets) m (at.addr).ip q sending (off q)) (at.requests q))
+    (λ q. fresh_by_time w.now node new q (Asked w.sent (at.addr).ip q) (Asked (w.sent ++ datagram new.addr to w.now octets ∷ []) (at.addr).ip q)
+    (Replied w.sent w.ends.server_addr at.addr q) (Replied (w.sent ++ datagram new.addr to w.now octets ∷ []) w.ends.server_addr at.addr q) stays.start_is (names q)
+    (asked_still w.sent (w.sent ++ datagram new.addr to w.now octets ∷ []) (at.addr).ip q (grows_by w.sent (datagram new.addr to w.now octets)))
+    (replied_before w.sent (w.sent ++ datagram new.addr to w.now octets ∷ []) at.addr w.ends.server_addr at.addr q at.no_server
+    (from_new w at.addr (w.sent ++ datagram new.addr to w.now octets ∷ []) fresh))
+    (at.replies q))
 
 -- a call that was refused leaves the node
 pub refused_kept : (w : WorldValue) (i : ℕ) (node : NodeValue) → IsKept w → node_of w.ends (suc i) ≡ Some node → IsKept (record w { ends = with_node w.ends (suc i) (Some node) })
 refused_kept w i node kept up =
     let there = addr_there w.ends (suc i) node up in
     node_changes w i there.0 (Some node) w.sent kept there.1
-    (λ x e. subst (λ (y : NodeValue). IsNodeOf w there.0 y) (same_Some node x e) (kept.nodes (suc i) there.0 node there.1 up)) (nothing_new w there.0)
+    (λ x e. subst (λ (y : NodeValue). IsNodeOf w there.0 y) (same_Some node x e) (kept.nodes (suc i) there.0 node there.1 up)) (nothing_new w there.0) (λ d c. c)
     (λ q. subst (λ (x : Option NodeValue). RequestsEnded w.config.life w.now (Asked w.sent (there.0).ip q) (known x q)) up (kept.requests (suc i) there.0 q there.1))
+    (λ q. subst (λ (x : Option NodeValue). RepliesFresh w.config.life w.now (Asked w.sent (there.0).ip q) (Replied w.sent w.ends.server_addr there.0 q) (known x q)) up (kept.replies (suc i) there.0 q there.1))
 
 -- ---- a node's own event
+
+question_no_overwrite : (l : Lookup) (r : Registration) → question l ≡ overwrite r → ⊥
+question_no_overwrite l r = go l.wanted
+  where
+    go : (wanted : Wanted) → question (record l { wanted = wanted }) ≡ overwrite r → ⊥
+    go Entries e = cc
+    go Names e = cc
 
 question_off : (l : Lookup) (q : NameValue) → IsRequest q (question l) → ⊥
 question_off l q = go l.wanted
@@ -112,12 +151,13 @@ opens_kept : OneMessage → (w : WorldValue) (i : ℕ) (node new : NodeValue) (n
 opens_kept law w i node new name to wanted octets kept up opens =
     other_kept law w i node new to octets _ kept up (stays_by_lookup w.now node new _ _ opens.opens) ((opens.opens).names) opens.written
     (question_off (record { id = node.next_id; name = name; to = to; wanted = wanted; tries = 1; due = next_due w.now }))
+    (question_no_overwrite (record { id = node.next_id; name = name; to = to; wanted = wanted; tries = 1; due = next_due w.now }))
 
 polls_kept : OneMessage → (w : WorldValue) (i : ℕ) (node new : NodeValue) (x : Option Addr) (octets : List ℕ) → IsKept w → node_of w.ends (suc i) ≡ Some node → Polls node w.now new x octets
     → (to : Addr) → x ≡ Some to → IsKept (record w { ends = with_node w.ends (suc i) (Some new); sent = w.sent ++ datagram new.addr to w.now octets ∷ [] })
 polls_kept law w i node new x octets kept up (polls_name slot n o due sends) to e = sends_kept law w i node new slot.name _ to octets kept up sends
 polls_kept law w i node new x octets kept up (polls_lookup l n o none due looks written) to e =
-    other_kept law w i node new to octets (question l) kept up (stays_by_lookup w.now node new _ _ looks) looks.names written (question_off l)
+    other_kept law w i node new to octets (question l) kept up (stays_by_lookup w.now node new _ _ looks) looks.names written (question_off l) (question_no_overwrite l)
 polls_kept law w i node new x octets kept up (nothing_due n none no_lookup passes) to e = absurd (none-some to e)
 
 idle_kept : (w : WorldValue) (i : ℕ) (node new : NodeValue) (x : Option Addr) (octets : List ℕ) → IsKept w → node_of w.ends (suc i) ≡ Some node → Polls node w.now new x octets → x ≡ None

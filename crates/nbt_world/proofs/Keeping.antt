@@ -1,22 +1,20 @@
 -- What a world keeps when its clock goes on, when one node changes, and when the server does: what holds of all the
 -- other ends and names stays, and so only what is new has to be shown.
-use Rattle.std.proofs.Common.{◌≡◌, ◌≢◌, ℕ, zero, suc, ◌+◌, ◌*◌, ◌<◌, ◌≤◌, List, [], ◌∷◌, ◌++◌, length, Option, Some, None, refl, sym, ap, subst, ◌∙◌, arith, inl, inr}
+use Rattle.std.proofs.Common.{◌≡◌, ◌≢◌, ℕ, zero, suc, ◌≤◌, List, [], ◌∷◌, length, Option, Some, None, refl, sym, ap, ◌∙◌, arith, inl, inr}
 use Rattle.std.specs.Prelude.{slice_get, Contains, ◌⊎◌}
 use Rattle.std.proofs.lemmas.Bool.{cases_eq}
 use Rattle.std.proofs.lemmas.Option.{none-some, same_Some}
 use Rattle.nbt_name.specs.declared.addr.Addr.{Addr}
 use Rattle.nbt_name.specs.Wire.{NameValue}
 use Rattle.nbt_packet.specs.Message.{MessageValue}
-use Rattle.nbt_lease.specs.Config.{ConfigValue}
-use Rattle.nbt_lease.specs.Lease.{Rows, leases_at, IsSound}
 use Rattle.nbt_server.specs.Serving.{ServerValue}
 use Rattle.nbt_node.specs.Node.{NodeValue}
 use Rattle.nbt_world.specs.declared.ends.End.{End}
 use Rattle.nbt_world.specs.declared.ends.Ends.{Ends}
 use Rattle.nbt_world.specs.declared.network.Datagram.{Datagram}
-use Rattle.nbt_world.specs.World.{WorldValue, IsDeliverable, addr_at, addr_of, node_in, node_of, put_node, with_server, with_node}
-use Rattle.nbt_world.specs.Kept.{Asked, Known, known, RequestsEnded, AreEnds, IsNodeOf, IsServerOf, IsSent, IsKept}
-use Rattle.nbt_world.proofs.Knowing.{ended-frame, ended-down}
+use Rattle.nbt_world.specs.World.{WorldValue, addr_at, addr_of, node_in, node_of, put_node, with_server, with_node}
+use Rattle.nbt_world.specs.Kept.{Asked, Replied, known, RequestsEnded, RepliesFresh, IsNodeOf, IsServerOf, IsSent, IsKept}
+use Rattle.nbt_world.proofs.Knowing.{ended-frame, ended-down, fresh-frame}
 
 -- ---- one node is another
 
@@ -75,6 +73,7 @@ sent_frame old new now later d same le is = record {
   written = is.written;
   spelled = is.spelled;
   only = is.only;
+  no_overwrite = is.no_overwrite;
 }
 
 -- a request was sent by now
@@ -90,6 +89,30 @@ asked_before old new from ip name ne from_new moment message a = go (from_new a.
     go (inl c) = record { datagram = a.datagram; among = c; sender = a.sender; moment_is = a.moment_is; spelled = a.spelled; request = a.request }
     go (inr e) = absurd (ne (ap (λ (f : Addr). f.ip) (sym e) ∙ a.sender))
 
+-- what was asked and replied stays in a list that has grown
+abbrev pub Grows : List Datagram → List Datagram → Type 0
+Grows old new = (d : Datagram) → Contains old d → Contains new d
+
+pub asked_still : (old new : List Datagram) (ip : ℕ) (name : NameValue) → Grows old new → (moment : ℕ) (message : MessageValue) → Asked old ip name moment message → Asked new ip name moment message
+asked_still old new ip name grows moment message a =
+    record { datagram = a.datagram; among = grows a.datagram a.among; sender = a.sender; moment_is = a.moment_is; spelled = a.spelled; request = a.request }
+
+-- what is new in the list isn't from the server
+pub replied_before : (old new : List Datagram) (from server to : Addr) (name : NameValue) → from ≢ server → ((d : Datagram) → Contains new d → Contains old d ⊎ (d.from ≡ from))
+    → (moment : ℕ) (message : MessageValue) → Replied new server to name moment message → Replied old server to name moment message
+replied_before old new from server to name ne from_new moment message a = go (from_new a.datagram a.among)
+  where
+    go : Contains old a.datagram ⊎ (a.datagram.from ≡ from) → Replied old server to name moment message
+    go (inl c) = record { datagram = a.datagram; among = c; sender = a.sender; receiver = a.receiver; moment_is = a.moment_is; spelled = a.spelled; reply = a.reply }
+    go (inr e) = absurd (ne (sym e ∙ a.sender))
+
+-- a node isn't where the server is
+pub node_not_server : (w : WorldValue) (i : ℕ) (addr : Addr) → IsKept w → addr_of w.ends (suc i) ≡ Some addr → addr ≢ w.ends.server_addr
+node_not_server w i addr kept at e = suc_zero i (kept.ends.apart (suc i) zero addr w.ends.server_addr at refl (ap (λ (a : Addr). a.ip) e))
+  where
+    suc_zero : (k : ℕ) → suc k ≡ zero → ⊥
+    suc_zero k e = cc
+
 -- ---- one node changes
 
 -- what is new in the list was sent by this end
@@ -103,7 +126,7 @@ all_sent w addr sent kept new d c = go (new d c)
     go (inl old) = kept.sent d old
     go (inr is) = is.1
 
-from_new : (w : WorldValue) (addr : Addr) (sent : List Datagram) → IsNew w addr sent → (d : Datagram) → Contains sent d → Contains w.sent d ⊎ (d.from ≡ addr)
+pub from_new : (w : WorldValue) (addr : Addr) (sent : List Datagram) → IsNew w addr sent → (d : Datagram) → Contains sent d → Contains w.sent d ⊎ (d.from ≡ addr)
 from_new w addr sent new d c = go (new d c)
   where
     go : Contains w.sent d ⊎ ((d.from ≡ addr) × IsSent w.ends w.now d) → Contains w.sent d ⊎ (d.from ≡ addr)
@@ -112,9 +135,11 @@ from_new w addr sent new d c = go (new d c)
 
 pub node_changes : (w : WorldValue) (i : ℕ) (addr : Addr) (x : Option NodeValue) (sent : List Datagram) → IsKept w → addr_of w.ends (suc i) ≡ Some addr
     → ((node : NodeValue) → x ≡ Some node → IsNodeOf w addr node) → IsNew w addr sent
+    → Grows w.sent sent
     → ((name : NameValue) → RequestsEnded w.config.life w.now (Asked sent addr.ip name) (known x name))
+    → ((name : NameValue) → RepliesFresh w.config.life w.now (Asked sent addr.ip name) (Replied sent w.ends.server_addr addr name) (known x name))
     → IsKept (record w { ends = with_node w.ends (suc i) x; sent = sent })
-node_changes w i addr x sent kept at is new names = record {
+node_changes w i addr x sent kept at is new grows names replies = record {
   ends = record {
     some = let e = put_length w.ends.nodes.items i x in let some = kept.ends.some in omega arith;
     few = let e = put_length w.ends.nodes.items i x in let few = kept.ends.few in omega arith;
@@ -124,6 +149,7 @@ node_changes w i addr x sent kept at is new names = record {
   server = λ server up. let k = kept.server server up in record { config_is = k.config_is; past = k.past; sound = k.sound };
   sent = λ d c. sent_frame w.ends (with_node w.ends (suc i) x) w.now w.now d (addr_with w.ends i x) (omega arith) (all_sent w addr sent kept new d c);
   requests = λ n a name p. requests_at n a name (sym (addr_with w.ends i x n) ∙ p) (cases_eq n (suc i));
+  replies = λ n a name p. replies_at n a name (sym (addr_with w.ends i x n) ∙ p) (cases_eq n (suc i));
 }
   where
     same_addr : (n : ℕ) (a : Addr) → addr_of w.ends n ≡ Some a → n ≡ suc i → addr ≡ a
@@ -150,6 +176,16 @@ node_changes w i addr x sent kept at is new names = record {
         (asked_before w.sent sent addr a.ip name (λ same. ne (kept.ends.apart n (suc i) a addr p at (sym same))) (from_new w addr sent new))
         (kept.requests n a name p))
 
+    replies_at : (n : ℕ) (a : Addr) (name : NameValue) → addr_of w.ends n ≡ Some a → (n ≡ suc i) ⊎ (n ≡ suc i → ⊥)
+        → RepliesFresh w.config.life w.now (Asked sent a.ip name) (Replied sent w.ends.server_addr a name) (known (node_of (with_node w.ends (suc i) x) n) name)
+    replies_at n a name p (inl e) = rw (value_at n e, ← same_addr n a p e) (replies name)
+    replies_at n a name p (inr ne) =
+        rw (node_with_other w.ends i x n ne)
+        (fresh-frame w.config.life w.now w.now (Asked w.sent a.ip name) (Asked sent a.ip name) (Replied w.sent w.ends.server_addr a name) (Replied sent w.ends.server_addr a name) (known (node_of w.ends n) name) (omega arith)
+        (asked_still w.sent sent a.ip name grows)
+        (replied_before w.sent sent addr w.ends.server_addr a name (node_not_server w i addr kept at) (from_new w addr sent new))
+        (kept.replies n a name p))
+
 -- ---- the server changes
 
 pub server_addr_with : (ends : Ends) (x : Option ServerValue) (n : ℕ) → addr_of (with_server ends x) n ≡ addr_of ends n
@@ -162,8 +198,9 @@ server_node_with ends x (suc j) = refl
 
 pub server_changes : (w : WorldValue) (x : Option ServerValue) (sent : List Datagram) → IsKept w
     → ((server : ServerValue) → x ≡ Some server → IsServerOf w server) → IsNew w w.ends.server_addr sent
+    → ((n : ℕ) (a : Addr) (name : NameValue) → addr_of w.ends n ≡ Some a → RepliesFresh w.config.life w.now (Asked sent a.ip name) (Replied sent w.ends.server_addr a name) (known (node_of w.ends n) name))
     → IsKept (record w { ends = with_server w.ends x; sent = sent })
-server_changes w x sent kept is new = record {
+server_changes w x sent kept is new replies = record {
   ends = record {
     some = kept.ends.some;
     few = kept.ends.few;
@@ -175,6 +212,7 @@ server_changes w x sent kept is new = record {
   server = λ server up. let k = is server up in record { config_is = k.config_is; past = k.past; sound = k.sound };
   sent = λ d c. sent_frame w.ends (with_server w.ends x) w.now w.now d (server_addr_with w.ends x) (omega arith) (all_sent w w.ends.server_addr sent kept new d c);
   requests = λ n a name p. requests_at n a name (sym (server_addr_with w.ends x n) ∙ p);
+  replies = λ n a name p. rw (server_node_with w.ends x n) (replies n a name (sym (server_addr_with w.ends x n) ∙ p));
 }
   where
     requests_at : (n : ℕ) (a : Addr) (name : NameValue) → addr_of w.ends n ≡ Some a → RequestsEnded w.config.life w.now (Asked sent a.ip name) (known (node_of (with_server w.ends x) n) name)

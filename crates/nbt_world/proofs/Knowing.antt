@@ -1,24 +1,24 @@
 -- What time, a sending, a reply, a start and a crash make of what holds of one node and one name.
-use Rattle.std.proofs.Common.{◌≡◌, ◌≢◌, ℕ, ◌+◌, ◌*◌, ◌<◌, ◌≤◌, Bool, true, false, cond, ltb, leb, Option, Some, None, refl, sym, ap, subst, arith, inl, inr}
-use Rattle.std.specs.Prelude.{◌⊎◌, if◌then◌else◌, ◌&&◌}
-use Rattle.std.proofs.lemmas.Bool.{ltb-true, ltb-false, leb-true, leb-false, cases_Bool}
+use Rattle.std.proofs.Common.{◌≡◌, ℕ, ◌+◌, ◌*◌, ◌<◌, ◌≤◌, Bool, true, false, cond, ltb, leb, Option, Some, None, refl, sym, subst, arith, inl, inr}
+use Rattle.std.specs.Prelude.{◌⊎◌}
+use Rattle.std.proofs.lemmas.Bool.{ltb-true}
 use Rattle.nbt_name.specs.declared.addr.Kind.{Kind}
 use Rattle.nbt_name.specs.Wire.{NameValue}
-use Rattle.nbt_packet.specs.Message.{MessageValue, registration, refresh, release, registered, released}
+use Rattle.nbt_packet.specs.Message.{MessageValue}
 use Rattle.nbt_node.specs.declared.state.State.{State}
 use Rattle.nbt_node.specs.declared.state.State.TheVariants.{Idle, Asking, Held, Releasing, Resting}
 use Rattle.nbt_node.specs.declared.state.Refresh.{Refresh}
 use Rattle.nbt_node.specs.Settling.{is_over, rested, pending_at, settled}
 use Rattle.nbt_node.specs.Node.{NodeValue}
-use Rattle.nbt_node.specs.Moves.{NameEvent, ask, give_back, poll, hear, Told, Move, asks, gives_back, asks_again, gives_back_again, refreshes_again, refreshes, granted_to, renewed_to, refused_to, loses_asked, loses_held, freed, asking_waits, giving_back_waits, refresh_waits, unmoved}
+use Rattle.nbt_node.specs.Moves.{NameEvent, hear, Told, Move, asks, gives_back, asks_again, gives_back_again, refreshes_again, refreshes, granted_to, renewed_to, refused_to, loses_asked, loses_held, freed, asking_waits, giving_back_waits, refresh_waits, unmoved}
 use Rattle.nbt_world.specs.World.{IsDeliverable}
-use Rattle.nbt_world.specs.Kept.{IsRequest, AsksAs, Known, last_of, bound, Wants, WantsIn, RequestsEnded}
+use Rattle.nbt_world.specs.Kept.{IsRequest, AsksAs, Known, last_of, WantsIn, IsOpenIn, DrawnBy, RequestsEnded, RepliesFresh}
 
 -- ---- time
 
 -- a state is what it was, or has less: it asks for nothing and holds nothing, and its last sending stays or has ended
 pub data Fades (life now start : ℕ) (s t : State) : Type 0 where
-  stays : last_of t start ≡ last_of s start → ((kind : Kind) → WantsIn t kind → WantsIn s kind) → Fades life now start s t
+  stays : last_of t start ≡ last_of s start → ((kind : Kind) → WantsIn t kind → WantsIn s kind) → ((kind : Kind) (first : ℕ) → IsOpenIn t kind first → IsOpenIn s kind first) → Fades life now start s t
   ends : last_of s start + 2 * life < now → t ≡ Idle → Fades life now start s t
 
 -- what remains of a state once time has ended it
@@ -27,25 +27,33 @@ rests life now start last s e = go (ltb (last + 2 * life) now) refl
   where
     go : (t : Bool) → ltb (last + 2 * life) now ≡ t → Fades life now start s (cond t Idle (Resting last))
     go true p = ends (rw e (ltb-true (last + 2 * life) now p)) refl
-    go false p = stays (sym e) (λ kind w. elim w [ ])
+    go false p = stays (sym e) (λ kind w. elim w [ ]) (λ kind first w. elim w [ ])
 
 pub fades : (life now start : ℕ) (s : State) → Fades life now start s (settled life now s)
-fades life now start Idle = stays refl (λ kind w. w)
+fades life now start Idle = stays refl (λ kind w. w) (λ kind first w. w)
 fades life now start (Asking kind ttl id first last tries due) = go (is_over now tries due)
   where
     go : (t : Bool) → Fades life now start (Asking kind ttl id first last tries due) (cond t (rested life now last) (Asking kind ttl id first last tries due))
     go true = rests life now start last (Asking kind ttl id first last tries due) refl
-    go false = stays refl (λ kind w. w)
+    go false = stays refl (λ kind w. w) (λ kind first w. w)
 fades life now start (Held kind ttl until renew last pending) = go (leb until now)
   where
     go : (t : Bool) → Fades life now start (Held kind ttl until renew last pending) (cond t (rested life now last) (Held kind ttl until renew last (pending_at now pending)))
     go true = rests life now start last (Held kind ttl until renew last pending) refl
-    go false = stays refl (λ kind w. w)
+    go false = stays refl (λ kind w. w) (still_open pending)
+      where
+        still_open : (o : Option Refresh) (k : Kind) (first : ℕ) → IsOpenIn (Held kind ttl until renew last (pending_at now o)) k first → IsOpenIn (Held kind ttl until renew last o) k first
+        still_open None k first w = w
+        still_open (Some r) k first w = at (is_over now r.tries r.due) w
+          where
+            at : (t : Bool) → IsOpenIn (Held kind ttl until renew last (cond t None (Some r))) k first → (kind ≡ k) × (r.first ≡ first)
+            at true v = elim v [ ]
+            at false v = v
 fades life now start (Releasing kind id last tries due) = go (is_over now tries due)
   where
     go : (t : Bool) → Fades life now start (Releasing kind id last tries due) (cond t (rested life now last) (Releasing kind id last tries due))
     go true = rests life now start last (Releasing kind id last tries due) refl
-    go false = stays refl (λ kind w. w)
+    go false = stays refl (λ kind w. w) (λ kind first w. w)
 fades life now start (Resting last) = rests life now start last (Resting last) refl
 
 abbrev pub knows : ℕ → State → Option Known
@@ -54,7 +62,7 @@ knows start state = Some (record { start = start; state = state })
 -- requests have ended after time's own moves
 pub ended-fades : (life now start : ℕ) (asked : ℕ → MessageValue → Type 0) (s t : State) → Fades life now start s t
     → RequestsEnded life now asked (knows start s) → RequestsEnded life now asked (knows start t)
-ended-fades life now start asked s t (stays same wants) kept = record {
+ended-fades life now start asked s t (stays same wants opens) kept = record {
   ended = λ moment m a d. rw same (kept.ended moment m a d);
   one_kind = λ kind moment m w a d. kept.one_kind kind moment m (wants kind w) a d;
 }
@@ -68,16 +76,16 @@ ended-fades life now start asked s t (ends over idle) kept = record {
 -- what is heard makes a state want nothing new, and its last sending stays
 pub fades-heard : (life start : ℕ) {node : NodeValue} {now : ℕ} {name : NameValue} {s t : State} {m : MessageValue} {told : Told} {next : ℕ}
     → Move node now name s (hear m) t None told next → Fades life now start s t
-fades-heard life start (granted_to kind ttl id first last tries due r e) = stays refl (λ k w. w)
-fades-heard life start (renewed_to kind ttl until renew last p r e) = stays refl (λ k w. w)
-fades-heard life start (refused_to kind ttl id first last tries due rcode r e ne) = stays refl (λ k w. elim w [ ])
-fades-heard life start (loses_asked kind ttl id first last tries due r ne) = stays refl (λ k w. elim w [ ])
-fades-heard life start (loses_held kind ttl until renew last rcode pending r ne c) = stays refl (λ k w. elim w [ ])
-fades-heard life start (freed kind id last tries due rcode n k a) = stays refl (λ j w. elim w [ ])
-fades-heard life start (asking_waits kind ttl id first last tries due n t) = stays refl (λ k w. w)
-fades-heard life start (giving_back_waits kind id last tries due n t) = stays refl (λ k w. elim w [ ])
-fades-heard life start (refresh_waits kind ttl until renew last p n t) = stays refl (λ k w. w)
-fades-heard life start (unmoved state message e) = stays refl (λ k w. w)
+fades-heard life start (granted_to kind ttl id first last tries due r e) = stays refl (λ k w. w) (λ k f w. elim w [ ])
+fades-heard life start (renewed_to kind ttl until renew last p r e) = stays refl (λ k w. w) (λ k f w. elim w [ ])
+fades-heard life start (refused_to kind ttl id first last tries due rcode r e ne) = stays refl (λ k w. elim w [ ]) (λ k first w. elim w [ ])
+fades-heard life start (loses_asked kind ttl id first last tries due r ne) = stays refl (λ k w. elim w [ ]) (λ k first w. elim w [ ])
+fades-heard life start (loses_held kind ttl until renew last rcode pending r ne c) = stays refl (λ k w. elim w [ ]) (λ k first w. elim w [ ])
+fades-heard life start (freed kind id last tries due rcode n k a) = stays refl (λ j w. elim w [ ]) (λ j first w. elim w [ ])
+fades-heard life start (asking_waits kind ttl id first last tries due n t) = stays refl (λ k w. w) (λ k first w. w)
+fades-heard life start (giving_back_waits kind id last tries due n t) = stays refl (λ k w. elim w [ ]) (λ k first w. elim w [ ])
+fades-heard life start (refresh_waits kind ttl until renew last p n t) = stays refl (λ k w. w) (λ k first w. w)
+fades-heard life start (unmoved state message e) = stays refl (λ k w. w) (λ k first w. w)
 
 -- ---- sendings
 
@@ -88,15 +96,16 @@ pub record IsSent (life now start : ℕ) (name : NameValue) (s t : State) (m : M
   pub request : IsRequest name m
   pub kind_is : (kind : Kind) → WantsIn t kind → AsksAs kind m
   pub before : (kind : Kind) → WantsIn t kind → WantsIn s kind ⊎ (last_of s start + 2 * life < now)
+  pub begun : (kind : Kind) (first : ℕ) → IsOpenIn t kind first → IsOpenIn s kind first ⊎ (now ≡ first)
 
 pub is_sent : {node : NodeValue} {now : ℕ} {name : NameValue} {s t : State} {event : NameEvent} {m : MessageValue} {told : Told} {next : ℕ}
     → Move node now name s event t (Some m) told next → IsSent node.config.life now node.start name s t m
-is_sent (asks kind ttl rested) = record { last_is = refl; request = refl; kind_is = λ k w. w; before = λ k w. inr rested }
-is_sent (gives_back kind ttl until renew last pending) = record { last_is = refl; request = refl; kind_is = λ k w. elim w [ ]; before = λ k w. elim w [ ] }
-is_sent (asks_again kind ttl id first last tries due e) = record { last_is = refl; request = refl; kind_is = λ k w. w; before = λ k w. inl w }
-is_sent (gives_back_again kind id last tries due e) = record { last_is = refl; request = refl; kind_is = λ k w. elim w [ ]; before = λ k w. elim w [ ] }
-is_sent (refreshes_again kind ttl until renew last p e) = record { last_is = refl; request = refl; kind_is = λ k w. w; before = λ k w. inl w }
-is_sent (refreshes kind ttl until renew last due rested) = record { last_is = refl; request = refl; kind_is = λ k w. w; before = λ k w. inl w }
+is_sent (asks kind ttl rested) = record { last_is = refl; request = refl; kind_is = λ k w. w; before = λ k w. inr rested; begun = λ k first w. inr w.1 }
+is_sent (gives_back kind ttl until renew last pending) = record { last_is = refl; request = refl; kind_is = λ k w. elim w [ ]; before = λ k w. elim w [ ]; begun = λ k first w. elim w [ ] }
+is_sent (asks_again kind ttl id first last tries due e) = record { last_is = refl; request = refl; kind_is = λ k w. w; before = λ k w. inl w; begun = λ k first w. inl w }
+is_sent (gives_back_again kind id last tries due e) = record { last_is = refl; request = refl; kind_is = λ k w. elim w [ ]; before = λ k w. elim w [ ]; begun = λ k first w. elim w [ ] }
+is_sent (refreshes_again kind ttl until renew last p e) = record { last_is = refl; request = refl; kind_is = λ k w. w; before = λ k w. inl w; begun = λ k first w. inl w }
+is_sent (refreshes kind ttl until renew last due rested) = record { last_is = refl; request = refl; kind_is = λ k w. w; before = λ k w. inl w; begun = λ k first w. inr w.1 }
 
 -- after a sending: what the network has is what it had, and the request that was sent now
 pub ended-sent : (life now start : ℕ) (name : NameValue) (old new : ℕ → MessageValue → Type 0) (s t : State) (m : MessageValue) → IsSent life now start name s t m
@@ -140,3 +149,99 @@ ended-start life now asked kept = record { ended = kept.ended; one_kind = λ kin
 
 pub ended-down : (life now : ℕ) (asked : ℕ → MessageValue → Type 0) → ((moment : ℕ) (message : MessageValue) → asked moment message → moment ≤ now) → RequestsEnded life now asked None
 ended-down life now asked past = record { ended = λ moment message a d. past moment message a; one_kind = λ kind moment message w a d. elim w [ ] }
+
+-- ---- what is open is fresh
+
+-- no reply is left once the node has rested
+pub fresh-fades : (life now start : ℕ) (asked replied : ℕ → MessageValue → Type 0) (s t : State) → Fades life now start s t
+    → RepliesFresh life now asked replied (knows start s) → RepliesFresh life now asked replied (knows start t)
+fresh-fades life now start asked replied s t (stays same wants opens) kept = record {
+  drawn = λ moment m r d.
+      let k = kept.drawn moment m r d in
+      record { sent = k.sent; request = k.request; asked_is = k.asked_is; in_time = k.in_time; known_of = rw same k.known_of };
+  begun = λ kind first w. kept.begun kind first (opens kind first w);
+}
+fresh-fades life now start asked replied s t (ends over idle) kept = record {
+  drawn = λ moment m r d. let k = kept.drawn moment m r d in let a = k.in_time in let b = k.known_of in absurd (omega arith);
+  begun = λ kind first w. absurd (not_open t idle kind first w);
+}
+  where
+    not_open : (u : State) → u ≡ Idle → (kind : Kind) (first : ℕ) → IsOpenIn u kind first → ⊥
+    not_open u e kind first w = subst (λ (v : State). IsOpenIn v kind first) e w
+
+pub fresh-sent : (life now start : ℕ) (name : NameValue) (asked more replied : ℕ → MessageValue → Type 0) (s t : State) (m : MessageValue) → IsSent life now start name s t m
+    → ((moment : ℕ) (message : MessageValue) → asked moment message → moment ≤ now)
+    → ((moment : ℕ) (message : MessageValue) → asked moment message → more moment message)
+    → RepliesFresh life now asked replied (knows start s) → RepliesFresh life now more replied (knows start t)
+fresh-sent life now start name asked more replied s t m is past grows kept = record {
+  drawn = λ moment message r d.
+      let k = kept.drawn moment message r d in
+      record { sent = k.sent; request = k.request; asked_is = grows k.sent k.request k.asked_is; in_time = k.in_time; known_of = rw is.last_is (past k.sent k.request k.asked_is) };
+  begun = λ kind first w. by_now kind first (is.begun kind first w);
+}
+  where
+    by_now : (kind : Kind) (first : ℕ) → IsOpenIn s kind first ⊎ (now ≡ first) → first ≤ now
+    by_now kind first (inl w) = kept.begun kind first w
+    by_now kind first (inr e) = omega arith
+
+-- a later moment, no fewer requests, and no more replies
+pub fresh-frame : (life now later : ℕ) (asked more replied fewer : ℕ → MessageValue → Type 0) (k : Option Known) → now ≤ later
+    → ((moment : ℕ) (message : MessageValue) → asked moment message → more moment message)
+    → ((moment : ℕ) (message : MessageValue) → fewer moment message → replied moment message)
+    → RepliesFresh life now asked replied k → RepliesFresh life later more fewer k
+fresh-frame life now later asked more replied fewer None le grows shrinks kept = record {
+  drawn = λ moment message r d.
+      let k = kept.drawn moment message (shrinks moment message r) (omega arith) in
+      let b = k.known_of in
+      record { sent = k.sent; request = k.request; asked_is = grows k.sent k.request k.asked_is; in_time = k.in_time; known_of = omega arith };
+  begun = λ kind first w. elim w [ ];
+}
+fresh-frame life now later asked more replied fewer (Some x) le grows shrinks kept = record {
+  drawn = λ moment message r d.
+      let k = kept.drawn moment message (shrinks moment message r) (omega arith) in
+      record { sent = k.sent; request = k.request; asked_is = grows k.sent k.request k.asked_is; in_time = k.in_time; known_of = k.known_of };
+  begun = λ kind first w. let b = kept.begun kind first w in omega arith;
+}
+
+pub fresh-start : (life now : ℕ) (asked replied : ℕ → MessageValue → Type 0) → RepliesFresh life now asked replied None → RepliesFresh life now asked replied (knows now Idle)
+fresh-start life now asked replied kept = record {
+  drawn = λ moment message r d.
+      let k = kept.drawn moment message r d in
+      record { sent = k.sent; request = k.request; asked_is = k.asked_is; in_time = k.in_time; known_of = k.known_of };
+  begun = λ kind first w. elim w [ ];
+}
+
+pub fresh-down : (life now : ℕ) (asked replied : ℕ → MessageValue → Type 0) (k : Option Known) → ((moment : ℕ) (message : MessageValue) → asked moment message → moment ≤ now)
+    → RepliesFresh life now asked replied k → RepliesFresh life now asked replied None
+fresh-down life now asked replied k past kept = record {
+  drawn = λ moment message r d.
+      let b = kept.drawn moment message r d in
+      record { sent = b.sent; request = b.request; asked_is = b.asked_is; in_time = b.in_time; known_of = past b.sent b.request b.asked_is };
+  begun = λ kind first w. elim w [ ];
+}
+
+-- replies more, which the server has sent now, each to a request that was delivered
+pub record Draws (life now : ℕ) (asked : ℕ → MessageValue → Type 0) (moment : ℕ) : Type 0 where
+  pub sent : ℕ
+  pub request : MessageValue
+  pub now_is : moment ≡ now
+  pub asked_is : asked sent request
+  pub delivered : IsDeliverable life now sent
+
+pub fresh-reply : (life now : ℕ) (asked more replied grown : ℕ → MessageValue → Type 0) (k : Option Known) → RequestsEnded life now asked k
+    → ((moment : ℕ) (message : MessageValue) → asked moment message → more moment message)
+    → ((moment : ℕ) (message : MessageValue) → grown moment message → replied moment message ⊎ Draws life now asked moment)
+    → RepliesFresh life now asked replied k → RepliesFresh life now more grown k
+fresh-reply life now asked more replied grown k ended grows new kept = record {
+  drawn = λ moment message r d. by moment message d (new moment message r);
+  begun = kept.begun;
+}
+  where
+    by : (moment : ℕ) (message : MessageValue) → IsDeliverable life now moment → replied moment message ⊎ Draws life now asked moment → DrawnBy life now more k moment
+    by moment message d (inl r) =
+        let b = kept.drawn moment message r d in
+        record { sent = b.sent; request = b.request; asked_is = grows b.sent b.request b.asked_is; in_time = b.in_time; known_of = b.known_of }
+    by moment message d (inr e) =
+        let n = e.now_is in
+        let t = e.delivered in
+        record { sent = e.sent; request = e.request; asked_is = grows e.sent e.request e.asked_is; in_time = omega arith; known_of = ended.ended e.sent e.request e.asked_is e.delivered }

@@ -1,26 +1,27 @@
 -- What a world keeps when one node has moved: each name by time alone, but one that asks, sends again or hears.
-use Rattle.std.proofs.Common.{◌≡◌, ◌≢◌, ℕ, zero, suc, ◌+◌, ◌*◌, ◌<◌, ◌≤◌, Bool, true, false, List, [], ◌∷◌, ◌++◌, length, Option, Some, None, refl, sym, ap, subst, ◌∙◌, arith, inl, inr}
-use Rattle.std.specs.Prelude.{Contains, ◌⊎◌, ◌&&◌}
+use Rattle.std.proofs.Common.{◌≡◌, ◌≢◌, ℕ, suc, ◌≤◌, Bool, true, false, List, [], ◌∷◌, ◌++◌, Option, Some, None, sym, ap, subst, ◌∙◌, arith, inl, inr}
+use Rattle.std.specs.Prelude.{Contains, ◌⊎◌}
 use Rattle.std.specs.Str.{bytes_eq}
 use Rattle.std.proofs.lemmas.Bool.{cases_Bool}
 use Rattle.std.proofs.lemmas.Slice.Eq.{bytes_eq-Decides}
-use Rattle.std.proofs.lemmas.List.Elements.{Contains-push_cases}
-use Rattle.std.proofs.lemmas.Option.{none-some, same_Some}
+use Rattle.std.proofs.lemmas.List.Elements.{Contains-push_cases, Contains-append_left}
+use Rattle.std.proofs.lemmas.Option.{same_Some}
 use Rattle.nbt_name.specs.declared.addr.Addr.{Addr}
 use Rattle.nbt_name.specs.Wire.{NameValue}
 use Rattle.nbt_packet.specs.Message.{MessageValue, registration, overwrite, refresh, release, query, status_request, registered, released, found, not_found, status, wait}
+use Rattle.nbt_packet.specs.declared.message.Registration.{Registration}
 use Rattle.nbt_packet.specs.Text.{text}
 use Rattle.nbt_packet.specs.Spelling.{Spells}
 use Rattle.nbt_lease.specs.Config.{ConfigValue}
 use Rattle.nbt_node.specs.declared.state.State.{State}
 use Rattle.nbt_node.specs.Settling.{settled}
-use Rattle.nbt_node.specs.Node.{NodeValue, state_of, state_at, ByTimeAlone}
-use Rattle.nbt_node.specs.Moves.{NameEvent, hear, Told, Move, NameMoves}
+use Rattle.nbt_node.specs.Node.{NodeValue, state_of, state_at}
+use Rattle.nbt_node.specs.Moves.{NameEvent, hear, Told, NameMoves}
 use Rattle.nbt_world.specs.declared.network.Datagram.{Datagram}
-use Rattle.nbt_world.specs.World.{WorldValue, addr_of, node_of, with_node, datagram}
-use Rattle.nbt_world.specs.Kept.{IsRequest, Asked, known, RequestsEnded, IsNodeOf, IsSent, IsKept}
-use Rattle.nbt_world.proofs.Knowing.{Fades, fades, fades-heard, knows, ended-fades, ended-frame, ended-sent, is_sent}
-use Rattle.nbt_world.proofs.Keeping.{IsNew, node_changes, addr_there, asked_past}
+use Rattle.nbt_world.specs.World.{WorldValue, addr_of, node_of, with_node}
+use Rattle.nbt_world.specs.Kept.{IsRequest, Asked, Replied, known, RequestsEnded, RepliesFresh, IsNodeOf, IsSent, IsKept}
+use Rattle.nbt_world.proofs.Knowing.{fades, fades-heard, knows, ended-fades, ended-frame, ended-sent, is_sent, fresh-fades, fresh-frame, fresh-sent}
+use Rattle.nbt_world.proofs.Keeping.{IsNew, Grows, node_not_server, node_changes, addr_there}
 
 -- the law of messages that this rests on
 abbrev pub OneMessage : Type 0
@@ -57,6 +58,10 @@ request_one (not_found id rcode name) a b p q = elim p [ ]
 request_one (status id name names) a b p q = elim p [ ]
 request_one (wait id name ttl) a b p q = elim p [ ]
 
+-- a request is no overwrite
+pub request_no_overwrite : (m : MessageValue) (name : NameValue) → IsRequest name m → (r : Registration) → m ≡ overwrite r → ⊥
+request_no_overwrite m name is r e = subst (λ (k : MessageValue). IsRequest name k) e is
+
 -- ---- one datagram more
 
 -- a datagram that an end sends now
@@ -65,6 +70,7 @@ pub record Sending (w : WorldValue) (addr : Addr) (d : Datagram) (m : MessageVal
   pub now_is : d.moment ≡ w.now
   pub written : d.octets.items ≡ text m
   pub spelled : Spells d.octets.items m
+  pub no_overwrite : (r : Registration) → m ≡ overwrite r → ⊥
 
 pub is_new : OneMessage → (w : WorldValue) (n : ℕ) (addr : Addr) (d : Datagram) (m : MessageValue) → addr_of w.ends n ≡ Some addr → Sending w addr d m → IsNew w addr (w.sent ++ d ∷ [])
 is_new law w n addr d m at s x c = go (Contains-push_cases w.sent d x c)
@@ -78,6 +84,7 @@ is_new law w n addr d m at s x c = go (Contains-push_cases w.sent d x c)
       written = s.written;
       spelled = s.spelled;
       only = λ k spells. law d.octets.items k m spells s.spelled;
+      no_overwrite = s.no_overwrite;
     }
 
     go : Contains w.sent x ⊎ (d ≡ x) → Contains w.sent x ⊎ ((x.from ≡ addr) × IsSent w.ends w.now x)
@@ -151,7 +158,46 @@ name_hears now old new name m told asked start moves kept =
     (ended-fades old.config.life now old.start asked (state_at old now name) moves.after (fades-heard old.config.life old.start moves.move)
     (ended-fades old.config.life now old.start asked (state_of old name) (state_at old now name) (fades old.config.life now old.start (state_of old name)) kept)))
 
+-- ---- and the replies about it
+
+fresh_as : (life now : ℕ) (asked replied : ℕ → MessageValue → Type 0) (new : NodeValue) (q : NameValue) (start : ℕ) (s : State) → new.start ≡ start → state_of new q ≡ s
+    → RepliesFresh life now asked replied (knows start s) → RepliesFresh life now asked replied (known (Some new) q)
+fresh_as life now asked replied new q start s e f kept = rw (e, f) kept
+
+pub fresh_by_time : (now : ℕ) (old new : NodeValue) (q : NameValue) (asked more replied fewer : ℕ → MessageValue → Type 0) → new.start ≡ old.start → state_of new q ≡ state_at old now q
+    → ((moment : ℕ) (message : MessageValue) → asked moment message → more moment message) → ((moment : ℕ) (message : MessageValue) → fewer moment message → replied moment message)
+    → RepliesFresh old.config.life now asked replied (known (Some old) q) → RepliesFresh old.config.life now more fewer (known (Some new) q)
+fresh_by_time now old new q asked more replied fewer start state grows shrinks kept =
+    fresh_as old.config.life now more fewer new q old.start (state_at old now q) start state
+    (fresh-frame old.config.life now now asked more replied fewer (knows old.start (state_at old now q)) (omega arith) grows shrinks
+    (fresh-fades old.config.life now old.start asked replied (state_of old q) (state_at old now q) (fades old.config.life now old.start (state_of old q)) kept))
+
+pub fresh_sends : (now : ℕ) (old new : NodeValue) (name : NameValue) (event : NameEvent) (m : MessageValue) (told : Told) (asked more replied fewer : ℕ → MessageValue → Type 0) → new.start ≡ old.start
+    → NameMoves old now name event new (Some m) told
+    → ((moment : ℕ) (message : MessageValue) → asked moment message → moment ≤ now)
+    → ((moment : ℕ) (message : MessageValue) → asked moment message → more moment message) → ((moment : ℕ) (message : MessageValue) → fewer moment message → replied moment message)
+    → RepliesFresh old.config.life now asked replied (known (Some old) name) → RepliesFresh old.config.life now more fewer (known (Some new) name)
+fresh_sends now old new name event m told asked more replied fewer start moves past grows shrinks kept =
+    fresh_as old.config.life now more fewer new name old.start (settled old.config.life now moves.after) start moves.named
+    (fresh-frame old.config.life now now more more replied fewer (knows old.start (settled old.config.life now moves.after)) (omega arith) (λ moment message a. a) shrinks
+    (fresh-fades old.config.life now old.start more replied moves.after (settled old.config.life now moves.after) (fades old.config.life now old.start moves.after)
+    (fresh-sent old.config.life now old.start name asked more replied (state_at old now name) moves.after m (is_sent moves.move) past grows
+    (fresh-fades old.config.life now old.start asked replied (state_of old name) (state_at old now name) (fades old.config.life now old.start (state_of old name)) kept))))
+
+pub fresh_hears : (now : ℕ) (old new : NodeValue) (name : NameValue) (m : MessageValue) (told : Told) (asked replied : ℕ → MessageValue → Type 0) → new.start ≡ old.start
+    → NameMoves old now name (hear m) new None told
+    → RepliesFresh old.config.life now asked replied (known (Some old) name) → RepliesFresh old.config.life now asked replied (known (Some new) name)
+fresh_hears now old new name m told asked replied start moves kept =
+    fresh_as old.config.life now asked replied new name old.start (settled old.config.life now moves.after) start moves.named
+    (fresh-fades old.config.life now old.start asked replied moves.after (settled old.config.life now moves.after) (fades old.config.life now old.start moves.after)
+    (fresh-fades old.config.life now old.start asked replied (state_at old now name) moves.after (fades-heard old.config.life old.start moves.move)
+    (fresh-fades old.config.life now old.start asked replied (state_of old name) (state_at old now name) (fades old.config.life now old.start (state_of old name)) kept)))
+
 -- ---- one node has moved
+
+-- a list that has grown by one
+pub grows_by : (old : List Datagram) (d : Datagram) → Grows old (old ++ d ∷ [])
+grows_by old d x c = Contains-append_left old (d ∷ []) x c
 
 -- The node of a number in a world: where it is, and what holds of it.
 pub record UpAt (w : WorldValue) (i : ℕ) (node : NodeValue) : Type 0 where
@@ -160,6 +206,8 @@ pub record UpAt (w : WorldValue) (i : ℕ) (node : NodeValue) : Type 0 where
   pub up : node_of w.ends (suc i) ≡ Some node
   pub is : IsNodeOf w addr node
   pub requests : (q : NameValue) → RequestsEnded node.config.life w.now (Asked w.sent addr.ip q) (known (Some node) q)
+  pub replies : (q : NameValue) → RepliesFresh node.config.life w.now (Asked w.sent addr.ip q) (Replied w.sent w.ends.server_addr addr q) (known (Some node) q)
+  pub no_server : addr ≢ w.ends.server_addr
 
 pub up_at : (w : WorldValue) (i : ℕ) (node : NodeValue) → IsKept w → node_of w.ends (suc i) ≡ Some node → UpAt w i node
 up_at w i node kept up =
@@ -173,16 +221,22 @@ up_at w i node kept up =
       requests = λ q.
           subst (λ (c : ConfigValue). RequestsEnded c.life w.now (Asked w.sent (there.0).ip q) (known (Some node) q)) (sym is.config_is)
           (subst (λ (x : Option NodeValue). RequestsEnded w.config.life w.now (Asked w.sent (there.0).ip q) (known x q)) up (kept.requests (suc i) there.0 q there.1));
+      replies = λ q.
+          subst (λ (c : ConfigValue). RepliesFresh c.life w.now (Asked w.sent (there.0).ip q) (Replied w.sent w.ends.server_addr there.0 q) (known (Some node) q)) (sym is.config_is)
+          (subst (λ (x : Option NodeValue). RepliesFresh w.config.life w.now (Asked w.sent (there.0).ip q) (Replied w.sent w.ends.server_addr there.0 q) (known x q)) up (kept.replies (suc i) there.0 q there.1));
+      no_server = node_not_server w i there.0 kept there.1;
     }
 
 -- The world after the node is another, with what is new in the list.
-pub node_moves : (w : WorldValue) (i : ℕ) (node new : NodeValue) (sent : List Datagram) → IsKept w → (at : UpAt w i node) → Stays node w.now new → IsNew w at.addr sent
+pub node_moves : (w : WorldValue) (i : ℕ) (node new : NodeValue) (sent : List Datagram) → IsKept w → (at : UpAt w i node) → Stays node w.now new → IsNew w at.addr sent → Grows w.sent sent
     → ((q : NameValue) → RequestsEnded node.config.life w.now (Asked sent (at.addr).ip q) (known (Some new) q))
+    → ((q : NameValue) → RepliesFresh node.config.life w.now (Asked sent (at.addr).ip q) (Replied sent w.ends.server_addr at.addr q) (known (Some new) q))
     → IsKept (record w { ends = with_node w.ends (suc i) (Some new); sent = sent })
-node_moves w i node new sent kept at stays fresh names =
+node_moves w i node new sent kept at stays fresh grows names replies =
     node_changes w i at.addr (Some new) sent kept at.at
-    (λ x e. subst (λ (y : NodeValue). IsNodeOf w at.addr y) (same_Some new x e) (node_stays w at.addr node new stays at.is)) fresh
+    (λ x e. subst (λ (y : NodeValue). IsNodeOf w at.addr y) (same_Some new x e) (node_stays w at.addr node new stays at.is)) fresh grows
     (λ q. subst (λ (c : ConfigValue). RequestsEnded c.life w.now (Asked sent (at.addr).ip q) (known (Some new) q)) (at.is).config_is (names q))
+    (λ q. subst (λ (c : ConfigValue). RepliesFresh c.life w.now (Asked sent (at.addr).ip q) (Replied sent w.ends.server_addr at.addr q) (known (Some new) q)) (at.is).config_is (replies q))
 
 pub stays_by_moves : (now : ℕ) (old new : NodeValue) (name : NameValue) (event : NameEvent) (sent : Option MessageValue) (told : Told) → NameMoves old now name event new sent told → Stays old now new
 stays_by_moves now old new name event sent told moves = record {

@@ -1,5 +1,5 @@
 -- What an end's call left in the buffer, as a reply or none.
-use Rattle.std.proofs.Common.{◌≡◌, ◌≢◌, ℕ, Bool, true, false, List, [], length, eqb, Option, Some, None, refl, sym, ap, subst, ◌∙◌, arith}
+use Rattle.std.proofs.Common.{◌≡◌, ℕ, true, false, List, [], length, eqb, Option, Some, None, refl, sym, ap, ◌∙◌}
 use Rattle.std.specs.Prelude.{is_some, is_err, IfOk, Result, Ok, Err}
 use Rattle.std.proofs.lemmas.Bool.{eqb-true, eqb-false}
 use Rattle.std.proofs.lemmas.List.{nil_from_length}
@@ -8,7 +8,7 @@ use Rattle.nbt_packet.specs.Text.{text}
 use Rattle.nbt_packet.specs.Spelling.{Spells}
 use Rattle.nbt_server.specs.Serving.{written, Spelled}
 use Rattle.nbt_node.specs.Calls.{AreWritten}
-use Rattle.nbt_world.specs.Step.{TakenValue, takes}
+use Rattle.nbt_world.specs.Step.{takes}
 
 abbrev pub Replied : Option MessageValue → List ℕ → Type 0
 Replied reply octets = (m : MessageValue) × (takes reply ≡ takes (Some m)) × (octets ≡ text m) × Spells octets m

@@ -1,22 +1,19 @@
 -- What a world keeps when an end starts, and when one crashes.
-use Rattle.std.proofs.Common.{◌≡◌, ◌≢◌, ℕ, zero, suc, ◌+◌, ◌*◌, ◌<◌, ◌≤◌, List, [], ◌∷◌, length, Option, Some, None, refl, sym, ap, subst, ◌∙◌, arith}
+use Rattle.std.proofs.Common.{◌≡◌, ℕ, zero, suc, [], Option, Some, None, refl, sym, subst, arith}
 use Rattle.std.specs.Prelude.{replicate}
 use Rattle.std.proofs.lemmas.Option.{none-some, same_Some}
-use Rattle.nbt_name.specs.declared.addr.Addr.{Addr}
 use Rattle.nbt_name.specs.Wire.{NameValue}
 use Rattle.nbt_lease.specs.Config.{ConfigValue}
 use Rattle.nbt_lease.specs.Lease.{Rows, leases_at, AreSound, group, IsSound}
 use Rattle.nbt_server.specs.Serving.{ServerValue}
-use Rattle.nbt_node.specs.declared.state.State.{State}
 use Rattle.nbt_node.specs.declared.state.State.TheVariants.{Idle}
-use Rattle.nbt_node.specs.declared.state.Slot.{Slot}
-use Rattle.nbt_node.specs.Node.{NodeValue, state_in, state_of}
+use Rattle.nbt_node.specs.Node.{NodeValue, state_in}
 use Rattle.nbt_node.specs.Calls.{started}
 use Rattle.nbt_world.specs.declared.ends.Ends.{Ends}
-use Rattle.nbt_world.specs.World.{WorldValue, addr_of, node_of, with_server, with_node}
-use Rattle.nbt_world.specs.Step.{IsNew, Starts, server_starts, node_starts, Crashes, server_crashes, node_crashes}
-use Rattle.nbt_world.specs.Kept.{Asked, known, RequestsEnded, IsNodeOf, IsServerOf, IsKept}
-use Rattle.nbt_world.proofs.Knowing.{ended-start, ended-down}
+use Rattle.nbt_world.specs.World.{WorldValue, node_of}
+use Rattle.nbt_world.specs.Step.{Starts, server_starts, node_starts, Crashes, server_crashes, node_crashes}
+use Rattle.nbt_world.specs.Kept.{Asked, Replied, known, RequestsEnded, RepliesFresh, IsNodeOf, IsServerOf, IsKept}
+use Rattle.nbt_world.proofs.Knowing.{ended-start, ended-down, fresh-start, fresh-down}
 use Rattle.nbt_world.proofs.Keeping.{addr_there, asked_past, node_changes, server_changes}
 use Rattle.nbt_world.proofs.Naming.{nothing_new}
 
@@ -33,7 +30,7 @@ idle_in (suc n) q = idle_in n q
 
 pub starts_kept : (w : WorldValue) (number : ℕ) (ends : Ends) → IsKept w → Starts w.config w.now w.ends number ends → IsKept (record w { ends = ends })
 starts_kept w number ends kept (server_starts server down new) =
-    server_changes w (Some server) w.sent kept (λ s e. subst (λ (x : ServerValue). IsServerOf w x) (same_Some server s e) is) (nothing_new w w.ends.server_addr)
+    server_changes w (Some server) w.sent kept (λ s e. subst (λ (x : ServerValue). IsServerOf w x) (same_Some server s e) is) (nothing_new w w.ends.server_addr) kept.replies
   where
     is : IsServerOf w server
     is = record { config_is = new.config_is; past = let e = new.last in omega arith; sound = new_is_sound w.config w.now server.table.rows new.empty }
@@ -42,14 +39,20 @@ starts_kept w number ends kept (node_starts i addr at down) =
     (λ s e. subst (λ (x : NodeValue). IsNodeOf w addr x) (same_Some (started 14 addr w.ends.server_addr w.config w.now) s e)
     (record { addr_is = refl; server_is = refl; config_is = refl; past = omega arith }))
     (nothing_new w addr)
+    (λ d c. c)
     (λ q.
     rw (idle_in 14 q)
     (ended-start w.config.life w.now (Asked w.sent addr.ip q)
     (subst (λ (x : Option NodeValue). RequestsEnded w.config.life w.now (Asked w.sent addr.ip q) (known x q)) down (kept.requests (suc i) addr q at))))
+    (λ q.
+    rw (idle_in 14 q)
+    (fresh-start w.config.life w.now (Asked w.sent addr.ip q) (Replied w.sent w.ends.server_addr addr q)
+    (subst (λ (x : Option NodeValue). RepliesFresh w.config.life w.now (Asked w.sent addr.ip q) (Replied w.sent w.ends.server_addr addr q) (known x q)) down (kept.replies (suc i) addr q at))))
 
 pub crashes_kept : (w : WorldValue) (number : ℕ) (ends : Ends) → IsKept w → Crashes w.ends number ends → IsKept (record w { ends = ends })
-crashes_kept w number ends kept (server_crashes server up) = server_changes w None w.sent kept (λ s e. absurd (none-some s e)) (nothing_new w w.ends.server_addr)
+crashes_kept w number ends kept (server_crashes server up) = server_changes w None w.sent kept (λ s e. absurd (none-some s e)) (nothing_new w w.ends.server_addr) kept.replies
 crashes_kept w number ends kept (node_crashes i node up) =
     let there = addr_there w.ends (suc i) node up in
-    node_changes w i there.0 None w.sent kept there.1 (λ s e. absurd (none-some s e)) (nothing_new w there.0)
+    node_changes w i there.0 None w.sent kept there.1 (λ s e. absurd (none-some s e)) (nothing_new w there.0) (λ d c. c)
     (λ q. ended-down w.config.life w.now (Asked w.sent (there.0).ip q) (asked_past w (there.0).ip q w.sent kept.sent))
+    (λ q. fresh-down w.config.life w.now (Asked w.sent (there.0).ip q) (Replied w.sent w.ends.server_addr there.0 q) (known (node_of w.ends (suc i)) q) (asked_past w (there.0).ip q w.sent kept.sent) (kept.replies (suc i) there.0 q there.1))

@@ -1,8 +1,8 @@
 -- What each event makes of a world, as the code has found it: a line of the step, and a world that keeps what it kept.
-use Rattle.std.proofs.Common.{◌≡◌, ◌≢◌, ℕ, zero, suc, ◌+◌, ◌*◌, ◌^◌, ◌<◌, ◌≤◌, Bool, true, false, List, [], ◌∷◌, ◌++◌, length, ltb, get_or, Option, Some, None, refl, sym, ap, subst, ◌∙◌, arith}
-use Rattle.std.specs.Prelude.{slice_get, MatchBool, min}
+use Rattle.std.proofs.Common.{◌≡◌, ℕ, zero, suc, ◌+◌, ◌^◌, Bool, true, false, List, length, ltb, get_or, Some, None, refl, sym, ap, subst, ◌∙◌}
+use Rattle.std.specs.Prelude.{slice_get, Contains, MatchBool, min}
 use Rattle.std.proofs.lemmas.Bool.{ltb-true, ltb-false}
-use Rattle.std.proofs.lemmas.Option.{slice_get_read, slice_get_past, none-some, same_Some}
+use Rattle.std.proofs.lemmas.Option.{slice_get_read, slice_get_past, slice_get_within, get_or_from_slice_get, none-some}
 use Rattle.nbt_name.specs.declared.addr.Addr.{Addr}
 use Rattle.nbt_packet.specs.Message.{MessageValue}
 use Rattle.nbt_packet.specs.Text.{text}
@@ -16,13 +16,13 @@ use Rattle.nbt_world.specs.declared.event.Event.{Event}
 use Rattle.nbt_world.specs.declared.event.Event.TheVariants as e
 use Rattle.nbt_world.specs.declared.event.Outcome.{Outcome}
 use Rattle.nbt_world.specs.declared.event.Outcome.TheVariants as o
-use Rattle.nbt_world.specs.World.{WorldValue, addr_of, node_of, with_node, IsDeliverable}
-use Rattle.nbt_world.specs.Step.{number_in, GivenValue, Does, after, outcome_of, IsDown, IsUp, Starts, Crashes, TakenValue, is_down, is_lost, takes, Takes, IsTaken, after_taking, outcome_of_taking, Step, ticks, starts, starts_nothing, crashes, crashes_nothing, node_does, node_is_down, no_datagram, no_end, too_late, delivered}
+use Rattle.nbt_world.specs.World.{WorldValue, addr_of, node_of, with_node}
+use Rattle.nbt_world.specs.Step.{number_in, GivenValue, Does, after, outcome_of, IsDown, IsUp, Starts, Crashes, TakenValue, takes, Takes, IsTaken, after_taking, outcome_of_taking, Step, ticks, starts, starts_nothing, crashes, crashes_nothing, node_does, node_is_down}
 use Rattle.nbt_world.specs.Kept.{IsNodeOf, IsKept}
 use Rattle.nbt_world.proofs.Keeping.{addr_there}
 use Rattle.nbt_world.proofs.Naming.{OneMessage}
 use Rattle.nbt_world.proofs.Events.{does_kept}
-use Rattle.nbt_world.proofs.Deliveries.{GrantsSound, ReleasesSound, taking_kept}
+use Rattle.nbt_world.proofs.Deliveries.{GrantsSound, ReleasesSound, Origin, taking_kept}
 use Rattle.nbt_world.proofs.Starting.{starts_kept, crashes_kept}
 
 -- nothing has changed
@@ -110,6 +110,7 @@ pub record Took (w : WorldValue) (from to : Addr) (octets : List ℕ) (number : 
   pub at : addr_of w.ends number ≡ Some to
   pub does : Takes w.now w.ends from octets number taken ends
   pub is : IsTaken code out taken
+  pub origin : Origin w from octets
   pub outcome_is : outcome ≡ outcome_of_taking w taken
   pub left : after_taking w ends to from taken ≡ record w { ends = ends; sent = sent }
 
@@ -124,7 +125,7 @@ spells t.Replies out taken m is same =
 pub took_kept : OneMessage → GrantsSound → ReleasesSound → (w : WorldValue) (from to : Addr) (octets : List ℕ) (number : ℕ) (ends : Ends) (sent : List Datagram) (outcome : Outcome) → IsKept w
     → Took w from to octets number ends sent outcome → IsKept (record w { ends = ends; sent = sent })
 took_kept law g r w from to octets number ends sent outcome kept k =
-    subst IsKept k.left (taking_kept law g r w from to octets number k.taken ends kept k.at k.does (λ m same. spells k.code k.out k.taken m k.is same))
+    subst IsKept k.left (taking_kept law g r w from to octets number k.taken ends kept k.at k.origin k.does (λ m same. spells k.code k.out k.taken m k.is same))
 
 pub took_step : (w : WorldValue) (from to : Addr) (octets : List ℕ) (number : ℕ) (ends : Ends) (sent : List Datagram) (outcome : Outcome) (event : Event) (k : Took w from to octets number ends sent outcome)
     → Step w event (outcome_of_taking w k.taken) (after_taking w ends to from k.taken) → Step w event outcome (record w { ends = ends; sent = sent })
@@ -148,3 +149,6 @@ there_in xs sent k d same p q = subst (λ (ys : List Datagram). slice_get ys k �
 -- only room was made for a datagram
 pub unchanged : (w : WorldValue) (sent : List Datagram) (event : Event) (outcome : Outcome) → sent ≡ w.sent → Step w event outcome w → Step w event outcome (record w { sent = sent })
 unchanged w sent event outcome same step = subst (λ (x : WorldValue). Step w event outcome x) (same_world w w.ends sent refl same) step
+
+pub found_among : (sent : List Datagram) (k : ℕ) (d : Datagram) → slice_get sent k ≡ Some d → Contains sent d
+found_among sent k d is = (k, slice_get_within sent k d is, get_or_from_slice_get sent k d d is)

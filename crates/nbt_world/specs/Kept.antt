@@ -1,14 +1,13 @@
 -- The facts that every world keeps, and that carry the proof of its safety. Those of one node and one name speak of the
 -- clock, of what the network has about them, and of what the node knows of the name, and of nothing else.
-use Rattle.std.specs.Prelude.{◌≡◌, ◌≢◌, ℕ, ◌+◌, ◌*◌, ◌<◌, ◌≤◌, List, length, slice_get, Option, Some, None, Contains}
+use Rattle.std.specs.Prelude.{◌≡◌, ℕ, ◌+◌, ◌≤◌, List, length, Option, Some, None, Contains}
 use Rattle.nbt_name.specs.declared.addr.Addr.{Addr}
 use Rattle.nbt_name.specs.declared.addr.Kind.{Kind}
 use Rattle.nbt_name.specs.Wire.{NameValue}
 use Rattle.nbt_packet.specs.declared.message.Registration.{Registration}
-use Rattle.nbt_packet.specs.Message.{MessageValue, registration, refresh, release, registered, released}
+use Rattle.nbt_packet.specs.Message.{MessageValue, registration, overwrite, refresh, release, registered, released}
 use Rattle.nbt_packet.specs.Text.{text}
 use Rattle.nbt_packet.specs.Spelling.{Spells}
-use Rattle.nbt_lease.specs.Config.{ConfigValue}
 use Rattle.nbt_lease.specs.Lease.{leases_at, IsSound}
 use Rattle.nbt_server.specs.Serving.{ServerValue}
 use Rattle.nbt_node.specs.declared.state.State.{State}
@@ -16,7 +15,7 @@ use Rattle.nbt_node.specs.declared.state.State.TheVariants.{Idle, Asking, Held, 
 use Rattle.nbt_node.specs.Node.{NodeValue, state_of}
 use Rattle.nbt_world.specs.declared.ends.Ends.{Ends}
 use Rattle.nbt_world.specs.declared.network.Datagram.{Datagram}
-use Rattle.nbt_world.specs.World.{WorldValue, IsDeliverable, addr_of, node_of, IsOfEnd}
+use Rattle.nbt_world.specs.World.{WorldValue, IsDeliverable, addr_of, node_of}
 
 -- ---- what the network has of one node and one name
 
@@ -41,6 +40,22 @@ pub record Asked (sent : List Datagram) (ip : ℕ) (name : NameValue) (moment : 
   pub moment_is : datagram.moment ≡ moment
   pub spelled : Spells datagram.octets.items message
   pub request : IsRequest name message
+
+-- what the server says of a registration, a refresh or a release about the name
+abbrev pub IsReply : NameValue → MessageValue → Type 0
+IsReply name (registered rcode r) = r.name ≡ name
+IsReply name (released id rcode n kind addr) = n ≡ name
+IsReply name _ = ⊥
+
+-- The network has such a reply from the server's address to this one, sent at this moment.
+pub record Replied (sent : List Datagram) (server to : Addr) (name : NameValue) (moment : ℕ) (message : MessageValue) : Type 0 where
+  pub datagram : Datagram
+  pub among : Contains sent datagram
+  pub sender : datagram.from ≡ server
+  pub receiver : datagram.to ≡ to
+  pub moment_is : datagram.moment ≡ moment
+  pub spelled : Spells datagram.octets.items message
+  pub reply : IsReply name message
 
 -- ---- what a node knows of one name
 
@@ -76,6 +91,16 @@ abbrev pub Wants : Option Known → Kind → Type 0
 Wants None kind = ⊥
 Wants (Some k) kind = WantsIn k.state kind
 
+-- a registration or a refresh is open, of this kind and first sent at this moment
+abbrev pub IsOpenIn : State → Kind → (first : ℕ) → Type 0
+IsOpenIn (Asking k ttl id f last tries due) kind first = (k ≡ kind) × (f ≡ first)
+IsOpenIn (Held k ttl until renew last (Some p)) kind first = (k ≡ kind) × (p.first ≡ first)
+IsOpenIn _ kind first = ⊥
+
+abbrev pub IsOpen : Option Known → Kind → (first : ℕ) → Type 0
+IsOpen None kind first = ⊥
+IsOpen (Some k) kind first = IsOpenIn k.state kind first
+
 -- ---- what holds of one node and one name
 
 -- Old requests have ended: one that may still be delivered was sent no later than the node knows of, and where it asks
@@ -83,6 +108,20 @@ Wants (Some k) kind = WantsIn k.state kind
 pub record RequestsEnded (life now : ℕ) (asked : ℕ → MessageValue → Type 0) (k : Option Known) : Type 0 where
   pub ended : (moment : ℕ) (message : MessageValue) → asked moment message → IsDeliverable life now moment → moment ≤ bound now k
   pub one_kind : (kind : Kind) (moment : ℕ) (message : MessageValue) → Wants k kind → asked moment message → IsDeliverable life now moment → AsksAs kind message
+
+-- A reply that a request has drawn: it was sent within a life of that request, which the node knows of.
+pub record DrawnBy (life now : ℕ) (asked : ℕ → MessageValue → Type 0) (k : Option Known) (moment : ℕ) : Type 0 where
+  pub sent : ℕ
+  pub request : MessageValue
+  pub asked_is : asked sent request
+  pub in_time : moment ≤ sent + life
+  pub known_of : sent ≤ bound now k
+
+-- What is open is fresh: each reply that may still be delivered was drawn by a request that the node knows of, and what
+-- is open was first sent by now.
+pub record RepliesFresh (life now : ℕ) (asked replied : ℕ → MessageValue → Type 0) (k : Option Known) : Type 0 where
+  pub drawn : (moment : ℕ) (message : MessageValue) → replied moment message → IsDeliverable life now moment → DrawnBy life now asked k moment
+  pub begun : (kind : Kind) (first : ℕ) → IsOpen k kind first → first ≤ now
 
 -- ---- what holds of the ends and of the network
 
@@ -107,7 +146,7 @@ pub record IsServerOf (world : WorldValue) (server : ServerValue) : Type 0 where
   pub sound : IsSound world.config world.now (leases_at world.now server.table.rows)
 
 -- Each datagram was sent by an end, not later than now, and is the written form of a message that it spells, and no
--- other.
+-- other; and no end overwrites.
 pub record IsSent (ends : Ends) (now : ℕ) (d : Datagram) : Type 0 where
   pub number : ℕ
   pub message : MessageValue
@@ -116,6 +155,7 @@ pub record IsSent (ends : Ends) (now : ℕ) (d : Datagram) : Type 0 where
   pub written : d.octets.items ≡ text message
   pub spelled : Spells d.octets.items message
   pub only : (m : MessageValue) → Spells d.octets.items m → m ≡ message
+  pub no_overwrite : (r : Registration) → message ≡ overwrite r → ⊥
 
 -- ---- what every world keeps
 
@@ -126,3 +166,5 @@ pub record IsKept (world : WorldValue) : Type 0 where
   pub sent : (d : Datagram) → Contains world.sent d → IsSent world.ends world.now d
   pub requests : (number : ℕ) (addr : Addr) (name : NameValue) → addr_of world.ends number ≡ Some addr
       → RequestsEnded world.config.life world.now (Asked world.sent addr.ip name) (known (node_of world.ends number) name)
+  pub replies : (number : ℕ) (addr : Addr) (name : NameValue) → addr_of world.ends number ≡ Some addr
+      → RepliesFresh world.config.life world.now (Asked world.sent addr.ip name) (Replied world.sent world.ends.server_addr addr name) (known (node_of world.ends number) name)

@@ -1,5 +1,5 @@
 -- One step of the world: what an event makes of it, a line for each outcome (our profile).
-use Rattle.std.specs.Prelude.{◌≡◌, ◌≢◌, ℕ, ◌+◌, ◌^◌, ◌<◌, ◌≤◌, min, zero, suc, List, [], ◌∷◌, ◌++◌, length, slice_get, Option, Some, None}
+use Rattle.std.specs.Prelude.{◌≡◌, ◌≢◌, ℕ, ◌+◌, ◌^◌, min, zero, suc, List, [], ◌∷◌, ◌++◌, length, slice_get, Option, Some, None}
 use Rattle.std.specs.Global.{Vec}
 use Rattle.nbt_name.specs.declared.addr.Addr.{Addr}
 use Rattle.nbt_name.specs.declared.addr.Kind.{Kind}
@@ -8,8 +8,8 @@ use Rattle.nbt_packet.specs.Message.{MessageValue}
 use Rattle.nbt_packet.specs.Text.{text}
 use Rattle.nbt_packet.specs.Spelling.{Spells}
 use Rattle.nbt_lease.specs.Config.{ConfigValue}
-use Rattle.nbt_lease.specs.Lease.{Leases, leases_at}
-use Rattle.nbt_server.specs.Serving.{ServerValue, ServesOctets, OctetsNeedMemory, written}
+use Rattle.nbt_lease.specs.Lease.{leases_at}
+use Rattle.nbt_server.specs.Serving.{ServerValue, ServesOctets, OctetsNeedMemory}
 use Rattle.nbt_node.specs.declared.fault.AskFault.{AskFault}
 use Rattle.nbt_node.specs.declared.fault.ReleaseFault.{ReleaseFault}
 use Rattle.nbt_node.specs.declared.fault.LookupFault.{LookupFault}
@@ -17,7 +17,8 @@ use Rattle.nbt_node.specs.declared.lookup.Wanted.TheVariants.{Entries, Names}
 use Rattle.nbt_node.specs.Numbers.{ask_fault_number, release_fault_number, lookup_fault_number}
 use Rattle.nbt_node.specs.Node.{NodeValue}
 use Rattle.nbt_node.specs.Moves.{ask, give_back, Told}
-use Rattle.nbt_node.specs.Calls.{started, ask_refusal, release_refusal, resolve_refusal, status_refusal, Sends, Opens, Polls, Handles}
+use Rattle.nbt_node.specs.Calls.{started, ask_refusal, release_refusal, resolve_refusal, status_refusal, Sends, Opens, Polls}
+use Rattle.nbt_node.specs.Datagrams.{Handles}
 use Rattle.nbt_world.specs.declared.doing.Given.{Given}
 use Rattle.nbt_world.specs.declared.doing.Given.TheVariants as g
 use Rattle.nbt_world.specs.declared.ends.Ends.{Ends}

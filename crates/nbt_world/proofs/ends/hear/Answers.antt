@@ -1,5 +1,4 @@
-use Rattle.std.proofs.Common.{None, refl, sym, ◌∙◌, ap}
-use Rattle.nbt_world.specs.Step.{takes}
+use Rattle.std.proofs.Common.{None, refl, sym, ◌∙◌}
 use Rattle.nbt_world.proofs.Replies.{handled, heard_silent, heard_reply}
 use Rattle.nbt_world.proofs.ends.hear.Goals as goal
 

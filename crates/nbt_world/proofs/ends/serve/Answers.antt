@@ -1,6 +1,4 @@
-use Rattle.std.proofs.Common.{◌≡◌, Bool, true, false, Option, Some, None, refl, sym, ◌∙◌}
-use Rattle.std.specs.Prelude.{is_some}
-use Rattle.nbt_packet.specs.Message.{MessageValue}
+use Rattle.std.proofs.Common.{refl, sym, ◌∙◌}
 use Rattle.nbt_world.proofs.Replies.{replied, is_silent}
 use Rattle.nbt_world.specs.Step.{takes, is_lost, server_takes, server_forgets}
 use Rattle.nbt_world.proofs.ends.serve.Goals as goal

@@ -1,5 +1,5 @@
-use Rattle.std.proofs.Common.{refl, sym, ◌∙◌, arith}
-use Rattle.nbt_world.proofs.Places.{Reads, server_crashed, up_past, node_crashed}
+use Rattle.std.proofs.Common.{refl, arith}
+use Rattle.nbt_world.proofs.Places.{server_crashed, up_past, node_crashed}
 use Rattle.nbt_world.proofs.ends.Ends.crash.Goals as goal
 
 pub returns-then-number-eq0 : goal.returns-then-number-eq0

@@ -1,5 +1,4 @@
 use Rattle.std.proofs.Common.{◌≡◌, map, take, None}
-use Rattle.nbt_world.specs.declared.ends.End.{End}
 use Rattle.nbt_world.proofs.ends.Ends.new.Given as goal
 
 abbrev pub invariant-loop-addr : goal.invariant-loop-addr

@@ -1,4 +1,4 @@
-use Rattle.std.proofs.Common.{Some, refl, sym, ◌∙◌, arith}
+use Rattle.std.proofs.Common.{Some, ◌∙◌, arith}
 use Rattle.nbt_world.proofs.Places.{Reads, node_read, written_node, written_same}
 use Rattle.nbt_world.proofs.ends.Ends.node_event.Goals as goal
 

@@ -1,5 +1,5 @@
-use Rattle.std.proofs.Common.{refl, sym, ◌∙◌, arith}
-use Rattle.nbt_world.proofs.Places.{Reads, server_started, server_stays_up, down_past, node_started}
+use Rattle.std.proofs.Common.{refl, sym, arith}
+use Rattle.nbt_world.proofs.Places.{server_started, down_past, node_started}
 use Rattle.nbt_world.proofs.ends.Ends.start.Goals as goal
 
 pub returns-then-number-eq0 : goal.returns-then-number-eq0

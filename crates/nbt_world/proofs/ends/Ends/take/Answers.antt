@@ -1,4 +1,4 @@
-use Rattle.std.proofs.Common.{◌≡◌, ◌≤◌, length, Some, refl, sym, ◌∙◌, ap, arith}
+use Rattle.std.proofs.Common.{length, refl, ◌∙◌, ap, arith}
 use Rattle.nbt_world.specs.Step.{is_down, takes}
 use Rattle.nbt_world.proofs.Places.{Reads, node_read, within_from, server_took, server_is_down, node_took, node_is_down}
 use Rattle.nbt_world.proofs.ends.Ends.take.Goals as goal

@@ -1,7 +1,9 @@
 use Rattle.std.proofs.Common.{◌≡◌, Some, refl, sym, ◌∙◌, arith}
 use Rattle.std.specs.Prelude.{slice_get}
 use Rattle.nbt_world.specs.Step.{no_datagram, no_end, too_late, delivered}
-use Rattle.nbt_world.proofs.Worlds.{node_is_of, Took, took_kept, took_step, not_there_in, there_in, unchanged}
+use Rattle.nbt_world.proofs.Worlds.{Took, took_kept, took_step, not_there_in, there_in, found_among, unchanged}
+use Rattle.nbt_world.specs.World.{IsDeliverable}
+use Rattle.nbt_world.proofs.Deliveries.{listed}
 use Rattle.nbt_world.proofs.world.World.deliver.Goals as goal
 
 pub returns-in_default-clause-step : goal.returns-in_default-clause-step
@@ -27,7 +29,20 @@ took : (c : goal.After-reply) → Took (record { now = c.self.inside.clock; conf
 took c =
     let t = rw c.as_slice-2.ensures.value at c.take-taken.ensures in
     let r = c.reply.ensures (record { now = c.self.inside.clock; config = c.self.inside.config; ends = c.self.inside.ends; sent = c.self.inside.sent.items }) c.take-taken.new.self t.0 (sym c.try_reserve.ensures.items) refl t.2 in
-    record { code = c.take-taken.result; out = _; taken = t.0; at = c.in-Some-find.ensures.found; does = t.1; is = t.2; outcome_is = r.0; left = r.1 }
+    let there : slice_get c.self.inside.sent.items c.args.k ≡ Some c.in-Some.datagram.now =
+    there_in c.as_slice.result.now c.self.inside.sent.items c.args.k _ (c.as_slice.ensures.value ∙ c.try_reserve.ensures.items) (c.in-Some.ensures.lookup).0 (c.in-Some.ensures.lookup).1 in
+    let deliverable : IsDeliverable c.self.inside.config.life c.self.inside.clock c.in-Some.datagram.now.moment = omega (arith, c.get-2.ensures.value, c.get-3.ensures.value, c.life.ensures.value) in
+    record {
+      code = c.take-taken.result;
+      out = _;
+      taken = t.0;
+      at = c.in-Some-find.ensures.found;
+      does = t.1;
+      is = t.2;
+      origin = listed c.in-Some.datagram.now (found_among c.self.inside.sent.items c.args.k c.in-Some.datagram.now there) refl refl deliverable;
+      outcome_is = r.0;
+      left = r.1;
+    }
 
 pub invariant_of-self-2 : goal.invariant_of-self-2
 invariant_of-self-2 c = took_kept c.one_message_spelled.ensures c.leases_stay_sound.ensures.granted c.leases_stay_sound.ensures.released _ _ _ _ _ _ _ _ c.self.invariant (took c)

@@ -1,4 +1,4 @@
-use Rattle.std.proofs.Common.{refl, sym, ◌∙◌, ap}
+use Rattle.std.proofs.Common.{◌∙◌, ap}
 use Rattle.nbt_world.specs.World.{WorldValue}
 use Rattle.nbt_world.proofs.Holding.{passes_over, takes_in, reads_held, are_all_in}
 use Rattle.nbt_world.proofs.world.World.holders.Goals as goal

@@ -1,8 +1,8 @@
-use Rattle.std.proofs.Common.{◌≡◌, ◌≤◌, ◌<◌, List, ◌∷◌, length, refl, sym, subst, arith}
+use Rattle.std.proofs.Common.{◌≡◌, List, ◌∷◌, length, refl, sym, subst, arith}
 use Rattle.std.proofs.lemmas.Bool.{eqb-false}
 use Rattle.nbt_name.specs.declared.addr.Addr.{Addr}
-use Rattle.nbt_world.specs.World.{AreApart, AreAddrs, IsFresh}
-use Rattle.nbt_world.proofs.Apart.{fresh, fresh_kept, is_fresh}
+use Rattle.nbt_world.specs.World.{AreApart, AreAddrs}
+use Rattle.nbt_world.proofs.Apart.{fresh_kept, is_fresh}
 use Rattle.nbt_world.proofs.world.World.new.Goals as goal
 
 pub invariant_of-result : goal.invariant_of-result

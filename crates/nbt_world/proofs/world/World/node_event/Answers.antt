@@ -1,5 +1,4 @@
-use Rattle.std.proofs.Common.{refl, sym, ◌∙◌}
-use Rattle.nbt_world.specs.World.{WorldValue}
+use Rattle.std.proofs.Common.{refl, sym}
 use Rattle.nbt_world.proofs.Worlds.{node_is_of, stays_down, Gave, gave_kept, gave_step}
 use Rattle.nbt_world.proofs.world.World.node_event.Goals as goal
 

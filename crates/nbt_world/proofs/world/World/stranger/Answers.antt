@@ -1,6 +1,7 @@
-use Rattle.std.proofs.Common.{◌≡◌, Some, refl, sym, ◌∙◌, arith}
+use Rattle.std.proofs.Common.{refl, sym}
 use Rattle.std.proofs.lemmas.Bool.{false≢true}
 use Rattle.nbt_world.specs.Step.{from_an_end, to_no_end, from_a_stranger}
+use Rattle.nbt_world.proofs.Deliveries.{strange}
 use Rattle.nbt_world.proofs.Worlds.{Took, took_kept, took_step, unchanged}
 use Rattle.nbt_world.proofs.world.World.stranger.Goals as goal
 
@@ -15,7 +16,7 @@ took : (c : goal.After-reply) → Took (record { now = c.self.inside.clock; conf
 took c =
     let t = rw c.as_slice.ensures.value at c.take-taken.ensures in
     let r = c.reply.ensures (record { now = c.self.inside.clock; config = c.self.inside.config; ends = c.self.inside.ends; sent = c.self.inside.sent.items }) c.take-taken.new.self t.0 (sym c.try_reserve.ensures.items) refl t.2 in
-    record { code = c.take-taken.result; out = _; taken = t.0; at = sym c.in-Some.ensures; does = t.1; is = t.2; outcome_is = r.0; left = r.1 }
+    record { code = c.take-taken.result; out = _; taken = t.0; at = sym c.in-Some.ensures; does = t.1; is = t.2; origin = strange (λ is. false≢true (c.if-has_ip.ensures.1 is)); outcome_is = r.0; left = r.1 }
 
 pub invariant_of-self-2 : goal.invariant_of-self-2
 invariant_of-self-2 c = took_kept c.one_message_spelled.ensures c.leases_stay_sound.ensures.granted c.leases_stay_sound.ensures.released _ _ _ _ _ _ _ _ c.self.invariant (took c)
