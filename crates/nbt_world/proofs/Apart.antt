@@ -1,15 +1,19 @@
 -- Addresses that are apart, and the world that is made at them.
-use Rattle.std.proofs.Common.{◌≡◌, ℕ, zero, suc, List, [], ◌∷◌, length, map, Some, None, refl, sym, ap, ◌∙◌, arith}
+use Rattle.std.proofs.Common.{◌≡◌, ℕ, zero, suc, List, [], ◌∷◌, length, map, Option, Some, None, refl, sym, ap, subst, ◌∙◌, arith}
 use Rattle.std.specs.Prelude.{slice_get, Contains, ◌↔◌}
 use Rattle.std.proofs.lemmas.List.{length-map}
 use Rattle.std.proofs.lemmas.Option.{none-some, same_Some}
 use Rattle.nbt_name.specs.declared.addr.Addr.{Addr}
+use Rattle.nbt_name.specs.declared.addr.Kind.{Kind}
+use Rattle.nbt_name.specs.Wire.{NameValue}
 use Rattle.nbt_lease.specs.Config.{ConfigValue}
+use Rattle.nbt_node.specs.Node.{NodeValue}
 use Rattle.nbt_world.specs.declared.ends.End.{End}
 use Rattle.nbt_world.specs.declared.network.Datagram.{Datagram}
 use Rattle.nbt_world.specs.World.{WorldValue, addr_at, addr_of, node_in, node_of, StandsIn, AreApart, AreAddrs, ends_at, IsFresh}
-use Rattle.nbt_world.specs.Kept.{Asked, IsKept}
+use Rattle.nbt_world.specs.Kept.{Asked, Replied, known, Claims, ClaimsIn, IsKept}
 use Rattle.nbt_world.proofs.Knowing.{ended-down}
+use Rattle.nbt_world.proofs.Covering.{down_claims}
 
 pub apart_none : AreApart []
 apart_none i j a b p q same = absurd (none-some a p)
@@ -81,4 +85,13 @@ fresh_kept config server others are = record {
   requests = λ n a name p. rw (none_at server others n) (ended-down config.life 0 (Asked [] a.ip name) (λ moment message asked. absurd (nothing_among asked.datagram asked.among)));
   replies = λ n a name p.
       rw (none_at server others n) (record { drawn = λ moment message r d. absurd (nothing_among r.datagram r.among); begun = λ kind first w. elim w [ ] });
+  claims = record {
+    covered = λ n a name kind end p c lt. absurd (no_claim n a name kind end c);
+    beside = λ i j a b name k l d e ne p q c x f y. absurd (no_claim i a name k d c);
+  };
 }
+  where
+    no_claim : (n : ℕ) (a : Addr) (name : NameValue) (kind : Kind) (end : ℕ) → ClaimsIn (fresh config server others) n a name kind end → ⊥
+    no_claim n a name kind end c =
+        down_claims config.longest config.life 0 (Replied [] server a name) kind end
+        (subst (λ (x : Option NodeValue). Claims config.longest config.life 0 (Replied [] server a name) (known x name) kind end) (none_at server others n) c)

@@ -6,13 +6,14 @@ use Rattle.nbt_world.specs.World.{WorldValue, node_of}
 use Rattle.nbt_world.specs.Kept.{Asked, Replied, known, IsKept}
 use Rattle.nbt_world.proofs.Knowing.{ended-frame, fresh-frame}
 use Rattle.nbt_world.proofs.Keeping.{sent_frame}
+use Rattle.nbt_world.proofs.Covering.{LaterLive, clock_claims}
 
--- the law of leases that this rests on
+-- the laws of leases that this rests on
 abbrev pub StaySound : Type 0
 StaySound = (config : ConfigValue) (early late : ℕ) (rows : Rows) → early ≤ late → IsSound config early (leases_at early rows) → IsSound config late (leases_at late rows)
 
-pub clock_changes : StaySound → (w : WorldValue) (later : ℕ) → w.now ≤ later → IsKept w → IsKept (record w { now = later })
-clock_changes law w later le kept = record {
+pub clock_changes : StaySound → LaterLive → (w : WorldValue) (later : ℕ) → w.now ≤ later → IsKept w → IsKept (record w { now = later })
+clock_changes law live w later le kept = record {
   ends = record { some = kept.ends.some; few = kept.ends.few; apart = kept.ends.apart };
   nodes = λ n a node p up.
       let k = kept.nodes n a node p up in
@@ -28,4 +29,5 @@ clock_changes law w later le kept = record {
   replies = λ n a name p.
       fresh-frame w.config.life w.now later (Asked w.sent a.ip name) (Asked w.sent a.ip name) (Replied w.sent w.ends.server_addr a name) (Replied w.sent w.ends.server_addr a name) (known (node_of w.ends n) name) le
       (λ moment message asked. asked) (λ moment message replied. replied) (kept.replies n a name p);
+  claims = clock_claims live w later le kept.claims;
 }

@@ -1,6 +1,7 @@
 -- What a world keeps when an end takes a datagram, and when an end starts or crashes.
-use Rattle.std.proofs.Common.{◌≡◌, ◌≢◌, ℕ, suc, List, [], ◌∷◌, ◌++◌, Option, Some, None, refl, sym, ap, subst, ◌∙◌, arith, inl, inr}
+use Rattle.std.proofs.Common.{◌≡◌, ◌≢◌, ℕ, suc, List, [], ◌∷◌, ◌++◌, true, eqb, Option, Some, None, refl, sym, ap, subst, ◌∙◌, arith, inl, inr}
 use Rattle.std.specs.Prelude.{◌⊎◌, Result, Ok, Err, Contains}
+use Rattle.std.proofs.lemmas.Bool.{and_parts, eqb-true}
 use Rattle.std.proofs.lemmas.Option.{none-some, same_Some}
 use Rattle.nbt_name.specs.declared.addr.Addr.{Addr}
 use Rattle.nbt_name.specs.Wire.{NameValue}
@@ -13,7 +14,7 @@ use Rattle.nbt_lease.specs.Lease.{Leases, TableValue, leases_at, IsSound}
 use Rattle.nbt_node.specs.Node.{NodeValue, Passes}
 use Rattle.nbt_node.specs.Moves.{hear, Told, NameMoves}
 use Rattle.nbt_node.specs.Calls.{AreWritten}
-use Rattle.nbt_node.specs.Datagrams.{Hears, from_server, from_stranger, Lists, lists_names, lists_nothing, names_listed, Ends as LookupEnds, is_answered, is_unanswered, Idles, idles, Takes as NodeTakes, TakesOctets, spelled, unspelled}
+use Rattle.nbt_node.specs.Datagrams.{same_end, Hears, from_server, from_stranger, Lists, lists_names, lists_nothing, names_listed, Ends as LookupEnds, is_answered, is_unanswered, Idles, idles, Takes as NodeTakes, TakesOctets, spelled, unspelled}
 use Rattle.nbt_lease.specs.declared.fault.GrantFault.{GrantFault}
 use Rattle.nbt_lease.specs.declared.lease.Grant.{Grant}
 use Rattle.nbt_lease.specs.declared.lease.Released.{Released}
@@ -27,19 +28,35 @@ use Rattle.nbt_world.specs.Step.{NodeHears, TakenValue, takes, after_taking, Ser
 use Rattle.nbt_world.specs.Kept.{IsRequest, IsReply, Asked, Replied, known, RequestsEnded, RepliesFresh, IsServerOf, IsKept}
 use Rattle.std.proofs.lemmas.List.Elements.{Contains-push_cases}
 use Rattle.nbt_world.proofs.Knowing.{Draws, fresh-reply}
-use Rattle.nbt_world.proofs.Keeping.{asked_still, server_changes}
-use Rattle.nbt_world.proofs.Naming.{OneMessage, names_apart, Stays, stays_by_moves, is_new, nothing_new, name_by_time, name_hears, fresh_by_time, fresh_hears, grows_by, UpAt, up_at, node_moves}
+use Rattle.nbt_world.proofs.Claiming.{NoNewClaim, IsListed, claims_by_time, claims_hears}
+use Rattle.nbt_world.proofs.Keeping.{Grows, asked_still, server_changes}
+use Rattle.nbt_world.proofs.Naming.{OneMessage, Origin, listed, strange, names_apart, Stays, stays_by_moves, is_new, nothing_new, name_by_time, name_hears, fresh_by_time, fresh_hears, grows_by, UpAt, up_at, node_moves}
+use Rattle.nbt_world.proofs.Granting.{LeaseLaws}
+use Rattle.nbt_world.proofs.Served.{Took, served_claims, forgotten_claims}
 use Rattle.nbt_world.proofs.Events.{stays_by_lookup, stays_by_time, time_kept, other_kept}
 
 -- ---- a node hears something about a name
 
+-- what is heard from the server, where it is a positive reply, is one of the list
+abbrev pub ListedTo : WorldValue → Addr → NameValue → MessageValue → Type 0
+ListedTo w addr name m = IsListed w.config.life w.now (Replied w.sent w.ends.server_addr addr name) m
+
 hears_kept : (w : WorldValue) (i : ℕ) (node new : NodeValue) (name : NameValue) (m : MessageValue) (told : Told) → IsKept w → node_of w.ends (suc i) ≡ Some node → NameMoves node w.now name (hear m) new None told
+    → ((addr : Addr) → addr_of w.ends (suc i) ≡ Some addr → ListedTo w addr name m)
     → IsKept (record w { ends = with_node w.ends (suc i) (Some new) })
-hears_kept w i node new name m told kept up moves =
+hears_kept w i node new name m told kept up moves is_listed =
     let at = up_at w i node kept up in
     let stays = stays_by_moves w.now node new name _ _ _ moves in
-    node_moves w i node new w.sent kept at stays (nothing_new w at.addr) (λ d c. c) (λ q. names at stays q (names_apart q name)) (λ q. replies at stays q (names_apart q name))
+    node_moves w i node new w.sent kept at stays (nothing_new w at.addr) (λ d c. c) (λ q. names at stays q (names_apart q name)) (λ q. replies at stays q (names_apart q name)) (λ q. claims at stays q (names_apart q name))
   where
+    claims : (at : UpAt w i node) → Stays node w.now new → (q : NameValue) → (q ≡ name) ⊎ (q ≢ name)
+        → NoNewClaim node.config.longest node.config.life w.now (Replied w.sent w.ends.server_addr at.addr q) (known (Some node) q) (known (Some new) q)
+    claims at stays q (inl e) =
+        subst (λ (n : NameValue). NoNewClaim node.config.longest node.config.life w.now (Replied w.sent w.ends.server_addr at.addr n) (known (Some node) n) (known (Some new) n)) (sym e)
+        (claims_hears w.now node new name m told (Replied w.sent w.ends.server_addr at.addr name) stays.start_is moves
+        (subst (λ (c : ConfigValue). IsListed c.life w.now (Replied w.sent w.ends.server_addr at.addr name) m) (sym (at.is).config_is) (is_listed at.addr at.at)))
+    claims at stays q (inr ne) = claims_by_time w.now node new q node.config.longest (Replied w.sent w.ends.server_addr at.addr q) stays.start_is (moves.others q ne)
+
     replies : (at : UpAt w i node) → Stays node w.now new → (q : NameValue) → (q ≡ name) ⊎ (q ≢ name)
         → RepliesFresh node.config.life w.now (Asked w.sent (at.addr).ip q) (Replied w.sent w.ends.server_addr at.addr q) (known (Some new) q)
     replies at stays q (inl e) =
@@ -63,10 +80,45 @@ replied_world w i new to (Some m) = record w { ends = with_node w.ends (suc i) (
 passes_kept : (w : WorldValue) (i : ℕ) (node new : NodeValue) → IsKept w → node_of w.ends (suc i) ≡ Some node → Passes node w.now new → IsKept (record w { ends = with_node w.ends (suc i) (Some new) })
 passes_kept w i node new kept up passes = time_kept w i node new kept up (stays_by_time w.now node new passes) passes.names
 
+-- where octets from this end come from, and what they spell
+pub record IsHeard (w : WorldValue) (i : ℕ) (from : Addr) (m : MessageValue) : Type 0 where
+  pub addr : Addr
+  pub at : addr_of w.ends (suc i) ≡ Some addr
+  pub octets : List ℕ
+  pub origin : Origin w from addr octets
+  pub spells : Spells octets m
+
+-- an end at the server's address is no stranger
+heard_listed : (w : WorldValue) (i : ℕ) (from : Addr) (name : NameValue) (m : MessageValue) → IsHeard w i from m → from ≡ w.ends.server_addr → ((r : Registration) → m ≡ registered 0 r → r.name ≡ name)
+    → (addr : Addr) → addr_of w.ends (suc i) ≡ Some addr → ListedTo w addr name m
+heard_listed w i from name m heard same named addr at r e = go heard.origin
+  where
+    go : Origin w from heard.addr heard.octets → (moment : ℕ) × Replied w.sent w.ends.server_addr addr name moment (registered 0 r) × IsDeliverable w.config.life w.now moment
+    go (strange off) = absurd (off (0, w.ends.server_addr, refl, ap (λ (a : Addr). a.ip) (sym same)))
+    go (listed d c f t o delivered) = (
+      d.moment,
+      record {
+        datagram = d;
+        among = c;
+        sender = f ∙ same;
+        receiver = t ∙ same_Some heard.addr addr (sym heard.at ∙ at);
+        moment_is = refl;
+        spelled = subst (λ (xs : List ℕ). Spells xs (registered 0 r)) (sym o) (subst (λ (k : MessageValue). Spells heard.octets k) e heard.spells);
+        reply = named r e;
+      },
+      delivered,
+    )
+
+same_addr : (a b : Addr) → same_end a b ≡ true → a ≡ b
+same_addr a b e =
+    let parts = and_parts (eqb a.ip b.ip) (eqb a.port b.port) e in
+    λ i. record { ip = eqb-true a.ip b.ip parts.0 i; port = eqb-true a.port b.port parts.1 i }
+
 heard_kept : (w : WorldValue) (i : ℕ) (node new : NodeValue) (from to : Addr) (name : NameValue) (m : MessageValue) (sent : Option MessageValue) (told : Told) → IsKept w → node_of w.ends (suc i) ≡ Some node
-    → Hears node w.now from name m new sent told → IsKept (replied_world w i new to sent)
-heard_kept w i node new from to name m sent told kept up (from_server n t same moves) = hears_kept w i node new name m told kept up moves
-heard_kept w i node new from to name m sent told kept up (from_stranger n other passes) = passes_kept w i node new kept up passes
+    → Hears node w.now from name m new sent told → IsHeard w i from m → ((r : Registration) → m ≡ registered 0 r → r.name ≡ name) → IsKept (replied_world w i new to sent)
+heard_kept w i node new from to name m sent told kept up (from_server n t same moves) heard named =
+    hears_kept w i node new name m told kept up moves (heard_listed w i from name m heard (same_addr from node.server same ∙ ((up_at w i node kept up).is).server_is) named)
+heard_kept w i node new from to name m sent told kept up (from_stranger n other passes) heard named = passes_kept w i node new kept up passes
 
 lists_kept : OneMessage → (w : WorldValue) (i : ℕ) (node new : NodeValue) (to : Addr) (id : ℕ) (name : NameValue) (sent : Option MessageValue) (told : Told) (out : List ℕ) → IsKept w → node_of w.ends (suc i) ≡ Some node
     → Lists node w.now id name new sent told → AreWritten sent out → IsKept (replied_world w i new to sent)
@@ -83,25 +135,33 @@ idles_kept : (w : WorldValue) (i : ℕ) (node new : NodeValue) (to : Addr) (sent
     → Idles node w.now new sent told → IsKept (replied_world w i new to sent)
 idles_kept w i node new to sent told kept up (idles n passes) = passes_kept w i node new kept up passes
 
+-- a positive reply is about its own name
+named_registered : (rcode : ℕ) (r x : Registration) → registered rcode r ≡ registered 0 x → x.name ≡ r.name
+named_registered rcode r x e = ap (λ (y : Registration). y.name) (sym (same r x e))
+  where
+    same : (a b : Registration) → registered rcode a ≡ registered 0 b → a ≡ b
+    same a b e = cc
+
 takes_kept : OneMessage → (w : WorldValue) (i : ℕ) (node new : NodeValue) (from to : Addr) (m : MessageValue) (sent : Option MessageValue) (told : Told) (out : List ℕ) → IsKept w → node_of w.ends (suc i) ≡ Some node
-    → NodeTakes node w.now from m new sent told → AreWritten sent out → IsKept (replied_world w i new to sent)
-takes_kept law w i node new from to (registration r) sent told out kept up t written = idles_kept w i node new to sent told kept up t
-takes_kept law w i node new from to (overwrite r) sent told out kept up t written = idles_kept w i node new to sent told kept up t
-takes_kept law w i node new from to (refresh r) sent told out kept up t written = idles_kept w i node new to sent told kept up t
-takes_kept law w i node new from to (release id name kind addr) sent told out kept up t written = idles_kept w i node new to sent told kept up t
-takes_kept law w i node new from to (query id name) sent told out kept up t written = idles_kept w i node new to sent told kept up t
-takes_kept law w i node new from to (status_request id name) sent told out kept up t written = lists_kept law w i node new to id name sent told out kept up t written
-takes_kept law w i node new from to (registered rcode r) sent told out kept up t written = heard_kept w i node new from to _ _ sent told kept up t
-takes_kept law w i node new from to (released id rcode name kind addr) sent told out kept up t written = heard_kept w i node new from to _ _ sent told kept up t
-takes_kept law w i node new from to (found id name ttl entries) sent told out kept up t written = ended_kept w i node new from to _ sent _ told kept up t
-takes_kept law w i node new from to (not_found id rcode name) sent told out kept up t written = ended_kept w i node new from to _ sent _ told kept up t
-takes_kept law w i node new from to (status id name names) sent told out kept up t written = ended_kept w i node new from to _ sent _ told kept up t
-takes_kept law w i node new from to (wait id name ttl) sent told out kept up t written = heard_kept w i node new from to _ _ sent told kept up t
+    → NodeTakes node w.now from m new sent told → AreWritten sent out → IsHeard w i from m → IsKept (replied_world w i new to sent)
+takes_kept law w i node new from to (registration r) sent told out kept up t written heard = idles_kept w i node new to sent told kept up t
+takes_kept law w i node new from to (overwrite r) sent told out kept up t written heard = idles_kept w i node new to sent told kept up t
+takes_kept law w i node new from to (refresh r) sent told out kept up t written heard = idles_kept w i node new to sent told kept up t
+takes_kept law w i node new from to (release id name kind addr) sent told out kept up t written heard = idles_kept w i node new to sent told kept up t
+takes_kept law w i node new from to (query id name) sent told out kept up t written heard = idles_kept w i node new to sent told kept up t
+takes_kept law w i node new from to (status_request id name) sent told out kept up t written heard = lists_kept law w i node new to id name sent told out kept up t written
+takes_kept law w i node new from to (registered rcode r) sent told out kept up t written heard = heard_kept w i node new from to _ _ sent told kept up t heard (λ x e. named_registered rcode r x e)
+takes_kept law w i node new from to (released id rcode name kind addr) sent told out kept up t written heard = heard_kept w i node new from to _ _ sent told kept up t heard (λ x e. cc)
+takes_kept law w i node new from to (found id name ttl entries) sent told out kept up t written heard = ended_kept w i node new from to _ sent _ told kept up t
+takes_kept law w i node new from to (not_found id rcode name) sent told out kept up t written heard = ended_kept w i node new from to _ sent _ told kept up t
+takes_kept law w i node new from to (status id name names) sent told out kept up t written heard = ended_kept w i node new from to _ sent _ told kept up t
+takes_kept law w i node new from to (wait id name ttl) sent told out kept up t written heard = heard_kept w i node new from to _ _ sent told kept up t heard (λ x e. cc)
 
 octets_kept : OneMessage → (w : WorldValue) (i : ℕ) (node new : NodeValue) (from to : Addr) (octets : List ℕ) (sent : Option MessageValue) (told : Told) (out : List ℕ) → IsKept w → node_of w.ends (suc i) ≡ Some node
-    → TakesOctets node w.now from octets new sent told → AreWritten sent out → IsKept (replied_world w i new to sent)
-octets_kept law w i node new from to octets sent told out kept up (spelled m n s t is does) written = takes_kept law w i node new from to m sent told out kept up does written
-octets_kept law w i node new from to octets sent told out kept up (unspelled n no_message passes) written = passes_kept w i node new kept up passes
+    → (addr : Addr) → addr_of w.ends (suc i) ≡ Some addr → Origin w from addr octets → TakesOctets node w.now from octets new sent told → AreWritten sent out → IsKept (replied_world w i new to sent)
+octets_kept law w i node new from to octets sent told out kept up addr at origin (spelled m n s t is does) written =
+    takes_kept law w i node new from to m sent told out kept up does written (record { addr = addr; at = at; octets = octets; origin = origin; spells = is })
+octets_kept law w i node new from to octets sent told out kept up addr at origin (unspelled n no_message passes) written = passes_kept w i node new kept up passes
 
 heard_addr : (now : ℕ) (node new : NodeValue) (from : Addr) (name : NameValue) (m : MessageValue) (sent : Option MessageValue) (told : Told) → Hears node now from name m new sent told → new.addr ≡ node.addr
 heard_addr now node new from name m sent told (from_server n t same moves) = (stays_by_moves now node new name _ _ _ moves).addr_is
@@ -137,11 +197,11 @@ stays_by_octets now node new from octets sent told (spelled m n s t is does) = t
 stays_by_octets now node new from octets sent told (unspelled n no_message passes) = (stays_by_time now node new passes).addr_is
 
 node_hears_kept : OneMessage → (w : WorldValue) (i : ℕ) (node new : NodeValue) (from addr : Addr) (octets : List ℕ) (reply : Option MessageValue) → IsKept w → addr_of w.ends (suc i) ≡ Some addr → node_of w.ends (suc i) ≡ Some node
-    → NodeHears w.now node from octets reply new → IsKept (after_taking w (with_node w.ends (suc i) (Some new)) addr from (takes reply))
-node_hears_kept law w i node new from addr octets reply kept at up hears = as_taken reply same (subst (λ (r : Option MessageValue). IsKept (replied_world w i new from r)) hears.sent_is left)
+    → Origin w from addr octets → NodeHears w.now node from octets reply new → IsKept (after_taking w (with_node w.ends (suc i) (Some new)) addr from (takes reply))
+node_hears_kept law w i node new from addr octets reply kept at up origin hears = as_taken reply same (subst (λ (r : Option MessageValue). IsKept (replied_world w i new from r)) hears.sent_is left)
   where
     left : IsKept (replied_world w i new from (hears.handles).sent)
-    left = octets_kept law w i node new from from octets (hears.handles).sent hears.told hears.out kept up (hears.handles).takes (hears.handles).written
+    left = octets_kept law w i node new from from octets (hears.handles).sent hears.told hears.out kept up addr at origin (hears.handles).takes (hears.handles).written
 
     same : new.addr ≡ addr
     same =
@@ -177,11 +237,6 @@ serves_octets_sound : GrantsSound → ReleasesSound → (server : ServerValue) (
 serves_octets_sound g r server now ip octets reply after sound (serving.is_silent early) = sound
 serves_octets_sound g r server now ip octets reply after sound (serving.is_no_message none) = sound
 serves_octets_sound g r server now ip octets reply after sound (serving.serves m p l speaks spells does) = serves_sound g r server.table now ip m reply after sound does
-
--- where a datagram comes from: it is one of the list that may still be delivered, or a stranger's
-pub data Origin (w : WorldValue) (from : Addr) (octets : List ℕ) : Type 0 where
-  listed : (d : Datagram) → Contains w.sent d → d.from ≡ from → d.octets.items ≡ octets → IsDeliverable w.config.life w.now d.moment → Origin w from octets
-  strange : (IsOfEnd w.ends from.ip → ⊥) → Origin w from octets
 
 -- what a reply says was asked: by a request about the name, or by an overwrite
 pub data Asks (name : NameValue) (k : MessageValue) : Type 0 where
@@ -241,16 +296,16 @@ octets_no_overwrite server now ip octets reply after (serving.is_no_message none
 octets_no_overwrite server now ip octets reply after (serving.serves k p l speaks spells does) m e r f = serves_no_overwrite server.table now ip k reply after does m e r f
 
 -- what is new among the replies to an end was drawn by its request
-replies_drawn : OneMessage → (w : WorldValue) (server : ServerValue) (from : Addr) (octets : List ℕ) (reply : Option MessageValue) (after : Leases) (m : MessageValue) → IsKept w → Origin w from octets
+replies_drawn : OneMessage → (w : WorldValue) (server : ServerValue) (from to_addr : Addr) (octets : List ℕ) (reply : Option MessageValue) (after : Leases) (m : MessageValue) → IsKept w → Origin w from to_addr octets
     → ServesOctets server w.now from.ip octets reply after → reply ≡ Some m → (d : Datagram) → d.to ≡ from → d.moment ≡ w.now → Spells d.octets.items m
     → (n : ℕ) (a : Addr) (name : NameValue) → addr_of w.ends n ≡ Some a
     → (moment : ℕ) (message : MessageValue) → Replied (w.sent ++ d ∷ []) w.ends.server_addr a name moment message
     → Replied w.sent w.ends.server_addr a name moment message ⊎ Draws w.config.life w.now (Asked w.sent a.ip name) moment
-replies_drawn law w server from octets reply after m kept origin serves is d to now spells n a name p moment message r = go (Contains-push_cases w.sent d r.datagram r.among)
+replies_drawn law w server from to_addr octets reply after m kept origin serves is d to now spells n a name p moment message r = go (Contains-push_cases w.sent d r.datagram r.among)
   where
-    drawn : d ≡ r.datagram → from ≡ a → Draw octets name → Origin w from octets → Draws w.config.life w.now (Asked w.sent a.ip name) moment
+    drawn : d ≡ r.datagram → from ≡ a → Draw octets name → Origin w from to_addr octets → Draws w.config.life w.now (Asked w.sent a.ip name) moment
     drawn e same draw (strange off) = absurd (off (n, a, p, ap (λ (x : Addr). x.ip) (sym same)))
-    drawn e same draw (listed x c f o delivered) = by draw.asks
+    drawn e same draw (listed x c f t o delivered) = by draw.asks
       where
         spelled_in : Spells x.octets.items draw.message
         spelled_in = subst (λ (xs : List ℕ). Spells xs draw.message) (sym o) draw.spells
@@ -272,10 +327,10 @@ replies_drawn law w server from octets reply after m kept origin serves is d to 
         let same : from ≡ a = sym to ∙ ap (λ (y : Datagram). y.to) e ∙ r.receiver in
         inr (drawn e same (octets_asked server w.now from.ip octets reply after serves m is name (subst (λ (k : MessageValue). IsReply name k) one r.reply)) origin)
 
-server_takes_kept : OneMessage → GrantsSound → ReleasesSound → (w : WorldValue) (server new : ServerValue) (from addr : Addr) (octets : List ℕ) (taken : TakenValue) → IsKept w → w.ends.server ≡ Some server → addr_of w.ends 0 ≡ Some addr
-    → Origin w from octets → ServerDoes w.now server from.ip octets taken new → ((m : MessageValue) → taken ≡ takes (Some m) → Spells (text m) m)
+server_takes_kept : OneMessage → GrantsSound → ReleasesSound → LeaseLaws → (w : WorldValue) (server new : ServerValue) (from addr : Addr) (octets : List ℕ) (taken : TakenValue) → IsKept w → w.ends.server ≡ Some server → addr_of w.ends 0 ≡ Some addr
+    → Origin w from addr octets → ServerDoes w.now server from.ip octets taken new → ((m : MessageValue) → taken ≡ takes (Some m) → Spells (text m) m)
     → IsKept (after_taking w (with_server w.ends (Some new)) addr from taken)
-server_takes_kept law g r w server new from addr octets taken kept up at origin (server_takes reply n t) spells = go reply refl (λ m e. spells m (ap takes e))
+server_takes_kept law g r laws w server new from addr octets taken kept up at origin (server_takes reply n t) spells = go reply refl (λ m e. spells m (ap takes e))
   where
     is : IsServerOf w new
     is =
@@ -287,11 +342,29 @@ server_takes_kept law g r w server new from addr octets taken kept up at origin 
               (serves_octets_sound g r server w.now from.ip octets reply _ (subst (λ (c : ConfigValue). IsSound c w.now (leases_at w.now server.table.rows)) (sym k.config_is) k.sound) t.serves);
         }
 
+    took : (sent : List Datagram) → Grows w.sent sent
+        → ((a : Addr) (q : NameValue) (moment : ℕ) (message : MessageValue) → Replied sent w.ends.server_addr a q moment message → Replied w.sent w.ends.server_addr a q moment message ⊎ ((moment ≡ w.now) × (from ≡ a) × (reply ≡ Some message)))
+        → Took w server new from addr octets reply sent
+    took sent grows more =
+        let k = kept.server server up in
+        record {
+          kept = kept;
+          up = up;
+          config_is = k.config_is;
+          sound = subst (λ (c : ConfigValue). IsSound c w.now (leases_at w.now server.table.rows)) (sym k.config_is) k.sound;
+          origin = origin;
+          takes = t;
+          grows = grows;
+          more = more;
+        }
+
     is_its : (s : ServerValue) → Some new ≡ Some s → IsServerOf w s
     is_its s e = subst (λ (x : ServerValue). IsServerOf w x) (same_Some new s e) is
 
     go : (p : Option MessageValue) → reply ≡ p → ((m : MessageValue) → p ≡ Some m → Spells (text m) m) → IsKept (after_taking w (with_server w.ends (Some new)) addr from (takes p))
-    go None same spelling = server_changes w (Some new) w.sent kept is_its (nothing_new w w.ends.server_addr) kept.replies
+    go None same spelling =
+        server_changes w (Some new) w.sent kept is_its (nothing_new w w.ends.server_addr) kept.replies
+        (served_claims laws w server new from addr octets reply w.sent (took w.sent (λ d c. c) (λ a q moment message replied. inl replied)))
     go (Some m) same spelling =
         server_changes w (Some new) (w.sent ++ datagram addr from w.now (text m) ∷ []) kept is_its
         (is_new law w 0 w.ends.server_addr (datagram addr from w.now (text m)) m refl
@@ -300,10 +373,26 @@ server_takes_kept law g r w server new from addr octets taken kept up at origin 
         fresh-reply w.config.life w.now (Asked w.sent a.ip name) (Asked (w.sent ++ datagram addr from w.now (text m) ∷ []) a.ip name) (Replied w.sent w.ends.server_addr a name)
         (Replied (w.sent ++ datagram addr from w.now (text m) ∷ []) w.ends.server_addr a name) (known (node_of w.ends n) name) (kept.requests n a name p)
         (asked_still w.sent (w.sent ++ datagram addr from w.now (text m) ∷ []) a.ip name (grows_by w.sent (datagram addr from w.now (text m))))
-        (replies_drawn law w server from octets reply _ m kept origin t.serves same (datagram addr from w.now (text m)) refl refl (spelling m refl) n a name p)
+        (replies_drawn law w server from addr octets reply _ m kept origin t.serves same (datagram addr from w.now (text m)) refl refl (spelling m refl) n a name p)
         (kept.replies n a name p))
-server_takes_kept law g r w server new from addr octets taken kept up at origin (server_forgets n t) spells =
+        (served_claims laws w server new from addr octets reply (w.sent ++ datagram addr from w.now (text m) ∷ [])
+        (took (w.sent ++ datagram addr from w.now (text m) ∷ []) (grows_by w.sent (datagram addr from w.now (text m)))
+        (λ a q moment message replied. one_more a q moment message replied (Contains-push_cases w.sent (datagram addr from w.now (text m)) replied.datagram replied.among))))
+      where
+        one_more : (a : Addr) (q : NameValue) (moment : ℕ) (message : MessageValue) (replied : Replied (w.sent ++ datagram addr from w.now (text m) ∷ []) w.ends.server_addr a q moment message)
+            → Contains w.sent replied.datagram ⊎ (datagram addr from w.now (text m) ≡ replied.datagram)
+            → Replied w.sent w.ends.server_addr a q moment message ⊎ ((moment ≡ w.now) × (from ≡ a) × (reply ≡ Some message))
+        one_more a q moment message replied (inl c) =
+            inl (record { datagram = replied.datagram; among = c; sender = replied.sender; receiver = replied.receiver; moment_is = replied.moment_is; spelled = replied.spelled; reply = replied.reply })
+        one_more a q moment message replied (inr e) =
+            inr (
+              sym replied.moment_is ∙ ap (λ (y : Datagram). y.moment) (sym e),
+              ap (λ (y : Datagram). y.to) e ∙ replied.receiver,
+              same ∙ ap Some (law (text m) m message (spelling m refl) (subst (λ (y : Datagram). Spells y.octets.items message) (sym e) replied.spelled)),
+            )
+server_takes_kept law g r laws w server new from addr octets taken kept up at origin (server_forgets n t) spells =
     server_changes w (Some new) w.sent kept (λ s e. subst (λ (x : ServerValue). IsServerOf w x) (same_Some new s e) is) (nothing_new w w.ends.server_addr) kept.replies
+    (forgotten_claims w server new from octets kept up t)
   where
     is : IsServerOf w new
     is =
@@ -316,9 +405,9 @@ server_takes_kept law g r w server new from addr octets taken kept up at origin 
 
 -- ---- an end takes a datagram
 
-pub taking_kept : OneMessage → GrantsSound → ReleasesSound → (w : WorldValue) (from addr : Addr) (octets : List ℕ) (number : ℕ) (taken : TakenValue) (ends : Ends) → IsKept w → addr_of w.ends number ≡ Some addr
-    → Origin w from octets → Takes w.now w.ends from octets number taken ends → ((m : MessageValue) → taken ≡ takes (Some m) → Spells (text m) m)
+pub taking_kept : OneMessage → GrantsSound → ReleasesSound → LeaseLaws → (w : WorldValue) (from addr : Addr) (octets : List ℕ) (number : ℕ) (taken : TakenValue) (ends : Ends) → IsKept w → addr_of w.ends number ≡ Some addr
+    → Origin w from addr octets → Takes w.now w.ends from octets number taken ends → ((m : MessageValue) → taken ≡ takes (Some m) → Spells (text m) m)
     → IsKept (after_taking w ends addr from taken)
-taking_kept law g r w from addr octets number taken ends kept at origin (finds_down n down) spells = kept
-taking_kept law g r w from addr octets number taken ends kept at origin (by_server server new t up does) spells = server_takes_kept law g r w server new from addr octets taken kept up at origin does spells
-taking_kept law g r w from addr octets number taken ends kept at origin (by_node i node new reply up hears) spells = node_hears_kept law w i node new from addr octets reply kept at up hears
+taking_kept law g r laws w from addr octets number taken ends kept at origin (finds_down n down) spells = kept
+taking_kept law g r laws w from addr octets number taken ends kept at origin (by_server server new t up does) spells = server_takes_kept law g r laws w server new from addr octets taken kept up at origin does spells
+taking_kept law g r laws w from addr octets number taken ends kept at origin (by_node i node new reply up hears) spells = node_hears_kept law w i node new from addr octets reply kept at up origin hears

@@ -19,6 +19,8 @@ use Rattle.nbt_world.specs.Kept.{IsRequest, Asked, Replied, known, RequestsEnded
 use Rattle.nbt_world.proofs.Keeping.{IsNew, from_new, asked_still, replied_before, asked_past, addr_there, node_changes}
 use Rattle.nbt_world.proofs.Naming.{OneMessage, names_apart, request_one, request_no_overwrite, Sending, is_new, nothing_new, others_fewer, own_more, Stays, stays_by_moves, name_by_time, name_sends, fresh_by_time, fresh_sends, grows_by, UpAt, up_at, node_moves}
 use Rattle.nbt_world.proofs.Knowing.{is_sent}
+use Rattle.nbt_world.proofs.Claiming.{NoNewClaim, claims_by_time, claims_sends}
+use Rattle.nbt_world.proofs.Covering.{node_claims}
 
 -- ---- a request about a name: asked for, given back, or sent again
 
@@ -35,7 +37,15 @@ sends_kept law w i node new name event to octets kept up sends =
     (grows_by w.sent (datagram new.addr to w.now octets))
     (λ q. names at stays sending q (names_apart q name))
     (λ q. replies at stays sending q (names_apart q name))
+    (λ q. claims at stays q (names_apart q name))
   where
+    claims : (at : UpAt w i node) → Stays node w.now new → (q : NameValue) → (q ≡ name) ⊎ (q ≢ name)
+        → NoNewClaim node.config.longest node.config.life w.now (Replied w.sent w.ends.server_addr at.addr q) (known (Some node) q) (known (Some new) q)
+    claims at stays q (inl e) =
+        subst (λ (n : NameValue). NoNewClaim node.config.longest node.config.life w.now (Replied w.sent w.ends.server_addr at.addr n) (known (Some node) n) (known (Some new) n)) (sym e)
+        (claims_sends w.now node new name event sends.message _ node.config.longest (Asked w.sent (at.addr).ip name) (Replied w.sent w.ends.server_addr at.addr name) stays.start_is sends.moves (at.replies name))
+    claims at stays q (inr ne) = claims_by_time w.now node new q node.config.longest (Replied w.sent w.ends.server_addr at.addr q) stays.start_is ((sends.moves).others q ne)
+
     -- nothing new is from the server
     same : (at : UpAt w i node) → Sending w at.addr (datagram new.addr to w.now octets) sends.message → (q : NameValue) (moment : ℕ) (message : MessageValue)
         → Replied (w.sent ++ datagram new.addr to w.now octets ∷ []) w.ends.server_addr at.addr q moment message → Replied w.sent w.ends.server_addr at.addr q moment message
@@ -101,6 +111,7 @@ time_kept w i node new kept up stays names =
     (λ q. name_by_time w.now node new q (Asked w.sent (at.addr).ip q) (Asked w.sent (at.addr).ip q) stays.start_is (names q) (λ moment message a. a) (at.requests q))
     (λ q. fresh_by_time w.now node new q (Asked w.sent (at.addr).ip q) (Asked w.sent (at.addr).ip q) (Replied w.sent w.ends.server_addr at.addr q) (Replied w.sent w.ends.server_addr at.addr q)
     stays.start_is (names q) (λ moment message a. a) (λ moment message r. r) (at.replies q))
+    (λ q. claims_by_time w.now node new q node.config.longest (Replied w.sent w.ends.server_addr at.addr q) stays.start_is (names q))
 
 -- a datagram that is no request
 pub other_kept : OneMessage → (w : WorldValue) (i : ℕ) (node new : NodeValue) (to : Addr) (octets : List ℕ) (m : MessageValue) → IsKept w → node_of w.ends (suc i) ≡ Some node → Stays node w.now new → ByTimeAlone node w.now new
@@ -120,6 +131,7 @@ other_kept law w i node new to octets m kept up stays names written off no_overw
     (replied_before w.sent (w.sent ++ datagram new.addr to w.now octets ∷ []) at.addr w.ends.server_addr at.addr q at.no_server
     (from_new w at.addr (w.sent ++ datagram new.addr to w.now octets ∷ []) fresh))
     (at.replies q))
+    (λ q. claims_by_time w.now node new q node.config.longest (Replied w.sent w.ends.server_addr at.addr q) stays.start_is (names q))
 
 -- a call that was refused leaves the node
 pub refused_kept : (w : WorldValue) (i : ℕ) (node : NodeValue) → IsKept w → node_of w.ends (suc i) ≡ Some node → IsKept (record w { ends = with_node w.ends (suc i) (Some node) })
@@ -129,6 +141,8 @@ refused_kept w i node kept up =
     (λ x e. subst (λ (y : NodeValue). IsNodeOf w there.0 y) (same_Some node x e) (kept.nodes (suc i) there.0 node there.1 up)) (nothing_new w there.0) (λ d c. c)
     (λ q. subst (λ (x : Option NodeValue). RequestsEnded w.config.life w.now (Asked w.sent (there.0).ip q) (known x q)) up (kept.requests (suc i) there.0 q there.1))
     (λ q. subst (λ (x : Option NodeValue). RepliesFresh w.config.life w.now (Asked w.sent (there.0).ip q) (Replied w.sent w.ends.server_addr there.0 q) (known x q)) up (kept.replies (suc i) there.0 q there.1))
+    (node_claims w i there.0 (Some node) w.sent kept there.1 (nothing_new w there.0) (λ d c. c)
+    (λ q. subst (λ (x : Option NodeValue). NoNewClaim w.config.longest w.config.life w.now (Replied w.sent w.ends.server_addr there.0 q) (known x q) (known (Some node) q)) (sym up) (λ kind end c. c)))
 
 -- ---- a node's own event
 

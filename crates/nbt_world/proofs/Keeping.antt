@@ -13,7 +13,7 @@ use Rattle.nbt_world.specs.declared.ends.End.{End}
 use Rattle.nbt_world.specs.declared.ends.Ends.{Ends}
 use Rattle.nbt_world.specs.declared.network.Datagram.{Datagram}
 use Rattle.nbt_world.specs.World.{WorldValue, addr_at, addr_of, node_in, node_of, put_node, with_server, with_node}
-use Rattle.nbt_world.specs.Kept.{Asked, Replied, known, RequestsEnded, RepliesFresh, IsNodeOf, IsServerOf, IsSent, IsKept}
+use Rattle.nbt_world.specs.Kept.{Asked, Replied, known, RequestsEnded, RepliesFresh, IsNodeOf, IsServerOf, IsSent, ClaimsKept, IsKept}
 use Rattle.nbt_world.proofs.Knowing.{ended-frame, ended-down, fresh-frame}
 
 -- ---- one node is another
@@ -138,8 +138,9 @@ pub node_changes : (w : WorldValue) (i : ℕ) (addr : Addr) (x : Option NodeValu
     → Grows w.sent sent
     → ((name : NameValue) → RequestsEnded w.config.life w.now (Asked sent addr.ip name) (known x name))
     → ((name : NameValue) → RepliesFresh w.config.life w.now (Asked sent addr.ip name) (Replied sent w.ends.server_addr addr name) (known x name))
+    → ClaimsKept (record w { ends = with_node w.ends (suc i) x; sent = sent })
     → IsKept (record w { ends = with_node w.ends (suc i) x; sent = sent })
-node_changes w i addr x sent kept at is new grows names replies = record {
+node_changes w i addr x sent kept at is new grows names replies claims = record {
   ends = record {
     some = let e = put_length w.ends.nodes.items i x in let some = kept.ends.some in omega arith;
     few = let e = put_length w.ends.nodes.items i x in let few = kept.ends.few in omega arith;
@@ -150,6 +151,7 @@ node_changes w i addr x sent kept at is new grows names replies = record {
   sent = λ d c. sent_frame w.ends (with_node w.ends (suc i) x) w.now w.now d (addr_with w.ends i x) (omega arith) (all_sent w addr sent kept new d c);
   requests = λ n a name p. requests_at n a name (sym (addr_with w.ends i x n) ∙ p) (cases_eq n (suc i));
   replies = λ n a name p. replies_at n a name (sym (addr_with w.ends i x n) ∙ p) (cases_eq n (suc i));
+  claims = claims;
 }
   where
     same_addr : (n : ℕ) (a : Addr) → addr_of w.ends n ≡ Some a → n ≡ suc i → addr ≡ a
@@ -192,15 +194,16 @@ pub server_addr_with : (ends : Ends) (x : Option ServerValue) (n : ℕ) → addr
 server_addr_with ends x zero = refl
 server_addr_with ends x (suc j) = refl
 
-server_node_with : (ends : Ends) (x : Option ServerValue) (n : ℕ) → node_of (with_server ends x) n ≡ node_of ends n
+pub server_node_with : (ends : Ends) (x : Option ServerValue) (n : ℕ) → node_of (with_server ends x) n ≡ node_of ends n
 server_node_with ends x zero = refl
 server_node_with ends x (suc j) = refl
 
 pub server_changes : (w : WorldValue) (x : Option ServerValue) (sent : List Datagram) → IsKept w
     → ((server : ServerValue) → x ≡ Some server → IsServerOf w server) → IsNew w w.ends.server_addr sent
     → ((n : ℕ) (a : Addr) (name : NameValue) → addr_of w.ends n ≡ Some a → RepliesFresh w.config.life w.now (Asked sent a.ip name) (Replied sent w.ends.server_addr a name) (known (node_of w.ends n) name))
+    → ClaimsKept (record w { ends = with_server w.ends x; sent = sent })
     → IsKept (record w { ends = with_server w.ends x; sent = sent })
-server_changes w x sent kept is new replies = record {
+server_changes w x sent kept is new replies claims = record {
   ends = record {
     some = kept.ends.some;
     few = kept.ends.few;
@@ -213,6 +216,7 @@ server_changes w x sent kept is new replies = record {
   sent = λ d c. sent_frame w.ends (with_server w.ends x) w.now w.now d (server_addr_with w.ends x) (omega arith) (all_sent w w.ends.server_addr sent kept new d c);
   requests = λ n a name p. requests_at n a name (sym (server_addr_with w.ends x n) ∙ p);
   replies = λ n a name p. rw (server_node_with w.ends x n) (replies n a name (sym (server_addr_with w.ends x n) ∙ p));
+  claims = claims;
 }
   where
     requests_at : (n : ℕ) (a : Addr) (name : NameValue) → addr_of w.ends n ≡ Some a → RequestsEnded w.config.life w.now (Asked sent a.ip name) (known (node_of (with_server w.ends x) n) name)

@@ -1,9 +1,13 @@
 pub mod Knowing
+pub mod Claiming
 pub mod Places
 pub mod Replies
 pub mod Keeping
+pub mod Covering
 pub mod Clock
 pub mod Naming
+pub mod Granting
+pub mod Served
 pub mod Events
 pub mod Deliveries
 pub mod Starting

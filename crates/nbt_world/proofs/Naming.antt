@@ -18,14 +18,21 @@ use Rattle.nbt_node.specs.Settling.{settled}
 use Rattle.nbt_node.specs.Node.{NodeValue, state_of, state_at}
 use Rattle.nbt_node.specs.Moves.{NameEvent, hear, Told, NameMoves}
 use Rattle.nbt_world.specs.declared.network.Datagram.{Datagram}
-use Rattle.nbt_world.specs.World.{WorldValue, addr_of, node_of, with_node}
+use Rattle.nbt_world.specs.World.{WorldValue, IsDeliverable, IsOfEnd, addr_of, node_of, with_node}
 use Rattle.nbt_world.specs.Kept.{IsRequest, Asked, Replied, known, RequestsEnded, RepliesFresh, IsNodeOf, IsSent, IsKept}
 use Rattle.nbt_world.proofs.Knowing.{fades, fades-heard, knows, ended-fades, ended-frame, ended-sent, is_sent, fresh-fades, fresh-frame, fresh-sent}
+use Rattle.nbt_world.proofs.Claiming.{NoNewClaim}
 use Rattle.nbt_world.proofs.Keeping.{IsNew, Grows, node_not_server, node_changes, addr_there}
+use Rattle.nbt_world.proofs.Covering.{node_claims}
 
 -- the law of messages that this rests on
 abbrev pub OneMessage : Type 0
 OneMessage = (octets : List ℕ) (m n : MessageValue) → Spells octets m → Spells octets n → m ≡ n
+
+-- where a datagram comes from: it is one of the list that may still be delivered, or a stranger's
+pub data Origin (w : WorldValue) (from to : Addr) (octets : List ℕ) : Type 0 where
+  listed : (d : Datagram) → Contains w.sent d → d.from ≡ from → d.to ≡ to → d.octets.items ≡ octets → IsDeliverable w.config.life w.now d.moment → Origin w from to octets
+  strange : (IsOfEnd w.ends from.ip → ⊥) → Origin w from to octets
 
 -- ---- names
 
@@ -231,12 +238,19 @@ up_at w i node kept up =
 pub node_moves : (w : WorldValue) (i : ℕ) (node new : NodeValue) (sent : List Datagram) → IsKept w → (at : UpAt w i node) → Stays node w.now new → IsNew w at.addr sent → Grows w.sent sent
     → ((q : NameValue) → RequestsEnded node.config.life w.now (Asked sent (at.addr).ip q) (known (Some new) q))
     → ((q : NameValue) → RepliesFresh node.config.life w.now (Asked sent (at.addr).ip q) (Replied sent w.ends.server_addr at.addr q) (known (Some new) q))
+    → ((q : NameValue) → NoNewClaim node.config.longest node.config.life w.now (Replied w.sent w.ends.server_addr at.addr q) (known (Some node) q) (known (Some new) q))
     → IsKept (record w { ends = with_node w.ends (suc i) (Some new); sent = sent })
-node_moves w i node new sent kept at stays fresh grows names replies =
+node_moves w i node new sent kept at stays fresh grows names replies claims =
     node_changes w i at.addr (Some new) sent kept at.at
     (λ x e. subst (λ (y : NodeValue). IsNodeOf w at.addr y) (same_Some new x e) (node_stays w at.addr node new stays at.is)) fresh grows
     (λ q. subst (λ (c : ConfigValue). RequestsEnded c.life w.now (Asked sent (at.addr).ip q) (known (Some new) q)) (at.is).config_is (names q))
     (λ q. subst (λ (c : ConfigValue). RepliesFresh c.life w.now (Asked sent (at.addr).ip q) (Replied sent w.ends.server_addr at.addr q) (known (Some new) q)) (at.is).config_is (replies q))
+    (node_claims w i at.addr (Some new) sent kept at.at fresh grows own)
+  where
+    own : (q : NameValue) → NoNewClaim w.config.longest w.config.life w.now (Replied w.sent w.ends.server_addr at.addr q) (known (node_of w.ends (suc i)) q) (known (Some new) q)
+    own q =
+        subst (λ (x : Option NodeValue). NoNewClaim w.config.longest w.config.life w.now (Replied w.sent w.ends.server_addr at.addr q) (known x q) (known (Some new) q)) (sym at.up)
+        (subst (λ (c : ConfigValue). NoNewClaim c.longest c.life w.now (Replied w.sent w.ends.server_addr at.addr q) (known (Some node) q) (known (Some new) q)) (at.is).config_is (claims q))
 
 pub stays_by_moves : (now : ℕ) (old new : NodeValue) (name : NameValue) (event : NameEvent) (sent : Option MessageValue) (told : Told) → NameMoves old now name event new sent told → Stays old now new
 stays_by_moves now old new name event sent told moves = record {

@@ -16,6 +16,7 @@ use Rattle.nbt_world.specs.Kept.{Asked, Replied, known, RequestsEnded, RepliesFr
 use Rattle.nbt_world.proofs.Knowing.{ended-start, ended-down, fresh-start, fresh-down}
 use Rattle.nbt_world.proofs.Keeping.{addr_there, asked_past, node_changes, server_changes}
 use Rattle.nbt_world.proofs.Naming.{nothing_new}
+use Rattle.nbt_world.proofs.Covering.{down_claims, idle_claims, node_claims, crashed_claims, started_claims}
 
 no_lease : (latest now : ℕ) (name : NameValue) → AreSound latest (leases_at now [] name)
 unfolding leases_at
@@ -30,7 +31,7 @@ idle_in (suc n) q = idle_in n q
 
 pub starts_kept : (w : WorldValue) (number : ℕ) (ends : Ends) → IsKept w → Starts w.config w.now w.ends number ends → IsKept (record w { ends = ends })
 starts_kept w number ends kept (server_starts server down new) =
-    server_changes w (Some server) w.sent kept (λ s e. subst (λ (x : ServerValue). IsServerOf w x) (same_Some server s e) is) (nothing_new w w.ends.server_addr) kept.replies
+    server_changes w (Some server) w.sent kept (λ s e. subst (λ (x : ServerValue). IsServerOf w x) (same_Some server s e) is) (nothing_new w w.ends.server_addr) kept.replies (started_claims w server kept new)
   where
     is : IsServerOf w server
     is = record { config_is = new.config_is; past = let e = new.last in omega arith; sound = new_is_sound w.config w.now server.table.rows new.empty }
@@ -48,11 +49,15 @@ starts_kept w number ends kept (node_starts i addr at down) =
     rw (idle_in 14 q)
     (fresh-start w.config.life w.now (Asked w.sent addr.ip q) (Replied w.sent w.ends.server_addr addr q)
     (subst (λ (x : Option NodeValue). RepliesFresh w.config.life w.now (Asked w.sent addr.ip q) (Replied w.sent w.ends.server_addr addr q) (known x q)) down (kept.replies (suc i) addr q at))))
+    (node_claims w i addr (Some (started 14 addr w.ends.server_addr w.config w.now)) w.sent kept at (nothing_new w addr) (λ d c. c)
+    (λ q kind end c. absurd (idle_claims w.config.longest w.config.life w.now w.now (Replied w.sent w.ends.server_addr addr q) kind end (rw (idle_in 14 q) at c))))
 
 pub crashes_kept : (w : WorldValue) (number : ℕ) (ends : Ends) → IsKept w → Crashes w.ends number ends → IsKept (record w { ends = ends })
-crashes_kept w number ends kept (server_crashes server up) = server_changes w None w.sent kept (λ s e. absurd (none-some s e)) (nothing_new w w.ends.server_addr) kept.replies
+crashes_kept w number ends kept (server_crashes server up) = server_changes w None w.sent kept (λ s e. absurd (none-some s e)) (nothing_new w w.ends.server_addr) kept.replies (crashed_claims w kept)
 crashes_kept w number ends kept (node_crashes i node up) =
     let there = addr_there w.ends (suc i) node up in
     node_changes w i there.0 None w.sent kept there.1 (λ s e. absurd (none-some s e)) (nothing_new w there.0) (λ d c. c)
     (λ q. ended-down w.config.life w.now (Asked w.sent (there.0).ip q) (asked_past w (there.0).ip q w.sent kept.sent))
     (λ q. fresh-down w.config.life w.now (Asked w.sent (there.0).ip q) (Replied w.sent w.ends.server_addr there.0 q) (known (node_of w.ends (suc i)) q) (asked_past w (there.0).ip q w.sent kept.sent) (kept.replies (suc i) there.0 q there.1))
+    (node_claims w i there.0 None w.sent kept there.1 (nothing_new w there.0) (λ d c. c)
+    (λ q kind end c. absurd (down_claims w.config.longest w.config.life w.now (Replied w.sent w.ends.server_addr there.0 q) kind end c)))

@@ -20,9 +20,10 @@ use Rattle.nbt_world.specs.World.{WorldValue, addr_of, node_of, with_node}
 use Rattle.nbt_world.specs.Step.{number_in, GivenValue, Does, after, outcome_of, IsDown, IsUp, Starts, Crashes, TakenValue, takes, Takes, IsTaken, after_taking, outcome_of_taking, Step, ticks, starts, starts_nothing, crashes, crashes_nothing, node_does, node_is_down}
 use Rattle.nbt_world.specs.Kept.{IsNodeOf, IsKept}
 use Rattle.nbt_world.proofs.Keeping.{addr_there}
-use Rattle.nbt_world.proofs.Naming.{OneMessage}
+use Rattle.nbt_world.proofs.Naming.{OneMessage, Origin}
 use Rattle.nbt_world.proofs.Events.{does_kept}
-use Rattle.nbt_world.proofs.Deliveries.{GrantsSound, ReleasesSound, Origin, taking_kept}
+use Rattle.nbt_world.proofs.Deliveries.{GrantsSound, ReleasesSound, taking_kept}
+use Rattle.nbt_world.proofs.Granting.{LeaseLaws}
 use Rattle.nbt_world.proofs.Starting.{starts_kept, crashes_kept}
 
 -- nothing has changed
@@ -110,7 +111,7 @@ pub record Took (w : WorldValue) (from to : Addr) (octets : List ℕ) (number : 
   pub at : addr_of w.ends number ≡ Some to
   pub does : Takes w.now w.ends from octets number taken ends
   pub is : IsTaken code out taken
-  pub origin : Origin w from octets
+  pub origin : Origin w from to octets
   pub outcome_is : outcome ≡ outcome_of_taking w taken
   pub left : after_taking w ends to from taken ≡ record w { ends = ends; sent = sent }
 
@@ -122,10 +123,10 @@ spells t.Replies out taken m is same =
     let one : is.0 ≡ m = cc in
     subst (λ (k : MessageValue). Spells (text k) k) one (subst (λ (xs : List ℕ). Spells xs is.0) is.2 is.3)
 
-pub took_kept : OneMessage → GrantsSound → ReleasesSound → (w : WorldValue) (from to : Addr) (octets : List ℕ) (number : ℕ) (ends : Ends) (sent : List Datagram) (outcome : Outcome) → IsKept w
+pub took_kept : OneMessage → GrantsSound → ReleasesSound → LeaseLaws → (w : WorldValue) (from to : Addr) (octets : List ℕ) (number : ℕ) (ends : Ends) (sent : List Datagram) (outcome : Outcome) → IsKept w
     → Took w from to octets number ends sent outcome → IsKept (record w { ends = ends; sent = sent })
-took_kept law g r w from to octets number ends sent outcome kept k =
-    subst IsKept k.left (taking_kept law g r w from to octets number k.taken ends kept k.at k.origin k.does (λ m same. spells k.code k.out k.taken m k.is same))
+took_kept law g r laws w from to octets number ends sent outcome kept k =
+    subst IsKept k.left (taking_kept law g r laws w from to octets number k.taken ends kept k.at k.origin k.does (λ m same. spells k.code k.out k.taken m k.is same))
 
 pub took_step : (w : WorldValue) (from to : Addr) (octets : List ℕ) (number : ℕ) (ends : Ends) (sent : List Datagram) (outcome : Outcome) (event : Event) (k : Took w from to octets number ends sent outcome)
     → Step w event (outcome_of_taking w k.taken) (after_taking w ends to from k.taken) → Step w event outcome (record w { ends = ends; sent = sent })

@@ -1,15 +1,18 @@
 -- The facts that every world keeps, and that carry the proof of its safety. Those of one node and one name speak of the
 -- clock, of what the network has about them, and of what the node knows of the name, and of nothing else.
-use Rattle.std.specs.Prelude.{◌≡◌, ℕ, ◌+◌, ◌≤◌, List, length, Option, Some, None, Contains}
+use Rattle.std.specs.Prelude.{◌≡◌, ◌≢◌, ℕ, ◌+◌, ◌*◌, ◌<◌, ◌≤◌, ◌⊎◌, List, length, Option, Some, None, Contains}
 use Rattle.nbt_name.specs.declared.addr.Addr.{Addr}
 use Rattle.nbt_name.specs.declared.addr.Kind.{Kind}
+use Rattle.nbt_name.specs.declared.addr.Kind.TheVariants.{Group}
 use Rattle.nbt_name.specs.Wire.{NameValue}
 use Rattle.nbt_packet.specs.declared.message.Registration.{Registration}
 use Rattle.nbt_packet.specs.Message.{MessageValue, registration, overwrite, refresh, release, registered, released}
 use Rattle.nbt_packet.specs.Text.{text}
 use Rattle.nbt_packet.specs.Spelling.{Spells}
+use Rattle.nbt_lease.specs.declared.lease.Lease.{Lease}
+use Rattle.nbt_lease.specs.Config.{granted}
 use Rattle.nbt_lease.specs.Lease.{leases_at, IsSound}
-use Rattle.nbt_server.specs.Serving.{ServerValue}
+use Rattle.nbt_server.specs.Serving.{ServerValue, speaks_from}
 use Rattle.nbt_node.specs.declared.state.State.{State}
 use Rattle.nbt_node.specs.declared.state.State.TheVariants.{Idle, Asking, Held, Releasing, Resting}
 use Rattle.nbt_node.specs.Node.{NodeValue, state_of}
@@ -101,6 +104,46 @@ abbrev pub IsOpen : Option Known → Kind → (first : ℕ) → Type 0
 IsOpen None kind first = ⊥
 IsOpen (Some k) kind first = IsOpenIn k.state kind first
 
+-- held as this kind until this end
+abbrev pub HoldsIn : State → Kind → (end : ℕ) → Type 0
+HoldsIn (Held k ttl until renew last pending) kind end = (k ≡ kind) × (until ≡ end)
+HoldsIn _ kind end = ⊥
+
+abbrev pub Holds : Option Known → Kind → (end : ℕ) → Type 0
+Holds None kind end = ⊥
+Holds (Some k) kind end = HoldsIn k.state kind end
+
+-- What a node may claim of a name: as which kind, and until which end. It holds it so, or gets it so for what it has
+-- open, by a positive reply that may still be delivered.
+pub data Claims (longest life now : ℕ) (replied : ℕ → MessageValue → Type 0) (k : Option Known) : Kind → (end : ℕ) → Type 0 where
+  has : (kind : Kind) (end : ℕ) → Holds k kind end → Claims longest life now replied k kind end
+  may_get : (kind : Kind) (first moment : ℕ) (r : Registration) → IsOpen k kind first → replied moment (registered 0 r) → IsDeliverable life now moment
+      → Claims longest life now replied k kind (first + 1000 * granted longest r.ttl)
+
+-- ---- what the server has for it
+
+-- one of these leases is of this address and kind, and lasts until then
+pub record IsLeased (leases : List Lease) (ip : ℕ) (kind : Kind) (till : ℕ) : Type 0 where
+  pub end : ℕ
+  pub among : Contains leases (record { addr = ip; kind = kind; end = end })
+  pub lasts : till ≤ end
+
+-- a live lease of this address lasts until then, or the server's silence does; a server that is down will be silent
+abbrev pub Backs : (now : ℕ) → Option ServerValue → (ip : ℕ) → NameValue → Kind → (till : ℕ) → Type 0
+Backs now None ip name kind till = Unit {0}
+Backs now (Some server) ip name kind till = IsLeased (leases_at now server.table.rows name) ip kind till ⊎ (till ≤ speaks_from server)
+
+-- A claim is covered: the server sent a reply, and its lease, or its silence, lasts for so many seconds from then, as
+-- long as the claim at least.
+pub record IsCovered (longest : ℕ) (replied : ℕ → MessageValue → Type 0) (backs : Kind → ℕ → Type 0) (kind : Kind) (end : ℕ) : Type 0 where
+  pub moment : ℕ
+  pub message : MessageValue
+  pub replied_is : replied moment message
+  pub seconds : ℕ
+  pub within : seconds ≤ longest
+  pub counted : end ≤ moment + 1000 * seconds
+  pub backed : backs kind (moment + 1000 * seconds)
+
 -- ---- what holds of one node and one name
 
 -- Old requests have ended: one that may still be delivered was sent no later than the node knows of, and where it asks
@@ -157,6 +200,22 @@ pub record IsSent (ends : Ends) (now : ℕ) (d : Datagram) : Type 0 where
   pub only : (m : MessageValue) → Spells d.octets.items m → m ≡ message
   pub no_overwrite : (r : Registration) → message ≡ overwrite r → ⊥
 
+-- ---- what holds of claims
+
+-- what the node of this number and address claims in a world, and that such a claim is covered there
+abbrev pub ClaimsIn : WorldValue → (number : ℕ) → Addr → NameValue → Kind → (end : ℕ) → Type 0
+ClaimsIn world number addr name = Claims world.config.longest world.config.life world.now (Replied world.sent world.ends.server_addr addr name) (known (node_of world.ends number) name)
+
+abbrev pub IsCoveredIn : WorldValue → Addr → NameValue → Kind → (end : ℕ) → Type 0
+IsCoveredIn world addr name = IsCovered world.config.longest (Replied world.sent world.ends.server_addr addr name) (Backs world.now world.ends.server addr.ip name)
+
+-- Each claim that isn't over is covered, and two of different nodes are both of a group.
+pub record ClaimsKept (world : WorldValue) : Type 0 where
+  pub covered : (number : ℕ) (addr : Addr) (name : NameValue) (kind : Kind) (end : ℕ) → addr_of world.ends number ≡ Some addr → ClaimsIn world number addr name kind end → world.now < end
+      → IsCoveredIn world addr name kind end
+  pub beside : (i j : ℕ) (a b : Addr) (name : NameValue) (k l : Kind) (d e : ℕ) → i ≢ j → addr_of world.ends i ≡ Some a → addr_of world.ends j ≡ Some b
+      → ClaimsIn world i a name k d → world.now < d → ClaimsIn world j b name l e → world.now < e → (k ≡ Group) × (l ≡ Group)
+
 -- ---- what every world keeps
 
 pub record IsKept (world : WorldValue) : Type 0 where
@@ -168,3 +227,4 @@ pub record IsKept (world : WorldValue) : Type 0 where
       → RequestsEnded world.config.life world.now (Asked world.sent addr.ip name) (known (node_of world.ends number) name)
   pub replies : (number : ℕ) (addr : Addr) (name : NameValue) → addr_of world.ends number ≡ Some addr
       → RepliesFresh world.config.life world.now (Asked world.sent addr.ip name) (Replied world.sent world.ends.server_addr addr name) (known (node_of world.ends number) name)
+  pub claims : ClaimsKept world

@@ -77,6 +77,7 @@ impl World {
         ensures { Step self.old (Event.Tick ms) result self.new }
     {
         nbt_lease::laws::leases_stay_sound();
+        nbt_lease::laws::later_leases_live_now();
         let later = self.clock.get().saturating_add(ms).min(LAST);
         if let Some(now) = Moment::new(later) {
             self.clock = now;
@@ -133,6 +134,9 @@ impl World {
     {
         nbt_packet::laws::one_message_spelled();
         nbt_lease::laws::leases_stay_sound();
+        nbt_lease::laws::one_name_changes();
+        nbt_lease::laws::leases_of_others_stay();
+        nbt_lease::laws::granted_lease_stands();
         if self.sent.try_reserve(1).is_err() {
             return Err(OutOfMemory);
         }
@@ -170,6 +174,9 @@ impl World {
     {
         nbt_packet::laws::one_message_spelled();
         nbt_lease::laws::leases_stay_sound();
+        nbt_lease::laws::one_name_changes();
+        nbt_lease::laws::leases_of_others_stay();
+        nbt_lease::laws::granted_lease_stands();
         if self.sent.try_reserve(1).is_err() {
             return Err(OutOfMemory);
         }

@@ -3,7 +3,8 @@ use Rattle.std.specs.Prelude.{slice_get}
 use Rattle.nbt_world.specs.Step.{no_datagram, no_end, too_late, delivered}
 use Rattle.nbt_world.proofs.Worlds.{Took, took_kept, took_step, not_there_in, there_in, found_among, unchanged}
 use Rattle.nbt_world.specs.World.{IsDeliverable}
-use Rattle.nbt_world.proofs.Deliveries.{listed}
+use Rattle.nbt_world.proofs.Naming.{listed}
+use Rattle.nbt_world.proofs.Granting.{LeaseLaws}
 use Rattle.nbt_world.proofs.world.World.deliver.Goals as goal
 
 pub returns-in_default-clause-step : goal.returns-in_default-clause-step
@@ -39,13 +40,23 @@ took c =
       at = c.in-Some-find.ensures.found;
       does = t.1;
       is = t.2;
-      origin = listed c.in-Some.datagram.now (found_among c.self.inside.sent.items c.args.k c.in-Some.datagram.now there) refl refl deliverable;
+      origin = listed c.in-Some.datagram.now (found_among c.self.inside.sent.items c.args.k c.in-Some.datagram.now there) refl refl refl deliverable;
       outcome_is = r.0;
       left = r.1;
     }
 
+laws : (c : goal.After-reply) → LeaseLaws
+laws c = record {
+  elsewhere = c.one_name_changes.ensures.elsewhere;
+  here = c.one_name_changes.ensures.here;
+  others_granted = c.leases_of_others_stay.ensures.granted;
+  others_released = c.leases_of_others_stay.ensures.released;
+  stands = c.granted_lease_stands.ensures.lease;
+  beside = c.granted_lease_stands.ensures.beside;
+}
+
 pub invariant_of-self-2 : goal.invariant_of-self-2
-invariant_of-self-2 c = took_kept c.one_message_spelled.ensures c.leases_stay_sound.ensures.granted c.leases_stay_sound.ensures.released _ _ _ _ _ _ _ _ c.self.invariant (took c)
+invariant_of-self-2 c = took_kept c.one_message_spelled.ensures c.leases_stay_sound.ensures.granted c.leases_stay_sound.ensures.released (laws c) _ _ _ _ _ _ _ _ c.self.invariant (took c)
 
 pub returns-clause-step : goal.returns-clause-step
 returns-clause-step c =

@@ -1,8 +1,9 @@
 use Rattle.std.proofs.Common.{refl, sym}
 use Rattle.std.proofs.lemmas.Bool.{false≢true}
 use Rattle.nbt_world.specs.Step.{from_an_end, to_no_end, from_a_stranger}
-use Rattle.nbt_world.proofs.Deliveries.{strange}
+use Rattle.nbt_world.proofs.Naming.{strange}
 use Rattle.nbt_world.proofs.Worlds.{Took, took_kept, took_step, unchanged}
+use Rattle.nbt_world.proofs.Granting.{LeaseLaws}
 use Rattle.nbt_world.proofs.world.World.stranger.Goals as goal
 
 pub returns-then-has_ip-clause-step : goal.returns-then-has_ip-clause-step
@@ -18,8 +19,18 @@ took c =
     let r = c.reply.ensures (record { now = c.self.inside.clock; config = c.self.inside.config; ends = c.self.inside.ends; sent = c.self.inside.sent.items }) c.take-taken.new.self t.0 (sym c.try_reserve.ensures.items) refl t.2 in
     record { code = c.take-taken.result; out = _; taken = t.0; at = sym c.in-Some.ensures; does = t.1; is = t.2; origin = strange (λ is. false≢true (c.if-has_ip.ensures.1 is)); outcome_is = r.0; left = r.1 }
 
+laws : (c : goal.After-reply) → LeaseLaws
+laws c = record {
+  elsewhere = c.one_name_changes.ensures.elsewhere;
+  here = c.one_name_changes.ensures.here;
+  others_granted = c.leases_of_others_stay.ensures.granted;
+  others_released = c.leases_of_others_stay.ensures.released;
+  stands = c.granted_lease_stands.ensures.lease;
+  beside = c.granted_lease_stands.ensures.beside;
+}
+
 pub invariant_of-self-2 : goal.invariant_of-self-2
-invariant_of-self-2 c = took_kept c.one_message_spelled.ensures c.leases_stay_sound.ensures.granted c.leases_stay_sound.ensures.released _ _ _ _ _ _ _ _ c.self.invariant (took c)
+invariant_of-self-2 c = took_kept c.one_message_spelled.ensures c.leases_stay_sound.ensures.granted c.leases_stay_sound.ensures.released (laws c) _ _ _ _ _ _ _ _ c.self.invariant (took c)
 
 pub returns-clause-step : goal.returns-clause-step
 returns-clause-step c =

@@ -8,7 +8,7 @@ pub invariant_of-self : goal.invariant_of-self
 invariant_of-self c =
     let is = c.in-Some.ensures.value in
     let bound = c.get.ensures.bound in
-    clock_changes c.leases_stay_sound.ensures.later _ c.in-Some.now (omega (arith, c.get.ensures.value, c.saturating_add.ensures, c.min-later.ensures)) c.self.invariant
+    clock_changes c.leases_stay_sound.ensures.later c.later_leases_live_now.ensures _ c.in-Some.now (omega (arith, c.get.ensures.value, c.saturating_add.ensures, c.min-later.ensures)) c.self.invariant
 
 pub returns : goal.returns
 returns c =
