@@ -12,6 +12,7 @@ pub mod Events
 pub mod Deliveries
 pub mod Starting
 pub mod Worlds
+pub mod Safe
 pub mod Running
 pub mod Holding
 pub mod Apart

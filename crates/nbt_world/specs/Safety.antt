@@ -1,5 +1,5 @@
 -- What the headline says: who holds a name in a world, when a world is safe, and what a run is.
-use Rattle.std.specs.Prelude.{◌≡◌, ◌≢◌, ℕ, List, [], ◌∷◌, Option, Some, None}
+use Rattle.std.specs.Prelude.{◌≡◌, ◌≢◌, ℕ, List, [], ◌∷◌, Option, Some, None, All}
 use Rattle.nbt_name.specs.declared.addr.Kind.{Kind}
 use Rattle.nbt_name.specs.declared.addr.Kind.TheVariants.{Group}
 use Rattle.nbt_name.specs.Wire.{NameValue}
@@ -25,6 +25,10 @@ MayHold world i j name = (k l : Kind) → i ≢ j → holding world i name ≡ S
 -- No two nodes hold one name, unless both as a group.
 abbrev pub IsSafe : WorldValue → Type 0
 IsSafe world = (name : NameValue) (i j : ℕ) → MayHold world i j name
+
+-- all of them are
+abbrev pub AreSafe : List WorldValue → Type 0
+AreSafe worlds = All IsSafe worlds
 
 -- These events, in order, lead from a world through these worlds: the first is that world itself, and the last is
 -- where they end.

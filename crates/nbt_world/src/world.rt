@@ -4,7 +4,7 @@ ghost use Rattle.std.specs.Prelude.{◌≡◌, ◌≤◌, ◌<◌, ◌↔◌, �
 ghost use Rattle.nbt_name.specs.declared.addr.Kind.{Kind as KindValue};
 ghost use Rattle.nbt_world.specs.World.{WorldValue, AreAddrs, IsFresh};
 ghost use Rattle.nbt_world.specs.Step.{Step, number_in, TakesNoMemory};
-ghost use Rattle.nbt_world.specs.Safety.{Run, holding, MayHold};
+ghost use Rattle.nbt_world.specs.Safety.{Run, holding, MayHold, IsSafe, AreSafe};
 ghost use Rattle.nbt_world.specs.declared.ends.Holder.{Holder as HolderValue};
 
 use crate::ends::{Ends, Holder, are_apart};
@@ -195,13 +195,15 @@ impl World {
 
     /// What happens next: the clock goes on, an end starts or crashes, a node does something of its own, a datagram of
     /// the list is delivered, or one comes from a stranger. Returns what came of it. `OutOfMemory` only where room for
-    /// one datagram more was refused: then the world is as it was. A `Tick`, `Start` or `Crash` takes no memory.
+    /// one datagram more was refused: then the world is as it was. A `Tick`, `Start` or `Crash` takes no memory. No two
+    /// nodes hold one name afterwards, unless both as a group.
     pub fn step(&mut self, event: &Event) -> Result<Outcome, OutOfMemory>
         ensures step { IfOk result (λ outcome. Step self.old event.now outcome self.new) }
+        ensures safe { IsSafe self.new }
         ensures refused { OnErr result (self.new ≡ self.old) }
         ensures memory { TakesNoMemory event.now → IsOk result }
     {
-        match event {
+        let outcome = match event {
             Event::Tick(ms) => Ok(self.tick(*ms)),
             Event::Start(number) => Ok(self.start(*number)),
             Event::Crash(number) => Ok(self.crash(*number)),
@@ -212,15 +214,19 @@ impl World {
             Event::Poll(node) => self.node_event(*node, event),
             Event::Deliver(k) => self.deliver(*k),
             Event::Stranger { from, to, octets } => self.stranger(*from, *to, octets),
-        }
+        };
+        self.is_safe();
+        outcome
     }
 
     /// The events in order, as far as memory is there. With `OutOfMemory`, the number of the event that it was refused
-    /// to: the world is then as after those before it.
+    /// to: the world is then as after those before it. In no world along the run two nodes hold one name, unless both
+    /// as a group.
     pub fn run(&mut self, events: &[Event]) -> Result<(), (usize, OutOfMemory)>
-        ensures ran { OnOk result ((worlds : List WorldValue) × Run events.now self.old worlds self.new) }
-        ensures stopped { IfErr result (λ stop. (stop.0 < length events.now) × (worlds : List WorldValue) × Run (take stop.0 events.now) self.old worlds self.new) }
+        ensures ran { OnOk result ((worlds : List WorldValue) × Run events.now self.old worlds self.new × AreSafe worlds) }
+        ensures stopped { IfErr result (λ stop. (stop.0 < length events.now) × (worlds : List WorldValue) × Run (take stop.0 events.now) self.old worlds self.new × AreSafe worlds) }
     {
+        self.is_safe();
         for (number, event) in events.iter().enumerate() {
             match self.step(event) {
                 Ok(_) => {}
@@ -228,6 +234,13 @@ impl World {
             }
         }
         Ok(())
+    }
+
+    /// What the facts that every world keeps come to: no two nodes hold one name, unless both as a group.
+    fn is_safe(&self)
+        ensures { IsSafe self.now }
+    {
+        let _facts = &self.sent;
     }
 
     /// As which kind the node of this number holds the name now; `None` where it doesn't, where it is down, and where
@@ -241,10 +254,13 @@ impl World {
         self.ends.nodes.as_slice()[number - 1].holding(self.clock, name)
     }
 
-    /// Whether these two, if they are different nodes, don't both hold the name now, unless both as a group.
+    /// Whether these two, if they are different nodes, don't both hold the name now, unless both as a group. It looks
+    /// at the two nodes, and is always true.
     pub fn no_two_holders(&self, i: usize, j: usize, name: &Name) -> bool
-        ensures { IsTrue result ↔ MayHold self.now i j name.now }
+        ensures exactly { IsTrue result ↔ MayHold self.now i j name.now }
+        ensures always { IsTrue result }
     {
+        self.is_safe();
         if i == j {
             return true;
         }

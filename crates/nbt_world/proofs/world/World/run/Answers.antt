@@ -1,10 +1,11 @@
-use Rattle.std.proofs.Common.{[], ◌∷◌}
-use Rattle.nbt_world.specs.Safety.{ends}
-use Rattle.nbt_world.proofs.Running.{run_next}
+use Rattle.std.proofs.Common.{[], ◌∷◌, arith}
+use Rattle.std.proofs.lemmas.List.Elements.{All-nil, All-cons, All-push}
+use Rattle.nbt_world.specs.Safety.{IsSafe, ends}
+use Rattle.nbt_world.proofs.Running.{run_next, run_whole}
 use Rattle.nbt_world.proofs.world.World.run.Goals as goal
 
 pub loop-number-init : goal.loop-number-init
-loop-number-init c = (c.args.self.now ∷ [], ends c.args.self.now)
+loop-number-init c = (c.args.self.now ∷ [], ends c.args.self.now, All-cons IsSafe c.args.self.now [] c.is_safe.ensures (All-nil IsSafe))
 
 pub loop-number-preserved : goal.loop-number-preserved
 loop-number-preserved c =
@@ -12,4 +13,11 @@ loop-number-preserved c =
       _,
       run_next c.args.events.now c.loop-number.number c.args.self.now c.loop-number.self c.step.new.self before.0 c.index-events-number.result c.in-Ok.field-0
           c.loop-number-test.true c.index-events-number.is before.1 c.in-Ok.ensures.step,
+      All-push IsSafe before.0 c.step.new.self before.2 c.step.ensures.safe,
     )
+
+pub returns-in-Err-clause-stopped : goal.returns-in-Err-clause-stopped
+returns-in-Err-clause-stopped c = let before = c.loop-number.invariant in (c.loop-number-test.true, before.0, rw (c.in-Err.ensures.refused) before.1, before.2)
+
+pub returns-clause-ran : goal.returns-clause-ran
+returns-clause-ran c = let before = c.loop-number.invariant in (before.0, run_whole c.args.events.now c.loop-number.number c.args.self.now c.loop-number.self before.0 c.loop-number-test.false before.1, before.2)
