@@ -84,7 +84,7 @@ fresh_kept config server others are = record {
   sent = λ d c. absurd (nothing_among d c);
   requests = λ n a name p. rw (none_at server others n) (ended-down config.life 0 (Asked [] a.ip name) (λ moment message asked. absurd (nothing_among asked.datagram asked.among)));
   replies = λ n a name p.
-      rw (none_at server others n) (record { drawn = λ moment message r d. absurd (nothing_among r.datagram r.among); begun = λ kind first w. elim w [ ] });
+      rw (none_at server others n) (record { drawn = λ moment message r d. absurd (nothing_among r.datagram r.among); begun = λ kind first w. elim w [ ]; since = λ kind first moment message w x d. elim w [ ] });
   claims = record {
     covered = λ n a name kind end p c lt. absurd (no_claim n a name kind end c);
     beside = λ i j a b name k l d e ne p q c x f y. absurd (no_claim i a name k d c);

@@ -28,6 +28,6 @@ clock_changes law live w later le kept = record {
       ended-frame w.config.life w.now later (Asked w.sent a.ip name) (Asked w.sent a.ip name) (known (node_of w.ends n) name) le (λ moment message asked. asked) (kept.requests n a name p);
   replies = λ n a name p.
       fresh-frame w.config.life w.now later (Asked w.sent a.ip name) (Asked w.sent a.ip name) (Replied w.sent w.ends.server_addr a name) (Replied w.sent w.ends.server_addr a name) (known (node_of w.ends n) name) le
-      (λ moment message asked. asked) (λ moment message replied. replied) (kept.replies n a name p);
+      (λ moment message asked. asked) (λ moment message asked. asked) (λ moment message replied. replied) (kept.replies n a name p);
   claims = clock_claims live w later le kept.claims;
 }

@@ -1,9 +1,10 @@
 -- What a world keeps when an end takes a datagram, and when an end starts or crashes.
-use Rattle.std.proofs.Common.{◌≡◌, ◌≢◌, ℕ, suc, List, [], ◌∷◌, ◌++◌, true, eqb, Option, Some, None, refl, sym, ap, subst, ◌∙◌, arith, inl, inr}
+use Rattle.std.proofs.Common.{◌≡◌, ◌≢◌, ℕ, zero, suc, List, [], ◌∷◌, ◌++◌, true, eqb, Option, Some, None, refl, sym, ap, subst, ◌∙◌, arith, inl, inr}
 use Rattle.std.specs.Prelude.{◌⊎◌, Result, Ok, Err, Contains}
 use Rattle.std.proofs.lemmas.Bool.{and_parts, eqb-true}
 use Rattle.std.proofs.lemmas.Option.{none-some, same_Some}
 use Rattle.nbt_name.specs.declared.addr.Addr.{Addr}
+use Rattle.nbt_name.specs.declared.addr.Kind.{Kind}
 use Rattle.nbt_name.specs.Wire.{NameValue}
 use Rattle.nbt_packet.specs.Message.{MessageValue, registration, overwrite, refresh, release, query, status_request, registered, released, found, not_found, status, wait}
 use Rattle.nbt_packet.specs.declared.message.Registration.{Registration}
@@ -25,11 +26,11 @@ use Rattle.nbt_world.specs.declared.ends.Ends.{Ends}
 use Rattle.nbt_world.specs.declared.network.Datagram.{Datagram}
 use Rattle.nbt_world.specs.World.{WorldValue, IsDeliverable, IsOfEnd, addr_of, node_of, with_server, with_node, datagram}
 use Rattle.nbt_world.specs.Step.{NodeHears, TakenValue, takes, after_taking, ServerDoes, server_takes, server_forgets, Takes, finds_down, by_server, by_node}
-use Rattle.nbt_world.specs.Kept.{IsRequest, IsReply, Asked, Replied, known, RequestsEnded, RepliesFresh, IsServerOf, IsKept}
+use Rattle.nbt_world.specs.Kept.{IsRequest, IsReply, Asked, Replied, known, IsOpen, RequestsEnded, RepliesFresh, IsServerOf, IsKept}
 use Rattle.std.proofs.lemmas.List.Elements.{Contains-push_cases}
 use Rattle.nbt_world.proofs.Knowing.{Draws, fresh-reply}
 use Rattle.nbt_world.proofs.Claiming.{NoNewClaim, IsListed, claims_by_time, claims_hears}
-use Rattle.nbt_world.proofs.Keeping.{Grows, asked_still, server_changes}
+use Rattle.nbt_world.proofs.Keeping.{Grows, asked_still, asked_before, server_changes}
 use Rattle.nbt_world.proofs.Naming.{OneMessage, Origin, listed, strange, names_apart, Stays, stays_by_moves, is_new, nothing_new, name_by_time, name_hears, fresh_by_time, fresh_hears, grows_by, UpAt, up_at, node_moves}
 use Rattle.nbt_world.proofs.Granting.{LeaseLaws}
 use Rattle.nbt_world.proofs.Served.{Took, served_claims, forgotten_claims}
@@ -64,7 +65,7 @@ hears_kept w i node new name m told kept up moves is_listed =
         (fresh_hears w.now node new name m told (Asked w.sent (at.addr).ip name) (Replied w.sent w.ends.server_addr at.addr name) stays.start_is moves (at.replies name))
     replies at stays q (inr ne) =
         fresh_by_time w.now node new q (Asked w.sent (at.addr).ip q) (Asked w.sent (at.addr).ip q) (Replied w.sent w.ends.server_addr at.addr q) (Replied w.sent w.ends.server_addr at.addr q) stays.start_is (moves.others q ne)
-        (λ moment message a. a) (λ moment message r. r) (at.replies q)
+        (λ moment message a. a) (λ moment message a. a) (λ moment message r. r) (at.replies q)
 
     names : (at : UpAt w i node) → Stays node w.now new → (q : NameValue) → (q ≡ name) ⊎ (q ≢ name) → RequestsEnded node.config.life w.now (Asked w.sent (at.addr).ip q) (known (Some new) q)
     names at stays q (inl e) =
@@ -373,12 +374,29 @@ server_takes_kept law g r laws w server new from addr octets taken kept up at or
         fresh-reply w.config.life w.now (Asked w.sent a.ip name) (Asked (w.sent ++ datagram addr from w.now (text m) ∷ []) a.ip name) (Replied w.sent w.ends.server_addr a name)
         (Replied (w.sent ++ datagram addr from w.now (text m) ∷ []) w.ends.server_addr a name) (known (node_of w.ends n) name) (kept.requests n a name p)
         (asked_still w.sent (w.sent ++ datagram addr from w.now (text m) ∷ []) a.ip name (grows_by w.sent (datagram addr from w.now (text m))))
+        (no_request n a name p)
         (replies_drawn law w server from addr octets reply _ m kept origin t.serves same (datagram addr from w.now (text m)) refl refl (spelling m refl) n a name p)
         (kept.replies n a name p))
         (served_claims laws w server new from addr octets reply (w.sent ++ datagram addr from w.now (text m) ∷ [])
         (took (w.sent ++ datagram addr from w.now (text m) ∷ []) (grows_by w.sent (datagram addr from w.now (text m)))
         (λ a q moment message replied. one_more a q moment message replied (Contains-push_cases w.sent (datagram addr from w.now (text m)) replied.datagram replied.among))))
       where
+        -- what the server sends is no request of a node
+        no_request : (n : ℕ) (a : Addr) (name : NameValue) → addr_of w.ends n ≡ Some a → (kind : Kind) (first moment : ℕ) (message : MessageValue) → IsOpen (known (node_of w.ends n) name) kind first
+            → Asked (w.sent ++ datagram addr from w.now (text m) ∷ []) a.ip name moment message → Asked w.sent a.ip name moment message
+        no_request zero a name p kind first moment message w x = elim w [ ]
+        no_request (suc j) a name p kind first moment message o x =
+            asked_before w.sent (w.sent ++ datagram addr from w.now (text m) ∷ []) addr a.ip name
+            (λ same. suc_zero j (kept.ends.apart (suc j) 0 a addr p at (sym same)))
+            (λ d c. from_it d (Contains-push_cases w.sent (datagram addr from w.now (text m)) d c)) moment message x
+          where
+            suc_zero : (k : ℕ) → suc k ≡ 0 → ⊥
+            suc_zero k e = cc
+
+            from_it : (d : Datagram) → Contains w.sent d ⊎ (datagram addr from w.now (text m) ≡ d) → Contains w.sent d ⊎ (d.from ≡ addr)
+            from_it d (inl c) = inl c
+            from_it d (inr e) = inr (ap (λ (y : Datagram). y.from) (sym e))
+
         one_more : (a : Addr) (q : NameValue) (moment : ℕ) (message : MessageValue) (replied : Replied (w.sent ++ datagram addr from w.now (text m) ∷ []) w.ends.server_addr a q moment message)
             → Contains w.sent replied.datagram ⊎ (datagram addr from w.now (text m) ≡ replied.datagram)
             → Replied w.sent w.ends.server_addr a q moment message ⊎ ((moment ≡ w.now) × (from ≡ a) × (reply ≡ Some message))

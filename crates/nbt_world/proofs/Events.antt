@@ -60,12 +60,16 @@ sends_kept law w i node new name event to octets kept up sends =
         (Replied w.sent w.ends.server_addr at.addr name) (Replied (w.sent ++ datagram new.addr to w.now octets ∷ []) w.ends.server_addr at.addr name) stays.start_is sends.moves
         (asked_past w (at.addr).ip name w.sent kept.sent)
         (asked_still w.sent (w.sent ++ datagram new.addr to w.now octets ∷ []) (at.addr).ip name (grows_by w.sent (datagram new.addr to w.now octets)))
+        (own_more law w at.addr (datagram new.addr to w.now octets) sends.message (at.addr).ip name sending)
         (same at sending name)
+        (at.requests name)
         (at.replies name))
     replies at stays sending q (inr ne) =
         fresh_by_time w.now node new q (Asked w.sent (at.addr).ip q) (Asked (w.sent ++ datagram new.addr to w.now octets ∷ []) (at.addr).ip q)
         (Replied w.sent w.ends.server_addr at.addr q) (Replied (w.sent ++ datagram new.addr to w.now octets ∷ []) w.ends.server_addr at.addr q) stays.start_is ((sends.moves).others q ne)
         (asked_still w.sent (w.sent ++ datagram new.addr to w.now octets ∷ []) (at.addr).ip q (grows_by w.sent (datagram new.addr to w.now octets)))
+        (others_fewer law w at.addr (datagram new.addr to w.now octets) sends.message (at.addr).ip q sending
+        (λ r. ne (request_one sends.message q name r (is_sent (sends.moves).move).request)))
         (same at sending q)
         (at.replies q)
 
@@ -110,7 +114,7 @@ time_kept w i node new kept up stays names =
     node_moves w i node new w.sent kept at stays (nothing_new w at.addr) (λ d c. c)
     (λ q. name_by_time w.now node new q (Asked w.sent (at.addr).ip q) (Asked w.sent (at.addr).ip q) stays.start_is (names q) (λ moment message a. a) (at.requests q))
     (λ q. fresh_by_time w.now node new q (Asked w.sent (at.addr).ip q) (Asked w.sent (at.addr).ip q) (Replied w.sent w.ends.server_addr at.addr q) (Replied w.sent w.ends.server_addr at.addr q)
-    stays.start_is (names q) (λ moment message a. a) (λ moment message r. r) (at.replies q))
+    stays.start_is (names q) (λ moment message a. a) (λ moment message a. a) (λ moment message r. r) (at.replies q))
     (λ q. claims_by_time w.now node new q node.config.longest (Replied w.sent w.ends.server_addr at.addr q) stays.start_is (names q))
 
 -- a datagram that is no request
@@ -128,6 +132,7 @@ other_kept law w i node new to octets m kept up stays names written off no_overw
     (λ q. fresh_by_time w.now node new q (Asked w.sent (at.addr).ip q) (Asked (w.sent ++ datagram new.addr to w.now octets ∷ []) (at.addr).ip q)
     (Replied w.sent w.ends.server_addr at.addr q) (Replied (w.sent ++ datagram new.addr to w.now octets ∷ []) w.ends.server_addr at.addr q) stays.start_is (names q)
     (asked_still w.sent (w.sent ++ datagram new.addr to w.now octets ∷ []) (at.addr).ip q (grows_by w.sent (datagram new.addr to w.now octets)))
+    (others_fewer law w at.addr (datagram new.addr to w.now octets) m (at.addr).ip q sending (off q))
     (replied_before w.sent (w.sent ++ datagram new.addr to w.now octets ∷ []) at.addr w.ends.server_addr at.addr q at.no_server
     (from_new w at.addr (w.sent ++ datagram new.addr to w.now octets ∷ []) fresh))
     (at.replies q))

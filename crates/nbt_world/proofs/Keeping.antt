@@ -185,6 +185,7 @@ node_changes w i addr x sent kept at is new grows names replies claims = record 
         rw (node_with_other w.ends i x n ne)
         (fresh-frame w.config.life w.now w.now (Asked w.sent a.ip name) (Asked sent a.ip name) (Replied w.sent w.ends.server_addr a name) (Replied sent w.ends.server_addr a name) (known (node_of w.ends n) name) (omega arith)
         (asked_still w.sent sent a.ip name grows)
+        (asked_before w.sent sent addr a.ip name (λ same. ne (kept.ends.apart n (suc i) a addr p at (sym same))) (from_new w addr sent new))
         (replied_before w.sent sent addr w.ends.server_addr a name (node_not_server w i addr kept at) (from_new w addr sent new))
         (kept.replies n a name p))
 

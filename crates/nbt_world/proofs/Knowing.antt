@@ -12,7 +12,7 @@ use Rattle.nbt_node.specs.Settling.{is_over, rested, pending_at, settled}
 use Rattle.nbt_node.specs.Node.{NodeValue}
 use Rattle.nbt_node.specs.Moves.{NameEvent, hear, Told, Move, asks, gives_back, asks_again, gives_back_again, refreshes_again, refreshes, granted_to, renewed_to, refused_to, loses_asked, loses_held, freed, asking_waits, giving_back_waits, refresh_waits, unmoved}
 use Rattle.nbt_world.specs.World.{IsDeliverable}
-use Rattle.nbt_world.specs.Kept.{IsRequest, AsksAs, Known, last_of, WantsIn, IsOpenIn, DrawnBy, RequestsEnded, RepliesFresh}
+use Rattle.nbt_world.specs.Kept.{IsRequest, AsksAs, Known, last_of, WantsIn, IsOpen, IsOpenIn, DrawnBy, RequestsEnded, RepliesFresh}
 
 -- ---- time
 
@@ -96,16 +96,16 @@ pub record IsSent (life now start : ℕ) (name : NameValue) (s t : State) (m : M
   pub request : IsRequest name m
   pub kind_is : (kind : Kind) → WantsIn t kind → AsksAs kind m
   pub before : (kind : Kind) → WantsIn t kind → WantsIn s kind ⊎ (last_of s start + 2 * life < now)
-  pub begun : (kind : Kind) (first : ℕ) → IsOpenIn t kind first → IsOpenIn s kind first ⊎ (now ≡ first)
+  pub begun : (kind : Kind) (first : ℕ) → IsOpenIn t kind first → IsOpenIn s kind first ⊎ ((now ≡ first) × (last_of s start + 2 * life < now))
 
 pub is_sent : {node : NodeValue} {now : ℕ} {name : NameValue} {s t : State} {event : NameEvent} {m : MessageValue} {told : Told} {next : ℕ}
     → Move node now name s event t (Some m) told next → IsSent node.config.life now node.start name s t m
-is_sent (asks kind ttl rested) = record { last_is = refl; request = refl; kind_is = λ k w. w; before = λ k w. inr rested; begun = λ k first w. inr w.1 }
+is_sent (asks kind ttl rested) = record { last_is = refl; request = refl; kind_is = λ k w. w; before = λ k w. inr rested; begun = λ k first w. inr (w.1, rested) }
 is_sent (gives_back kind ttl until renew last pending) = record { last_is = refl; request = refl; kind_is = λ k w. elim w [ ]; before = λ k w. elim w [ ]; begun = λ k first w. elim w [ ] }
 is_sent (asks_again kind ttl id first last tries due e) = record { last_is = refl; request = refl; kind_is = λ k w. w; before = λ k w. inl w; begun = λ k first w. inl w }
 is_sent (gives_back_again kind id last tries due e) = record { last_is = refl; request = refl; kind_is = λ k w. elim w [ ]; before = λ k w. elim w [ ]; begun = λ k first w. elim w [ ] }
 is_sent (refreshes_again kind ttl until renew last p e) = record { last_is = refl; request = refl; kind_is = λ k w. w; before = λ k w. inl w; begun = λ k first w. inl w }
-is_sent (refreshes kind ttl until renew last due rested) = record { last_is = refl; request = refl; kind_is = λ k w. w; before = λ k w. inl w; begun = λ k first w. inr w.1 }
+is_sent (refreshes kind ttl until renew last due rested) = record { last_is = refl; request = refl; kind_is = λ k w. w; before = λ k w. inl w; begun = λ k first w. inr (w.1, rested) }
 
 -- after a sending: what the network has is what it had, and the request that was sent now
 pub ended-sent : (life now start : ℕ) (name : NameValue) (old new : ℕ → MessageValue → Type 0) (s t : State) (m : MessageValue) → IsSent life now start name s t m
@@ -160,10 +160,12 @@ fresh-fades life now start asked replied s t (stays same wants opens) kept = rec
       let k = kept.drawn moment m r d in
       record { sent = k.sent; request = k.request; asked_is = k.asked_is; in_time = k.in_time; known_of = rw same k.known_of };
   begun = λ kind first w. kept.begun kind first (opens kind first w);
+  since = λ kind first moment m w x d. kept.since kind first moment m (opens kind first w) x d;
 }
 fresh-fades life now start asked replied s t (ends over idle) kept = record {
   drawn = λ moment m r d. let k = kept.drawn moment m r d in let a = k.in_time in let b = k.known_of in absurd (omega arith);
   begun = λ kind first w. absurd (not_open t idle kind first w);
+  since = λ kind first moment m w x d. absurd (not_open t idle kind first w);
 }
   where
     not_open : (u : State) → u ≡ Idle → (kind : Kind) (first : ℕ) → IsOpenIn u kind first → ⊥
@@ -172,36 +174,69 @@ fresh-fades life now start asked replied s t (ends over idle) kept = record {
 pub fresh-sent : (life now start : ℕ) (name : NameValue) (asked more replied : ℕ → MessageValue → Type 0) (s t : State) (m : MessageValue) → IsSent life now start name s t m
     → ((moment : ℕ) (message : MessageValue) → asked moment message → moment ≤ now)
     → ((moment : ℕ) (message : MessageValue) → asked moment message → more moment message)
-    → RepliesFresh life now asked replied (knows start s) → RepliesFresh life now more replied (knows start t)
-fresh-sent life now start name asked more replied s t m is past grows kept = record {
+    → ((moment : ℕ) (message : MessageValue) → more moment message → asked moment message ⊎ ((moment ≡ now) × (message ≡ m)))
+    → RequestsEnded life now asked (knows start s) → RepliesFresh life now asked replied (knows start s) → RepliesFresh life now more replied (knows start t)
+fresh-sent life now start name asked more replied s t m is past grows back ended kept = record {
   drawn = λ moment message r d.
       let k = kept.drawn moment message r d in
       record { sent = k.sent; request = k.request; asked_is = grows k.sent k.request k.asked_is; in_time = k.in_time; known_of = rw is.last_is (past k.sent k.request k.asked_is) };
   begun = λ kind first w. by_now kind first (is.begun kind first w);
+  since = λ kind first moment message w x d. after_first kind first moment message (is.begun kind first w) d (seen moment message x);
 }
   where
-    by_now : (kind : Kind) (first : ℕ) → IsOpenIn s kind first ⊎ (now ≡ first) → first ≤ now
+    by_now : (kind : Kind) (first : ℕ) → IsOpenIn s kind first ⊎ ((now ≡ first) × (last_of s start + 2 * life < now)) → first ≤ now
     by_now kind first (inl w) = kept.begun kind first w
-    by_now kind first (inr e) = omega arith
+    by_now kind first (inr e) = let at = e.0 in omega arith
 
--- a later moment, no fewer requests, and no more replies
+    -- what is there was there, or was sent now
+    seen : (moment : ℕ) (message : MessageValue) → more moment message ⊎ replied moment message → (asked moment message ⊎ replied moment message) ⊎ (moment ≡ now)
+    seen moment message (inl a) = go (back moment message a)
+      where
+        go : asked moment message ⊎ ((moment ≡ now) × (message ≡ m)) → (asked moment message ⊎ replied moment message) ⊎ (moment ≡ now)
+        go (inl old) = inl (inl old)
+        go (inr e) = inr e.0
+    seen moment message (inr r) = inl (inr r)
+
+    -- where it rested, nothing is left
+    over : (moment : ℕ) (message : MessageValue) → last_of s start + 2 * life < now → asked moment message ⊎ replied moment message → IsDeliverable life now moment → ⊥
+    over moment message rested (inl a) d = let before = ended.ended moment message a d in absurd (omega arith)
+    over moment message rested (inr r) d =
+        let k = kept.drawn moment message r d in
+        let a = k.in_time in
+        let b = k.known_of in
+        absurd (omega arith)
+
+    after_first : (kind : Kind) (first moment : ℕ) (message : MessageValue) → IsOpenIn s kind first ⊎ ((now ≡ first) × (last_of s start + 2 * life < now)) → IsDeliverable life now moment
+        → (asked moment message ⊎ replied moment message) ⊎ (moment ≡ now) → first ≤ moment
+    after_first kind first moment message (inl w) d (inl x) = kept.since kind first moment message w x d
+    after_first kind first moment message (inr e) d (inl x) = absurd (over moment message e.1 x d)
+    after_first kind first moment message begun d (inr e) = let by = by_now kind first begun in omega arith
+
+-- a later moment, the same requests, and no more replies
 pub fresh-frame : (life now later : ℕ) (asked more replied fewer : ℕ → MessageValue → Type 0) (k : Option Known) → now ≤ later
     → ((moment : ℕ) (message : MessageValue) → asked moment message → more moment message)
+    → ((moment : ℕ) (message : MessageValue) → more moment message → asked moment message)
     → ((moment : ℕ) (message : MessageValue) → fewer moment message → replied moment message)
     → RepliesFresh life now asked replied k → RepliesFresh life later more fewer k
-fresh-frame life now later asked more replied fewer None le grows shrinks kept = record {
+fresh-frame life now later asked more replied fewer None le grows back shrinks kept = record {
   drawn = λ moment message r d.
       let k = kept.drawn moment message (shrinks moment message r) (omega arith) in
       let b = k.known_of in
       record { sent = k.sent; request = k.request; asked_is = grows k.sent k.request k.asked_is; in_time = k.in_time; known_of = omega arith };
   begun = λ kind first w. elim w [ ];
+  since = λ kind first moment message w x d. elim w [ ];
 }
-fresh-frame life now later asked more replied fewer (Some x) le grows shrinks kept = record {
+fresh-frame life now later asked more replied fewer (Some x) le grows back shrinks kept = record {
   drawn = λ moment message r d.
       let k = kept.drawn moment message (shrinks moment message r) (omega arith) in
       record { sent = k.sent; request = k.request; asked_is = grows k.sent k.request k.asked_is; in_time = k.in_time; known_of = k.known_of };
   begun = λ kind first w. let b = kept.begun kind first w in omega arith;
+  since = λ kind first moment message w x d. kept.since kind first moment message w (seen moment message x) (omega arith);
 }
+  where
+    seen : (moment : ℕ) (message : MessageValue) → more moment message ⊎ fewer moment message → asked moment message ⊎ replied moment message
+    seen moment message (inl a) = inl (back moment message a)
+    seen moment message (inr r) = inr (shrinks moment message r)
 
 pub fresh-start : (life now : ℕ) (asked replied : ℕ → MessageValue → Type 0) → RepliesFresh life now asked replied None → RepliesFresh life now asked replied (knows now Idle)
 fresh-start life now asked replied kept = record {
@@ -209,6 +244,7 @@ fresh-start life now asked replied kept = record {
       let k = kept.drawn moment message r d in
       record { sent = k.sent; request = k.request; asked_is = k.asked_is; in_time = k.in_time; known_of = k.known_of };
   begun = λ kind first w. elim w [ ];
+  since = λ kind first moment message w x d. elim w [ ];
 }
 
 pub fresh-down : (life now : ℕ) (asked replied : ℕ → MessageValue → Type 0) (k : Option Known) → ((moment : ℕ) (message : MessageValue) → asked moment message → moment ≤ now)
@@ -218,6 +254,7 @@ fresh-down life now asked replied k past kept = record {
       let b = kept.drawn moment message r d in
       record { sent = b.sent; request = b.request; asked_is = b.asked_is; in_time = b.in_time; known_of = past b.sent b.request b.asked_is };
   begun = λ kind first w. elim w [ ];
+  since = λ kind first moment message w x d. elim w [ ];
 }
 
 -- replies more, which the server has sent now, each to a request that was delivered
@@ -230,13 +267,23 @@ pub record Draws (life now : ℕ) (asked : ℕ → MessageValue → Type 0) (mom
 
 pub fresh-reply : (life now : ℕ) (asked more replied grown : ℕ → MessageValue → Type 0) (k : Option Known) → RequestsEnded life now asked k
     → ((moment : ℕ) (message : MessageValue) → asked moment message → more moment message)
+    → ((kind : Kind) (first moment : ℕ) (message : MessageValue) → IsOpen k kind first → more moment message → asked moment message)
     → ((moment : ℕ) (message : MessageValue) → grown moment message → replied moment message ⊎ Draws life now asked moment)
     → RepliesFresh life now asked replied k → RepliesFresh life now more grown k
-fresh-reply life now asked more replied grown k ended grows new kept = record {
+fresh-reply life now asked more replied grown k ended grows back new kept = record {
   drawn = λ moment message r d. by moment message d (new moment message r);
   begun = kept.begun;
+  since = λ kind first moment message w x d. after_first kind first moment message w d x;
 }
   where
+    after_first : (kind : Kind) (first moment : ℕ) (message : MessageValue) → IsOpen k kind first → IsDeliverable life now moment → more moment message ⊎ grown moment message → first ≤ moment
+    after_first kind first moment message w d (inl a) = kept.since kind first moment message w (inl (back kind first moment message w a)) d
+    after_first kind first moment message w d (inr r) = go (new moment message r)
+      where
+        go : replied moment message ⊎ Draws life now asked moment → first ≤ moment
+        go (inl old) = kept.since kind first moment message w (inr old) d
+        go (inr e) = let n = e.now_is in let b = kept.begun kind first w in omega arith
+
     by : (moment : ℕ) (message : MessageValue) → IsDeliverable life now moment → replied moment message ⊎ Draws life now asked moment → DrawnBy life now more k moment
     by moment message d (inl r) =
         let b = kept.drawn moment message r d in

@@ -172,23 +172,28 @@ fresh_as : (life now : ℕ) (asked replied : ℕ → MessageValue → Type 0) (n
 fresh_as life now asked replied new q start s e f kept = rw (e, f) kept
 
 pub fresh_by_time : (now : ℕ) (old new : NodeValue) (q : NameValue) (asked more replied fewer : ℕ → MessageValue → Type 0) → new.start ≡ old.start → state_of new q ≡ state_at old now q
-    → ((moment : ℕ) (message : MessageValue) → asked moment message → more moment message) → ((moment : ℕ) (message : MessageValue) → fewer moment message → replied moment message)
+    → ((moment : ℕ) (message : MessageValue) → asked moment message → more moment message) → ((moment : ℕ) (message : MessageValue) → more moment message → asked moment message)
+    → ((moment : ℕ) (message : MessageValue) → fewer moment message → replied moment message)
     → RepliesFresh old.config.life now asked replied (known (Some old) q) → RepliesFresh old.config.life now more fewer (known (Some new) q)
-fresh_by_time now old new q asked more replied fewer start state grows shrinks kept =
+fresh_by_time now old new q asked more replied fewer start state grows back shrinks kept =
     fresh_as old.config.life now more fewer new q old.start (state_at old now q) start state
-    (fresh-frame old.config.life now now asked more replied fewer (knows old.start (state_at old now q)) (omega arith) grows shrinks
+    (fresh-frame old.config.life now now asked more replied fewer (knows old.start (state_at old now q)) (omega arith) grows back shrinks
     (fresh-fades old.config.life now old.start asked replied (state_of old q) (state_at old now q) (fades old.config.life now old.start (state_of old q)) kept))
 
 pub fresh_sends : (now : ℕ) (old new : NodeValue) (name : NameValue) (event : NameEvent) (m : MessageValue) (told : Told) (asked more replied fewer : ℕ → MessageValue → Type 0) → new.start ≡ old.start
     → NameMoves old now name event new (Some m) told
     → ((moment : ℕ) (message : MessageValue) → asked moment message → moment ≤ now)
-    → ((moment : ℕ) (message : MessageValue) → asked moment message → more moment message) → ((moment : ℕ) (message : MessageValue) → fewer moment message → replied moment message)
-    → RepliesFresh old.config.life now asked replied (known (Some old) name) → RepliesFresh old.config.life now more fewer (known (Some new) name)
-fresh_sends now old new name event m told asked more replied fewer start moves past grows shrinks kept =
+    → ((moment : ℕ) (message : MessageValue) → asked moment message → more moment message)
+    → ((moment : ℕ) (message : MessageValue) → more moment message → asked moment message ⊎ ((moment ≡ now) × (message ≡ m)))
+    → ((moment : ℕ) (message : MessageValue) → fewer moment message → replied moment message)
+    → RequestsEnded old.config.life now asked (known (Some old) name) → RepliesFresh old.config.life now asked replied (known (Some old) name)
+    → RepliesFresh old.config.life now more fewer (known (Some new) name)
+fresh_sends now old new name event m told asked more replied fewer start moves past grows back shrinks ended kept =
     fresh_as old.config.life now more fewer new name old.start (settled old.config.life now moves.after) start moves.named
-    (fresh-frame old.config.life now now more more replied fewer (knows old.start (settled old.config.life now moves.after)) (omega arith) (λ moment message a. a) shrinks
+    (fresh-frame old.config.life now now more more replied fewer (knows old.start (settled old.config.life now moves.after)) (omega arith) (λ moment message a. a) (λ moment message a. a) shrinks
     (fresh-fades old.config.life now old.start more replied moves.after (settled old.config.life now moves.after) (fades old.config.life now old.start moves.after)
-    (fresh-sent old.config.life now old.start name asked more replied (state_at old now name) moves.after m (is_sent moves.move) past grows
+    (fresh-sent old.config.life now old.start name asked more replied (state_at old now name) moves.after m (is_sent moves.move) past grows back
+    (ended-fades old.config.life now old.start asked (state_of old name) (state_at old now name) (fades old.config.life now old.start (state_of old name)) ended)
     (fresh-fades old.config.life now old.start asked replied (state_of old name) (state_at old now name) (fades old.config.life now old.start (state_of old name)) kept))))
 
 pub fresh_hears : (now : ℕ) (old new : NodeValue) (name : NameValue) (m : MessageValue) (told : Told) (asked replied : ℕ → MessageValue → Type 0) → new.start ≡ old.start

@@ -160,11 +160,12 @@ pub record DrawnBy (life now : ℕ) (asked : ℕ → MessageValue → Type 0) (k
   pub in_time : moment ≤ sent + life
   pub known_of : sent ≤ bound now k
 
--- What is open is fresh: each reply that may still be delivered was drawn by a request that the node knows of, and what
--- is open was first sent by now.
+-- What is open is fresh: each reply that may still be delivered was drawn by a request that the node knows of; what is
+-- open was first sent by now, and no request or reply that may still be delivered is older.
 pub record RepliesFresh (life now : ℕ) (asked replied : ℕ → MessageValue → Type 0) (k : Option Known) : Type 0 where
   pub drawn : (moment : ℕ) (message : MessageValue) → replied moment message → IsDeliverable life now moment → DrawnBy life now asked k moment
   pub begun : (kind : Kind) (first : ℕ) → IsOpen k kind first → first ≤ now
+  pub since : (kind : Kind) (first moment : ℕ) (message : MessageValue) → IsOpen k kind first → asked moment message ⊎ replied moment message → IsDeliverable life now moment → first ≤ moment
 
 -- ---- what holds of the ends and of the network
 
