@@ -13,6 +13,7 @@ pub mod Deliveries
 pub mod Starting
 pub mod Worlds
 pub mod Safe
+pub mod Following
 pub mod Running
 pub mod Holding
 pub mod Apart

@@ -2,3 +2,4 @@ pub mod World
 pub mod Step
 pub mod Safety
 pub mod Kept
+pub mod Facts

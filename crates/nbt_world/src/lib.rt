@@ -1,11 +1,13 @@
 //! All ends of a network as one value with one clock, moved by events: a name server, its nodes, and the datagrams
 //! between them, which may be lost, repeated, late and out of order (RFC 1001 section 15). Each world keeps what the
-//! safety of names rests on: sound leases, requests that have ended, and replies that are fresh.
+//! safety of names rests on: sound leases, requests that have ended, replies that are fresh, and claims that leases
+//! cover. So in no world along a run two nodes hold one name, unless both as a group.
 #![tactic(auto)]
 
 mod doing;
 mod ends;
 mod event;
+pub mod laws;
 mod network;
 mod world;
 

@@ -1,0 +1,15 @@
+use Rattle.nbt_world.proofs.Following.{claims_covered, open_fresh, requests_ended}
+use Rattle.nbt_world.proofs.Safe.{is_safe}
+use Rattle.nbt_world.proofs.laws.facts_of_every_world.Goals as goal
+
+pub returns-clause-covered : goal.returns-clause-covered
+returns-clause-covered c = claims_covered
+
+pub returns-clause-fresh : goal.returns-clause-fresh
+returns-clause-fresh c = open_fresh
+
+pub returns-clause-ended : goal.returns-clause-ended
+returns-clause-ended c = requests_ended
+
+pub returns-clause-safe : goal.returns-clause-safe
+returns-clause-safe c = is_safe
