@@ -76,22 +76,29 @@ fn name_status(node: usize, to: Addr, name: &Name) -> Event {
     }
 }
 
-/// Each event in turn has this outcome.
+/// Each event in turn has this outcome, and after each no two ends hold FRED or TEAM, unless both as a group.
 fn expect<R: Abort>(rt: &R, world: &mut World, steps: &[(Event, Outcome)]) -> Result<(), Fail> {
+    let names = [fred()?, team()?];
     for (event, outcome) in steps {
         let got = world.step(event)?;
         assert_eq!(rt; got, *outcome);
+        apart(rt, world, &names[0]);
+        apart(rt, world, &names[1]);
     }
     Ok(())
 }
 
-/// No two nodes hold the name, and these nodes do.
-fn holders<R: Abort>(rt: &R, world: &World, name: &Name, nodes: &[usize]) {
+/// No two ends hold the name, unless both as a group.
+fn apart<R: Abort>(rt: &R, world: &World, name: &Name) {
     for i in [0, 1, 2] {
         for j in [0, 1, 2] {
             assert!(rt; world.no_two_holders(i, j, name));
         }
     }
+}
+
+/// These nodes hold the name.
+fn holders<R: Abort>(rt: &R, world: &World, name: &Name, nodes: &[usize]) {
     let holders = world.holders(name);
     assert_eq!(rt; holders.len(), nodes.len());
     for (holder, node) in holders.as_slice().iter().zip(nodes) {
