@@ -1,12 +1,10 @@
 -- No move of a node makes a claim that wasn't there: time takes claims away, where a transaction opens no reply is left
 -- that could answer it, and a hold is the claim that its reply was.
-use Rattle.std.proofs.Common.{◌≡◌, ◌≢◌, ℕ, ◌+◌, ◌*◌, ◌<◌, ◌≤◌, Bool, true, false, cond, ltb, leb, Option, Some, None, refl, sym, ap, subst, ◌∙◌, arith, inl, inr}
-use Rattle.std.specs.Prelude.{◌⊎◌}
+use Rattle.std.proofs.Common.{◌≡◌, ℕ, ◌+◌, ◌*◌, ◌<◌, ◌≤◌, Bool, true, false, cond, ltb, leb, Option, Some, None, refl, subst, arith}
 use Rattle.nbt_name.specs.declared.addr.Kind.{Kind}
 use Rattle.nbt_name.specs.Wire.{NameValue}
 use Rattle.nbt_packet.specs.declared.message.Registration.{Registration}
 use Rattle.nbt_packet.specs.Message.{MessageValue, registered}
-use Rattle.nbt_lease.specs.Config.{granted}
 use Rattle.nbt_node.specs.declared.state.State.{State}
 use Rattle.nbt_node.specs.declared.state.State.TheVariants.{Idle, Asking, Held, Releasing, Resting}
 use Rattle.nbt_node.specs.declared.state.Refresh.{Refresh}
@@ -14,7 +12,7 @@ use Rattle.nbt_node.specs.Settling.{is_over, rested, pending_at, settled}
 use Rattle.nbt_node.specs.Node.{NodeValue, state_of, state_at}
 use Rattle.nbt_node.specs.Moves.{NameEvent, hear, Told, Move, NameMoves, asks, gives_back, asks_again, gives_back_again, refreshes_again, refreshes, granted_to, renewed_to, refused_to, loses_asked, loses_held, freed, asking_waits, giving_back_waits, refresh_waits, unmoved}
 use Rattle.nbt_world.specs.World.{IsDeliverable}
-use Rattle.nbt_world.specs.Kept.{Known, known, Wants, IsOpen, IsOpenIn, Holds, Claims, has, may_get, RepliesFresh, last_of}
+use Rattle.nbt_world.specs.Kept.{Known, known, Wants, IsOpen, IsOpenIn, Claims, has, may_get, RepliesFresh, last_of}
 use Rattle.nbt_world.proofs.Knowing.{knows, fades, fresh-fades}
 
 -- each claim was there before

@@ -1,6 +1,6 @@
 -- Claims stay covered, and beside one another, where no claim is new and what covers them stays: when the clock goes on,
 -- when one node changes, and when the server starts or crashes.
-use Rattle.std.proofs.Common.{◌≡◌, ◌≢◌, ℕ, zero, suc, ◌+◌, ◌*◌, ◌<◌, ◌≤◌, Bool, true, false, cond, List, [], ◌∷◌, Option, Some, None, refl, sym, ap, subst, ◌∙◌, arith, inl, inr}
+use Rattle.std.proofs.Common.{◌≡◌, ℕ, suc, ◌+◌, ◌*◌, ◌<◌, ◌≤◌, Bool, true, false, cond, List, [], ◌∷◌, Option, Some, None, refl, sym, ap, subst, ◌∙◌, arith, inl, inr}
 use Rattle.std.specs.Prelude.{Contains, ◌⊎◌, filter}
 use Rattle.std.proofs.lemmas.Bool.{lt-ltb, cases_eq}
 use Rattle.std.proofs.lemmas.List.Elements.{Contains-push_cases, Contains-append_cases, Contains-append_right}
@@ -17,7 +17,7 @@ use Rattle.nbt_node.specs.Node.{NodeValue}
 use Rattle.nbt_world.specs.declared.network.Datagram.{Datagram}
 use Rattle.nbt_world.specs.World.{WorldValue, addr_of, node_of, with_server, with_node}
 use Rattle.nbt_world.specs.Step.{IsNew as IsNewServer}
-use Rattle.nbt_world.specs.Kept.{Replied, Known, known, Claims, has, may_get, Backs, ClaimsIn, IsCoveredIn, IsSent, IsKept, ClaimsKept}
+use Rattle.nbt_world.specs.Kept.{Replied, known, Claims, has, may_get, Backs, ClaimsIn, IsCoveredIn, IsKept, ClaimsKept}
 use Rattle.nbt_world.proofs.Knowing.{knows}
 use Rattle.nbt_world.proofs.Claiming.{NoNewClaim, claims_fewer}
 use Rattle.nbt_world.proofs.Keeping.{IsNew, Grows, from_new, addr_with, node_with_other, node_with_here, node_not_server, replied_before, server_addr_with, server_node_with}

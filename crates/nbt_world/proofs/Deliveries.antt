@@ -24,7 +24,7 @@ use Rattle.nbt_server.specs.Serving.{ServerValue, AsksFor, grant_reply, refusal,
 use Rattle.nbt_server.specs.Serving as serving
 use Rattle.nbt_world.specs.declared.ends.Ends.{Ends}
 use Rattle.nbt_world.specs.declared.network.Datagram.{Datagram}
-use Rattle.nbt_world.specs.World.{WorldValue, IsDeliverable, IsOfEnd, addr_of, node_of, with_server, with_node, datagram}
+use Rattle.nbt_world.specs.World.{WorldValue, IsDeliverable, addr_of, node_of, with_server, with_node, datagram}
 use Rattle.nbt_world.specs.Step.{NodeHears, TakenValue, takes, after_taking, ServerDoes, server_takes, server_forgets, Takes, finds_down, by_server, by_node}
 use Rattle.nbt_world.specs.Kept.{IsRequest, IsReply, Asked, Replied, known, IsOpen, RequestsEnded, RepliesFresh, IsServerOf, IsKept}
 use Rattle.std.proofs.lemmas.List.Elements.{Contains-push_cases}

@@ -1,6 +1,5 @@
 -- What follows from the facts that every world keeps.
-use Rattle.std.proofs.Common.{◌≡◌, ◌≢◌, ℕ, ◌+◌, ◌*◌, ◌<◌, ◌≤◌, Option, Some, None, refl, sym, ap, subst, ◌∙◌, arith, inl, inr}
-use Rattle.std.specs.Prelude.{◌⊎◌}
+use Rattle.std.proofs.Common.{◌≡◌, ℕ, ◌+◌, ◌*◌, ◌<◌, ◌≤◌, Option, Some, None, refl, arith, inl, inr}
 use Rattle.nbt_name.specs.declared.addr.Addr.{Addr}
 use Rattle.nbt_name.specs.declared.addr.Kind.{Kind}
 use Rattle.nbt_name.specs.Wire.{NameValue}
@@ -8,10 +7,9 @@ use Rattle.nbt_packet.specs.Message.{MessageValue}
 use Rattle.nbt_server.specs.Serving.{ServerValue}
 use Rattle.nbt_node.specs.declared.state.State.{State}
 use Rattle.nbt_node.specs.declared.state.State.TheVariants.{Idle, Asking, Held, Releasing, Resting}
-use Rattle.nbt_node.specs.Node.{NodeValue, state_of}
 use Rattle.nbt_world.specs.World.{WorldValue, addr_of, node_of}
-use Rattle.nbt_world.specs.Kept.{Known, known, bound, last_of, WantsIn, Wants, IsOpen, IsOpenIn, Backs, IsCoveredIn, IsKept}
-use Rattle.nbt_world.specs.Facts.{IsBehind, by_lease, by_silence, while_down, ClaimsAreCovered, IsRested, RepliedIn, AskedIn, OpenIsFresh, RequestsHaveEnded}
+use Rattle.nbt_world.specs.Kept.{Known, known, bound, WantsIn, Wants, IsOpen, IsOpenIn, Backs, IsCoveredIn, IsKept}
+use Rattle.nbt_world.specs.Facts.{IsBehind, by_lease, by_silence, while_down, ClaimsAreCovered, IsRested, RepliedIn, OpenIsFresh, RequestsHaveEnded}
 
 pub claims_covered : (w : WorldValue) → IsKept w → ClaimsAreCovered w
 claims_covered w kept n a name kind end p c lt = go w.ends.server refl (is.backed)

@@ -1,16 +1,15 @@
 -- A world that keeps its facts is safe: what a node holds it claims, and claims stand beside one another only as a group's.
-use Rattle.std.proofs.Common.{◌≡◌, ◌≢◌, ℕ, ◌<◌, Bool, true, false, cond, ltb, Option, Some, None, refl, subst, ◌∙◌}
+use Rattle.std.proofs.Common.{◌≡◌, ℕ, ◌<◌, Bool, true, false, cond, ltb, Option, Some, None, refl}
 use Rattle.std.proofs.lemmas.Bool.{ltb-true}
 use Rattle.std.proofs.lemmas.Option.{none-some, same_Some}
 use Rattle.nbt_name.specs.declared.addr.Kind.{Kind}
-use Rattle.nbt_name.specs.declared.addr.Kind.TheVariants.{Group}
 use Rattle.nbt_name.specs.Wire.{NameValue}
 use Rattle.nbt_node.specs.declared.state.State.{State}
 use Rattle.nbt_node.specs.declared.state.State.TheVariants.{Idle, Asking, Held, Releasing, Resting}
-use Rattle.nbt_node.specs.Node.{NodeValue, state_of, held_at, holds}
-use Rattle.nbt_world.specs.World.{WorldValue, addr_of, node_of}
-use Rattle.nbt_world.specs.Safety.{held_by, holding, MayHold, IsSafe}
-use Rattle.nbt_world.specs.Kept.{HoldsIn, known, has, Holds, Replied, ClaimsIn, IsKept}
+use Rattle.nbt_node.specs.Node.{NodeValue, state_of, held_at}
+use Rattle.nbt_world.specs.World.{WorldValue, node_of}
+use Rattle.nbt_world.specs.Safety.{held_by, holding, IsSafe}
+use Rattle.nbt_world.specs.Kept.{HoldsIn, known, has, Holds, IsKept}
 use Rattle.nbt_world.proofs.Keeping.{addr_there}
 
 -- what a state holds at a moment, it holds until later

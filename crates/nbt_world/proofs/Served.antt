@@ -1,9 +1,7 @@
 -- Claims stay covered, and beside one another, when the server takes a datagram: a claim is an old one, or the grant of
 -- this reply covers it.
-use Rattle.std.proofs.Common.{◌≡◌, ◌≢◌, ℕ, ◌+◌, ◌*◌, ◌<◌, ◌≤◌, List, [], ◌∷◌, ◌++◌, Option, Some, None, refl, sym, ap, subst, ◌∙◌, arith, inl, inr}
-use Rattle.std.specs.Prelude.{Contains, ◌⊎◌}
-use Rattle.std.proofs.lemmas.Option.{none-some, same_Some}
-use Rattle.std.proofs.lemmas.List.Elements.{Contains-push_cases}
+use Rattle.std.proofs.Common.{◌≡◌, ◌≢◌, ℕ, ◌+◌, ◌*◌, ◌<◌, ◌≤◌, List, Option, Some, refl, sym, ap, subst, ◌∙◌, arith, inl, inr}
+use Rattle.std.specs.Prelude.{◌⊎◌}
 use Rattle.nbt_name.specs.declared.addr.Addr.{Addr}
 use Rattle.nbt_name.specs.declared.addr.Kind.{Kind}
 use Rattle.nbt_name.specs.declared.addr.Kind.TheVariants.{Group}
@@ -19,7 +17,7 @@ use Rattle.nbt_node.specs.Node.{NodeValue}
 use Rattle.nbt_world.specs.declared.network.Datagram.{Datagram}
 use Rattle.nbt_world.specs.World.{WorldValue, addr_of, node_of, with_server}
 use Rattle.nbt_world.specs.Step.{ServerTakes, ServerForgets}
-use Rattle.nbt_world.specs.Kept.{IsRequest, AsksAs, Asked, Replied, known, Wants, IsOpen, Claims, has, may_get, IsLeased, Backs, ClaimsIn, IsCoveredIn, ClaimsKept, IsKept}
+use Rattle.nbt_world.specs.Kept.{IsRequest, AsksAs, Replied, known, Wants, Claims, has, may_get, IsLeased, Backs, ClaimsIn, IsCoveredIn, ClaimsKept, IsKept}
 use Rattle.nbt_world.proofs.Claiming.{claims_want}
 use Rattle.nbt_world.proofs.Keeping.{Grows, server_addr_with, server_node_with}
 use Rattle.nbt_world.proofs.Covering.{replied_still, server_claims}

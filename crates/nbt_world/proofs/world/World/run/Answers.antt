@@ -1,4 +1,4 @@
-use Rattle.std.proofs.Common.{[], ◌∷◌, arith}
+use Rattle.std.proofs.Common.{[], ◌∷◌}
 use Rattle.std.proofs.lemmas.List.Elements.{All-nil, All-cons, All-push}
 use Rattle.nbt_world.specs.Safety.{IsSafe, ends}
 use Rattle.nbt_world.proofs.Running.{run_next, run_whole}
