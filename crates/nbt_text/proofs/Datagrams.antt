@@ -1,5 +1,5 @@
 -- What the reader of datagrams returns: one datagram, or one fault; and where a datagram has no names.
-use Rattle.std.proofs.Common.{◌≡◌, ℕ, ◌≤◌, ◌<◌, List, [], length, Result, Ok, Err, ap, refl, arith}
+use Rattle.std.proofs.Common.{◌≡◌, ℕ, ◌≤◌, ◌<◌, List, [], length, Result, Ok, Err, sym, ◌∙◌, ap, refl, arith}
 use Rattle.std.specs.Prelude.{◌↔◌}
 use Rattle.nbt_dgram.specs.declared.dgram.Dgram.{Dgram}
 use Rattle.nbt_dgram.specs.declared.dgram.Names.{Names}
@@ -20,6 +20,17 @@ Faults octets result = (fault : DgramFault) → (decoded result ≡ Err fault) �
 
 pub dgram_there : (octets : List ℕ) (d : Dgram) (taken : ℕ) (result : Result (Dgram × ℕ) DgramFault) → Reads octets result → result ≡ Ok (d, taken) → DgramIs octets (dgram_of d) taken
 dgram_there octets d taken result reads e = (reads (dgram_of d) taken).0 (ap decoded e)
+
+pub no_dgram_there : (octets : List ℕ) (fault : DgramFault) (d : DgramValue) (taken : ℕ) (result : Result (Dgram × ℕ) DgramFault) → Reads octets result → result ≡ Err fault → DgramIs octets d taken → ⊥
+no_dgram_there octets fault d taken result reads e is =
+    let one = (reads d taken).1 is in
+    let other = ap decoded e in cc (sym other ∙ one)
+
+pub taken_is_one : (octets : List ℕ) (d : Dgram) (taken : ℕ) (other : DgramValue) (n : ℕ) (result : Result (Dgram × ℕ) DgramFault) → Reads octets result → result ≡ Ok (d, taken) → DgramIs octets other n → taken ≡ n
+taken_is_one octets d taken other n result reads e is =
+    let one = (reads other n).1 is in
+    let same = sym (ap decoded e) ∙ one in
+    let pair : (dgram_of d, taken) ≡ (other, n) = cc in ap (λ (x : DgramValue × ℕ). x.1) pair
 
 ten_at_least : (t : MsgType) → 10 ≤ head_size t
 ten_at_least (types.Data delivery) = omega arith

@@ -1,12 +1,12 @@
 -- Verdicts line by line: what stands in a line that was read, the lines that are left, and the verdicts so far.
-use Rattle.std.proofs.Common.{◌≡◌, ℕ, ◌+◌, ◌==◌, List, [], ◌∷◌, ◌++◌, get_or, Bool, false, Option, Some, None, Result, ◌∙◌, ap, refl, arith, subst, append_assoc}
+use Rattle.std.proofs.Common.{◌≡◌, ℕ, ◌+◌, ◌==◌, List, [], ◌∷◌, ◌++◌, get_or, Bool, false, Option, Some, None, ◌∙◌, ap, refl, arith, subst, append_assoc}
 use Rattle.std.specs.Prelude.{MatchOption}
 use Rattle.std.specs.List.{All}
 use Rattle.std.proofs.lemmas.List.Splits.{slice_split_at, slice_split_none}
 use Rattle.std.proofs.lemmas.Bool.{ne_eqb}
 use Rattle.std.proofs.lemmas.List.{get_or_default, append-nil}
 use denote.Ref.{Bor}
-use Rattle.nbt_packet.specs.declared.fault.Fault.{Fault}
+use Rattle.nbt_text.specs.declared.vector.Expected.{Expected}
 use Rattle.nbt_text.specs.declared.vector.Line.{Line}
 use Rattle.nbt_text.specs.declared.vector.Line.TheVariants as line
 use Rattle.nbt_text.specs.declared.vector.Vector.{Vector}
@@ -27,7 +27,7 @@ vector_in text _ v (vector_stands other some spelled) e =
 vector_in text _ v (unreadable some none) e = absurd cc
 
 pub nothing_in : (text : List ℕ) (said : Line) → LineIs text said → said ≡ line.Unreadable
-    → (¬ IsPassedOver text) × ((octets : List ℕ) (expected : Result ℕ Fault) → ¬ SpellsVector (words text) octets expected)
+    → (¬ IsPassedOver text) × ((octets : List ℕ) (expected : Expected) → ¬ SpellsVector (words text) octets expected)
 nothing_in text _ (passed_over blank) e = absurd cc
 nothing_in text _ (vector_stands v some spelled) e = absurd cc
 nothing_in text _ (unreadable some none) e = (some, none)

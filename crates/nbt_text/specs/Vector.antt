@@ -1,16 +1,24 @@
--- Lines of vectors: octets, and what the reader of packets says of them (our profile).
-use Rattle.std.specs.Prelude.{◌≡◌, ℕ, ◌==◌, ◌⊎◌, not, List, [], ◌∷◌, Result, Ok, Err, Some, filter, length, slice_get, codes}
+-- Lines of vectors: octets, and what the reader of packets, or of datagrams, says of them (our profile).
+use Rattle.std.specs.Prelude.{◌≡◌, ℕ, ◌==◌, ◌⊎◌, not, List, [], ◌∷◌, Ok, Err, Some, filter, length, slice_get, codes}
 use Rattle.std.specs.List.{slice_split}
 use Rattle.hex.specs.Hex.{decode_of}
+use Rattle.nbt_dgram.specs.declared.fault.DgramFault.{DgramFault}
+use Rattle.nbt_dgram.specs.Dgram.{DgramValue, DgramIs, FaultIs}
 use Rattle.nbt_packet.specs.declared.fault.Fault.{Fault}
 use Rattle.nbt_packet.specs.Packet.{PacketValue, PacketIs, PacketFault}
+use Rattle.nbt_text.specs.declared.vector.Expected.{Expected}
+use Rattle.nbt_text.specs.declared.vector.Expected.TheVariants.{Name, Dgram}
+use Rattle.nbt_text.specs.declared.vector.Service.{Service}
+use Rattle.nbt_text.specs.declared.vector.Service.TheVariants as services
 use Rattle.nbt_text.specs.Number.{SpellsNumber}
-use Rattle.nbt_text.specs.Words.{fault_word}
+use Rattle.nbt_text.specs.Words.{dgram_fault_word, fault_word}
 
--- what the reader of packets says of octets: how many the packet takes, or its fault
-abbrev pub Says : List ℕ → Result ℕ Fault → Type 0
-Says octets (Ok taken) = (packet : PacketValue) × PacketIs octets packet taken
-Says octets (Err fault) = PacketFault octets fault
+-- the reader of packets, or of datagrams, says what is expected: how many octets are taken, or the fault
+abbrev pub Says : List ℕ → Expected → Type 0
+Says octets (Name (Ok taken)) = (packet : PacketValue) × PacketIs octets packet taken
+Says octets (Name (Err fault)) = PacketFault octets fault
+Says octets (Dgram (Ok taken)) = (d : DgramValue) × DgramIs octets d taken
+Says octets (Dgram (Err fault)) = FaultIs octets fault
 
 -- the words of a line, between spaces
 abbrev pub words : List ℕ → List (List ℕ)
@@ -21,18 +29,27 @@ pub data SpellsOctets : List ℕ → List ℕ → Type 0 where
   no_octets : SpellsOctets (codes "-") []
   in_digits : (digits octets : List ℕ) → decode_of digits ≡ Ok octets → SpellsOctets digits octets
 
--- `ok N`, or `fault WORD PLACE`
-pub data SpellsExpected : List (List ℕ) → Result ℕ Fault → Type 0 where
-  taken : (number : List ℕ) (count : ℕ) → SpellsNumber number count
-      → SpellsExpected (codes "ok" ∷ number ∷ []) (Ok count)
-  refused : (number : List ℕ) (fault : Fault) → SpellsNumber number fault.place
-      → SpellsExpected (codes "fault" ∷ fault_word fault.kind ∷ number ∷ []) (Err fault)
+-- the word for the service whose reader is asked
+abbrev pub service_word : Service → List ℕ
+service_word services.Name = codes "name"
+service_word services.Dgram = codes "dgram"
 
--- `name HEX`, and what is expected
-pub data SpellsVector : List (List ℕ) → List ℕ → Result ℕ Fault → Type 0 where
-  name_vector : (digits : List ℕ) (rest : List (List ℕ)) (octets : List ℕ) (expected : Result ℕ Fault)
-      → SpellsOctets digits octets → SpellsExpected rest expected
-      → SpellsVector (codes "name" ∷ digits ∷ rest) octets expected
+-- `ok N`, or `fault WORD PLACE` with a word of the service's faults
+pub data SpellsExpected : Service → List (List ℕ) → Expected → Type 0 where
+  name_taken : (number : List ℕ) (count : ℕ) → SpellsNumber number count
+      → SpellsExpected services.Name (codes "ok" ∷ number ∷ []) (Name (Ok count))
+  name_refused : (number : List ℕ) (fault : Fault) → SpellsNumber number fault.place
+      → SpellsExpected services.Name (codes "fault" ∷ fault_word fault.kind ∷ number ∷ []) (Name (Err fault))
+  dgram_taken : (number : List ℕ) (count : ℕ) → SpellsNumber number count
+      → SpellsExpected services.Dgram (codes "ok" ∷ number ∷ []) (Dgram (Ok count))
+  dgram_refused : (number : List ℕ) (fault : DgramFault) → SpellsNumber number fault.place
+      → SpellsExpected services.Dgram (codes "fault" ∷ dgram_fault_word fault.kind ∷ number ∷ []) (Dgram (Err fault))
+
+-- the service's word, HEX, and what is expected
+pub data SpellsVector : List (List ℕ) → List ℕ → Expected → Type 0 where
+  vector : (service : Service) (digits : List ℕ) (rest : List (List ℕ)) (octets : List ℕ) (expected : Expected)
+      → SpellsOctets digits octets → SpellsExpected service rest expected
+      → SpellsVector (service_word service ∷ digits ∷ rest) octets expected
 
 -- spaces alone, or a remark
 abbrev pub IsPassedOver : List ℕ → Type 0

@@ -1,8 +1,8 @@
 -- What is printed of lines of vectors (our profile).
-use Rattle.std.specs.Prelude.{◌≡◌, ℕ, ◌+◌, ◌==◌, List, [], ◌∷◌, ◌++◌, Option, Some, None, Bool, true, false, Result, codes}
+use Rattle.std.specs.Prelude.{◌≡◌, ℕ, ◌+◌, ◌==◌, List, [], ◌∷◌, ◌++◌, Option, Some, None, Bool, true, false, codes}
 use Rattle.std.specs.Fmt.{decimal}
 use Rattle.std.specs.List.{slice_split}
-use Rattle.nbt_packet.specs.declared.fault.Fault.{Fault}
+use Rattle.nbt_text.specs.declared.vector.Expected.{Expected}
 use Rattle.nbt_text.specs.PacketText.{newline}
 use Rattle.nbt_text.specs.Vector.{IsPassedOver, Says, SpellsVector, words}
 
@@ -16,11 +16,11 @@ verdict_line number word = codes "line " ++ decimal number ++ codes ": " ++ word
 -- What is printed of the line with this number, and whether its vector passes; nothing where it is passed over.
 pub data PrintsVerdict (number : ℕ) (line : List ℕ) : Option Bool → List ℕ → Type 0 where
   passed_over : IsPassedOver line → PrintsVerdict number line None []
-  passes : (octets : List ℕ) (expected : Result ℕ Fault) → ¬ (IsPassedOver line) → SpellsVector (words line) octets expected
+  passes : (octets : List ℕ) (expected : Expected) → ¬ (IsPassedOver line) → SpellsVector (words line) octets expected
       → Says octets expected → PrintsVerdict number line (Some true) (verdict_line number (codes "pass"))
-  fails : (octets : List ℕ) (expected : Result ℕ Fault) → ¬ (IsPassedOver line) → SpellsVector (words line) octets expected
+  fails : (octets : List ℕ) (expected : Expected) → ¬ (IsPassedOver line) → SpellsVector (words line) octets expected
       → ¬ (Says octets expected) → PrintsVerdict number line (Some false) (verdict_line number (codes "fail"))
-  unreadable : ¬ (IsPassedOver line) → ((octets : List ℕ) (expected : Result ℕ Fault) → ¬ SpellsVector (words line) octets expected)
+  unreadable : ¬ (IsPassedOver line) → ((octets : List ℕ) (expected : Expected) → ¬ SpellsVector (words line) octets expected)
       → PrintsVerdict number line (Some false) (verdict_line number (codes "unreadable"))
 
 -- whether a line is counted as passed, and as failed

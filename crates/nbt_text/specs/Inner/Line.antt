@@ -1,7 +1,7 @@
 -- What a line holds, as the code has it.
-use Rattle.std.specs.Prelude.{ℕ, List, Result, map}
+use Rattle.std.specs.Prelude.{ℕ, List, map}
 use denote.Ref.{Bor}
-use Rattle.nbt_packet.specs.declared.fault.Fault.{Fault}
+use Rattle.nbt_text.specs.declared.vector.Expected.{Expected}
 use Rattle.nbt_text.specs.declared.vector.Vector.{Vector}
 use Rattle.nbt_text.specs.declared.vector.Line.{Line}
 use Rattle.nbt_text.specs.declared.vector.Line.TheVariants as line
@@ -17,5 +17,5 @@ pub data LineIs (text : List ℕ) : Line → Type 0 where
   vector_stands : (vector : Vector) → ¬ (IsPassedOver text) → SpellsVector (words text) vector.octets.items vector.expected
       → LineIs text (line.Vector vector)
   unreadable : ¬ (IsPassedOver text)
-      → ((octets : List ℕ) (expected : Result ℕ Fault) → ¬ SpellsVector (words text) octets expected)
+      → ((octets : List ℕ) (expected : Expected) → ¬ SpellsVector (words text) octets expected)
       → LineIs text line.Unreadable

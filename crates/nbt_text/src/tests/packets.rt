@@ -51,13 +51,13 @@ fn error_of_a_datagram(rt: HostRuntime) {
 }
 
 #[test]
-fn two_vectors_and_a_remark(rt: HostRuntime) {
+fn vectors_of_both_services_and_a_remark(rt: HostRuntime) {
     let mut text = String::new(rt.alloc());
-    let input = b"# two\nname 00 fault Short 1\nname 00 ok 1";
+    let input = b"# three\nname 00 fault Short 1\nname 00 ok 1\ndgram 17 fault BadType 0";
     let none_failed = write_verdicts(input, &mut text).expect(&rt, "memory");
     assert!(rt; !none_failed);
     assert_eq!(rt;
         text.as_str(),
-        "line 2: pass\nline 3: fail\n1 passed, 1 failed\n"
+        "line 2: pass\nline 3: fail\nline 4: pass\n2 passed, 1 failed\n"
     );
 }
