@@ -8,6 +8,7 @@ use std::process::Abort;
 
 mod answer;
 mod check;
+mod datagrams;
 mod messages;
 mod release;
 mod replies;

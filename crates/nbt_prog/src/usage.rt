@@ -71,11 +71,13 @@ const CHECK_ABOUT: &str =
     "Checks vectors from standard input: octets, and what is expected of their reader";
 
 const CHECK_HELP: &str = "\
-Each line of standard input is `name HEX ok N`, for a packet that takes N octets, or `name HEX fault WORD PLACE`, in
-words between spaces. Empty HEX is `-`. Blank lines and lines that begin with `#` are passed over. Prints `pass`,
-`fail` or `unreadable` for each other line, last how many passed and failed. At most 1048576 octets are taken.
+Each line of standard input is `name HEX ok N`, for a packet of the name service that takes N octets, or `name HEX
+fault WORD PLACE`, in words between spaces; or the same with `dgram`, for a datagram. Empty HEX is `-`. A WORD that is no
+fault of the service is unreadable. Blank lines and lines that begin with `#` are passed over. Prints `pass`, `fail` or
+`unreadable` for each other line, last how many passed and failed. At most 1048576 octets are taken.
 
-`nbt show name HEX` shows why a line fails. Lines end with a line feed alone: one that ends with CR LF is unreadable.
+`nbt show name HEX` and `nbt show dgram HEX` show why a line fails. Lines end with a line feed alone: one that ends
+with CR LF is unreadable.
 
 Example:
   printf 'name 000101000002 fault TooMany 4\\n' | nbt check

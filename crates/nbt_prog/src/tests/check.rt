@@ -19,9 +19,10 @@ fn vectors_that_pass_and_one_that_fails(rt: HostRuntime) {
 name - fault Short 0
 name 000101000002 fault TooMany 4
 name 00 ok 1
+dgram 17 fault BadType 0
 ",
         1,
-        b"line 2: pass\nline 3: pass\nline 4: fail\n2 passed, 1 failed\n",
+        b"line 2: pass\nline 3: pass\nline 4: fail\nline 5: pass\n3 passed, 1 failed\n",
     );
 }
 
@@ -49,7 +50,10 @@ fn blank_lines_and_words(rt: HostRuntime) {
 
 #[test]
 fn lines_that_fail(rt: HostRuntime) {
-    let rows: [&[u8]; 4] = [
+    let rows: [&[u8]; 7] = [
+        b"dgram - fault Short 1",
+        b"dgram - fault Long 0",
+        b"dgram - ok 0",
         b"name - fault Short 1",
         b"name - fault Long 0",
         b"name - ok 0",
@@ -62,8 +66,11 @@ fn lines_that_fail(rt: HostRuntime) {
 
 #[test]
 fn lines_that_are_unreadable(rt: HostRuntime) {
-    let rows: [&[u8]; 20] = [
-        b"dgram - fault Short 0",
+    let rows: [&[u8]; 23] = [
+        b"session - fault Short 0",
+        b"dgram",
+        b"dgram - fault TooMany 0",
+        b"dgram - fault BadFlags 0",
         b"name",
         b"name -",
         b"name - ok",

@@ -99,41 +99,13 @@ length 87
 }
 
 #[test]
-fn datagrams_without_two_names(rt: HostRuntime) {
-    for (octets, text) in [
-        (
-            "12FC 00ff 0102ff00 ffff 0000 0102",
-            b"type 12 flags fc id 00ff from 1.2.255.0:65535\noffset 258 data -\nlength 14\n".as_slice(),
-        ),
-        (
-            "1306 0001 7f000003 008a 82 00",
-            b"type 13 flags 06 id 0001 from 127.0.0.3:138\nerror 82\nlength 11\n",
-        ),
-        (
-            "1406 0001 7f000002 008a {TEAM}",
-            b"type 14 flags 06 id 0001 from 127.0.0.2:138\ndestination TEAM\nlength 44\n",
-        ),
-    ] {
-        expect_dgram(&rt, octets, 0, text);
-    }
-}
-
-#[test]
-fn octets_that_are_no_datagram(rt: HostRuntime) {
-    for (octets, text) in [
-        ("10", b"fault Short at 1\n".as_slice()),
-        ("17", b"fault BadType at 0\n"),
-        (
-            "1006 0001 7f000002 008a 0000 0001",
-            b"fault BadOffset at 12\n",
-        ),
-        (
-            "1006 0001 7f000002 008a 0000 0000",
-            b"fault BadLength at 10\n",
-        ),
-    ] {
-        expect_dgram(&rt, octets, 1, text);
-    }
+fn datagram_without_data(rt: HostRuntime) {
+    expect_dgram(
+        &rt,
+        "12FC 00ff 0102ff00 ffff 0000 0102",
+        0,
+        b"type 12 flags fc id 00ff from 1.2.255.0:65535\noffset 258 data -\nlength 14\n",
+    );
 }
 
 #[test]
