@@ -1,0 +1,13 @@
+//! A name server and an end node over a port and a clock, turn by turn (RFC 1002 sections 5.1.2 and 5.1.4).
+//!
+//! A [`Port`] receives and sends datagrams, and a [`Clock`] tells the moments. The engines are the same over UDP and the
+//! machine's clock as over memory.
+#![tactic(auto)]
+
+mod clock;
+mod port;
+mod serving;
+
+pub use clock::Clock;
+pub use port::{Device, Port};
+pub use serving::{Counts, serve_turns};
