@@ -7,7 +7,9 @@
 mod clock;
 mod port;
 mod serving;
+mod turning;
 
 pub use clock::Clock;
 pub use port::{Device, Port};
 pub use serving::{Counts, serve_turns};
+pub use turning::{Seen, Want, node_turn};
