@@ -12,6 +12,8 @@ pub mod PrintedNames
 pub mod Packets
 -- the same of datagrams
 pub mod Datagrams
+-- what a session's stream makes of octets, and the lines of its packets so far
+pub mod Sessions
 -- texts that are written one behind another
 pub mod Joining
 -- the words of a vector, one by one

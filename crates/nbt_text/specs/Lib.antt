@@ -4,6 +4,7 @@ pub mod Inner
 pub mod NameText
 pub mod Number
 pub mod PacketText
+pub mod SessionText
 pub mod Vector
 pub mod Verdicts
 pub mod Words

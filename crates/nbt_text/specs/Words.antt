@@ -3,6 +3,8 @@ use Rattle.std.specs.Prelude.{ℕ, List, codes}
 use Rattle.nbt_name.specs.declared.fault.NameFaultKind.TheVariants.{Short, BadLabel, BadHalf, BadPointer, Long}
 use Rattle.nbt_dgram.specs.declared.fault.DgramFaultKind.{DgramFaultKind}
 use Rattle.nbt_dgram.specs.declared.fault.DgramFaultKind.TheVariants as dgram
+use Rattle.nbt_session.specs.declared.fault.FaultKind.{FaultKind as SessionFaultKind}
+use Rattle.nbt_session.specs.declared.fault.FaultKind.TheVariants as session
 use Rattle.nbt_packet.specs.declared.fault.FaultKind.{FaultKind}
 use Rattle.nbt_packet.specs.declared.fault.FaultKind.TheVariants.{Name, TooMany}
 use Rattle.nbt_packet.specs.Message.{MessageValue, registration, overwrite, refresh, release, query, status_request, registered, released, found, not_found, status, wait}
@@ -38,3 +40,9 @@ dgram_fault_word dgram.Long = codes "Long"
 dgram_fault_word dgram.BadType = codes "BadType"
 dgram_fault_word dgram.BadOffset = codes "BadOffset"
 dgram_fault_word dgram.BadLength = codes "BadLength"
+
+abbrev pub session_fault_word : SessionFaultKind → List ℕ
+session_fault_word session.BadType = codes "BadType"
+session_fault_word session.BadFlags = codes "BadFlags"
+session_fault_word session.BadLength = codes "BadLength"
+session_fault_word session.BadName = codes "BadName"

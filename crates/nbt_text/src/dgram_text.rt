@@ -108,7 +108,7 @@ fn write_name_line(label: &str, name: &Name, out: &mut String) -> Result<(), All
 }
 
 /// Appends the octet in two hexadecimal digits.
-fn write_octet(octet: u8, out: &mut String) -> Result<(), AllocError>
+pub fn write_octet(octet: u8, out: &mut String) -> Result<(), AllocError>
     ensures { OnOk result (string_bytes out.new ≡ string_bytes out.old ++ two_digits octet) }
 {
     write_hexadecimal(&[octet], out)

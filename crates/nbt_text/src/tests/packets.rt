@@ -1,7 +1,8 @@
-//! Addresses, numbers, octets, packets, datagrams and vectors: each call once.
+//! Addresses, numbers, octets, packets, datagrams, sessions and vectors: each call once.
 
 use crate::{
-    parse_address, parse_number, write_dgram, write_hexadecimal, write_packet, write_verdicts,
+    parse_address, parse_number, write_dgram, write_hexadecimal, write_packet, write_session,
+    write_verdicts,
 };
 use nbt_name::Addr;
 
@@ -48,6 +49,15 @@ fn error_of_a_datagram(rt: HostRuntime) {
         text.as_str(),
         "> type 13 flags 06 id 0001 from 127.0.0.3:138\nerror 82\nlength 11\n"
     );
+}
+
+#[test]
+fn keep_alive_and_a_fault(rt: HostRuntime) {
+    let mut text = String::from_str(rt.alloc(), "> ").expect(&rt, "memory");
+    let octets = b"\x85\x00\x00\x00\x86";
+    let faultless = write_session(octets, &mut text).expect(&rt, "memory");
+    assert!(rt; !faultless);
+    assert_eq!(rt; text.as_str(), "> keep-alive\nfault BadType at 0\n");
 }
 
 #[test]
