@@ -4,7 +4,7 @@ ghost use Rattle.std.specs.Prelude.{◌≡◌, ◌≤◌, ◌^◌, ◌⊎◌, �
 ghost use Rattle.clap.specs.Words.{kind_of};
 ghost use Rattle.hex.specs.Hex.{decode_of};
 ghost use Rattle.nbt_prog.specs.Inner.Arguments.{AreGiven, IsFailureOf, IsHexadecimal, IsTime, SpellsTime, argument_of};
-ghost use Rattle.nbt_prog.specs.declared.commands.show.Service.TheVariants.{Dgram};
+ghost use Rattle.nbt_prog.specs.declared.commands.show.Service.TheVariants.{Dgram, Session};
 ghost use Rattle.nbt_prog.specs.declared.failure.Failure.TheVariants.{Unreadable, Memory};
 
 use crate::commands::answer::AnswerArguments;
@@ -55,7 +55,9 @@ fn answer_arguments(alloc: Global, matches: &ArgMatches<'_>) -> Result<AnswerArg
 /// The arguments of `show`.
 fn show_arguments(alloc: Global, matches: &ArgMatches<'_>) -> Result<ShowArguments, Failure>
     ensures given { IfOk result (λ a. decode_of (argument_of matches.now (codes "hex")) ≡ Ok a.octets.items) }
-    ensures service { IfOk result (λ a. (a.service ≡ Dgram) ↔ (argument_of matches.now (codes "kind") ≡ codes "dgram")) }
+    ensures dgram { IfOk result (λ a. (a.service ≡ Dgram) ↔ (argument_of matches.now (codes "kind") ≡ codes "dgram")) }
+    ensures session { IfOk result (λ a.
+        (a.service ≡ Session) ↔ (argument_of matches.now (codes "kind") ≡ codes "session")) }
     ensures failure { IfErr result (λ failure. (failure ≡ Memory)
         ⊎ (¬ (IsHexadecimal (argument_of matches.now (codes "hex"))) × (failure ≡ Unreadable))) }
 {
@@ -64,12 +66,14 @@ fn show_arguments(alloc: Global, matches: &ArgMatches<'_>) -> Result<ShowArgumen
     Ok(ShowArguments { service, octets })
 }
 
-/// The service that a KIND names, of which there are two.
+/// The service that a KIND names, of which there are three.
 fn service_of(kind: &str) -> Service
-    ensures { (result ≡ Dgram) ↔ (kind.now ≡ codes "dgram") }
+    ensures dgram { (result ≡ Dgram) ↔ (kind.now ≡ codes "dgram") }
+    ensures session { (result ≡ Session) ↔ (kind.now ≡ codes "session") }
 {
     match kind {
         usage::DGRAM => Service::Dgram,
+        usage::SESSION => Service::Session,
         _ => Service::Name,
     }
 }

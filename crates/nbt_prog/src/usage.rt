@@ -40,7 +40,7 @@ Exit status:
   3  output failed; prints `device` where it can
   4  an allocation was refused; prints `memory`";
 
-const SHOW_ABOUT: &str = "Shows what the octets of one packet say";
+const SHOW_ABOUT: &str = "Shows what the octets of one packet, or of a session's stream, say";
 
 const SHOW_HELP: &str = "\
 Prints a line for the header and for each section, then the message that the packet spells, or `none`, and how many
@@ -57,12 +57,17 @@ prints as `hex:` and 32 digits, of which the last two are the suffix. The labels
 Of a datagram it prints a line for its type, its flags' octet as it stands, its id and its source; `source NAME` and
 `destination NAME` where it has them; `offset N data HEX`, or `error` and the error's code; and how many octets it takes.
 
+Of a session's stream it prints a line for each packet: `message N HEX` with N octets of data, `request CALLED CALLING`,
+`positive`, `negative` and the code, `retarget A.B.C.D:PORT` or `keep-alive`; last `rest N`, how many octets are left,
+which begin with no whole packet. Where these have a fault, `fault WORD at PLACE` stands in place of the rest, and PLACE
+counts from the first of them.
+
 Example:
   nbt show name 0001290000010000000000012045474643454645454341434143414341434143414341434143414341434143410000200001c00c002000010000003c000620007f000002
 
 Exit status:
   0  done
-  1  the octets are no packet, or HEX can't be read; then prints `unreadable`
+  1  the octets are no packet or have a fault, or HEX can't be read; then prints `unreadable`
   2  wrong usage
   3  output failed; prints `device` where it can
   4  an allocation was refused; prints `memory`";
@@ -92,7 +97,7 @@ Exit status:
 /// The name of the command that answers one packet.
 pub const ANSWER: &str = "answer";
 
-/// The name of the command that shows one packet.
+/// The name of the command that shows octets.
 pub const SHOW: &str = "show";
 
 /// The name of the command that checks vectors.
@@ -104,14 +109,17 @@ pub const FROM: &str = "from";
 /// The argument that has the packet.
 pub const HEX: &str = "hex";
 
-/// The argument that says of which service a packet is.
+/// The argument that says of which service the octets are.
 pub const KIND: &str = "kind";
 
 /// The name of the datagram service.
 pub const DGRAM: &str = "dgram";
 
-/// The kinds of packets that can be shown.
-const KINDS: [&str; 2] = ["name", DGRAM];
+/// The name of the session service.
+pub const SESSION: &str = "session";
+
+/// The kinds of octets that can be shown.
+const KINDS: [&str; 3] = ["name", DGRAM, SESSION];
 
 /// The option that tells the time.
 pub const AT: &str = "at";
@@ -155,9 +163,9 @@ fn show_command<'a>(alloc: Global) -> Result<Command<'a>, AllocError> {
         .value_name("KIND")
         .required(true)
         .value_parser(ValueParser::Names(&KINDS))
-        .help("The packet's service");
+        .help("The octets' service");
     let hex = Arg::new(alloc, HEX).value_name("HEX").required(true).help(
-        "The packet: an even number of hexadecimal digits of either case, or none",
+        "The octets: an even number of hexadecimal digits of either case, or none",
     );
     Command::new(alloc, SHOW)
         .about(SHOW_ABOUT)

@@ -2,10 +2,12 @@
 use Rattle.std.specs.Prelude.{ℕ, Bool, List}
 use Rattle.nbt_text.specs.DgramText.{PrintsDgram}
 use Rattle.nbt_text.specs.PacketText.{PrintsOctets}
+use Rattle.nbt_text.specs.SessionText.{PrintsSession}
 use Rattle.nbt_prog.specs.declared.commands.show.Service.{Service}
-use Rattle.nbt_prog.specs.declared.commands.show.Service.TheVariants.{Name, Dgram}
+use Rattle.nbt_prog.specs.declared.commands.show.Service.TheVariants.{Name, Dgram, Session}
 
--- what is printed of octets of a service, and whether a packet of it stands there
+-- what is printed of octets of a service, and whether they have no fault
 abbrev pub Shows : Service → List ℕ → Bool → List ℕ → Type 0
-Shows Name octets stands text = PrintsOctets octets stands text
-Shows Dgram octets stands text = PrintsDgram octets stands text
+Shows Name octets faultless text = PrintsOctets octets faultless text
+Shows Dgram octets faultless text = PrintsDgram octets faultless text
+Shows Session octets faultless text = PrintsSession octets faultless text

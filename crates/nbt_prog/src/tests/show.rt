@@ -108,13 +108,57 @@ fn datagram_without_data(rt: HostRuntime) {
     );
 }
 
+fn expect_session<R: Abort + AllocGlobal>(rt: &R, octets: &str, status: u8, text: &[u8]) {
+    let hex = hexadecimal(rt, octets);
+    expect(rt, &["nbt", "show", "session", hex.as_str()], status, text);
+}
+
+#[test]
+fn packets_of_a_session(rt: HostRuntime) {
+    for (octets, text) in [
+        ("", b"rest 0\n".as_slice()),
+        (
+            "85000000 83000001 82 00",
+            b"keep-alive\nnegative 82\nrest 1\n",
+        ),
+        ("81000044 {FRED} {TEAM}", b"request FRED TEAM\nrest 0\n"),
+        ("00000000", b"message 0 -\nrest 0\n"),
+        (
+            "82000000 84000006 7f000003 008b 00000005 68656c6c6f 0001",
+            b"positive\nretarget 127.0.0.3:139\nmessage 5 68656c6c6f\nrest 2\n",
+        ),
+        ("81000044 {FRED}", b"rest 38\n"),
+        ("0001ffff 00", b"rest 5\n"),
+    ] {
+        expect_session(&rt, octets, 0, text);
+    }
+}
+
+#[test]
+fn faults_of_a_session(rt: HostRuntime) {
+    for (octets, text) in [
+        (
+            "85000000 00020000",
+            b"keep-alive\nfault BadFlags at 1\n".as_slice(),
+        ),
+        ("86", b"fault BadType at 0\n"),
+        ("83000002", b"fault BadLength at 2\n"),
+        (
+            "82000000 81000044 {FRED} 21464545464542454e43414341434143414341434143414341434143414341434100",
+            b"positive\nfault BadName at 38\n",
+        ),
+    ] {
+        expect_session(&rt, octets, 1, text);
+    }
+}
+
 #[test]
 fn words_of_show(rt: HostRuntime) {
     for hex in ["-", "0", "0g", " "] {
         expect(&rt, &["nbt", "show", "name", hex], 1, b"unreadable\n");
     }
     expect(&rt, &["nbt", "show", "dgram", "0g"], 1, b"unreadable\n");
-    for kind in ["session", "NAME", ""] {
+    for kind in ["sessions", "NAME", ""] {
         starts(&rt, &["nbt", "show", kind, "0g"], 2, b"error: ");
     }
     for words in [["nbt", "show"].as_slice(), &["nbt", "show", "name"]] {
