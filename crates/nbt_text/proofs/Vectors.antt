@@ -10,7 +10,7 @@ use Rattle.nbt_text.specs.declared.vector.Expected.TheVariants.{Name, Dgram}
 use Rattle.nbt_text.specs.declared.vector.Service.{Service}
 use Rattle.nbt_text.specs.declared.vector.Service.TheVariants as services
 use Rattle.nbt_text.specs.Number.{SpellsNumber}
-use Rattle.nbt_text.specs.Inner.Line.{texts}
+use Rattle.nbt_text.specs.Texts.{texts}
 use Rattle.nbt_text.specs.Vector.{SpellsExpected, SpellsVector, dgram_refused, dgram_taken, name_refused, name_taken, service_word, vector}
 use Rattle.nbt_text.specs.Words.{dgram_fault_word, fault_word}
 

@@ -5,6 +5,7 @@ pub mod NameText
 pub mod Number
 pub mod PacketText
 pub mod SessionText
+pub mod Texts
 pub mod Vector
 pub mod Verdicts
 pub mod Words

@@ -23,6 +23,7 @@ pub use name_text::{parse_name, write_name};
 pub use number::parse_number;
 pub use packet_text::write_packet;
 pub use session_text::write_session;
+pub use vector::{is_remark, octets_of, words_of};
 pub use verdicts::write_verdicts;
 
 #[cfg(test)]

@@ -7,7 +7,8 @@ ghost use Rattle.nbt_text.specs.declared.vector.Expected.{Expected};
 ghost use Rattle.nbt_text.specs.declared.vector.Expected.TheVariants as expects;
 ghost use Rattle.nbt_text.specs.declared.vector.Service.{Service};
 ghost use Rattle.nbt_text.specs.Number.{SpellsNumber};
-ghost use Rattle.nbt_text.specs.Inner.Line.{LineIs, texts};
+ghost use Rattle.nbt_text.specs.Texts.{texts};
+ghost use Rattle.nbt_text.specs.Inner.Line.{LineIs};
 ghost use Rattle.nbt_text.specs.Vector.{Says, SpellsExpected, SpellsOctets, SpellsVector, service_word, words};
 ghost use Rattle.nbt_text.specs.Words.{dgram_fault_word, fault_word};
 
@@ -110,8 +111,8 @@ pub fn parse_line(alloc: Global, line: &[u8]) -> Result<Line, AllocError>
     }
 }
 
-/// Whether the first octet is `#`.
-fn is_remark(line: &[u8]) -> bool
+/// Whether a line is a remark: its first octet is `#`.
+pub fn is_remark(line: &[u8]) -> bool
     ensures { IsTrue result ↔ (slice_get line.now 0 ≡ Some 35) }
 {
     match line {
@@ -120,8 +121,8 @@ fn is_remark(line: &[u8]) -> bool
     }
 }
 
-/// The words of a line, between spaces.
-fn words_of(alloc: Global, line: &[u8]) -> Result<Vec<&[u8]>, AllocError>
+/// The words of a line, between spaces; none is empty.
+pub fn words_of(alloc: Global, line: &[u8]) -> Result<Vec<&[u8]>, AllocError>
     ensures { IfOk result (λ found. texts found.items ≡ words line.now) }
 {
     line.split(|octet| *octet == b' ')
@@ -253,8 +254,9 @@ fn dgram_kind_of(word: &[u8]) -> Option<DgramFaultKind>
     }
 }
 
-/// The octets of a word in hexadecimal, or of `-`, which has none.
-fn octets_of(alloc: Global, word: &[u8]) -> Result<Option<Vec<u8>>, AllocError>
+/// The octets of a word: an even number of hexadecimal digits of either case, or `-`, which has none. `None` where it is
+/// neither.
+pub fn octets_of(alloc: Global, word: &[u8]) -> Result<Option<Vec<u8>>, AllocError>
     ensures { IfOk result (λ found. MatchOption found ((octets : List ℕ) → ¬ SpellsOctets word.now octets)
         (λ octets. SpellsOctets word.now octets.items)) }
 {

@@ -1,15 +1,10 @@
 -- What a line holds, as the code has it.
-use Rattle.std.specs.Prelude.{ℕ, List, map}
-use denote.Ref.{Bor}
+use Rattle.std.specs.Prelude.{ℕ, List}
 use Rattle.nbt_text.specs.declared.vector.Expected.{Expected}
 use Rattle.nbt_text.specs.declared.vector.Vector.{Vector}
 use Rattle.nbt_text.specs.declared.vector.Line.{Line}
 use Rattle.nbt_text.specs.declared.vector.Line.TheVariants as line
 use Rattle.nbt_text.specs.Vector.{IsPassedOver, SpellsVector, words}
-
--- the words, without where they lie in memory
-abbrev pub texts : List (Bor (List ℕ)) → List (List ℕ)
-texts words = map (λ word. word.now) words
 
 -- What stands in a line.
 pub data LineIs (text : List ℕ) : Line → Type 0 where

@@ -1,7 +1,8 @@
 use Rattle.std.proofs.Common.{◌≡◌, ◌∙◌, ℕ, List, [], ◌∷◌, Bool, false, Some, inl, inr, length, refl, sym, arith, rules}
 use Rattle.std.specs.Prelude.{IsTrue, ◌↔◌, slice_get}
 use denote.Ref.{Bor}
-use Rattle.nbt_text.specs.Inner.Line.{passed_over, vector_stands, unreadable, texts}
+use Rattle.nbt_text.specs.Inner.Line.{passed_over, vector_stands, unreadable}
+use Rattle.nbt_text.specs.Texts.{texts}
 use Rattle.nbt_text.specs.Vector.{IsPassedOver, words}
 use Rattle.nbt_text.proofs.vector.parse_line.Goals as goal
 
