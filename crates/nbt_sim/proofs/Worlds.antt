@@ -1,0 +1,153 @@
+-- What steps leave: the moment, but for the clock's own; and whose fault a refusal is.
+use Rattle.std.proofs.Common.{◌≡◌, ◌≢◌, ◌∙◌, ℕ, ◌+◌, ◌-◌, ◌^◌, ◌<◌, ◌≤◌, List, [], ◌∷◌, length, Option, Some, None, Result, Ok, Err, suc, zero, refl, sym, ap, subst, arith, min}
+use Rattle.std.specs.Prelude.{IfOk, OnErr}
+use Rattle.nbt_name.specs.declared.addr.Addr.{Addr}
+use Rattle.nbt_name.specs.Wire.{NameValue}
+use Rattle.nbt_node.specs.Node.{NodeValue}
+use Rattle.nbt_node.specs.Numbers.{ask_fault_number, release_fault_number, lookup_fault_number}
+use Rattle.nbt_world.specs.World.{WorldValue}
+use Rattle.nbt_world.specs.Step.{
+  Step,
+  ticks,
+  starts,
+  starts_nothing,
+  crashes,
+  crashes_nothing,
+  node_does,
+  node_is_down,
+  no_datagram,
+  no_end,
+  too_late,
+  delivered,
+  from_an_end,
+  to_no_end,
+  from_a_stranger,
+  after,
+  after_taking,
+  outcome_of,
+  outcome_of_taking,
+  GivenValue,
+  nothing,
+  refusal,
+  octets_to,
+  TakenValue,
+  is_down,
+  is_lost,
+  takes,
+  Does,
+  asks,
+  ask_refused,
+  gives_back,
+  release_refused,
+  resolves,
+  resolve_refused,
+  asks_status,
+  status_refused,
+  polls,
+  polls_nothing,
+}
+use Rattle.nbt_world.specs.declared.ends.Ends.{Ends}
+use Rattle.nbt_world.specs.declared.event.Event.{Event}
+use Rattle.nbt_world.specs.declared.event.Event.TheVariants.{Tick}
+use Rattle.nbt_world.specs.declared.event.Outcome.{Outcome}
+use Rattle.nbt_world.specs.declared.event.Outcome.TheVariants.{Done, Refused}
+use Rattle.nbt_sim.specs.Words.{ask_fault_word, release_fault_word, lookup_fault_word}
+use Rattle.nbt_sim.specs.Script.{NamesRefusal, of_ask, of_release, of_resolve, of_status}
+
+-- ---- the moment
+
+after_now : (w : WorldValue) (number : ℕ) (new : NodeValue) (given : GivenValue) → (after w number new given).now ≡ w.now
+after_now w number new nothing = refl
+after_now w number new (refusal n) = refl
+after_now w number new (octets_to to octets) = refl
+
+taking_now : (w : WorldValue) (ends : Ends) (from to : Addr) (taken : TakenValue) → (after_taking w ends from to taken).now ≡ w.now
+taking_now w ends from to is_down = refl
+taking_now w ends from to is_lost = refl
+taking_now w ends from to (takes None) = refl
+taking_now w ends from to (takes (Some reply)) = refl
+
+pub same_moment : (old new : WorldValue) (event : Event) (outcome : Outcome) → Step old event outcome new → ((ms : ℕ) → event ≢ Tick ms) → new.now ≡ old.now
+same_moment old _ _ _ (ticks ms) other = absurd (other ms refl)
+same_moment old _ _ _ (starts number ends s) other = refl
+same_moment old _ _ _ (starts_nothing number s) other = refl
+same_moment old _ _ _ (crashes number ends s) other = refl
+same_moment old _ _ _ (crashes_nothing number s) other = refl
+same_moment old _ _ _ (node_does event number node new given p q d) other = after_now old number new given
+same_moment old _ _ _ (node_is_down event number p q) other = refl
+same_moment old _ _ _ (no_datagram k p) other = refl
+same_moment old _ _ _ (no_end k d p q) other = refl
+same_moment old _ _ _ (too_late k d number p q r) other = refl
+same_moment old _ _ _ (delivered k d number taken ends p q r s) other = taking_now old ends d.to d.from taken
+same_moment old _ _ _ (from_an_end from number octets p) other = refl
+same_moment old _ _ _ (to_no_end from number octets p) other = refl
+same_moment old _ _ _ (from_a_stranger from addr number octets taken ends p q r) other = taking_now old ends addr from taken
+
+-- whatever a call of the world returned
+pub moment_kept : {E : Type 0} (r : Result Outcome E) (old new : WorldValue) (event : Event) → IfOk r (λ outcome. Step old event outcome new) → OnErr r (new ≡ old) → ((ms : ℕ) → event ≢ Tick ms) → new.now ≡ old.now
+moment_kept (Ok outcome) old new event s same other = same_moment old new event outcome s other
+moment_kept (Err e) old new event s same other = ap (λ (w : WorldValue). w.now) same
+
+ticked_to : (old new : WorldValue) (event : Event) (outcome : Outcome) (ms : ℕ) → Step old event outcome new → event ≡ Tick ms → (outcome ≡ Done) × (new.now ≡ min (old.now + ms) (2 ^ 60))
+ticked_to old _ _ _ ms (ticks n) e = let same : n ≡ ms = cc in (refl, ap (λ (x : ℕ). min (old.now + x) (2 ^ 60)) same)
+ticked_to old _ _ _ ms (starts number ends s) e = absurd cc
+ticked_to old _ _ _ ms (starts_nothing number s) e = absurd cc
+ticked_to old _ _ _ ms (crashes number ends s) e = absurd cc
+ticked_to old _ _ _ ms (crashes_nothing number s) e = absurd cc
+ticked_to old _ _ _ ms (node_does event number node new given p q d) e = let bad = rw e at p in absurd cc
+ticked_to old _ _ _ ms (node_is_down event number p q) e = let bad = rw e at p in absurd cc
+ticked_to old _ _ _ ms (no_datagram k p) e = absurd cc
+ticked_to old _ _ _ ms (no_end k d p q) e = absurd cc
+ticked_to old _ _ _ ms (too_late k d number p q r) e = absurd cc
+ticked_to old _ _ _ ms (delivered k d number taken ends p q r s) e = absurd cc
+ticked_to old _ _ _ ms (from_an_end from number octets p) e = absurd cc
+ticked_to old _ _ _ ms (to_no_end from number octets p) e = absurd cc
+ticked_to old _ _ _ ms (from_a_stranger from addr number octets taken ends p q r) e = absurd cc
+
+-- the clock goes on to a moment
+pub goes_to : (old new : WorldValue) (outcome : Outcome) (moment : ℕ) → Step old (Tick (moment - old.now)) outcome new → old.now ≤ moment → moment ≤ 2 ^ 60
+    → Step old (Tick (moment - old.now)) Done new × (new.now ≡ moment)
+goes_to old new outcome moment s later fits =
+    let t = ticked_to old new (Tick (moment - old.now)) outcome (moment - old.now) s refl in
+    (subst (λ (x : Outcome). Step old (Tick (moment - old.now)) x new) t.0 s, t.1 ∙ omega arith)
+
+-- ---- refusals
+
+outcome_refused : (w : WorldValue) (given : GivenValue) (n : ℕ) → outcome_of w given ≡ Refused n → given ≡ refusal n
+outcome_refused w nothing n e = absurd cc
+outcome_refused w (refusal m) n e = let same : m ≡ n = cc in ap refusal same
+outcome_refused w (octets_to to octets) n e = absurd cc
+
+taking_never : (w : WorldValue) (taken : TakenValue) (n : ℕ) → outcome_of_taking w taken ≡ Refused n → ⊥
+taking_never w is_down n e = absurd cc
+taking_never w is_lost n e = absurd cc
+taking_never w (takes None) n e = absurd cc
+taking_never w (takes (Some reply)) n e = absurd cc
+
+does_named : (old new : NodeValue) (now : ℕ) (event : Event) (given : GivenValue) (n : ℕ) → Does old now event new given → given ≡ refusal n → (word : List ℕ) × NamesRefusal event n word
+does_named old _ now _ _ n (asks number name kind ttl new octets p q) e = absurd cc
+does_named old _ now _ _ n (ask_refused number name kind ttl fault p) e = let same : ask_fault_number fault ≡ n = cc in (ask_fault_word fault, rw (← same) (of_ask number name kind ttl fault))
+does_named old _ now _ _ n (gives_back number name new octets p q) e = absurd cc
+does_named old _ now _ _ n (release_refused number name fault p) e = let same : release_fault_number fault ≡ n = cc in (release_fault_word fault, rw (← same) (of_release number name fault))
+does_named old _ now _ _ n (resolves number name new octets p q) e = absurd cc
+does_named old _ now _ _ n (resolve_refused number name fault p) e = let same : lookup_fault_number fault ≡ n = cc in (lookup_fault_word fault, rw (← same) (of_resolve number name fault))
+does_named old _ now _ _ n (asks_status number to name new octets p q) e = absurd cc
+does_named old _ now _ _ n (status_refused number to name fault p) e = let same : lookup_fault_number fault ≡ n = cc in (lookup_fault_word fault, rw (← same) (of_status number to name fault))
+does_named old _ now _ _ n (polls number to new octets p) e = absurd cc
+does_named old _ now _ _ n (polls_nothing number new octets p) e = absurd cc
+
+pub refusal_named : (old new : WorldValue) (event : Event) (outcome : Outcome) (n : ℕ) → Step old event outcome new → outcome ≡ Refused n → (word : List ℕ) × NamesRefusal event n word
+refusal_named old _ _ _ n (ticks ms) e = absurd cc
+refusal_named old _ _ _ n (starts number ends s) e = absurd cc
+refusal_named old _ _ _ n (starts_nothing number s) e = absurd cc
+refusal_named old _ _ _ n (crashes number ends s) e = absurd cc
+refusal_named old _ _ _ n (crashes_nothing number s) e = absurd cc
+refusal_named old _ _ _ n (node_does event number node new given p q d) e = does_named node new old.now event given n d (outcome_refused old given n e)
+refusal_named old _ _ _ n (node_is_down event number p q) e = absurd cc
+refusal_named old _ _ _ n (no_datagram k p) e = absurd cc
+refusal_named old _ _ _ n (no_end k d p q) e = absurd cc
+refusal_named old _ _ _ n (too_late k d number p q r) e = absurd cc
+refusal_named old _ _ _ n (delivered k d number taken ends p q r s) e = absurd (taking_never old taken n e)
+refusal_named old _ _ _ n (from_an_end from number octets p) e = absurd cc
+refusal_named old _ _ _ n (to_no_end from number octets p) e = absurd cc
+refusal_named old _ _ _ n (from_a_stranger from addr number octets taken ends p q r) e = absurd (taking_never old taken n e)

@@ -1,0 +1,4 @@
+pub mod Inner
+pub mod Line
+pub mod Script
+pub mod Words

@@ -1,0 +1,122 @@
+-- What a script prints: its lines, one after the other, each in the world that those before it made (our profile).
+use Rattle.std.specs.Prelude.{◌≡◌, ℕ, ◌+◌, ◌-◌, ◌<◌, ◌≤◌, ◌↔◌, List, [], ◌∷◌, ◌++◌, length, slice_get, slice_index_or, Contains, Option, Some, None, Bool, true, false, codes}
+use Rattle.std.specs.Fmt.{decimal}
+use Rattle.nbt_name.specs.declared.addr.Addr.{Addr}
+use Rattle.nbt_name.specs.declared.addr.Kind.{Kind}
+use Rattle.nbt_name.specs.Wire.{NameValue}
+use Rattle.nbt_lease.specs.Config.{ConfigValue}
+use Rattle.nbt_node.specs.Numbers.{ask_fault_number, release_fault_number, lookup_fault_number}
+use Rattle.nbt_node.specs.declared.fault.AskFault.{AskFault}
+use Rattle.nbt_node.specs.declared.fault.ReleaseFault.{ReleaseFault}
+use Rattle.nbt_node.specs.declared.fault.LookupFault.{LookupFault}
+use Rattle.nbt_text.specs.NameText.{PrintsName}
+use Rattle.nbt_text.specs.PacketText.{newline}
+use Rattle.nbt_text.specs.Vector.{IsPassedOver, words}
+use Rattle.nbt_text.specs.Verdicts.{verdict_line}
+use Rattle.nbt_world.specs.World.{WorldValue, IsFresh}
+use Rattle.nbt_world.specs.Step.{Step}
+use Rattle.nbt_world.specs.Safety.{holding}
+use Rattle.nbt_world.specs.declared.ends.Holder.{Holder}
+use Rattle.nbt_world.specs.declared.event.Event.{Event}
+use Rattle.nbt_world.specs.declared.event.Event.TheVariants.{Tick, Ask, Release, Resolve, NameStatus}
+use Rattle.nbt_world.specs.declared.event.Outcome.{Outcome}
+use Rattle.nbt_world.specs.declared.event.Outcome.TheVariants as o
+use Rattle.nbt_sim.specs.declared.instruction.Instruction.{Instruction}
+use Rattle.nbt_sim.specs.declared.instruction.Instruction.TheVariants as instruction
+use Rattle.nbt_sim.specs.Line.{Says}
+use Rattle.nbt_sim.specs.Words.{kind_word, ask_fault_word, release_fault_word, lookup_fault_word}
+
+-- ---- the world of a script
+
+-- the server is at 127.0.0.1:137, and node I at 127.0.0.(I+1):137
+abbrev pub place : (number : ℕ) → Addr
+place number = record { ip = 0x7F000001 + number; port = 137 }
+
+-- the server's address and those of so many nodes
+pub record ArePlaces (addrs : List Addr) (nodes : ℕ) : Type 0 where
+  pub count : length addrs ≡ nodes + 1
+  pub places : (number : ℕ) → number ≤ nodes → slice_get addrs number ≡ Some (place number)
+
+-- A world has 1 to 8 nodes.
+abbrev pub AreFew : (nodes : ℕ) → Type 0
+AreFew nodes = (1 ≤ nodes) × (nodes ≤ 8)
+
+-- Which instruction can be done: `config` where there is no world, and each other one in a world; the clock doesn't go
+-- back.
+abbrev pub Fits : Option WorldValue → Instruction → Type 0
+Fits None (instruction.Config config nodes) = AreFew nodes
+Fits None _ = ⊥
+Fits (Some world) (instruction.Config config nodes) = ⊥
+Fits (Some world) (instruction.At moment) = world.now ≤ moment
+Fits (Some world) (instruction.Happens event) = Unit {0}
+Fits (Some world) (instruction.Holders name) = Unit {0}
+
+-- ---- what is printed
+
+-- the fault with which a call of a node is refused: its number, and its word
+pub data NamesRefusal : Event → (number : ℕ) → List ℕ → Type 0 where
+  of_ask : (node : ℕ) (name : NameValue) (kind : Kind) (ttl : ℕ) (fault : AskFault) → NamesRefusal (Ask node name kind ttl) (ask_fault_number fault) (ask_fault_word fault)
+  of_release : (node : ℕ) (name : NameValue) (fault : ReleaseFault) → NamesRefusal (Release node name) (release_fault_number fault) (release_fault_word fault)
+  of_resolve : (node : ℕ) (name : NameValue) (fault : LookupFault) → NamesRefusal (Resolve node name) (lookup_fault_number fault) (lookup_fault_word fault)
+  of_status : (node : ℕ) (to : Addr) (name : NameValue) (fault : LookupFault) → NamesRefusal (NameStatus node to name) (lookup_fault_number fault) (lookup_fault_word fault)
+
+-- the line of what came of an event, without its end
+pub data PrintsOutcome (event : Event) : Outcome → List ℕ → Type 0 where
+  done : PrintsOutcome event o.Done (codes "ok")
+  sent : (k : ℕ) → PrintsOutcome event (o.Sent k) (codes "sent " ++ decimal k)
+  refused : (number : ℕ) (word : List ℕ) → NamesRefusal event number word → PrintsOutcome event (o.Refused number) (codes "refused " ++ decimal number ++ codes " " ++ word)
+  nothing : PrintsOutcome event o.Nothing (codes "none")
+  down : PrintsOutcome event o.Down (codes "down")
+  nobody : PrintsOutcome event o.Nobody (codes "nobody")
+  lost : PrintsOutcome event o.Lost (codes "lost")
+  taken : PrintsOutcome event o.Taken (codes "taken")
+
+-- the nodes that hold a name, with their kinds, in order of their numbers
+pub record AreHolders (world : WorldValue) (name : NameValue) (holders : List Holder) : Type 0 where
+  pub exactly : (number : ℕ) (kind : Kind) → Contains holders (record { node = number; kind = kind }) ↔ (holding world number name ≡ Some kind)
+  pub in_order : (i j : ℕ) (d : Holder) → i < j → j < length holders → (slice_index_or holders i d).node < (slice_index_or holders j d).node
+
+abbrev pub holder_text : Holder → List ℕ
+holder_text holder = codes "n" ++ decimal holder.node ++ codes " " ++ kind_word holder.kind
+
+abbrev pub other_holders_text : List Holder → List ℕ
+other_holders_text [] = []
+other_holders_text (holder ∷ others) = codes ", " ++ holder_text holder ++ other_holders_text others
+
+abbrev pub holders_text : List Holder → List ℕ
+holders_text [] = codes "none"
+holders_text (holder ∷ others) = holder_text holder ++ other_holders_text others
+
+-- the line of who holds a name, without its end
+pub record PrintsHolders (world : WorldValue) (name : NameValue) (text : List ℕ) : Type 0 where
+  pub printed : List ℕ
+  pub holders : List Holder
+  pub name_is : PrintsName name printed
+  pub holders_are : AreHolders world name holders
+  pub text_is : text ≡ codes "holders " ++ printed ++ codes ": " ++ holders_text holders
+
+-- What an instruction makes of a script's world, and what it prints.
+pub data Does : Option WorldValue → Instruction → Option WorldValue → List ℕ → Type 0 where
+  begins : (config : ConfigValue) (nodes : ℕ) (addrs : List Addr) (world : WorldValue) → AreFew nodes → ArePlaces addrs nodes → IsFresh config addrs world
+      → Does None (instruction.Config config nodes) (Some world) []
+  goes_on : (moment : ℕ) (world next : WorldValue) → world.now ≤ moment → Step world (Tick (moment - world.now)) o.Done next → next.now ≡ moment
+      → Does (Some world) (instruction.At moment) (Some next) []
+  happens : (event : Event) (outcome : Outcome) (world next : WorldValue) (text : List ℕ) → Step world event outcome next → PrintsOutcome event outcome text
+      → Does (Some world) (instruction.Happens event) (Some next) (text ++ newline)
+  tells : (name : NameValue) (world : WorldValue) (text : List ℕ) → PrintsHolders world name text → Does (Some world) (instruction.Holders name) (Some world) (text ++ newline)
+
+-- The words say nothing, or what can't be done in this world.
+pub data IsUnreadable (world : Option WorldValue) (words : List (List ℕ)) : Type 0 where
+  says_nothing : ((i : Instruction) → ¬ Says words i) → IsUnreadable world words
+  says_what_does_not_fit : (i : Instruction) → Says words i → ¬ Fits world i → IsUnreadable world words
+
+-- What is printed of lines, of which the first has this number, and whether each could be read: the first one that
+-- couldn't is told of, and ends the script.
+pub data Plays : (number : ℕ) → Option WorldValue → List (List ℕ) → Bool → List ℕ → Type 0 where
+  ends : (number : ℕ) (world : Option WorldValue) → Plays number world [] true []
+  passes_over : (number : ℕ) (world : Option WorldValue) (line : List ℕ) (rest : List (List ℕ)) (well : Bool) (text : List ℕ) → IsPassedOver line
+      → Plays (number + 1) world rest well text → Plays number world (line ∷ rest) well text
+  does : (number : ℕ) (world next : Option WorldValue) (line : List ℕ) (rest : List (List ℕ)) (i : Instruction) (well : Bool) (text more : List ℕ) → ¬ (IsPassedOver line) → Says (words line) i
+      → Does world i next text → Plays (number + 1) next rest well more → Plays number world (line ∷ rest) well (text ++ more)
+  stops : (number : ℕ) (world : Option WorldValue) (line : List ℕ) (rest : List (List ℕ)) → ¬ (IsPassedOver line) → IsUnreadable world (words line)
+      → Plays number world (line ∷ rest) false (verdict_line number (codes "unreadable"))

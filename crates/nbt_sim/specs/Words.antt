@@ -1,0 +1,74 @@
+-- The words of a script (our profile).
+use Rattle.std.specs.Prelude.{◌≡◌, ℕ, ◌≤◌, ◌<◌, ◌^◌, List, ◌++◌, codes}
+use Rattle.std.specs.Fmt.{decimal}
+use Rattle.nbt_name.specs.declared.addr.Kind.{Kind}
+use Rattle.nbt_name.specs.declared.addr.Kind.TheVariants.{Unique, Group}
+use Rattle.nbt_node.specs.declared.fault.AskFault.{AskFault}
+use Rattle.nbt_node.specs.declared.fault.AskFault.TheVariants as asks
+use Rattle.nbt_node.specs.declared.fault.ReleaseFault.{ReleaseFault}
+use Rattle.nbt_node.specs.declared.fault.ReleaseFault.TheVariants as releases
+use Rattle.nbt_node.specs.declared.fault.LookupFault.{LookupFault}
+use Rattle.nbt_node.specs.declared.fault.LookupFault.TheVariants as lookups
+use Rattle.nbt_text.specs.Number.{SpellsNumber}
+use Rattle.nbt_sim.specs.declared.verb.Verb.{Verb}
+use Rattle.nbt_sim.specs.declared.verb.Verb.TheVariants.{Config, At, Start, Crash, Ask, Release, Resolve, Status, Poll, Deliver, Stranger, Holders}
+
+-- ---- the words of a line
+
+-- what a line begins with
+abbrev pub verb_word : Verb → List ℕ
+verb_word Config = codes "config"
+verb_word At = codes "at"
+verb_word Start = codes "start"
+verb_word Crash = codes "crash"
+verb_word Ask = codes "ask"
+verb_word Release = codes "release"
+verb_word Resolve = codes "resolve"
+verb_word Status = codes "status"
+verb_word Poll = codes "poll"
+verb_word Deliver = codes "deliver"
+verb_word Stranger = codes "stranger"
+verb_word Holders = codes "holders"
+
+-- nodes are `n1` to `n8`
+pub record SpellsNode (word : List ℕ) (number : ℕ) : Type 0 where
+  pub some : 1 ≤ number
+  pub few : number ≤ 8
+  pub word_is : word ≡ codes "n" ++ decimal number
+
+-- an end is the server, whose number is 0, or a node
+pub data SpellsEnd : List ℕ → ℕ → Type 0 where
+  the_server : SpellsEnd (codes "s") 0
+  a_node : (word : List ℕ) (number : ℕ) → SpellsNode word number → SpellsEnd word number
+
+abbrev pub kind_word : Kind → List ℕ
+kind_word Unique = codes "unique"
+kind_word Group = codes "group"
+
+-- seconds are a number of 32 bits
+pub record SpellsSeconds (word : List ℕ) (seconds : ℕ) : Type 0 where
+  pub number : SpellsNumber word seconds
+  pub fits : seconds < 2 ^ 32
+
+-- a moment is at most 2^60 ms
+pub record SpellsMoment (word : List ℕ) (moment : ℕ) : Type 0 where
+  pub number : SpellsNumber word moment
+  pub fits : moment ≤ 2 ^ 60
+
+-- ---- the words of what is printed
+
+abbrev pub ask_fault_word : AskFault → List ℕ
+ask_fault_word asks.Quiet = codes "Quiet"
+ask_fault_word asks.Busy = codes "Busy"
+ask_fault_word asks.Full = codes "Full"
+ask_fault_word asks.ClockBack = codes "ClockBack"
+ask_fault_word asks.BadName = codes "BadName"
+
+abbrev pub release_fault_word : ReleaseFault → List ℕ
+release_fault_word releases.NotHeld = codes "NotHeld"
+release_fault_word releases.ClockBack = codes "ClockBack"
+
+abbrev pub lookup_fault_word : LookupFault → List ℕ
+lookup_fault_word lookups.Busy = codes "Busy"
+lookup_fault_word lookups.ClockBack = codes "ClockBack"
+lookup_fault_word lookups.BadName = codes "BadName"

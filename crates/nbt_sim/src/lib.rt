@@ -1,0 +1,17 @@
+//! Scripts of a world: what a line asks for, what it prints, and a script as its lines in order (our profile).
+//!
+//! A script comes in as octets, and what it prints goes out at the end of a `String`. Nothing here knows the command
+//! line.
+#![tactic(auto)]
+
+mod instruction;
+mod printing;
+mod script;
+mod stage;
+mod verb;
+mod words;
+
+pub use script::play;
+
+#[cfg(test)]
+mod tests;

@@ -1,0 +1,137 @@
+//! What comes of an event, and who holds a name, as text.
+
+ghost use Rattle.std.specs.Prelude.{◌≡◌, ◌++◌, ℕ, ◌<◌, ◌↔◌, List, length, slice_index_or, Contains, OnOk};
+ghost use Rattle.std.specs.String.{string_bytes};
+ghost use Rattle.nbt_name.specs.declared.addr.Kind.{Kind};
+ghost use Rattle.nbt_node.specs.declared.fault.AskFault.{AskFault};
+ghost use Rattle.nbt_node.specs.declared.fault.ReleaseFault.{ReleaseFault};
+ghost use Rattle.nbt_node.specs.declared.fault.LookupFault.{LookupFault};
+ghost use Rattle.nbt_node.specs.Numbers.{ask_fault_number, release_fault_number, lookup_fault_number};
+ghost use Rattle.nbt_text.specs.PacketText.{newline};
+ghost use Rattle.nbt_world.specs.World.{WorldValue};
+ghost use Rattle.nbt_world.specs.Step.{Step};
+ghost use Rattle.nbt_sim.specs.Script.{NamesRefusal, PrintsHolders, PrintsOutcome, holder_text, holders_text, other_holders_text};
+ghost use Rattle.nbt_sim.specs.Words.{ask_fault_word, kind_word, lookup_fault_word, release_fault_word};
+
+use nbt_name::{Kind, Name};
+use nbt_text::write_name;
+use nbt_world::{Event, Holder, Outcome, World};
+use std::alloc::AllocError;
+
+/// Appends the line of what came of an event.
+pub fn write_outcome(event: &Event, outcome: Outcome, out: &mut String) -> Result<(), AllocError>
+    requires { (old : WorldValue) × (new : WorldValue) × Step old event.now outcome new }
+    ensures { OnOk result ((text : List ℕ) × (string_bytes out.new ≡ string_bytes out.old ++ text ++ newline)
+        × PrintsOutcome event.now outcome text) }
+{
+    match outcome {
+        Outcome::Done => writeln!(out, "ok"),
+        Outcome::Sent(k) => writeln!(out, "sent {k}"),
+        Outcome::Refused(number) => {
+            let word = word_of_refusal(event, number);
+            writeln!(out, "refused {number} {word}")
+        }
+        Outcome::Nothing => writeln!(out, "none"),
+        Outcome::Down => writeln!(out, "down"),
+        Outcome::Nobody => writeln!(out, "nobody"),
+        Outcome::Lost => writeln!(out, "lost"),
+        Outcome::Taken => writeln!(out, "taken"),
+    }
+}
+
+/// The word of the fault with this number, with which a call of a node was refused.
+fn word_of_refusal(event: &Event, number: u8) -> &'static str
+    requires { (word : List ℕ) × NamesRefusal event.now number word }
+    ensures { NamesRefusal event.now number result.now }
+{
+    match event {
+        Event::Ask { .. } => word_of_ask(number),
+        Event::Release { .. } => word_of_release(number),
+        Event::Resolve { .. } => word_of_lookup(number),
+        Event::NameStatus { .. } => word_of_lookup(number),
+        _ => unreachable!(),
+    }
+}
+
+/// The word of the fault of an ask.
+fn word_of_ask(number: u8) -> &'static str
+    requires { (fault : AskFault) × (number ≡ ask_fault_number fault) }
+    ensures { (fault : AskFault) × (number ≡ ask_fault_number fault) × (result.now ≡ ask_fault_word fault) }
+{
+    match number {
+        1 => "Quiet",
+        2 => "Busy",
+        3 => "Full",
+        4 => "ClockBack",
+        _ => "BadName",
+    }
+}
+
+/// The word of the fault of a release.
+fn word_of_release(number: u8) -> &'static str
+    requires { (fault : ReleaseFault) × (number ≡ release_fault_number fault) }
+    ensures { (fault : ReleaseFault) × (number ≡ release_fault_number fault) × (result.now ≡ release_fault_word fault) }
+{
+    match number {
+        1 => "NotHeld",
+        _ => "ClockBack",
+    }
+}
+
+/// The word of the fault of a lookup.
+fn word_of_lookup(number: u8) -> &'static str
+    requires { (fault : LookupFault) × (number ≡ lookup_fault_number fault) }
+    ensures { (fault : LookupFault) × (number ≡ lookup_fault_number fault) × (result.now ≡ lookup_fault_word fault) }
+{
+    match number {
+        2 => "Busy",
+        4 => "ClockBack",
+        _ => "BadName",
+    }
+}
+
+/// Appends the line of the nodes that hold a name.
+pub fn write_holders(world: &World, name: &Name, out: &mut String) -> Result<(), AllocError>
+    ensures { OnOk result ((text : List ℕ) × (string_bytes out.new ≡ string_bytes out.old ++ text ++ newline)
+        × PrintsHolders world.now name.now text) }
+{
+    out.push_str("holders ")?;
+    write_name(name, out)?;
+    out.push_str(": ")?;
+    write_list(world.holders(name).as_slice(), out)?;
+    out.push_str("\n")
+}
+
+/// Appends holders, or `none` where there are none.
+fn write_list(holders: &[Holder], out: &mut String) -> Result<(), AllocError>
+    ensures { OnOk result (string_bytes out.new ≡ string_bytes out.old ++ holders_text holders.now) }
+{
+    let Some((first, others)) = holders.split_first() else {
+        return out.push_str("none");
+    };
+    write_holder(*first, out)?;
+    for holder in others {
+        out.push_str(", ")?;
+        write_holder(*holder, out)?;
+    }
+    Ok(())
+}
+
+/// Appends a holder, as in `n1 unique`.
+fn write_holder(holder: Holder, out: &mut String) -> Result<(), AllocError>
+    ensures { OnOk result (string_bytes out.new ≡ string_bytes out.old ++ holder_text holder) }
+{
+    let node = holder.node;
+    let kind = word_of_kind(holder.kind);
+    write!(out, "n{node} {kind}")
+}
+
+/// The word for a kind.
+fn word_of_kind(kind: Kind) -> &'static str
+    ensures { result.now ≡ kind_word kind }
+{
+    match kind {
+        Kind::Unique => "unique",
+        Kind::Group => "group",
+    }
+}

@@ -1,0 +1,99 @@
+//! A script's world: what instructions make of it, and what they print.
+
+ghost use Rattle.std.specs.Prelude.{◌≡◌, ◌≢◌, ◌++◌, ℕ, ◌+◌, ◌≤◌, List, [], length, slice_get, Some, None, MatchBool, MatchOption, IfOk, OnOk};
+ghost use Rattle.std.specs.String.{string_bytes};
+ghost use Rattle.nbt_sim.specs.Script.{ArePlaces};
+
+use crate::printing::{write_holders, write_outcome};
+use nbt_lease::{Config, Moment};
+use nbt_name::{Addr, Name};
+use nbt_world::{Event, World};
+use std::alloc::{AllocError, Global};
+
+/// The most nodes of a world.
+const NODES_MOST: usize = 8;
+
+/// The most ends of a world.
+const ENDS_MOST: usize = 9;
+
+/// The server's 32-bit address, 127.0.0.1.
+const SERVER: u32 = 0x7F00_0001;
+
+/// The port of the name service (RFC 1002 section 6).
+const PORT: u16 = 137;
+
+/// A world and its clock.
+#[derive(Drop)]
+pub struct Stage {
+    world: World,
+    clock: Moment,
+    ghost same: { clock ≡ world.now },
+}
+
+impl Stage {
+    ghost use Rattle.nbt_sim.specs.Script.{AreFew, Does};
+    ghost use Rattle.nbt_sim.specs.declared.instruction.Instruction.TheVariants as instruction;
+
+    /// A world of these limits with so many nodes; `None` where there aren't 1 to 8.
+    pub fn begin(alloc: Global, config: Config, nodes: usize) -> Option<Stage>
+        ensures { MatchOption result (¬ AreFew nodes) (λ stage. Does None (instruction.Config config nodes) (Some stage.world) []) }
+    {
+        if nodes == 0 || nodes > NODES_MOST {
+            return None;
+        }
+        let world = World::new(alloc, config, &places()[..=nodes]).unwrap();
+        Some(Stage {
+            world,
+            clock: Moment::zero(),
+        })
+    }
+
+    /// The clock goes on to a moment. Returns whether it isn't before now.
+    pub fn go_on(&mut self, moment: Moment) -> bool
+        ensures { MatchBool result (Does (Some self.old.world) (instruction.At moment) (Some self.new.world) []) (¬ (self.old.world.now ≤ moment)) }
+    {
+        if moment < self.clock {
+            return false;
+        }
+        let ms = moment.get() - self.clock.get();
+        let _done = self.world.step(&Event::Tick(ms)).unwrap();
+        self.clock = moment;
+        true
+    }
+
+    /// Something happens, but for the clock, and the line of what came of it is appended.
+    pub fn happen(&mut self, event: &Event, out: &mut String) -> Result<(), AllocError>
+        requires { (ms : ℕ) → event.now ≢ Event.Tick ms }
+        ensures { OnOk result ((text : List ℕ) × (string_bytes out.new ≡ string_bytes out.old ++ text)
+            × Does (Some self.old.world) (instruction.Happens event.now) (Some self.new.world) text) }
+    {
+        let Ok(outcome) = self.world.step(event) else {
+            return Err(AllocError);
+        };
+        write_outcome(event, outcome, out)
+    }
+
+    /// The line of who holds a name is appended.
+    pub fn tell(&self, name: &Name, out: &mut String) -> Result<(), AllocError>
+        ensures { OnOk result ((text : List ℕ) × (string_bytes out.new ≡ string_bytes out.old ++ text)
+            × Does (Some self.now.world) (instruction.Holders name.now) (Some self.now.world) text) }
+    {
+        write_holders(&self.world, name, out)
+    }
+}
+
+/// The addresses of a server and of the most nodes.
+fn places() -> [Addr; ENDS_MOST]
+    ensures { ArePlaces result 8 }
+{
+    let mut addrs = [Addr {
+        ip: SERVER,
+        port: PORT,
+    }; ENDS_MOST];
+    let mut ip = SERVER;
+    'places: for addr in &mut addrs {
+        *addr = Addr { ip, port: PORT };
+        ip += 1;
+    }
+    addrs
+}

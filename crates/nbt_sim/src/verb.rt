@@ -1,0 +1,55 @@
+//! The word that a line begins with.
+
+ghost use Rattle.std.specs.Prelude.{◌≡◌, ◌↔◌, Some};
+ghost use Rattle.nbt_sim.specs.declared.verb.Verb.{Verb};
+ghost use Rattle.nbt_sim.specs.Words.{verb_word};
+
+/// What a line is about, by its first word.
+#[derive(Clone, Copy, Debug, PartialEq, Eq)]
+pub enum Verb {
+    /// `config`: the world's limits, and how many nodes it has.
+    Config,
+    /// `at`: the clock goes on.
+    At,
+    /// `start`: an end starts.
+    Start,
+    /// `crash`: an end crashes.
+    Crash,
+    /// `ask`: a node asks for a name.
+    Ask,
+    /// `release`: a node gives a name back.
+    Release,
+    /// `resolve`: a node asks who holds a name.
+    Resolve,
+    /// `status`: a node asks an end which names it holds.
+    Status,
+    /// `poll`: a node sends what is due.
+    Poll,
+    /// `deliver`: a datagram is delivered.
+    Deliver,
+    /// `stranger`: a datagram comes from an address that is no end's.
+    Stranger,
+    /// `holders`: who holds a name.
+    Holders,
+}
+
+/// The verb that a word is.
+pub fn verb_of(word: &[u8]) -> Option<Verb>
+    ensures { (verb : Verb) → (result ≡ Some verb) ↔ (word.now ≡ verb_word verb) }
+{
+    match word {
+        b"config" => Some(Verb::Config),
+        b"at" => Some(Verb::At),
+        b"start" => Some(Verb::Start),
+        b"crash" => Some(Verb::Crash),
+        b"ask" => Some(Verb::Ask),
+        b"release" => Some(Verb::Release),
+        b"resolve" => Some(Verb::Resolve),
+        b"status" => Some(Verb::Status),
+        b"poll" => Some(Verb::Poll),
+        b"deliver" => Some(Verb::Deliver),
+        b"stranger" => Some(Verb::Stranger),
+        b"holders" => Some(Verb::Holders),
+        _ => None,
+    }
+}
