@@ -24,6 +24,7 @@ pub enum Request {
     Answer(AnswerArguments),
     Show(ShowArguments),
     Check,
+    Sim,
 }
 
 /// Reads the words, of which the first is the program's name. Wrong usage is found before a text that can't be read.
@@ -34,6 +35,7 @@ pub fn parse_words<S: AsStr>(alloc: Global, words: &[S]) -> Result<Request, Fail
         Some((usage::ANSWER, inner)) => Ok(Request::Answer(answer_arguments(alloc, inner)?)),
         Some((usage::SHOW, inner)) => Ok(Request::Show(show_arguments(alloc, inner)?)),
         Some((usage::CHECK, _)) => Ok(Request::Check),
+        Some((usage::SIM, _)) => Ok(Request::Sim),
         _ => {
             let message = "a command is needed";
             Err(program.error(ErrorKind::MissingSubcommand, message)?)?

@@ -3,3 +3,4 @@
 pub mod answer;
 pub mod check;
 pub mod show;
+pub mod sim;

@@ -33,7 +33,7 @@ use std::io::{Read, Write};
 ///
 /// - 0: done.
 /// - 1: an address, a hexadecimal text or the input can't be read: prints `unreadable`. Or `show` met a fault, which it
-///   prints, or `check` has vectors that failed.
+///   prints, or `check` has vectors that failed, or `sim` a line that can't be read.
 /// - 2: wrong usage; prints what is wrong and how to call the program.
 /// - 3: `reader` or `writer` failed; prints `device`, unless it was the writer.
 /// - 4: an allocation was refused; prints `memory`.
@@ -72,6 +72,7 @@ fn run<S: AsStr, R: Read>(alloc: Global, words: &[S], reader: &mut R) -> Result<
         Request::Answer(arguments) => commands::answer::run(alloc, &arguments),
         Request::Show(arguments) => commands::show::run(alloc, &arguments),
         Request::Check => commands::check::run(alloc, reader),
+        Request::Sim => commands::sim::run(alloc, reader),
     }
 }
 

@@ -13,6 +13,7 @@ mod messages;
 mod release;
 mod replies;
 mod show;
+mod sim;
 
 /// The most that a test prints.
 const ROOM: usize = 4096;

@@ -94,6 +94,40 @@ Exit status:
   3  input or output failed; prints `device` where it can
   4  an allocation was refused; prints `memory`";
 
+const SIM_ABOUT: &str =
+    "Plays a script from standard input in a network: a name server, nodes, and their datagrams";
+
+const SIM_HELP: &str = "\
+Each line of standard input is one step, in words between spaces, and each but `config` and `at` prints a line. Blank
+lines and lines that begin with `#` are passed over. At most 1048576 octets are taken.
+
+  config LIFE LONGEST ROWS NODES   first of all: a datagram's life in ms, the longest lease in s, the server's rows, and
+                                   1 to 8 nodes. The server is 127.0.0.1:137, node I is 127.0.0.(I+1):137
+  at MS                            the clock goes on to MS, at most 1152921504606846976
+  start E, crash E                 E is `s`, the server, or `n1` to `n8`: prints `ok`, or `none` where it is so already
+  ask nI NAME unique|group TTL     node I asks for a name for TTL seconds
+  release nI NAME                  node I gives it back
+  resolve nI NAME                  node I asks the server who holds it
+  status nI ADDRESS NAME           node I asks the end at ADDRESS, A.B.C.D:PORT, which names it holds
+  poll nI                          node I sends what is due
+  deliver K                        datagram K is delivered, once more if it was before
+  stranger ADDRESS E HEX           HEX comes to E from ADDRESS, which is no end's; empty HEX is `-`
+  holders NAME                     who holds a name: prints `holders FRED: n1 unique`, or `holders FRED: none`
+
+What a node does prints `sent K`, with the number of the datagram counted from 0, `refused NUMBER WORD`, `none`, or `down`.
+A delivery prints `nobody`, `lost`, `down`, `sent K` where the end replies, or `taken`. A line that can't be read prints
+`line K: unreadable` and ends the script. Lines end with a line feed alone: one that ends with CR LF is unreadable.
+
+Example:
+  printf 'config 1000 60 4096 1\\nstart s\\nstart n1\\nat 60000\\nask n1 FRED unique 60\\ndeliver 0\\n' | nbt sim
+
+Exit status:
+  0  done
+  1  a line or the input can't be read; for the input prints `unreadable`
+  2  wrong usage
+  3  input or output failed; prints `device` where it can
+  4  an allocation was refused; prints `memory`";
+
 /// The name of the command that answers one packet.
 pub const ANSWER: &str = "answer";
 
@@ -102,6 +136,9 @@ pub const SHOW: &str = "show";
 
 /// The name of the command that checks vectors.
 pub const CHECK: &str = "check";
+
+/// The name of the command that plays a script.
+pub const SIM: &str = "sim";
 
 /// The argument that names the sender.
 pub const FROM: &str = "from";
@@ -135,7 +172,8 @@ pub fn program<'a>(alloc: Global) -> Result<Command<'a>, AllocError> {
         .arg_required_else_help(true)
         .subcommand(answer_command(alloc)?)?
         .subcommand(show_command(alloc)?)?
-        .subcommand(check_command(alloc))
+        .subcommand(check_command(alloc))?
+        .subcommand(sim_command(alloc))
 }
 
 fn answer_command<'a>(alloc: Global) -> Result<Command<'a>, AllocError> {
@@ -178,6 +216,12 @@ fn check_command<'a>(alloc: Global) -> Command<'a> {
     Command::new(alloc, CHECK)
         .about(CHECK_ABOUT)
         .after_help(CHECK_HELP)
+}
+
+fn sim_command<'a>(alloc: Global) -> Command<'a> {
+    Command::new(alloc, SIM)
+        .about(SIM_ABOUT)
+        .after_help(SIM_HELP)
 }
 
 /// The error of a time that is not as the help says, with clap's own text around it.
