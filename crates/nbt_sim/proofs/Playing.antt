@@ -1,5 +1,5 @@
 -- A script line by line: what its lines have printed so far, and what is left.
-use Rattle.std.proofs.Common.{◌≡◌, ◌≢◌, ◌∙◌, ℕ, ◌+◌, ◌<◌, ◌≤◌, List, [], ◌∷◌, ◌++◌, length, get_or, drop, drop-cons, length-drop, Bool, true, false, Option, Some, None, Result, Ok, Err, refl, sym, ap, subst, append_assoc, add-one, arith, codes}
+use Rattle.std.proofs.Common.{◌≡◌, ◌≢◌, ◌∙◌, ℕ, ◌+◌, ◌<◌, ◌≤◌, List, [], ◌∷◌, ◌++◌, length, get_or, drop, drop-cons, length-drop, Bool, true, false, Option, None, Result, Ok, Err, refl, sym, subst, append_assoc, add-one, arith, codes}
 use Rattle.std.specs.Prelude.{IfOk, MatchBool}
 use Rattle.std.proofs.lemmas.List.{append-nil}
 use denote.Ref.{Bor}
@@ -17,7 +17,7 @@ use Rattle.nbt_sim.specs.declared.verb.Verb.{Verb}
 use Rattle.nbt_sim.specs.Line.{SaysOf, Says, says, config, at, start, crash, ask, release, resolve, status, poll, deliver, stranger, holders}
 use Rattle.nbt_sim.specs.Inner.Line.{LineIs, passed_over, said, unreadable}
 use Rattle.nbt_sim.specs.Inner.Stage.{PlaysLine, is_passed_over, is_done, is_unreadable}
-use Rattle.nbt_sim.specs.Script.{Does, Fits, IsUnreadable, says_what_does_not_fit, Plays, ends, passes_over, does, stops}
+use Rattle.nbt_sim.specs.Script.{Does, Fits, says_what_does_not_fit, Plays, ends, passes_over, does, stops}
 
 -- ---- what stands in a line that was read
 

@@ -1,6 +1,5 @@
 -- The words of a line, one by one.
-use Rattle.std.proofs.Common.{◌≡◌, ℕ, List, [], ◌∷◌, ◌≤◌, ◌-◌, take, drop, length, get_or, refl, sym, ap, arith}
-use Rattle.std.proofs.Math.Seq.{take-length}
+use Rattle.std.proofs.Common.{◌≡◌, ℕ, List, [], ◌∷◌, length, get_or, refl, arith}
 use denote.Ref.{Bor}
 use Rattle.nbt_text.specs.Texts.{texts}
 

@@ -1,8 +1,7 @@
 -- What steps leave: the moment, but for the clock's own; and whose fault a refusal is.
-use Rattle.std.proofs.Common.{◌≡◌, ◌≢◌, ◌∙◌, ℕ, ◌+◌, ◌-◌, ◌^◌, ◌<◌, ◌≤◌, List, [], ◌∷◌, length, Option, Some, None, Result, Ok, Err, suc, zero, refl, sym, ap, subst, arith, min}
+use Rattle.std.proofs.Common.{◌≡◌, ◌≢◌, ◌∙◌, ℕ, ◌+◌, ◌-◌, ◌^◌, ◌≤◌, List, Some, None, Result, Ok, Err, refl, ap, subst, arith, min}
 use Rattle.std.specs.Prelude.{IfOk, OnErr}
 use Rattle.nbt_name.specs.declared.addr.Addr.{Addr}
-use Rattle.nbt_name.specs.Wire.{NameValue}
 use Rattle.nbt_node.specs.Node.{NodeValue}
 use Rattle.nbt_node.specs.Numbers.{ask_fault_number, release_fault_number, lookup_fault_number}
 use Rattle.nbt_world.specs.World.{WorldValue}

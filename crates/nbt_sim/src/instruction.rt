@@ -1,6 +1,6 @@
 //! What a line of a script asks for.
 
-ghost use Rattle.std.specs.Prelude.{◌≡◌, ◌↔◌, ℕ, List, Some, IfOk, MatchOption};
+ghost use Rattle.std.specs.Prelude.{◌≡◌, ◌↔◌, Some, IfOk, MatchOption};
 ghost use Rattle.nbt_lease.specs.Config.{ConfigValue, IsConfig, config_of as limits_of};
 ghost use Rattle.nbt_text.specs.Texts.{texts};
 ghost use Rattle.nbt_sim.specs.declared.instruction.Instruction.{Instruction};

@@ -1,6 +1,6 @@
 //! What comes of an event, and who holds a name, as text.
 
-ghost use Rattle.std.specs.Prelude.{◌≡◌, ◌++◌, ℕ, ◌<◌, ◌↔◌, List, length, slice_index_or, Contains, OnOk};
+ghost use Rattle.std.specs.Prelude.{◌≡◌, ◌++◌, ℕ, List, OnOk};
 ghost use Rattle.std.specs.String.{string_bytes};
 ghost use Rattle.nbt_name.specs.declared.addr.Kind.{Kind};
 ghost use Rattle.nbt_node.specs.declared.fault.AskFault.{AskFault};
@@ -10,7 +10,7 @@ ghost use Rattle.nbt_node.specs.Numbers.{ask_fault_number, release_fault_number,
 ghost use Rattle.nbt_text.specs.PacketText.{newline};
 ghost use Rattle.nbt_world.specs.World.{WorldValue};
 ghost use Rattle.nbt_world.specs.Step.{Step};
-ghost use Rattle.nbt_sim.specs.Script.{NamesRefusal, PrintsHolders, PrintsOutcome, holder_text, holders_text, other_holders_text};
+ghost use Rattle.nbt_sim.specs.Script.{NamesRefusal, PrintsHolders, PrintsOutcome, holder_text, holders_text};
 ghost use Rattle.nbt_sim.specs.Words.{ask_fault_word, kind_word, lookup_fault_word, release_fault_word};
 
 use nbt_name::{Kind, Name};

@@ -1,6 +1,6 @@
 //! Scripts, line by line.
 
-ghost use Rattle.std.specs.Prelude.{◌≡◌, ◌≢◌, ◌++◌, ℕ, List, [], None, MatchBool, IfOk, map};
+ghost use Rattle.std.specs.Prelude.{◌≡◌, ◌≢◌, ◌++◌, ℕ, List, [], None, MatchBool, IfOk};
 ghost use Rattle.std.specs.String.{string_bytes};
 ghost use Rattle.nbt_world.specs.declared.event.Event.TheVariants as Event;
 ghost use Rattle.nbt_sim.specs.declared.instruction.Instruction.TheVariants as Instruction;

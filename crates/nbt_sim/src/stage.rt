@@ -1,6 +1,6 @@
 //! A script's world: what instructions make of it, and what they print.
 
-ghost use Rattle.std.specs.Prelude.{◌≡◌, ◌≢◌, ◌++◌, ℕ, ◌+◌, ◌≤◌, List, [], length, slice_get, Some, None, MatchBool, MatchOption, IfOk, OnOk};
+ghost use Rattle.std.specs.Prelude.{◌≡◌, ◌≢◌, ◌++◌, ℕ, ◌≤◌, List, [], Some, None, MatchBool, MatchOption, OnOk};
 ghost use Rattle.std.specs.String.{string_bytes};
 ghost use Rattle.nbt_sim.specs.Script.{ArePlaces};
 

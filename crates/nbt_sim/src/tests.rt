@@ -44,7 +44,8 @@ fn a_line_that_can_not_be_read_ends_the_script(rt: HostRuntime) {
 /// and what was printed before is as with all the memory there is.
 #[test]
 fn refused_memory_ends_a_script_or_loses_a_datagram(rt: HostRuntime) {
-    let script = b"config 1000 60 4096 2\nstart s\nstart n1\nat 60000\nask n1 FRED unique 60\ndeliver 0\n";
+    let script =
+        b"config 1000 60 4096 2\nstart s\nstart n1\nat 60000\nask n1 FRED unique 60\ndeliver 0\n";
     let mut out = String::new(rt.alloc());
     let got = play(script, &mut out);
     let printed = out.as_bytes();

@@ -1,4 +1,3 @@
-use Rattle.std.proofs.Common.{◌≡◌, ◌++◌, codes, append_assoc}
 use Rattle.nbt_sim.proofs.Written.{holders_written, pushed}
 use Rattle.nbt_sim.proofs.printing.write_holders.Goals as goal
 

@@ -1,4 +1,4 @@
-use Rattle.std.proofs.Common.{◌≡◌, ◌++◌, codes, arith, get_or}
+use Rattle.std.proofs.Common.{arith}
 use Rattle.std.specs.String.{string_bytes}
 use Rattle.nbt_sim.proofs.Written.{one_holder_more, nobody}
 use Rattle.nbt_sim.proofs.printing.write_list.Goals as goal

@@ -1,6 +1,6 @@
-use Rattle.std.proofs.Common.{◌≡◌, ◌++◌, get_or, take}
+use Rattle.std.proofs.Common.{◌≡◌, ◌++◌, take}
 use Rattle.std.specs.String.{string_bytes}
-use Rattle.nbt_sim.specs.Script.{holder_text, other_holders_text}
+use Rattle.nbt_sim.specs.Script.{other_holders_text}
 use Rattle.nbt_sim.proofs.printing.write_list.Given as goal
 
 abbrev pub invariant-loop-holder : goal.invariant-loop-holder

@@ -1,4 +1,4 @@
-use Rattle.std.proofs.Common.{◌≡◌, ◌++◌, List, ℕ, append_assoc, codes, refl, sym, rules}
+use Rattle.std.proofs.Common.{◌++◌, List, ℕ, append_assoc, codes}
 use Rattle.std.specs.Fmt.{decimal}
 use Rattle.nbt_sim.proofs.Written.{line_written}
 use Rattle.nbt_sim.proofs.Worlds.{refusal_named}

@@ -1,4 +1,3 @@
-use Rattle.std.proofs.Common.{◌≡◌, None}
 use Rattle.nbt_sim.proofs.Spelled.{no_address}
 use Rattle.nbt_sim.proofs.words.address_of.Goals as goal
 

@@ -1,4 +1,4 @@
-use Rattle.std.proofs.Common.{◌≡◌, rules, codes}
+use Rattle.std.proofs.Common.{rules}
 use Rattle.nbt_sim.proofs.Spelled.{end_server, end_node}
 use Rattle.nbt_sim.proofs.words.end_of.Goals as goal
 

@@ -1,7 +1,6 @@
-use Rattle.std.proofs.Common.{◌≡◌, ◌+◌, ◌≤◌, ◌∷◌, [], ℕ, List, length, get_or, Some, ap, refl, sym, arith, rules}
-use Rattle.nbt_sim.proofs.Spelled.{node_word, node_spelled, no_node, one_node}
+use Rattle.std.proofs.Common.{◌≡◌, ◌+◌, ℕ, List, length, get_or, ap, refl, arith, rules}
+use Rattle.nbt_sim.proofs.Spelled.{node_word, no_node, one_node}
 use Rattle.nbt_sim.proofs.Texts.{two_octets}
-use Rattle.nbt_sim.specs.Words.{SpellsNode}
 use Rattle.nbt_sim.proofs.words.node_of.Goals.{then-digit-lt49-via-then-digit-lt49, then-digit-lt49-via-else-digit-lt49+then-digit-gt56}
 use Rattle.nbt_sim.proofs.words.node_of.Goals as goal
 
