@@ -5,3 +5,5 @@ pub mod Hearing
 pub mod Dues
 pub mod Sending
 pub mod Turns
+pub mod Remembering
+pub mod Telling

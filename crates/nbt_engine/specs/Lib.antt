@@ -1,3 +1,4 @@
 pub mod Acts
 pub mod Serving
 pub mod Turning
+pub mod Memory

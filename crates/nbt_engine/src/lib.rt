@@ -5,11 +5,19 @@
 #![tactic(auto)]
 
 mod clock;
+pub mod laws;
+mod memory;
 mod port;
 mod serving;
 mod turning;
+mod udp;
 
 pub use clock::Clock;
+pub use memory::{Datagram, MemoryClock, MemoryPort};
 pub use port::{Device, Port};
 pub use serving::{Counts, serve_turns};
 pub use turning::{Seen, Want, node_turn};
+pub use udp::{MachineClock, UdpPort};
+
+#[cfg(test)]
+mod tests;

@@ -1,0 +1,135 @@
+//! A port over UDP, and the machine's clock.
+
+ghost use Rattle.std.specs.Prelude.{◌≡◌, ◌≤◌, IfOk};
+
+use crate::clock::Clock;
+use crate::port::{Device, Port};
+use arrayvec::ArrayVec;
+use nbt_lease::Moment;
+use nbt_name::Addr;
+use std::io::ErrorKind;
+use std::net::{IpAddr, Ipv4Addr, Net, SocketAddr, UdpSocket};
+use std::time::{Duration, SystemTime};
+use std::{io, time};
+
+/// How long a receive waits for a datagram, in milliseconds.
+const WAIT: u64 = 100;
+
+/// A port over UDP (RFC 768). A receive waits 100 ms at most.
+#[derive(Drop)]
+pub struct UdpPort {
+    socket: UdpSocket,
+    failures: u64,
+}
+
+impl UdpPort {
+    /// The port at an address of this machine. Refused where the machine refuses it, as one in use, or one that isn't its.
+    pub fn bind<R: Net>(net: &R, addr: Addr) -> io::Result<UdpPort>
+        ensures { IfOk result (λ p. p.failures ≡ 0) }
+    {
+        let socket = UdpSocket::bind(net, socket_addr(addr))?;
+        socket.set_read_timeout(Some(Duration::from_millis(WAIT)))?;
+        Ok(UdpPort {
+            socket,
+            failures: 0,
+        })
+    }
+}
+
+impl Port for UdpPort {
+    // No contract can say what a socket carries.
+    ghost does = { λ _ _ _. Unit {0} };
+
+    ghost failures = { λ p. p.failures };
+
+    fn receive(&mut self, octets: &mut ArrayVec<u8, 2048>) -> Result<Option<Addr>, Device> {
+        octets.clear();
+        let mut buffer = [0; 2048];
+        match self.socket.recv_from(&mut buffer) {
+            Ok((len, SocketAddr::V4(from))) => {
+                let _ = octets.try_extend_from_slice(&buffer[..len]);
+                Ok(Some(Addr {
+                    ip: from.ip().to_bits(),
+                    port: from.port(),
+                }))
+            }
+            Ok((_, SocketAddr::V6(_))) => Ok(None),
+            Err(error) if is_nothing(&error) => Ok(None),
+            Err(_) => {
+                self.failures += 1;
+                Err(Device)
+            }
+        }
+    }
+
+    fn send(&mut self, to: Addr, octets: &[u8]) -> Result<(), Device> {
+        match self.socket.send_to(octets, socket_addr(to)) {
+            Ok(_) => Ok(()),
+            Err(_) => {
+                self.failures += 1;
+                Err(Device)
+            }
+        }
+    }
+
+    fn failures(&self) -> u64 {
+        self.failures
+    }
+}
+
+/// Whether the error says that nothing came in time.
+fn is_nothing(error: &io::Error) -> bool {
+    matches!(
+        error.kind(),
+        ErrorKind::WouldBlock | ErrorKind::TimedOut | ErrorKind::Interrupted
+    )
+}
+
+/// The address as sockets take it.
+fn socket_addr(addr: Addr) -> SocketAddr {
+    SocketAddr::new(IpAddr::V4(Ipv4Addr::from_bits(addr.ip)), addr.port)
+}
+
+/// The machine's clock: its time of day in milliseconds since 1970. Where it can't be read, or is past 2^60, it tells the
+/// last moment again, at first 0.
+#[derive(Drop)]
+pub struct MachineClock<'a, R: time::Clock> {
+    machine: &'a R,
+    last: Moment,
+}
+
+impl<'a, R: time::Clock> MachineClock<'a, R> {
+    /// The clock of this machine.
+    pub fn new(machine: &'a R) -> MachineClock<'a, R> {
+        MachineClock {
+            machine,
+            last: Moment::zero(),
+        }
+    }
+
+    /// The moment that it told last, at first 0.
+    pub fn last(&self) -> Moment
+        ensures { result ≡ self.now.last }
+    {
+        self.last
+    }
+}
+
+impl<'a, R: time::Clock> Clock for MachineClock<'a, R> {
+    // No contract can say what a machine's clock tells.
+    ghost tells = { λ _ _ _. Unit {0} };
+
+    fn now(&mut self) -> Moment {
+        if let Some(moment) = time_of_day(self.machine) {
+            self.last = moment;
+        }
+        self.last
+    }
+}
+
+/// The time of day as a moment, where it can be read and is one.
+fn time_of_day<R: time::Clock>(machine: &R) -> Option<Moment> {
+    let now = SystemTime::now(machine).ok()?;
+    let since = now.duration_since(SystemTime::UNIX_EPOCH).ok()?;
+    Moment::new(u64::try_from(since.as_millis()).ok()?)
+}
