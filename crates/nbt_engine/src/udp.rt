@@ -65,6 +65,7 @@ impl Port for UdpPort {
     fn send(&mut self, to: Addr, octets: &[u8]) -> Result<(), Device> {
         match self.socket.send_to(octets, socket_addr(to)) {
             Ok(_) => Ok(()),
+            Err(error) if has_no_way(&error) => Ok(()),
             Err(_) => {
                 self.failures += 1;
                 Err(Device)
@@ -82,6 +83,20 @@ fn is_nothing(error: &io::Error) -> bool {
     matches!(
         error.kind(),
         ErrorKind::WouldBlock | ErrorKind::TimedOut | ErrorKind::Interrupted
+    )
+}
+
+/// Whether the error says that there is no way to where this one datagram should go, as to port 0, which a stranger can
+/// write into what it sends. The device is well, and the datagram is lost, as UDP may lose any.
+fn has_no_way(error: &io::Error) -> bool {
+    matches!(
+        error.kind(),
+        ErrorKind::InvalidInput
+            | ErrorKind::PermissionDenied
+            | ErrorKind::AddrNotAvailable
+            | ErrorKind::HostUnreachable
+            | ErrorKind::NetworkUnreachable
+            | ErrorKind::ConnectionRefused
     )
 }
 
