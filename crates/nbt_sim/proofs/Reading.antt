@@ -14,8 +14,6 @@ use Rattle.nbt_world.specs.declared.event.Event.TheVariants.{Start, Crash, Ask, 
 use Rattle.nbt_sim.specs.declared.instruction.Instruction.{Instruction}
 use Rattle.nbt_sim.specs.declared.instruction.Instruction.TheVariants.{Config, At, Happens, Holders}
 use Rattle.nbt_sim.specs.declared.verb.Verb.{Verb}
-use Rattle.nbt_sim.specs.declared.verb.Verb.{Verb}
-use Rattle.nbt_sim.specs.declared.verb.Verb.{Verb}
 use Rattle.nbt_sim.specs.declared.verb.Verb.TheVariants as verbs
 use Rattle.nbt_sim.specs.Line.{Says, says, SaysOf, config, at, start, crash, ask, release, resolve, status, poll, deliver, stranger, holders}
 use Rattle.nbt_sim.specs.Words.{SpellsNode, SpellsEnd, SpellsSeconds, SpellsMoment, kind_word, verb_word}
@@ -223,8 +221,8 @@ no_config_nodes ws a b c d numbers r i whole reads none e = rw whole (nothing r 
 abbrev ReadsLimits : (life longest rows : ℕ) → Option ConfigValue → Type 0
 ReadsLimits life longest rows found = (x : ConfigValue) → (found ≡ Some x) ↔ (IsConfig (config_of life longest rows) × (x ≡ config_of life longest rows))
 
-module _ (ws : List (List ℕ)) (a b c d : List ℕ) (lives longests rowses nodeses : Option ℕ) (life longest rows nodes : ℕ) (whole : ws ≡ a ∷ b ∷ c ∷ d ∷ []) (r0 : Reads ℕ lives (SpellsNumber a)) (s0 : lives ≡ Some life) (r1 : Reads ℕ longests (SpellsNumber b)) (s1 : longests ≡ Some longest)
-    (r2 : Reads ℕ rowses (SpellsNumber c)) (s2 : rowses ≡ Some rows) (r3 : Reads ℕ nodeses (SpellsNumber d)) (s3 : nodeses ≡ Some nodes) (found : Option ConfigValue) (limits : ReadsLimits life longest rows found) where
+module _ (ws : List (List ℕ)) (a b c d : List ℕ) (life_read longest_read rows_read nodes_read : Option ℕ) (life longest rows nodes : ℕ) (whole : ws ≡ a ∷ b ∷ c ∷ d ∷ []) (r0 : Reads ℕ life_read (SpellsNumber a)) (s0 : life_read ≡ Some life) (r1 : Reads ℕ longest_read (SpellsNumber b)) (s1 : longest_read ≡ Some longest)
+    (r2 : Reads ℕ rows_read (SpellsNumber c)) (s2 : rows_read ≡ Some rows) (r3 : Reads ℕ nodes_read (SpellsNumber d)) (s3 : nodes_read ≡ Some nodes) (found : Option ConfigValue) (limits : ReadsLimits life longest rows found) where
   pub config_read : (config_found : ConfigValue) (i : Instruction) → found ≡ Some config_found → (◌≡◌ {A = Option Instruction} (Some (Config config_found nodes)) (Some i)) ↔ SaysOf verbs.Config ws i
   config_read config_found i there = rw whole (
     λ e.

@@ -59,7 +59,8 @@ pub fn parse_line(alloc: Global, line: &[u8]) -> Result<Line, AllocError>
 
 /// The instruction that the words spell.
 fn instruction_of(alloc: Global, words: &[&[u8]]) -> Result<Option<Instruction>, AllocError>
-    ensures { IfOk result (λ found. MatchOption found ((i : Instruction) → ¬ Says (texts words.now) i) (Says (texts words.now))) }
+    ensures { IfOk result (λ found. MatchOption found ((i : Instruction) → ¬ Says (texts words.now) i)
+        (Says (texts words.now))) }
 {
     let Some((first, rest)) = words.split_first() else {
         return Ok(None);
@@ -111,7 +112,8 @@ fn config_of(words: &[&[u8]]) -> Option<Instruction>
 
 /// The limits of these numbers, of which `longest` may be too large for one.
 fn limits(life: u64, longest: u64, rows: usize) -> Option<Config>
-    ensures { (config : ConfigValue) → (result ≡ Some config) ↔ (IsConfig (limits_of life longest rows) × (config ≡ limits_of life longest rows)) }
+    ensures { (config : ConfigValue) → (result ≡ Some config)
+        ↔ (IsConfig (limits_of life longest rows) × (config ≡ limits_of life longest rows)) }
 {
     Config::new(life, u32::try_from(longest).ok()?, rows).ok()
 }
@@ -234,7 +236,8 @@ fn holders_of(words: &[&[u8]]) -> Option<Instruction>
 
 /// `ADDRESS E HEX`.
 fn stranger_of(alloc: Global, words: &[&[u8]]) -> Result<Option<Instruction>, AllocError>
-    ensures { IfOk result (λ found. MatchOption found ((i : Instruction) → ¬ SaysOf verbs.Stranger (texts words.now) i) (SaysOf verbs.Stranger (texts words.now))) }
+    ensures { IfOk result (λ found. MatchOption found ((i : Instruction) → ¬ SaysOf verbs.Stranger (texts words.now) i)
+        (SaysOf verbs.Stranger (texts words.now))) }
 {
     let [from, to, digits] = words else {
         return Ok(None);

@@ -17,7 +17,8 @@ use std::alloc::{AllocError, Global};
 /// is told of by its number, counted from 1 and with the blank ones among them, and ends the script. Returns whether
 /// there was none. `AllocError` only where memory was refused; to a server, memory refused is a datagram lost.
 pub fn play(script: &[u8], out: &mut String) -> Result<bool, AllocError>
-    ensures { IfOk result (λ well. (text : List ℕ) × (string_bytes out.new ≡ string_bytes out.old ++ text) × Plays 1 None (lines script.now) well text) }
+    ensures { IfOk result (λ well. (text : List ℕ) × (string_bytes out.new ≡ string_bytes out.old ++ text)
+        × Plays 1 None (lines script.now) well text) }
 {
     let alloc = *out.allocator();
     let lines = lines_of(alloc, script)?;
@@ -65,7 +66,8 @@ fn does(
 ) -> Result<bool, AllocError>
     requires { (ms : ℕ) → instruction.now ≢ Instruction.Happens (Event.Tick ms) }
     ensures { IfOk result (λ done. MatchBool done
-        ((text : List ℕ) × (string_bytes out.new ≡ string_bytes out.old ++ text) × Does (world_of stage.old) instruction.now (world_of stage.new) text)
+        ((text : List ℕ) × (string_bytes out.new ≡ string_bytes out.old ++ text)
+        × Does (world_of stage.old) instruction.now (world_of stage.new) text)
         ((string_bytes out.new ≡ string_bytes out.old) × (¬ Fits (world_of stage.old) instruction.now))) }
 {
     let Some(stage) = stage else {

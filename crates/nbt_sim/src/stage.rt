@@ -36,7 +36,8 @@ impl Stage {
 
     /// A world of these limits with so many nodes; `None` where there aren't 1 to 8.
     pub fn begin(alloc: Global, config: Config, nodes: usize) -> Option<Stage>
-        ensures { MatchOption result (¬ AreFew nodes) (λ stage. Does None (instruction.Config config nodes) (Some stage.world) []) }
+        ensures { MatchOption result (¬ AreFew nodes)
+            (λ stage. Does None (instruction.Config config nodes) (Some stage.world) []) }
     {
         if nodes == 0 || nodes > NODES_MOST {
             return None;
@@ -50,7 +51,8 @@ impl Stage {
 
     /// The clock goes on to a moment. Returns whether it isn't before now.
     pub fn go_on(&mut self, moment: Moment) -> bool
-        ensures { MatchBool result (Does (Some self.old.world) (instruction.At moment) (Some self.new.world) []) (¬ (self.old.world.now ≤ moment)) }
+        ensures { MatchBool result (Does (Some self.old.world) (instruction.At moment) (Some self.new.world) [])
+            (¬ (self.old.world.now ≤ moment)) }
     {
         if moment < self.clock {
             return false;
