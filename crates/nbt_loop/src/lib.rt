@@ -16,7 +16,6 @@ mod outcome;
 mod ports;
 mod script;
 mod sessions;
-mod udp;
 
 pub use fault::Fault;
 pub use ports::Ports;
