@@ -12,7 +12,10 @@ fn words(rt: &(impl Env + AllocGlobal)) -> io::Result<Vec<String>> {
 fn main(rt: HostRuntime) -> ExitCode {
     let mut writer = io::writer(&rt);
     ExitCode::from(match words(&rt) {
-        Ok(words) => nbt_prog::command(rt.alloc(), words.as_slice(), &mut rt.reader(), &mut writer),
+        Ok(words) => {
+            let words = words.as_slice();
+            nbt_prog::command_on(&rt, rt.alloc(), words, &mut rt.reader(), &mut writer)
+        }
         Err(error) => nbt_prog::command_without_words(rt.alloc(), error, &mut writer),
     })
 }

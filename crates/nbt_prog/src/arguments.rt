@@ -1,19 +1,24 @@
 //! What the words of the command line ask for.
 
-ghost use Rattle.std.specs.Prelude.{◌≡◌, ◌≤◌, ◌^◌, ◌⊎◌, ◌↔◌, ℕ, Ok, Some, IfOk, IfErr, IfSome, codes};
+ghost use Rattle.std.specs.Prelude.{◌≡◌, ◌≤◌, ◌^◌, ◌⊎◌, ◌↔◌, ℕ, Ok, Some, IfOk, IfErr, IsSome, IfSome, codes};
 ghost use Rattle.clap.specs.Words.{kind_of};
 ghost use Rattle.hex.specs.Hex.{decode_of};
-ghost use Rattle.nbt_prog.specs.Inner.Arguments.{AreGiven, IsFailureOf, IsHexadecimal, IsTime, SpellsTime, argument_of};
+ghost use Rattle.nbt_prog.specs.Inner.Arguments.{AreGiven, IsFailureOf, IsHexadecimal, IsPort, IsTime, SpellsPort, SpellsTime, argument_of};
+ghost use Rattle.nbt_prog.specs.Inner.Failure.{failure_status};
 ghost use Rattle.nbt_prog.specs.declared.commands.show.Service.TheVariants.{Dgram, Session};
 ghost use Rattle.nbt_prog.specs.declared.failure.Failure.TheVariants.{Unreadable, Memory};
 
 use crate::commands::answer::AnswerArguments;
 use crate::commands::show::{Service, ShowArguments};
 use crate::failure::Failure;
-use crate::usage;
+use crate::network::arguments::{node_arguments, serve_arguments};
+use crate::network::node::NodeArguments;
+use crate::network::serve::ServeArguments;
+use crate::{network, usage};
 use clap::error::ErrorKind;
 use clap::{ArgMatches, Error};
 use nbt_lease::Moment;
+use nbt_loop::Ports;
 use nbt_text::{parse_address, parse_number};
 use std::alloc::Global;
 use std::convert::AsStr;
@@ -25,6 +30,9 @@ pub enum Request {
     Show(ShowArguments),
     Check,
     Sim,
+    Serve(ServeArguments),
+    Node(NodeArguments),
+    Loop(Ports),
 }
 
 /// Reads the words, of which the first is the program's name. Wrong usage is found before a text that can't be read.
@@ -36,6 +44,9 @@ pub fn parse_words<S: AsStr>(alloc: Global, words: &[S]) -> Result<Request, Fail
         Some((usage::SHOW, inner)) => Ok(Request::Show(show_arguments(alloc, inner)?)),
         Some((usage::CHECK, _)) => Ok(Request::Check),
         Some((usage::SIM, _)) => Ok(Request::Sim),
+        Some((network::usage::SERVE, inner)) => Ok(Request::Serve(serve_arguments(alloc, inner)?)),
+        Some((network::usage::NODE, inner)) => Ok(Request::Node(node_arguments(alloc, inner)?)),
+        Some((usage::LOOP, inner)) => Ok(Request::Loop(loop_ports(alloc, inner)?)),
         _ => {
             let message = "a command is needed";
             Err(program.error(ErrorKind::MissingSubcommand, message)?)?
@@ -68,6 +79,30 @@ fn show_arguments(alloc: Global, matches: &ArgMatches<'_>) -> Result<ShowArgumen
     Ok(ShowArguments { service, octets })
 }
 
+/// The ports of `loop`, or clap's error on the first of them.
+fn loop_ports(alloc: Global, matches: &ArgMatches<'_>) -> Result<Ports, Failure>
+    ensures ports { IfOk result (λ ports. SpellsPort (argument_of matches.now (codes "port")) ports.names) }
+    ensures failure { IfErr result (λ failure. (failure ≡ Memory)
+        ⊎ (¬ (IsPort (argument_of matches.now (codes "port"))) × (failure_status failure ≡ 2))) }
+{
+    let text = argument(matches, usage::PORT);
+    match parse_ports(text) {
+        Some(ports) => Ok(ports),
+        None => Err(usage::bad_port(alloc, text)?)?,
+    }
+}
+
+/// Reads the first of three ports: digits alone, of which the first ones may be zeros.
+fn parse_ports(text: &str) -> Option<Ports>
+    ensures read { IfSome result (λ ports. SpellsPort text.now ports.names) }
+    ensures found { IsPort text.now → IsSome result }
+{
+    match parse_number(text.as_bytes()) {
+        Some(first) => Ports::new(first),
+        None => None,
+    }
+}
+
 /// The service that a KIND names, of which there are three.
 fn service_of(kind: &str) -> Service
     ensures dgram { (result ≡ Dgram) ↔ (kind.now ≡ codes "dgram") }
@@ -81,7 +116,7 @@ fn service_of(kind: &str) -> Service
 }
 
 /// The text of an argument, which is there, since each is required or has a default.
-fn argument<'a>(matches: &ArgMatches<'a>, name: &str) -> &'a str
+pub fn argument<'a>(matches: &ArgMatches<'a>, name: &str) -> &'a str
     ensures { result.now ≡ argument_of matches.now name.now }
 {
     match matches.get_str(name) {

@@ -2,5 +2,6 @@
 
 pub mod answer;
 pub mod check;
+pub mod looping;
 pub mod show;
 pub mod sim;

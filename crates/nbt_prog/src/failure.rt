@@ -3,6 +3,7 @@
 ghost use Rattle.std.specs.Prelude.{◌≡◌, ◌≤◌};
 
 use hex::FromHexError;
+use nbt_engine::Device;
 use std::alloc::{AllocError, AllocFailed};
 use std::io;
 use thiserror::Error;
@@ -110,5 +111,15 @@ impl From<io::Error> for Failure {
             io::ErrorKind::OutOfMemory => Failure::Memory,
             _ => Failure::Device,
         }
+    }
+}
+
+impl From<Device> for Failure {
+    ghost use Rattle.nbt_prog.specs.declared.failure.Failure.TheVariants.{Device as DeviceFailed};
+
+    ghost from_gives = { λ _ failure. failure ≡ DeviceFailed };
+
+    fn from(_error: Device) -> Failure {
+        Failure::Device
     }
 }

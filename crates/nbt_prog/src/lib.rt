@@ -14,6 +14,7 @@ mod arguments;
 mod commands;
 mod failure;
 mod input;
+mod network;
 mod printed;
 #[cfg(test)]
 mod tests;
@@ -24,18 +25,20 @@ use failure::Failure;
 use printed::Printed;
 use std::alloc::Global;
 use std::convert::AsStr;
-use std::io;
 use std::io::{Read, Write};
+use std::net::Net;
+use std::{io, time};
 
 /// Runs the command that `words` name, of which the first is the program's own name, and returns
 /// the exit status. All that is printed goes to `writer`, at once: the command's output, the help
-/// that was asked for, or a text that says what is wrong.
+/// that was asked for, or a text that says what is wrong. No socket is opened.
 ///
 /// - 0: done.
 /// - 1: an address, a hexadecimal text or the input can't be read: prints `unreadable`. Or `show` met a fault, which it
 ///   prints, or `check` has vectors that failed, or `sim` a line that can't be read.
 /// - 2: wrong usage; prints what is wrong and how to call the program.
-/// - 3: `reader` or `writer` failed; prints `device`, unless it was the writer.
+/// - 3: `reader` or `writer` failed; prints `device`, unless it was the writer. So do `serve`, `node` and `loop`, which
+///   need a machine: see [`command_on`].
 /// - 4: an allocation was refused; prints `memory`.
 pub fn command<S: AsStr, R: Read, W: Write>(
     alloc: Global,
@@ -48,6 +51,43 @@ pub fn command<S: AsStr, R: Read, W: Write>(
         → Appends (W.contents writer.old) (W.contents writer.new) (codes "memory" ++ 10 ∷ []) }
 {
     conclude(run(alloc, words, reader), writer)
+}
+
+/// Runs the command that `words` name, as [`command`] does, and on this machine those that open sockets too: `serve`,
+/// `node` and `loop`. They write to `writer` as they go on. Status 3 is also that of a port that can't be had, and of a
+/// socket that failed.
+pub fn command_on<M: Net + time::Clock, S: AsStr, R: Read, W: Write>(
+    machine: &M,
+    alloc: Global,
+    words: &[S],
+    reader: &mut R,
+    writer: &mut W,
+) -> u8
+    ensures bound { result ≤ 4 }
+{
+    match arguments::parse_words(alloc, words) {
+        Ok(Request::Serve(arguments)) => {
+            let outcome = network::serve::run(machine, alloc, &arguments, writer);
+            conclude_written(outcome, writer)
+        }
+        Ok(Request::Node(arguments)) => {
+            let outcome = network::node::run(machine, alloc, &arguments, writer);
+            conclude_written(outcome, writer)
+        }
+        Ok(Request::Loop(ports)) => commands::looping::run(machine, alloc, ports, writer),
+        Ok(request) => conclude(run_request(alloc, request, reader), writer),
+        Err(failure) => conclude(Err(failure), writer),
+    }
+}
+
+/// Returns the status of a command that has written its output; of a failure it prints the text.
+fn conclude_written<W: Write>(outcome: Result<(), Failure>, writer: &mut W) -> u8
+    ensures bound { result ≤ 4 }
+{
+    match outcome {
+        Ok(()) => 0,
+        Err(failure) => conclude(Err(failure), writer),
+    }
 }
 
 /// Ends a program whose words could not be had, as [`command`] would: a word that is no UTF-8 is wrong usage, status 2;
@@ -68,11 +108,21 @@ pub fn command_without_words<W: Write>(alloc: Global, error: io::Error, writer: 
 
 /// The whole output of the command that `words` name.
 fn run<S: AsStr, R: Read>(alloc: Global, words: &[S], reader: &mut R) -> Result<Printed, Failure> {
-    match arguments::parse_words(alloc, words)? {
+    run_request(alloc, arguments::parse_words(alloc, words)?, reader)
+}
+
+/// The whole output of a command. Those that open sockets have no machine here to open them on.
+fn run_request<R: Read>(
+    alloc: Global,
+    request: Request,
+    reader: &mut R,
+) -> Result<Printed, Failure> {
+    match request {
         Request::Answer(arguments) => commands::answer::run(alloc, &arguments),
         Request::Show(arguments) => commands::show::run(alloc, &arguments),
         Request::Check => commands::check::run(alloc, reader),
         Request::Sim => commands::sim::run(alloc, reader),
+        Request::Serve(_) | Request::Node(_) | Request::Loop(_) => Err(Failure::Device),
     }
 }
 

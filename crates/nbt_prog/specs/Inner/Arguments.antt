@@ -19,6 +19,13 @@ SpellsTime text at = SpellsNumber text at × (at ≤ 2 ^ 60)
 abbrev pub IsTime : List ℕ → Type 0
 IsTime text = (at : ℕ) × SpellsTime text at
 
+-- The text is a number, in digits alone, of a port that two more follow.
+abbrev pub SpellsPort : List ℕ → ℕ → Type 0
+SpellsPort text port = SpellsNumber text port × (1 ≤ port) × (port ≤ 65533)
+
+abbrev pub IsPort : List ℕ → Type 0
+IsPort text = (port : ℕ) × SpellsPort text port
+
 -- the text of the argument with this name, or none
 abbrev pub argument_of : ArgMatches → List ℕ → List ℕ
 argument_of matches name = unwrap_or (first_value (found_of matches) name) []

@@ -1,0 +1,235 @@
+//! The commands that open sockets, their arguments, and the help on them.
+
+ghost use Rattle.std.specs.Prelude.{◌≡◌, ◌≤◌, IfOk};
+ghost use Rattle.clap.specs.Words.{kind_of};
+
+use clap::builder::ValueParser;
+use clap::error::ErrorKind;
+use clap::{Arg, ArgAction, Command, Error};
+use std::alloc::{AllocError, Global};
+
+const SERVE_ABOUT: &str = "Runs a name server on a UDP port of this machine";
+
+const SERVE_HELP: &str = "\
+Runs a name server with room for 4096 leases, over this machine's clock. It is silent until its longest lease has
+passed since it started. A turn is one receive, which waits 100 ms at most. After the last turn prints
+`turns T replies R lost L`. With --forever prints first `serving BIND, silent for N s`, and goes on until a signal ends
+it. The standard port is 137, for which most systems want more rights.
+
+Example:
+  nbt serve 127.0.0.1:10137 1000 60 --forever
+
+Exit status:
+  0  done
+  1  BIND can't be read; prints `unreadable`
+  2  wrong usage
+  3  the port can't be had, or a socket or the output failed; prints `device` where it can
+  4  an allocation was refused; prints `memory`";
+
+const NODE_ABOUT: &str = "Runs an end node that asks a name server for a name, and holds it";
+
+const NODE_HELP: &str = "\
+Runs an end node, over this machine's clock. It asks SERVER for NAME as soon as it may, once twice LIFE has passed
+since it started, refreshes what it holds, and replies to status requests. A turn is one receive, which waits 100 ms at
+most. Prints `granted G`, `renewed G`, `refused R` or `lost` as it happens, G being seconds and R the RCODE in decimal,
+and after the last turn `held` or `not held`. With --forever it goes on until a signal ends it.
+
+Example:
+  nbt node 127.0.0.2:10137 127.0.0.1:10137 1000 60 FRED unique 60 --forever
+
+Exit status:
+  0  done
+  1  BIND, SERVER or NAME can't be read, or NAME begins with *; prints `unreadable`
+  2  wrong usage
+  3  the port can't be had, or a socket or the output failed; prints `device` where it can
+  4  an allocation was refused; prints `memory`";
+
+/// The name of the command that runs a server.
+pub const SERVE: &str = "serve";
+
+/// The name of the command that runs an end node.
+pub const NODE: &str = "node";
+
+/// The argument that says at which address and port.
+pub const BIND: &str = "bind";
+
+/// The argument that says where the name server is.
+pub const SERVER: &str = "server";
+
+/// The argument that says how long a datagram lives, in milliseconds.
+pub const LIFE: &str = "life";
+
+/// The argument that says how long a lease lasts at most, in seconds.
+pub const LONGEST: &str = "longest";
+
+/// The argument that has the name to be asked for.
+pub const NAME: &str = "name";
+
+/// The argument that says who may hold it.
+pub const KIND: &str = "kind";
+
+/// The kind of a name that a group holds.
+pub const GROUP: &str = "group";
+
+/// The kinds of names.
+const KINDS: [&str; 2] = ["unique", GROUP];
+
+/// The argument that says for how many seconds the name is asked for.
+pub const TTL: &str = "ttl";
+
+/// The argument that says how many turns.
+pub const TURNS: &str = "turns";
+
+/// The option in place of it.
+pub const FOREVER: &str = "forever";
+
+/// The command that runs a server.
+pub fn serve_command<'a>(alloc: Global) -> Result<Command<'a>, AllocError> {
+    Command::new(alloc, SERVE)
+        .about(SERVE_ABOUT)
+        .after_help(SERVE_HELP)
+        .arg(bind(alloc))?
+        .arg(life(alloc))?
+        .arg(longest(alloc))?
+        .arg(turns(alloc)?)?
+        .arg(forever(alloc))
+}
+
+/// The command that runs an end node.
+pub fn node_command<'a>(alloc: Global) -> Result<Command<'a>, AllocError> {
+    let server = Arg::new(alloc, SERVER)
+        .value_name("SERVER")
+        .required(true)
+        .help("The name server's address and port");
+    let name = Arg::new(alloc, NAME).value_name("NAME").required(true).help(
+        "The name to be asked for: as text, or 32 hexadecimal digits, and `.` before each label of its scope",
+    );
+    let kind = Arg::new(alloc, KIND)
+        .value_name("KIND")
+        .required(true)
+        .value_parser(ValueParser::Names(&KINDS))
+        .help("Who may hold the name: one machine, or a group");
+    let ttl = Arg::new(alloc, TTL).value_name("TTL").required(true).help(
+        "The seconds to ask for: 0, as long as may be, to 4294967295",
+    );
+    Command::new(alloc, NODE)
+        .about(NODE_ABOUT)
+        .after_help(NODE_HELP)
+        .arg(bind(alloc))?
+        .arg(server)?
+        .arg(life(alloc))?
+        .arg(longest(alloc))?
+        .arg(name)?
+        .arg(kind)?
+        .arg(ttl)?
+        .arg(turns(alloc)?)?
+        .arg(forever(alloc))
+}
+
+fn bind<'a>(alloc: Global) -> Arg<'a> {
+    Arg::new(alloc, BIND).value_name("BIND").required(true).help(
+        "The own address and port, as A.B.C.D:PORT in decimal with no leading zeros",
+    )
+}
+
+fn life<'a>(alloc: Global) -> Arg<'a> {
+    Arg::new(alloc, LIFE).value_name("LIFE").required(true).help(
+        "The greatest life of a datagram, in milliseconds: from 1 to 60000",
+    )
+}
+
+fn longest<'a>(alloc: Global) -> Arg<'a> {
+    Arg::new(alloc, LONGEST)
+        .value_name("LONGEST")
+        .required(true)
+        .help("The longest lease, in seconds: from 1 to 1000000")
+}
+
+fn turns<'a>(alloc: Global) -> Result<Arg<'a>, AllocError> {
+    Arg::new(alloc, TURNS)
+        .value_name("TURNS")
+        .help("How many turns: from 1 to 1000000")
+        .conflicts_with(FOREVER)?
+        .required_unless_present(FOREVER)
+}
+
+fn forever<'a>(alloc: Global) -> Arg<'a> {
+    Arg::new(alloc, FOREVER)
+        .long("forever")
+        .action(ArgAction::SetTrue)
+        .help("Goes on until a signal ends it, in place of TURNS")
+}
+
+/// Which of the commands.
+#[derive(Clone, Copy, Debug, PartialEq, Eq)]
+pub enum Runs {
+    Server,
+    Node,
+}
+
+/// A number that these commands take.
+#[derive(Clone, Copy, Debug, PartialEq, Eq)]
+pub enum Limited {
+    Life,
+    Longest,
+    Ttl,
+    Turns,
+}
+
+impl Limited {
+    /// The argument that has it.
+    pub fn argument(self) -> &'static str {
+        match self {
+            Limited::Life => LIFE,
+            Limited::Longest => LONGEST,
+            Limited::Ttl => TTL,
+            Limited::Turns => TURNS,
+        }
+    }
+
+    /// The least that it may be.
+    pub fn least(self) -> u64 {
+        match self {
+            Limited::Ttl => 0,
+            _ => 1,
+        }
+    }
+
+    /// The most that it may be.
+    pub fn most(self) -> u64
+        ensures { result ≤ 4294967295 }
+    {
+        match self {
+            Limited::Life => 60_000,
+            Limited::Longest | Limited::Turns => 1_000_000,
+            Limited::Ttl => 0xFFFF_FFFF,
+        }
+    }
+}
+
+/// The error of a number that is out of its limits, with clap's own text around it.
+pub fn bad_number(
+    alloc: Global,
+    runs: Runs,
+    limited: Limited,
+    value: &str,
+) -> Result<Error, AllocError>
+    ensures { IfOk result (λ e. kind_of e ≡ ErrorKind.ValueValidation) }
+{
+    let label = match limited {
+        Limited::Life => "LIFE",
+        Limited::Longest => "LONGEST",
+        Limited::Ttl => "TTL",
+        Limited::Turns => "TURNS",
+    };
+    let least = limited.least();
+    let most = limited.most();
+    let message = format!(in alloc;
+        "invalid value '{value}' for '<{label}>': not a whole number from {least} to {most}"
+    )?;
+    let mut command = match runs {
+        Runs::Server => serve_command(alloc)?.bin_name("nbt serve")?,
+        Runs::Node => node_command(alloc)?.bin_name("nbt node")?,
+    };
+    command.error(ErrorKind::ValueValidation, message.as_str())
+}
