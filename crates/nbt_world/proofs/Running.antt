@@ -1,10 +1,12 @@
 -- A run that goes on by one event.
-use Rattle.std.proofs.Common.{◌≡◌, ℕ, ◌+◌, ◌<◌, ◌≤◌, List, [], ◌∷◌, ◌++◌, length, take, get_or, sym, subst}
+use Rattle.std.proofs.Common.{◌≡◌, ℕ, ◌+◌, ◌<◌, ◌≤◌, List, [], ◌∷◌, ◌++◌, length, take, get_or, refl, sym, subst}
+use Rattle.std.specs.Prelude.{slice_get, IfSome}
 use Rattle.std.proofs.lemmas.List.{take_more, take_all}
+use Rattle.std.proofs.lemmas.Option.{slice_get_read}
 use Rattle.nbt_world.specs.declared.event.Event.{Event}
 use Rattle.nbt_world.specs.declared.event.Outcome.{Outcome}
 use Rattle.nbt_world.specs.World.{WorldValue}
-use Rattle.nbt_world.specs.Step.{Step}
+use Rattle.nbt_world.specs.Step.{Step, TakesNoMemory}
 use Rattle.nbt_world.specs.Safety.{Run, ends, goes_on}
 
 pub run_more : (events : List Event) (w last next : WorldValue) (worlds : List WorldValue) (event : Event) (outcome : Outcome) → Run events w worlds last → Step last event outcome next
@@ -20,3 +22,7 @@ run_next events k w last next worlds event outcome within is run step =
 
 pub run_whole : (events : List Event) (k : ℕ) (w last : WorldValue) (worlds : List WorldValue) → length events ≤ k → Run (take k events) w worlds last → Run events w worlds last
 run_whole events k w last worlds le run = subst (λ (es : List Event). Run es w worlds last) (take_all k events le) run
+
+-- the event at which a run stopped takes memory
+pub stopped_at : (events : List Event) (k : ℕ) (event : Event) → k < length events → event ≡ get_or events k event → (TakesNoMemory event → ⊥) → IfSome (slice_get events k) (λ e. ¬ TakesNoMemory e)
+stopped_at events k event within is takes = rw (slice_get_read events (length events) k event refl within is) takes

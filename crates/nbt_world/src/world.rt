@@ -1,6 +1,6 @@
 //! The world: its events, one at a time and in a row.
 
-ghost use Rattle.std.specs.Prelude.{◌≡◌, ◌≤◌, ◌<◌, ◌↔◌, ℕ, Some, None, List, length, take, slice_index_or, IsOk, IsTrue, IfOk, OnOk, IfErr, OnErr, MatchResult, Contains};
+ghost use Rattle.std.specs.Prelude.{◌≡◌, ◌≤◌, ◌<◌, ◌↔◌, ℕ, Some, None, List, length, take, slice_get, slice_index_or, IsOk, IsTrue, IfSome, IfOk, OnOk, IfErr, OnErr, MatchResult, Contains};
 ghost use Rattle.nbt_name.specs.declared.addr.Kind.{Kind as KindValue};
 ghost use Rattle.nbt_world.specs.World.{WorldValue, AreAddrs, IsFresh};
 ghost use Rattle.nbt_world.specs.Step.{Step, number_in, TakesNoMemory};
@@ -194,9 +194,9 @@ impl World {
     }
 
     /// What happens next: the clock goes on, an end starts or crashes, a node does something of its own, a datagram of
-    /// the list is delivered, or one comes from a stranger. Returns what came of it. `OutOfMemory` only where room for
-    /// one datagram more was refused: then the world is as it was. A `Tick`, `Start` or `Crash` takes no memory. No two
-    /// nodes hold one name afterwards, unless both as a group.
+    /// the list is delivered, or one comes from a stranger. Returns what came of it. With `OutOfMemory`, where room for
+    /// one datagram more was refused, the world is as it was. A `Tick`, `Start` or `Crash` takes no memory. No two nodes
+    /// hold one name afterwards, unless both as a group.
     pub fn step(&mut self, event: &Event) -> Result<Outcome, OutOfMemory>
         ensures step { IfOk result (λ outcome. Step self.old event.now outcome self.new) }
         ensures safe { IsSafe self.new }
@@ -220,11 +220,12 @@ impl World {
     }
 
     /// The events in order, as far as memory is there. With `OutOfMemory`, the number of the event that it was refused
-    /// to: the world is then as after those before it. In no world along the run two nodes hold one name, unless both
-    /// as a group.
+    /// to, which is no `Tick`, `Start` or `Crash`: the world is then as after those before it. In no world along the run
+    /// do two nodes hold one name, unless both as a group.
     pub fn run(&mut self, events: &[Event]) -> Result<(), (usize, OutOfMemory)>
         ensures ran { OnOk result ((worlds : List WorldValue) × Run events.now self.old worlds self.new × AreSafe worlds) }
         ensures stopped { IfErr result (λ stop. (stop.0 < length events.now) × (worlds : List WorldValue) × Run (take stop.0 events.now) self.old worlds self.new × AreSafe worlds) }
+        ensures memory { IfErr result (λ stop. IfSome (slice_get events.now stop.0) (λ event. ¬ TakesNoMemory event)) }
     {
         self.is_safe();
         for (number, event) in events.iter().enumerate() {
@@ -254,8 +255,8 @@ impl World {
         self.ends.nodes.as_slice()[number - 1].holding(self.clock, name)
     }
 
-    /// Whether these two, if they are different nodes, don't both hold the name now, unless both as a group. It looks
-    /// at the two nodes, and is always true.
+    /// Whether these two, if they are different nodes, don't both hold the name now, unless both as a group. It is always
+    /// true: what shows it is `step`, `run` and `holders`, and not this call's result.
     pub fn no_two_holders(&self, i: usize, j: usize, name: &Name) -> bool
         ensures exactly { IsTrue result ↔ MayHold self.now i j name.now }
         ensures always { IsTrue result }

@@ -1,7 +1,7 @@
 use Rattle.std.proofs.Common.{[], ◌∷◌}
 use Rattle.std.proofs.lemmas.List.Elements.{All-nil, All-cons, All-push}
 use Rattle.nbt_world.specs.Safety.{IsSafe, ends}
-use Rattle.nbt_world.proofs.Running.{run_next, run_whole}
+use Rattle.nbt_world.proofs.Running.{run_next, run_whole, stopped_at}
 use Rattle.nbt_world.proofs.world.World.run.Goals as goal
 
 pub loop-number-init : goal.loop-number-init
@@ -18,6 +18,11 @@ loop-number-preserved c =
 
 pub returns-in-Err-clause-stopped : goal.returns-in-Err-clause-stopped
 returns-in-Err-clause-stopped c = let before = c.loop-number.invariant in (c.loop-number-test.true, before.0, rw (c.in-Err.ensures.refused) before.1, before.2)
+
+pub returns-in-Err-clause-memory : goal.returns-in-Err-clause-memory
+returns-in-Err-clause-memory c =
+    let none = c.in-Err.ensures.memory in
+    stopped_at c.args.events.now c.loop-number.number c.index-events-number.result c.loop-number-test.true c.index-events-number.is (λ t. let done = none t in absurd cc)
 
 pub returns-clause-ran : goal.returns-clause-ran
 returns-clause-ran c = let before = c.loop-number.invariant in (before.0, run_whole c.args.events.now c.loop-number.number c.args.self.now c.loop-number.self before.0 c.loop-number-test.false before.1, before.2)
