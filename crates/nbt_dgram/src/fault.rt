@@ -96,7 +96,7 @@ impl From<NameFault> for DgramFault {
     }
 }
 
-/// 1: a datagram's written form is longer than the 576 octets of a packet (RFC 1002 section 4.4).
+/// 1: a datagram's written form is longer than the 576 octets of a packet (RFC 1002 section 6).
 #[derive(Clone, Copy, Debug, PartialEq, Eq, Error)]
 #[error("Full")]
 pub struct Full;

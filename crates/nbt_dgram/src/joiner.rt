@@ -54,9 +54,9 @@ impl<const S: usize> Joiner<S> {
     /// - A packet with F set and M clear is `Whole` at once, of any length, and touches no slot.
     /// - `TooLong` (1) where the fragment ends past 512 octets; its datagram's slot is emptied.
     /// - `Full` (3) where no slot has its datagram, and none is free.
-    /// - `Conflict` (2) where it doesn't agree with the fragments before it: it has another type, other names, another
-    ///   octet at a known place, ends past the known end or, as the last one, elsewhere, or is the last one before a
-    ///   known octet. Its datagram's slot is emptied.
+    /// - `Conflict` (2) where it doesn't agree with the fragments before it: it has another type, other names, or another
+    ///   octet at a known place; it ends past the known end; or it is the last one, and ends elsewhere than the known end
+    ///   or before a known octet. Its datagram's slot is emptied.
     /// - `Whole` where the first fragment, the last one and every octet between are known; the slot is then free.
     ///   Otherwise `Waiting`.
     ///

@@ -14,8 +14,8 @@ use crate::slot::{Key, Slot};
 use crate::splitting::DATA_MOST;
 use nbt_lease::Moment;
 
-/// How long the fragments of a datagram are waited for, in milliseconds (our profile; RFC 1002 section 5.3.3 leaves it
-/// to each end).
+/// How long the fragments of a datagram are waited for, in milliseconds (FRAGMENT_TO, RFC 1002
+/// section 6).
 const TIMEOUT: u64 = 2000;
 
 /// Empties the slots that are too old, and returns how many these were.

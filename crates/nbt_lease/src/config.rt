@@ -90,7 +90,7 @@ impl Config {
     }
 
     /// The seconds that a lease is granted for where `ttl` seconds are asked: `longest` where `ttl` is 0, else the
-    /// smaller of `ttl` and `longest` (our profile; RFC 1002 section 5.1.1.1 reads 0 as without end). A reply's TTL is
+    /// smaller of `ttl` and `longest` (our profile; RFC 1002 section 6 reads 0 as without end). A reply's TTL is
     /// read in the same way. It is 1 to `longest`.
     pub fn granted(self, ttl: u32) -> u32
         ensures value { result ≡ granted self.longest ttl }

@@ -11,7 +11,8 @@ use crate::name::Name;
 use crate::reader::{Progress, Reader};
 
 /// Reads the plain name that stands at `place`, and returns it with the place after it. A pointer is a fault
-/// (`BadPointer`). The fault is the first one in reading order, with its place (RFC 1002 section 4.1).
+/// (`BadPointer`). The fault is the first one in reading order, with its place (RFC 1002 section 4.1). That `place` is
+/// at most the length is the caller's.
 pub fn read_plain(octets: &[u8], place: usize) -> Result<(Name, usize), NameFault>
     requires { place ≤ length octets.now }
     ensures name { (name : NameValue) (next : ℕ) → (result ≡ Ok (name, next)) ↔ PlainNameAt octets.now place name next }
@@ -23,7 +24,7 @@ pub fn read_plain(octets: &[u8], place: usize) -> Result<(Name, usize), NameFaul
 
 /// Reads the name that stands at `place`, following pointers, and returns it with the place after it: after the first
 /// pointer, or after the closing zero where there is none. The fault is the first one in reading order, with its place
-/// (RFC 1002 section 4.1).
+/// (RFC 1002 section 4.1). That `place` is at most the length is the caller's.
 pub fn read_in(octets: &[u8], place: usize) -> Result<(Name, usize), NameFault>
     requires { place ≤ length octets.now }
     ensures name { (name : NameValue) (next : ℕ) → (result ≡ Ok (name, next)) ↔ NameAt octets.now place name next }

@@ -7,13 +7,14 @@ pub enum Event<'a> {
     Nothing,
     /// A status request: the reply to its sender stands in the buffer.
     Reply,
-    /// The name that was asked for is held, for these seconds from the first sending of the request.
+    /// The name that was asked for is held, for these seconds from the first sending of the request. They may have
+    /// passed already.
     Granted(u32),
-    /// The hold was renewed, for these seconds from the first sending of the refresh.
+    /// The hold was renewed, for these seconds from the first sending of the refresh. They may have passed already.
     Renewed(u32),
     /// The name that was asked for isn't granted, with this RCODE (RFC 1002 section 4.2.6).
     Refused(u8),
-    /// The name isn't held any more: the refresh was refused, or the server demands the name.
+    /// The name is no longer held or asked for: the refresh was refused, or the server demands the name.
     Lost,
     /// The server knows that the name was given back, with this RCODE (RFC 1002 sections 4.2.10 and 4.2.11).
     Freed(u8),

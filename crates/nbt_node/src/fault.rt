@@ -9,8 +9,8 @@ use thiserror::Error;
 /// `Quiet`, `Full`.
 #[derive(Clone, Copy, Debug, PartialEq, Eq, Error)]
 pub enum AskFault {
-    /// 1: the name rests, since an old datagram about it may still be on its way: since the node's start, or since the
-    /// last sending about it, no more than twice a datagram's life has passed.
+    /// 1: the name is being given back, or rests: since the node's start, or since the last sending about it, no more
+    /// than twice a datagram's life has passed, so that an old datagram may still be on its way.
     #[error("Quiet")]
     Quiet,
     /// 2: the name was asked for already, or is held.
@@ -19,7 +19,7 @@ pub enum AskFault {
     /// 3: no slot is free.
     #[error("Full")]
     Full,
-    /// 4: the moment is before that of an earlier call.
+    /// 4: the moment is before the node's start, or before that of an earlier call that wasn't refused.
     #[error("ClockBack")]
     ClockBack,
     /// 5: the name begins with `*`.
@@ -48,7 +48,7 @@ pub enum ReleaseFault {
     /// 1: the name isn't held.
     #[error("NotHeld")]
     NotHeld,
-    /// 4: the moment is before that of an earlier call.
+    /// 4: the moment is before the node's start, or before that of an earlier call that wasn't refused.
     #[error("ClockBack")]
     ClockBack,
 }
@@ -71,7 +71,7 @@ pub enum LookupFault {
     /// 2: a lookup is open.
     #[error("Busy")]
     Busy,
-    /// 4: the moment is before that of an earlier call.
+    /// 4: the moment is before the node's start, or before that of an earlier call that wasn't refused.
     #[error("ClockBack")]
     ClockBack,
     /// 5: the name to be resolved begins with `*`.

@@ -51,7 +51,7 @@ impl<const N: usize> Node<N> {
     ghost use Rattle.nbt_node.specs.Datagrams.{Hears, Lists, Ends, Takes, Handles, is_listed_for};
 
     /// A node at `addr` whose name server is at `server`. It knows nothing, and asks for nothing until more than twice
-    /// the greatest life of a datagram has passed (our profile).
+    /// the greatest life of a datagram has passed (our profile). That `N` is 1 to 14 is the caller's.
     pub fn start(addr: Addr, server: Addr, config: Config, now: Moment) -> Node<N>
         requires some { 1 ≤ N }
         requires few { N ≤ 14 }
@@ -131,10 +131,11 @@ impl<const N: usize> Node<N> {
 
     /// Asks the server for the name, for `ttl` seconds or, where that is 0, as long as may be: `out` then holds the
     /// NAME REGISTRATION REQUEST for the server, and nothing else (RFC 1002 section 4.2.2). Refused in this order, the
-    /// node staying as it was and `out` empty: `ClockBack` (4), where `now` is before the moment of an earlier call;
-    /// `BadName` (5), where the name begins with `*`; `Busy` (2), where the name was asked for already or is held;
-    /// `Quiet` (1), where no more than twice the greatest life of a datagram has passed since the node's start, or since
-    /// the last sending about the name; `Full` (3), where no slot is free.
+    /// node staying as it was and `out` empty: `ClockBack` (4), where `now` is before the node's start or the moment of
+    /// an earlier call that wasn't refused; `BadName` (5), where the name begins with `*`; `Busy` (2), where the name was
+    /// asked for already or is held; `Quiet` (1), where the name is being given back, or no more than twice the greatest
+    /// life of a datagram has passed since the node's start, or since the last sending about the name; `Full` (3), where
+    /// no slot is free.
     pub fn ask(
         &mut self,
         now: Moment,
@@ -171,8 +172,8 @@ impl<const N: usize> Node<N> {
     /// Gives the name back: `out` then holds the NAME RELEASE REQUEST for the server, and nothing else (RFC 1002 section
     /// 4.2.9). The name isn't held any more, and may not be asked for until more than twice the greatest life of a
     /// datagram has passed since the last sending about it. Refused in this order, the node staying as it was and `out`
-    /// empty: `ClockBack` (4), where `now` is before the moment of an earlier call; `NotHeld` (1), where the name isn't
-    /// held.
+    /// empty: `ClockBack` (4), where `now` is before the node's start or the moment of an earlier call that wasn't
+    /// refused; `NotHeld` (1), where the name isn't held.
     pub fn release(
         &mut self,
         now: Moment,
@@ -220,7 +221,8 @@ impl<const N: usize> Node<N> {
     /// `None`. A request is sent again 5,000 ms after its last sending, three times in all, and a hold is refreshed
     /// after half its time, but only where more than twice the greatest life of a datagram has passed since the last
     /// sending about the name (RFC 1002 sections 5.1.2.6 and 6; the numbers are our profile's). Refused with
-    /// `ClockBack` (4) where `now` is before the moment of an earlier call: the node stays as it was, and `out` is empty.
+    /// `ClockBack` (4) where `now` is before the node's start or the moment of an earlier call that wasn't refused: the
+    /// node stays as it was, and `out` is empty.
     pub fn poll(
         &mut self,
         now: Moment,
@@ -263,8 +265,8 @@ impl<const N: usize> Node<N> {
 
     /// Looks up at the server who holds the name: `out` then holds the NAME QUERY REQUEST for the server, and nothing
     /// else (RFC 1002 section 4.2.12). Refused in this order, the node staying as it was and `out` empty: `ClockBack`
-    /// (4), where `now` is before the moment of an earlier call; `BadName` (5), where the name begins with `*`; `Busy`
-    /// (2), where a lookup is open. No name's state changes but by time.
+    /// (4), where `now` is before the node's start or the moment of an earlier call that wasn't refused; `BadName` (5),
+    /// where the name begins with `*`; `Busy` (2), where a lookup is open. No name's state changes but by time.
     pub fn resolve(
         &mut self,
         now: Moment,
@@ -292,8 +294,8 @@ impl<const N: usize> Node<N> {
 
     /// Asks the end at `to` for the names that it holds: `out` then holds the NODE STATUS REQUEST for it, and nothing
     /// else (RFC 1002 section 4.2.17). Refused in this order, the node staying as it was and `out` empty: `ClockBack`
-    /// (4), where `now` is before the moment of an earlier call; `Busy` (2), where a lookup is open. No name's state
-    /// changes but by time.
+    /// (4), where `now` is before the node's start or the moment of an earlier call that wasn't refused; `Busy` (2),
+    /// where a lookup is open. No name's state changes but by time.
     pub fn name_status(
         &mut self,
         now: Moment,
@@ -347,7 +349,8 @@ impl<const N: usize> Node<N> {
     /// asked for or held, whatever its id (our profile). A lookup ends only by the end that was asked. A status request
     /// for a name that begins with `*`, or that the node holds, is replied to whoever sent it: `out` then holds the NODE
     /// STATUS RESPONSE for `from`, at most 576 octets (RFC 1002 section 4.2.18); else `out` is empty. Refused with
-    /// `ClockBack` (4) where `now` is before the moment of an earlier call: the node stays as it was, and `out` is empty.
+    /// `ClockBack` (4) where `now` is before the node's start or the moment of an earlier call that wasn't refused: the
+    /// node stays as it was, and `out` is empty.
     pub fn on_datagram<'a>(
         &mut self,
         now: Moment,

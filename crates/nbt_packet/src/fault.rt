@@ -56,7 +56,7 @@ impl From<NameFault> for Fault {
     }
 }
 
-/// 7: a message's written form is longer than the 576 octets of a datagram (RFC 1002 section 4.2.1).
+/// 7: a message's written form is longer than the 576 octets of a datagram (RFC 1002 section 6).
 #[derive(Clone, Copy, Debug, PartialEq, Eq, Error)]
 #[error("Full")]
 pub struct Full;

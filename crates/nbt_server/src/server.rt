@@ -53,7 +53,7 @@ impl Server {
     /// `out`, at most 576 octets; with `false` there is none, and `out` is empty (RFC 1002 section 5.1.4; the rules that
     /// are our profile's are marked so):
     ///
-    /// - Until the longest lease has passed since the start there is no reply, and nothing changes (our profile).
+    /// - Until the longest lease has passed since the start there is no reply, and no lease changes (our profile).
     /// - A registration or refresh is granted for its TTL, at most the longest lease, a TTL of 0 asking for that; or
     ///   refused with ACT_ERR (6) where other leases stand in its way, or SRV_ERR (2) where 48 members of the group or
     ///   as many leases as the table keeps live. RFS_ERR (5) where its address isn't that of `from`, or its name begins
@@ -66,7 +66,7 @@ impl Server {
     ///
     /// Refused in this order, `out` being empty: `ClockBack` (1) where `now` is before the start, or before an earlier
     /// datagram that was no `ClockBack`: nothing changes. `OutOfMemory` (2) where memory was refused to a registration or
-    /// refresh that changes the leases: start and live leases stay.
+    /// refresh that changes the leases: start and live leases stay, and the last moment is `now`.
     pub fn on_datagram(
         &mut self,
         now: Moment,

@@ -11,8 +11,8 @@ use crate::packet::Packet;
 use nbt_name::{Addr, Name};
 use std::marker::Model;
 
-/// How many connections are tried for one call, those to which it is retargeted among them (our profile; RFC 1001
-/// section 16.1.1 leaves the number open).
+/// How many connections are tried for one call (SSN_RETRY_COUNT, RFC 1002 section 6). Those to which it is retargeted
+/// count too (our profile).
 const TRIES: u8 = 4;
 
 /// What the end that calls does next.
@@ -37,13 +37,13 @@ pub enum CallerAnswer {
 /// Why a call failed (our profile's numbers).
 #[derive(Clone, Copy, Debug, PartialEq, Eq)]
 pub enum Failure {
-    /// 1: no connection could be had, four times.
+    /// 1: the fourth connection couldn't be had, or was lost before the call was taken.
     NoConnection,
     /// 2: the call was refused, with the code of the NEGATIVE SESSION RESPONSE.
     Refused(u8),
     /// 3: a packet came that has no place there.
     Protocol,
-    /// 4: the call was retargeted once more after four tries.
+    /// 4: the fourth try was retargeted.
     TooManyTries,
 }
 
@@ -70,14 +70,14 @@ pub enum CallerState {
     Connecting {
         /// Where.
         to: Addr,
-        /// The how manieth.
+        /// Which try this is, 1 to 4.
         tries: u8,
     },
     /// The request was sent.
     Waiting {
         /// Where.
         to: Addr,
-        /// The how manieth connection this is.
+        /// Which try this is, 1 to 4.
         tries: u8,
     },
     /// The call was taken.

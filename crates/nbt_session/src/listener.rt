@@ -103,7 +103,8 @@ impl<const L: usize, const M: usize> Model for Listener<L, M> {
 }
 
 impl<const L: usize, const M: usize> Listener<L, M> {
-    /// A listener that takes no calls yet, and of whose connections `most` may be open at a time.
+    /// A listener that takes no calls yet, and of whose connections `most` may be open at a time. That `most` is at most
+    /// `M` is the caller's.
     pub fn new(most: usize) -> Listener<L, M>
         requires { most ≤ M }
         ensures { result ≡ record { entries = []; slots = replicate M Free; most = most } }

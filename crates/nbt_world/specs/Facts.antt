@@ -37,8 +37,8 @@ RepliedIn world addr name moment message = Replied world.sent world.ends.server_
 abbrev pub IsRested : WorldValue → (number : ℕ) → NameValue → Type 0
 IsRested world number name = (node : NodeValue) × (node_of world.ends number ≡ Some node) × (state_of node name ≡ Idle) × (node.start + 2 * world.config.life < world.now)
 
--- What is open was sent first of all that may still be delivered, and each request of then asks for its kind. A reply
--- comes no later than a life after the last sending that the node knows of. None is left of a name that has rested.
+-- No request or reply that may still be delivered is older than what is open, and each such request asks for its kind. A
+-- reply comes no later than a life after the last sending that the node knows of. None is left of a name that has rested.
 pub record OpenIsFresh (world : WorldValue) (number : ℕ) (addr : Addr) (name : NameValue) : Type 0 where
   pub one_kind : (kind : Kind) (first moment : ℕ) (message : MessageValue) → IsOpen (known (node_of world.ends number) name) kind first → AskedIn world addr name moment message → AsksAs kind message
   pub asked_since : (kind : Kind) (first moment : ℕ) (message : MessageValue) → IsOpen (known (node_of world.ends number) name) kind first → AskedIn world addr name moment message → first ≤ moment

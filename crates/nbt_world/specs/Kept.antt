@@ -22,7 +22,7 @@ use Rattle.nbt_world.specs.World.{WorldValue, IsDeliverable, addr_of, node_of}
 
 -- ---- what the network has of one node and one name
 
--- a request about the name
+-- a request about the name: a registration, a refresh or a release
 abbrev pub IsRequest : NameValue → MessageValue → Type 0
 IsRequest name (registration r) = r.name ≡ name
 IsRequest name (refresh r) = r.name ≡ name
@@ -133,8 +133,8 @@ abbrev pub Backs : (now : ℕ) → Option ServerValue → (ip : ℕ) → NameVal
 Backs now None ip name kind till = Unit {0}
 Backs now (Some server) ip name kind till = IsLeased (leases_at now server.table.rows name) ip kind till ⊎ (till ≤ speaks_from server)
 
--- A claim is covered: the server sent a reply, and its lease, or its silence, lasts for so many seconds from then, as
--- long as the claim at least.
+-- A claim is covered: the server sent some reply about the name, and a lease, or the silence, lasts for some seconds
+-- from then, as long as the claim at least.
 pub record IsCovered (longest : ℕ) (replied : ℕ → MessageValue → Type 0) (backs : Kind → ℕ → Type 0) (kind : Kind) (end : ℕ) : Type 0 where
   pub moment : ℕ
   pub message : MessageValue
@@ -152,7 +152,7 @@ pub record RequestsEnded (life now : ℕ) (asked : ℕ → MessageValue → Type
   pub ended : (moment : ℕ) (message : MessageValue) → asked moment message → IsDeliverable life now moment → moment ≤ bound now k
   pub one_kind : (kind : Kind) (moment : ℕ) (message : MessageValue) → Wants k kind → asked moment message → IsDeliverable life now moment → AsksAs kind message
 
--- A reply that a request has drawn: it was sent within a life of that request, which the node knows of.
+-- A reply was sent at this moment, no more than a life after some request that the node knows of.
 pub record DrawnBy (life now : ℕ) (asked : ℕ → MessageValue → Type 0) (k : Option Known) (moment : ℕ) : Type 0 where
   pub sent : ℕ
   pub request : MessageValue
@@ -160,8 +160,8 @@ pub record DrawnBy (life now : ℕ) (asked : ℕ → MessageValue → Type 0) (k
   pub in_time : moment ≤ sent + life
   pub known_of : sent ≤ bound now k
 
--- What is open is fresh: each reply that may still be delivered was drawn by a request that the node knows of; what is
--- open was first sent by now, and no request or reply that may still be delivered is older.
+-- What is open is fresh: each reply that may still be delivered was sent no more than a life after some request that the
+-- node knows of; what is open was first sent by now, and no request or reply that may still be delivered is older.
 pub record RepliesFresh (life now : ℕ) (asked replied : ℕ → MessageValue → Type 0) (k : Option Known) : Type 0 where
   pub drawn : (moment : ℕ) (message : MessageValue) → replied moment message → IsDeliverable life now moment → DrawnBy life now asked k moment
   pub begun : (kind : Kind) (first : ℕ) → IsOpen k kind first → first ≤ now

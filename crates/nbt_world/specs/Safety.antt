@@ -18,7 +18,7 @@ held_by (Some node) name now = holds node name now
 abbrev pub holding : WorldValue → (number : ℕ) → NameValue → Option Kind
 holding world number name = held_by (node_of world.ends number) name world.now
 
--- These two don't both hold the name, unless both as a group.
+-- These two, if they are different, don't both hold the name, unless both as a group.
 abbrev pub MayHold : WorldValue → (i j : ℕ) → NameValue → Type 0
 MayHold world i j name = (k l : Kind) → i ≢ j → holding world i name ≡ Some k → holding world j name ≡ Some l → (k ≡ Group) × (l ≡ Group)
 

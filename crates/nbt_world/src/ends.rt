@@ -36,7 +36,9 @@ pub struct Ends {
 /// A node that holds a name, by its number, and as which kind.
 #[derive(Clone, Copy, Debug, PartialEq, Eq)]
 pub struct Holder {
+    /// The node's number, from 1.
     pub node: usize,
+    /// As which kind it holds the name.
     pub kind: Kind,
 }
 

@@ -13,27 +13,38 @@ pub enum Event {
     Start(usize),
     /// An end crashes, and nothing of it is kept.
     Crash(usize),
-    /// A node asks for a name, for these seconds.
+    /// A node asks for a name.
     Ask {
+        /// The node's number.
         node: usize,
+        /// The name.
         name: Name,
+        /// Who may hold it.
         kind: Kind,
+        /// For how many seconds; 0 for as long as may be.
         ttl: u32,
     },
     /// A node gives a name back.
     Release {
+        /// The node's number.
         node: usize,
+        /// The name.
         name: Name,
     },
     /// A node asks the server who holds a name.
     Resolve {
+        /// The node's number.
         node: usize,
+        /// The name.
         name: Name,
     },
     /// A node asks the end at an address which names it holds.
     NameStatus {
+        /// The node's number.
         node: usize,
+        /// The address.
         to: Addr,
+        /// The name that the request is for.
         name: Name,
     },
     /// A node sends what is due.
@@ -42,8 +53,11 @@ pub enum Event {
     Deliver(usize),
     /// A datagram comes from an address that is no end's, to the end of a number.
     Stranger {
+        /// The address that it is from.
         from: Addr,
+        /// The number of the end that it is for.
         to: usize,
+        /// Its octets.
         octets: Vec<u8>,
     },
 }
@@ -57,11 +71,12 @@ pub enum Outcome {
     Sent(usize),
     /// The node refused the call, with this number.
     Refused(u8),
-    /// Nothing was to do: the end is so already, or nothing was due.
+    /// Nothing was to do: the end is so already, the world has no such end to start or crash, or nothing was due.
     Nothing,
     /// The end is down, or the world has no such node.
     Down,
-    /// There is no such datagram or no end at its address; or a stranger's address is an end's.
+    /// There is no such datagram or no end at its address; or a stranger's datagram is for no end, or from an end's
+    /// 32-bit address.
     Nobody,
     /// The datagram's life has passed, or memory was refused to the server for it.
     Lost,

@@ -1,7 +1,7 @@
 //! All ends of a network as one value with one clock, moved by events: a name server, its nodes, and the datagrams
 //! between them, which may be lost, repeated, late and out of order (RFC 1001 section 15). Each world keeps what the
 //! safety of names rests on: sound leases, requests that have ended, replies that are fresh, and claims that leases
-//! cover. So in no world along a run two nodes hold one name, unless both as a group.
+//! cover. So in no world along a run do two nodes hold one name, unless both as a group.
 #![tactic(auto)]
 
 mod doing;
