@@ -1,5 +1,5 @@
 -- A poll that has something for an end leaves less that is due, so polls come to an end.
-use Rattle.std.proofs.Common.{◌≡◌, ℕ, ◌+◌, ◌*◌, ◌<◌, Bool, true, false, ltb, leb, List, [], ◌∷◌, map, Option, Some, None, refl, ap, arith}
+use Rattle.std.proofs.Common.{◌≡◌, ℕ, ◌+◌, ◌*◌, ◌<◌, ◌≤◌, Bool, true, false, ltb, leb, List, [], ◌∷◌, length, map, Option, Some, None, refl, ap, arith}
 use Rattle.std.specs.Prelude.{◌&&◌, is_some}
 use Rattle.std.proofs.lemmas.Bool.{lt-leb, le-leb}
 use Rattle.nbt_name.specs.declared.addr.Addr.{Addr}
@@ -15,6 +15,8 @@ use Rattle.nbt_node.specs.Settling.{settled, is_over, rested}
 use Rattle.nbt_node.specs.Node.{NodeValue, same_name, is_in, state_in, slot_of, put, with_state, settled_slot, settled_lookup, state_at}
 use Rattle.nbt_node.specs.Moves.{Move, poll, Told, is_due, is_next, next_due, asks_again, gives_back_again, refreshes_again, refreshes}
 use Rattle.nbt_node.specs.Calls.{Polls, polls_name, polls_lookup, due_lookup, lookup_due}
+use Rattle.nbt_engine.specs.Acts.{Act, nothing_came, came, receive_failed, sent, send_failed, Chain}
+use Rattle.nbt_engine.specs.Turning.{PollsTo}
 
 -- a settled state stays as it is
 abbrev pub SettlingEnds : Type 0
@@ -73,12 +75,12 @@ held_not_due life now kind ttl until renew p tries = go (leb until now) refl
     go true e = rw e (rested_not_due life now now)
     go false e = rw (e, not_over now tries) (not_next now tries)
 
-pub polled : (node : NodeValue) (now : ℕ) (name : NameValue) (before after : State) (sent : Option MessageValue) (told : Told) (id : ℕ) → Move node now name before poll after sent told id
+pub polled : (node : NodeValue) (now : ℕ) (name : NameValue) (before after : State) (message : Option MessageValue) (told : Told) (id : ℕ) → Move node now name before poll after message told id
     → (is_due node.config.life now before ≡ true) × (is_due node.config.life now (settled node.config.life now after) ≡ false)
-polled node now name before after sent told id (asks_again kind ttl i first last tries due is) = (is, rw (not_over now (tries + 1)) (not_next now (tries + 1)))
-polled node now name before after sent told id (gives_back_again kind i last tries due is) = (is, rw (not_over now (tries + 1)) (not_next now (tries + 1)))
-polled node now name before after sent told id (refreshes_again kind ttl until renew last p is) = (is, held_not_due node.config.life now kind ttl until renew p (p.tries + 1))
-polled node now name before after sent told id (refreshes kind ttl until renew last half rest) =
+polled node now name before after message told id (asks_again kind ttl i first last tries due is) = (is, rw (not_over now (tries + 1)) (not_next now (tries + 1)))
+polled node now name before after message told id (gives_back_again kind i last tries due is) = (is, rw (not_over now (tries + 1)) (not_next now (tries + 1)))
+polled node now name before after message told id (refreshes_again kind ttl until renew last p is) = (is, held_not_due node.config.life now kind ttl until renew p (p.tries + 1))
+polled node now name before after message told id (refreshes kind ttl until renew last half rest) =
     (and_both (leb renew now) (ltb (last + 2 * node.config.life) now) (le-leb renew now half) (le-leb _ _ rest), held_not_due node.config.life now kind ttl until renew (record { id = node.next_id; first = now; tries = 1; due = next_due now }) 1)
 
 -- ---- one slot more or less
@@ -199,3 +201,35 @@ polls_fewer ends now old new to octets (polls_lookup l n o is due looks writes) 
     let h = dues_settled ends old.config.life now old.slots in
     let a = sent_again now l (l.tries + 1) in
     rw (looks.node, a, due) (omega (arith, h))
+
+-- ---- polls at one moment: no more than were due at first
+
+polls_lessen : SettlingEnds → (now : ℕ) (acts : List Act) (old new : NodeValue) → Chain (PollsTo now) old acts new → length acts + dues now new ≤ dues now old
+polls_lessen ends now [] old new polls = rw polls (omega arith)
+polls_lessen ends now (sent to octets ∷ acts) old new polls =
+    let fewer = polls_fewer ends now old polls.0 to octets polls.1 in
+    let rest = polls_lessen ends now acts polls.0 new polls.2 in
+    omega (arith, fewer, rest)
+polls_lessen ends now (nothing_came ∷ acts) old new polls = elim polls.1 [ ]
+polls_lessen ends now (came from octets ∷ acts) old new polls = elim polls.1 [ ]
+polls_lessen ends now (receive_failed ∷ acts) old new polls = elim polls.1 [ ]
+polls_lessen ends now (send_failed to octets ∷ acts) old new polls = elim polls.1 [ ]
+
+at_most_one : (b : Bool) → one_if b ≤ 1
+at_most_one true = omega arith
+at_most_one false = omega arith
+
+slots_dues_few : (life now : ℕ) (slots : List (Option Slot)) → slots_dues life now slots ≤ length slots
+slots_dues_few life now [] = omega arith
+slots_dues_few life now (slot ∷ slots) = let one = of_slot (settled_slot life now slot) in let rest = slots_dues_few life now slots in omega (arith, one, rest)
+  where
+    of_slot : (slot : Option Slot) → slot_dues life now slot ≤ 1
+    of_slot None = omega arith
+    of_slot (Some s) = at_most_one (is_due life now s.state)
+
+pub few_polls : SettlingEnds → (now : ℕ) (old new : NodeValue) (acts : List Act) → Chain (PollsTo now) old acts new → length acts ≤ length old.slots + 1
+few_polls ends now old new acts polls =
+    let all = polls_lessen ends now acts old new polls in
+    let slots = slots_dues_few old.config.life now old.slots in
+    let lookup = at_most_one (is_some (lookup_due old now)) in
+    omega (arith, all, slots, lookup)
