@@ -4,7 +4,7 @@ ghost use Rattle.std.specs.Prelude.{◌≡◌, ℕ};
 
 use nbt_lease::Moment;
 
-/// A clock.
+/// A clock, which tells milliseconds. It may go back.
 pub trait Clock {
     /// What a reading of it is: the clock before, the moment that it tells, and the clock afterwards.
     ghost tells: { Self → (moment : ℕ) → Self → Type 0 };

@@ -14,7 +14,7 @@ use nbt_server::Server;
 pub struct Counts {
     /// The receives, also those at which nothing came: one a turn.
     pub receives: u64,
-    /// The replies that were sent.
+    /// The replies that were sent, also those that the port lost since there was no way to their ends.
     pub replies: u64,
     /// The datagrams that were lost, since the clock went back or memory was refused.
     pub lost: u64,

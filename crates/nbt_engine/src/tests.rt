@@ -341,6 +341,10 @@ fn datagrams_go_over_udp(rt: HostRuntime) -> Result<(), Fail> {
     assert_eq!(&rt; octets.as_slice(), b"hello".as_slice());
     assert_eq!(&rt; far.receive(&mut octets)?, None);
     assert_eq!(&rt; far.failures(), 0);
+    // There is no way to port 0: what is sent there is lost, and the device is well.
+    let nowhere = Addr { port: 0, ..there };
+    assert_eq!(&rt; near.send(nowhere, b"hello"), Ok(()));
+    assert_eq!(&rt; near.failures(), 0);
     // The year is past 2001.
     assert!(&rt; MachineClock::new(&rt).now().get() > 1_000_000_000_000);
     Ok(())
