@@ -12,9 +12,12 @@ use nbt_name::{Addr, Kind, Name};
 use nbt_node::Node;
 use nbt_packet::{Message, Registration, encode};
 use nbt_server::Server;
+use std::cell::Cell;
 use std::collections::VecDeque;
 use std::process::Abort;
 use std::test::Fail;
+use std::time::Duration;
+use std::{io, time};
 
 const SERVER: Addr = Addr {
     ip: 0x7F000001,
@@ -347,5 +350,47 @@ fn datagrams_go_over_udp(rt: HostRuntime) -> Result<(), Fail> {
     assert_eq!(&rt; near.failures(), 0);
     // The year is past 2001.
     assert!(&rt; MachineClock::new(&rt).now().get() > 1_000_000_000_000);
+    Ok(())
+}
+
+/// A machine whose clock shows so many milliseconds, or can't be read.
+#[derive(Drop)]
+struct Machine {
+    shows: Cell<Option<u64>>,
+}
+
+impl time::Clock for Machine {
+    fn monotonic(&self) -> io::Result<Duration> {
+        self.since_1970()
+    }
+
+    fn since_1970(&self) -> io::Result<Duration> {
+        match self.shows.get() {
+            Some(ms) => Ok(Duration::from_millis(ms)),
+            None => Err(io::Error::from(io::ErrorKind::Unsupported)),
+        }
+    }
+}
+
+#[test]
+fn a_clock_without_a_moment_tells_the_last_one_again(rt: HostRuntime) -> Result<(), Fail> {
+    let machine = Machine {
+        shows: Cell::new(None),
+    };
+    let mut clock = MachineClock::new(&machine);
+    // The last moment that there is is 2^60.
+    let end = 1 << 60;
+    for (shows, told) in [
+        (None, 0),
+        (Some(60_000), 60_000),
+        (None, 60_000),
+        (Some(end + 1), 60_000),
+        (Some(end), end),
+        (Some(59_999), 59_999),
+    ] {
+        machine.shows.set(shows);
+        assert_eq!(&rt; clock.now(), moment(told)?, "{told}");
+        assert_eq!(&rt; clock.last(), moment(told)?, "{told}");
+    }
     Ok(())
 }

@@ -1,13 +1,14 @@
 //! A port over UDP, and the machine's clock.
 
-ghost use Rattle.std.specs.Prelude.{◌≡◌, ◌≤◌, IfOk};
+ghost use Rattle.std.specs.Prelude.{◌≡◌, ◌≤◌, ◌^◌, IfOk, IfSome};
 
 use crate::clock::Clock;
-use crate::port::{Device, Port};
+use crate::port::{Device, MOST, Port};
 use arrayvec::ArrayVec;
 use nbt_lease::Moment;
 use nbt_name::Addr;
 use std::io::ErrorKind;
+use std::marker::Model;
 use std::net::{IpAddr, Ipv4Addr, Net, SocketAddr, UdpSocket};
 use std::time::{Duration, SystemTime};
 use std::{io, time};
@@ -44,7 +45,7 @@ impl Port for UdpPort {
 
     fn receive(&mut self, octets: &mut ArrayVec<u8, 2048>) -> Result<Option<Addr>, Device> {
         octets.clear();
-        let mut buffer = [0; 2048];
+        let mut buffer = [0; MOST];
         match self.socket.recv_from(&mut buffer) {
             Ok((len, SocketAddr::V4(from))) => {
                 let _ = octets.try_extend_from_slice(&buffer[..len]);
@@ -106,16 +107,28 @@ fn socket_addr(addr: Addr) -> SocketAddr {
 }
 
 /// The machine's clock: its time of day in milliseconds since 1970. Where it can't be read, or is past 2^60, it tells the
-/// last moment again, at first 0.
+/// last moment again, at first 0. A contract sees the last moment that it told.
 #[derive(Drop)]
 pub struct MachineClock<'a, R: time::Clock> {
     machine: &'a R,
     last: Moment,
 }
 
+impl<'a, R: time::Clock> Model for MachineClock<'a, R> {
+    ghost use Rattle.std.specs.Prelude.{ℕ, ◌≤◌, ◌^◌};
+
+    ghost Value = { ℕ };
+
+    ghost view = { λ c. c.last };
+
+    ghost invariant = { λ c. c.last ≤ 2 ^ 60 };
+}
+
 impl<'a, R: time::Clock> MachineClock<'a, R> {
     /// The clock of this machine.
-    pub fn new(machine: &'a R) -> MachineClock<'a, R> {
+    pub fn new(machine: &'a R) -> MachineClock<'a, R>
+        ensures { result ≡ 0 }
+    {
         MachineClock {
             machine,
             last: Moment::zero(),
@@ -124,15 +137,15 @@ impl<'a, R: time::Clock> MachineClock<'a, R> {
 
     /// The moment that it told last, at first 0.
     pub fn last(&self) -> Moment
-        ensures { result ≡ self.now.last }
+        ensures { result ≡ self.now }
     {
         self.last
     }
 }
 
 impl<'a, R: time::Clock> Clock for MachineClock<'a, R> {
-    // No contract can say what a machine's clock tells.
-    ghost tells = { λ _ _ _. Unit {0} };
+    // No contract can say which moment a machine's clock tells.
+    ghost tells = { λ _ moment new. (new ≡ moment) × (moment ≤ 2 ^ 60) };
 
     fn now(&mut self) -> Moment {
         if let Some(moment) = time_of_day(self.machine) {
@@ -143,7 +156,9 @@ impl<'a, R: time::Clock> Clock for MachineClock<'a, R> {
 }
 
 /// The time of day as a moment, where it can be read and is one.
-fn time_of_day<R: time::Clock>(machine: &R) -> Option<Moment> {
+fn time_of_day<R: time::Clock>(machine: &R) -> Option<Moment>
+    ensures { IfSome result (λ moment. moment ≤ 2 ^ 60) }
+{
     let now = SystemTime::now(machine).ok()?;
     let since = now.duration_since(SystemTime::UNIX_EPOCH).ok()?;
     Moment::new(u64::try_from(since.as_millis()).ok()?)
