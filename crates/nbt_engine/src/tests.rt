@@ -1,6 +1,7 @@
 //! Engines over memory and over UDP: the life of a datagram 1,000 ms, the longest lease 60 s, all started at 0.
 
-ghost use Rattle.std.specs.Prelude.{◌≡◌, IfOk};
+ghost use Rattle.std.specs.Prelude.{◌≡◌, ◌<◌, ◌^◌, IfOk};
+ghost use Rattle.nbt_engine.specs.Acts.{CountsFailure};
 
 use crate::{
     Clock, Counts, Datagram, Device, MachineClock, MemoryClock, MemoryPort, Port, Seen, UdpPort,
@@ -322,6 +323,56 @@ fn a_request_that_was_not_sent_is_sent_again(rt: HostRuntime) -> Result<(), Fail
     let seen = node_turn(&mut port, &mut clock, &mut node, SERVER, &want)?;
     assert_eq!(&rt; seen, Seen::Nothing);
     expect_sent(&rt, &port, &[(SERVER, registration(FIRST)?)]);
+    Ok(())
+}
+
+/// Four turns of a node that wants a name.
+fn four_turns(
+    port: &mut MemoryPort,
+    clock: &mut MemoryClock,
+    node: &mut Node<2>,
+    want: &Want,
+) -> Result<Seen, Device>
+    requires few { port.old.failures < 2 ^ 62 }
+    ensures device { CountsFailure port.old.failures port.new.failures result }
+{
+    node_turn(port, clock, node, SERVER, want)?;
+    node_turn(port, clock, node, SERVER, want)?;
+    node_turn(port, clock, node, SERVER, want)?;
+    node_turn(port, clock, node, SERVER, want)
+}
+
+#[test]
+fn a_node_goes_on_after_a_failure_at_any_call(rt: HostRuntime) -> Result<(), Fail> {
+    let granted = granted()?;
+    let renewed = reply(2, 0x80, 60, FIRST)?;
+    let given = [
+        (SERVER, granted.as_slice()),
+        (SECOND, STATUS_REQUEST),
+        (FIRST, b"".as_slice()),
+        (SERVER, renewed.as_slice()),
+    ];
+    let moments = [
+        60_000, 65_000, 70_000, 75_000, 80_000, 85_000, 90_000, 95_000, 100_000,
+    ];
+    let want = fred()?;
+    // The ask and the grant; the status request and the reply to it; nothing; the refresh and the reply to it.
+    for call in 0..7 {
+        let mut port = port(&rt, &given)?;
+        port.fail_after(call);
+        let mut clock = clock(&rt, &moments)?;
+        let mut node = node()?;
+        assert_eq!(&rt;
+            four_turns(&mut port, &mut clock, &mut node, &want),
+            Err(Device),
+            "{call}"
+        );
+        assert_eq!(&rt; port.failures(), 1, "{call}");
+        four_turns(&mut port, &mut clock, &mut node, &want)?;
+        assert_eq!(&rt; port.failures(), 1, "{call}");
+        let held = node.holds(moment(149_999)?, &want.name);
+        assert_eq!(&rt; held, Some(Kind::Unique), "{call}");
+    }
     Ok(())
 }
 
