@@ -65,6 +65,18 @@ sent_in [] = []
 sent_in (sent addr octets ∷ acts) = to addr octets ∷ sent_in acts
 sent_in (_ ∷ acts) = sent_in acts
 
+-- what came, in order
+abbrev pub came_in : List Act → List DatagramValue
+came_in [] = []
+came_in (came from octets ∷ acts) = record { addr = from; octets = octets } ∷ came_in acts
+came_in (_ ∷ acts) = came_in acts
+
+-- the datagrams among what is handed out, each with its first 2,048 octets
+abbrev pub datagrams_in : List (Option Datagram) → List DatagramValue
+datagrams_in [] = []
+datagrams_in (None ∷ rest) = datagrams_in rest
+datagrams_in (Some d ∷ rest) = record { addr = d.addr; octets = take 2048 d.octets.items } ∷ datagrams_in rest
+
 -- how many receives handed out something or nothing
 abbrev pub received_in : List Act → ℕ
 received_in [] = 0
