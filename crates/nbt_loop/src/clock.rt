@@ -1,7 +1,7 @@
 //! A clock that the program counts itself.
 
 ghost use Rattle.std.specs.Prelude.{◌≡◌};
-ghost use Rattle.nbt_loop.specs.Counting.{Counts};
+ghost use Rattle.nbt_loop.specs.Counting.{CountsOn};
 
 use nbt_engine::Clock;
 use nbt_lease::Moment;
@@ -32,7 +32,7 @@ impl CountedClock {
 }
 
 impl Clock for CountedClock {
-    ghost tells = { Counts };
+    ghost tells = { CountsOn };
 
     fn now(&mut self) -> Moment {
         let now = self.next;
