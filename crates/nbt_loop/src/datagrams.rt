@@ -1,4 +1,4 @@
-//! The datagram service: data are split, sent and accepted.
+//! The datagram service: data are split, sent and accepted (RFC 1002 sections 5.3.2 and 5.3.3).
 
 use crate::end_node::{EndNode, NameServer, receive, send};
 use crate::outcome::Outcome;
@@ -7,10 +7,15 @@ use nbt_dgram::{Accept, Delivery, Fragments, accept, encode, split};
 use nbt_engine::{Device, Port};
 use nbt_name::{Addr, Name};
 
-/// The id of the one datagram.
+/// The DGM_ID of the one datagram (RFC 1002 section 4.4.1).
 const ID: u16 = 1;
 
-/// Sends data from a name of one end node to a name of another, at `to`. Returns how many octets were handed up there.
+/// How often the receiver receives for one datagram, which comes in two packets at most. The rest is for what another
+/// program of this machine sends there, and for a receive that ends early.
+const RECEIVES: u32 = 8;
+
+/// Sends data from a name of one end node to a name of another, at `to`. Returns how many octets were handed up there
+/// (RFC 1002 sections 5.3.2 and 5.3.3).
 pub fn send_data<P: Port + Drop>(
     sender: &mut EndNode<P>,
     receiver: &mut EndNode<P>,
@@ -32,11 +37,7 @@ pub fn send_data<P: Port + Drop>(
         return Ok(Outcome::Nothing);
     };
     send_packets(&mut sender.datagrams, to, &packets)?;
-    let mut outcome = Outcome::Nothing;
-    for _ in packets.as_slice() {
-        outcome = accept_one(receiver, server)?;
-    }
-    Ok(outcome)
+    receive_data(receiver, server, own)
 }
 
 /// Sends each packet.
@@ -50,31 +51,40 @@ fn send_packets<P: Port>(port: &mut P, to: Addr, packets: &Fragments<'_>) -> Res
     Ok(())
 }
 
-/// Receives once, and returns how many octets were handed up.
+/// Receives until the data that `source` sent are handed up, and returns how many octets they are. What another program
+/// sent is passed over. `Nothing` where they aren't handed up by the last receive.
+fn receive_data<P: Port + Drop>(
+    end: &mut EndNode<P>,
+    server: &mut NameServer<P>,
+    source: Addr,
+) -> Result<Outcome<'static>, Device> {
+    let mut octets = ArrayVec::new();
+    for _ in 0..RECEIVES {
+        if receive(&mut end.datagrams, &mut octets)? == Some(source) {
+            if let Some(count) = accept_one(end, server, octets.as_slice())? {
+                return Ok(Outcome::Octets(count));
+            }
+        }
+    }
+    Ok(Outcome::Nothing)
+}
+
+/// Accepts one datagram, and returns how many octets are handed up, where its data are whole. Where its destination name
+/// isn't held, the error packet is sent (RFC 1002 sections 4.4.3 and 5.3.3).
 fn accept_one<P: Port + Drop>(
     end: &mut EndNode<P>,
     server: &mut NameServer<P>,
-) -> Result<Outcome<'static>, Device> {
-    let mut octets = ArrayVec::new();
+    octets: &[u8],
+) -> Result<Option<usize>, Device> {
     let mut out = ArrayVec::new();
-    if receive(&mut end.datagrams, &mut octets)?.is_none() {
-        return Ok(Outcome::Nothing);
-    }
     let now = server.now();
     let own = end.datagrams_at;
-    match accept(
-        &mut end.joiner,
-        now,
-        &end.node,
-        own,
-        octets.as_slice(),
-        &mut out,
-    ) {
-        Accept::Up(_, payload) => Ok(Outcome::Octets(payload.as_slice().len())),
+    match accept(&mut end.joiner, now, &end.node, own, octets, &mut out) {
+        Accept::Up(_, payload) => Ok(Some(payload.as_slice().len())),
         Accept::Reply(to) => {
             send(&mut end.datagrams, to, out.as_slice())?;
-            Ok(Outcome::Nothing)
+            Ok(None)
         }
-        _ => Ok(Outcome::Nothing),
+        _ => Ok(None),
     }
 }

@@ -1,4 +1,5 @@
-//! The name service, step by step: a node's request, the server's turn, and what the reply is to the node.
+//! The name service, step by step: a node's request, the server's turns, and what the reply is to the node (RFC 1002
+//! sections 5.1.2 and 5.1.4).
 
 use crate::end_node::{EndNode, NameServer, receive, send};
 use arrayvec::ArrayVec;
@@ -8,6 +9,10 @@ use nbt_node::Event;
 
 /// The seconds that a name is asked for.
 const TTL: u32 = 60;
+
+/// How many turns the server has for one request. One is enough, but where another program of this machine sends something
+/// to the server or to the node, or a receive ends early.
+const TURNS: u32 = 8;
 
 /// The end node asks for the name. Returns what the server's reply was to it.
 pub fn ask<'a, P: Port + Drop>(
@@ -52,7 +57,9 @@ pub fn resolve<'a, P: Port + Drop>(
     }
 }
 
-/// Sends a request to the server, which takes one turn. Then the node receives once, and takes what came.
+/// Sends a request to the server, and lets the server and the node take turns until its reply is there, which the node
+/// takes. What another program sent to the node is passed over, and so is a reply that came too late for its request.
+/// `Nothing` where no reply is there after the last turn.
 fn exchange<'a, P: Port + Drop>(
     end: &mut EndNode<P>,
     server: &mut NameServer<P>,
@@ -60,16 +67,36 @@ fn exchange<'a, P: Port + Drop>(
     octets: &'a mut ArrayVec<u8, 2048>,
 ) -> Result<Event<'a>, Device> {
     send(&mut end.names, server.addr(), request.as_slice())?;
-    server.serve()?;
-    let Some(from) = receive(&mut end.names, octets)? else {
-        return Ok(Event::Nothing);
-    };
+    for _ in 0..TURNS {
+        server.serve()?;
+        let from = receive(&mut end.names, octets)?;
+        if from == Some(server.addr()) && is_reply(request.as_slice(), octets.as_slice()) {
+            return Ok(hear(end, server, octets.as_slice()));
+        }
+    }
+    Ok(Event::Nothing)
+}
+
+/// Whether the octets have the NAME_TRN_ID of the request: its first two octets (RFC 1002 section 4.2.1.1).
+fn is_reply(request: &[u8], octets: &[u8]) -> bool {
+    match request.first_chunk::<2>() {
+        Some(id) => octets.starts_with(id),
+        None => false,
+    }
+}
+
+/// The node takes what came from the server.
+fn hear<'a, P: Port + Drop>(
+    end: &mut EndNode<P>,
+    server: &mut NameServer<P>,
+    octets: &'a [u8],
+) -> Event<'a> {
     let mut out = ArrayVec::new();
     match end
         .node
-        .on_datagram(server.now(), from, octets.as_slice(), &mut out)
+        .on_datagram(server.now(), server.addr(), octets, &mut out)
     {
-        Ok(event) => Ok(event),
-        Err(_) => Ok(Event::Nothing),
+        Ok(event) => event,
+        Err(_) => Event::Nothing,
     }
 }
