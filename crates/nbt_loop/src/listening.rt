@@ -1,18 +1,22 @@
-//! The end that listens for sessions.
+//! The end that listens for sessions (RFC 1002 section 5.2).
 
-use crate::connection::Connection;
+ghost use Rattle.std.specs.Prelude.{◌≡◌};
+
+use crate::connection::{Connection, send};
 use crate::end_node::SLOTS;
 use crate::fault::Fault;
 use nbt_lease::Moment;
 use nbt_name::{Addr, Name};
 use nbt_node::Node;
-use nbt_session::{Entry, Event, Listener, ListenerAnswer, Packet};
+use nbt_session::{Entry, Event, Listener, ListenerAnswer};
 use std::alloc::Global;
-use std::io;
-use std::net::{Ipv4Addr, Net, OpenListener, TcpListener};
+use std::net::{Ipv4Addr, Net, OpenListener, SocketAddr, TcpListener};
 
 /// The listener's one slot.
 const SLOT: usize = 0;
+
+/// How many connections are accepted for one call, of which those of other programs of this machine are closed.
+const CONNECTIONS: u32 = 8;
 
 /// A TCP socket that listens, the calls that are taken, and the one connection that there may be.
 #[derive(Drop)]
@@ -45,25 +49,46 @@ impl<R: Net> Desk<R> {
     }
 
     /// Where it listens.
-    pub fn addr(&self) -> Addr {
+    pub fn addr(&self) -> Addr
+        ensures { result ≡ self.now.addr }
+    {
         self.addr
     }
 
-    /// Takes the connection that waits.
-    pub fn take_connection(&mut self, now: Moment, node: &Node<SLOTS>) -> Result<(), Fault> {
-        let (socket, _) = self.socket.accept()?;
-        match Connection::new(self.alloc, socket) {
-            Ok(connection) => self.connection = Some(connection),
-            Err(error) => match error.kind() {
-                io::ErrorKind::OutOfMemory => return Err(Fault::Memory),
-                _ => return Ok(()),
-            },
+    /// Takes the connection that `peer` made (RFC 1002 section 5.2.1). An earlier one is lost to the listener, which has
+    /// one slot.
+    pub fn take_connection(
+        &mut self,
+        now: Moment,
+        node: &Node<SLOTS>,
+        peer: SocketAddr,
+    ) -> Result<(), Fault> {
+        if self.connection.is_some() {
+            self.happens(now, node, Event::Lost)?;
         }
-        self.happens(now, node, Event::Connected)?;
+        let Some(socket) = self.accept_from(peer)? else {
+            return Ok(());
+        };
+        self.connection = Connection::new(self.alloc, socket)?;
+        if self.connection.is_some() {
+            self.happens(now, node, Event::Connected)?;
+        }
         Ok(())
     }
 
-    /// Waits for what happens next to the connection. Returns a message's octets, where one is handed up.
+    /// Accepts connections up to the one that `peer` made. Those of other programs are closed.
+    fn accept_from(&self, peer: SocketAddr) -> Result<Option<R::Stream>, Fault> {
+        for _ in 0..CONNECTIONS {
+            let (socket, from) = self.socket.accept()?;
+            if from == peer {
+                return Ok(Some(socket));
+            }
+        }
+        Ok(None)
+    }
+
+    /// Waits for what happens next to the connection. Returns a message's octets, where one is handed up (RFC 1002
+    /// section 5.2.2).
     pub fn serve(&mut self, now: Moment, node: &Node<SLOTS>) -> Result<Option<Vec<u8>>, Fault> {
         let event = match &mut self.connection {
             Some(connection) => connection.next_event()?,
@@ -72,7 +97,7 @@ impl<R: Net> Desk<R> {
         self.happens(now, node, event)
     }
 
-    /// Does what the listener says of an event.
+    /// Does what the listener says of an event (RFC 1002 section 5.2.1). A packet that can't be sent loses the connection.
     fn happens(
         &mut self,
         now: Moment,
@@ -85,14 +110,14 @@ impl<R: Net> Desk<R> {
         match self.listener.on(now, node, SLOT, event) {
             ListenerAnswer::Nothing => Ok(None),
             ListenerAnswer::Send(packet) => {
-                if !self.send(&packet)? {
+                if !send(&mut self.connection, &packet)? {
                     self.connection = None;
                     let _ = self.listener.on(now, node, SLOT, Event::Lost);
                 }
                 Ok(None)
             }
             ListenerAnswer::SendAndClose(packet) => {
-                self.send(&packet)?;
+                send(&mut self.connection, &packet)?;
                 self.connection = None;
                 Ok(None)
             }
@@ -101,14 +126,6 @@ impl<R: Net> Desk<R> {
                 Ok(None)
             }
             ListenerAnswer::Up(octets) => Ok(Some(octets)),
-        }
-    }
-
-    /// Sends a packet, and returns whether it could be sent.
-    fn send(&mut self, packet: &Packet) -> Result<bool, Fault> {
-        match &mut self.connection {
-            Some(connection) => connection.send(packet),
-            None => Ok(false),
         }
     }
 }

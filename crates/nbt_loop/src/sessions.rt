@@ -1,6 +1,6 @@
-//! The session service: a call, a message, and the end of the session.
+//! The session service: a call, a message, and the end of the session (RFC 1002 sections 5.2.1 to 5.2.3).
 
-use crate::connection::Connection;
+use crate::connection::{Connection, send};
 use crate::end_node::SLOTS;
 use crate::fault::Fault;
 use crate::listening::Desk;
@@ -10,10 +10,9 @@ use nbt_name::{Addr, Name};
 use nbt_node::Node;
 use nbt_session::{Caller, CallerAnswer, Event, Packet};
 use std::alloc::Global;
-use std::io;
-use std::net::{Ipv4Addr, Net, TcpStream};
+use std::net::{Ipv4Addr, Net, OpenStream, TcpStream};
 
-/// How many events a call is at most: three for each of its four tries.
+/// How many events are waited for in a call: three for each of its four tries.
 const EVENTS: u32 = 12;
 
 /// A call: to which name, by which name, and where.
@@ -45,7 +44,8 @@ impl<R: Net> Session<R> {
         })
     }
 
-    /// Makes the call at this moment, and returns what became of it.
+    /// Makes the call at this moment, and returns what became of it (RFC 1002 section 5.2.1). `Nothing` where that
+    /// isn't known by the last event that is waited for.
     pub fn call(
         &mut self,
         rt: &R,
@@ -74,7 +74,7 @@ impl<R: Net> Session<R> {
         Ok(Outcome::Nothing)
     }
 
-    /// Sends a message of these octets, and returns how many were handed up.
+    /// Sends a message of these octets, and returns how many were handed up (RFC 1002 section 5.2.2).
     pub fn send_message(
         &mut self,
         now: Moment,
@@ -82,7 +82,7 @@ impl<R: Net> Session<R> {
         octets: &[u8],
     ) -> Result<Outcome<'static>, Fault> {
         let message = Packet::Message(Vec::from_slice(self.alloc, octets)?);
-        if !self.send(&message)? {
+        if !send(&mut self.connection, &message)? {
             return Ok(Outcome::Nothing);
         }
         match self.desk.serve(now, node)? {
@@ -91,14 +91,15 @@ impl<R: Net> Session<R> {
         }
     }
 
-    /// Ends the session: the end that calls closes its connection, and the end that listens sees it.
+    /// Ends the session: the end that calls closes its connection, and the end that listens sees it (RFC 1002 section
+    /// 5.2.3).
     pub fn hang_up(&mut self, now: Moment, node: &Node<SLOTS>) -> Result<(), Fault> {
         self.connection = None;
         self.desk.serve(now, node)?;
         Ok(())
     }
 
-    /// Connects, and lets the end that listens take the connection.
+    /// Connects, and lets the end that listens take the connection. A connection that can't be had is lost.
     fn connect(
         &mut self,
         rt: &R,
@@ -110,41 +111,32 @@ impl<R: Net> Session<R> {
         let Ok(socket) = TcpStream::connect(rt, (Ipv4Addr::from_bits(to.ip), to.port)) else {
             return Ok(Event::Lost);
         };
+        let Ok(own) = socket.local_addr() else {
+            return Ok(Event::Lost);
+        };
         if to == self.desk.addr() {
-            self.desk.take_connection(now, node)?;
+            self.desk.take_connection(now, node, own)?;
         }
-        match Connection::new(self.alloc, socket) {
-            Ok(connection) => {
-                self.connection = Some(connection);
-                Ok(Event::Connected)
-            }
-            Err(error) => match error.kind() {
-                io::ErrorKind::OutOfMemory => Err(Fault::Memory),
-                _ => Ok(Event::Lost),
-            },
+        self.connection = Connection::new(self.alloc, socket)?;
+        if self.connection.is_some() {
+            Ok(Event::Connected)
+        } else {
+            Ok(Event::Lost)
         }
     }
 
-    /// Sends the request, lets the end that listens take it, and waits for its response.
+    /// Sends the request, lets the end that listens take it, and waits for its response (RFC 1002 sections 4.3.2 to 4.3.5).
     fn request(
         &mut self,
         now: Moment,
         node: &Node<SLOTS>,
         packet: &Packet,
     ) -> Result<Event, Fault> {
-        if !self.send(packet)? {
+        if !send(&mut self.connection, packet)? {
             return Ok(Event::Lost);
         }
         self.desk.serve(now, node)?;
         self.next_event()
-    }
-
-    /// Sends a packet, and returns whether it could be sent.
-    fn send(&mut self, packet: &Packet) -> Result<bool, Fault> {
-        match &mut self.connection {
-            Some(connection) => connection.send(packet),
-            None => Ok(false),
-        }
     }
 
     /// Waits for what happens next to the connection of the end that calls.
