@@ -1,5 +1,8 @@
 //! An end node with its two ports, and the name server with its port and its clock.
 
+ghost use Rattle.std.specs.Prelude.{◌≡◌};
+ghost use Rattle.nbt_loop.specs.Counting.{CountsOn};
+
 use crate::clock::CountedClock;
 use arrayvec::ArrayVec;
 use nbt_dgram::Joiner;
@@ -42,7 +45,10 @@ pub struct NameServer<P: Drop> {
 
 impl<P: Port + Drop> NameServer<P> {
     /// A server behind this port, which is at `addr`. It started at 0, and the clock is at 60,000.
-    pub fn start(alloc: Global, config: Config, addr: Addr, port: P) -> NameServer<P> {
+    pub fn start(alloc: Global, config: Config, addr: Addr, port: P) -> NameServer<P>
+        ensures addr { result.addr ≡ addr }
+        ensures clock { result.clock ≡ 60000 }
+    {
         NameServer {
             server: Server::start(alloc, config, Moment::zero()),
             port,
@@ -52,12 +58,17 @@ impl<P: Port + Drop> NameServer<P> {
     }
 
     /// Where requests go.
-    pub fn addr(&self) -> Addr {
+    pub fn addr(&self) -> Addr
+        ensures { result ≡ self.now.addr }
+    {
         self.addr
     }
 
     /// The next moment.
-    pub fn now(&mut self) -> Moment {
+    pub fn now(&mut self) -> Moment
+        ensures clock { CountsOn self.old.clock result self.new.clock }
+        ensures addr { self.new.addr ≡ self.old.addr }
+    {
         self.clock.now()
     }
 
