@@ -1,6 +1,9 @@
 //! An end node with its two ports, and the name server with its port and its clock.
 
-ghost use Rattle.std.specs.Prelude.{◌≡◌};
+ghost use Rattle.std.specs.Prelude.{◌≡◌, ◌<◌, OnOk, IsErr};
+ghost use Rattle.nbt_engine.specs.Acts.{receiving, sending};
+ghost use Rattle.nbt_engine.specs.Serving.{Runs};
+ghost use Rattle.nbt_engine.specs.declared.serving.Counts.{Counts};
 ghost use Rattle.nbt_loop.specs.Counting.{CountsOn};
 
 use crate::clock::CountedClock;
@@ -73,7 +76,11 @@ impl<P: Port + Drop> NameServer<P> {
     }
 
     /// Takes one turn: receives once, and sends the reply.
-    pub fn serve(&mut self) -> Result<(), Device> {
+    pub fn serve(&mut self) -> Result<(), Device>
+        ensures ok { OnOk result ((counts : Counts) × Runs P.does CountsOn 1 counts self.old.port self.old.clock self.old.server
+            self.new.port self.new.clock self.new.server) }
+        ensures addr { self.new.addr ≡ self.old.addr }
+    {
         if self.port.failures() > 0 {
             return Err(Device);
         }
@@ -83,7 +90,10 @@ impl<P: Port + Drop> NameServer<P> {
 }
 
 /// Sends octets through a port. One that has failed isn't used again.
-pub fn send<P: Port>(port: &mut P, to: Addr, octets: &[u8]) -> Result<(), Device> {
+pub fn send<P: Port>(port: &mut P, to: Addr, octets: &[u8]) -> Result<(), Device>
+    ensures does { P.failures port.old ≡ 0 → P.does port.old (sending to octets.now result) port.new }
+    ensures failed { 0 < P.failures port.old → IsErr result × (port.new ≡ port.old) }
+{
     if port.failures() > 0 {
         return Err(Device);
     }
@@ -94,7 +104,10 @@ pub fn send<P: Port>(port: &mut P, to: Addr, octets: &[u8]) -> Result<(), Device
 pub fn receive<P: Port>(
     port: &mut P,
     octets: &mut ArrayVec<u8, 2048>,
-) -> Result<Option<Addr>, Device> {
+) -> Result<Option<Addr>, Device>
+    ensures does { P.failures port.old ≡ 0 → P.does port.old (receiving result octets.new.items) port.new }
+    ensures failed { 0 < P.failures port.old → IsErr result × (port.new ≡ port.old) }
+{
     if port.failures() > 0 {
         return Err(Device);
     }

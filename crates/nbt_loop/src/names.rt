@@ -1,6 +1,8 @@
 //! The name service, step by step: a node's request, the server's turns, and what the reply is to the node (RFC 1002
 //! sections 5.1.2 and 5.1.4).
 
+ghost use Rattle.std.specs.Prelude.{◌≡◌, ◌≤◌, ◌↔◌, length, take, IsTrue};
+
 use crate::end_node::{EndNode, NameServer, receive, send};
 use arrayvec::ArrayVec;
 use nbt_engine::{Device, Port};
@@ -78,7 +80,9 @@ fn exchange<'a, P: Port + Drop>(
 }
 
 /// Whether the octets have the NAME_TRN_ID of the request: its first two octets (RFC 1002 section 4.2.1.1).
-fn is_reply(request: &[u8], octets: &[u8]) -> bool {
+fn is_reply(request: &[u8], octets: &[u8]) -> bool
+    ensures { IsTrue result ↔ ((2 ≤ length request.now) × (take 2 octets.now ≡ take 2 request.now)) }
+{
     match request.first_chunk::<2>() {
         Some(id) => octets.starts_with(id),
         None => false,
