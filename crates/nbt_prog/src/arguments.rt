@@ -3,15 +3,14 @@
 ghost use Rattle.std.specs.Prelude.{◌≡◌, ◌≤◌, ◌^◌, ◌⊎◌, ◌↔◌, ℕ, Ok, Some, IfOk, IfErr, IsSome, IfSome, codes};
 ghost use Rattle.clap.specs.Words.{kind_of};
 ghost use Rattle.hex.specs.Hex.{decode_of};
-ghost use Rattle.nbt_prog.specs.Inner.Arguments.{AreGiven, IsFailureOf, IsHexadecimal, IsPort, IsTime, SpellsPort, SpellsTime, argument_of};
-ghost use Rattle.nbt_prog.specs.Inner.Failure.{failure_status};
+ghost use Rattle.nbt_prog.specs.Inner.Arguments.{AreGiven, IsFailureOf, IsHexadecimal, IsTime, SpellsTime, argument_of};
 ghost use Rattle.nbt_prog.specs.declared.commands.show.Service.TheVariants.{Dgram, Session};
 ghost use Rattle.nbt_prog.specs.declared.failure.Failure.TheVariants.{Unreadable, Memory};
 
 use crate::commands::answer::AnswerArguments;
 use crate::commands::show::{Service, ShowArguments};
 use crate::failure::Failure;
-use crate::network::arguments::{node_arguments, serve_arguments};
+use crate::network::arguments::{loop_ports, node_arguments, serve_arguments};
 use crate::network::node::NodeArguments;
 use crate::network::serve::ServeArguments;
 use crate::{network, usage};
@@ -46,7 +45,7 @@ pub fn parse_words<S: AsStr>(alloc: Global, words: &[S]) -> Result<Request, Fail
         Some((usage::SIM, _)) => Ok(Request::Sim),
         Some((network::usage::SERVE, inner)) => Ok(Request::Serve(serve_arguments(alloc, inner)?)),
         Some((network::usage::NODE, inner)) => Ok(Request::Node(node_arguments(alloc, inner)?)),
-        Some((usage::LOOP, inner)) => Ok(Request::Loop(loop_ports(alloc, inner)?)),
+        Some((network::usage::LOOP, inner)) => Ok(Request::Loop(loop_ports(alloc, inner)?)),
         _ => {
             let message = "a command is needed";
             Err(program.error(ErrorKind::MissingSubcommand, message)?)?
@@ -77,30 +76,6 @@ fn show_arguments(alloc: Global, matches: &ArgMatches<'_>) -> Result<ShowArgumen
     let service = service_of(argument(matches, usage::KIND));
     let octets = hex::decode(alloc, argument(matches, usage::HEX))?;
     Ok(ShowArguments { service, octets })
-}
-
-/// The ports of `loop`, or clap's error on the first of them.
-fn loop_ports(alloc: Global, matches: &ArgMatches<'_>) -> Result<Ports, Failure>
-    ensures ports { IfOk result (λ ports. SpellsPort (argument_of matches.now (codes "port")) ports.names) }
-    ensures failure { IfErr result (λ failure. (failure ≡ Memory)
-        ⊎ (¬ (IsPort (argument_of matches.now (codes "port"))) × (failure_status failure ≡ 2))) }
-{
-    let text = argument(matches, usage::PORT);
-    match parse_ports(text) {
-        Some(ports) => Ok(ports),
-        None => Err(usage::bad_port(alloc, text)?)?,
-    }
-}
-
-/// Reads the first of three ports: digits alone, of which the first ones may be zeros.
-fn parse_ports(text: &str) -> Option<Ports>
-    ensures read { IfSome result (λ ports. SpellsPort text.now ports.names) }
-    ensures found { IsPort text.now → IsSome result }
-{
-    match parse_number(text.as_bytes()) {
-        Some(first) => Ports::new(first),
-        None => None,
-    }
 }
 
 /// The service that a KIND names, of which there are three.

@@ -2,6 +2,5 @@
 
 pub mod answer;
 pub mod check;
-pub mod looping;
 pub mod show;
 pub mod sim;

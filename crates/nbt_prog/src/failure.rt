@@ -17,9 +17,12 @@ pub enum Failure {
     /// An address, a hexadecimal text or the input can't be read.
     #[error("unreadable")]
     Unreadable,
-    /// A read or a write failed.
+    /// A read failed, a socket did, or a clock.
     #[error("device")]
     Device,
+    /// A write failed, so nothing more can be told.
+    #[error("output")]
+    Output,
     /// An allocation was refused.
     #[error("memory")]
     Memory,
@@ -37,17 +40,18 @@ impl Failure {
         match self {
             Failure::Usage(error) => { if error.use_stderr() { 2 } else { 0 } }
             Failure::Unreadable => 1,
-            Failure::Device => 3,
+            Failure::Device | Failure::Output => 3,
             Failure::Memory => 4,
         }
     }
 
-    /// The line that is printed alone, with its end; of wrong usage nothing, whose text is clap's.
+    /// The line that is printed alone, with its end; of wrong usage nothing, whose text is clap's, and nothing where the
+    /// output failed.
     pub fn line(&self) -> &'static str
         ensures { IfSome (failure_text self.now) (λ text. result.now ≡ text) }
     {
         match self {
-            Failure::Usage(_) => "",
+            Failure::Usage(_) | Failure::Output => "",
             Failure::Unreadable => "unreadable\n",
             Failure::Device => "device\n",
             Failure::Memory => "memory\n",

@@ -4,10 +4,11 @@
 //! with the status that it returns.
 #![tactic(auto)]
 
-ghost use Rattle.std.specs.Prelude.{◌≡◌, ◌≢◌, ◌≤◌, ◌⊎◌, ◌++◌, ◌∷◌, [], OnOk, IfSome, codes};
+ghost use Rattle.std.specs.Prelude.{◌≡◌, ◌≢◌, ◌≤◌, ◌⊎◌, ◌++◌, ◌∷◌, [], OnOk, IfErr, IfSome, codes};
 ghost use Rattle.std.specs.IoError.{error_kind};
 ghost use Rattle.std.specs.declared.io.ErrorKind.TheVariants.{InvalidData};
 ghost use Rattle.std.specs.Io.KnownBytes.{Appends};
+ghost use Rattle.nbt_prog.specs.Inner.Failure.{failure_status, failure_text};
 ghost use Rattle.nbt_prog.specs.Inner.Outcome.{status_of_outcome, text_of_outcome};
 
 mod arguments;
@@ -74,18 +75,27 @@ pub fn command_on<M: Net + time::Clock, S: AsStr, R: Read, W: Write>(
             let outcome = network::node::run(machine, alloc, &arguments, writer);
             conclude_written(outcome, writer)
         }
-        Ok(Request::Loop(ports)) => commands::looping::run(machine, alloc, ports, writer),
+        Ok(Request::Loop(ports)) => {
+            let outcome = network::looping::run(machine, alloc, ports, writer);
+            conclude_written(outcome, writer)
+        }
         Ok(request) => conclude(run_request(alloc, request, reader), writer),
         Err(failure) => conclude(Err(failure), writer),
     }
 }
 
-/// Returns the status of a command that has written its output; of a failure it prints the text.
+/// Returns the status of a command that has written its output. Of a failure it prints the text, but to a writer that
+/// failed nothing more.
 fn conclude_written<W: Write>(outcome: Result<(), Failure>, writer: &mut W) -> u8
+    ensures done { OnOk outcome ((result ≡ 0) × (writer.new ≡ writer.old)) }
+    ensures output { outcome ≡ Err Failure.Output → (result ≡ 3) × (writer.new ≡ writer.old) }
+    ensures told { IfErr outcome (λ failure. (result ≡ 3) ⊎ ((result ≡ failure_status failure)
+        × IfSome (failure_text failure) (Appends (W.contents writer.old) (W.contents writer.new)))) }
     ensures bound { result ≤ 4 }
 {
     match outcome {
         Ok(()) => 0,
+        Err(Failure::Output) => Failure::Output.status(),
         Err(failure) => conclude(Err(failure), writer),
     }
 }
@@ -139,7 +149,7 @@ fn conclude<W: Write>(outcome: Result<Printed, Failure>, writer: &mut W) -> u8
     };
     match print(&outcome, writer) {
         Ok(()) => status,
-        Err(_) => Failure::Device.status(),
+        Err(_) => Failure::Output.status(),
     }
 }
 

@@ -129,24 +129,6 @@ Exit status:
   3  input or output failed; prints `device` where it can
   4  an allocation was refused; prints `memory`";
 
-const LOOP_ABOUT: &str =
-    "Runs a name server and two end nodes on this machine, over real sockets, and tells what they do";
-
-const LOOP_HELP: &str = "\
-The server is at 127.0.0.1, the nodes n1 and n2 are at 127.0.0.2 and 127.0.0.3, all in this one process. They use the
-UDP ports PORT for names and PORT+1 for datagrams, and the TCP port PORT+2 for sessions. Prints a line as soon as a step
-is done: n1 and n2 ask for FRED, which n1 gets, and for the group TEAM; n2 looks both up, sends a datagram to FRED, calls
-FRED and sends a message; n1 gives FRED back, and n2's next call is refused. A step that got no reply prints `none`.
-
-Example:
-  nbt loop 20137
-
-Exit status:
-  0  done
-  2  wrong usage
-  3  a port can't be bound, or a socket fails; prints `device`. Or output failed
-  4  an allocation was refused; prints `memory`";
-
 /// The name of the command that answers one packet.
 pub const ANSWER: &str = "answer";
 
@@ -158,12 +140,6 @@ pub const CHECK: &str = "check";
 
 /// The name of the command that plays a script.
 pub const SIM: &str = "sim";
-
-/// The name of the command that runs a server and two nodes.
-pub const LOOP: &str = "loop";
-
-/// The argument that names the first of three ports.
-pub const PORT: &str = "port";
 
 /// The argument that names the sender.
 pub const FROM: &str = "from";
@@ -201,7 +177,7 @@ pub fn program<'a>(alloc: Global) -> Result<Command<'a>, AllocError> {
         .subcommand(sim_command(alloc))?
         .subcommand(network::usage::serve_command(alloc)?)?
         .subcommand(network::usage::node_command(alloc)?)?
-        .subcommand(loop_command(alloc)?)
+        .subcommand(network::usage::loop_command(alloc)?)
 }
 
 fn answer_command<'a>(alloc: Global) -> Result<Command<'a>, AllocError> {
@@ -250,28 +226,6 @@ fn sim_command<'a>(alloc: Global) -> Command<'a> {
     Command::new(alloc, SIM)
         .about(SIM_ABOUT)
         .after_help(SIM_HELP)
-}
-
-fn loop_command<'a>(alloc: Global) -> Result<Command<'a>, AllocError> {
-    let port = Arg::new(alloc, PORT)
-        .value_name("PORT")
-        .required(true)
-        .help("The first of three ports in a row: from 1 to 65533");
-    Command::new(alloc, LOOP)
-        .about(LOOP_ABOUT)
-        .after_help(LOOP_HELP)
-        .arg(port)
-}
-
-/// The error of a port that is not as the help says, with clap's own text around it.
-pub fn bad_port(alloc: Global, value: &str) -> Result<Error, AllocError>
-    ensures { IfOk result (λ e. kind_of e ≡ ErrorKind.ValueValidation) }
-{
-    let message = format!(in alloc;
-        "invalid value '{value}' for '<PORT>': not a whole number from 1 to 65533"
-    )?;
-    let mut command = loop_command(alloc)?.bin_name("nbt loop")?;
-    command.error(ErrorKind::ValueValidation, message.as_str())
 }
 
 /// The error of a time that is not as the help says, with clap's own text around it.

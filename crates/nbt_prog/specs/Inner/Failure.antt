@@ -11,7 +11,7 @@ use Rattle.clap.specs.declared.error.kind.ErrorKind.TheVariants as usage_kind
 use Rattle.hex.specs.declared.error.FromHexError.{FromHexError}
 use Rattle.hex.specs.declared.error.FromHexError.TheVariants as hex_error
 use Rattle.nbt_prog.specs.declared.failure.Failure.{Failure}
-use Rattle.nbt_prog.specs.declared.failure.Failure.TheVariants.{Usage, Unreadable, Device, Memory}
+use Rattle.nbt_prog.specs.declared.failure.Failure.TheVariants.{Usage, Unreadable, Device, Output, Memory}
 
 -- help and the version were asked for; any other text of clap says what is wrong
 abbrev pub usage_status : UsageKind → ℕ
@@ -24,6 +24,7 @@ abbrev pub failure_status : Failure → ℕ
 failure_status (Usage e) = usage_status (kind_of e)
 failure_status Unreadable = 1
 failure_status Device = 3
+failure_status Output = 3
 failure_status Memory = 4
 
 abbrev pub failure_of_usage_kind : UsageError → UsageKind → Failure
@@ -43,7 +44,7 @@ abbrev pub failure_of_io_kind : IoErrorKind → Failure
 failure_of_io_kind io_kind.OutOfMemory = Memory
 failure_of_io_kind _ = Device
 
--- a read or a write that failed, unless an allocation was refused
+-- a device that failed, unless an allocation was refused
 abbrev pub failure_of_io : IoError → Failure
 failure_of_io e = failure_of_io_kind (error_kind e)
 
@@ -51,9 +52,10 @@ failure_of_io e = failure_of_io_kind (error_kind e)
 abbrev pub one_line : List ℕ → List ℕ
 one_line word = word ++ (10 ∷ [])
 
--- all that is printed at a failure; of wrong usage it is clap's text, of which nothing is said
+-- all that is printed at a failure: nothing where the output failed; of wrong usage clap's text, of which nothing is said
 abbrev pub failure_text : Failure → Option (List ℕ)
 failure_text (Usage _) = None
 failure_text Unreadable = Some (one_line (codes "unreadable"))
 failure_text Device = Some (one_line (codes "device"))
+failure_text Output = Some []
 failure_text Memory = Some (one_line (codes "memory"))

@@ -44,11 +44,32 @@ Exit status:
   3  the port can't be had, or a socket or the output failed; prints `device` where it can
   4  an allocation was refused; prints `memory`";
 
+const LOOP_ABOUT: &str =
+    "Runs a name server and two end nodes on this machine, over real sockets, and tells what they do";
+
+const LOOP_HELP: &str = "\
+The server is at 127.0.0.1, the nodes n1 and n2 are at 127.0.0.2 and 127.0.0.3, all in this one process. They use the
+UDP ports PORT for names and PORT+1 for datagrams, and the TCP port PORT+2 for sessions. Prints a line as soon as a step
+is done: n1 and n2 ask for FRED, which n1 gets, and for the group TEAM; n2 looks both up, sends a datagram to FRED, calls
+FRED and sends a message; n1 gives FRED back, and n2's next call is refused. A step that got no reply prints `none`.
+
+Example:
+  nbt loop 20137
+
+Exit status:
+  0  done
+  2  wrong usage
+  3  a port can't be bound, or a socket fails; prints `device`. Or output failed
+  4  an allocation was refused; prints `memory`";
+
 /// The name of the command that runs a server.
 pub const SERVE: &str = "serve";
 
 /// The name of the command that runs an end node.
 pub const NODE: &str = "node";
+
+/// The name of the command that runs a server and two nodes.
+pub const LOOP: &str = "loop";
 
 /// The argument that says at which address and port.
 pub const BIND: &str = "bind";
@@ -82,6 +103,9 @@ pub const TURNS: &str = "turns";
 
 /// The option in place of it.
 pub const FOREVER: &str = "forever";
+
+/// The argument that names the first of three ports.
+pub const PORT: &str = "port";
 
 /// The command that runs a server.
 pub fn serve_command<'a>(alloc: Global) -> Result<Command<'a>, AllocError> {
@@ -126,6 +150,18 @@ pub fn node_command<'a>(alloc: Global) -> Result<Command<'a>, AllocError> {
         .arg(forever(alloc))
 }
 
+/// The command that runs a server and two nodes.
+pub fn loop_command<'a>(alloc: Global) -> Result<Command<'a>, AllocError> {
+    let port = Arg::new(alloc, PORT)
+        .value_name("PORT")
+        .required(true)
+        .help("The first of three ports in a row: from 1 to 65533");
+    Command::new(alloc, LOOP)
+        .about(LOOP_ABOUT)
+        .after_help(LOOP_HELP)
+        .arg(port)
+}
+
 fn bind<'a>(alloc: Global) -> Arg<'a> {
     Arg::new(alloc, BIND).value_name("BIND").required(true).help(
         "The own address and port, as A.B.C.D:PORT in decimal with no leading zeros",
@@ -162,7 +198,7 @@ fn forever<'a>(alloc: Global) -> Arg<'a> {
 
 /// Which of the commands.
 #[derive(Clone, Copy, Debug, PartialEq, Eq)]
-pub enum Runs {
+pub enum Which {
     Server,
     Node,
 }
@@ -207,10 +243,21 @@ impl Limited {
     }
 }
 
+/// The error of a port that is not as the help says, with clap's own text around it.
+pub fn bad_port(alloc: Global, value: &str) -> Result<Error, AllocError>
+    ensures { IfOk result (λ e. kind_of e ≡ ErrorKind.ValueValidation) }
+{
+    let message = format!(in alloc;
+        "invalid value '{value}' for '<PORT>': not a whole number from 1 to 65533"
+    )?;
+    let mut command = loop_command(alloc)?.bin_name("nbt loop")?;
+    command.error(ErrorKind::ValueValidation, message.as_str())
+}
+
 /// The error of a number that is out of its limits, with clap's own text around it.
 pub fn bad_number(
     alloc: Global,
-    runs: Runs,
+    which: Which,
     limited: Limited,
     value: &str,
 ) -> Result<Error, AllocError>
@@ -227,9 +274,9 @@ pub fn bad_number(
     let message = format!(in alloc;
         "invalid value '{value}' for '<{label}>': not a whole number from {least} to {most}"
     )?;
-    let mut command = match runs {
-        Runs::Server => serve_command(alloc)?.bin_name("nbt serve")?,
-        Runs::Node => node_command(alloc)?.bin_name("nbt node")?,
+    let mut command = match which {
+        Which::Server => serve_command(alloc)?.bin_name("nbt serve")?,
+        Which::Node => node_command(alloc)?.bin_name("nbt node")?,
     };
     command.error(ErrorKind::ValueValidation, message.as_str())
 }
