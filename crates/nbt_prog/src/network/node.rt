@@ -1,16 +1,20 @@
 //! `node`: an end node over UDP and the machine's clock.
 
-ghost use Rattle.std.specs.Prelude.{◌≡◌, ◌<◌, ◌^◌};
+ghost use Rattle.std.specs.Prelude.{◌≡◌, ℕ, ◌<◌, ◌^◌, OnOk};
+ghost use Rattle.std.specs.Io.KnownBytes.{Appends};
+ghost use Rattle.nbt_node.specs.Calls.{started};
+ghost use Rattle.nbt_node.specs.Node.{holds};
+ghost use Rattle.nbt_prog.specs.Inner.Node.{TakesTurns, seen_text, held_text};
 
 use crate::failure::Failure;
-use nbt_engine::{MachineClock, Port, Seen, UdpPort, Want, node_turn};
+use crate::network::clock::readable_clock;
+use nbt_engine::{Clock, MachineClock, Port, Seen, UdpPort, Want, node_turn};
 use nbt_lease::{Config, Moment};
 use nbt_name::Addr;
 use nbt_node::Node;
-use std::alloc::Global;
 use std::io::Write;
 use std::net::Net;
-use std::time;
+use std::{io, time};
 
 /// The slots of a node: the most that it may have.
 const SLOTS: usize = 14;
@@ -29,23 +33,16 @@ pub struct NodeArguments {
 /// Binds the port, and runs the node over it.
 pub fn run<M: Net + time::Clock, W: Write>(
     machine: &M,
-    alloc: Global,
     arguments: &NodeArguments,
     writer: &mut W,
 ) -> Result<(), Failure> {
     let mut port = UdpPort::bind(machine, arguments.bind)?;
-    turn(
-        alloc,
-        &mut port,
-        &mut MachineClock::new(machine),
-        arguments,
-        writer,
-    )
+    let mut clock = readable_clock(machine)?;
+    run_turns(&mut port, &mut clock, arguments, writer)
 }
 
 /// Runs the node over a port, and prints each event as it comes, and last whether the name is held.
-pub fn turn<P: Port, M: time::Clock, W: Write>(
-    alloc: Global,
+pub fn run_turns<P: Port, M: time::Clock, W: Write>(
     port: &mut P,
     clock: &mut MachineClock<'_, M>,
     arguments: &NodeArguments,
@@ -53,36 +50,68 @@ pub fn turn<P: Port, M: time::Clock, W: Write>(
 ) -> Result<(), Failure>
     requires few { P.failures port.old < 2 ^ 62 }
 {
-    let start = nbt_engine::Clock::now(clock);
-    let mut node = Node::<SLOTS>::start(arguments.bind, arguments.server, arguments.config, start);
-    for _ in 0..arguments.turns.unwrap_or(u64::MAX) {
-        let seen = node_turn(port, clock, &mut node, arguments.server, &arguments.want)?;
-        tell(alloc, seen, writer)?;
+    let mut node = start_node(clock, arguments);
+    let turns = arguments.turns.unwrap_or(u64::MAX);
+    take_turns(port, clock, &mut node, arguments, turns, writer)?;
+    tell_end(&node, clock.last(), &arguments.want, writer).map_err(|_| Failure::Output)
+}
+
+/// The node, which starts at the moment that the clock tells.
+fn start_node<C: Clock>(clock: &mut C, arguments: &NodeArguments) -> Node<SLOTS>
+    ensures { (now : ℕ) × C.tells clock.old now clock.new
+        × (result ≡ started SLOTS arguments.now.bind arguments.now.server arguments.now.config now) }
+{
+    let now = clock.now();
+    Node::start(arguments.bind, arguments.server, arguments.config, now)
+}
+
+/// Takes so many turns, and prints what is seen in each.
+fn take_turns<P: Port, C: Clock, W: Write>(
+    port: &mut P,
+    clock: &mut C,
+    node: &mut Node<SLOTS>,
+    arguments: &NodeArguments,
+    turns: u64,
+    writer: &mut W,
+) -> Result<(), Failure>
+    requires few { P.failures port.old < 2 ^ 62 }
+    ensures { OnOk result (TakesTurns P.does C.tells arguments.now.server arguments.now.want turns
+        port.old clock.old node.old (W.contents writer.old) port.new clock.new node.new (W.contents writer.new)) }
+{
+    for _ in 0..turns {
+        let seen = node_turn(port, clock, node, arguments.server, &arguments.want)?;
+        tell(seen, writer).map_err(|_| Failure::Output)?;
     }
-    let line = last_line(&node, clock.last(), &arguments.want);
-    writer.write_all(line.as_bytes())?;
-    writer.flush()?;
     Ok(())
 }
 
 /// Prints an event, if it is one, at once.
-fn tell<W: Write>(alloc: Global, seen: Seen, writer: &mut W) -> Result<(), Failure> {
-    let line = match seen {
+fn tell<W: Write>(seen: Seen, writer: &mut W) -> io::Result<()>
+    ensures { OnOk result (Appends (W.contents writer.old) (W.contents writer.new) (seen_text seen)) }
+{
+    match seen {
         Seen::Nothing => return Ok(()),
-        Seen::Granted(seconds) => format!(in alloc; "granted {seconds}\n")?,
-        Seen::Renewed(seconds) => format!(in alloc; "renewed {seconds}\n")?,
-        Seen::Refused(rcode) => format!(in alloc; "refused {rcode}\n")?,
-        Seen::Lost => format!(in alloc; "lost\n")?,
-    };
-    writer.write_all(line.as_bytes())?;
-    writer.flush()?;
-    Ok(())
+        Seen::Granted(seconds) => writeln!(writer, "granted {seconds}")?,
+        Seen::Renewed(seconds) => writeln!(writer, "renewed {seconds}")?,
+        Seen::Refused(rcode) => writeln!(writer, "refused {rcode}")?,
+        Seen::Lost => writeln!(writer, "lost")?,
+    }
+    writer.flush()
 }
 
-/// Whether the name is held at a moment, as a line.
-fn last_line(node: &Node<SLOTS>, now: Moment, want: &Want) -> &'static str {
+/// Prints whether the name is held at a moment, at once.
+fn tell_end<W: Write>(
+    node: &Node<SLOTS>,
+    now: Moment,
+    want: &Want,
+    writer: &mut W,
+) -> io::Result<()>
+    ensures { OnOk result (Appends (W.contents writer.old) (W.contents writer.new)
+        (held_text (holds node.now want.now.name now))) }
+{
     match node.holds(now, &want.name) {
-        Some(_) => "held\n",
-        None => "not held\n",
+        Some(_) => writeln!(writer, "held")?,
+        None => writeln!(writer, "not held")?,
     }
+    writer.flush()
 }

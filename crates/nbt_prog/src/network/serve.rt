@@ -1,16 +1,19 @@
 //! `serve`: a name server over UDP and the machine's clock.
 
-ghost use Rattle.std.specs.Prelude.{◌≡◌, ◌<◌, ◌^◌};
+ghost use Rattle.std.specs.Prelude.{◌≡◌, ◌<◌, ◌^◌, OnOk, IfSome};
+ghost use Rattle.std.specs.Io.KnownBytes.{Appends};
+ghost use Rattle.nbt_prog.specs.Inner.Serve.{Serves, counts_text};
 
 use crate::failure::Failure;
-use nbt_engine::{Clock, MachineClock, Port, UdpPort, serve_turns};
+use crate::network::clock::readable_clock;
+use nbt_engine::{Clock, Counts, Port, UdpPort, serve_turns};
 use nbt_lease::Config;
 use nbt_name::Addr;
 use nbt_server::Server;
 use std::alloc::Global;
 use std::io::Write;
 use std::net::{Ipv4Addr, Net, SocketAddrV4};
-use std::time;
+use std::{io, time};
 
 /// The arguments of `serve`.
 #[derive(Clone, Copy, Debug, PartialEq, Eq)]
@@ -29,13 +32,8 @@ pub fn run<M: Net + time::Clock, W: Write>(
     writer: &mut W,
 ) -> Result<(), Failure> {
     let mut port = UdpPort::bind(machine, arguments.bind)?;
-    serve(
-        alloc,
-        &mut port,
-        &mut MachineClock::new(machine),
-        arguments,
-        writer,
-    )
+    let mut clock = readable_clock(machine)?;
+    serve(alloc, &mut port, &mut clock, arguments, writer)
 }
 
 /// Serves over a port and a clock, and prints what was done; with no end, that it has begun.
@@ -47,28 +45,42 @@ pub fn serve<P: Port, C: Clock, W: Write>(
     writer: &mut W,
 ) -> Result<(), Failure>
     requires few { P.failures port.old < 2 ^ 62 }
+    ensures { OnOk result (IfSome arguments.now.turns (λ turns. Serves P.does C.tells arguments.now.config turns
+        port.old clock.old (W.contents writer.old) port.new clock.new (W.contents writer.new))) }
 {
-    let mut server = Server::start(alloc, arguments.config, clock.now());
-    let Some(turns) = arguments.turns else {
-        let line = first_line(alloc, arguments)?;
-        writer.write_all(line.as_bytes())?;
-        writer.flush()?;
-        serve_turns(port, clock, &mut server, u64::MAX)?;
-        return Ok(());
-    };
-    let counts = serve_turns(port, clock, &mut server, turns)?;
-    let line = format!(in alloc;
-        "turns {} replies {} lost {}\n",
-        counts.receives, counts.replies, counts.lost
-    )?;
-    writer.write_all(line.as_bytes())?;
-    writer.flush()?;
-    Ok(())
+    let start = clock.now();
+    let mut server = Server::start(alloc, arguments.config, start);
+    match arguments.turns {
+        Some(turns) => {
+            let counts = serve_turns(port, clock, &mut server, turns)?;
+            print_counts(counts, writer).map_err(|_| Failure::Output)?;
+            Ok(())
+        }
+        None => {
+            print_begin(arguments, writer).map_err(|_| Failure::Output)?;
+            serve_turns(port, clock, &mut server, u64::MAX)?;
+            Ok(())
+        }
+    }
 }
 
-/// The line that says where the server is, and for how long it will be silent.
-fn first_line(alloc: Global, arguments: &ServeArguments) -> Result<String, Failure> {
+/// Prints what was done, at once.
+fn print_counts<W: Write>(counts: Counts, writer: &mut W) -> io::Result<()>
+    ensures { OnOk result (Appends (W.contents writer.old) (W.contents writer.new) (counts_text counts)) }
+{
+    let Counts {
+        receives,
+        replies,
+        lost,
+    } = counts;
+    writeln!(writer, "turns {receives} replies {replies} lost {lost}")?;
+    writer.flush()
+}
+
+/// Prints where the server is, and for how long it will be silent, at once.
+fn print_begin<W: Write>(arguments: &ServeArguments, writer: &mut W) -> io::Result<()> {
     let bind = SocketAddrV4::new(Ipv4Addr::from_bits(arguments.bind.ip), arguments.bind.port);
     let seconds = arguments.config.longest();
-    Ok(format!(in alloc; "serving {bind}, silent for {seconds} s\n")?)
+    writeln!(writer, "serving {bind}, silent for {seconds} s")?;
+    writer.flush()
 }
