@@ -2,6 +2,7 @@
 
 use crate::command;
 use arrayvec::ArrayVec;
+use nbt_name::Addr;
 use std::io;
 use std::io::{Read, Write};
 use std::process::Abort;
@@ -12,8 +13,10 @@ mod datagrams;
 mod looping;
 mod messages;
 mod network;
+mod node;
 mod release;
 mod replies;
+mod serve;
 mod show;
 mod sim;
 
@@ -119,6 +122,18 @@ fn expect_or_memory<R: Abort + AllocGlobal>(rt: &R, words: &[&str], status: u8) 
         );
     }
 }
+
+/// Where the server is.
+const SERVER: Addr = Addr {
+    ip: 0x7F000001,
+    port: 137,
+};
+
+/// Where the node is.
+const NODE: Addr = Addr {
+    ip: 0x7F000002,
+    port: 137,
+};
 
 /// FRED on the wire (RFC 1001 section 14.1).
 const FRED: &str = "20454746434546454543414341434143414341434143414341434143414341434100";

@@ -2,49 +2,10 @@
 
 use super::{Paper, status_of};
 use crate::command_on;
-use crate::network::node::{NodeArguments, turn};
-use nbt_engine::{Datagram, MachineClock, MemoryPort, Want};
-use nbt_lease::Config;
-use nbt_name::{Addr, Kind, Name};
-use std::cell::Cell;
-use std::collections::VecDeque;
 use std::io;
 use std::net::Net;
 use std::process::Abort;
-use std::test::Fail;
-use std::time::{Clock, Duration};
-
-const SERVER: Addr = Addr {
-    ip: 0x7F000001,
-    port: 137,
-};
-
-const NODE: Addr = Addr {
-    ip: 0x7F000002,
-    port: 137,
-};
-
-/// The positive reply to a registration or refresh of FRED by 127.0.0.2, behind its id.
-const GRANTED: &[u8] =
-    b"\xAD\x80\x00\x00\x00\x01\x00\x00\x00\x00 EGFCEFEECACACACACACACACACACACACA\x00\x00\x20\x00\x01\x00\x00\x00\x3C\x00\x06\x20\x00\x7F\x00\x00\x02";
-
-/// A machine whose clock goes on by a second at each reading.
-#[derive(Drop)]
-struct Ticking {
-    seconds: Cell<u64>,
-}
-
-impl Clock for Ticking {
-    fn monotonic(&self) -> io::Result<Duration> {
-        self.since_1970()
-    }
-
-    fn since_1970(&self) -> io::Result<Duration> {
-        let seconds = self.seconds.get();
-        self.seconds.set(seconds.saturating_add(1));
-        Ok(Duration::from_secs(seconds % 1_000_000))
-    }
-}
+use std::time::Clock;
 
 fn expect<R: Abort + AllocGlobal + Net + Clock>(rt: &R, words: &[&str], status: u8, text: &[u8]) {
     let mut paper = Paper::new();
@@ -174,55 +135,36 @@ fn names_and_addresses_that_cannot_be_read(rt: HostRuntime) {
     }
 }
 
-/// The reply with an id.
-fn granted(rt: &HostRuntime, id: u8) -> Result<Option<Datagram>, Fail> {
-    let mut octets = Vec::from_slice(rt.alloc(), &[0, id])?;
-    octets.extend_from_slice(GRANTED)?;
-    Ok(Some(Datagram {
-        addr: SERVER,
-        octets,
-    }))
+#[test]
+fn a_writer_that_failed_is_told_nothing_more(rt: HostRuntime) {
+    let serve = ["nbt", "serve", "127.42.22.1:20138", "1000", "60", "1"];
+    let node = [
+        "nbt",
+        "node",
+        "127.42.22.2:20138",
+        "127.42.22.1:20138",
+        "1000",
+        "60",
+        "FRED",
+        "unique",
+        "60",
+        "1",
+    ];
+    expect_no_more(&rt, &serve, b"turns 1 replies 0 lost 0\n");
+    expect_no_more(&rt, &node, b"not held\n");
 }
 
-#[test]
-fn a_node_tells_what_it_is_granted(rt: HostRuntime) -> Result<(), Fail> {
-    let mut incoming = VecDeque::new(rt.alloc());
-    // It is quiet for two seconds, and each turn reads the clock twice: it asks in its second turn, and refreshes after
-    // half a minute, in its 17th.
-    for receive in 1..=17 {
-        incoming.push_back(match receive {
-            2 => granted(&rt, 1)?,
-            17 => granted(&rt, 2)?,
-            _ => None,
-        })?;
-    }
-    let mut port = MemoryPort::new(rt.alloc(), incoming);
-    let machine = Ticking {
-        seconds: Cell::new(0),
+/// A flush that fails, and a write, end the command, and what was written before stays.
+fn expect_no_more<R: Abort + AllocGlobal + Net + Clock>(rt: &R, words: &[&str], text: &[u8]) {
+    let mut paper = Paper {
+        flushes: false,
+        ..Paper::new()
     };
-    let arguments = NodeArguments {
-        bind: NODE,
-        server: SERVER,
-        config: Config::new(1000, 60, 4096)?,
-        want: Want {
-            name: Name::new(b"FRED            ", b"")?,
-            kind: Kind::Unique,
-            ttl: 60,
-        },
-        turns: Some(18),
-    };
-    let mut paper = Paper::new();
-    turn(
-        rt.alloc(),
-        &mut port,
-        &mut MachineClock::new(&machine),
-        &arguments,
-        &mut paper,
-    )?;
-    assert_eq!(&rt;
-        paper.text.as_slice(),
-        b"granted 60\nrenewed 60\nheld\n".as_slice()
-    );
-    assert_eq!(&rt; port.sent().len(), 2);
-    Ok(())
+    let status = command_on(rt, rt.alloc(), words, &mut io::empty(), &mut paper);
+    assert_eq!(rt; status, 3, "{words:?}");
+    assert_eq!(rt; paper.text.as_slice(), text, "{words:?}");
+    let mut paper = Paper::short(3);
+    let status = command_on(rt, rt.alloc(), words, &mut io::empty(), &mut paper);
+    assert_eq!(rt; status, 3, "{words:?}");
+    assert_eq!(rt; paper.text.as_slice(), &text[..3], "{words:?}");
 }
