@@ -23,16 +23,17 @@ Exit status:
   0  done
   1  BIND can't be read; prints `unreadable`
   2  wrong usage
-  3  the port can't be had, or a socket or the output failed; prints `device` where it can
+  3  the port or the clock can't be had, or a socket or the output failed; prints `device`, unless it was the output
   4  an allocation was refused; prints `memory`";
 
 const NODE_ABOUT: &str = "Runs an end node that asks a name server for a name, and holds it";
 
 const NODE_HELP: &str = "\
 Runs an end node, over this machine's clock. It asks SERVER for NAME as soon as it may, once twice LIFE has passed
-since it started, refreshes what it holds, and replies to status requests. A turn is one receive, which waits 100 ms at
-most. Prints `granted G`, `renewed G`, `refused R` or `lost` as it happens, G being seconds and R the RCODE in decimal,
-and after the last turn `held` or `not held`. With --forever it goes on until a signal ends it.
+since it started, refreshes what it holds, and replies to status requests. NAME is registered under the address of BIND,
+so 0.0.0.0 won't do. A turn is one receive, which waits 100 ms at most. Prints `granted G`, `renewed G`, `refused R` or
+`lost` as it happens, G being seconds and R the RCODE in decimal, and after the last turn `held` or `not held`. With
+--forever it goes on until a signal ends it.
 
 Example:
   nbt node 127.0.0.2:10137 127.0.0.1:10137 1000 60 FRED unique 60 --forever
@@ -41,7 +42,7 @@ Exit status:
   0  done
   1  BIND, SERVER or NAME can't be read, or NAME begins with *; prints `unreadable`
   2  wrong usage
-  3  the port can't be had, or a socket or the output failed; prints `device` where it can
+  3  the port or the clock can't be had, or a socket or the output failed; prints `device`, unless it was the output
   4  an allocation was refused; prints `memory`";
 
 const LOOP_ABOUT: &str =
@@ -164,7 +165,7 @@ pub fn loop_command<'a>(alloc: Global) -> Result<Command<'a>, AllocError> {
 
 fn bind<'a>(alloc: Global) -> Arg<'a> {
     Arg::new(alloc, BIND).value_name("BIND").required(true).help(
-        "The own address and port, as A.B.C.D:PORT in decimal with no leading zeros",
+        "The own address and port, as A.B.C.D:PORT in decimal with no leading zeros; port 0 is chosen by the system, and not printed",
     )
 }
 
