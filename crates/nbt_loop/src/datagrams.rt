@@ -69,8 +69,8 @@ fn receive_data<P: Port + Drop>(
     Ok(Outcome::Nothing)
 }
 
-/// Accepts one datagram, and returns how many octets are handed up, where its data are whole. Where its destination name
-/// isn't held, the error packet is sent (RFC 1002 sections 4.4.3 and 5.3.3).
+/// Accepts one datagram, and returns how many octets are handed up, where its data are whole. Where its destination
+/// name isn't held, the error packet is sent (RFC 1002 sections 4.4.3 and 5.3.3).
 fn accept_one<P: Port + Drop>(
     end: &mut EndNode<P>,
     server: &mut NameServer<P>,

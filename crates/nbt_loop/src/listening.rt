@@ -55,8 +55,8 @@ impl<R: Net> Desk<R> {
         self.addr
     }
 
-    /// Takes the connection that `peer` made (RFC 1002 section 5.2.1). An earlier one is lost to the listener, which has
-    /// one slot.
+    /// Takes the connection that `peer` made (RFC 1002 section 5.2.1). An earlier one is lost to the listener, which
+    /// has one slot.
     pub fn take_connection(
         &mut self,
         now: Moment,
@@ -97,7 +97,8 @@ impl<R: Net> Desk<R> {
         self.happens(now, node, event)
     }
 
-    /// Does what the listener says of an event (RFC 1002 section 5.2.1). A packet that can't be sent loses the connection.
+    /// Does what the listener says of an event (RFC 1002 section 5.2.1). A packet that can't be sent loses the
+    /// connection.
     fn happens(
         &mut self,
         now: Moment,

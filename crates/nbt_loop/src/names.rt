@@ -12,8 +12,8 @@ use nbt_node::Event;
 /// The seconds that a name is asked for.
 const TTL: u32 = 60;
 
-/// How many turns the server has for one request. One is enough, but where another program of this machine sends something
-/// to the server or to the node, or a receive ends early.
+/// How many turns the server has for one request. One is enough, but where another program of this machine sends
+/// something to the server or to the node, or a receive ends early.
 const TURNS: u32 = 8;
 
 /// The end node asks for the name. Returns what the server's reply was to it.

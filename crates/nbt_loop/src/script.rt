@@ -40,11 +40,11 @@ const ROWS: usize = 4096;
 const HELLO: &[u8] = b"hello";
 
 /// Lets a name server and two end nodes talk over the sockets of this machine: UDP for names and datagrams, TCP for
-/// sessions. Each step's line goes to `writer` as soon as it is done. All sockets are bound before the first line, and
-/// closed at the end. What another program sends to them is passed over, up to a few datagrams or connections a step.
-/// Refused: `Device` where a socket can't be bound, or one of UDP or one that listens fails;
-/// `Output` where `writer` fails; `Memory` where memory is refused. A TCP connection that fails is lost, as the end that
-/// calls sees it.
+/// sessions. Each step's line goes to `writer` as soon as it is done. All sockets are bound before the first line,
+/// and closed at the end. What another program sends to a node is passed over, up to a few datagrams or connections a
+/// step. Refused: `Device` where a socket can't be bound, or one of UDP or one that listens fails; `Output` where
+/// `writer` fails; `Memory` where memory is refused. A TCP connection that fails is lost, as the end that calls sees
+/// it.
 pub fn run<R: Net, W: Write>(
     rt: &R,
     alloc: Global,

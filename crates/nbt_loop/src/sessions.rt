@@ -125,7 +125,8 @@ impl<R: Net> Session<R> {
         }
     }
 
-    /// Sends the request, lets the end that listens take it, and waits for its response (RFC 1002 sections 4.3.2 to 4.3.5).
+    /// Sends the request, lets the end that listens take it, and waits for its response (RFC 1002 sections 4.3.2 to
+    /// 4.3.5).
     fn request(
         &mut self,
         now: Moment,

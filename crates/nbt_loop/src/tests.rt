@@ -59,8 +59,8 @@ enum Luck {
     Well,
 }
 
-/// This machine's network with strangers on it, who send to each socket as soon as it is bound. The next connection has its
-/// luck, and all others are well.
+/// This machine's network with strangers on it, who send to each socket as soon as it is bound. The next connection
+/// has its luck, and all others are well.
 #[derive(Drop)]
 struct Street<'a, N> {
     machine: &'a N,
