@@ -2,8 +2,6 @@
 pub mod Answer
 pub mod Arguments
 pub mod Failure
-pub mod Node
 pub mod Outcome
 pub mod Printed
-pub mod Serve
 pub mod Show

@@ -3,7 +3,6 @@
 ghost use Rattle.std.specs.Prelude.{◌≡◌, ◌≤◌};
 
 use hex::FromHexError;
-use nbt_engine::Device;
 use std::alloc::{AllocError, AllocFailed};
 use std::io;
 use thiserror::Error;
@@ -118,12 +117,29 @@ impl From<io::Error> for Failure {
     }
 }
 
-impl From<Device> for Failure {
-    ghost use Rattle.nbt_prog.specs.declared.failure.Failure.TheVariants.{Device as DeviceFailed};
+impl From<nbt_net::Fault> for Failure {
+    ghost use Rattle.nbt_prog.specs.Inner.Failure.{failure_of_net};
 
-    ghost from_gives = { λ _ failure. failure ≡ DeviceFailed };
+    ghost from_gives = { λ fault failure. failure ≡ failure_of_net fault };
 
-    fn from(_error: Device) -> Failure {
-        Failure::Device
+    fn from(fault: nbt_net::Fault) -> Failure {
+        match fault {
+            nbt_net::Fault::Device => Failure::Device,
+            nbt_net::Fault::Output => Failure::Output,
+        }
+    }
+}
+
+impl From<nbt_loop::Fault> for Failure {
+    ghost use Rattle.nbt_prog.specs.Inner.Failure.{failure_of_loop};
+
+    ghost from_gives = { λ fault failure. failure ≡ failure_of_loop fault };
+
+    fn from(fault: nbt_loop::Fault) -> Failure {
+        match fault {
+            nbt_loop::Fault::Device => Failure::Device,
+            nbt_loop::Fault::Output => Failure::Output,
+            nbt_loop::Fault::Memory => Failure::Memory,
+        }
     }
 }

@@ -17,8 +17,6 @@ mod failure;
 mod input;
 mod network;
 mod printed;
-#[cfg(test)]
-mod tests;
 mod usage;
 
 use arguments::Request;
@@ -68,16 +66,16 @@ pub fn command_on<M: Net + time::Clock, S: AsStr, R: Read, W: Write>(
 {
     match arguments::parse_words(alloc, words) {
         Ok(Request::Serve(arguments)) => {
-            let outcome = network::serve::run(machine, alloc, &arguments, writer);
-            conclude_written(outcome, writer)
+            let outcome = nbt_net::run_server(machine, alloc, &arguments, writer);
+            conclude_written(outcome.map_err(Failure::from), writer)
         }
         Ok(Request::Node(arguments)) => {
-            let outcome = network::node::run(machine, &arguments, writer);
-            conclude_written(outcome, writer)
+            let outcome = nbt_net::run_node(machine, &arguments, writer);
+            conclude_written(outcome.map_err(Failure::from), writer)
         }
         Ok(Request::Loop(ports)) => {
-            let outcome = network::looping::run(machine, alloc, ports, writer);
-            conclude_written(outcome, writer)
+            let outcome = nbt_loop::run(machine, alloc, ports, writer);
+            conclude_written(outcome.map_err(Failure::from), writer)
         }
         Ok(request) => conclude(run_request(alloc, request, reader), writer),
         Err(failure) => conclude(Err(failure), writer),

@@ -10,6 +10,10 @@ use Rattle.clap.specs.declared.error.kind.ErrorKind.{ErrorKind as UsageKind}
 use Rattle.clap.specs.declared.error.kind.ErrorKind.TheVariants as usage_kind
 use Rattle.hex.specs.declared.error.FromHexError.{FromHexError}
 use Rattle.hex.specs.declared.error.FromHexError.TheVariants as hex_error
+use Rattle.nbt_net.specs.declared.fault.Fault.{Fault as NetFault}
+use Rattle.nbt_net.specs.declared.fault.Fault.TheVariants as net
+use Rattle.nbt_loop.specs.declared.fault.Fault.{Fault as LoopFault}
+use Rattle.nbt_loop.specs.declared.fault.Fault.TheVariants as loop
 use Rattle.nbt_prog.specs.declared.failure.Failure.{Failure}
 use Rattle.nbt_prog.specs.declared.failure.Failure.TheVariants.{Usage, Unreadable, Device, Output, Memory}
 
@@ -47,6 +51,17 @@ failure_of_io_kind _ = Device
 -- a device that failed, unless an allocation was refused
 abbrev pub failure_of_io : IoError → Failure
 failure_of_io e = failure_of_io_kind (error_kind e)
+
+-- a server or a node that ended early
+abbrev pub failure_of_net : NetFault → Failure
+failure_of_net net.Device = Device
+failure_of_net net.Output = Output
+
+-- the ends of `loop`
+abbrev pub failure_of_loop : LoopFault → Failure
+failure_of_loop loop.Device = Device
+failure_of_loop loop.Output = Output
+failure_of_loop loop.Memory = Memory
 
 -- a word on a line of its own
 abbrev pub one_line : List ℕ → List ℕ

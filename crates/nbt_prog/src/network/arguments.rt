@@ -7,8 +7,6 @@ ghost use Rattle.nbt_prog.specs.declared.failure.Failure.TheVariants.{Memory};
 
 use crate::arguments::argument;
 use crate::failure::Failure;
-use crate::network::node::NodeArguments;
-use crate::network::serve::ServeArguments;
 use crate::network::usage;
 use crate::network::usage::{Limited, Which};
 use clap::ArgMatches;
@@ -16,6 +14,7 @@ use nbt_engine::Want;
 use nbt_lease::Config;
 use nbt_loop::Ports;
 use nbt_name::{Kind, Name};
+use nbt_net::{NodeArguments, ServeArguments};
 use nbt_text::{parse_address, parse_name, parse_number};
 use std::alloc::Global;
 

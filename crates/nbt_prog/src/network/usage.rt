@@ -165,7 +165,7 @@ pub fn loop_command<'a>(alloc: Global) -> Result<Command<'a>, AllocError> {
 
 fn bind<'a>(alloc: Global) -> Arg<'a> {
     Arg::new(alloc, BIND).value_name("BIND").required(true).help(
-        "The own address and port, as A.B.C.D:PORT in decimal with no leading zeros; port 0 is chosen by the system, and not printed",
+        "The own address and port, as A.B.C.D:PORT in decimal with no leading zeros; for port 0 the system chooses one, which is not printed",
     )
 }
 

@@ -1,0 +1,15 @@
+use Rattle.nbt_net.proofs.Printing.{ok_before}
+use Rattle.nbt_net.proofs.serve.serve.Goals as goal
+
+pub returns-in-Some : goal.returns-in-Some
+returns-in-Some g c = rw c.in-Some.is (record {
+  start = c.now-start.result;
+  started_clock = c.now-start.new.self;
+  first = c.start-server.result;
+  last = c.serve_turns.new.server;
+  counts = c.in_ok-counts-in-Some.counts;
+  clock_told = c.now-start.ensures;
+  is_new = record { start = c.start-server.ensures.start.0; last = c.start-server.ensures.start.1; config_is = c.start-server.ensures.config; empty = c.start-server.ensures.empty };
+  runs = c.in_ok-counts-in-Some.ensures.ok;
+  printed = ok_before c.print_counts.result c.map_err.result c.map_err.ensures.variant _ c.in_ok-map_err-in-Some.was c.print_counts.ensures;
+})

@@ -1,0 +1,35 @@
+-- What `serve` does and prints (our profile).
+use Rattle.std.specs.Prelude.{◌≡◌, ℕ, List, [], ◌++◌, Option, codes}
+use Rattle.std.specs.Fmt.{decimal}
+use Rattle.std.specs.Io.KnownBytes.{Appends}
+use Rattle.nbt_lease.specs.Config.{ConfigValue}
+use Rattle.nbt_server.specs.Serving.{ServerValue}
+use Rattle.nbt_engine.specs.Acts.{Act}
+use Rattle.nbt_engine.specs.Serving.{Runs}
+use Rattle.nbt_engine.specs.declared.serving.Counts.{Counts}
+use Rattle.nbt_net.specs.Line.{one_line}
+
+-- the line of the counts; each turn is one receive
+abbrev pub counts_text : Counts → List ℕ
+counts_text counts = one_line (codes "turns " ++ decimal counts.receives ++ codes " replies " ++ decimal counts.replies ++ codes " lost " ++ decimal counts.lost)
+
+-- a server that starts at a moment: it has no lease
+pub record IsNew (config : ConfigValue) (now : ℕ) (server : ServerValue) : Type 0 where
+  pub start : server.start ≡ now
+  pub last : server.last ≡ now
+  pub config_is : server.table.config ≡ config
+  pub empty : server.table.rows ≡ []
+
+-- A clock is read, a server starts at that moment, the three go through so many turns from there, and then the text grows
+-- by the line of the counts.
+pub record Serves {P C : Type 0} (does : P → Act → P → Type 0) (tells : C → ℕ → C → Type 0) (config : ConfigValue) (turns : ℕ)
+    (old_port : P) (old_clock : C) (old_text : Option (List ℕ)) (port : P) (clock : C) (text : Option (List ℕ)) : Type 0 where
+  pub start : ℕ
+  pub started_clock : C
+  pub first : ServerValue
+  pub last : ServerValue
+  pub counts : Counts
+  pub clock_told : tells old_clock start started_clock
+  pub is_new : IsNew config start first
+  pub runs : Runs does tells turns counts old_port started_clock first port clock last
+  pub printed : Appends old_text text (counts_text counts)

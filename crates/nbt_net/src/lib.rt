@@ -1,0 +1,15 @@
+//! A name server and an end node over this machine's sockets and its clock, and the lines that they print (RFC 1002
+//! sections 5.1.2 and 5.1.4).
+#![tactic(auto)]
+
+mod clock;
+mod fault;
+mod node;
+mod serve;
+
+pub use fault::Fault;
+pub use node::{NodeArguments, run_node};
+pub use serve::{ServeArguments, run_server};
+
+#[cfg(test)]
+mod tests;

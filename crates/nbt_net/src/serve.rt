@@ -1,0 +1,90 @@
+//! A name server over UDP and the machine's clock.
+
+ghost use Rattle.std.specs.Prelude.{◌≡◌, ◌<◌, ◌^◌, OnOk, IfSome};
+ghost use Rattle.std.specs.Io.KnownBytes.{Appends};
+ghost use Rattle.nbt_net.specs.Serve.{Serves, counts_text};
+
+use crate::clock::readable_clock;
+use crate::fault::Fault;
+use nbt_engine::{Clock, Counts, Port, UdpPort, serve_turns};
+use nbt_lease::Config;
+use nbt_name::Addr;
+use nbt_server::Server;
+use std::alloc::Global;
+use std::io::Write;
+use std::net::{Ipv4Addr, Net, SocketAddrV4};
+use std::{io, time};
+
+/// What a server is to do.
+#[derive(Clone, Copy, Debug, PartialEq, Eq)]
+pub struct ServeArguments {
+    /// Its own address and port.
+    pub bind: Addr,
+    /// The limits.
+    pub config: Config,
+    /// How many turns; `None` where there is no end.
+    pub turns: Option<u64>,
+}
+
+/// Runs a name server on a UDP port of this machine, over its clock. Where there is no end, it first prints a line that
+/// says that it has begun; else it prints what was done, after the last turn. Refused: `Device` where the port can't be had,
+/// the clock can't be read at first, or a socket fails; `Output` where `writer` fails.
+pub fn run_server<M: Net + time::Clock, W: Write>(
+    machine: &M,
+    alloc: Global,
+    arguments: &ServeArguments,
+    writer: &mut W,
+) -> Result<(), Fault> {
+    let mut port = UdpPort::bind(machine, arguments.bind).map_err(|_| Fault::Device)?;
+    let mut clock = readable_clock(machine)?;
+    serve(alloc, &mut port, &mut clock, arguments, writer)
+}
+
+/// Serves over a port and a clock, and prints what was done; with no end, that it has begun.
+pub fn serve<P: Port, C: Clock, W: Write>(
+    alloc: Global,
+    port: &mut P,
+    clock: &mut C,
+    arguments: &ServeArguments,
+    writer: &mut W,
+) -> Result<(), Fault>
+    requires few { P.failures port.old < 2 ^ 62 }
+    ensures { OnOk result (IfSome arguments.now.turns (λ turns. Serves P.does C.tells arguments.now.config turns
+        port.old clock.old (W.contents writer.old) port.new clock.new (W.contents writer.new))) }
+{
+    let start = clock.now();
+    let mut server = Server::start(alloc, arguments.config, start);
+    match arguments.turns {
+        Some(turns) => {
+            let counts = serve_turns(port, clock, &mut server, turns)?;
+            print_counts(counts, writer).map_err(|_| Fault::Output)?;
+            Ok(())
+        }
+        None => {
+            print_begin(arguments, writer).map_err(|_| Fault::Output)?;
+            serve_turns(port, clock, &mut server, u64::MAX)?;
+            Ok(())
+        }
+    }
+}
+
+/// Prints what was done, at once.
+fn print_counts<W: Write>(counts: Counts, writer: &mut W) -> io::Result<()>
+    ensures { OnOk result (Appends (W.contents writer.old) (W.contents writer.new) (counts_text counts)) }
+{
+    let Counts {
+        receives,
+        replies,
+        lost,
+    } = counts;
+    writeln!(writer, "turns {receives} replies {replies} lost {lost}")?;
+    writer.flush()
+}
+
+/// Prints where the server is, and for how long it will be silent, at once.
+fn print_begin<W: Write>(arguments: &ServeArguments, writer: &mut W) -> io::Result<()> {
+    let bind = SocketAddrV4::new(Ipv4Addr::from_bits(arguments.bind.ip), arguments.bind.port);
+    let seconds = arguments.config.longest();
+    writeln!(writer, "serving {bind}, silent for {seconds} s")?;
+    writer.flush()
+}
