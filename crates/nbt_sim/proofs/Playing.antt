@@ -4,8 +4,8 @@ use Rattle.std.specs.Prelude.{IfOk, MatchBool}
 use Rattle.std.proofs.lemmas.List.{append-nil}
 use denote.Ref.{Bor}
 use Rattle.nbt_text.specs.Texts.{texts}
-use Rattle.nbt_text.specs.Vector.{IsPassedOver, words}
-use Rattle.nbt_text.specs.Verdicts.{verdict_line}
+use Rattle.nbt_text.specs.Lines.{IsPassedOver, words}
+use Rattle.nbt_text.specs.Lines.{verdict_line}
 use Rattle.nbt_world.specs.World.{WorldValue}
 use Rattle.nbt_world.specs.declared.event.Event.TheVariants as event
 use Rattle.nbt_sim.specs.declared.instruction.Instruction.{Instruction}

@@ -9,7 +9,7 @@ use Rattle.nbt_lease.specs.Config.{ConfigValue, IsConfig, config_of}
 use Rattle.nbt_text.specs.Address.{SpellsAddress}
 use Rattle.nbt_text.specs.NameText.{SpellsName}
 use Rattle.nbt_text.specs.Number.{SpellsNumber}
-use Rattle.nbt_text.specs.Vector.{SpellsOctets}
+use Rattle.nbt_text.specs.Lines.{SpellsOctets}
 use Rattle.nbt_world.specs.declared.event.Event.TheVariants.{Start, Crash, Ask, Release, Resolve, NameStatus, Poll, Deliver, Stranger}
 use Rattle.nbt_sim.specs.declared.instruction.Instruction.{Instruction}
 use Rattle.nbt_sim.specs.declared.instruction.Instruction.TheVariants.{Config, At, Happens, Holders}

@@ -7,7 +7,7 @@ use Rattle.std.proofs.Math.Seq.{take-suc}
 use Rattle.std.proofs.lemmas.List.{append-nil}
 use Rattle.nbt_name.specs.declared.addr.Kind.TheVariants.{Unique}
 use Rattle.nbt_text.specs.NameText.{PrintsName}
-use Rattle.nbt_text.specs.PacketText.{newline}
+use Rattle.nbt_text.specs.Lines.{newline}
 use Rattle.nbt_world.specs.declared.ends.Holder.{Holder}
 use Rattle.nbt_world.specs.World.{WorldValue}
 use Rattle.nbt_world.specs.Step.{Step}

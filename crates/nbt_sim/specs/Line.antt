@@ -8,7 +8,7 @@ use Rattle.nbt_lease.specs.Config.{IsConfig, config_of}
 use Rattle.nbt_text.specs.Address.{SpellsAddress}
 use Rattle.nbt_text.specs.NameText.{SpellsName}
 use Rattle.nbt_text.specs.Number.{SpellsNumber}
-use Rattle.nbt_text.specs.Vector.{SpellsOctets}
+use Rattle.nbt_text.specs.Lines.{SpellsOctets}
 use Rattle.nbt_world.specs.declared.event.Event.TheVariants as event
 use Rattle.nbt_sim.specs.declared.instruction.Instruction.{Instruction}
 use Rattle.nbt_sim.specs.declared.instruction.Instruction.TheVariants as instruction

@@ -10,9 +10,9 @@ use Rattle.nbt_node.specs.declared.fault.AskFault.{AskFault}
 use Rattle.nbt_node.specs.declared.fault.ReleaseFault.{ReleaseFault}
 use Rattle.nbt_node.specs.declared.fault.LookupFault.{LookupFault}
 use Rattle.nbt_text.specs.NameText.{PrintsName}
-use Rattle.nbt_text.specs.PacketText.{newline}
-use Rattle.nbt_text.specs.Vector.{IsPassedOver, words}
-use Rattle.nbt_text.specs.Verdicts.{verdict_line}
+use Rattle.nbt_text.specs.Lines.{newline}
+use Rattle.nbt_text.specs.Lines.{IsPassedOver, words}
+use Rattle.nbt_text.specs.Lines.{verdict_line}
 use Rattle.nbt_world.specs.World.{WorldValue, IsFresh}
 use Rattle.nbt_world.specs.Step.{Step}
 use Rattle.nbt_world.specs.Safety.{holding}

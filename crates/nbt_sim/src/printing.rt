@@ -7,7 +7,7 @@ ghost use Rattle.nbt_node.specs.declared.fault.AskFault.{AskFault};
 ghost use Rattle.nbt_node.specs.declared.fault.ReleaseFault.{ReleaseFault};
 ghost use Rattle.nbt_node.specs.declared.fault.LookupFault.{LookupFault};
 ghost use Rattle.nbt_node.specs.Numbers.{ask_fault_number, release_fault_number, lookup_fault_number};
-ghost use Rattle.nbt_text.specs.PacketText.{newline};
+ghost use Rattle.nbt_text.specs.Lines.{newline};
 ghost use Rattle.nbt_world.specs.World.{WorldValue};
 ghost use Rattle.nbt_world.specs.Step.{Step};
 ghost use Rattle.nbt_sim.specs.Script.{NamesRefusal, PrintsHolders, PrintsOutcome, holder_text, holders_text};

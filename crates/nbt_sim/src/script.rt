@@ -5,7 +5,7 @@ ghost use Rattle.std.specs.String.{string_bytes};
 ghost use Rattle.nbt_world.specs.declared.event.Event.TheVariants as Event;
 ghost use Rattle.nbt_sim.specs.declared.instruction.Instruction.TheVariants as Instruction;
 ghost use Rattle.nbt_text.specs.Texts.{texts};
-ghost use Rattle.nbt_text.specs.Verdicts.{lines};
+ghost use Rattle.nbt_text.specs.Lines.{lines};
 ghost use Rattle.nbt_sim.specs.Script.{Does, Fits, Plays};
 ghost use Rattle.nbt_sim.specs.Inner.Stage.{PlaysLine, world_of};
 

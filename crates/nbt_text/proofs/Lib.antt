@@ -8,15 +8,5 @@ pub mod AddressText
 pub mod NameText
 -- what is printed of a name spells it
 pub mod PrintedNames
--- the reader of packets returns one packet, or one fault
-pub mod Packets
--- the same of datagrams
-pub mod Datagrams
--- what a session's stream makes of octets, and the lines of its packets so far
-pub mod Sessions
 -- texts that are written one behind another
 pub mod Joining
--- the words of a vector, one by one
-pub mod Vectors
--- what stands in a line, and the verdicts on the lines so far
-pub mod LineByLine

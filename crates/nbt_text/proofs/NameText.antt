@@ -12,7 +12,7 @@ use Rattle.nbt_name.specs.Scope.{IsScope}
 use Rattle.nbt_name.specs.declared.fault.NameFault.{NameFault}
 use Rattle.nbt_name.specs.Wire.{NameValue, IsName, AreOctets, name_of, wire}
 use Rattle.nbt_name.specs.Reading.{PlainNameAt}
-use Rattle.nbt_text.specs.Inner.Pieces.{HasNo}
+use Rattle.nbt_text.specs.Lines.{HasNo}
 use Rattle.nbt_text.specs.NameText.{Component, as_it_is, in_digits, Labels, no_label, label, Sixteen, filled_up, in_32_digits, SpellsName, StandsAsItIs, dot, prefix, space}
 
 -- ---- components have no dot

@@ -1,11 +1,5 @@
 pub mod Address
-pub mod DgramText
-pub mod Inner
+pub mod Lines
 pub mod NameText
 pub mod Number
-pub mod PacketText
-pub mod SessionText
 pub mod Texts
-pub mod Vector
-pub mod Verdicts
-pub mod Words

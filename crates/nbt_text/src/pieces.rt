@@ -1,7 +1,7 @@
 //! Octets in pieces: the lines of an input, the components of a name.
 
 ghost use Rattle.std.specs.Prelude.{◌≡◌, ◌∷◌, ◌++◌, MatchOption};
-ghost use Rattle.nbt_text.specs.Inner.Pieces.{HasNo};
+ghost use Rattle.nbt_text.specs.Lines.{HasNo};
 
 /// The octets before the first `mark`, and those behind it, or all of them and nothing where there is no `mark`.
 pub fn split_at_first(mark: u8, octets: &[u8]) -> (&[u8], Option<&[u8]>)

@@ -1,4 +1,4 @@
-//! Texts as they are read and printed. What `show` and `check` print is tested with the commands.
+//! Texts as they are read and printed.
 
 mod names;
 mod packets;

@@ -1,8 +1,8 @@
 -- What `show` prints (our profile).
 use Rattle.std.specs.Prelude.{ℕ, Bool, List}
-use Rattle.nbt_text.specs.DgramText.{PrintsDgram}
-use Rattle.nbt_text.specs.PacketText.{PrintsOctets}
-use Rattle.nbt_text.specs.SessionText.{PrintsSession}
+use Rattle.nbt_show.specs.DgramText.{PrintsDgram}
+use Rattle.nbt_show.specs.PacketText.{PrintsOctets}
+use Rattle.nbt_show.specs.SessionText.{PrintsSession}
 use Rattle.nbt_prog.specs.declared.commands.show.Service.{Service}
 use Rattle.nbt_prog.specs.declared.commands.show.Service.TheVariants.{Name, Dgram, Session}
 

@@ -2,13 +2,13 @@
 
 ghost use Rattle.std.specs.Prelude.{◌≡◌, IfOk, IfErr};
 ghost use Rattle.std.specs.String.{string_bytes};
-ghost use Rattle.nbt_text.specs.Verdicts.{PrintsChecked};
+ghost use Rattle.nbt_show.specs.Verdicts.{PrintsChecked};
 ghost use Rattle.nbt_prog.specs.Inner.Printed.{is_done};
 
 use crate::failure::Failure;
 use crate::input::read_input;
 use crate::printed::{Ending, Printed};
-use nbt_text::write_verdicts;
+use nbt_show::write_verdicts;
 use std::alloc::Global;
 use std::io::Read;
 

@@ -8,7 +8,7 @@ ghost use Rattle.nbt_prog.specs.Inner.Show.{Shows};
 
 use crate::failure::Failure;
 use crate::printed::{Ending, Printed};
-use nbt_text::{write_dgram, write_packet, write_session};
+use nbt_show::{write_dgram, write_packet, write_session};
 use std::alloc::Global;
 
 /// Of which service octets are.

@@ -2,7 +2,7 @@
 
 ghost use Rattle.std.specs.Prelude.{◌≡◌, None, IfOk, IfErr};
 ghost use Rattle.std.specs.String.{string_bytes};
-ghost use Rattle.nbt_text.specs.Verdicts.{lines};
+ghost use Rattle.nbt_text.specs.Lines.{lines};
 ghost use Rattle.nbt_sim.specs.Script.{Plays};
 ghost use Rattle.nbt_prog.specs.Inner.Printed.{is_done};
 

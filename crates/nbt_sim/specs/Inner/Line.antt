@@ -1,6 +1,6 @@
 -- What a line holds, as the code has it.
 use Rattle.std.specs.Prelude.{ℕ, List}
-use Rattle.nbt_text.specs.Vector.{IsPassedOver, words}
+use Rattle.nbt_text.specs.Lines.{IsPassedOver, words}
 use Rattle.nbt_sim.specs.declared.instruction.Instruction.{Instruction}
 use Rattle.nbt_sim.specs.declared.instruction.Line.{Line}
 use Rattle.nbt_sim.specs.declared.instruction.Line.TheVariants as line

@@ -1,7 +1,7 @@
 -- A script's world, as the code has it, and one line of a script.
 use Rattle.std.specs.Prelude.{ℕ, List, [], Option, Bool, true, false}
 use Rattle.std.specs.Option.{option_map}
-use Rattle.nbt_text.specs.Vector.{IsPassedOver, words}
+use Rattle.nbt_text.specs.Lines.{IsPassedOver, words}
 use Rattle.nbt_world.specs.World.{WorldValue}
 use Rattle.nbt_sim.specs.declared.instruction.Instruction.{Instruction}
 use Rattle.nbt_sim.specs.declared.stage.Stage.{Stage}

@@ -2,7 +2,7 @@ use Rattle.std.proofs.Common.{◌≡◌, ◌∙◌, ℕ, List, [], ◌∷◌, Bo
 use Rattle.std.specs.Prelude.{IsTrue, ◌↔◌, slice_get}
 use denote.Ref.{Bor}
 use Rattle.nbt_text.specs.Texts.{texts}
-use Rattle.nbt_text.specs.Vector.{IsPassedOver, words}
+use Rattle.nbt_text.specs.Lines.{IsPassedOver, words}
 use Rattle.nbt_sim.specs.Inner.Line.{passed_over, said, unreadable}
 use Rattle.nbt_sim.proofs.Texts.{no_texts}
 use Rattle.nbt_sim.proofs.instruction.parse_line.Goals as goal

@@ -1,6 +1,6 @@
 use Rattle.std.proofs.Common.{◌∙◌, ◌+◌, ◌++◌, List, ℕ, ap, append_assoc, arith, codes}
 use Rattle.std.proofs.lemmas.List.{append-nil}
-use Rattle.nbt_text.specs.Verdicts.{lines, verdict_line}
+use Rattle.nbt_text.specs.Lines.{lines, verdict_line}
 use Rattle.nbt_sim.proofs.Texts.{lost}
 use Rattle.nbt_sim.proofs.Playing.{lines_from, after_line, stopped, at_the_end, no_lines_left}
 use Rattle.nbt_sim.proofs.script.play.Goals as goal

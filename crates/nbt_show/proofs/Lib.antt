@@ -1,0 +1,12 @@
+-- What several proofs share; the proof of a function is in the folder of its module and its name.
+
+-- the reader of packets returns one packet, or one fault
+pub mod Packets
+-- the same of datagrams
+pub mod Datagrams
+-- what a session's stream makes of octets, and the lines of its packets so far
+pub mod Sessions
+-- the words of a vector, one by one
+pub mod Vectors
+-- what stands in a line, and the verdicts on the lines so far
+pub mod LineByLine

@@ -1,0 +1,52 @@
+//! Verdicts on lines of vectors, as text (our profile).
+
+ghost use Rattle.std.specs.Prelude.{◌≡◌, ℕ, ◌++◌, List, IfOk};
+ghost use Rattle.std.specs.String.{string_bytes};
+ghost use Rattle.nbt_show.specs.Verdicts.{PrintsChecked, PrintsVerdict};
+
+use crate::vector::{Line, parse_line};
+use nbt_text::split_at_first;
+use std::alloc::AllocError;
+
+/// What ends a line.
+const NEWLINE: u8 = b'\n';
+
+/// Appends a verdict on each line of the input that isn't blank, with the line's number, counted from 1 and with the
+/// blank ones among them; last how many passed and how many did not. Returns whether no line failed.
+pub fn write_verdicts(input: &[u8], out: &mut String) -> Result<bool, AllocError>
+    ensures { IfOk result (λ none_failed. (text : List ℕ) × (string_bytes out.new ≡ string_bytes out.old ++ text)
+        × PrintsChecked input.now none_failed text) }
+{
+    let mut number = 0usize;
+    let mut passed = 0usize;
+    let mut failed = 0usize;
+    let mut rest = Some(input);
+    'lines: while let Some(lines) = rest {
+        let (line, others) = split_at_first(NEWLINE, lines);
+        number += 1;
+        match write_verdict(number, line, out)? {
+            Some(true) => passed += 1,
+            Some(false) => failed += 1,
+            None => {}
+        }
+        rest = others;
+    }
+    writeln!(out, "{passed} passed, {failed} failed")?;
+    Ok(failed == 0)
+}
+
+/// Appends the verdict on the line with this number, and returns whether it passes; nothing where it is blank.
+fn write_verdict(number: usize, line: &[u8], out: &mut String) -> Result<Option<bool>, AllocError>
+    ensures { IfOk result (λ verdict. (text : List ℕ) × (string_bytes out.new ≡ string_bytes out.old ++ text)
+        × PrintsVerdict number line.now verdict text) }
+{
+    let said = parse_line(*out.allocator(), line)?;
+    let (passes, word) = match &said {
+        Line::Blank => return Ok(None),
+        Line::Vector(vector) if vector.holds() => (true, "pass"),
+        Line::Vector(_) => (false, "fail"),
+        Line::Unreadable => (false, "unreadable"),
+    };
+    writeln!(out, "line {number}: {word}")?;
+    Ok(Some(passes))
+}

@@ -1,0 +1,34 @@
+-- The lines of an input, and the words of a line (our profile).
+use Rattle.std.specs.Prelude.{◌≡◌, ◌≢◌, ℕ, ◌<◌, ◌==◌, ◌⊎◌, not, List, [], ◌∷◌, ◌++◌, Ok, Some, filter, length, slice_get, slice_index, codes}
+use Rattle.std.specs.Fmt.{decimal}
+use Rattle.std.specs.List.{slice_split}
+use Rattle.hex.specs.Hex.{decode_of}
+
+-- what ends a line
+abbrev pub newline : List ℕ
+newline = 10 ∷ []
+
+-- what stands between line feeds
+abbrev pub lines : List ℕ → List (List ℕ)
+lines input = slice_split (λ octet. octet == 10) input
+
+-- the words of a line, between spaces
+abbrev pub words : List ℕ → List (List ℕ)
+words text = filter (λ word. not (length word == 0)) (slice_split (λ octet. octet == 32) text)
+
+-- spaces alone, or a remark
+abbrev pub IsPassedOver : List ℕ → Type 0
+IsPassedOver text = (slice_get text 0 ≡ Some 35) ⊎ (words text ≡ [])
+
+-- HEX: the octets' digits, or `-` for no octets
+pub data SpellsOctets : List ℕ → List ℕ → Type 0 where
+  no_octets : SpellsOctets (codes "-") []
+  in_digits : (digits octets : List ℕ) → decode_of digits ≡ Ok octets → SpellsOctets digits octets
+
+-- what is printed of a line that has something to be said of it
+abbrev pub verdict_line : ℕ → List ℕ → List ℕ
+verdict_line number word = codes "line " ++ decimal number ++ codes ": " ++ word ++ newline
+
+-- the mark isn't among the octets
+abbrev pub HasNo : ℕ → List ℕ → Type 0
+HasNo mark octets = (k : ℕ) → k < length octets → slice_index octets k ≢ mark
