@@ -13,6 +13,7 @@ use Rattle.nbt_dgram.specs.declared.slot.Key.{Key}
 use Rattle.nbt_dgram.specs.declared.slot.Slot.{Slot}
 use Rattle.nbt_dgram.specs.Dgram.{FragmentValue}
 use Rattle.nbt_dgram.specs.Pieces.{begin_of, end_of, Covers, octet_in, MakesUp}
+use Rattle.nbt_dgram.specs.Carrying.{AreNamed}
 use Rattle.nbt_dgram.specs.Slot.{nothing, fresh, known_at, Agrees, names_with, joined, IsWhole, Since, begun, one_more}
 use Rattle.nbt_dgram.proofs.Marks.{nothing_known, map_at, written-length, written_before, written_inside, written_behind}
 
@@ -201,6 +202,12 @@ is_whole fragments s since whole made =
             get_or-take (length whole) s.octets place None less ∙ held.octet_to f.0 f.1 place f.2 ∙ ap (λ (k : ℕ). Some k) (sym (made.agrees f.0 f.1 place f.2).1) ∙ sym (map_at whole place less));
       },
     )
+
+-- its names are those of each of these fragments
+pub all_named : (fragments : List FragmentValue) (s : Slot) → Since fragments s → (names : Names) (whole : List ℕ) → IsWhole s names whole → AreNamed fragments names
+all_named fragments s since names whole is f own member part =
+    let held : Holds fragments s = holds fragments s since in
+    let same : ◌≡◌ {A = Option Names} (Some own) (Some names) = sym (held.names_to f member own part) ∙ is.names_known in cc
 
 -- ---- such data is unique
 

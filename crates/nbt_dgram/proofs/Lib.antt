@@ -10,4 +10,6 @@ pub mod Holding
 pub mod OnePut
 pub mod OneAccept
 pub mod Fitting
+pub mod SlotKeys
+pub mod Carried
 pub mod History

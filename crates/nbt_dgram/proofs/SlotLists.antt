@@ -83,12 +83,12 @@ get_there [] i d less = absurd (omega arith)
 get_there (x ∷ xs) zero d less = refl
 get_there (x ∷ xs) (suc i) d less = get_there xs i d (omega arith)
 
-got_below : {X : Type 0} (xs : List X) (i : ℕ) (x : X) → slice_get xs i ≡ Some x → i < length xs
+pub got_below : {X : Type 0} (xs : List X) (i : ℕ) (x : X) → slice_get xs i ≡ Some x → i < length xs
 got_below [] i x e = absurd cc
 got_below (y ∷ ys) zero x e = omega arith
 got_below (y ∷ ys) (suc i) x e = omega (arith, got_below ys i x e)
 
-got_is : {X : Type 0} (xs : List X) (i : ℕ) (x d : X) → slice_get xs i ≡ Some x → get_or xs i d ≡ x
+pub got_is : {X : Type 0} (xs : List X) (i : ℕ) (x d : X) → slice_get xs i ≡ Some x → get_or xs i d ≡ x
 got_is [] i x d e = absurd cc
 got_is (y ∷ ys) zero x d e = cc
 got_is (y ∷ ys) (suc i) x d e = got_is ys i x d e

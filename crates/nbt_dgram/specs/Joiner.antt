@@ -13,7 +13,7 @@ use Rattle.nbt_dgram.specs.declared.joined.Payload.{Payload}
 use Rattle.nbt_dgram.specs.declared.joined.Payload.TheVariants as payloads
 use Rattle.nbt_dgram.specs.Dgram.{FragmentValue, fragment, DgramValue}
 use Rattle.nbt_dgram.specs.Pieces.{end_of}
-use Rattle.nbt_dgram.specs.Slot.{fresh, Agrees, joined, IsWhole, Since}
+use Rattle.nbt_dgram.specs.Slot.{fresh, Agrees, joined, IsWhole}
 
 -- What a packet led to.
 pub data JoinedValue : Type 0 where
@@ -99,7 +99,3 @@ pub data Sweeps (old : JoinerValue) (now : ℕ) : ℕ → JoinerValue → Type 0
 abbrev pub HasRoom : Option Slot → Type 0
 HasRoom None = Unit {0}
 HasRoom (Some s) = length s.octets ≡ 512
-
--- each slot that is taken knows what some fragments say, all of which joined it since it began
-abbrev pub AreJoined : List (Option Slot) → Type 0
-AreJoined slots = (place : ℕ) (s : Slot) → slice_get slots place ≡ Some (Some s) → (fragments : List FragmentValue) × Since fragments s

@@ -7,4 +7,5 @@ pub mod Pieces
 pub mod Slot
 pub mod Joiner
 pub mod Joining
+pub mod Carrying
 pub mod Accepting

@@ -1,15 +1,17 @@
 //! What holds of datagrams, whatever the code does: laws over the definitions alone.
 
-ghost use Rattle.std.specs.Prelude.{◌≡◌, ℕ, ◌⊎◌, List, [], ◌∷◌, ◌++◌, length, replicate, None};
+ghost use Rattle.std.specs.Prelude.{◌≡◌, ◌≢◌, ℕ, ◌≤◌, ◌⊎◌, List, [], ◌∷◌, ◌++◌, length, slice_get, Some};
 ghost use Rattle.nbt_name.specs.declared.addr.Addr.{Addr};
 ghost use Rattle.nbt_name.specs.Wire.{AreOctets};
 ghost use Rattle.nbt_node.specs.Node.{NodeValue};
 ghost use Rattle.nbt_dgram.specs.declared.fault.DgramFault.{DgramFault};
 ghost use Rattle.nbt_dgram.specs.declared.dgram.Names.{Names};
+ghost use Rattle.nbt_dgram.specs.declared.slot.Key.{Key};
 ghost use Rattle.nbt_dgram.specs.declared.slot.Slot.{Slot};
 ghost use Rattle.nbt_dgram.specs.Dgram.{FragmentValue, fragment, DgramValue, DgramIs, FaultIs};
 ghost use Rattle.nbt_dgram.specs.Pieces.{MakesUp};
-ghost use Rattle.nbt_dgram.specs.Joiner.{JoinedValue, whole, JoinerValue, Puts, Sweeps, AreJoined};
+ghost use Rattle.nbt_dgram.specs.Joiner.{JoinedValue, JoinerValue, key_of, Puts};
+ghost use Rattle.nbt_dgram.specs.Carrying.{Put, Run, IsAlone, Unfinished, none, since, fragments_in, Leaves, Tells};
 ghost use Rattle.nbt_dgram.specs.Accepting.{AcceptValue, Accepts};
 ghost use Rattle.nbt_dgram.specs.Slot.{IsWhole, Since};
 ghost use Rattle.nbt_dgram.specs.Text.{HoldsNumbers, Fits, text};
@@ -56,17 +58,21 @@ pub fn a_slot_is_whole_where_its_fragments_make_up_data()
         → MakesUp fragments payload → (names : Names) × IsWhole s names payload }
 {}
 
-/// All that a joiner knows, fragments have said that joined since the datagram began; so what is handed up is the
-/// packet's own, or what such fragments make up with it.
-pub fn a_joiner_hands_up_what_fragments_make_up()
-    ensures begins { (count : ℕ) → AreJoined (replicate count None) }
-    ensures put { (old new : JoinerValue) (now : ℕ) (d : DgramValue) (j : JoinedValue) → AreJoined old.slots
-        → Puts old now d j new → AreJoined new.slots }
-    ensures swept { (old new : JoinerValue) (now count : ℕ) → AreJoined old.slots
-        → Sweeps old now count new → AreJoined new.slots }
-    ensures handed_up { (old new : JoinerValue) (now : ℕ) (d : DgramValue) (f : FragmentValue) (names : Names)
-        (payload : List ℕ) → AreJoined old.slots → d.body ≡ fragment f → Puts old now d (whole names payload) new
-        → (fragments : List FragmentValue) × MakesUp (fragments ++ f ∷ []) payload }
+/// A joiner that was given packets one after the other, with sweeps between them, carries of each SOURCE_IP,
+/// SOURCE_PORT and DGM_ID exactly the fragments since their datagram began; and it tells what these and the packet's
+/// own make up: Whole where they make up data, with these and their names, and Waiting where they make up none. The
+/// packet is a fragment, and no earlier than the last packet or sweep.
+pub fn a_joiner_carries_the_fragments_of_each_key()
+    ensures carried { (count : ℕ) (puts : List Put) (j : JoinerValue) (place : ℕ) (s : Slot) → Run count puts j
+        → slice_get j.slots place ≡ Some (Some s)
+        → (fragments : List FragmentValue) × Leaves s.key puts j.last (since s.began fragments) × Since fragments s }
+    ensures nothing { (count : ℕ) (puts : List Put) (j : JoinerValue) (key : Key) → Run count puts j
+        → ((place : ℕ) (s : Slot) → slice_get j.slots place ≡ Some (Some s) → s.key ≢ key)
+        → Leaves key puts j.last none }
+    ensures told { (count : ℕ) (puts : List Put) (now : ℕ) (d : DgramValue) (f : FragmentValue) (outcome : JoinedValue)
+        (old new : JoinerValue) → Run count puts old → old.last ≤ now → d.body ≡ fragment f → ¬ IsAlone f
+        → Puts old now d outcome new
+        → (u : Unfinished) × Leaves (key_of d) puts now u × Tells (fragments_in u ++ f ∷ []) outcome }
 {}
 
 /// A packet does one thing to a joiner: what it leads to, and the joiner afterwards, are determined.
