@@ -5,3 +5,4 @@ pub mod Moving
 pub mod Due
 pub mod Steps
 pub mod OneMove
+pub mod OneCall

@@ -1,11 +1,15 @@
 -- Settling in steps.
-use Rattle.std.proofs.Common.{◌≡◌, ℕ, ◌+◌, ◌*◌, ◌≤◌, Bool, true, false, leb, Option, Some, None, refl, arith, inl, inr, le-leb, lt-ltb, le-ltb, leb-true}
+use Rattle.std.proofs.Common.{◌≡◌, ℕ, ◌+◌, ◌*◌, ◌≤◌, Bool, true, false, leb, List, [], ◌∷◌, map, Option, Some, None, refl, ap, ◌∙◌, arith, inl, inr, le-leb, lt-ltb, le-ltb, leb-true}
 use Rattle.std.specs.Prelude.{◌⊎◌}
 use Rattle.std.proofs.lemmas.Bool.{and_parts, and_from}
 use Rattle.std.proofs.lemmas.Bool.Decides.{leb_tells}
+use Rattle.nbt_name.specs.Wire.{NameValue}
+use Rattle.nbt_node.specs.declared.lookup.Lookup.{Lookup}
+use Rattle.nbt_node.specs.declared.state.Slot.{Slot}
 use Rattle.nbt_node.specs.declared.state.State.{State}
 use Rattle.nbt_node.specs.declared.state.State.TheVariants.{Idle, Asking, Held, Releasing, Resting}
 use Rattle.nbt_node.specs.declared.state.Refresh.{Refresh}
+use Rattle.nbt_node.specs.Node.{NodeValue, slot_of, settled_slot, settled_lookup, settled_node}
 use Rattle.nbt_node.specs.Settling.{is_over, rested, pending_at, settled}
 
 module _ (life a b : ℕ) (later : a ≤ b) where
@@ -46,3 +50,33 @@ module _ (life a b : ℕ) (later : a ≤ b) where
     | inl over ↦ rw (over.0, le-leb until b (omega (arith, over.1))) (settled-rested last)
     | inr held ↦ rw (held.0, pending_at-pending_at pending) refl
   ]
+
+  -- ---- a node
+
+  slot_of_settled : (name : NameValue) (state : State) → settled_slot life b (slot_of name state) ≡ slot_of name (settled life b state)
+  slot_of_settled name Idle = refl
+  slot_of_settled name (Asking kind ttl id first last tries due) = refl
+  slot_of_settled name (Held kind ttl until renew last pending) = refl
+  slot_of_settled name (Releasing kind id last tries due) = refl
+  slot_of_settled name (Resting last) = refl
+
+  slots_steps : (slots : List (Option Slot)) → map (settled_slot life b) (map (settled_slot life a) slots) ≡ map (settled_slot life b) slots
+  slots_steps [] = refl
+  slots_steps (None ∷ rest) = ap (λ (xs : List (Option Slot)). None ∷ xs) (slots_steps rest)
+  slots_steps (Some slot ∷ rest) =
+      let here : settled_slot life b (settled_slot life a (Some slot)) ≡ settled_slot life b (Some slot) = slot_of_settled slot.name (settled life a slot.state) ∙ ap (slot_of slot.name) (settled-settled slot.state) in
+      let behind = slots_steps rest in
+      λ i. here i ∷ behind i
+
+  lookup_steps : (lookup : Option Lookup) → settled_lookup b (settled_lookup a lookup) ≡ settled_lookup b lookup
+  lookup_steps None = refl
+  lookup_steps (Some l) = elim (or_else (is_over a l.tries l.due)) [
+    | inl over ↦ rw (over, over_later l.tries l.due over) refl
+    | inr open_yet ↦ rw open_yet refl
+  ]
+
+pub node_steps : (node : NodeValue) (a b : ℕ) → a ≤ b → settled_node (settled_node node a) b ≡ settled_node node b
+node_steps node a b later =
+    let lookups = lookup_steps node.config.life a b later node.lookup in
+    let all = slots_steps node.config.life a b later node.slots in
+    λ i. record node { last = b; lookup = lookups i; slots = all i }

@@ -5,3 +5,4 @@ pub mod Moves
 pub mod Calls
 pub mod Datagrams
 pub mod Sending
+pub mod OneAnswer

@@ -128,8 +128,8 @@ pub data Move (node : NodeValue) (now : ℕ) (name : NameValue) : State → Name
       → Move node now name (Held kind ttl until renew last (Some p)) (hear (wait p.id n t)) (Held kind ttl until renew last (Some (record p { due = put_off now t }))) None waits node.next_id
   unmoved : (state : State) (message : MessageValue) → matters state message ≡ false → Move node now name state (hear message) state None nothing node.next_id
 
--- One name moves, from its state at the moment; what comes of it is settled once more. Every other name changes by
--- time alone, and nothing else changes but the next id.
+-- One name moves, from its state at the moment; what comes of it is settled once more. Every other name and the lookup
+-- change by time alone. The moment is then the last one; nothing else changes but the next id.
 pub record NameMoves (old : NodeValue) (now : ℕ) (name : NameValue) (event : NameEvent) (new : NodeValue) (sent : Option MessageValue) (told : Told) : Type 0 where
   pub after : State
   pub move : Move old now name (state_at old now name) event after sent told new.next_id

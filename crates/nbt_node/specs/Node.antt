@@ -12,7 +12,7 @@ use Rattle.nbt_node.specs.declared.lookup.Lookup.{Lookup}
 use Rattle.nbt_node.specs.Settling.{is_over, settled}
 
 -- Its own address and its server's, the limits, its start, the moment of the last call that wasn't refused, the id
--- that comes next, the lookup that is open, and the slots: each is free or has a name that isn't Idle.
+-- that comes next, the lookup that is open, and the slots: each is free or has a name and its state.
 pub record NodeValue : Type 0 where
   pub addr : Addr
   pub server : Addr

@@ -1,4 +1,4 @@
-//! What holds of a name's states and moves, whatever the code does: laws over the definitions alone.
+//! What holds of a node's names, moves and calls, whatever the code does: laws over the definitions alone.
 
 ghost use Rattle.std.specs.Prelude.{◌≡◌, ℕ, ◌≤◌, Option};
 ghost use Rattle.nbt_name.specs.Wire.{NameValue};
@@ -7,6 +7,7 @@ ghost use Rattle.nbt_node.specs.declared.state.State.{State};
 ghost use Rattle.nbt_node.specs.Settling.{settled};
 ghost use Rattle.nbt_node.specs.Node.{NodeValue};
 ghost use Rattle.nbt_node.specs.Moves.{NameEvent, Told, Move};
+ghost use Rattle.nbt_node.specs.OneAnswer.{OneSending, OneOpening, OnePoll, OneHandling, SettlesInSteps};
 
 /// Time's own moves end: a state that is settled at a moment stays as it is there.
 pub fn settling_ends()
@@ -18,8 +19,23 @@ pub fn settling_in_steps()
     ensures { (life a b : ℕ) (state : State) → a ≤ b → settled life b (settled life a state) ≡ settled life b state }
 {}
 
+/// The same of a node, its names and its lookup. Where both moments are one, so it ends.
+pub fn a_node_settles_in_steps()
+    ensures { SettlesInSteps }
+{}
+
 /// No two lines of the table of moves are about one event on one state.
 pub fn one_move()
     ensures { (node : NodeValue) (now : ℕ) (name : NameValue) (before : State) (event : NameEvent) (a b : State) (m n : Option MessageValue) (t u : Told) (i j : ℕ)
         → Move node now name before event a m t i → Move node now name before event b n u j → (a ≡ b) × (m ≡ n) × (t ≡ u) × (i ≡ j) }
 {}
+
+/// Each call of a node has one answer: the node afterwards, what is sent, and what is told.
+pub fn one_answer()
+    ensures sending { OneSending }
+    ensures opening { OneOpening }
+    ensures poll { OnePoll }
+    ensures handling { OneHandling }
+{
+    nbt_packet::laws::one_message_spelled();
+}
