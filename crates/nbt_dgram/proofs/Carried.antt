@@ -1,5 +1,5 @@
 -- What packets leave unfinished of a key, and how a slot carries it.
-use Rattle.std.proofs.Common.{◌≡◌, ℕ, ◌+◌, ◌<◌, ◌≤◌, true, false, List, [], ◌∷◌, ◌++◌, refl, sym, ap, subst, ◌∙◌, arith, inl, inr, append_assoc}
+use Rattle.std.proofs.Common.{◌≡◌, ℕ, ◌+◌, ◌<◌, ◌≤◌, List, [], ◌∷◌, ◌++◌, refl, sym, ap, subst, ◌∙◌, arith, inl, inr, append_assoc}
 use Rattle.std.specs.List.{Contains}
 use Rattle.std.proofs.lemmas.List.Elements.{Contains-push_cases}
 use Rattle.nbt_dgram.specs.declared.slot.Key.{Key}
@@ -8,7 +8,7 @@ use Rattle.nbt_dgram.specs.declared.joined.Dropped.TheVariants.{ClockBack}
 use Rattle.nbt_dgram.specs.Dgram.{FragmentValue, fragment}
 use Rattle.nbt_dgram.specs.Pieces.{end_of, MakesUp}
 use Rattle.nbt_dgram.specs.Slot.{fresh, Agrees, joined, Since, begun, one_more}
-use Rattle.nbt_dgram.specs.Joiner.{waiting, dropped, key_of}
+use Rattle.nbt_dgram.specs.Joiner.{dropped, key_of}
 use Rattle.nbt_dgram.specs.Carrying.{Put, IsAlone, Waits, Passes, other_key, went_back, is_alone, Ends, GoesOn, nobody, one_waits, one_passes, none, since, Leaves, none_came, was_ended, was_given_up, is_left}
 use Rattle.nbt_dgram.proofs.Agreeing.{agrees_with_nothing}
 use Rattle.nbt_dgram.proofs.OnePut.{one_fragment}

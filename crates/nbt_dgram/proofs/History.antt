@@ -1,6 +1,6 @@
 -- Packets that are put one after the other: each slot carries the fragments of its key, and what is told they tell.
 use Rattle.std.proofs.Common.{◌≡◌, ℕ, ◌+◌, ◌<◌, ◌≤◌, Bool, true, false, List, [], ◌∷◌, ◌++◌, length, map, set, replicate, Option, Some, None, refl, sym, ap, subst, ◌∙◌, arith, inl, inr}
-use Rattle.std.specs.Prelude.{◌⊎◌, slice_get}
+use Rattle.std.specs.Prelude.{slice_get}
 use Rattle.std.specs.List.{position}
 use Rattle.std.proofs.lemmas.Bool.{cases_lt, cases_eq, lt-ltb, ltb-true}
 use Rattle.std.proofs.lemmas.List.Quantifiers.{position-Some}
@@ -13,9 +13,9 @@ use Rattle.nbt_dgram.specs.declared.joined.Dropped.TheVariants as reasons
 use Rattle.nbt_dgram.specs.Dgram.{FragmentValue, fragment, DgramValue}
 use Rattle.nbt_dgram.specs.Slot.{fresh, joined, Since, one_more}
 use Rattle.nbt_dgram.specs.Joiner.{JoinedValue, whole, waiting, dropped, is_old, kept, is_of, is_free, emptied, key_of, Joins, too_long, no_room, begins, conflicts, waits, completes, JoinerValue, Puts, clock_back, alone, joins, Sweeps, too_early, given_up}
-use Rattle.nbt_dgram.specs.Carrying.{Put, put, Run, is_new, after_put, after_sweep, IsAlone, Waits, Passes, other_key, went_back, is_alone, Ends, nobody, Unfinished, none, since, fragments_in, Leaves, none_came, Tells, is_whole, is_unfinished, is_dropped}
+use Rattle.nbt_dgram.specs.Carrying.{Put, put, Run, is_new, after_put, after_sweep, IsAlone, Passes, other_key, went_back, is_alone, Ends, nobody, Unfinished, none, since, fragments_in, Leaves, none_came, Tells, is_whole, is_unfinished, is_dropped}
 use Rattle.nbt_dgram.proofs.SlotLists.{got_below, got_is}
-use Rattle.nbt_dgram.proofs.SlotKeys.{key_or, of_is, is_of_own, is_not_of, NoSlot, SlotOf, slot_or_none, no_slot, got_mapped, map_got, got_set, set_here, set_elsewhere, none_in_free}
+use Rattle.nbt_dgram.proofs.SlotKeys.{key_or, of_is, is_of_own, is_not_of, NoSlot, slot_or_none, no_slot, got_mapped, map_got, got_set, set_here, set_elsewhere, none_in_free}
 use Rattle.nbt_dgram.proofs.Carried.{not_passing, none_later, none_passes, none_ended, Held, held_begins, held_joins, held_passes, held_given_up, held_left, cut_makes_nothing}
 use Rattle.nbt_dgram.proofs.Holding as holding
 use Rattle.nbt_dgram.proofs.OnePut.{one_fragment}

@@ -1,11 +1,10 @@
 -- Packets put to a joiner one after the other, and which fragments of a key they leave unfinished (our profile, after
 -- RFC 1002 section 5.3.3). Nothing here speaks of slots.
-use Rattle.std.specs.Prelude.{◌≡◌, ◌≢◌, ℕ, ◌+◌, ◌<◌, ◌≤◌, false, List, [], ◌∷◌, ◌++◌, replicate, Option, None}
+use Rattle.std.specs.Prelude.{◌≡◌, ◌≢◌, ℕ, ◌+◌, ◌<◌, ◌≤◌, false, List, [], ◌∷◌, ◌++◌, replicate, None}
 use Rattle.std.specs.List.{Contains}
 use Rattle.nbt_dgram.specs.declared.dgram.Names.{Names}
 use Rattle.nbt_dgram.specs.declared.dgram.Part.TheVariants.{First}
 use Rattle.nbt_dgram.specs.declared.slot.Key.{Key}
-use Rattle.nbt_dgram.specs.declared.slot.Slot.{Slot}
 use Rattle.nbt_dgram.specs.declared.joined.Dropped.{Dropped}
 use Rattle.nbt_dgram.specs.declared.joined.Dropped.TheVariants.{ClockBack}
 use Rattle.nbt_dgram.specs.Dgram.{FragmentValue, fragment, DgramValue}

@@ -31,8 +31,8 @@ const NOT_PRESENT: u8 = 0x82;
 ///   node's last call holds no name.
 /// - `Error` for an error packet (0x13), with its id and its code.
 /// - `Waiting` where other fragments are missing.
-/// - `Nothing` for all else: what can't be read, is dropped, is for a group that isn't held, or has another type. Only
-///   0x10 and 0x11 are put to the joiner.
+/// - `Nothing` for all else: what `decode` refuses (its faults 1 to 8), what `Joiner::put` drops (1 to 4), a whole one for
+///   a group that isn't held, and any other type. Only 0x10 and 0x11 are put to the joiner, so nothing else changes it.
 ///
 /// `out` is empty but for `Reply`. RFC 1002 section 5.3.3, in our profile's choice.
 pub fn accept<'a, const S: usize, const N: usize>(

@@ -6,6 +6,7 @@
 #![tactic(auto)]
 
 mod fault;
+pub mod laws;
 mod server;
 mod serving;
 
