@@ -1,16 +1,23 @@
--- What follows from the facts that every world keeps, in the words in which it is told (docs/NO_TWO_HOLDERS.md): claims
--- are covered by leases or by the silence, what is open is fresh, and old requests have ended.
-use Rattle.std.specs.Prelude.{◌≡◌, ℕ, ◌+◌, ◌*◌, ◌<◌, ◌≤◌, Some, None}
+-- What follows from the facts that every world keeps, in the words in which it is told (docs/NO_TWO_HOLDERS.md): leases
+-- are sound, claims are covered by leases or by the silence, what is open is fresh, and old requests have ended.
+use Rattle.std.specs.Prelude.{◌≡◌, ◌≢◌, ℕ, ◌+◌, ◌*◌, ◌<◌, ◌≤◌, Some, None}
 use Rattle.nbt_name.specs.declared.addr.Addr.{Addr}
 use Rattle.nbt_name.specs.declared.addr.Kind.{Kind}
+use Rattle.nbt_name.specs.declared.addr.Kind.TheVariants.{Group}
 use Rattle.nbt_name.specs.Wire.{NameValue}
 use Rattle.nbt_packet.specs.Message.{MessageValue}
-use Rattle.nbt_lease.specs.Lease.{leases_at}
+use Rattle.nbt_lease.specs.Lease.{leases_at, IsSound}
 use Rattle.nbt_server.specs.Serving.{ServerValue, speaks_from}
 use Rattle.nbt_node.specs.declared.state.State.TheVariants.{Idle}
 use Rattle.nbt_node.specs.Node.{NodeValue, state_of}
 use Rattle.nbt_world.specs.World.{WorldValue, IsDeliverable, addr_of, node_of}
 use Rattle.nbt_world.specs.Kept.{Asked, Replied, AsksAs, known, bound, Wants, IsOpen, IsLeased, ClaimsIn}
+
+-- ---- leases
+
+-- The live leases of a server that is up are sound.
+abbrev pub LeasesAreSound : WorldValue → Type 0
+LeasesAreSound world = (server : ServerValue) → world.ends.server ≡ Some server → IsSound world.config world.now (leases_at world.now server.table.rows)
 
 -- ---- claims
 
@@ -24,6 +31,11 @@ pub data IsBehind (world : WorldValue) (addr : Addr) (name : NameValue) (kind : 
 abbrev pub ClaimsAreCovered : WorldValue → Type 0
 ClaimsAreCovered world = (number : ℕ) (addr : Addr) (name : NameValue) (kind : Kind) (end : ℕ) → addr_of world.ends number ≡ Some addr → ClaimsIn world number addr name kind end → world.now < end
     → IsBehind world addr name kind end
+
+-- Two claims of different nodes on one name, neither of which is over, are both of a group.
+abbrev pub ClaimsAreOfGroups : WorldValue → Type 0
+ClaimsAreOfGroups world = (i j : ℕ) (a b : Addr) (name : NameValue) (k l : Kind) (d e : ℕ) → i ≢ j → addr_of world.ends i ≡ Some a → addr_of world.ends j ≡ Some b → ClaimsIn world i a name k d → world.now < d
+    → ClaimsIn world j b name l e → world.now < e → (k ≡ Group) × (l ≡ Group)
 
 -- ---- requests and replies that may still be delivered
 

@@ -5,13 +5,16 @@ ghost use Rattle.nbt_name.specs.Wire.{NameValue};
 ghost use Rattle.nbt_name.specs.declared.addr.Addr.{Addr};
 ghost use Rattle.nbt_world.specs.World.{WorldValue, addr_of};
 ghost use Rattle.nbt_world.specs.Kept.{IsKept};
-ghost use Rattle.nbt_world.specs.Facts.{ClaimsAreCovered, OpenIsFresh, RequestsHaveEnded};
+ghost use Rattle.nbt_world.specs.Facts.{LeasesAreSound, ClaimsAreCovered, ClaimsAreOfGroups, OpenIsFresh, RequestsHaveEnded};
 ghost use Rattle.nbt_world.specs.Safety.{IsSafe};
 
-/// What follows from the facts that every world keeps: claims are covered by leases or by the silence, what is open is
-/// fresh, old requests have ended, and no two nodes hold one name, unless both as a group.
+/// What follows from the facts that every world keeps: live leases are sound, claims are covered by leases or by the
+/// silence, two claims on one name are both of a group, what is open is fresh, old requests have ended, and no two nodes
+/// hold one name, unless both as a group.
 pub fn facts_of_every_world()
+    ensures sound { (world : WorldValue) → IsKept world → LeasesAreSound world }
     ensures covered { (world : WorldValue) → IsKept world → ClaimsAreCovered world }
+    ensures beside { (world : WorldValue) → IsKept world → ClaimsAreOfGroups world }
     ensures fresh { (world : WorldValue) → IsKept world → (number : ℕ) (addr : Addr) (name : NameValue) → addr_of world.ends number ≡ Some addr → OpenIsFresh world number addr name }
     ensures ended { (world : WorldValue) → IsKept world → (number : ℕ) (addr : Addr) (name : NameValue) → addr_of world.ends number ≡ Some addr → RequestsHaveEnded world number addr name }
     ensures safe { (world : WorldValue) → IsKept world → IsSafe world }
