@@ -7,3 +7,5 @@ pub mod Sending
 pub mod Turns
 pub mod Remembering
 pub mod Telling
+pub mod OneServerTurn
+pub mod OneTurn

@@ -2,3 +2,4 @@ pub mod Acts
 pub mod Serving
 pub mod Turning
 pub mod Memory
+pub mod OneAnswer

@@ -1,10 +1,11 @@
-//! What holds of the polls of a node and of the calls of a port over memory, whatever the code does: laws over the
+//! What holds of turns, of the polls of a node and of the calls of a port over memory, whatever the code does: laws over the
 //! definitions alone.
 
 ghost use Rattle.std.specs.Prelude.{◌≡◌, ℕ, ◌+◌, ◌≤◌, ◌++◌, List, length, take, drop};
 ghost use Rattle.nbt_node.specs.Node.{NodeValue};
 ghost use Rattle.nbt_engine.specs.Acts.{Act, Chain};
 ghost use Rattle.nbt_engine.specs.Memory.{MemoryValue, MemoryDoes, sent_in, came_in, datagrams_in, received_in, failed_in};
+ghost use Rattle.nbt_engine.specs.OneAnswer.{OneServerTurn, OneNodeTurn};
 ghost use Rattle.nbt_engine.specs.Turning.{PollsTo};
 
 /// A port over memory keeps what was sent, in order; it hands out what it was given, in order, one a receive, of each
@@ -20,4 +21,14 @@ pub fn few_polls_send_at_one_moment()
     ensures { (now : ℕ) (old new : NodeValue) (acts : List Act) → Chain (PollsTo now) old acts new → length acts ≤ length old.slots + 1 }
 {
     nbt_node::laws::settling_ends();
+}
+
+/// Of sound leases, what a server takes in a turn has one reply, and leaves the same leases. A node's turn whose moments
+/// don't go back is determined by them and by what came: the port's calls, what is seen, and the node afterwards.
+pub fn one_turn()
+    ensures server { OneServerTurn }
+    ensures node { OneNodeTurn }
+{
+    nbt_server::laws::one_reply();
+    nbt_node::laws::one_answer();
 }

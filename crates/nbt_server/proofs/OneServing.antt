@@ -1,5 +1,5 @@
 -- Two answers of the server's rules are the same.
-use Rattle.std.proofs.Common.{◌≡◌, ℕ, ◌<◌, ◌≤◌, Bool, true, false, List, [], length, get_or, Option, Some, None, Result, refl, sym, ap, subst, arith}
+use Rattle.std.proofs.Common.{◌≡◌, ℕ, ◌≤◌, Bool, true, false, List, [], length, get_or, Option, Some, Result, refl, ap, subst, arith}
 use Rattle.std.specs.Prelude.{Any, All}
 use Rattle.nbt_name.specs.Wire.{NameValue}
 use Rattle.nbt_packet.specs.declared.message.Registration.{Registration}
@@ -11,7 +11,7 @@ use Rattle.nbt_lease.specs.declared.lease.Lease.{Lease}
 use Rattle.nbt_lease.specs.declared.lease.Released.{Released}
 use Rattle.nbt_lease.specs.Lease.{Leases, TableValue, leases_at}
 use Rattle.nbt_lease.specs.Rules.{Asked, Grants, Releases, IsLeastEnd}
-use Rattle.nbt_server.specs.Serving.{AsksFor, by_registration, by_refresh, IsOwn, IsForNodes, asked_in, refused_error, refusal, grant_reply, release_rcode, seconds_until, entries, Serves, registers, refuses, refuses_overwrite, releases, refuses_release, finds, finds_none, passes_over, ServerValue, speaks_from, ServesOctets, is_silent, is_no_message, serves}
+use Rattle.nbt_server.specs.Serving.{AsksFor, by_registration, by_refresh, IsOwn, IsForNodes, asked_in, refused_error, refusal, grant_reply, release_rcode, seconds_until, entries, Serves, registers, refuses, refuses_overwrite, releases, refuses_release, finds, finds_none, passes_over, ServerValue, ServesOctets, is_silent, is_no_message, serves}
 
 -- ---- which messages ask for a lease
 
