@@ -18,6 +18,3 @@ pub use port::{Device, Port};
 pub use serving::{Counts, serve_turns};
 pub use turning::{Seen, Want, node_turn};
 pub use udp::{MachineClock, UdpPort};
-
-#[cfg(test)]
-mod tests;

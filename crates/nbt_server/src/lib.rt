@@ -12,6 +12,3 @@ mod serving;
 
 pub use fault::ServerFault;
 pub use server::Server;
-
-#[cfg(test)]
-mod tests;

@@ -13,6 +13,3 @@ pub use dgram_text::write_dgram;
 pub use packet_text::write_packet;
 pub use session_text::write_session;
 pub use verdicts::write_verdicts;
-
-#[cfg(test)]
-mod tests;

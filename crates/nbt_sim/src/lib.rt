@@ -12,6 +12,3 @@ mod verb;
 mod words;
 
 pub use script::play;
-
-#[cfg(test)]
-mod tests;

@@ -18,6 +18,3 @@ pub use lines::{is_remark, octets_of, words_of};
 pub use name_text::{parse_name, write_name};
 pub use number::parse_number;
 pub use pieces::split_at_first;
-
-#[cfg(test)]
-mod tests;

@@ -14,6 +14,3 @@ mod world;
 pub use ends::Holder;
 pub use event::{Event, OutOfMemory, Outcome};
 pub use world::{Addrs, World};
-
-#[cfg(test)]
-mod tests;

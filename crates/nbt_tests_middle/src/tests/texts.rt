@@ -1,8 +1,8 @@
 //! Names as text.
 
-use crate::laws::printed_name_is_read;
-use crate::{parse_name, write_name};
 use nbt_name::Name;
+use nbt_text::laws::printed_name_is_read;
+use nbt_text::{parse_name, write_name};
 use std::process::Abort;
 
 fn expect_printed<R: Abort + AllocGlobal>(rt: &R, name: &Name, text: &str) {

@@ -1,0 +1,8 @@
+//! What the calls of `nbt_server`, `nbt_world`, `nbt_text`, `nbt_show`, `nbt_sim` and `nbt_engine` do: tests from without, as tables of
+//! rows, and nothing else.
+//!
+//! They are a crate of their own, since a crate with tests is proved twice.
+#![tactic(auto)]
+
+#[cfg(test)]
+mod tests;

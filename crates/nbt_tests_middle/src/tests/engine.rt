@@ -1,0 +1,427 @@
+//! A server and a node over a port in memory: the life of a datagram 1,000 ms, the longest lease 60 s, all started at 0.
+
+use super::{
+    FOUND, GRANTED, NOT_FOUND, QUERY, REFRESH, REFUSED, REGISTRATION, RIVAL, config, moment,
+    octets, one_of_many, started,
+};
+use arrayvec::ArrayVec;
+use nbt_engine::{
+    Counts, Datagram, Device, MemoryClock, MemoryPort, Port, Seen, Want, node_turn, serve_turns,
+};
+use nbt_lease::Moment;
+use nbt_name::{Addr, Kind, Name};
+use nbt_node::{AskFault, Node};
+use nbt_server::Server;
+use std::collections::VecDeque;
+use std::process::Abort;
+use std::test::Fail;
+
+const SERVER: Addr = Addr {
+    ip: 0x7F000001,
+    port: 137,
+};
+
+const FIRST: Addr = Addr {
+    ip: 0x7F000002,
+    port: 137,
+};
+
+const SECOND: Addr = Addr {
+    ip: 0x7F000003,
+    port: 1024,
+};
+
+/// A status request for the name `*`.
+const STATUS_REQUEST: &str = "0009 0000 one-name STAR NBSTAT";
+
+const GRANTED_AGAIN: &str = "0002 ad80 reply FRED NB 60s unique 127.0.0.2";
+
+/// A datagram as words, with the end that it is from or for; nothing where there are no octets.
+type Row = (Addr, &'static str);
+
+/// A clock that tells these moments.
+fn clock<R: AllocGlobal>(rt: &R, moments: &[u64]) -> Result<MemoryClock, Fail> {
+    let mut told = VecDeque::new(rt.alloc());
+    for ms in moments {
+        told.push_back(moment(*ms)?)?;
+    }
+    Ok(MemoryClock::new(told))
+}
+
+/// A port that hands these out.
+fn port<R: AllocGlobal>(rt: &R, given: &[Row]) -> Result<MemoryPort, Fail> {
+    let mut incoming = VecDeque::new(rt.alloc());
+    for (addr, words) in given {
+        let octets = octets(rt, words)?;
+        let is_one = !octets.is_empty();
+        let datagram = Datagram {
+            addr: *addr,
+            octets,
+        };
+        incoming.push_back(if is_one { Some(datagram) } else { None })?;
+    }
+    Ok(MemoryPort::new(rt.alloc(), incoming))
+}
+
+/// These were sent, in order.
+fn expect_sent<R: Abort + AllocGlobal>(
+    rt: &R,
+    port: &MemoryPort,
+    sent: &[Row],
+) -> Result<(), Fail> {
+    assert_eq!(rt; port.sent().len(), sent.len());
+    for (got, (addr, words)) in port.sent().iter().zip(sent) {
+        assert_eq!(rt; got.addr, *addr, "{words}");
+        assert_eq!(rt;
+            got.octets.as_slice(),
+            octets(rt, words)?.as_slice(),
+            "{words}"
+        );
+    }
+    Ok(())
+}
+
+/// `serve_turns` at a port of which few calls have failed.
+fn serve<R: Abort>(
+    rt: &R,
+    port: &mut MemoryPort,
+    clock: &mut MemoryClock,
+    server: &mut Server,
+    turns: u64,
+) -> Result<Counts, Device> {
+    assert!(rt; port.failures() < 1 << 62);
+    serve_turns(port, clock, server, turns)
+}
+
+/// `node_turn` of a node that wants FRED, at such a port.
+fn turn<R: Abort>(
+    rt: &R,
+    port: &mut MemoryPort,
+    clock: &mut MemoryClock,
+    node: &mut Node<2>,
+    want: &Want,
+) -> Result<Seen, Device> {
+    assert!(rt; port.failures() < 1 << 62);
+    node_turn(port, clock, node, SERVER, want)
+}
+
+/// Turns of a server: what comes, at which moments, the receives, replies and lost, and what is sent.
+struct Turns {
+    given: &'static [Row],
+    moments: &'static [u64],
+    counts: (u64, u64, u64),
+    sent: &'static [Row],
+}
+
+const RIVALS: &[Row] = &[(FIRST, REGISTRATION), (SECOND, RIVAL)];
+
+fn play<R: Abort + AllocGlobal>(rt: &R, turns: &Turns) -> Result<(), Fail> {
+    let mut port = port(rt, turns.given)?;
+    let mut clock = clock(rt, turns.moments)?;
+    let (receives, replies, lost) = turns.counts;
+    let counts = serve(
+        rt,
+        &mut port,
+        &mut clock,
+        &mut started(rt, 4096, 0)?,
+        receives,
+    )?;
+    assert_eq!(rt; counts.receives, receives);
+    assert_eq!(rt; counts.replies, replies);
+    assert_eq!(rt; counts.lost, lost);
+    expect_sent(rt, &port, turns.sent)
+}
+
+const THREE_TURNS: Turns = Turns {
+    given: RIVALS,
+    moments: &[60_000],
+    counts: (3, 2, 0),
+    sent: &[(FIRST, GRANTED), (SECOND, REFUSED)],
+};
+
+#[test]
+fn replies_go_to_their_senders(rt: HostRuntime) -> Result<(), Fail> {
+    play(&rt, &THREE_TURNS)
+}
+
+const BACK: Turns = Turns {
+    given: RIVALS,
+    moments: &[60_000, 59_999],
+    counts: (2, 1, 1),
+    sent: &[(FIRST, GRANTED)],
+};
+
+#[test]
+fn a_datagram_whose_moment_goes_back_is_lost(rt: HostRuntime) -> Result<(), Fail> {
+    play(&rt, &BACK)
+}
+
+const RENEWAL: Turns = Turns {
+    given: &[
+        (FIRST, REGISTRATION),
+        (FIRST, REFRESH),
+        (SECOND, QUERY),
+        (SECOND, QUERY),
+    ],
+    moments: &[60_000, 90_000, 149_999, 150_000],
+    counts: (4, 4, 0),
+    sent: &[
+        (FIRST, GRANTED),
+        (FIRST, GRANTED),
+        (SECOND, FOUND),
+        (SECOND, NOT_FOUND),
+    ],
+};
+
+#[test]
+fn a_refresh_over_a_port_extends_its_senders_own_lease(rt: HostRuntime) -> Result<(), Fail> {
+    play(&rt, &RENEWAL)
+}
+
+/// The server's reply to these words at 60,000.
+fn expect_reply<R: Abort + AllocGlobal>(
+    rt: &R,
+    server: &mut Server,
+    asks: &str,
+    gives: &str,
+) -> Result<(), Fail> {
+    let mut out = ArrayVec::new();
+    server.on_datagram(
+        moment(60_000)?,
+        FIRST,
+        octets(rt, asks)?.as_slice(),
+        &mut out,
+    )?;
+    assert_eq!(rt; out.as_slice(), octets(rt, gives)?.as_slice());
+    Ok(())
+}
+
+#[test]
+fn after_a_failed_send_the_lease_is_there(rt: HostRuntime) -> Result<(), Fail> {
+    let mut port = port(&rt, RIVALS)?;
+    port.fail_after(1);
+    let mut clock = clock(&rt, &[60_000])?;
+    let mut server = started(&rt, 4096, 0)?;
+    assert_eq!(&rt;
+        serve(&rt, &mut port, &mut clock, &mut server, 2),
+        Err(Device)
+    );
+    assert_eq!(&rt; port.failures(), 1);
+    expect_reply(
+        &rt,
+        &mut server,
+        QUERY,
+        "0008 8580 reply FRED NB 60s unique 127.0.0.2",
+    )?;
+    let counts = serve(&rt, &mut port, &mut clock, &mut server, 1)?;
+    assert_eq!(&rt; counts.replies, 1);
+    expect_sent(&rt, &port, &[(SECOND, REFUSED)])
+}
+
+#[test]
+fn after_a_failed_receive_nothing_has_changed(rt: HostRuntime) -> Result<(), Fail> {
+    let mut port = port(&rt, RIVALS)?;
+    port.fail_after(0);
+    let mut clock = clock(&rt, &[60_000])?;
+    let mut server = started(&rt, 4096, 0)?;
+    assert_eq!(&rt;
+        serve(&rt, &mut port, &mut clock, &mut server, 2),
+        Err(Device)
+    );
+    assert_eq!(&rt; port.failures(), 1);
+    assert_eq!(&rt; server.last(), Moment::zero());
+    expect_reply(&rt, &mut server, QUERY, NOT_FOUND)?;
+    assert_eq!(&rt;
+        serve(&rt, &mut port, &mut clock, &mut server, 2)?.replies,
+        2
+    );
+    expect_sent(&rt, &port, &[(FIRST, GRANTED), (SECOND, REFUSED)])
+}
+
+/// The call that fails, and the replies of two turns more: one that was not sent is lost, and what has come is not handed
+/// out again.
+const FAILURES: [(u64, u64); 4] = [(0, 2), (1, 1), (2, 1), (3, 0)];
+
+#[test]
+fn a_failure_at_any_call_is_told_once(rt: HostRuntime) -> Result<(), Fail> {
+    for (call, replies) in FAILURES {
+        let mut port = port(&rt, RIVALS)?;
+        port.fail_after(call);
+        let mut clock = clock(&rt, &[60_000])?;
+        let mut server = started(&rt, 4096, 0)?;
+        assert_eq!(&rt;
+            serve(&rt, &mut port, &mut clock, &mut server, 2),
+            Err(Device),
+            "{call}"
+        );
+        assert_eq!(&rt; port.failures(), 1, "{call}");
+        let counts = serve(&rt, &mut port, &mut clock, &mut server, 2)?;
+        assert_eq!(&rt; counts.replies, replies, "{call}");
+        assert_eq!(&rt; port.failures(), 1, "{call}");
+    }
+    Ok(())
+}
+
+#[test]
+fn nothing_lost(rt: HostRuntime) -> Result<(), Fail> {
+    let mut incoming = VecDeque::new(rt.alloc());
+    let head = octets(&rt, "2900 two-parts")?;
+    let tail = octets(&rt, "00 NB again NB 60s unique 127.0.0.2")?;
+    for number in 0..4096 {
+        let octets = one_of_many(&rt, number, head.as_slice(), tail.as_slice())?;
+        let datagram = Datagram {
+            addr: FIRST,
+            octets,
+        };
+        incoming.push_back(Some(datagram))?;
+    }
+    let mut port = MemoryPort::new(rt.alloc(), incoming);
+    let mut clock = clock(&rt, &[60_000])?;
+    let counts = serve(
+        &rt,
+        &mut port,
+        &mut clock,
+        &mut started(&rt, 4096, 0)?,
+        4096,
+    )?;
+    let wanted = Counts {
+        receives: 4096,
+        replies: 4096,
+        lost: 0,
+    };
+    assert_eq!(&rt; counts, wanted);
+    assert_eq!(&rt; port.sent().len(), 4096);
+    for datagram in port.sent() {
+        assert!(&rt; matches!(datagram.octets.as_slice(), [_, _, 0xAD, 0x80, ..]));
+    }
+    Ok(())
+}
+
+fn node() -> Result<Node<2>, Fail> {
+    Ok(Node::start(FIRST, SERVER, config(4096)?, Moment::zero()))
+}
+
+fn fred() -> Result<Want, Fail> {
+    Ok(Want {
+        name: Name::new(b"FRED            ", b"")?,
+        kind: Kind::Unique,
+        ttl: 60,
+    })
+}
+
+/// Nothing comes; then the grant; a status request; and the reply to the refresh.
+const TO_A_NODE: [Row; 4] = [
+    (FIRST, "-"),
+    (SERVER, GRANTED),
+    (SECOND, STATUS_REQUEST),
+    (SERVER, GRANTED_AGAIN),
+];
+
+const SEEN: [Seen; 4] = [
+    Seen::Nothing,
+    Seen::Granted(60),
+    Seen::Nothing,
+    Seen::Renewed(60),
+];
+
+#[test]
+fn a_name_is_asked_for_granted_and_renewed(rt: HostRuntime) -> Result<(), Fail> {
+    let mut port = port(&rt, &TO_A_NODE)?;
+    let moments = [2_000, 2_000, 60_000, 60_010, 61_000, 61_000, 90_000, 90_010];
+    let mut clock = clock(&rt, &moments)?;
+    let mut node = node()?;
+    let want = fred()?;
+    for seen in SEEN {
+        let got = turn(&rt, &mut port, &mut clock, &mut node, &want)?;
+        assert_eq!(&rt; got, seen);
+    }
+    // The request, the reply to the status request, and the refresh.
+    let status =
+        "0009 8400 reply STAR NBSTAT 0s 0041 01 46524544202020202020202020202020 2400 statistics";
+    let refresh = "0002 4000 two-parts FRED NB again NB 60s unique 127.0.0.2";
+    expect_sent(
+        &rt,
+        &port,
+        &[(SERVER, REGISTRATION), (SECOND, status), (SERVER, refresh)],
+    )?;
+    assert_eq!(&rt;
+        node.holds(moment(149_999)?, &want.name),
+        Some(Kind::Unique)
+    );
+    Ok(())
+}
+
+#[test]
+fn a_request_that_was_not_sent_is_sent_again(rt: HostRuntime) -> Result<(), Fail> {
+    let mut port = port(&rt, &[])?;
+    port.fail_after(0);
+    let mut clock = clock(&rt, &[60_000, 65_000])?;
+    let mut node = node()?;
+    let want = fred()?;
+    assert_eq!(&rt;
+        turn(&rt, &mut port, &mut clock, &mut node, &want),
+        Err(Device)
+    );
+    assert_eq!(&rt; port.failures(), 1);
+    // It is asking: it doesn't hold the name, and asks for it again at 65,000 alone.
+    let mut out = ArrayVec::new();
+    assert_eq!(&rt; node.holds(moment(60_000)?, &want.name), None);
+    assert_eq!(&rt;
+        node.ask(moment(60_000)?, &want.name, want.kind, 60, &mut out),
+        Err(AskFault::Busy)
+    );
+    assert_eq!(&rt; node.poll(moment(64_999)?, &mut out), Ok(None));
+    assert_eq!(&rt;
+        turn(&rt, &mut port, &mut clock, &mut node, &want)?,
+        Seen::Nothing
+    );
+    expect_sent(&rt, &port, &[(SERVER, REGISTRATION)])
+}
+
+/// The grant; a status request; nothing; and the reply to the refresh.
+const WITH_A_FAILURE: [Row; 4] = [
+    (SERVER, GRANTED),
+    (SECOND, STATUS_REQUEST),
+    (FIRST, "-"),
+    (SERVER, GRANTED_AGAIN),
+];
+
+/// Four turns of a node.
+fn four_turns<R: Abort>(
+    rt: &R,
+    port: &mut MemoryPort,
+    clock: &mut MemoryClock,
+    node: &mut Node<2>,
+    want: &Want,
+) -> Result<(), Device> {
+    for _ in 0..4 {
+        turn(rt, port, clock, node, want)?;
+    }
+    Ok(())
+}
+
+#[test]
+fn a_node_goes_on_after_a_failure_at_any_call(rt: HostRuntime) -> Result<(), Fail> {
+    let moments = [
+        60_000, 65_000, 70_000, 75_000, 80_000, 85_000, 90_000, 95_000, 100_000,
+    ];
+    let want = fred()?;
+    // The ask and the grant; the status request and the reply to it; nothing; the refresh and the reply to it.
+    for call in 0..7 {
+        let mut port = port(&rt, &WITH_A_FAILURE)?;
+        port.fail_after(call);
+        let mut clock = clock(&rt, &moments)?;
+        let mut node = node()?;
+        assert_eq!(&rt;
+            four_turns(&rt, &mut port, &mut clock, &mut node, &want),
+            Err(Device),
+            "{call}"
+        );
+        assert_eq!(&rt; port.failures(), 1, "{call}");
+        four_turns(&rt, &mut port, &mut clock, &mut node, &want)?;
+        assert_eq!(&rt; port.failures(), 1, "{call}");
+        let held = node.holds(moment(149_999)?, &want.name);
+        assert_eq!(&rt; held, Some(Kind::Unique), "{call}");
+    }
+    Ok(())
+}

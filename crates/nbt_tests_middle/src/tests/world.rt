@@ -1,0 +1,509 @@
+//! Worlds, event by event, with what comes of each: a server at 127.0.0.1, nodes at 127.0.0.2 and 127.0.0.3, the life of a
+//! datagram 1,000 ms, the longest lease 60 s.
+
+use super::{REGISTRATION, config, octets};
+use Does::{Ask, Crash, Deliver, Join, NameStatus, Poll, Release, Resolve, Start, Stranger, Tick};
+use nbt_name::{Addr, Kind, Name};
+use nbt_world::Outcome::{self, Done, Down, Lost, Nobody, Nothing, Refused, Sent, Taken};
+use nbt_world::{Event, OutOfMemory, World};
+use std::process::Abort;
+use std::test::Fail;
+
+const SERVER: Addr = Addr {
+    ip: 0x7F000001,
+    port: 137,
+};
+
+const FIRST: Addr = Addr {
+    ip: 0x7F000002,
+    port: 137,
+};
+
+const SECOND: Addr = Addr {
+    ip: 0x7F000003,
+    port: 137,
+};
+
+const ENDS: [Addr; 3] = [SERVER, FIRST, SECOND];
+
+/// An address that is no end's, and one that is an end's but for its port.
+const STRANGER: Addr = Addr {
+    ip: 0x0A000001,
+    port: 137,
+};
+
+const OTHER_PORT: Addr = Addr {
+    ip: 0x7F000002,
+    port: 9,
+};
+
+const FRED: &[u8; 16] = b"FRED            ";
+
+const TEAM: &[u8; 16] = b"TEAM            ";
+
+/// An event: a node asks for a name as unique, or asks to join it as a group, for 60 seconds; a stranger's octets are
+/// words.
+#[derive(Clone, Copy)]
+enum Does {
+    Tick(u64),
+    Start(usize),
+    Crash(usize),
+    Ask(usize, &'static [u8; 16]),
+    Join(usize, &'static [u8; 16]),
+    Release(usize, &'static [u8; 16]),
+    Resolve(usize, &'static [u8; 16]),
+    NameStatus(usize, Addr, &'static [u8; 16]),
+    Poll(usize),
+    Deliver(usize),
+    Stranger(Addr, usize, &'static str),
+}
+
+/// An event, and what comes of it.
+type Row = (Does, Outcome);
+
+fn world<R: AllocGlobal>(rt: &R) -> Result<World, Fail> {
+    Ok(World::new(rt.alloc(), config(4096)?, &ENDS)?)
+}
+
+fn asks(node: usize, name: &[u8; 16], kind: Kind) -> Result<Event, Fail> {
+    Ok(Event::Ask {
+        node,
+        name: Name::new(name, b"")?,
+        kind,
+        ttl: 60,
+    })
+}
+
+fn event<R: AllocGlobal>(rt: &R, does: Does) -> Result<Event, Fail> {
+    Ok(match does {
+        Tick(ms) => Event::Tick(ms),
+        Start(end) => Event::Start(end),
+        Crash(end) => Event::Crash(end),
+        Ask(node, name) => asks(node, name, Kind::Unique)?,
+        Join(node, name) => asks(node, name, Kind::Group)?,
+        Release(node, name) => Event::Release {
+            node,
+            name: Name::new(name, b"")?,
+        },
+        Resolve(node, name) => Event::Resolve {
+            node,
+            name: Name::new(name, b"")?,
+        },
+        NameStatus(node, to, name) => Event::NameStatus {
+            node,
+            to,
+            name: Name::new(name, b"")?,
+        },
+        Poll(node) => Event::Poll(node),
+        Deliver(number) => Event::Deliver(number),
+        Stranger(from, to, words) => Event::Stranger {
+            from,
+            to,
+            octets: octets(rt, words)?,
+        },
+    })
+}
+
+/// No two ends hold the name, unless both as a group.
+fn apart<R: Abort>(rt: &R, world: &World, name: &Name) {
+    for i in 0..3 {
+        for j in 0..3 {
+            assert!(rt; world.no_two_holders(i, j, name));
+        }
+    }
+}
+
+/// Each event in turn has this outcome, and after each no two ends hold FRED or TEAM, unless both as a group.
+fn play<R: Abort + AllocGlobal>(rt: &R, world: &mut World, rows: &[Row]) -> Result<(), Fail> {
+    let fred = Name::new(FRED, b"")?;
+    let team = Name::new(TEAM, b"")?;
+    for (number, (does, outcome)) in rows.iter().enumerate() {
+        let got = world.step(&event(rt, *does)?)?;
+        assert_eq!(rt; got, *outcome, "row {number}");
+        apart(rt, world, &fred);
+        apart(rt, world, &team);
+    }
+    Ok(())
+}
+
+/// These nodes hold the name.
+fn holders<R: Abort>(rt: &R, world: &World, name: &[u8; 16], nodes: &[usize]) -> Result<(), Fail> {
+    let holders = world.holders(&Name::new(name, b"")?);
+    assert_eq!(rt; holders.len(), nodes.len());
+    for (holder, node) in holders.as_slice().iter().zip(nodes) {
+        assert_eq!(rt; holder.node, *node);
+    }
+    Ok(())
+}
+
+/// So go the events of each table, and then these nodes hold FRED.
+fn play_all<R: Abort + AllocGlobal>(rt: &R, tables: &[(&[Row], &[usize])]) -> Result<(), Fail> {
+    let mut world = world(rt)?;
+    for (rows, nodes) in tables {
+        play(rt, &mut world, rows)?;
+        holders(rt, &world, FRED, nodes)?;
+    }
+    Ok(())
+}
+
+const CRASHED: [Row; 17] = [
+    (Start(0), Done),
+    (Start(1), Done),
+    (Tick(100_000), Done),
+    (Ask(1, FRED), Sent(0)),
+    (Crash(1), Done),
+    (Tick(1), Done),
+    (Start(1), Done),
+    (Tick(999), Done),
+    (Deliver(0), Sent(1)),
+    (Tick(3), Done),
+    (Deliver(1), Taken),
+    (Ask(1, FRED), Refused(1)),
+    (Tick(998), Done),
+    (Ask(1, FRED), Refused(1)),
+    (Tick(1), Done),
+    (Deliver(1), Lost),
+    (Ask(1, FRED), Sent(2)),
+];
+
+#[test]
+fn a_node_that_crashed_rests_for_two_lives_after_its_start(rt: HostRuntime) -> Result<(), Fail> {
+    play_all(&rt, &[(&CRASHED, &[])])
+}
+
+const ASKED: [Row; 7] = [
+    (Start(0), Done),
+    (Start(1), Done),
+    (Start(2), Done),
+    (Tick(60_000), Done),
+    (Ask(1, FRED), Sent(0)),
+    (Deliver(0), Sent(1)),
+    (Deliver(1), Taken),
+];
+
+const RELEASED: [Row; 9] = [
+    (Tick(10_000), Done),
+    (Release(1, FRED), Sent(2)),
+    (Tick(500), Done),
+    (Ask(1, FRED), Refused(1)),
+    (Tick(500), Done),
+    (Deliver(2), Sent(3)),
+    (Ask(2, FRED), Sent(4)),
+    (Deliver(4), Sent(5)),
+    (Deliver(5), Taken),
+];
+
+const ASKED_AGAIN: [Row; 8] = [
+    (Deliver(3), Taken),
+    (Tick(1_000), Done),
+    (Deliver(2), Lost),
+    (Ask(1, FRED), Refused(1)),
+    (Tick(1), Done),
+    (Ask(1, FRED), Sent(6)),
+    (Deliver(6), Sent(7)),
+    (Deliver(7), Taken),
+];
+
+#[test]
+fn an_early_ask_after_a_release_is_quiet_and_the_name_goes_to_another(
+    rt: HostRuntime,
+) -> Result<(), Fail> {
+    play_all(
+        &rt,
+        &[(&ASKED, &[1]), (&RELEASED, &[2]), (&ASKED_AGAIN, &[2])],
+    )
+}
+
+/// What is polled 30 seconds behind the last sending is the refresh; it goes there and back.
+const RENEWED: [[Row; 4]; 3] = [
+    [
+        (Tick(30_000), Done),
+        (Poll(1), Sent(2)),
+        (Deliver(2), Sent(3)),
+        (Deliver(3), Taken),
+    ],
+    [
+        (Tick(30_000), Done),
+        (Poll(1), Sent(4)),
+        (Deliver(4), Sent(5)),
+        (Deliver(5), Taken),
+    ],
+    [
+        (Tick(30_000), Done),
+        (Poll(1), Sent(6)),
+        (Deliver(6), Sent(7)),
+        (Deliver(7), Taken),
+    ],
+];
+
+/// The last refresh is of 150,000, and a hold lasts 60 seconds.
+const ALMOST_OVER: [Row; 2] = [(Tick(59_999), Done), (Poll(2), Nothing)];
+
+const OVER: [Row; 1] = [(Tick(1), Done)];
+
+#[test]
+fn a_node_that_renews_holds_its_name_throughout(rt: HostRuntime) -> Result<(), Fail> {
+    play_all(
+        &rt,
+        &[
+            (&ASKED, &[1]),
+            (&RENEWED[0], &[1]),
+            (&RENEWED[1], &[1]),
+            (&RENEWED[2], &[1]),
+            (&ALMOST_OVER, &[1]),
+            (&OVER, &[]),
+        ],
+    )
+}
+
+/// The events of the rows.
+fn events<R: AllocGlobal>(rt: &R, rows: &[Row]) -> Result<Vec<Event>, Fail> {
+    let mut events = Vec::new(rt.alloc());
+    for (does, _) in rows {
+        events.push(event(rt, *does)?)?;
+    }
+    Ok(events)
+}
+
+#[test]
+fn a_run_in_which_a_node_renews_goes_on_to_its_end(rt: HostRuntime) -> Result<(), Fail> {
+    let mut world = world(&rt)?;
+    let tables: [(&[Row], &[usize]); 6] = [
+        (&ASKED, &[1]),
+        (&RENEWED[0], &[1]),
+        (&RENEWED[1], &[1]),
+        (&RENEWED[2], &[1]),
+        (&ALMOST_OVER, &[1]),
+        (&OVER, &[]),
+    ];
+    for (rows, nodes) in tables {
+        assert_eq!(&rt; world.run(events(&rt, rows)?.as_slice()), Ok(()));
+        holders(&rt, &world, FRED, nodes)?;
+    }
+    Ok(())
+}
+
+const STRANGERS: [Row; 9] = [
+    (Start(0), Done),
+    (Stranger(STRANGER, 0, "00"), Taken),
+    (Stranger(OTHER_PORT, 0, "00"), Nobody),
+    (Stranger(STRANGER, 1, "00"), Down),
+    (Stranger(STRANGER, 3, "00"), Nobody),
+    (Tick(60_000), Done),
+    (Stranger(STRANGER, 0, REGISTRATION), Sent(0)),
+    (Deliver(0), Nobody),
+    (Deliver(9), Nobody),
+];
+
+#[test]
+fn strangers_are_heard_and_answered_and_their_datagrams_have_no_number(
+    rt: HostRuntime,
+) -> Result<(), Fail> {
+    play_all(&rt, &[(&STRANGERS, &[])])
+}
+
+const GROUP: [Row; 10] = [
+    (Start(0), Done),
+    (Start(1), Done),
+    (Start(2), Done),
+    (Tick(60_000), Done),
+    (Join(1, TEAM), Sent(0)),
+    (Join(2, TEAM), Sent(1)),
+    (Deliver(0), Sent(2)),
+    (Deliver(1), Sent(3)),
+    (Deliver(2), Taken),
+    (Deliver(3), Taken),
+];
+
+#[test]
+fn two_nodes_hold_a_group(rt: HostRuntime) -> Result<(), Fail> {
+    let mut world = world(&rt)?;
+    play(&rt, &mut world, &GROUP)?;
+    holders(&rt, &world, TEAM, &[1, 2])?;
+    for holder in world.holders(&Name::new(TEAM, b"")?).as_slice() {
+        assert_eq!(&rt; holder.kind, Kind::Group);
+    }
+    Ok(())
+}
+
+const LOOKUPS: [Row; 9] = [
+    (Start(0), Done),
+    (Start(1), Done),
+    (Tick(60_000), Done),
+    (Resolve(1, FRED), Sent(0)),
+    (Resolve(1, FRED), Refused(2)),
+    (Deliver(0), Sent(1)),
+    (Deliver(1), Taken),
+    (NameStatus(1, SECOND, FRED), Sent(2)),
+    (Deliver(2), Down),
+];
+
+#[test]
+fn a_lookup_is_open_until_its_answer_and_a_status_request_finds_its_end_down(
+    rt: HostRuntime,
+) -> Result<(), Fail> {
+    play_all(&rt, &[(&LOOKUPS, &[])])
+}
+
+const SILENT: [Row; 16] = [
+    (Start(0), Done),
+    (Start(1), Done),
+    (Start(2), Done),
+    (Tick(69_999), Done),
+    (Ask(1, FRED), Sent(0)),
+    (Deliver(0), Sent(1)),
+    (Deliver(1), Taken),
+    (Tick(1), Done),
+    (Crash(0), Done),
+    (Crash(0), Nothing),
+    (Deliver(0), Down),
+    (Start(0), Done),
+    (Start(0), Nothing),
+    (Tick(59_998), Done),
+    (Ask(2, FRED), Sent(2)),
+    (Deliver(2), Taken),
+];
+
+const ENDED: [Row; 2] = [(Tick(1), Done), (Deliver(2), Taken)];
+
+const HEARD: [Row; 3] = [(Tick(1), Done), (Deliver(2), Sent(3)), (Deliver(3), Taken)];
+
+#[test]
+fn a_server_that_starts_again_is_silent_and_holds_end_first(rt: HostRuntime) -> Result<(), Fail> {
+    play_all(&rt, &[(&SILENT, &[1]), (&ENDED, &[]), (&HEARD, &[2])])
+}
+
+const NO_SUCH_NODES: [Row; 7] = [
+    (Start(5), Nothing),
+    (Crash(5), Nothing),
+    (Ask(5, FRED), Down),
+    (Ask(0, FRED), Down),
+    (Start(1), Done),
+    (Poll(1), Nothing),
+    (Poll(2), Down),
+];
+
+#[test]
+fn nodes_that_the_world_has_not(rt: HostRuntime) -> Result<(), Fail> {
+    play_all(&rt, &[(&NO_SUCH_NODES, &[])])
+}
+
+const SAME: [Addr; 2] = [
+    SERVER,
+    Addr {
+        ip: 0x7F000001,
+        port: 9,
+    },
+];
+
+#[test]
+fn addresses_are_two_to_nine_and_apart_in_their_32_bits(rt: HostRuntime) -> Result<(), Fail> {
+    let config = config(4096)?;
+    assert!(&rt; World::new(rt.alloc(), config, &SAME).is_err());
+    assert!(&rt; World::new(rt.alloc(), config, &ENDS[..1]).is_err());
+    assert!(&rt; World::new(rt.alloc(), config, &ENDS[..2]).is_ok());
+    Ok(())
+}
+
+/// Events of all kinds, over and over.
+const ROUND: [Does; 18] = [
+    Start(0),
+    Start(1),
+    Start(2),
+    Tick(20_000),
+    Ask(1, FRED),
+    Ask(2, FRED),
+    Join(1, TEAM),
+    Join(2, TEAM),
+    Tick(31_000),
+    Poll(1),
+    Poll(2),
+    Resolve(2, FRED),
+    NameStatus(2, FIRST, FRED),
+    NameStatus(1, SECOND, TEAM),
+    Stranger(STRANGER, 0, REGISTRATION),
+    Deliver(0),
+    Release(1, FRED),
+    Crash(2),
+];
+
+/// An event happens, and behind it the delivery of what it sent, and that of the reply; they are put into the list.
+fn happen(world: &mut World, first: Event, events: &mut Vec<Event>) -> Result<(), Fail> {
+    let mut outcome = world.step(&first)?;
+    events.push(first)?;
+    for _ in 0..2 {
+        let Sent(number) = outcome else {
+            return Ok(());
+        };
+        outcome = world.step(&Event::Deliver(number))?;
+        events.push(Event::Deliver(number))?;
+    }
+    Ok(())
+}
+
+/// Both worlds have the same holders, and the same comes of the delivery of each datagram, and of a request behind them.
+fn expect_same<R: Abort>(rt: &R, one: &mut World, other: &mut World) -> Result<(), Fail> {
+    for name in [FRED, TEAM] {
+        let name = Name::new(name, b"")?;
+        let holders = other.holders(&name);
+        assert_eq!(rt; one.holders(&name).as_slice(), holders.as_slice());
+    }
+    for number in 0..400 {
+        let delivery = Event::Deliver(number);
+        assert_eq!(rt; one.step(&delivery)?, other.step(&delivery)?, "{number}");
+    }
+    let start = Event::Start(2);
+    assert_eq!(rt; one.step(&start)?, other.step(&start)?);
+    let lookup = Event::Resolve {
+        node: 2,
+        name: Name::new(FRED, b"")?,
+    };
+    assert_eq!(rt; one.step(&lookup)?, other.step(&lookup)?);
+    Ok(())
+}
+
+#[test]
+fn a_run_of_hundreds_of_events_ends_where_they_do_one_by_one(rt: HostRuntime) -> Result<(), Fail> {
+    let mut stepped = world(&rt)?;
+    let mut list = Vec::new(rt.alloc());
+    for _ in 0..12 {
+        for does in ROUND {
+            happen(&mut stepped, event(&rt, does)?, &mut list)?;
+        }
+    }
+    assert!(&rt; list.len() > 300);
+    let mut run = world(&rt)?;
+    assert_eq!(&rt; run.run(list.as_slice()), Ok(()));
+    expect_same(&rt, &mut run, &mut stepped)
+}
+
+/// With memory all events are taken. `rt try --test --fail-alloc 1..` refuses each allocation in turn: one that the world
+/// needed stops the run before its event, which is then taken once more; one that the server needed loses a datagram,
+/// which comes again.
+#[test]
+fn refused_memory_stops_a_run_before_its_event_or_loses_a_datagram(
+    rt: HostRuntime,
+) -> Result<(), Fail> {
+    let mut world = world(&rt)?;
+    let steps = [
+        Event::Start(0),
+        Event::Start(1),
+        Event::Tick(60_000),
+        asks(1, FRED, Kind::Unique)?,
+        Event::Deliver(0),
+        Event::Deliver(0),
+    ];
+    let events = steps.as_slice();
+    if let Err((number, OutOfMemory)) = world.run(events) {
+        assert!(&rt; number >= 3);
+        assert!(&rt; number < events.len());
+        world.run(&events[number..])?;
+    }
+    let first = world.step(&Event::Deliver(1));
+    let taken = match first {
+        Ok(outcome) => outcome,
+        Err(_) => world.step(&Event::Deliver(1))?,
+    };
+    assert_eq!(&rt; taken, Taken);
+    holders(&rt, &world, FRED, &[1])
+}

@@ -1,4 +1,0 @@
-//! Texts as they are read and printed.
-
-mod names;
-mod packets;
