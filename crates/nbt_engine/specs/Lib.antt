@@ -1,5 +1,7 @@
 pub mod Acts
-pub mod Serving
-pub mod Turning
+pub mod Inner
 pub mod Memory
 pub mod OneAnswer
+pub mod Serving
+pub mod Turning
+pub mod Udp

@@ -1,6 +1,9 @@
 //! A port over UDP, and the machine's clock.
 
-ghost use Rattle.std.specs.Prelude.{◌≡◌, ◌≤◌, ◌^◌, IfOk, IfSome};
+ghost use Rattle.std.specs.Prelude.{◌≡◌, ◌≤◌, ◌<◌, ◌^◌, ◌↔◌, [], None, Ok, IfOk, IfSome, IsTrue};
+ghost use Rattle.std.specs.IoError.{error_kind};
+ghost use Rattle.nbt_engine.specs.Acts.{receiving, CountsFailure};
+ghost use Rattle.nbt_engine.specs.Inner.Sockets.{IsNothing, HasNoWay, Received, Sent};
 
 use crate::clock::Clock;
 use crate::port::{Device, MOST, Port};
@@ -16,62 +19,75 @@ use std::{io, time};
 /// How long a receive waits for a datagram, in milliseconds.
 const WAIT: u64 = 100;
 
-/// A port over UDP (RFC 768). A receive waits 100 ms at most.
+/// A port over UDP (RFC 768). A receive waits 100 ms at most. A contract sees the address that it was bound to, as it was
+/// asked for, and how many calls have failed.
 #[derive(Drop)]
 pub struct UdpPort {
     socket: UdpSocket,
+    addr: Addr,
     failures: u64,
 }
 
+impl Model for UdpPort {
+    ghost use Rattle.nbt_engine.specs.Udp.{UdpValue};
+
+    ghost Value = { UdpValue };
+
+    ghost view = { λ p. record { addr = p.addr; failures = p.failures } };
+}
+
 impl UdpPort {
-    /// The port at an address of this machine. Refused where the machine refuses it, as one in use, or one that isn't its.
+    /// The port at an address of this machine; for port 0 the machine chooses one. Refused where the machine refuses it, as
+    /// one in use, or one that isn't its.
     pub fn bind<R: Net>(net: &R, addr: Addr) -> io::Result<UdpPort>
-        ensures { IfOk result (λ p. p.failures ≡ 0) }
+        ensures { IfOk result (λ p. p ≡ record { addr = addr; failures = 0 }) }
     {
         let socket = UdpSocket::bind(net, socket_addr(addr))?;
         socket.set_read_timeout(Some(Duration::from_millis(WAIT)))?;
         Ok(UdpPort {
             socket,
+            addr,
             failures: 0,
         })
+    }
+
+    /// The address that it was bound to, as it was asked for.
+    pub fn addr(&self) -> Addr
+        ensures { result ≡ self.now.addr }
+    {
+        self.addr
     }
 }
 
 impl Port for UdpPort {
-    // No contract can say what a socket carries.
-    ghost does = { λ _ _ _. Unit {0} };
+    ghost use Rattle.nbt_engine.specs.Udp.{UdpDoes};
+
+    ghost does = { UdpDoes };
 
     ghost failures = { λ p. p.failures };
 
-    fn receive(&mut self, octets: &mut ArrayVec<u8, 2048>) -> Result<Option<Addr>, Device> {
-        octets.clear();
+    fn receive(&mut self, octets: &mut ArrayVec<u8, 2048>) -> Result<Option<Addr>, Device>
+        requires few { self.old.failures < 2 ^ 62 }
+        ensures does { UdpDoes self.old (receiving result octets.new.items) self.new }
+        ensures count { CountsFailure self.old.failures self.new.failures result }
+        // Where nothing came, nothing is left of an earlier datagram.
+        ensures empty { result ≡ Ok None → octets.new.items ≡ [] }
+    {
         let mut buffer = [0; MOST];
-        match self.socket.recv_from(&mut buffer) {
-            Ok((len, SocketAddr::V4(from))) => {
-                let _ = octets.try_extend_from_slice(&buffer[..len]);
-                Ok(Some(Addr {
-                    ip: from.ip().to_bits(),
-                    port: from.port(),
-                }))
-            }
-            Ok((_, SocketAddr::V6(_))) => Ok(None),
-            Err(error) if is_nothing(&error) => Ok(None),
-            Err(_) => {
-                self.failures += 1;
-                Err(Device)
-            }
+        let answer = self.socket.recv_from(&mut buffer);
+        let received = received(answer, &buffer, octets);
+        if received.is_err() {
+            self.failures += 1;
         }
+        received
     }
 
     fn send(&mut self, to: Addr, octets: &[u8]) -> Result<(), Device> {
-        match self.socket.send_to(octets, socket_addr(to)) {
-            Ok(_) => Ok(()),
-            Err(error) if has_no_way(&error) => Ok(()),
-            Err(_) => {
-                self.failures += 1;
-                Err(Device)
-            }
+        let sent = sent(self.socket.send_to(octets, socket_addr(to)));
+        if sent.is_err() {
+            self.failures += 1;
         }
+        sent
     }
 
     fn failures(&self) -> u64 {
@@ -79,8 +95,46 @@ impl Port for UdpPort {
     }
 }
 
+/// What comes of the machine's answer to a receive: the sender, with the octets that it says; nothing, where none came in
+/// time, or it is from no address of 32 bits; or `Device` at any other error.
+fn received(
+    answer: io::Result<(usize, SocketAddr)>,
+    buffer: &[u8; MOST],
+    octets: &mut ArrayVec<u8, 2048>,
+) -> Result<Option<Addr>, Device>
+    requires within { IfOk answer (λ a. a.0 ≤ 2048) }
+    ensures { Received answer buffer.now result octets.new.items }
+{
+    octets.clear();
+    match answer {
+        Ok((len, SocketAddr::V4(from))) => {
+            let _ = octets.try_extend_from_slice(&buffer[..len]);
+            Ok(Some(Addr {
+                ip: from.ip().to_bits(),
+                port: from.port(),
+            }))
+        }
+        Ok((_, SocketAddr::V6(_))) => Ok(None),
+        Err(error) if is_nothing(&error) => Ok(None),
+        Err(_) => Err(Device),
+    }
+}
+
+/// What comes of the machine's answer to a send: `Device` at an error that doesn't say that the datagram has no way.
+fn sent(answer: io::Result<usize>) -> Result<(), Device>
+    ensures { Sent answer result }
+{
+    match answer {
+        Ok(_) => Ok(()),
+        Err(error) if has_no_way(&error) => Ok(()),
+        Err(_) => Err(Device),
+    }
+}
+
 /// Whether the error says that nothing came in time.
-fn is_nothing(error: &io::Error) -> bool {
+fn is_nothing(error: &io::Error) -> bool
+    ensures { IsTrue result ↔ IsNothing (error_kind error.now) }
+{
     matches!(
         error.kind(),
         ErrorKind::WouldBlock | ErrorKind::TimedOut | ErrorKind::Interrupted
@@ -89,7 +143,9 @@ fn is_nothing(error: &io::Error) -> bool {
 
 /// Whether the error says that there is no way to where this one datagram should go, as to port 0, which a stranger can
 /// write into what it sends. The device is well, and the datagram is lost, as UDP may lose any.
-fn has_no_way(error: &io::Error) -> bool {
+fn has_no_way(error: &io::Error) -> bool
+    ensures { IsTrue result ↔ HasNoWay (error_kind error.now) }
+{
     matches!(
         error.kind(),
         ErrorKind::InvalidInput
@@ -144,8 +200,9 @@ impl<'a, R: time::Clock> MachineClock<'a, R> {
 }
 
 impl<'a, R: time::Clock> Clock for MachineClock<'a, R> {
-    // No contract can say which moment a machine's clock tells.
-    ghost tells = { λ _ moment new. (new ≡ moment) × (moment ≤ 2 ^ 60) };
+    ghost use Rattle.nbt_engine.specs.Udp.{MachineTells};
+
+    ghost tells = { MachineTells };
 
     fn now(&mut self) -> Moment {
         if let Some(moment) = time_of_day(self.machine) {
