@@ -17,6 +17,3 @@ pub use addr::{Addr, Kind};
 pub use fault::{NameFault, NameFaultKind, NameRefusal};
 pub use name::Name;
 pub use reading::{read_in, read_plain};
-
-#[cfg(test)]
-mod tests;

@@ -19,6 +19,3 @@ mod writing;
 pub use event::Event;
 pub use fault::{AskFault, ClockBack, LookupFault, ReleaseFault};
 pub use node::Node;
-
-#[cfg(test)]
-mod tests;

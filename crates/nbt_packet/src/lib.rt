@@ -19,6 +19,3 @@ pub use message::{Message, Registration};
 pub use packet::{Packet, Question, Record};
 pub use reading::read;
 pub use writing::{encode, entry_octets, status_name_octets};
-
-#[cfg(test)]
-mod tests;

@@ -1,0 +1,270 @@
+//! Names and octets from outside: RFC 1001 section 14.1, and the vectors of our profile.
+
+use super::{FRED, fred};
+use arrayvec::ArrayVec;
+use indexmap::IndexMap;
+use nbt_name::laws::plain_name_is_its_wire_form;
+use nbt_name::{Name, NameFault, NameFaultKind, NameRefusal, read_in, read_plain};
+use std::collections::BTreeSet;
+use std::process::Abort;
+use std::test::Fail;
+
+/// The name `FRED` on the wire, without a scope and in the scope of NETBIOS.COM.
+const FRED_ALONE: &[u8] = b" EGFCEFEECACACACACACACACACACACACA\x00";
+
+const FRED_IN_SCOPE: &[u8] = b" EGFCEFEECACACACACACACACACACACACA\x07NETBIOS\x03COM\x00";
+
+/// A packet's twelve octets, FRED at 12, and pointers at 46 and at 48.
+const POINTERS: &[u8] =
+    b"\x00\x01\x29\x00\x00\x01\x00\x00\x00\x00\x00\x01 EGFCEFEECACACACACACACACACACACACA\x00\xC0\x0C\xC0\x2E";
+
+/// A packet's twelve octets, and FRED at 12, which goes on at 4, where a zero stands, and at 5, where a label does.
+const ON_AT_4: &[u8] =
+    b"\x00\x01\x29\x00\x00\x01\x00\x00\x00\x00\x00\x01 EGFCEFEECACACACACACACACACACACACA\xC0\x04";
+
+const ON_AT_5: &[u8] =
+    b"\x00\x01\x29\x00\x00\x01\x00\x00\x00\x00\x00\x01 EGFCEFEECACACACACACACACACACACACA\xC0\x05";
+
+/// A packet's twelve octets, and at 12 a pointer to itself, one to a later place, and the first half of one.
+const TO_ITSELF: &[u8] = b"\x00\x01\x01\x00\x00\x01\x00\x00\x00\x00\x00\x00\xC0\x0C\x00\x20";
+
+const FORWARD: &[u8] = b"\x00\x01\x01\x00\x00\x01\x00\x00\x00\x00\x00\x00\xC0\x0E\x00\x20";
+
+const HALF_A_POINTER: &[u8] = b"\x00\x01\x01\x00\x00\x01\x00\x00\x00\x00\x00\x00\xFF";
+
+/// A name, its scope, and its wire form.
+const WIRE_FORMS: &[(&[u8; 16], &[u8], &[u8])] = &[
+    (FRED, b"", FRED_ALONE),
+    (FRED, b"\x07NETBIOS\x03COM", FRED_IN_SCOPE),
+];
+
+#[test]
+fn names_are_their_wire_forms(rt: HostRuntime) -> Result<(), Fail> {
+    plain_name_is_its_wire_form();
+    for (octets, scope, wire) in WIRE_FORMS {
+        let name = Name::new(octets, scope)?;
+        let mut out = ArrayVec::new();
+        name.to_wire(&mut out);
+        assert_eq!(rt; out.as_slice(), *wire);
+        let (read, next) = read_plain(wire, 0)?;
+        assert!(rt; read == name && name.copy() == name);
+        assert_eq!(rt; next, wire.len());
+        assert!(rt; !read.is_star());
+        assert_eq!(rt; read.octets().as_slice(), octets.as_slice());
+        assert_eq!(rt; read.scope(), *scope);
+    }
+    Ok(())
+}
+
+#[test]
+fn the_name_that_stands_for_all(rt: HostRuntime) -> Result<(), Fail> {
+    let any = Name::any(b"")?;
+    let mut wire = ArrayVec::new();
+    any.to_wire(&mut wire);
+    assert_eq!(rt;
+        wire.as_slice(),
+        b" CKAAAAAAAAAAAAAAAAAAAAAAAAAAAAAA\x00".as_slice()
+    );
+    assert!(rt; any.is_star());
+    let refused = Name::new(any.octets(), b"").err().ok_or("a star")?;
+    assert_eq!(rt; refused, NameRefusal::Star);
+    assert_eq!(rt; refused.number(), 1);
+    Ok(())
+}
+
+/// Scopes that are no labels.
+const NO_LABELS: &[&[u8]] = &[b"\x00x", b"\x02x", b"\x01x\x00", &[64; 65]];
+
+#[test]
+fn scopes_that_are_no_labels(rt: HostRuntime) {
+    for scope in NO_LABELS {
+        let refused = Some(NameRefusal::BadLabel);
+        assert_eq!(rt; Name::new(FRED, scope).err(), refused, "{scope:?}");
+        assert_eq!(rt; Name::any(scope).err(), refused, "{scope:?}");
+    }
+}
+
+/// How a name is read.
+#[derive(Clone, Copy, Debug)]
+enum By {
+    ReadIn,
+    ReadPlain,
+}
+
+/// What is read: FRED in a scope, and the place after it; or a fault and its place.
+#[derive(Clone, Copy, Debug)]
+enum Read<'a> {
+    Fred(&'a [u8], usize),
+    Fault(NameFaultKind, usize),
+}
+
+/// What is read of some octets at a place.
+const READINGS: &[(&str, &[u8], usize, By, Read<'static>)] = &[
+    ("spelled out", POINTERS, 12, By::ReadIn, Read::Fred(b"", 46)),
+    (
+        "by a pointer",
+        POINTERS,
+        46,
+        By::ReadIn,
+        Read::Fred(b"", 48),
+    ),
+    (
+        "by a pointer to a pointer",
+        POINTERS,
+        48,
+        By::ReadIn,
+        Read::Fred(b"", 50),
+    ),
+    (
+        "no pointer in a plain name",
+        POINTERS,
+        46,
+        By::ReadPlain,
+        Read::Fault(NameFaultKind::BadPointer, 46),
+    ),
+    (
+        "into the header, at a zero",
+        ON_AT_4,
+        12,
+        By::ReadIn,
+        Read::Fred(b"", 47),
+    ),
+    (
+        "into the header, at a label",
+        ON_AT_5,
+        12,
+        By::ReadIn,
+        Read::Fred(b"\x01\x00", 47),
+    ),
+    (
+        "to itself",
+        TO_ITSELF,
+        12,
+        By::ReadIn,
+        Read::Fault(NameFaultKind::BadPointer, 12),
+    ),
+    (
+        "forward",
+        FORWARD,
+        12,
+        By::ReadIn,
+        Read::Fault(NameFaultKind::BadPointer, 12),
+    ),
+    (
+        "half a pointer",
+        HALF_A_POINTER,
+        12,
+        By::ReadIn,
+        Read::Fault(NameFaultKind::Short, 13),
+    ),
+    (
+        "a label of 33",
+        b"\x21EG",
+        0,
+        By::ReadPlain,
+        Read::Fault(NameFaultKind::BadLabel, 0),
+    ),
+    (
+        "a bad letter before the end",
+        b" EQEG",
+        0,
+        By::ReadPlain,
+        Read::Fault(NameFaultKind::BadHalf, 2),
+    ),
+];
+
+#[test]
+fn names_at_a_place_and_their_faults(rt: HostRuntime) -> Result<(), Fail> {
+    for (what, octets, place, by, expected) in READINGS {
+        assert!(rt; *place <= octets.len());
+        let read = match by {
+            By::ReadIn => read_in(octets, *place),
+            By::ReadPlain => read_plain(octets, *place),
+        };
+        match *expected {
+            Read::Fred(scope, next) => assert!(rt; read == Ok((fred(scope)?, next)), "{what}"),
+            Read::Fault(kind, place) => {
+                assert!(rt; read == Err(NameFault { kind, place }), "{what}")
+            }
+        }
+    }
+    assert_eq!(rt; NameFaultKind::BadHalf.number(), 3);
+    Ok(())
+}
+
+#[test]
+fn cut_at_every_length(rt: HostRuntime) {
+    for place in 0..46 {
+        let cut = &FRED_IN_SCOPE[..place];
+        let short = Some(NameFault {
+            kind: NameFaultKind::Short,
+            place,
+        });
+        assert_eq!(rt; read_plain(cut, 0).err(), short);
+        assert_eq!(rt; read_in(cut, 0).err(), short);
+    }
+}
+
+/// `count` labels of one octet, for a scope of twice as many octets.
+fn short_labels(rt: &HostRuntime, count: usize) -> Result<Vec<u8>, Fail> {
+    let mut scope = Vec::new(rt.alloc());
+    for _ in 0..count {
+        scope.extend_from_slice(b"\x01x")?;
+    }
+    Ok(scope)
+}
+
+#[test]
+fn a_wire_form_of_255_octets_and_one_of_256(rt: HostRuntime) -> Result<(), Fail> {
+    let mut scope = short_labels(&rt, 109)?;
+    scope.extend_from_slice(b"\x02yz")?;
+    assert_eq!(rt; scope.len(), 221);
+    let longest = fred(&scope)?;
+    let mut wire = ArrayVec::new();
+    longest.to_wire(&mut wire);
+    assert_eq!(rt; wire.len(), 255);
+    assert!(rt; read_plain(wire.as_slice(), 0) == Ok((longest, 255)));
+
+    let longer = short_labels(&rt, 111)?;
+    assert_eq!(rt;
+        Name::new(FRED, &longer).err(),
+        Some(NameRefusal::ScopeLong)
+    );
+    let mut octets = Vec::from_slice(rt.alloc(), &FRED_ALONE[..33])?;
+    octets.extend_from_slice(&longer)?;
+    octets.push(0)?;
+    assert_eq!(rt; octets.len(), 256);
+    let long = NameFault {
+        kind: NameFaultKind::Long,
+        place: 253,
+    };
+    assert_eq!(rt; read_plain(&octets, 0).err(), Some(long));
+    Ok(())
+}
+
+#[test]
+fn names_are_keys(rt: HostRuntime) -> Result<(), Fail> {
+    let mut set = BTreeSet::new(rt.alloc());
+    let mut map = IndexMap::new(rt.alloc());
+    for scope in [b"".as_slice(), b"\x01a".as_slice(), b"".as_slice()] {
+        set.insert(fred(scope)?)?;
+        map.insert(fred(scope)?, scope.len())?;
+    }
+    assert_eq!(rt; set.len(), 2);
+    assert_eq!(rt; map.len(), 2);
+    let fred = fred(b"")?;
+    assert!(rt; set.contains(&fred));
+    assert_eq!(rt; map.get(&fred).copied(), Some(0));
+    Ok(())
+}
+
+#[test]
+fn names_are_ordered_by_their_octets_and_then_by_their_scopes(rt: HostRuntime) -> Result<(), Fail> {
+    let bare = fred(b"")?;
+    let scoped = fred(b"\x01z")?;
+    let later = Name::new(b"GINA            ", b"\x01a")?;
+    assert!(rt; bare < scoped);
+    assert!(rt; scoped < later);
+    assert!(rt; bare < later);
+    Ok(())
+}

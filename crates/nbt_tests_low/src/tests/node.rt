@@ -1,0 +1,559 @@
+//! A node over moments: it asks for FRED, holds it, refreshes and gives it back; the octets are those of our profile over
+//! RFC 1002's layouts. A datagram lives 1,000 ms at most, the longest lease is 60 s, and the node is started at 0. It has
+//! room for one name.
+
+use super::{FRED, STAR, TEAM, at, fred, name_of};
+use arrayvec::ArrayVec;
+use nbt_lease::Config;
+use nbt_name::{Addr, Kind};
+use nbt_node::laws::{one_move, settling_ends, settling_in_steps};
+use nbt_node::{AskFault, ClockBack, Event, LookupFault, Node, ReleaseFault};
+use std::process::Abort;
+use std::test::Fail;
+
+const OWN: Addr = Addr {
+    ip: 0x7F000002,
+    port: 137,
+};
+
+const SERVER: Addr = Addr {
+    ip: 0x7F000001,
+    port: 137,
+};
+
+/// Other machines, and another port of the server's.
+const STRANGER: Addr = Addr {
+    ip: 0x7F000003,
+    port: 137,
+};
+
+const ANYBODY: Addr = Addr {
+    ip: 0x0A000001,
+    port: 9,
+};
+
+const OTHER_PORT: Addr = Addr {
+    ip: 0x7F000001,
+    port: 138,
+};
+
+/// The registration of FRED with id 1; the same with id 2, with id 3, and as a group's.
+const REGISTRATION: &[u8] =
+    b"\x00\x01\x29\x00\x00\x01\x00\x00\x00\x00\x00\x01 EGFCEFEECACACACACACACACACACACACA\x00\x00\x20\x00\x01\xC0\x0C\x00\x20\x00\x01\x00\x00\x00\x3C\x00\x06\x20\x00\x7F\x00\x00\x02";
+
+const SECOND_REGISTRATION: &[u8] =
+    b"\x00\x02\x29\x00\x00\x01\x00\x00\x00\x00\x00\x01 EGFCEFEECACACACACACACACACACACACA\x00\x00\x20\x00\x01\xC0\x0C\x00\x20\x00\x01\x00\x00\x00\x3C\x00\x06\x20\x00\x7F\x00\x00\x02";
+
+const THIRD_REGISTRATION: &[u8] =
+    b"\x00\x03\x29\x00\x00\x01\x00\x00\x00\x00\x00\x01 EGFCEFEECACACACACACACACACACACACA\x00\x00\x20\x00\x01\xC0\x0C\x00\x20\x00\x01\x00\x00\x00\x3C\x00\x06\x20\x00\x7F\x00\x00\x02";
+
+const GROUP_REGISTRATION: &[u8] =
+    b"\x00\x01\x29\x00\x00\x01\x00\x00\x00\x00\x00\x01 EGFCEFEECACACACACACACACACACACACA\x00\x00\x20\x00\x01\xC0\x0C\x00\x20\x00\x01\x00\x00\x00\x3C\x00\x06\xA0\x00\x7F\x00\x00\x02";
+
+/// A refresh of FRED and its release, with id 2.
+const REFRESH: &[u8] =
+    b"\x00\x02\x40\x00\x00\x01\x00\x00\x00\x00\x00\x01 EGFCEFEECACACACACACACACACACACACA\x00\x00\x20\x00\x01\xC0\x0C\x00\x20\x00\x01\x00\x00\x00\x3C\x00\x06\x20\x00\x7F\x00\x00\x02";
+
+const RELEASE: &[u8] =
+    b"\x00\x02\x30\x00\x00\x01\x00\x00\x00\x00\x00\x01 EGFCEFEECACACACACACACACACACACACA\x00\x00\x20\x00\x01\xC0\x0C\x00\x20\x00\x01\x00\x00\x00\x00\x00\x06\x20\x00\x7F\x00\x00\x02";
+
+/// A WACK of 90 s for id 1.
+const WACK: &[u8] =
+    b"\x00\x01\xBC\x00\x00\x00\x00\x01\x00\x00\x00\x00 EGFCEFEECACACACACACACACACACACACA\x00\x00\x20\x00\x01\x00\x00\x00\x5A\x00\x02\x29\x00";
+
+/// The query of FRED with id 1 and with id 2, and the negative response with id 1.
+const QUERY: &[u8] =
+    b"\x00\x01\x01\x00\x00\x01\x00\x00\x00\x00\x00\x00 EGFCEFEECACACACACACACACACACACACA\x00\x00\x20\x00\x01";
+
+const SECOND_QUERY: &[u8] =
+    b"\x00\x02\x01\x00\x00\x01\x00\x00\x00\x00\x00\x00 EGFCEFEECACACACACACACACACACACACA\x00\x00\x20\x00\x01";
+
+const NOT_FOUND: &[u8] =
+    b"\x00\x01\x85\x83\x00\x00\x00\x01\x00\x00\x00\x00 EGFCEFEECACACACACACACACACACACACA\x00\x00\x0A\x00\x01\x00\x00\x00\x00\x00\x00";
+
+/// A status request for `*` with id 9, the same sent to all ends, and the reply of a node that holds FRED alone.
+const STATUS_REQUEST: &[u8] =
+    b"\x00\x09\x00\x00\x00\x01\x00\x00\x00\x00\x00\x00 CKAAAAAAAAAAAAAAAAAAAAAAAAAAAAAA\x00\x00\x21\x00\x01";
+
+const STATUS_REQUEST_TO_ALL: &[u8] =
+    b"\x00\x09\x00\x10\x00\x01\x00\x00\x00\x00\x00\x00 CKAAAAAAAAAAAAAAAAAAAAAAAAAAAAAA\x00\x00\x21\x00\x01";
+
+const STATUS: &[u8] =
+    b"\x00\x09\x84\x00\x00\x00\x00\x01\x00\x00\x00\x00 CKAAAAAAAAAAAAAAAAAAAAAAAAAAAAAA\x00\x00\x21\x00\x01\x00\x00\x00\x00\x00\x41\x01FRED            \x24\x00\x00\x00\x00\x00\x00\x00\x00\x00\x00\x00\x00\x00\x00\x00\x00\x00\x00\x00\x00\x00\x00\x00\x00\x00\x00\x00\x00\x00\x00\x00\x00\x00\x00\x00\x00\x00\x00\x00\x00\x00\x00\x00\x00\x00\x00\x00";
+
+/// A status request for FRED with id 1, and the reply of a node that holds FRED alone.
+const NAMES_REQUEST: &[u8] =
+    b"\x00\x01\x00\x00\x00\x01\x00\x00\x00\x00\x00\x00 EGFCEFEECACACACACACACACACACACACA\x00\x00\x21\x00\x01";
+
+const NAMES: &[u8] =
+    b"\x00\x01\x84\x00\x00\x00\x00\x01\x00\x00\x00\x00 EGFCEFEECACACACACACACACACACACACA\x00\x00\x21\x00\x01\x00\x00\x00\x00\x00\x13\x01FRED            \x24\x00";
+
+/// The response to a registration of FRED with id 1, with the entry of 127.0.0.2.
+const RESPONSE: &[u8; 62] =
+    b"\x00\x01\xAD\x80\x00\x00\x00\x01\x00\x00\x00\x00 EGFCEFEECACACACACACACACACACACACA\x00\x00\x20\x00\x01\x00\x00\x00\x3C\x00\x06\x20\x00\x7F\x00\x00\x02";
+
+/// A response about FRED, with the entry of 127.0.0.2: its id, its flags, and its TTL in seconds.
+#[derive(Clone, Copy, Debug)]
+struct Response(u8, [u8; 2], u8);
+
+impl Response {
+    fn octets(self) -> [u8; 62] {
+        let mut octets = *RESPONSE;
+        octets[1] = self.0;
+        octets[2] = self.1[0];
+        octets[3] = self.1[1];
+        octets[53] = self.2;
+        octets
+    }
+}
+
+/// What is done at a moment, and what has to come of it.
+#[derive(Clone, Copy, Debug)]
+enum Step<'a> {
+    /// A name is asked for, for 60 s: what is for the server, or why not.
+    Ask(u64, &'a [u8; 16], Kind, Result<&'a [u8], AskFault>),
+    /// FRED is given back: what is for the server, or why not.
+    Release(u64, Result<&'a [u8], ReleaseFault>),
+    /// FRED is looked up: what is for the server, or why not.
+    Resolve(u64, Result<&'a [u8], LookupFault>),
+    /// The end at the node's own address is asked for the names of FRED's node: what is for it.
+    AskNames(u64, &'a [u8]),
+    /// What is due for the server.
+    Poll(u64, Option<&'a [u8]>),
+    /// A poll before the node's last moment.
+    PollBack(u64),
+    /// A response of an end, and what it tells.
+    Respond(u64, Addr, Response, Event<'a>),
+    /// A datagram of an end, and what it tells.
+    Hear(u64, Addr, &'a [u8], Event<'a>),
+    /// A datagram of an end, and what is replied.
+    Reply(u64, Addr, &'a [u8], &'a [u8]),
+    /// Whether FRED is held.
+    Holds(u64, Option<Kind>),
+    /// Whether a lookup is open.
+    LookupOpen(u64, bool),
+}
+
+fn start() -> Result<Node<1>, Fail> {
+    Ok(Node::start(OWN, SERVER, Config::new(1000, 60, 4096)?, at(0)?))
+}
+
+/// A node goes through the steps.
+fn play(rt: &impl Abort, steps: &[Step<'_>]) -> Result<(), Fail> {
+    let mut node = start()?;
+    for step in steps {
+        let mut out = ArrayVec::new();
+        match *step {
+            Step::Ask(ms, name, kind, expected) => {
+                let asked = node.ask(at(ms)?, &name_of(name)?, kind, 60, &mut out);
+                assert_eq!(rt; asked.err(), expected.err(), "{step:?}");
+                assert!(rt; out.as_slice() == expected.unwrap_or(b""), "{step:?}");
+            }
+            Step::Release(ms, expected) => {
+                let released = node.release(at(ms)?, &fred(b"")?, &mut out);
+                assert_eq!(rt; released.err(), expected.err(), "{step:?}");
+                assert!(rt; out.as_slice() == expected.unwrap_or(b""), "{step:?}");
+            }
+            Step::Resolve(ms, expected) => {
+                let resolved = node.resolve(at(ms)?, &fred(b"")?, &mut out);
+                assert_eq!(rt; resolved.err(), expected.err(), "{step:?}");
+                assert!(rt; out.as_slice() == expected.unwrap_or(b""), "{step:?}");
+            }
+            Step::AskNames(ms, expected) => {
+                node.name_status(at(ms)?, OWN, &fred(b"")?, &mut out)?;
+                assert!(rt; out.as_slice() == expected, "{step:?}");
+            }
+            _ => hear(rt, &mut node, step)?,
+        }
+    }
+    Ok(())
+}
+
+/// The steps by which a node is told of time and of others.
+fn hear(rt: &impl Abort, node: &mut Node<1>, step: &Step<'_>) -> Result<(), Fail> {
+    let mut out = ArrayVec::new();
+    match *step {
+        Step::Poll(ms, expected) => {
+            let to = node.poll(at(ms)?, &mut out)?;
+            assert_eq!(rt; to, expected.map(|_| SERVER), "{step:?}");
+            assert!(rt; out.as_slice() == expected.unwrap_or(b""), "{step:?}");
+        }
+        Step::PollBack(ms) => {
+            assert_eq!(rt; node.poll(at(ms)?, &mut out), Err(ClockBack), "{step:?}");
+        }
+        Step::Respond(ms, from, response, expected) => {
+            let octets = response.octets();
+            let event = node.on_datagram(at(ms)?, from, &octets, &mut out)?;
+            assert!(rt; event == expected, "{step:?}");
+            assert!(rt; out.is_empty(), "{step:?}");
+        }
+        Step::Hear(ms, from, octets, expected) => {
+            let event = node.on_datagram(at(ms)?, from, octets, &mut out)?;
+            assert!(rt; event == expected, "{step:?}");
+            assert!(rt; out.is_empty(), "{step:?}");
+        }
+        Step::Reply(ms, from, octets, expected) => {
+            let event = node.on_datagram(at(ms)?, from, octets, &mut out)?;
+            assert!(rt; event == Event::Reply, "{step:?}");
+            assert!(rt; out.as_slice() == expected, "{step:?}");
+        }
+        Step::Holds(ms, expected) => {
+            assert_eq!(rt; node.holds(at(ms)?, &fred(b"")?), expected, "{step:?}");
+        }
+        Step::LookupOpen(ms, expected) => {
+            assert_eq!(rt; node.lookup_open(at(ms)?), expected, "{step:?}");
+        }
+        _ => return Err("a step of the node's own")?,
+    }
+    Ok(())
+}
+
+const A_NODE_IS_QUIET_FOR_TWO_LIVES_AFTER_ITS_START: &[Step<'static>] = &[
+    Step::Ask(2_000, FRED, Kind::Unique, Err(AskFault::Quiet)),
+    Step::Ask(2_001, FRED, Kind::Unique, Ok(REGISTRATION)),
+    Step::Ask(2_002, FRED, Kind::Unique, Err(AskFault::Busy)),
+    Step::Ask(1_999, FRED, Kind::Unique, Err(AskFault::ClockBack)),
+    Step::Poll(2_001, None),
+    Step::PollBack(2_000),
+    Step::Ask(2_002, STAR, Kind::Unique, Err(AskFault::BadName)),
+];
+
+#[test]
+fn a_node_is_quiet_for_two_lives_after_its_start(rt: HostRuntime) -> Result<(), Fail> {
+    play(&rt, A_NODE_IS_QUIET_FOR_TWO_LIVES_AFTER_ITS_START)
+}
+
+const A_LATE_REPLY_COUNTS_FROM_THE_FIRST_SENDING: &[Step<'static>] = &[
+    Step::Ask(60_000, FRED, Kind::Unique, Ok(REGISTRATION)),
+    Step::Respond(
+        60_900,
+        SERVER,
+        Response(1, [0xAD, 0x80], 60),
+        Event::Granted(60),
+    ),
+    Step::Holds(119_999, Some(Kind::Unique)),
+    Step::Holds(120_000, None),
+    Step::Holds(60_899, None),
+    Step::Poll(89_999, None),
+    Step::Poll(90_000, Some(REFRESH)),
+    Step::Respond(
+        91_000,
+        SERVER,
+        Response(2, [0xAD, 0x80], 60),
+        Event::Renewed(60),
+    ),
+    Step::Holds(149_999, Some(Kind::Unique)),
+    Step::Holds(150_000, None),
+];
+
+#[test]
+fn a_late_reply_counts_from_the_first_sending(rt: HostRuntime) -> Result<(), Fail> {
+    play(&rt, A_LATE_REPLY_COUNTS_FROM_THE_FIRST_SENDING)
+}
+
+const A_REPLY_AFTER_A_RETRY_COUNTS_FROM_THE_FIRST_SENDING: &[Step<'static>] = &[
+    Step::Ask(60_000, FRED, Kind::Unique, Ok(REGISTRATION)),
+    Step::Poll(65_000, Some(REGISTRATION)),
+    Step::Respond(
+        65_900,
+        SERVER,
+        Response(1, [0xAD, 0x80], 60),
+        Event::Granted(60),
+    ),
+    Step::Holds(119_999, Some(Kind::Unique)),
+    Step::Holds(120_000, None),
+];
+
+#[test]
+fn a_reply_after_a_retry_counts_from_the_first_sending(rt: HostRuntime) -> Result<(), Fail> {
+    play(&rt, A_REPLY_AFTER_A_RETRY_COUNTS_FROM_THE_FIRST_SENDING)
+}
+
+const A_REQUEST_IS_SENT_THREE_TIMES_AND_GIVEN_UP: &[Step<'static>] = &[
+    Step::Ask(60_000, FRED, Kind::Unique, Ok(REGISTRATION)),
+    Step::Poll(64_999, None),
+    Step::Poll(65_000, Some(REGISTRATION)),
+    Step::Poll(70_000, Some(REGISTRATION)),
+    Step::Poll(74_999, None),
+    Step::Ask(75_000, FRED, Kind::Unique, Ok(SECOND_REGISTRATION)),
+];
+
+#[test]
+fn a_request_is_sent_three_times_and_given_up(rt: HostRuntime) -> Result<(), Fail> {
+    play(&rt, A_REQUEST_IS_SENT_THREE_TIMES_AND_GIVEN_UP)
+}
+
+const A_WACK_PUTS_THE_NEXT_SENDING_OFF_BY_A_MINUTE_AT_MOST: &[Step<'static>] = &[
+    Step::Ask(60_000, FRED, Kind::Unique, Ok(REGISTRATION)),
+    Step::Hear(60_500, SERVER, WACK, Event::Wait),
+    Step::Poll(120_499, None),
+    Step::Poll(120_500, Some(REGISTRATION)),
+];
+
+#[test]
+fn a_wack_puts_the_next_sending_off_by_a_minute_at_most(rt: HostRuntime) -> Result<(), Fail> {
+    play(&rt, A_WACK_PUTS_THE_NEXT_SENDING_OFF_BY_A_MINUTE_AT_MOST)
+}
+
+const A_HOLD_THAT_IS_OVER_WHEN_ITS_REPLY_COMES: &[Step<'static>] = &[
+    Step::Ask(60_000, FRED, Kind::Unique, Ok(REGISTRATION)),
+    Step::Hear(60_500, SERVER, WACK, Event::Wait),
+    Step::Respond(
+        61_500,
+        SERVER,
+        Response(1, [0xAD, 0x80], 1),
+        Event::Granted(1),
+    ),
+    Step::Holds(61_500, None),
+    Step::Ask(62_000, FRED, Kind::Unique, Err(AskFault::Quiet)),
+    Step::Ask(62_001, FRED, Kind::Unique, Ok(SECOND_REGISTRATION)),
+];
+
+#[test]
+fn a_hold_that_is_over_when_its_reply_comes(rt: HostRuntime) -> Result<(), Fail> {
+    play(&rt, A_HOLD_THAT_IS_OVER_WHEN_ITS_REPLY_COMES)
+}
+
+const A_NAME_RESTS_AFTER_ITS_RELEASE: &[Step<'static>] = &[
+    Step::Ask(60_000, FRED, Kind::Unique, Ok(REGISTRATION)),
+    Step::Respond(
+        60_900,
+        SERVER,
+        Response(1, [0xAD, 0x80], 60),
+        Event::Granted(60),
+    ),
+    Step::Release(70_000, Ok(RELEASE)),
+    Step::Release(70_000, Err(ReleaseFault::NotHeld)),
+    Step::Respond(
+        70_400,
+        SERVER,
+        Response(2, [0xB4, 0x00], 0),
+        Event::Freed(0),
+    ),
+    Step::Ask(70_500, FRED, Kind::Unique, Err(AskFault::Quiet)),
+    Step::Ask(72_000, FRED, Kind::Unique, Err(AskFault::Quiet)),
+    Step::Ask(72_001, FRED, Kind::Unique, Ok(THIRD_REGISTRATION)),
+];
+
+#[test]
+fn a_name_rests_after_its_release(rt: HostRuntime) -> Result<(), Fail> {
+    play(&rt, A_NAME_RESTS_AFTER_ITS_RELEASE)
+}
+
+const A_FULL_NODE_KEEPS_ITS_NAME: &[Step<'static>] = &[
+    Step::Ask(60_000, FRED, Kind::Group, Ok(GROUP_REGISTRATION)),
+    Step::Respond(
+        60_900,
+        SERVER,
+        Response(1, [0xAD, 0x80], 60),
+        Event::Granted(60),
+    ),
+    Step::Ask(61_000, TEAM, Kind::Group, Err(AskFault::Full)),
+    Step::Holds(119_999, Some(Kind::Group)),
+];
+
+#[test]
+fn a_full_node_keeps_its_name(rt: HostRuntime) -> Result<(), Fail> {
+    play(&rt, A_FULL_NODE_KEEPS_ITS_NAME)
+}
+
+const A_CONFLICT_DEMAND_DROPS_A_NAME_AND_ONLY_THE_SERVER_MAKES_ONE: &[Step<'static>] = &[
+    Step::Ask(60_000, FRED, Kind::Unique, Ok(REGISTRATION)),
+    Step::Respond(
+        60_900,
+        SERVER,
+        Response(1, [0xAD, 0x80], 60),
+        Event::Granted(60),
+    ),
+    Step::Respond(
+        61_000,
+        STRANGER,
+        Response(5, [0xAD, 0x87], 0),
+        Event::Nothing,
+    ),
+    Step::Holds(61_000, Some(Kind::Unique)),
+    Step::Respond(
+        61_000,
+        OTHER_PORT,
+        Response(5, [0xAD, 0x87], 0),
+        Event::Nothing,
+    ),
+    Step::Holds(61_000, Some(Kind::Unique)),
+    Step::Respond(61_000, SERVER, Response(5, [0xAD, 0x87], 0), Event::Lost),
+    Step::Holds(61_000, None),
+];
+
+#[test]
+fn a_conflict_demand_drops_a_name_and_only_the_server_makes_one(
+    rt: HostRuntime,
+) -> Result<(), Fail> {
+    play(
+        &rt,
+        A_CONFLICT_DEMAND_DROPS_A_NAME_AND_ONLY_THE_SERVER_MAKES_ONE,
+    )
+}
+
+const A_REPLY_WITH_ANOTHER_ID_AND_A_CHALLENGE_ARE_NOTHING: &[Step<'static>] = &[
+    Step::Ask(60_000, FRED, Kind::Unique, Ok(REGISTRATION)),
+    Step::Respond(
+        60_900,
+        SERVER,
+        Response(2, [0xAD, 0x80], 60),
+        Event::Nothing,
+    ),
+    Step::Ask(60_900, FRED, Kind::Unique, Err(AskFault::Busy)),
+    Step::Respond(
+        60_900,
+        SERVER,
+        Response(1, [0xAD, 0x00], 60),
+        Event::Nothing,
+    ),
+    Step::Ask(60_900, FRED, Kind::Unique, Err(AskFault::Busy)),
+    Step::Respond(
+        60_900,
+        SERVER,
+        Response(1, [0xAD, 0x86], 0),
+        Event::Refused(6),
+    ),
+];
+
+#[test]
+fn a_reply_with_another_id_and_a_challenge_are_nothing(rt: HostRuntime) -> Result<(), Fail> {
+    play(&rt, A_REPLY_WITH_ANOTHER_ID_AND_A_CHALLENGE_ARE_NOTHING)
+}
+
+const A_REPLY_TO_A_REQUEST_THAT_WAS_GIVEN_UP_IS_NOTHING: &[Step<'static>] = &[
+    Step::Ask(60_000, FRED, Kind::Unique, Ok(REGISTRATION)),
+    Step::Poll(65_000, Some(REGISTRATION)),
+    Step::Poll(70_000, Some(REGISTRATION)),
+    Step::Ask(75_000, FRED, Kind::Unique, Ok(SECOND_REGISTRATION)),
+    Step::Respond(
+        75_100,
+        SERVER,
+        Response(1, [0xAD, 0x80], 60),
+        Event::Nothing,
+    ),
+    Step::Holds(75_100, None),
+    Step::Respond(
+        75_200,
+        SERVER,
+        Response(2, [0xAD, 0x80], 60),
+        Event::Granted(60),
+    ),
+    Step::Holds(134_999, Some(Kind::Unique)),
+    Step::Holds(135_000, None),
+];
+
+#[test]
+fn a_reply_to_a_request_that_was_given_up_is_nothing(rt: HostRuntime) -> Result<(), Fail> {
+    play(&rt, A_REPLY_TO_A_REQUEST_THAT_WAS_GIVEN_UP_IS_NOTHING)
+}
+
+const A_LOOKUP_DOES_NOT_END_BY_THE_ID_OF_A_REGISTRATION: &[Step<'static>] = &[
+    Step::Ask(60_000, FRED, Kind::Unique, Ok(REGISTRATION)),
+    Step::Resolve(60_000, Ok(SECOND_QUERY)),
+    Step::Respond(
+        60_001,
+        SERVER,
+        Response(1, [0x85, 0x80], 60),
+        Event::Nothing,
+    ),
+    Step::LookupOpen(60_001, true),
+    Step::Respond(
+        60_001,
+        SERVER,
+        Response(2, [0x85, 0x80], 60),
+        Event::Found(b"\x20\x00\x7F\x00\x00\x02"),
+    ),
+];
+
+#[test]
+fn a_lookup_does_not_end_by_the_id_of_a_registration(rt: HostRuntime) -> Result<(), Fail> {
+    play(&rt, A_LOOKUP_DOES_NOT_END_BY_THE_ID_OF_A_REGISTRATION)
+}
+
+const A_LOOKUP_IS_SENT_THREE_TIMES: &[Step<'static>] = &[
+    Step::Resolve(60_000, Ok(QUERY)),
+    Step::Resolve(60_000, Err(LookupFault::Busy)),
+    Step::Poll(65_000, Some(QUERY)),
+    Step::Poll(70_000, Some(QUERY)),
+    Step::LookupOpen(74_999, true),
+    Step::LookupOpen(75_000, false),
+];
+
+#[test]
+fn a_lookup_is_sent_three_times(rt: HostRuntime) -> Result<(), Fail> {
+    play(&rt, A_LOOKUP_IS_SENT_THREE_TIMES)
+}
+
+const A_LOOKUP_ENDS_BY_THE_END_THAT_WAS_ASKED: &[Step<'static>] = &[
+    Step::Resolve(60_000, Ok(QUERY)),
+    Step::Respond(60_001, OWN, Response(1, [0x85, 0x80], 60), Event::Nothing),
+    Step::Respond(
+        60_001,
+        SERVER,
+        Response(1, [0x85, 0x80], 60),
+        Event::Found(b"\x20\x00\x7F\x00\x00\x02"),
+    ),
+    Step::LookupOpen(60_001, false),
+];
+
+#[test]
+fn a_lookup_ends_by_the_end_that_was_asked(rt: HostRuntime) -> Result<(), Fail> {
+    play(&rt, A_LOOKUP_ENDS_BY_THE_END_THAT_WAS_ASKED)
+}
+
+const A_LOOKUP_OF_A_NAME_THAT_IS_NOT_THERE: &[Step<'static>] = &[
+    Step::Resolve(60_000, Ok(QUERY)),
+    Step::Hear(60_001, SERVER, NOT_FOUND, Event::NotFound),
+];
+
+#[test]
+fn a_lookup_of_a_name_that_is_not_there(rt: HostRuntime) -> Result<(), Fail> {
+    play(&rt, A_LOOKUP_OF_A_NAME_THAT_IS_NOT_THERE)
+}
+
+const A_STATUS_REPLY_LISTS_THE_HELD_NAMES: &[Step<'static>] = &[
+    Step::Ask(60_000, FRED, Kind::Unique, Ok(REGISTRATION)),
+    Step::Respond(
+        60_900,
+        SERVER,
+        Response(1, [0xAD, 0x80], 60),
+        Event::Granted(60),
+    ),
+    Step::Reply(61_000, ANYBODY, STATUS_REQUEST, STATUS),
+    Step::Reply(61_000, ANYBODY, STATUS_REQUEST_TO_ALL, STATUS),
+];
+
+#[test]
+fn a_status_reply_lists_the_held_names(rt: HostRuntime) -> Result<(), Fail> {
+    play(&rt, A_STATUS_REPLY_LISTS_THE_HELD_NAMES)
+}
+
+const THE_NAMES_OF_ANOTHER_END: &[Step<'static>] = &[
+    Step::AskNames(60_000, NAMES_REQUEST),
+    Step::Hear(
+        60_001,
+        OWN,
+        NAMES,
+        Event::Status(b"FRED            \x24\x00"),
+    ),
+];
+
+#[test]
+fn the_names_of_another_end(rt: HostRuntime) -> Result<(), Fail> {
+    play(&rt, THE_NAMES_OF_ANOTHER_END)
+}
+
+#[test]
+fn refusals_have_their_numbers(rt: HostRuntime) -> Result<(), Fail> {
+    settling_ends();
+    settling_in_steps();
+    one_move();
+    assert_eq!(rt; AskFault::Full.number(), 3);
+    assert_eq!(rt; ReleaseFault::ClockBack.number(), 4);
+    assert_eq!(rt; LookupFault::Busy.number(), 2);
+    assert_eq!(rt; ClockBack.number(), 4);
+    assert_eq!(rt; start()?.addr(), OWN);
+    Ok(())
+}

@@ -1,0 +1,431 @@
+//! Packets and messages from outside: the vectors of our profile over RFC 1002's layouts.
+
+use super::{FRED, STAR, TEAM, fred, name_of, patched};
+use arrayvec::ArrayVec;
+use nbt_name::{Kind, Name, NameFaultKind};
+use nbt_packet::laws::{
+    few_rows_are_written, one_message, one_message_spelled, one_packet_or_fault,
+    spelled_message_fits, written_form_is_read, written_length,
+};
+use nbt_packet::{
+    Fault, FaultKind, Full, Message, Registration, classify, decode, encode, entry_octets, read,
+    status_name_octets,
+};
+use std::process::Abort;
+use std::test::Fail;
+
+/// The registration of FRED with id 1, by 127.0.0.2 for 60 seconds.
+const REGISTRATION: &[u8] =
+    b"\x00\x01\x29\x00\x00\x01\x00\x00\x00\x00\x00\x01 EGFCEFEECACACACACACACACACACACACA\x00\x00\x20\x00\x01\xC0\x0C\x00\x20\x00\x01\x00\x00\x00\x3C\x00\x06\x20\x00\x7F\x00\x00\x02";
+
+/// Its positive reply.
+const REGISTERED: &[u8] =
+    b"\x00\x01\xAD\x80\x00\x00\x00\x01\x00\x00\x00\x00 EGFCEFEECACACACACACACACACACACACA\x00\x00\x20\x00\x01\x00\x00\x00\x3C\x00\x06\x20\x00\x7F\x00\x00\x02";
+
+/// Its refresh, and its release: another opcode, and for the release no TTL.
+const REFRESH: &[u8] =
+    b"\x00\x01\x40\x00\x00\x01\x00\x00\x00\x00\x00\x01 EGFCEFEECACACACACACACACACACACACA\x00\x00\x20\x00\x01\xC0\x0C\x00\x20\x00\x01\x00\x00\x00\x3C\x00\x06\x20\x00\x7F\x00\x00\x02";
+
+const RELEASE: &[u8] =
+    b"\x00\x01\x30\x00\x00\x01\x00\x00\x00\x00\x00\x01 EGFCEFEECACACACACACACACACACACACA\x00\x00\x20\x00\x01\xC0\x0C\x00\x20\x00\x01\x00\x00\x00\x00\x00\x06\x20\x00\x7F\x00\x00\x02";
+
+/// The positive reply to the release.
+const RELEASED: &[u8] =
+    b"\x00\x01\xB4\x00\x00\x00\x00\x01\x00\x00\x00\x00 EGFCEFEECACACACACACACACACACACACA\x00\x00\x20\x00\x01\x00\x00\x00\x00\x00\x06\x20\x00\x7F\x00\x00\x02";
+
+/// The status request for `*` with id 9.
+const STATUS_REQUEST: &[u8] =
+    b"\x00\x09\x00\x00\x00\x01\x00\x00\x00\x00\x00\x00 CKAAAAAAAAAAAAAAAAAAAAAAAAAAAAAA\x00\x00\x21\x00\x01";
+
+/// The query of FRED with id 7, and the reply that the group TEAM has two members.
+const QUERY: &[u8] =
+    b"\x00\x07\x01\x00\x00\x01\x00\x00\x00\x00\x00\x00 EGFCEFEECACACACACACACACACACACACA\x00\x00\x20\x00\x01";
+
+const FOUND: &[u8] =
+    b"\x00\x07\x85\x80\x00\x00\x00\x01\x00\x00\x00\x00 FEEFEBENCACACACACACACACACACACACA\x00\x00\x20\x00\x01\x00\x00\x00\x3C\x00\x0C\xA0\x00\x7F\x00\x00\x02\xA0\x00\x7F\x00\x00\x03";
+
+/// The negative response to a query of FRED with id 8, with its record and without.
+const NOT_FOUND: &[u8] =
+    b"\x00\x08\x85\x83\x00\x00\x00\x01\x00\x00\x00\x00 EGFCEFEECACACACACACACACACACACACA\x00\x00\x0A\x00\x01\x00\x00\x00\x00\x00\x00";
+
+const NOT_FOUND_BARE: &[u8] = b"\x00\x08\x85\x83\x00\x00\x00\x00\x00\x00\x00\x00";
+
+/// The status of a node that holds FRED alone, asked for by `*` with id 9: behind the one name 46 octets of zeros.
+const STATUS: &[u8] =
+    b"\x00\x09\x84\x00\x00\x00\x00\x01\x00\x00\x00\x00 CKAAAAAAAAAAAAAAAAAAAAAAAAAAAAAA\x00\x00\x21\x00\x01\x00\x00\x00\x00\x00\x41\x01FRED            \x24\x00\x00\x00\x00\x00\x00\x00\x00\x00\x00\x00\x00\x00\x00\x00\x00\x00\x00\x00\x00\x00\x00\x00\x00\x00\x00\x00\x00\x00\x00\x00\x00\x00\x00\x00\x00\x00\x00\x00\x00\x00\x00\x00\x00\x00\x00\x00";
+
+/// A wait of 5 seconds for FRED with id 9.
+const WAIT: &[u8] =
+    b"\x00\x09\xBC\x00\x00\x00\x00\x01\x00\x00\x00\x00 EGFCEFEECACACACACACACACACACACACA\x00\x00\x20\x00\x01\x00\x00\x00\x05\x00\x02\x29\x00";
+
+/// What a message says beside its id and its name. Who registers is 127.0.0.2, for 60 s.
+#[derive(Clone, Copy, Debug)]
+enum Says<'a> {
+    Registration(Kind),
+    Overwrite(Kind),
+    Refresh(Kind),
+    Release(Kind),
+    Query,
+    StatusRequest,
+    Registered(u8, Kind),
+    Released(u8, Kind),
+    Found(u32, &'a [u8]),
+    NotFound(u8),
+    NotFoundBare(u8),
+    Status(&'a [u8]),
+    Wait(u32),
+}
+
+fn registration(id: u16, name: Name, kind: Kind) -> Registration {
+    Registration {
+        id,
+        name,
+        kind,
+        addr: 0x7F000002,
+        ttl: 60,
+    }
+}
+
+fn message(id: u16, name: Name, says: Says<'_>) -> Message<'_> {
+    match says {
+        Says::Registration(kind) => Message::Registration(registration(id, name, kind)),
+        Says::Overwrite(kind) => Message::Overwrite(registration(id, name, kind)),
+        Says::Refresh(kind) => Message::Refresh(registration(id, name, kind)),
+        Says::Release(kind) => Message::Release {
+            id,
+            name,
+            kind,
+            addr: 0x7F000002,
+        },
+        Says::Query => Message::Query { id, name },
+        Says::StatusRequest => Message::StatusRequest { id, name },
+        Says::Registered(rcode, kind) => Message::Registered {
+            rcode,
+            registration: registration(id, name, kind),
+        },
+        Says::Released(rcode, kind) => Message::Released {
+            id,
+            rcode,
+            name,
+            kind,
+            addr: 0x7F000002,
+        },
+        Says::Found(ttl, entries) => Message::Found {
+            id,
+            name,
+            ttl,
+            entries,
+        },
+        Says::NotFound(rcode) => Message::NotFound {
+            id,
+            rcode,
+            name: Some(name),
+        },
+        Says::NotFoundBare(rcode) => Message::NotFound {
+            id,
+            rcode,
+            name: None,
+        },
+        Says::Status(names) => Message::Status { id, name, names },
+        Says::Wait(ttl) => Message::Wait { id, name, ttl },
+    }
+}
+
+/// A message, its id and its name; and the octets that it is written as, with others at some places.
+type Written = (
+    u16,
+    &'static [u8; 16],
+    Says<'static>,
+    &'static [u8],
+    &'static [(usize, u8)],
+);
+
+const WRITTEN: &[Written] = &[
+    (1, FRED, Says::Registration(Kind::Unique), REGISTRATION, &[]),
+    (
+        1,
+        FRED,
+        Says::Overwrite(Kind::Unique),
+        REGISTRATION,
+        &[(2, 0x28)],
+    ),
+    (
+        1,
+        FRED,
+        Says::Refresh(Kind::Unique),
+        REGISTRATION,
+        &[(2, 0x40)],
+    ),
+    (
+        1,
+        FRED,
+        Says::Release(Kind::Group),
+        REGISTRATION,
+        &[(2, 0x30), (59, 0), (62, 0xA0)],
+    ),
+    (7, FRED, Says::Query, QUERY, &[]),
+    (7, FRED, Says::StatusRequest, QUERY, &[(2, 0), (47, 0x21)]),
+    (1, FRED, Says::Registered(0, Kind::Unique), REGISTERED, &[]),
+    (
+        1,
+        FRED,
+        Says::Released(6, Kind::Unique),
+        REGISTERED,
+        &[(2, 0xB4), (3, 0x06), (53, 0)],
+    ),
+    (
+        7,
+        TEAM,
+        Says::Found(60, b"\xA0\x00\x7F\x00\x00\x02\xA0\x00\x7F\x00\x00\x03"),
+        FOUND,
+        &[],
+    ),
+    (8, FRED, Says::NotFound(3), NOT_FOUND, &[]),
+    (8, FRED, Says::NotFoundBare(3), NOT_FOUND_BARE, &[]),
+    (
+        9,
+        STAR,
+        Says::Status(b"FRED            \x24\x00"),
+        STATUS,
+        &[],
+    ),
+    (9, FRED, Says::Wait(5), WAIT, &[]),
+];
+
+/// The message is written as these octets, and what is read from them is written so again.
+fn written_and_read(rt: &impl Abort, message: &Message<'_>, octets: &[u8]) -> Result<(), Fail> {
+    let mut out = ArrayVec::new();
+    assert!(rt; message.fits());
+    encode(message, &mut out)?;
+    assert!(rt; out.as_slice() == octets, "{message:?}");
+    let (_, length) = decode(octets)?;
+    assert_eq!(rt; length, octets.len());
+    let read = read(octets).ok_or("no message")?;
+    assert!(rt; read.fits());
+    encode(&read, &mut out)?;
+    assert!(rt; out.as_slice() == octets, "{message:?} read");
+    Ok(())
+}
+
+#[test]
+fn messages_are_written_and_read(rt: HostRuntime) -> Result<(), Fail> {
+    written_form_is_read();
+    for (id, name, says, octets, patches) in WRITTEN {
+        let octets = patched(&rt, octets, patches)?;
+        let message = message(*id, name_of(name)?, *says);
+        written_and_read(&rt, &message, &octets)?;
+    }
+    Ok(())
+}
+
+#[test]
+fn registration_of_fred(rt: HostRuntime) -> Result<(), Fail> {
+    let (packet, length) = decode(REGISTRATION)?;
+    assert_eq!(rt; length, 68);
+    let Some(Message::Registration(read)) = classify(&packet) else {
+        return Err(Fail::from("no registration"));
+    };
+    assert_eq!(rt; read.id, 1);
+    assert!(rt; read.name == fred(b"")?);
+    assert_eq!(rt; read.kind, Kind::Unique);
+    assert_eq!(rt; read.addr, 0x7F000002);
+    assert_eq!(rt; read.ttl, 60);
+    Ok(())
+}
+
+/// Octets, with others at some places; the first fault, and its place.
+type Fails = (&'static [u8], &'static [(usize, u8)], FaultKind, usize);
+
+const FAULTS: &[Fails] = &[
+    (b"", &[], FaultKind::Name(NameFaultKind::Short), 0),
+    (b"\x00\x01\x01\x00\x00\x02", &[], FaultKind::TooMany, 4),
+    // A pointer to itself.
+    (
+        QUERY,
+        &[(12, 0xC0), (13, 0x0C)],
+        FaultKind::Name(NameFaultKind::BadPointer),
+        12,
+    ),
+    (
+        REGISTRATION,
+        &[(12, 0x21)],
+        FaultKind::Name(NameFaultKind::BadLabel),
+        12,
+    ),
+    (
+        REGISTRATION,
+        &[(13, 0x51)],
+        FaultKind::Name(NameFaultKind::BadHalf),
+        13,
+    ),
+    (REGISTRATION, &[(7, 2)], FaultKind::TooMany, 6),
+    (REGISTRATION, &[(9, 1)], FaultKind::TooMany, 8),
+    (REGISTRATION, &[(11, 2)], FaultKind::TooMany, 10),
+];
+
+#[test]
+fn faults_and_their_places(rt: HostRuntime) -> Result<(), Fail> {
+    one_packet_or_fault();
+    for (octets, patches, kind, place) in FAULTS {
+        let octets = patched(&rt, octets, patches)?;
+        let fault = Fault {
+            kind: *kind,
+            place: *place,
+        };
+        assert_eq!(rt; decode(&octets).err(), Some(fault), "{patches:?}");
+    }
+    assert_eq!(rt; FaultKind::TooMany.number(), 6);
+    Ok(())
+}
+
+/// A registration of FRED whose additional record spells its name out, as TEAM.
+const SPELLED_OUT: &[u8] =
+    b"\x00\x01\x29\x00\x00\x01\x00\x00\x00\x00\x00\x01 EGFCEFEECACACACACACACACACACACACA\x00\x00\x20\x00\x01 FEEFEBENCACACACACACACACACACACACA\x00\x00\x20\x00\x01\x00\x00\x00\x3C\x00\x06\x20\x00\x7F\x00\x00\x02";
+
+/// Octets, with others at some places, and which line of the table they meet.
+const LINES: &[(&[u8], &[(usize, u8)], &str)] = &[
+    (QUERY, &[(3, 0x10), (0, 0)], "none"),
+    (QUERY, &[(3, 0x10), (47, 0x21)], "status request"),
+    (REGISTRATION, &[(3, 0x10)], "none"),
+    (REGISTRATION, &[(2, 0x41)], "refresh"),
+    (REGISTRATION, &[(2, 0x48)], "refresh"),
+    (REGISTRATION, &[(2, 0x49)], "refresh"),
+    (REGISTRATION, &[(49, 2)], "none"),
+    (REGISTRATION, &[(62, 0x00)], "registration"),
+    (REGISTRATION, &[(62, 0x40)], "registration"),
+    (REGISTRATION, &[(62, 0xE0)], "registration"),
+    (REGISTERED, &[(3, 0x00)], "none"),
+    (REGISTERED, &[(3, 0x06)], "registered"),
+    (REGISTERED, &[(2, 0xC0), (3, 0x00)], "registered"),
+    (REGISTERED, &[(2, 0x85)], "found"),
+    (NOT_FOUND, &[(3, 0x80)], "none"),
+    (NOT_FOUND, &[(2, 0xBC), (3, 0)], "wait"),
+    // The additional record is about another name, and about the same name spelled out.
+    (SPELLED_OUT, &[], "none"),
+    (
+        SPELLED_OUT,
+        &[
+            (51, b'E'),
+            (52, b'G'),
+            (53, b'F'),
+            (54, b'C'),
+            (55, b'E'),
+            (56, b'F'),
+            (57, b'E'),
+            (58, b'E'),
+        ],
+        "registration",
+    ),
+];
+
+/// Which line of the table the octets meet.
+fn word_of(octets: &[u8]) -> Result<&'static str, Fail> {
+    let (packet, _) = decode(octets)?;
+    Ok(match classify(&packet) {
+        None => "none",
+        Some(Message::Registration(_)) => "registration",
+        Some(Message::Overwrite(_)) => "overwrite",
+        Some(Message::Refresh(_)) => "refresh",
+        Some(Message::Release { .. }) => "release",
+        Some(Message::Query { .. }) => "query",
+        Some(Message::StatusRequest { .. }) => "status request",
+        Some(Message::Registered { .. }) => "registered",
+        Some(Message::Released { .. }) => "released",
+        Some(Message::Found { .. }) => "found",
+        Some(Message::NotFound { .. }) => "not found",
+        Some(Message::Status { .. }) => "status",
+        Some(Message::Wait { .. }) => "wait",
+    })
+}
+
+#[test]
+fn lines_of_the_table(rt: HostRuntime) -> Result<(), Fail> {
+    one_message();
+    for (octets, patches, word) in LINES {
+        let octets = patched(&rt, octets, patches)?;
+        assert_eq!(rt; word_of(&octets)?, *word, "{patches:?}");
+    }
+    Ok(())
+}
+
+/// The worked examples of every kind.
+const WHOLE: &[&[u8]] = &[
+    REGISTRATION,
+    REGISTERED,
+    QUERY,
+    FOUND,
+    NOT_FOUND,
+    NOT_FOUND_BARE,
+    STATUS_REQUEST,
+    STATUS,
+    WAIT,
+    RELEASE,
+    RELEASED,
+    REFRESH,
+];
+
+/// Each packet that is cut short has its fault at its end, and is no message.
+#[test]
+fn packets_cut_at_every_length(rt: HostRuntime) -> Result<(), Fail> {
+    one_packet_or_fault();
+    for octets in WHOLE {
+        for place in 0..octets.len() {
+            let cut = &octets[..place];
+            let short = Fault {
+                kind: FaultKind::Name(NameFaultKind::Short),
+                place,
+            };
+            assert_eq!(rt; decode(cut).err(), Some(short), "{cut:?}");
+            assert!(rt; read(cut).is_none(), "{cut:?}");
+        }
+        assert!(rt; read(octets).is_some(), "{octets:?}");
+    }
+    Ok(())
+}
+
+#[test]
+fn octets_after_the_packet_are_not_looked_at(rt: HostRuntime) -> Result<(), Fail> {
+    one_message_spelled();
+    let mut more = Vec::from_slice(rt.alloc(), REGISTRATION)?;
+    more.extend_from_slice(b"\xFF\xFF\xFF")?;
+    let (_, length) = decode(&more)?;
+    assert_eq!(rt; length, 68);
+    assert!(rt; matches!(read(&more), Some(Message::Registration(_))));
+    Ok(())
+}
+
+#[test]
+fn entries_and_status_names(rt: HostRuntime) -> Result<(), Fail> {
+    spelled_message_fits();
+    assert!(rt; entry_octets(Kind::Unique, 0x7F000002) == *b"\x20\x00\x7F\x00\x00\x02");
+    assert!(rt; entry_octets(Kind::Group, 0xC0000201) == *b"\xA0\x00\xC0\x00\x02\x01");
+    let unique = status_name_octets(FRED, Kind::Unique);
+    assert!(rt; unique == *b"FRED            \x24\x00");
+    let group = status_name_octets(TEAM, Kind::Group);
+    assert!(rt; group == *b"TEAM            \xA4\x00");
+    Ok(())
+}
+
+#[test]
+fn a_written_form_of_576_octets_and_one_longer(rt: HostRuntime) -> Result<(), Fail> {
+    written_length();
+    few_rows_are_written();
+    let entries = [0x20; 522];
+    for (count, length) in [(86, 576), (87, 0)] {
+        let end = 6 * count;
+        assert!(rt; end <= entries.len());
+        let found = Message::Found {
+            id: 1,
+            name: fred(b"\x03abc")?,
+            ttl: 60,
+            entries: &entries[..end],
+        };
+        assert!(rt; found.fits());
+        let mut out = ArrayVec::new();
+        let written = encode(&found, &mut out);
+        assert_eq!(rt; written.is_err(), count == 87);
+        assert_eq!(rt; out.len(), length);
+    }
+    assert_eq!(rt; Full.number(), 7);
+    Ok(())
+}
