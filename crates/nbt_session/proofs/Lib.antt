@@ -1,8 +1,10 @@
 pub mod Answering
 pub mod Calls
 pub mod Cells
+pub mod Comings
 pub mod Entries
 pub mod Faults
+pub mod InParts
 pub mod Joining
 pub mod Lines
 pub mod Packets

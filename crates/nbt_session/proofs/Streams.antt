@@ -29,18 +29,18 @@ one_stream one octets (p ∷ ps) (q ∷ qs) x y s t =
     let tail : ps ≡ qs = others.0 in
     (cc, others.1)
 
-nothing_is_partial : IsPartial []
+pub nothing_is_partial : IsPartial []
 nothing_is_partial p rest (is, e) = cc
 
 -- a packet's text in front of a stream
-packet_first : (p : PacketValue) (octets : List ℕ) (packets : List PacketValue) (rest : List ℕ) → IsPacket p → StreamIs octets packets rest → StreamIs (text p ++ octets) (p ∷ packets) rest
+pub packet_first : (p : PacketValue) (octets : List ℕ) (packets : List PacketValue) (rest : List ℕ) → IsPacket p → StreamIs octets packets rest → StreamIs (text p ++ octets) (p ∷ packets) rest
 packet_first p octets packets rest is s = record {
   whole = ap (λ (xs : List ℕ). text p ++ xs) s.whole ∙ sym (append_assoc (text p) (flat_map text packets) rest);
   each = (is, s.each);
   partial = s.partial;
 }
 
-stream_by : (a b : List ℕ) (packets : List PacketValue) (rest : List ℕ) → a ≡ b → StreamIs a packets rest → StreamIs b packets rest
+pub stream_by : (a b : List ℕ) (packets : List PacketValue) (rest : List ℕ) → a ≡ b → StreamIs a packets rest → StreamIs b packets rest
 stream_by a b packets rest e s = subst (λ (xs : List ℕ). StreamIs xs packets rest) e s
 
 -- what each answer says of the state

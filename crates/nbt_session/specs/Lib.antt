@@ -4,5 +4,6 @@ pub mod Inner
 pub mod Listener
 pub mod Numbers
 pub mod Packet
+pub mod Parts
 pub mod Stream
 pub mod Taking

@@ -1,8 +1,8 @@
 //! What stands behind a packet's header (RFC 1002 sections 4.3.2 to 4.3.7).
 
-ghost use Rattle.std.specs.Prelude.{◌≡◌, ◌+◌, ◌<◌, ◌≤◌, ◌^◌, ◌++◌, length, IfOk, IfErr};
+ghost use Rattle.std.specs.Prelude.{◌≡◌, ◌≢◌, ◌+◌, ◌<◌, ◌≤◌, ◌^◌, ◌++◌, length, IfOk, IfErr};
 ghost use Rattle.byteorder.specs.Endian.{big_bytes};
-ghost use Rattle.nbt_session.specs.declared.packet.PacketType.TheVariants.{Request};
+ghost use Rattle.nbt_session.specs.declared.packet.PacketType.TheVariants.{Message, Request};
 ghost use Rattle.nbt_session.specs.Packet.{HasLength, IsPacket, type_of, body_of, packet_of};
 ghost use Rattle.nbt_session.specs.Stream.{RequestFault, name_fault};
 
@@ -22,10 +22,25 @@ pub(crate) fn packet_in(kind: PacketType, body: Vec<u8>) -> Result<Packet, Fault
 {
     match kind {
         PacketType::Message => Ok(Packet::Message(body)),
-        PacketType::Request => request_in(&body),
+        _ => other_in(kind, &body),
+    }
+}
+
+/// The packet that these octets behind a header are. It is no message.
+pub(crate) fn other_in(kind: PacketType, body: &[u8]) -> Result<Packet, Fault>
+    requires other { kind ≢ Message }
+    requires long { HasLength kind (length body.now) }
+    ensures packet { IfOk result (λ p. IsPacket (packet_of p)) }
+    ensures kind { IfOk result (λ p. type_of (packet_of p) ≡ kind) }
+    ensures body { IfOk result (λ p. body_of (packet_of p) ≡ body.now) }
+    ensures fault { IfErr result (λ fault. (kind ≡ Request) × RequestFault body.now fault) }
+{
+    match kind {
+        PacketType::Message => unreachable!(),
+        PacketType::Request => request_in(body),
         PacketType::Positive => Ok(Packet::Positive),
         PacketType::Negative => Ok(Packet::Negative(body[0])),
-        PacketType::Retarget => Ok(Packet::Retarget(addr_in(&body))),
+        PacketType::Retarget => Ok(Packet::Retarget(addr_in(body))),
         PacketType::KeepAlive => Ok(Packet::KeepAlive),
     }
 }

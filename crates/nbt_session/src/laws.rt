@@ -1,6 +1,6 @@
 //! What holds of session packets and streams, whatever the code does: laws over the definitions alone.
 
-ghost use Rattle.std.specs.Prelude.{◌≡◌, ℕ, ◌≤◌, List, ◌++◌, [], Option, Some, Ok, Err};
+ghost use Rattle.std.specs.Prelude.{◌≡◌, ℕ, ◌≤◌, List, ◌++◌, [], take, Option, Some, Ok, Err};
 ghost use Rattle.nbt_name.specs.declared.addr.Kind.{Kind};
 ghost use Rattle.nbt_name.specs.Wire.{NameValue};
 ghost use Rattle.nbt_session.specs.declared.caller.CallerState.{CallerState};
@@ -10,6 +10,7 @@ ghost use Rattle.nbt_session.specs.Caller.{AnswerValue, CallerMoves};
 ghost use Rattle.nbt_session.specs.Event.{EventValue, packet};
 ghost use Rattle.nbt_session.specs.Listener.{ListenerValue, ListenerAnswerValue, ListenerMoves, LetsIn, open_count};
 ghost use Rattle.nbt_session.specs.Packet.{PacketValue, IsPacket, request, text};
+ghost use Rattle.nbt_session.specs.Parts.{PartValue, PiecesState, between, TakesPart, PartsRun, PutTogether, held_in, octets_in};
 ghost use Rattle.nbt_session.specs.Stream.{Begins, StreamIs, HasFault};
 ghost use Rattle.nbt_session.specs.Taking.{StreamState, holding, Takes, Taken, Run};
 
@@ -51,6 +52,23 @@ pub fn cutting_changes_nothing()
     ensures fault { (octets piece : List ℕ) (packets : List PacketValue) (rest : List ℕ) (fault : Fault) (after : StreamState)
         → Run (holding []) octets packets (holding rest) → Takes piece (holding rest) (Err (Malformed fault)) after
         → StreamIs (octets ++ piece) packets (rest ++ piece) × HasFault (rest ++ piece) fault }
+{
+    text_is_read();
+}
+
+/// However a stream of octets is cut into pieces, the parts that are returned, put together, and the octets that are
+/// held are those of the octets taken; and a fault is returned where those octets and the piece go on with one. In each
+/// call the octets held before and those taken are the part's octets and those held after.
+pub fn parts_are_the_stream()
+    ensures call { (piece : List ℕ) (n : ℕ) (part : Option PartValue) (before after : PiecesState)
+        → TakesPart piece before (Ok (n, part)) after → held_in before ++ take n piece ≡ octets_in part ++ held_in after }
+    ensures packets { (octets : List ℕ) (parts : List PartValue) (after : PiecesState)
+        → PartsRun (between []) octets parts after
+        → (packets : List PacketValue) × (begun : List ℕ) × PutTogether parts packets begun × StreamIs octets packets (begun ++ held_in after) }
+    ensures fault { (octets piece : List ℕ) (parts : List PartValue) (before after : PiecesState) (fault : Fault)
+        → PartsRun (between []) octets parts before → TakesPart piece before (Err (Malformed fault)) after
+        → (packets : List PacketValue) × PutTogether parts packets []
+        × StreamIs (octets ++ piece) packets (held_in before ++ piece) × HasFault (held_in before ++ piece) fault }
 {
     text_is_read();
 }

@@ -4,12 +4,15 @@
 
 mod body;
 mod caller;
+mod coming;
 mod event;
 mod fault;
 mod header;
 pub mod laws;
 mod listener;
 mod packet;
+mod part;
+mod pieces;
 mod stream;
 mod writing;
 
@@ -18,6 +21,8 @@ pub use event::Event;
 pub use fault::{EncodeFault, Fault, FaultKind, StreamFault};
 pub use listener::{Entry, Full, Listener, ListenerAnswer};
 pub use packet::Packet;
+pub use part::Part;
+pub use pieces::Pieces;
 pub use stream::Stream;
 pub use writing::encode;
 

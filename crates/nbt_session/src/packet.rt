@@ -7,6 +7,9 @@ use nbt_name::{Addr, Name};
 /// The most octets of a message: what 17 bits of length can say (RFC 1002 section 4.3.1).
 pub(crate) const MESSAGE_MOST: usize = 0x1FFFF;
 
+/// The most octets behind the header of another packet: two names of 255 octets (RFC 1002 section 4.3.2).
+pub(crate) const OTHER_MOST: usize = 510;
+
 /// A packet of a session (RFC 1002 section 4.3.1).
 #[derive(Debug, PartialEq, Eq, Drop)]
 pub enum Packet {
@@ -88,7 +91,7 @@ impl PacketType {
     {
         match self {
             PacketType::Message => (0, MESSAGE_MOST),
-            PacketType::Request => (68, 510),
+            PacketType::Request => (68, OTHER_MOST),
             PacketType::Positive | PacketType::KeepAlive => (0, 0),
             PacketType::Negative => (1, 1),
             PacketType::Retarget => (6, 6),
