@@ -20,6 +20,3 @@ mod sessions;
 pub use fault::Fault;
 pub use ports::Ports;
 pub use script::run;
-
-#[cfg(test)]
-mod tests;

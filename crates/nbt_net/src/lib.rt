@@ -10,6 +10,3 @@ mod serve;
 pub use fault::Fault;
 pub use node::{NodeArguments, run_node};
 pub use serve::{ServeArguments, run_server};
-
-#[cfg(test)]
-mod tests;

@@ -1,4 +1,4 @@
-//! What `command` prints and how it ends.
+//! What `command` and `command_on` print, and how they end.
 
 use arrayvec::ArrayVec;
 use nbt_prog::command;
@@ -9,24 +9,33 @@ use std::process::Abort;
 mod answer;
 mod check;
 mod datagrams;
+mod failures;
+mod lengths;
 mod looping;
+mod machine;
 mod messages;
 mod network;
 mod release;
 mod replies;
+mod serving;
 mod show;
 mod sim;
+mod street;
+mod terminal;
 
 /// The most that a test prints.
 const ROOM: usize = 4096;
 
-/// A writer that takes so many octets a call, and fails at its first call past `calls`.
+/// A writer that takes so many octets a call, and fails at its first call past `calls`. It tells whether each line was
+/// flushed before the next.
 #[derive(Drop)]
 struct Paper {
     text: ArrayVec<u8, ROOM>,
     at_once: usize,
     calls: usize,
     flushes: bool,
+    flushed: usize,
+    late: bool,
 }
 
 impl Paper {
@@ -36,6 +45,8 @@ impl Paper {
             at_once: ROOM,
             calls: usize::MAX,
             flushes: true,
+            flushed: 0,
+            late: false,
         }
     }
 
@@ -47,6 +58,24 @@ impl Paper {
             ..Paper::new()
         }
     }
+
+    /// Takes all, and can't flush.
+    fn stuck() -> Paper {
+        Paper {
+            flushes: false,
+            ..Paper::new()
+        }
+    }
+
+    /// Whether all that was written is flushed.
+    fn is_flushed(&self) -> bool {
+        self.flushed == self.text.len()
+    }
+
+    /// Whether each line was flushed before the next was begun.
+    fn is_line_by_line(&self) -> bool {
+        self.is_flushed() && !self.late
+    }
 }
 
 impl Write for Paper {
@@ -55,6 +84,9 @@ impl Write for Paper {
             return Err(io::Error::from(io::ErrorKind::StorageFull));
         }
         self.calls -= 1;
+        if !self.is_flushed() && self.text.as_slice().ends_with(b"\n") {
+            self.late = true;
+        }
         let most = buf.len().min(self.at_once);
         match self.text.try_extend_from_slice(&buf[..most]) {
             Ok(()) => Ok(most),
@@ -64,86 +96,12 @@ impl Write for Paper {
 
     fn flush(&mut self) -> io::Result<()> {
         if self.flushes {
+            self.flushed = self.text.len();
             Ok(())
         } else {
             Err(io::Error::from(io::ErrorKind::BrokenPipe))
         }
     }
-}
-
-fn status_of<R: Abort + AllocGlobal>(rt: &R, words: &[&str], paper: &mut Paper) -> u8 {
-    command(rt.alloc(), words, &mut io::empty(), paper)
-}
-
-fn expect<R: Abort + AllocGlobal>(rt: &R, words: &[&str], status: u8, text: &[u8]) {
-    let mut paper = Paper::new();
-    let got = status_of(rt, words, &mut paper);
-    assert_eq!(rt; got, status, "{words:?}");
-    assert_eq!(rt; paper.text.as_slice(), text, "{words:?}");
-}
-
-fn starts<R: Abort + AllocGlobal>(rt: &R, words: &[&str], status: u8, start: &[u8]) {
-    let mut paper = Paper::new();
-    let got = status_of(rt, words, &mut paper);
-    assert_eq!(rt; got, status, "{words:?}");
-    assert!(rt; paper.text.as_slice().starts_with(start), "{words:?}");
-    assert!(rt; paper.text.as_slice().ends_with(b"\n"), "{words:?}");
-}
-
-/// Each write that fails ends the program, and what was written before stays.
-fn expect_cut<R: Abort + AllocGlobal>(rt: &R, words: &[&str], text: &[u8]) {
-    for calls in 0..text.len() {
-        let mut paper = Paper::short(calls);
-        let status = status_of(rt, words, &mut paper);
-        assert_eq!(rt; status, 3, "{words:?} cut at {calls}");
-        assert_eq!(rt;
-            paper.text.as_slice(),
-            &text[..calls],
-            "{words:?} cut at {calls}"
-        );
-    }
-}
-
-/// Where an allocation is refused, as under `rt try --test --fail-alloc 1..`, nothing but that is
-/// told. With all the memory there is, the answer is the right one.
-fn expect_or_memory<R: Abort + AllocGlobal>(rt: &R, words: &[&str], status: u8) {
-    let mut paper = Paper::new();
-    let got = status_of(rt, words, &mut paper);
-    if got == 4 {
-        assert_eq!(rt; paper.text.as_slice(), b"memory\n".as_slice(), "{words:?}");
-    } else {
-        assert_eq!(rt; got, status, "{words:?}");
-        assert!(rt;
-            paper.text.as_slice() != b"memory\n".as_slice(),
-            "{words:?}"
-        );
-    }
-}
-
-/// Where the server is.
-/// Where the node is.
-/// FRED on the wire (RFC 1001 section 14.1).
-const FRED: &str = "20454746434546454543414341434143414341434143414341434143414341434100";
-
-/// TEAM on the wire.
-const TEAM: &str = "20464545464542454e43414341434143414341434143414341434143414341434100";
-
-/// The name of `*` and fifteen octets 0 on the wire.
-const STAR: &str = "20434b41414141414141414141414141414141414141414141414141414141414100";
-
-/// Hexadecimal without the spaces, and with the names in place of `{FRED}`, `{TEAM}` and `{STAR}`.
-fn hexadecimal<R: Abort + AllocGlobal>(rt: &R, text: &str) -> String {
-    let mut digits = String::new(rt.alloc());
-    for word in text.split(' ') {
-        let word = match word {
-            "{FRED}" => FRED,
-            "{TEAM}" => TEAM,
-            "{STAR}" => STAR,
-            _ => word,
-        };
-        digits.push_str(word).expect(rt, "memory");
-    }
-    digits
 }
 
 /// What is printed where `input` is the standard input.

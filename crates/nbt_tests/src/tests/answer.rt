@@ -1,200 +1,156 @@
-//! The command `answer`, and what holds of every command.
+//! The command `answer`, and the program's help.
 
-use super::{Paper, expect, expect_cut, expect_or_memory, starts, status_of};
+use super::terminal::play;
 
-const NONE: [&str; 4] = ["nbt", "answer", "127.0.0.2:137", "8094"];
+const WORDS: &str = "\
+# Octets that a server has no reply to.
+$ nbt answer 127.0.0.2:137 8094
+none
+
+$ nbt answer 0.0.0.0:0 ''
+none
+
+$ nbt answer 255.255.255.255:65535 aF09
+none
+
+# The moment is behind the others or before them.
+$ nbt answer 1.2.3.4:5 00 --at 0
+none
+
+$ nbt answer --at 0 1.2.3.4:5 00
+none
+
+$ nbt answer 1.2.3.4:5 00 --at 007
+none
+
+$ nbt answer --at 007 1.2.3.4:5 00
+none
+
+$ nbt answer 1.2.3.4:5 00 --at 1152921504606846976
+none
+
+$ nbt answer --at 1152921504606846976 1.2.3.4:5 00
+none
+
+# A time that is none is told first of all.
+$ nbt answer x y --at z
+? 2
+error: invalid value 'z'...
+
+# Wrong usage.
+$ nbt resolve
+? 2
+error: unrecognized subcommand 'resolve'...
+
+$ nbt --loud
+? 2
+error: unexpected argument '--loud'...
+
+$ nbt answer
+? 2
+error: the following required arguments...
+
+$ nbt answer 1.2.3.4:5
+? 2
+error: the following required arguments...
+
+$ nbt answer 1.2.3.4:5 00 00
+? 2
+error: unexpected argument '00'...
+
+$ nbt answer 1.2.3.4:5 00 --at 1 --at 2
+? 2
+error: the argument '--at <MS>' cannot be used multiple times...
+
+$ nbt answer 1.2.3.4:5 00 --at
+? 2
+error: a value is required...
+
+$ nbt answer 1.2.3.4:5 00 --at -5
+? 2
+error:...
+
+$ nbt
+? 2
+NetBIOS over TCP...
+
+# Help.
+$ nbt --help
+NetBIOS over TCP...
+
+$ nbt -h
+NetBIOS over TCP...
+
+$ nbt help
+NetBIOS over TCP...
+
+$ nbt help answer
+Answers one packet...
+
+$ nbt answer --help
+Answers one packet...
+
+$ nbt help check
+Checks vectors...
+
+$ nbt --version
+nbt 0.1.0
+";
+
+/// What is no hexadecimal.
+const BAD_HEXADECIMAL: [&str; 7] = ["0", "000", "0g", "G0", "~_00", "0x00", "\u{fc}"];
+
+/// What is no address.
+const BAD_ADDRESSES: [&str; 16] = [
+    "127.0.0.256:137",
+    "127.0.0.1:65536",
+    "127.0.0.01:137",
+    "127.0.0.1:0137",
+    "00.0.0.1:137",
+    "127.0.0.1",
+    "127.0.1:137",
+    "127.0.0.0.1:137",
+    "127.0.0.1:",
+    ":137",
+    "''",
+    "~_127.0.0.1:137",
+    "127.0.0.1:137_~",
+    "127.0.0.+1:137",
+    "127.0.0.1:+137",
+    "a.0.0.1:137",
+];
+
+/// What is no time.
+const BAD_TIMES: [&str; 8] = [
+    "1152921504606846977",
+    "x",
+    "+5",
+    "''",
+    "~_5",
+    "5_~",
+    "1.5",
+    "18446744073709551616",
+];
 
 #[test]
 fn answers(rt: HostRuntime) {
-    expect(&rt, &NONE, 0, b"none\n");
-    expect(&rt, &["nbt", "answer", "0.0.0.0:0", ""], 0, b"none\n");
-    expect(
-        &rt,
-        &["nbt", "answer", "255.255.255.255:65535", "aF09"],
-        0,
-        b"none\n",
-    );
-    for at in ["0", "007", "1152921504606846976"] {
-        expect(
-            &rt,
-            &["nbt", "answer", "1.2.3.4:5", "00", "--at", at],
-            0,
-            b"none\n",
+    play(&rt, WORDS);
+}
+
+#[test]
+fn words_that_cannot_be_read(rt: HostRuntime) {
+    for hex in BAD_HEXADECIMAL {
+        let run = format!(in rt.alloc(); "$ nbt answer 1.2.3.4:5 {hex}\n? 1\nunreadable");
+        play(&rt, run.expect(&rt, "memory").as_str());
+    }
+    for from in BAD_ADDRESSES {
+        let run = format!(in rt.alloc(); "$ nbt answer {from} 00\n? 1\nunreadable");
+        play(&rt, run.expect(&rt, "memory").as_str());
+    }
+    for at in BAD_TIMES {
+        let run = format!(in rt.alloc();
+            "$ nbt answer 1.2.3.4:5 00 --at {at}\n? 2\nerror: invalid value '..."
         );
-        expect(
-            &rt,
-            &["nbt", "answer", "--at", at, "1.2.3.4:5", "00"],
-            0,
-            b"none\n",
-        );
+        play(&rt, run.expect(&rt, "memory").as_str());
     }
-}
-
-#[test]
-fn refuses_unreadable_hexadecimal(rt: HostRuntime) {
-    for hex in ["0", "000", "0g", "G0", " 00", "0x00", "\u{fc}"] {
-        expect(
-            &rt,
-            &["nbt", "answer", "1.2.3.4:5", hex],
-            1,
-            b"unreadable\n",
-        );
-    }
-}
-
-#[test]
-fn refuses_unreadable_addresses(rt: HostRuntime) {
-    for from in [
-        "127.0.0.256:137",
-        "127.0.0.1:65536",
-        "127.0.0.01:137",
-        "127.0.0.1:0137",
-        "00.0.0.1:137",
-        "127.0.0.1",
-        "127.0.1:137",
-        "127.0.0.0.1:137",
-        "127.0.0.1:",
-        ":137",
-        "",
-        " 127.0.0.1:137",
-        "127.0.0.1:137 ",
-        "127.0.0.+1:137",
-        "127.0.0.1:+137",
-        "a.0.0.1:137",
-    ] {
-        expect(&rt, &["nbt", "answer", from, "00"], 1, b"unreadable\n");
-    }
-}
-
-#[test]
-fn refuses_wrong_times(rt: HostRuntime) {
-    for at in [
-        "1152921504606846977",
-        "x",
-        "+5",
-        "",
-        " 5",
-        "5 ",
-        "1.5",
-        "18446744073709551616",
-    ] {
-        let words = ["nbt", "answer", "1.2.3.4:5", "00", "--at", at];
-        starts(&rt, &words, 2, b"error: invalid value '");
-    }
-}
-
-#[test]
-fn refuses_wrong_usage(rt: HostRuntime) {
-    starts(
-        &rt,
-        &["nbt", "resolve"],
-        2,
-        b"error: unrecognized subcommand 'resolve'",
-    );
-    starts(
-        &rt,
-        &["nbt", "--loud"],
-        2,
-        b"error: unexpected argument '--loud'",
-    );
-    starts(
-        &rt,
-        &["nbt", "answer"],
-        2,
-        b"error: the following required arguments",
-    );
-    starts(
-        &rt,
-        &["nbt", "answer", "1.2.3.4:5"],
-        2,
-        b"error: the following required arguments",
-    );
-    starts(
-        &rt,
-        &["nbt", "answer", "1.2.3.4:5", "00", "00"],
-        2,
-        b"error: unexpected argument '00'",
-    );
-    starts(
-        &rt,
-        &["nbt", "answer", "1.2.3.4:5", "00", "--at", "1", "--at", "2"],
-        2,
-        b"error: the argument '--at <MS>' cannot be used multiple times",
-    );
-    starts(
-        &rt,
-        &["nbt", "answer", "1.2.3.4:5", "00", "--at"],
-        2,
-        b"error: a value is required",
-    );
-    starts(
-        &rt,
-        &["nbt", "answer", "1.2.3.4:5", "00", "--at", "-5"],
-        2,
-        b"error:",
-    );
-    starts(&rt, &["nbt"], 2, b"NetBIOS over TCP");
-    starts(&rt, &[], 2, b"NetBIOS over TCP");
-}
-
-#[test]
-fn tells_of_wrong_usage_first(rt: HostRuntime) {
-    starts(
-        &rt,
-        &["nbt", "answer", "x", "y", "--at", "z"],
-        2,
-        b"error: invalid value 'z'",
-    );
-}
-
-#[test]
-fn gives_help(rt: HostRuntime) {
-    starts(&rt, &["nbt", "--help"], 0, b"NetBIOS over TCP");
-    starts(&rt, &["nbt", "-h"], 0, b"NetBIOS over TCP");
-    starts(&rt, &["nbt", "help"], 0, b"NetBIOS over TCP");
-    starts(&rt, &["nbt", "help", "answer"], 0, b"Answers one packet");
-    starts(&rt, &["nbt", "answer", "--help"], 0, b"Answers one packet");
-    expect(&rt, &["nbt", "--version"], 0, b"nbt 0.1.0\n");
-}
-
-#[test]
-fn tells_of_a_failing_writer(rt: HostRuntime) {
-    expect_cut(&rt, &NONE, b"none\n");
-    expect_cut(&rt, &["nbt", "answer", "x", ""], b"unreadable\n");
-    expect_cut(&rt, &["nbt", "--version"], b"nbt 0.1.0\n");
-    let mut paper = Paper::short(0);
-    let status = status_of(&rt, &["nbt", "--help"], &mut paper);
-    assert_eq!(&rt; status, 3);
-    assert!(&rt; paper.text.is_empty());
-}
-
-#[test]
-fn tells_of_a_failing_flush(rt: HostRuntime) {
-    let mut paper = Paper {
-        flushes: false,
-        ..Paper::new()
-    };
-    assert_eq!(rt; status_of(&rt, &NONE, &mut paper), 3);
-    assert_eq!(rt; paper.text.as_slice(), b"none\n".as_slice());
-}
-
-#[test]
-fn tells_of_refused_memory(rt: HostRuntime) {
-    expect_or_memory(&rt, &NONE, 0);
-}
-
-#[test]
-fn tells_of_refused_memory_in_help(rt: HostRuntime) {
-    expect_or_memory(&rt, &["nbt", "answer", "--help"], 0);
-}
-
-#[test]
-fn tells_of_refused_memory_in_wrong_usage(rt: HostRuntime) {
-    expect_or_memory(&rt, &["nbt", "answer", "1.2.3.4:5", "", "--at", "x"], 2);
-    expect_or_memory(&rt, &["nbt", "answer", "--at", "1", "--at", "2"], 2);
-}
-
-#[test]
-fn tells_of_refused_memory_in_unreadable(rt: HostRuntime) {
-    expect_or_memory(&rt, &["nbt", "answer", "1.2.3.4:5", "0"], 1);
 }

@@ -1,152 +1,134 @@
 //! The command `check`.
 
-use super::{Paper, expect_of_input, starts};
-use nbt_prog::command;
-use std::io;
-use std::io::Read;
-use std::process::Abort;
+use super::expect_of_input;
+use super::terminal::play;
 
-fn expect_checked<R: Abort + AllocGlobal>(rt: &R, input: &[u8], status: u8, text: &[u8]) {
-    let mut reader = input;
-    expect_of_input(rt, &["nbt", "check"], &mut reader, status, text);
-}
+const VECTORS: &str = "\
+# Vectors that pass, and one that fails.
+$ nbt check
+< # vectors
+< name - fault Short 0
+< name 000101000002 fault TooMany 4
+< name 00 ok 1
+< dgram 17 fault BadType 0
+? 1
+line 2: pass
+line 3: pass
+line 4: fail
+line 5: pass
+3 passed, 1 failed
 
-#[test]
-fn vectors_that_pass_and_one_that_fails(rt: HostRuntime) {
-    expect_checked(
-        &rt,
-        b"# vectors
-name - fault Short 0
-name 000101000002 fault TooMany 4
-name 00 ok 1
-dgram 17 fault BadType 0
-",
-        1,
-        b"line 2: pass\nline 3: pass\nline 4: fail\nline 5: pass\n3 passed, 1 failed\n",
-    );
-}
+# Blank lines and words.
+$ nbt check
+0 passed, 0 failed
 
-#[test]
-fn blank_lines_and_words(rt: HostRuntime) {
-    for (input, text) in [
-        (b"".as_slice(), b"0 passed, 0 failed\n".as_slice()),
-        (b"\n  \n# x\n#\n", b"0 passed, 0 failed\n"),
-        (
-            b"\n   name  -   fault Short   000   \n",
-            b"line 2: pass\n1 passed, 0 failed\n",
-        ),
-        (
-            b"name 000185830000000000000000ffff ok 12",
-            b"line 1: pass\n1 passed, 0 failed\n",
-        ),
-        (
-            b"name 0001858300000000000000 fault Short 11\nname 000185830000000000000000 ok 012\n",
-            b"line 1: pass\nline 2: pass\n2 passed, 0 failed\n",
-        ),
-    ] {
-        expect_checked(&rt, input, 0, text);
-    }
-}
+$ nbt check
+< 
+<   
+< # x
+< #
+0 passed, 0 failed
 
-#[test]
-fn lines_that_fail(rt: HostRuntime) {
-    let rows: [&[u8]; 7] = [
-        b"dgram - fault Short 1",
-        b"dgram - fault Long 0",
-        b"dgram - ok 0",
-        b"name - fault Short 1",
-        b"name - fault Long 0",
-        b"name - ok 0",
-        b"name - fault Short 18446744073709551615",
-    ];
-    for line in rows {
-        expect_checked(&rt, line, 1, b"line 1: fail\n0 passed, 1 failed\n");
-    }
-}
+$ nbt check
+< 
+<    name  -   fault Short   000   
+line 2: pass
+1 passed, 0 failed
 
-#[test]
-fn lines_that_are_unreadable(rt: HostRuntime) {
-    let rows: [&[u8]; 23] = [
-        b"session - fault Short 0",
-        b"dgram",
-        b"dgram - fault TooMany 0",
-        b"dgram - fault BadFlags 0",
-        b"name",
-        b"name -",
-        b"name - ok",
-        b"name - fault Short",
-        b"name - fault Short 0 0",
-        b"name - ok 0 0",
-        b"name - fault BadType 0",
-        b"name - fault short 0",
-        b"name - fault Short +0",
-        b"name - fault Short -0",
-        b"name - fault Short 0x0",
-        b"name - fault Short 18446744073709551616",
-        b"name 0 fault Short 0",
-        b"name 0g fault Short 0",
-        b"name -- fault Short 0",
-        b"name - fault Short 0\r\n",
-        b"name\t- fault Short 0",
-        b" # remark",
-        b"name \xff fault Short 0",
-    ];
-    for line in rows {
-        expect_checked(&rt, line, 1, b"line 1: unreadable\n0 passed, 1 failed\n");
-    }
-}
+$ nbt check
+<. name 000185830000000000000000ffff ok 12
+line 1: pass
+1 passed, 0 failed
 
-/// So many spaces, and then the end or an error.
-#[derive(Drop)]
-struct Spaces {
-    left: usize,
-    fails: bool,
-}
+$ nbt check
+< name 0001858300000000000000 fault Short 11
+< name 000185830000000000000000 ok 012
+line 1: pass
+line 2: pass
+2 passed, 0 failed
 
-impl Read for Spaces {
-    fn read(&mut self, buf: &mut [u8]) -> io::Result<usize> {
-        if self.left == 0 && self.fails {
-            return Err(io::Error::from(io::ErrorKind::BrokenPipe));
-        }
-        let count = buf.len().min(self.left);
-        buf[..count].fill(b' ');
-        self.left -= count;
-        Ok(count)
-    }
-}
+# Lines that fail.
+$ nbt check
+< dgram - fault Short 1
+< dgram - fault Long 0
+< dgram - ok 0
+< name - fault Short 1
+< name - fault Long 0
+< name - ok 0
+< name - fault Short 18446744073709551615
+? 1
+line 1: fail
+line 2: fail
+line 3: fail
+line 4: fail
+line 5: fail
+line 6: fail
+line 7: fail
+0 passed, 7 failed
 
-#[test]
-fn inputs_of_1048576_octets_and_more(rt: HostRuntime) {
-    for (left, fails, status, text) in [
-        (1048576, false, 0, b"0 passed, 0 failed\n".as_slice()),
-        (1048577, false, 1, b"unreadable\n".as_slice()),
-        (5, true, 3, b"device\n".as_slice()),
-    ] {
-        let mut reader = Spaces { left, fails };
-        expect_of_input(&rt, &["nbt", "check"], &mut reader, status, text);
-    }
-}
+# Lines that are unreadable.
+$ nbt check
+< session - fault Short 0
+< dgram
+< dgram - fault TooMany 0
+< dgram - fault BadFlags 0
+< name
+< name -
+< name - ok
+< name - fault Short
+< name - fault Short 0 0
+< name - ok 0 0
+< name - fault BadType 0
+< name - fault short 0
+< name - fault Short +0
+< name - fault Short -0
+< name - fault Short 0x0
+< name - fault Short 18446744073709551616
+< name 0 fault Short 0
+< name 0g fault Short 0
+< name -- fault Short 0
+<  # remark
+? 1
+line 1: unreadable
+line 2: unreadable
+line 3: unreadable
+line 4: unreadable
+line 5: unreadable
+line 6: unreadable
+line 7: unreadable
+line 8: unreadable
+line 9: unreadable
+line 10: unreadable
+line 11: unreadable
+line 12: unreadable
+line 13: unreadable
+line 14: unreadable
+line 15: unreadable
+line 16: unreadable
+line 17: unreadable
+line 18: unreadable
+line 19: unreadable
+line 20: unreadable
+0 passed, 20 failed
+
+$ nbt check
+<. name
+? 1
+line 1: unreadable
+0 passed, 1 failed
+
+# Words.
+$ nbt check x
+? 2
+error: unexpected argument 'x'...
+";
 
 #[test]
-fn words_of_check(rt: HostRuntime) {
-    starts(
-        &rt,
-        &["nbt", "check", "x"],
-        2,
-        b"error: unexpected argument 'x'",
-    );
-}
-
-#[test]
-fn failures_of_check(rt: HostRuntime) {
-    let mut paper = Paper::new();
-    let mut reader = b"name 00 ok 1".as_slice();
-    let status = command(rt.alloc(), &["nbt", "check"], &mut reader, &mut paper);
-    let text = paper.text.as_slice();
-    if status == 4 {
-        assert_eq!(rt; text, b"memory\n".as_slice());
-    } else {
-        assert_eq!(rt; text, b"line 1: fail\n0 passed, 1 failed\n".as_slice());
-        assert_eq!(rt; status, 1);
-    }
+fn checks(rt: HostRuntime) {
+    play(&rt, VECTORS);
+    let mut lines =
+        b"name - fault Short 0\r\nname\t- fault Short 0\nname \xff fault Short 0".as_slice();
+    let unreadable =
+        b"line 1: unreadable\nline 2: unreadable\nline 3: unreadable\n0 passed, 3 failed\n";
+    expect_of_input(&rt, &["nbt", "check"], &mut lines, 1, unreadable);
 }

@@ -1,101 +1,224 @@
 //! Each type of datagram, and what octets of one can have wrong, as `show` and `check` tell of it.
 
-use super::{FRED, TEAM, expect, expect_of_input, hexadecimal};
-use std::process::Abort;
+use super::terminal::play;
 
-/// That `show` prints this text and ends with this status, and `check` agrees with what is expected.
-fn expect_datagram<R: Abort + AllocGlobal>(
-    rt: &R,
-    octets: &str,
-    status: u8,
-    text: &str,
-    expected: &str,
-) {
-    let hex = hexadecimal(rt, octets);
-    let words = ["nbt", "show", "dgram", hex.as_str()];
-    expect(rt, &words, status, text.as_bytes());
-    let vector = format!(in rt.alloc(); "dgram {hex} {expected}").expect(rt, "memory");
-    let mut reader = vector.as_bytes();
-    let passed = b"line 1: pass\n1 passed, 0 failed\n";
-    expect_of_input(rt, &["nbt", "check"], &mut reader, 0, passed);
-}
+const DATAGRAMS: &str = "\
+# Data with names.
+$ nbt show dgram 1006_0001_7f000002_008a_0049_0000_{FRED}_{TEAM}_68656c6c6f
+type 10 flags 06 id 0001 from 127.0.0.2:138
+source FRED
+destination TEAM
+offset 0 data 68656c6c6f
+length 87
+
+$ nbt show dgram 1007_0001_7f000002_008a_0049_0000_{FRED}_{TEAM}_68656c6c6f
+type 10 flags 07 id 0001 from 127.0.0.2:138
+source FRED
+destination TEAM
+offset 0 data 68656c6c6f
+length 87
+
+$ nbt show dgram 1106_0001_7f000002_008a_0049_0000_{FRED}_{TEAM}_68656c6c6f
+type 11 flags 06 id 0001 from 127.0.0.2:138
+source FRED
+destination TEAM
+offset 0 data 68656c6c6f
+length 87
+
+$ nbt show dgram 1107_0001_7f000002_008a_0049_0000_{FRED}_{TEAM}_68656c6c6f
+type 11 flags 07 id 0001 from 127.0.0.2:138
+source FRED
+destination TEAM
+offset 0 data 68656c6c6f
+length 87
+
+$ nbt show dgram 1206_0001_7f000002_008a_0049_0000_{FRED}_{TEAM}_68656c6c6f
+type 12 flags 06 id 0001 from 127.0.0.2:138
+source FRED
+destination TEAM
+offset 0 data 68656c6c6f
+length 87
+
+$ nbt show dgram 1207_0001_7f000002_008a_0049_0000_{FRED}_{TEAM}_68656c6c6f
+type 12 flags 07 id 0001 from 127.0.0.2:138
+source FRED
+destination TEAM
+offset 0 data 68656c6c6f
+length 87
+
+# Data without names.
+$ nbt show dgram 1004_0001_7f000002_008a_0002_0034_ff00_aa
+type 10 flags 04 id 0001 from 127.0.0.2:138
+offset 52 data ff00
+length 16
+
+$ nbt show dgram 1005_0001_7f000002_008a_0002_0034_ff00_aa
+type 10 flags 05 id 0001 from 127.0.0.2:138
+offset 52 data ff00
+length 16
+
+$ nbt show dgram 1104_0001_7f000002_008a_0002_0034_ff00_aa
+type 11 flags 04 id 0001 from 127.0.0.2:138
+offset 52 data ff00
+length 16
+
+$ nbt show dgram 1105_0001_7f000002_008a_0002_0034_ff00_aa
+type 11 flags 05 id 0001 from 127.0.0.2:138
+offset 52 data ff00
+length 16
+
+$ nbt show dgram 1204_0001_7f000002_008a_0002_0034_ff00_aa
+type 12 flags 04 id 0001 from 127.0.0.2:138
+offset 52 data ff00
+length 16
+
+$ nbt show dgram 1205_0001_7f000002_008a_0002_0034_ff00_aa
+type 12 flags 05 id 0001 from 127.0.0.2:138
+offset 52 data ff00
+length 16
+
+# Errors.
+$ nbt show dgram 1306_0001_7f000003_008a_82_00
+type 13 flags 06 id 0001 from 127.0.0.3:138
+error 82
+length 11
+
+$ nbt show dgram 1306_0001_7f000003_008a_83_00
+type 13 flags 06 id 0001 from 127.0.0.3:138
+error 83
+length 11
+
+$ nbt show dgram 1306_0001_7f000003_008a_84_00
+type 13 flags 06 id 0001 from 127.0.0.3:138
+error 84
+length 11
+
+$ nbt show dgram 1306_0001_7f000003_008a_00_00
+type 13 flags 06 id 0001 from 127.0.0.3:138
+error 00
+length 11
+
+# Lookups.
+$ nbt show dgram 1406_0001_7f000002_008a_{TEAM}
+type 14 flags 06 id 0001 from 127.0.0.2:138
+destination TEAM
+length 44
+
+$ nbt show dgram 1506_0001_7f000002_008a_{TEAM}
+type 15 flags 06 id 0001 from 127.0.0.2:138
+destination TEAM
+length 44
+
+$ nbt show dgram 1606_0001_7f000002_008a_{TEAM}
+type 16 flags 06 id 0001 from 127.0.0.2:138
+destination TEAM
+length 44
+
+# Octets that are no datagram.
+$ nbt show dgram 10
+? 1
+fault Short at 1
+
+$ nbt show dgram 17
+? 1
+fault BadType at 0
+
+$ nbt show dgram 1006_0001_7f000002_008a_0000_0001
+? 1
+fault BadOffset at 12
+
+$ nbt show dgram 1006_0001_7f000002_008a_0000_0000
+? 1
+fault BadLength at 10
+
+$ nbt show dgram 1006_0001_7f000002_008a_0001_0000
+? 1
+fault Short at 14
+
+$ nbt show dgram 1306_0001_7f000003_008a
+? 1
+fault Short at 10
+
+$ nbt show dgram 1406_0001_7f000002_008a_20
+? 1
+fault Short at 11
+
+$ nbt show dgram 1406_0001_7f000002_008a_21
+? 1
+fault BadLabel at 10
+
+$ nbt show dgram 1506_0001_7f000002_008a_2051
+? 1
+fault BadHalf at 11
+
+$ nbt show dgram 1606_0001_7f000002_008a_c000
+? 1
+fault BadPointer at 10
+
+# What `check` makes of them all.
+$ nbt check
+<= dgram 1006_0001_7f000002_008a_0049_0000_{FRED}_{TEAM}_68656c6c6f ok 87
+<= dgram 1007_0001_7f000002_008a_0049_0000_{FRED}_{TEAM}_68656c6c6f ok 87
+<= dgram 1106_0001_7f000002_008a_0049_0000_{FRED}_{TEAM}_68656c6c6f ok 87
+<= dgram 1107_0001_7f000002_008a_0049_0000_{FRED}_{TEAM}_68656c6c6f ok 87
+<= dgram 1206_0001_7f000002_008a_0049_0000_{FRED}_{TEAM}_68656c6c6f ok 87
+<= dgram 1207_0001_7f000002_008a_0049_0000_{FRED}_{TEAM}_68656c6c6f ok 87
+<= dgram 1004_0001_7f000002_008a_0002_0034_ff00_aa ok 16
+<= dgram 1005_0001_7f000002_008a_0002_0034_ff00_aa ok 16
+<= dgram 1104_0001_7f000002_008a_0002_0034_ff00_aa ok 16
+<= dgram 1105_0001_7f000002_008a_0002_0034_ff00_aa ok 16
+<= dgram 1204_0001_7f000002_008a_0002_0034_ff00_aa ok 16
+<= dgram 1205_0001_7f000002_008a_0002_0034_ff00_aa ok 16
+<= dgram 1306_0001_7f000003_008a_82_00 ok 11
+<= dgram 1306_0001_7f000003_008a_83_00 ok 11
+<= dgram 1306_0001_7f000003_008a_84_00 ok 11
+<= dgram 1306_0001_7f000003_008a_00_00 ok 11
+<= dgram 1406_0001_7f000002_008a_{TEAM} ok 44
+<= dgram 1506_0001_7f000002_008a_{TEAM} ok 44
+<= dgram 1606_0001_7f000002_008a_{TEAM} ok 44
+<= dgram 10 fault Short 1
+<= dgram 17 fault BadType 0
+<= dgram 1006_0001_7f000002_008a_0000_0001 fault BadOffset 12
+<= dgram 1006_0001_7f000002_008a_0000_0000 fault BadLength 10
+<= dgram 1006_0001_7f000002_008a_0001_0000 fault Short 14
+<= dgram 1306_0001_7f000003_008a fault Short 10
+<= dgram 1406_0001_7f000002_008a_20 fault Short 11
+<= dgram 1406_0001_7f000002_008a_21 fault BadLabel 10
+<= dgram 1506_0001_7f000002_008a_2051 fault BadHalf 11
+<= dgram 1606_0001_7f000002_008a_c000 fault BadPointer 10
+line 1: pass
+line 2: pass
+line 3: pass
+line 4: pass
+line 5: pass
+line 6: pass
+line 7: pass
+line 8: pass
+line 9: pass
+line 10: pass
+line 11: pass
+line 12: pass
+line 13: pass
+line 14: pass
+line 15: pass
+line 16: pass
+line 17: pass
+line 18: pass
+line 19: pass
+line 20: pass
+line 21: pass
+line 22: pass
+line 23: pass
+line 24: pass
+line 25: pass
+line 26: pass
+line 27: pass
+line 28: pass
+line 29: pass
+29 passed, 0 failed
+";
 
 #[test]
-fn data_with_names(rt: HostRuntime) {
-    for number in ["10", "11", "12"] {
-        for flags in ["06", "07"] {
-            let octets = format!(in rt.alloc();
-                "{number}{flags} 0001 7f000002 008a 0049 0000 {FRED} {TEAM} 68656c6c6f"
-            );
-            let text = format!(in rt.alloc();
-                "type {number} flags {flags} id 0001 from 127.0.0.2:138\nsource FRED\ndestination TEAM\noffset 0 data 68656c6c6f\nlength 87\n"
-            );
-            let octets = octets.expect(&rt, "memory");
-            let text = text.expect(&rt, "memory");
-            expect_datagram(&rt, octets.as_str(), 0, text.as_str(), "ok 87");
-        }
-    }
-}
-
-#[test]
-fn data_without_names(rt: HostRuntime) {
-    for number in ["10", "11", "12"] {
-        for flags in ["04", "05"] {
-            let octets = format!(in rt.alloc();
-                "{number}{flags} 0001 7f000002 008a 0002 0034 ff00 aa"
-            );
-            let text = format!(in rt.alloc();
-                "type {number} flags {flags} id 0001 from 127.0.0.2:138\noffset 52 data ff00\nlength 16\n"
-            );
-            let octets = octets.expect(&rt, "memory");
-            let text = text.expect(&rt, "memory");
-            expect_datagram(&rt, octets.as_str(), 0, text.as_str(), "ok 16");
-        }
-    }
-}
-
-#[test]
-fn errors(rt: HostRuntime) {
-    for code in ["82", "83", "84", "00"] {
-        let octets = format!(in rt.alloc(); "1306 0001 7f000003 008a {code} 00");
-        let text = format!(in rt.alloc();
-            "type 13 flags 06 id 0001 from 127.0.0.3:138\nerror {code}\nlength 11\n"
-        );
-        let octets = octets.expect(&rt, "memory");
-        let text = text.expect(&rt, "memory");
-        expect_datagram(&rt, octets.as_str(), 0, text.as_str(), "ok 11");
-    }
-}
-
-#[test]
-fn lookups(rt: HostRuntime) {
-    for number in ["14", "15", "16"] {
-        let octets = format!(in rt.alloc(); "{number}06 0001 7f000002 008a {TEAM}");
-        let text = format!(in rt.alloc();
-            "type {number} flags 06 id 0001 from 127.0.0.2:138\ndestination TEAM\nlength 44\n"
-        );
-        let octets = octets.expect(&rt, "memory");
-        let text = text.expect(&rt, "memory");
-        expect_datagram(&rt, octets.as_str(), 0, text.as_str(), "ok 44");
-    }
-}
-
-#[test]
-fn octets_that_are_no_datagram(rt: HostRuntime) {
-    for (octets, word, place) in [
-        ("10", "Short", "1"),
-        ("17", "BadType", "0"),
-        ("1006 0001 7f000002 008a 0000 0001", "BadOffset", "12"),
-        ("1006 0001 7f000002 008a 0000 0000", "BadLength", "10"),
-        ("1006 0001 7f000002 008a 0001 0000", "Short", "14"),
-        ("1306 0001 7f000003 008a", "Short", "10"),
-        ("1406 0001 7f000002 008a 20", "Short", "11"),
-        ("1406 0001 7f000002 008a 21", "BadLabel", "10"),
-        ("1506 0001 7f000002 008a 2051", "BadHalf", "11"),
-        ("1606 0001 7f000002 008a c000", "BadPointer", "10"),
-    ] {
-        let text = format!(in rt.alloc(); "fault {word} at {place}\n").expect(&rt, "memory");
-        let expected = format!(in rt.alloc(); "fault {word} {place}").expect(&rt, "memory");
-        expect_datagram(&rt, octets, 1, text.as_str(), expected.as_str());
-    }
+fn datagrams(rt: HostRuntime) {
+    play(&rt, DATAGRAMS);
 }

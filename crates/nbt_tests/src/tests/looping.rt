@@ -1,40 +1,120 @@
 //! The command `loop`, over the sockets of this machine.
 
-use super::{Paper, expect, starts};
-use nbt_prog::command_on;
+use super::Paper;
+use super::street::{Luck, Street};
+use super::terminal::word_of;
+use nbt_prog::{command, command_on};
+use std::cell::Cell;
 use std::io;
-use std::net::{Ipv4Addr, UdpSocket};
+use std::net::{IpAddr, Ipv4Addr, SocketAddr, UdpSocket};
 use std::test::Fail;
+use std::time::Duration;
+
+/// All that is told.
+const TOLD: &str = "\
+server up
+n1 asks FRED: granted 60
+n2 asks FRED: refused 6
+n1 asks TEAM: granted 60
+n2 asks TEAM: granted 60
+n2 finds FRED: 127.0.0.2
+n2 finds TEAM: 127.0.0.2 127.0.0.3
+datagram to FRED: 5 octets
+call to FRED: open
+message: 5 octets
+n1 releases FRED: 0
+call to FRED: refused 82
+done
+";
 
 #[test]
-fn a_server_and_two_nodes(rt: HostRuntime) {
-    let mut paper = Paper::new();
-    let words = ["nbt", "loop", "22137"];
-    let status = command_on(&rt, rt.alloc(), &words, &mut io::empty(), &mut paper);
-    assert_eq!(rt; status, 0);
-    assert!(rt; paper.text.as_slice().starts_with(b"server up\n"));
-    assert!(rt; paper.text.as_slice().ends_with(b"\ndone\n"));
-}
-
-#[test]
-fn a_port_out_of_its_limits_is_wrong_usage(rt: HostRuntime) {
-    for port in ["0", "65534", "99999999999999999999", "x", "+5", ""] {
-        starts(&rt, &["nbt", "loop", port], 2, b"error: invalid value '");
+fn a_server_and_two_nodes_twice_in_a_row(rt: HostRuntime) {
+    for _ in 0..2 {
+        let mut paper = Paper::new();
+        let words = ["nbt", "loop", "21037"];
+        let status = command_on(&rt, rt.alloc(), &words, &mut io::empty(), &mut paper);
+        assert_eq!(rt; paper.text.as_slice(), TOLD.as_bytes());
+        assert_eq!(rt; status, 0);
+        assert!(rt; paper.is_line_by_line());
     }
 }
 
 #[test]
-fn without_a_network_there_is_no_device(rt: HostRuntime) {
-    expect(&rt, &["nbt", "loop", "22137"], 3, b"device\n");
-}
-
-#[test]
-fn a_port_in_use_is_a_device_failure(rt: HostRuntime) -> Result<(), Fail> {
-    let _taken = UdpSocket::bind(&rt, (Ipv4Addr::new(127, 0, 0, 2), 22238))?;
+fn without_a_network_and_at_a_port_in_use(rt: HostRuntime) -> Result<(), Fail> {
     let mut paper = Paper::new();
     let words = ["nbt", "loop", "22237"];
+    let status = command(rt.alloc(), &words, &mut io::empty(), &mut paper);
+    assert_eq!(rt; paper.text.as_slice(), b"device\n".as_slice());
+    assert_eq!(rt; status, 3);
+    let _taken = UdpSocket::bind(&rt, (Ipv4Addr::new(127, 0, 0, 2), 22238))?;
+    let mut paper = Paper::new();
     let status = command_on(&rt, rt.alloc(), &words, &mut io::empty(), &mut paper);
     assert_eq!(rt; paper.text.as_slice(), b"device\n".as_slice());
     assert_eq!(rt; status, 3);
+    Ok(())
+}
+
+/// A UDP port of this machine.
+fn end(last: u8, port: u16) -> SocketAddr {
+    SocketAddr::new(IpAddr::V4(Ipv4Addr::new(127, 0, 0, last)), port)
+}
+
+/// The luck of the first connection at the end that calls and at the end that listens, and how many connections both
+/// calls are made with.
+const LUCKS: [(Luck, Luck, usize); 8] = [
+    (Luck::Well, Luck::Well, 2),
+    (Luck::Refused, Luck::Well, 3),
+    (Luck::Mute, Luck::Well, 3),
+    (Luck::Deaf, Luck::Well, 3),
+    (Luck::Garbled, Luck::Well, 3),
+    (Luck::Well, Luck::Mute, 3),
+    (Luck::Well, Luck::Deaf, 3),
+    (Luck::Well, Luck::Garbled, 3),
+];
+
+/// A datagram from TEAM at 127.0.0.4:21340 to a name that nobody holds.
+const TO_NOBODY: &str =
+    "1006_0007_7f000004_535c_0049_0000_{TEAM}_20454f4550454f454643414341434143414341434143414341434143414341434100_68656c6c6f";
+
+/// What comes of it: an error from n1's own port, 127.0.0.2:21138 (RFC 1002 section 4.4.3).
+const NOT_PRESENT: &str = "1306_0007_7f000002_5292_82";
+
+#[test]
+fn strangers_and_a_connection_that_fails_change_nothing(rt: HostRuntime) -> Result<(), Fail> {
+    let teller = UdpSocket::bind(&rt, end(4, 21340))?;
+    teller.set_read_timeout(Some(Duration::from_millis(1)))?;
+    let to_nobody = hex::decode(rt.alloc(), word_of(&rt, TO_NOBODY).as_str())?;
+    let not_present = hex::decode(rt.alloc(), word_of(&rt, NOT_PRESENT).as_str())?;
+    for (caller, listener, connections) in LUCKS {
+        let street = Street {
+            machine: &rt,
+            caller: Cell::new(caller),
+            listener,
+            connections: Cell::new(0),
+            last: (end(3, 21138), to_nobody.as_slice(), end(2, 21138)),
+        };
+        let mut paper = Paper::new();
+        let words = ["nbt", "loop", "21137"];
+        let status = command_on(&street, rt.alloc(), &words, &mut io::empty(), &mut paper);
+        assert_eq!(&rt;
+            paper.text.as_slice(),
+            TOLD.as_bytes(),
+            "{caller:?} {listener:?}"
+        );
+        assert_eq!(&rt; status, 0, "{caller:?} {listener:?}");
+        assert_eq!(&rt;
+            street.connections.get(),
+            connections,
+            "{caller:?} {listener:?}"
+        );
+        let mut buffer = [0; 600];
+        let (count, from) = teller.recv_from(&mut buffer)?;
+        assert_eq!(&rt;
+            &buffer[..count],
+            not_present.as_slice(),
+            "{caller:?} {listener:?}"
+        );
+        assert_eq!(&rt; from, end(2, 21138), "{caller:?} {listener:?}");
+    }
     Ok(())
 }

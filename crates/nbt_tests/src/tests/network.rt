@@ -1,174 +1,216 @@
-//! The commands that open sockets: what they print, and how they end.
+//! The commands that open sockets: their words, and what they do on this machine with nobody else.
 
-use super::{Paper, status_of};
-use nbt_prog::command_on;
+use super::Paper;
+use super::terminal::{play, words_of};
+use nbt_prog::{command, command_on};
 use std::io;
-use std::net::Net;
-use std::process::Abort;
-use std::time::Clock;
 
-fn expect<R: Abort + AllocGlobal + Net + Clock>(rt: &R, words: &[&str], status: u8, text: &[u8]) {
-    let mut paper = Paper::new();
-    let got = command_on(rt, rt.alloc(), words, &mut io::empty(), &mut paper);
-    assert_eq!(rt; got, status, "{words:?}");
-    assert_eq!(rt; paper.text.as_slice(), text, "{words:?}");
-}
+const WORDS: &str = "\
+# Numbers out of their limits, which are told before an address that can't be read.
+$ nbt serve x 0 60 1
+? 2
+error: invalid value '0' for '<LIFE>': not a whole number from 1 to 60000...
 
-fn expect_status<R: Abort + AllocGlobal + Net + Clock>(rt: &R, words: &[&str], status: u8) {
-    let mut paper = Paper::new();
-    let got = command_on(rt, rt.alloc(), words, &mut io::empty(), &mut paper);
-    assert_eq!(rt; got, status, "{words:?}");
-}
+$ nbt node x x 0 60 * unique 1 1
+? 2
+error: invalid value '0' for '<LIFE>': not a whole number from 1 to 60000...
+
+$ nbt serve x 60001 60 1
+? 2
+error: invalid value '60001' for '<LIFE>': not a whole number from 1 to 60000...
+
+$ nbt node x x 60001 60 * unique 1 1
+? 2
+error: invalid value '60001' for '<LIFE>': not a whole number from 1 to 60000...
+
+$ nbt serve x 1000 0 1
+? 2
+error: invalid value '0' for '<LONGEST>': not a whole number from 1 to 1000000...
+
+$ nbt node x x 1000 0 * unique 1 1
+? 2
+error: invalid value '0' for '<LONGEST>': not a whole number from 1 to 1000000...
+
+$ nbt serve x 1000 1000001 1
+? 2
+error: invalid value '1000001' for '<LONGEST>': not a whole number from 1 to 1000000...
+
+$ nbt node x x 1000 1000001 * unique 1 1
+? 2
+error: invalid value '1000001' for '<LONGEST>': not a whole number from 1 to 1000000...
+
+$ nbt serve x 1000 60 0
+? 2
+error: invalid value '0' for '<TURNS>': not a whole number from 1 to 1000000...
+
+$ nbt node x x 1000 60 * unique 1 0
+? 2
+error: invalid value '0' for '<TURNS>': not a whole number from 1 to 1000000...
+
+$ nbt serve x 1000 60 1000001
+? 2
+error: invalid value '1000001' for '<TURNS>': not a whole number from 1 to 1000000...
+
+$ nbt node x x 1000 60 * unique 1 1000001
+? 2
+error: invalid value '1000001' for '<TURNS>': not a whole number from 1 to 1000000...
+
+$ nbt serve x 1000 60 +1
+? 2
+error: invalid value '+1' for '<TURNS>': not a whole number from 1 to 1000000...
+
+$ nbt node x x 1000 60 * unique 1 +1
+? 2
+error: invalid value '+1' for '<TURNS>': not a whole number from 1 to 1000000...
+
+$ nbt node x x 1000 60 FRED group 4294967296 1
+? 2
+error: invalid value '4294967296' for '<TTL>': not a whole number from 0 to 4294967295...
+
+# Neither TURNS nor --forever, and both.
+$ nbt serve 127.0.0.1:0 1000 60
+? 2
+error: the following required arguments...
+
+$ nbt serve 127.0.0.1:0 1000 60 1 --forever
+? 2
+error: the argument...
+
+# What is no kind.
+$ nbt node x x 1000 60 FRED any 1 1
+? 2
+error: ...
+
+# Names and addresses that can't be read.
+$ nbt serve 127.0.0.1 1000 60 1
+? 1
+unreadable
+
+$ nbt node 127.0.0.1 127.0.0.1:137 1000 60 FRED unique 60 1
+? 1
+unreadable
+
+$ nbt node 127.0.0.1:137 127.0.0.1: 1000 60 FRED unique 60 1
+? 1
+unreadable
+
+$ nbt node 127.0.0.1:137 127.0.0.1:137 1000 60 FRED. unique 60 1
+? 1
+unreadable
+
+$ nbt node 127.0.0.1:137 127.0.0.1:137 1000 60 * unique 60 1
+? 1
+unreadable
+
+# Ports out of their limits.
+$ nbt loop 0
+? 2
+error: invalid value '0' for '<PORT>': not a whole number from 1 to 65533...
+
+$ nbt loop 65534
+? 2
+error: invalid value '65534' for '<PORT>': not a whole number from 1 to 65533...
+
+$ nbt loop 99999999999999999999
+? 2
+error: invalid value '99999999999999999999' for '<PORT>': not a whole number from 1 to 65533...
+
+$ nbt loop x
+? 2
+error: invalid value 'x' for '<PORT>': not a whole number from 1 to 65533...
+
+$ nbt loop +5
+? 2
+error: invalid value '+5' for '<PORT>': not a whole number from 1 to 65533...
+
+$ nbt loop ''
+? 2
+error: invalid value '' for '<PORT>': not a whole number from 1 to 65533...
+";
 
 #[test]
-fn a_server_tells_its_turns(rt: HostRuntime) {
-    let words = ["nbt", "serve", "127.42.22.1:20138", "1000", "60", "1"];
-    expect(&rt, &words, 0, b"turns 1 replies 0 lost 0\n");
-    let words = [
-        "nbt",
-        "node",
-        "127.42.22.2:20138",
-        "127.42.22.1:20138",
-        "1000",
-        "60",
-        "FRED",
-        "group",
-        "0",
-        "1",
-    ];
-    expect(&rt, &words, 0, b"not held\n");
-    let words = ["nbt", "answer", "127.0.0.2:137", ""];
-    expect(&rt, &words, 0, b"none\n");
+fn words_of_the_network(rt: HostRuntime) {
+    play(&rt, WORDS);
 }
 
-#[test]
-fn a_port_that_cannot_be_had_is_a_device_failure(rt: HostRuntime) {
-    expect(
-        &rt,
-        &["nbt", "serve", "192.0.2.1:20138", "1000", "60", "1"],
-        3,
-        b"device\n",
-    );
-    let mut paper = Paper::new();
-    let words = ["nbt", "serve", "127.42.22.1:20138", "1000", "60", "1"];
-    assert_eq!(&rt; status_of(&rt, &words, &mut paper), 3);
-    assert_eq!(&rt; paper.text.as_slice(), b"device\n".as_slice());
-}
+/// What is done on this machine, and what by `command`, which has none. The address 192.0.2.1 is for documents alone (RFC
+/// 5737).
+const DONE: [(&str, u8, &[u8]); 3] = [
+    (
+        "nbt serve 127.42.22.1:20138 1000 60 1",
+        0,
+        b"turns 1 replies 0 lost 0\n",
+    ),
+    (
+        "nbt node 127.42.22.2:20138 127.42.22.1:20138 1000 60 FRED group 0 1",
+        0,
+        b"not held\n",
+    ),
+    ("nbt serve 192.0.2.1:20138 1000 60 1", 3, b"device\n"),
+];
 
 #[test]
-fn numbers_out_of_their_limits_are_wrong_usage(rt: HostRuntime) {
-    for (life, longest, turns) in [
-        ("0", "60", "1"),
-        ("60001", "60", "1"),
-        ("1000", "0", "1"),
-        ("1000", "1000001", "1"),
-        ("1000", "60", "0"),
-        ("1000", "60", "1000001"),
-        ("1000", "60", "+1"),
-    ] {
-        expect_status(&rt, &["nbt", "serve", "x", life, longest, turns], 2);
-        expect_status(
+fn with_nobody_else(rt: HostRuntime) {
+    for (line, status, text) in DONE {
+        let words = words_of(&rt, line);
+        let mut paper = Paper::new();
+        let got = command_on(
             &rt,
-            &[
-                "nbt", "node", "x", "x", life, longest, "*", "unique", "1", turns,
-            ],
-            2,
+            rt.alloc(),
+            words.as_slice(),
+            &mut io::empty(),
+            &mut paper,
         );
-    }
-    expect_status(&rt, &["nbt", "serve", "127.0.0.1:0", "1000", "60"], 2);
-    expect_status(
-        &rt,
-        &[
-            "nbt",
-            "serve",
-            "127.0.0.1:0",
-            "1000",
-            "60",
-            "1",
-            "--forever",
-        ],
-        2,
-    );
-    expect_status(
-        &rt,
-        &[
-            "nbt", "node", "x", "x", "1000", "60", "FRED", "any", "1", "1",
-        ],
-        2,
-    );
-    expect_status(
-        &rt,
-        &[
-            "nbt",
-            "node",
-            "x",
-            "x",
-            "1000",
-            "60",
-            "FRED",
-            "group",
-            "4294967296",
-            "1",
-        ],
-        2,
-    );
-}
-
-#[test]
-fn names_and_addresses_that_cannot_be_read(rt: HostRuntime) {
-    expect(
-        &rt,
-        &["nbt", "serve", "127.0.0.1", "1000", "60", "1"],
-        1,
-        b"unreadable\n",
-    );
-    for (bind, server, name) in [
-        ("127.0.0.1", "127.0.0.1:137", "FRED"),
-        ("127.0.0.1:137", "127.0.0.1:", "FRED"),
-        ("127.0.0.1:137", "127.0.0.1:137", "FRED."),
-        ("127.0.0.1:137", "127.0.0.1:137", "*"),
-    ] {
-        let words = [
-            "nbt", "node", bind, server, "1000", "60", name, "unique", "60", "1",
-        ];
-        expect(&rt, &words, 1, b"unreadable\n");
+        assert_eq!(rt; paper.text.as_slice(), text, "{line}");
+        assert_eq!(rt; got, status, "{line}");
+        assert!(rt; paper.is_line_by_line(), "{line}");
+        let mut paper = Paper::new();
+        let got = command(rt.alloc(), words.as_slice(), &mut io::empty(), &mut paper);
+        assert_eq!(rt; paper.text.as_slice(), b"device\n".as_slice(), "{line}");
+        assert_eq!(rt; got, 3, "{line}");
     }
 }
 
+/// Each line that is printed, of which there is one.
+const LINES: [(&str, &[u8]); 3] = [
+    (
+        "nbt serve 127.42.22.1:20138 1000 60 1",
+        b"turns 1 replies 0 lost 0\n",
+    ),
+    (
+        "nbt node 127.42.22.2:20138 127.42.22.1:20138 1000 60 FRED unique 60 1",
+        b"not held\n",
+    ),
+    (
+        "nbt serve 127.42.22.1:20138 1000 60 --forever",
+        b"serving 127.42.22.1:20138, silent for 60 s\n",
+    ),
+];
+
+/// A flush that fails, and a write, end the command, and what was written before stays: no `device` is behind it.
 #[test]
 fn a_writer_that_failed_is_told_nothing_more(rt: HostRuntime) {
-    let serve = ["nbt", "serve", "127.42.22.1:20138", "1000", "60", "1"];
-    let node = [
-        "nbt",
-        "node",
-        "127.42.22.2:20138",
-        "127.42.22.1:20138",
-        "1000",
-        "60",
-        "FRED",
-        "unique",
-        "60",
-        "1",
-    ];
-    expect_no_more(&rt, &serve, b"turns 1 replies 0 lost 0\n");
-    expect_no_more(&rt, &node, b"not held\n");
-}
-
-/// A flush that fails, and a write, end the command, and what was written before stays.
-fn expect_no_more<R: Abort + AllocGlobal + Net + Clock>(rt: &R, words: &[&str], text: &[u8]) {
-    let mut paper = Paper {
-        flushes: false,
-        ..Paper::new()
-    };
-    let status = command_on(rt, rt.alloc(), words, &mut io::empty(), &mut paper);
-    assert_eq!(rt; status, 3, "{words:?}");
-    assert_eq!(rt; paper.text.as_slice(), text, "{words:?}");
-    let mut paper = Paper::short(3);
-    let status = command_on(rt, rt.alloc(), words, &mut io::empty(), &mut paper);
-    assert_eq!(rt; status, 3, "{words:?}");
-    assert_eq!(rt;
-        paper.text.as_slice(),
-        &text[..text.len().min(3)],
-        "{words:?}"
-    );
+    for (line, text) in LINES {
+        let words = words_of(&rt, line);
+        let mut paper = Paper::stuck();
+        let status = command_on(
+            &rt,
+            rt.alloc(),
+            words.as_slice(),
+            &mut io::empty(),
+            &mut paper,
+        );
+        assert_eq!(rt; status, 3, "{line}");
+        assert_eq!(rt; paper.text.as_slice(), text, "{line}");
+        let mut paper = Paper::short(3);
+        let status = command_on(
+            &rt,
+            rt.alloc(),
+            words.as_slice(),
+            &mut io::empty(),
+            &mut paper,
+        );
+        assert_eq!(rt; status, 3, "{line}");
+        assert_eq!(rt; paper.text.as_slice(), &text[..text.len().min(3)], "{line}");
+    }
 }

@@ -1,175 +1,174 @@
 //! The command `show`.
 
-use super::{Paper, expect, expect_cut, expect_or_memory, hexadecimal, starts, status_of};
-use std::process::Abort;
+use super::terminal::play;
 
-fn expect_shown<R: Abort + AllocGlobal>(rt: &R, octets: &str, status: u8, text: &[u8]) {
-    let hex = hexadecimal(rt, octets);
-    expect(rt, &["nbt", "show", "name", hex.as_str()], status, text);
-}
-
-#[test]
-fn registration_of_fred(rt: HostRuntime) {
-    expect_shown(
-        &rt,
-        "0001 2900 0001 0000 0000 0001 {FRED} 0020 0001 c00c 0020 0001 0000003c 0006 2000 7f000002",
-        0,
-        b"id 0001 flags 2900
+const NAMES: &str = "\
+# A registration of FRED.
+$ nbt show name 0001_2900_0001_0000_0000_0001_{FRED}_0020_0001_c00c_0020_0001_0000003c_0006_2000_7f000002
+id 0001 flags 2900
 question FRED type 0020 class 0001
 additional FRED type 0020 class 0001 ttl 60 data 20007f000002
 message registration
 length 68
-",
-    );
-}
 
-#[test]
-fn name_that_is_not_found(rt: HostRuntime) {
-    expect_shown(
-        &rt,
-        "0008 8583 0000 0001 0000 0000 {FRED} 000a 0001 00000000 0000",
-        0,
-        b"id 0008 flags 8583
+# A name that is not found.
+$ nbt show name 0008_8583_0000_0001_0000_0000_{FRED}_000a_0001_00000000_0000
+id 0008 flags 8583
 answer FRED type 000a class 0001 ttl 0 data -
 message not-found
 length 56
-",
-    );
-}
 
-#[test]
-fn question_and_additional_record_of_two_names(rt: HostRuntime) {
-    expect_shown(
-        &rt,
-        "FFFF 2900 0001 0000 0000 0001 {FRED} 0020 0001 {TEAM} 0020 0001 ffffffff 0006 a000 7f000002",
-        0,
-        b"id ffff flags 2900
+# A question and an additional record of two names.
+$ nbt show name FFFF_2900_0001_0000_0000_0001_{FRED}_0020_0001_{TEAM}_0020_0001_ffffffff_0006_a000_7f000002
+id ffff flags 2900
 question FRED type 0020 class 0001
 additional TEAM type 0020 class 0001 ttl 4294967295 data a0007f000002
 message none
 length 100
-",
-    );
-}
 
-#[test]
-fn octets_that_are_no_packet(rt: HostRuntime) {
-    for (octets, text) in [
-        ("", b"fault Short at 0\n".as_slice()),
-        ("000101000002", b"fault TooMany at 4\n".as_slice()),
-        (
-            "0001 0100 0001 0000 0000 0000 c00c 0020 0001",
-            b"fault BadPointer at 12\n".as_slice(),
-        ),
-        (
-            "0001 0100 0001 0000 0000 0000 21",
-            b"fault BadLabel at 12\n".as_slice(),
-        ),
-        (
-            "0001 0100 0001 0000 0000 0000 2051",
-            b"fault BadHalf at 13\n".as_slice(),
-        ),
-        (
-            "0001 2900 0001 0000 0000 0001 {FRED} 0020 0001 c00c 0020 0001 0000003c 0006 2000 7f0000",
-            b"fault Short at 67\n".as_slice(),
-        ),
-    ] {
-        expect_shown(&rt, octets, 1, text);
-    }
-}
+# Octets that are no packet.
+$ nbt show name ''
+? 1
+fault Short at 0
 
-fn expect_dgram<R: Abort + AllocGlobal>(rt: &R, octets: &str, status: u8, text: &[u8]) {
-    let hex = hexadecimal(rt, octets);
-    expect(rt, &["nbt", "show", "dgram", hex.as_str()], status, text);
-}
+$ nbt show name 000101000002
+? 1
+fault TooMany at 4
 
-#[test]
-fn datagram_from_fred_to_team(rt: HostRuntime) {
-    expect_dgram(
-        &rt,
-        "1106 0001 7f000002 008a 0049 0000 {FRED} {TEAM} 68656c6c6f",
-        0,
-        b"type 11 flags 06 id 0001 from 127.0.0.2:138
+$ nbt show name 0001_0100_0001_0000_0000_0000_c00c_0020_0001
+? 1
+fault BadPointer at 12
+
+$ nbt show name 0001_0100_0001_0000_0000_0000_21
+? 1
+fault BadLabel at 12
+
+$ nbt show name 0001_0100_0001_0000_0000_0000_2051
+? 1
+fault BadHalf at 13
+
+$ nbt show name 0001_2900_0001_0000_0000_0001_{FRED}_0020_0001_c00c_0020_0001_0000003c_0006_2000_7f0000
+? 1
+fault Short at 67
+";
+
+const DATAGRAMS: &str = "\
+# A datagram from FRED to TEAM.
+$ nbt show dgram 1106_0001_7f000002_008a_0049_0000_{FRED}_{TEAM}_68656c6c6f
+type 11 flags 06 id 0001 from 127.0.0.2:138
 source FRED
 destination TEAM
 offset 0 data 68656c6c6f
 length 87
-",
-    );
-}
+
+# A datagram without data.
+$ nbt show dgram 12FC_00ff_0102ff00_ffff_0000_0102
+type 12 flags fc id 00ff from 1.2.255.0:65535
+offset 258 data -
+length 14
+";
+
+const SESSIONS: &str = "\
+# Packets of a session.
+$ nbt show session ''
+rest 0
+
+$ nbt show session 85000000_83000001_82_00
+keep-alive
+negative 82
+rest 1
+
+$ nbt show session 81000044_{FRED}_{TEAM}
+request FRED TEAM
+rest 0
+
+$ nbt show session 00000000
+message 0 -
+rest 0
+
+$ nbt show session 82000000_84000006_7f000003_008b_00000005_68656c6c6f_0001
+positive
+retarget 127.0.0.3:139
+message 5 68656c6c6f
+rest 2
+
+$ nbt show session 81000044_{FRED}
+rest 38
+
+$ nbt show session 0001ffff_00
+rest 5
+
+# Faults of a session.
+$ nbt show session 85000000_00020000
+? 1
+keep-alive
+fault BadFlags at 1
+
+$ nbt show session 86
+? 1
+fault BadType at 0
+
+$ nbt show session 83000002
+? 1
+fault BadLength at 2
+
+$ nbt show session 82000000_81000044_{FRED}_21464545464542454e43414341434143414341434143414341434143414341434100
+? 1
+positive
+fault BadName at 38
+";
+
+const WORDS: &str = "\
+# What is no hexadecimal.
+$ nbt show name -
+? 1
+unreadable
+
+$ nbt show name 0
+? 1
+unreadable
+
+$ nbt show name 0g
+? 1
+unreadable
+
+$ nbt show name ~
+? 1
+unreadable
+
+$ nbt show dgram 0g
+? 1
+unreadable
+
+# What is no kind.
+$ nbt show sessions 0g
+? 2
+error: ...
+
+$ nbt show NAME 0g
+? 2
+error: ...
+
+$ nbt show '' 0g
+? 2
+error: ...
+
+# What is missing.
+$ nbt show
+? 2
+error: the following required arguments...
+
+$ nbt show name
+? 2
+error: the following required arguments...
+
+$ nbt show --help
+Shows what the octets...
+";
 
 #[test]
-fn datagram_without_data(rt: HostRuntime) {
-    expect_dgram(
-        &rt,
-        "12FC 00ff 0102ff00 ffff 0000 0102",
-        0,
-        b"type 12 flags fc id 00ff from 1.2.255.0:65535\noffset 258 data -\nlength 14\n",
-    );
-}
-
-fn expect_session<R: Abort + AllocGlobal>(rt: &R, octets: &str, status: u8, text: &[u8]) {
-    let hex = hexadecimal(rt, octets);
-    expect(rt, &["nbt", "show", "session", hex.as_str()], status, text);
-}
-
-#[test]
-fn packets_of_a_session(rt: HostRuntime) {
-    for (octets, text) in [
-        ("", b"rest 0\n".as_slice()),
-        (
-            "85000000 83000001 82 00",
-            b"keep-alive\nnegative 82\nrest 1\n",
-        ),
-        ("81000044 {FRED} {TEAM}", b"request FRED TEAM\nrest 0\n"),
-        ("00000000", b"message 0 -\nrest 0\n"),
-        (
-            "82000000 84000006 7f000003 008b 00000005 68656c6c6f 0001",
-            b"positive\nretarget 127.0.0.3:139\nmessage 5 68656c6c6f\nrest 2\n",
-        ),
-        ("81000044 {FRED}", b"rest 38\n"),
-        ("0001ffff 00", b"rest 5\n"),
-    ] {
-        expect_session(&rt, octets, 0, text);
+fn shows(rt: HostRuntime) {
+    for runs in [NAMES, DATAGRAMS, SESSIONS, WORDS] {
+        play(&rt, runs);
     }
-}
-
-#[test]
-fn faults_of_a_session(rt: HostRuntime) {
-    for (octets, text) in [
-        (
-            "85000000 00020000",
-            b"keep-alive\nfault BadFlags at 1\n".as_slice(),
-        ),
-        ("86", b"fault BadType at 0\n"),
-        ("83000002", b"fault BadLength at 2\n"),
-        (
-            "82000000 81000044 {FRED} 21464545464542454e43414341434143414341434143414341434143414341434100",
-            b"positive\nfault BadName at 38\n",
-        ),
-    ] {
-        expect_session(&rt, octets, 1, text);
-    }
-}
-
-#[test]
-fn words_of_show(rt: HostRuntime) {
-    for hex in ["-", "0", "0g", " "] {
-        expect(&rt, &["nbt", "show", "name", hex], 1, b"unreadable\n");
-    }
-    expect(&rt, &["nbt", "show", "dgram", "0g"], 1, b"unreadable\n");
-    for kind in ["sessions", "NAME", ""] {
-        starts(&rt, &["nbt", "show", kind, "0g"], 2, b"error: ");
-    }
-    for words in [["nbt", "show"].as_slice(), &["nbt", "show", "name"]] {
-        starts(&rt, words, 2, b"error: the following required arguments");
-    }
-    starts(&rt, &["nbt", "show", "--help"], 0, b"Shows what the octets");
-    starts(&rt, &["nbt", "help", "check"], 0, b"Checks vectors");
-}
-
-#[test]
-fn failures_of_show(rt: HostRuntime) {
-    expect_cut(&rt, &["nbt", "show", "name", ""], b"fault Short at 0\n");
-    expect_or_memory(&rt, &["nbt", "show", "name", "00018583000000000000"], 1);
 }

@@ -1,0 +1,309 @@
+//! The commands `serve` and `node` with another end, over UDP and a clock that is set: what they print and send.
+
+use super::Paper;
+use super::machine::Machine;
+use super::terminal::{word_of, words_of};
+use nbt_prog::command_on;
+use std::cell::Cell;
+use std::io;
+use std::net::{Net, TcpListener, TcpStream, UdpSocket};
+use std::process::Abort;
+use std::test::Fail;
+use std::time::Duration;
+
+/// Where the command is, as its BIND says.
+const OWN: &str = "127.42.22.2:20138";
+
+/// Where the other end is.
+const OTHER: &str = "127.42.22.3:20139";
+
+/// A command, the moments that its clock tells, and what the other end sends at which reading of it; at which reading the
+/// port breaks, or 0; and how it ends, after how many readings, what is printed, and what the other end is sent.
+#[derive(Clone, Copy)]
+struct Row {
+    about: &'static str,
+    words: &'static str,
+    moments: &'static [u64],
+    sends: &'static [(usize, &'static str)],
+    breaks_at: usize,
+    status: u8,
+    readings: usize,
+    text: &'static str,
+    sent: &'static [&'static str],
+}
+
+/// The other end's requests for names, in their order: for FRED, unique, for as long as may be, twice; and for the group
+/// TEAM for a minute.
+const FIRST: &str =
+    "0001_2900_0001_0000_0000_0001_{FRED}_0020_0001_c00c_0020_0001_00000000_0006_2000_7f2a1603";
+
+const AGAIN: &str =
+    "0002_2900_0001_0000_0000_0001_{FRED}_0020_0001_c00c_0020_0001_00000000_0006_2000_7f2a1603";
+
+const TEAM: &str =
+    "0003_2900_0001_0000_0000_0001_{TEAM}_0020_0001_c00c_0020_0001_0000003c_0006_a000_7f2a1603";
+
+/// The replies to them where the longest lease is a minute.
+const FIRST_GRANTED: &str =
+    "0001_ad80_0000_0001_0000_0000_{FRED}_0020_0001_0000003c_0006_2000_7f2a1603";
+
+const AGAIN_GRANTED: &str =
+    "0002_ad80_0000_0001_0000_0000_{FRED}_0020_0001_0000003c_0006_2000_7f2a1603";
+
+const TEAM_GRANTED: &str =
+    "0003_ad80_0000_0001_0000_0000_{TEAM}_0020_0001_0000003c_0006_a000_7f2a1603";
+
+/// A node's request for FRED, unique, for a minute; the second one, and its refresh.
+const ASKS: &str =
+    "0001_2900_0001_0000_0000_0001_{FRED}_0020_0001_c00c_0020_0001_0000003c_0006_2000_7f2a1602";
+
+const ASKS_AGAIN: &str =
+    "0002_2900_0001_0000_0000_0001_{FRED}_0020_0001_c00c_0020_0001_0000003c_0006_2000_7f2a1602";
+
+const REFRESHES: &str =
+    "0002_4000_0001_0000_0000_0001_{FRED}_0020_0001_c00c_0020_0001_0000003c_0006_2000_7f2a1602";
+
+/// Replies to them: granted for a minute, refused since it is active, and lost since there is a conflict.
+const GRANTED: &str = "0001_ad80_0000_0001_0000_0000_{FRED}_0020_0001_0000003c_0006_2000_7f2a1602";
+
+const SECOND_GRANTED: &str =
+    "0002_ad80_0000_0001_0000_0000_{FRED}_0020_0001_0000003c_0006_2000_7f2a1602";
+
+const REFUSED: &str = "0001_ad86_0000_0001_0000_0000_{FRED}_0020_0001_00000000_0006_2000_7f2a1602";
+
+const CONFLICT: &str = "0002_ad87_0000_0001_0000_0000_{FRED}_0020_0001_00000000_0006_2000_7f2a1602";
+
+const SERVERS: [Row; 7] = [
+    Row {
+        about: "BIND, LONGEST and TURNS: silent for 70 s, and then leases of 70 s at most, of two names and more",
+        words: "nbt serve 127.42.22.2:20138 1000 70 5",
+        moments: &[1_000_000, 1_000_000, 1_069_999, 1_070_000, 1_070_000],
+        sends: &[(1, FIRST), (1, AGAIN), (1, TEAM)],
+        breaks_at: 0,
+        status: 0,
+        readings: 5,
+        text: "turns 5 replies 2 lost 0\n",
+        sent: &[
+            "0002_ad80_0000_0001_0000_0000_{FRED}_0020_0001_00000046_0006_2000_7f2a1603",
+            TEAM_GRANTED,
+        ],
+    },
+    Row {
+        about: "a millisecond before the silence is over",
+        words: "nbt serve 127.42.22.2:20138 1000 60 1",
+        moments: &[1_000_000, 1_000_000, 1_059_999],
+        sends: &[(1, FIRST)],
+        breaks_at: 0,
+        status: 0,
+        readings: 3,
+        text: "turns 1 replies 0 lost 0\n",
+        sent: &[],
+    },
+    Row {
+        about: "the silence is over",
+        words: "nbt serve 127.42.22.2:20138 1000 60 1",
+        moments: &[1_000_000, 1_000_000, 1_060_000],
+        sends: &[(1, FIRST)],
+        breaks_at: 0,
+        status: 0,
+        readings: 3,
+        text: "turns 1 replies 1 lost 0\n",
+        sent: &[FIRST_GRANTED],
+    },
+    Row {
+        about: "a datagram at whose moment the clock goes back is lost",
+        words: "nbt serve 127.42.22.2:20138 1000 60 4",
+        moments: &[1_000_000, 1_000_000, 1_060_000, 1_059_999, 1_060_001],
+        sends: &[(1, FIRST), (1, TEAM), (1, AGAIN)],
+        breaks_at: 0,
+        status: 0,
+        readings: 5,
+        text: "turns 4 replies 2 lost 1\n",
+        sent: &[FIRST_GRANTED, AGAIN_GRANTED],
+    },
+    Row {
+        about: "with no end it says that it has begun, and goes on until its port fails",
+        words: "nbt serve 127.42.22.2:20138 1000 60 --forever",
+        moments: &[1_000_000, 1_000_000, 1_060_000, 1_060_000],
+        sends: &[(1, FIRST), (1, "00")],
+        breaks_at: 4,
+        status: 3,
+        readings: 4,
+        text: "serving 127.42.22.2:20138, silent for 60 s\ndevice\n",
+        sent: &[FIRST_GRANTED],
+    },
+    Row {
+        about: "a clock that can't be read",
+        words: "nbt serve 127.42.22.2:20138 1000 60 1",
+        moments: &[],
+        sends: &[],
+        breaks_at: 0,
+        status: 3,
+        readings: 1,
+        text: "device\n",
+        sent: &[],
+    },
+    Row {
+        about: "a clock at 0",
+        words: "nbt serve 127.42.22.2:20138 1000 60 1",
+        moments: &[0, 1],
+        sends: &[],
+        breaks_at: 0,
+        status: 3,
+        readings: 1,
+        text: "device\n",
+        sent: &[],
+    },
+];
+
+const NODES: [Row; 5] = [
+    Row {
+        about: "each argument: it asks for 300 s as a group, behind twice 700 ms, and holds for 70 s at most",
+        words: "nbt node 127.42.22.2:20138 127.42.22.3:20139 700 70 FRED group 300 4",
+        moments: &[1_000_000, 1_000_000, 1_001_400, 1_001_400, 1_001_401],
+        // The first reply comes before the node asks, so it replies to nothing.
+        sends: &[
+            (
+                3,
+                "0001_ad80_0000_0001_0000_0000_{FRED}_0020_0001_0000002c_0006_a000_7f2a1602",
+            ),
+            (
+                5,
+                "0001_ad80_0000_0001_0000_0000_{FRED}_0020_0001_00000064_0006_a000_7f2a1602",
+            ),
+        ],
+        breaks_at: 0,
+        status: 0,
+        readings: 10,
+        text: "granted 70\nheld\n",
+        sent: &[
+            "0001_2900_0001_0000_0000_0001_{FRED}_0020_0001_c00c_0020_0001_0000012c_0006_a000_7f2a1602",
+        ],
+    },
+    Row {
+        about: "a name is granted, and renewed after half its time",
+        words: "nbt node 127.42.22.2:20138 127.42.22.3:20139 1000 60 FRED unique 60 3",
+        moments: &[
+            1_000_000, 1_000_000, 1_002_001, 1_002_001, 1_032_000, 1_032_000, 1_032_001,
+        ],
+        sends: &[(3, GRANTED), (5, SECOND_GRANTED), (7, SECOND_GRANTED)],
+        breaks_at: 0,
+        status: 0,
+        readings: 8,
+        text: "granted 60\nrenewed 60\nheld\n",
+        sent: &[ASKS, REFRESHES],
+    },
+    Row {
+        about: "a name is refused, granted and lost",
+        words: "nbt node 127.42.22.2:20138 127.42.22.3:20139 1000 60 FRED unique 60 5",
+        moments: &[
+            1_000_000, 1_000_000, 1_002_000, 1_002_000, 1_002_001, 1_002_001, 1_004_001, 1_004_001,
+            1_004_002,
+        ],
+        sends: &[
+            (3, GRANTED),
+            (5, REFUSED),
+            (9, SECOND_GRANTED),
+            (11, CONFLICT),
+        ],
+        breaks_at: 0,
+        status: 0,
+        readings: 12,
+        text: "refused 6\ngranted 60\nlost\nnot held\n",
+        sent: &[ASKS, ASKS_AGAIN],
+    },
+    Row {
+        about: "with no end it goes on until its port fails",
+        words: "nbt node 127.42.22.2:20138 127.42.22.3:20139 1000 60 FRED unique 60 --forever",
+        moments: &[1_000_000, 1_000_000, 1_002_001],
+        sends: &[(3, GRANTED)],
+        breaks_at: 6,
+        status: 3,
+        readings: 7,
+        text: "granted 60\ndevice\n",
+        sent: &[ASKS],
+    },
+    Row {
+        about: "a clock that can't be read",
+        words: "nbt node 127.42.22.2:20138 127.42.22.3:20139 1000 60 FRED unique 60 1",
+        moments: &[],
+        sends: &[],
+        breaks_at: 0,
+        status: 3,
+        readings: 1,
+        text: "device\n",
+        sent: &[],
+    },
+];
+
+fn octets<R: Abort + AllocGlobal>(rt: &R, text: &str) -> Result<Vec<u8>, Fail> {
+    Ok(hex::decode(rt.alloc(), word_of(rt, text).as_str())?)
+}
+
+/// Runs a row's command, while the other end sends.
+fn expect_row<R>(rt: &R, row: &Row) -> Result<(), Fail>
+where
+    R: Abort + AllocGlobal + Net<Stream = TcpStream, Listener = TcpListener>,
+{
+    let other = UdpSocket::bind(rt, OTHER)?;
+    let mut sends = Vec::new(rt.alloc());
+    for (reading, text) in row.sends {
+        sends.push((*reading, octets(rt, text)?))?;
+    }
+    let machine = Machine {
+        host: rt,
+        moments: row.moments,
+        other: &other,
+        to: OWN,
+        sends: sends.as_slice(),
+        breaks_at: row.breaks_at,
+        readings: Cell::new(0),
+        bound: Cell::new(None),
+    };
+    let words = words_of(rt, row.words);
+    let mut paper = Paper::new();
+    let status = command_on(
+        &machine,
+        rt.alloc(),
+        words.as_slice(),
+        &mut io::empty(),
+        &mut paper,
+    );
+    let about = row.about;
+    assert_eq!(rt; paper.text.as_slice(), row.text.as_bytes(), "{about}");
+    assert_eq!(rt; status, row.status, "{about}");
+    assert!(rt; paper.is_line_by_line(), "{about}");
+    assert_eq!(rt; machine.readings.get(), row.readings, "{about}");
+    expect_sent(rt, row, &other)
+}
+
+/// What came to the other end: these, each from the command's own port, and nothing else.
+fn expect_sent<R: Abort + AllocGlobal>(rt: &R, row: &Row, other: &UdpSocket) -> Result<(), Fail> {
+    let about = row.about;
+    let own = OWN.parse()?;
+    let mut buffer = [0; 600];
+    other.set_read_timeout(Some(Duration::from_millis(1)))?;
+    for text in row.sent {
+        let (count, from) = other.recv_from(&mut buffer)?;
+        assert_eq!(rt; &buffer[..count], octets(rt, text)?.as_slice(), "{about}");
+        assert_eq!(rt; from, own, "{about}");
+    }
+    assert!(rt; other.recv_from(&mut buffer).is_err(), "{about}");
+    Ok(())
+}
+
+#[test]
+fn servers(rt: HostRuntime) -> Result<(), Fail> {
+    for row in &SERVERS {
+        expect_row(&rt, row)?;
+    }
+    Ok(())
+}
+
+#[test]
+fn nodes(rt: HostRuntime) -> Result<(), Fail> {
+    for row in &NODES {
+        expect_row(&rt, row)?;
+    }
+    Ok(())
+}

@@ -1,0 +1,171 @@
+//! This machine's network with strangers on it, and with connections that fail.
+
+use std::cell::Cell;
+use std::io;
+use std::io::{Read, Write};
+use std::net::{
+    IpAddr, Ipv4Addr, Net, OpenListener, OpenStream, SocketAddr, TcpListener, TcpStream, UdpSocket,
+};
+use std::os::fd::{AsRawFd, RawFd};
+use std::time::{Clock, Duration};
+
+/// A status request for the name `*`, which a node replies to.
+const STATUS_REQUEST: &[u8] =
+    b"\x00\x09\x00\x00\x00\x01\x00\x00\x00\x00\x00\x00 CKAAAAAAAAAAAAAAAAAAAAAAAAAAAAAA\x00\x00\x21\x00\x01";
+
+/// What becomes of a connection.
+#[derive(Clone, Copy, Debug, PartialEq, Eq)]
+pub enum Luck {
+    /// It can't be made.
+    Refused,
+    /// Nothing can be written to it.
+    Mute,
+    /// Nothing can be read from it.
+    Deaf,
+    /// What is read from it is no session's stream.
+    Garbled,
+    /// All is well.
+    Well,
+}
+
+/// One end of a TCP connection, with its luck.
+#[derive(Drop)]
+pub struct Line {
+    socket: TcpStream,
+    luck: Luck,
+}
+
+impl Read for Line {
+    fn read(&mut self, buf: &mut [u8]) -> io::Result<usize> {
+        match self.luck {
+            Luck::Deaf => Err(io::Error::from(io::ErrorKind::ConnectionReset)),
+            Luck::Garbled => {
+                buf.fill(0xFF);
+                Ok(buf.len())
+            }
+            _ => self.socket.read(buf),
+        }
+    }
+}
+
+impl Write for Line {
+    fn write(&mut self, buf: &[u8]) -> io::Result<usize> {
+        match self.luck {
+            Luck::Mute => Err(io::Error::from(io::ErrorKind::BrokenPipe)),
+            _ => self.socket.write(buf),
+        }
+    }
+
+    fn flush(&mut self) -> io::Result<()> {
+        Ok(())
+    }
+}
+
+impl OpenStream for Line {
+    fn local_addr(&self) -> io::Result<SocketAddr> {
+        self.socket.local_addr()
+    }
+
+    fn set_read_timeout(&self, dur: Option<Duration>) -> io::Result<()> {
+        self.socket.set_read_timeout(dur)
+    }
+}
+
+impl AsRawFd for Line {
+    fn as_raw_fd(&self) -> RawFd {
+        self.socket.as_raw_fd()
+    }
+}
+
+/// A TCP socket that listens. The next connection that it accepts has its luck, and all others are well. It passes over
+/// none: a stranger's connection, which is the first, is well.
+#[derive(Drop)]
+pub struct Door {
+    socket: TcpListener,
+    strangers: Cell<usize>,
+    next: Cell<Luck>,
+}
+
+impl OpenListener for Door {
+    type Stream = Line;
+
+    fn accept(&self) -> io::Result<(Line, SocketAddr)> {
+        let (socket, from) = self.socket.accept()?;
+        let strangers = self.strangers.get();
+        self.strangers.set(strangers.saturating_sub(1));
+        let luck = if strangers == 0 {
+            self.next.replace(Luck::Well)
+        } else {
+            Luck::Well
+        };
+        Ok((Line { socket, luck }, from))
+    }
+}
+
+impl AsRawFd for Door {
+    fn as_raw_fd(&self) -> RawFd {
+        self.socket.as_raw_fd()
+    }
+}
+
+/// The network of `machine`. Strangers send to each socket as soon as it is bound. The first connection that is made has
+/// its luck at each end, and all others are well; how many are made is counted. What `last` sends goes from the UDP port
+/// that is bound last, to `to`.
+#[derive(Drop)]
+pub struct Street<'a, N> {
+    pub machine: &'a N,
+    pub caller: Cell<Luck>,
+    pub listener: Luck,
+    pub connections: Cell<usize>,
+    pub last: (SocketAddr, &'a [u8], SocketAddr),
+}
+
+impl<'a, N: Net<Stream = TcpStream, Listener = TcpListener>> Net for Street<'a, N> {
+    type Stream = Line;
+
+    type Listener = Door;
+
+    fn bind(&self, addr: SocketAddr) -> io::Result<Door> {
+        let socket = self.machine.bind(addr)?;
+        self.machine.connect(addr)?;
+        Ok(Door {
+            socket,
+            strangers: Cell::new(1),
+            next: Cell::new(self.listener),
+        })
+    }
+
+    fn bind_udp(&self, addr: SocketAddr) -> io::Result<UdpSocket> {
+        let socket = self.machine.bind_udp(addr)?;
+        let free = SocketAddr::new(IpAddr::V4(Ipv4Addr::LOCALHOST), 0);
+        let stranger = self.machine.bind_udp(free)?;
+        stranger.send_to(STATUS_REQUEST, addr)?;
+        let (from, octets, to) = self.last;
+        if addr == from {
+            socket.send_to(octets, to)?;
+        }
+        Ok(socket)
+    }
+
+    fn connect(&self, addr: SocketAddr) -> io::Result<Line> {
+        let made = self.connections.get();
+        self.connections.set(made.saturating_add(1));
+        let luck = self.caller.replace(Luck::Well);
+        if luck == Luck::Refused {
+            return Err(io::Error::from(io::ErrorKind::ConnectionRefused));
+        }
+        let socket = self.machine.connect(addr)?;
+        Ok(Line { socket, luck })
+    }
+}
+
+/// Nobody reads its clock.
+impl<'a, N> Clock for Street<'a, N> {
+    fn monotonic(&self) -> io::Result<Duration> {
+        Err(io::Error::from(io::ErrorKind::Unsupported))
+    }
+
+    fn since_1970(&self) -> io::Result<Duration> {
+        Err(io::Error::from(io::ErrorKind::Unsupported))
+    }
+}
