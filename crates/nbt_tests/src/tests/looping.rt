@@ -2,7 +2,6 @@
 
 use super::Paper;
 use super::street::{Luck, Street};
-use super::terminal::word_of;
 use nbt_prog::{command, command_on};
 use std::cell::Cell;
 use std::io;
@@ -72,26 +71,24 @@ const LUCKS: [(Luck, Luck, usize); 8] = [
     (Luck::Well, Luck::Garbled, 3),
 ];
 
-/// A datagram from TEAM at 127.0.0.4:21340 to a name that nobody holds.
-const TO_NOBODY: &str =
-    "1006_0007_7f000004_535c_0049_0000_{TEAM}_20454f4550454f454643414341434143414341434143414341434143414341434100_68656c6c6f";
+/// A datagram from TEAM at 127.0.0.4:21340 to NONE, which is nobody's name.
+const TO_NOBODY: &[u8] =
+    b"\x10\x06\x00\x07\x7F\x00\x00\x04\x53\x5C\x00\x49\x00\x00 FEEFEBENCACACACACACACACACACACACA\x00 EOEPEOEFCACACACACACACACACACACACA\x00hello";
 
 /// What comes of it: an error from n1's own port, 127.0.0.2:21138 (RFC 1002 section 4.4.3).
-const NOT_PRESENT: &str = "1306_0007_7f000002_5292_82";
+const NOT_PRESENT: &[u8] = b"\x13\x06\x00\x07\x7F\x00\x00\x02\x52\x92\x82";
 
 #[test]
 fn strangers_and_a_connection_that_fails_change_nothing(rt: HostRuntime) -> Result<(), Fail> {
     let teller = UdpSocket::bind(&rt, end(4, 21340))?;
     teller.set_read_timeout(Some(Duration::from_millis(1)))?;
-    let to_nobody = hex::decode(rt.alloc(), word_of(&rt, TO_NOBODY).as_str())?;
-    let not_present = hex::decode(rt.alloc(), word_of(&rt, NOT_PRESENT).as_str())?;
     for (caller, listener, connections) in LUCKS {
         let street = Street {
             machine: &rt,
             caller: Cell::new(caller),
             listener,
             connections: Cell::new(0),
-            last: (end(3, 21138), to_nobody.as_slice(), end(2, 21138)),
+            last: (end(3, 21138), TO_NOBODY, end(2, 21138)),
         };
         let mut paper = Paper::new();
         let words = ["nbt", "loop", "21137"];
@@ -109,11 +106,7 @@ fn strangers_and_a_connection_that_fails_change_nothing(rt: HostRuntime) -> Resu
         );
         let mut buffer = [0; 600];
         let (count, from) = teller.recv_from(&mut buffer)?;
-        assert_eq!(&rt;
-            &buffer[..count],
-            not_present.as_slice(),
-            "{caller:?} {listener:?}"
-        );
+        assert_eq!(&rt; &buffer[..count], NOT_PRESENT, "{caller:?} {listener:?}");
         assert_eq!(&rt; from, end(2, 21138), "{caller:?} {listener:?}");
     }
     Ok(())

@@ -9,33 +9,31 @@ use std::time::{Clock, Duration};
 const NOBODY: &str = "127.42.22.9:9";
 
 /// Its clock tells these moments, in milliseconds, one a reading, and then the last again; where there are none, it can't
-/// be read. At its `n`th reading another end sends what is to be sent then. At the reading `breaks_at` the UDP port that was
-/// bound breaks: its next call fails.
+/// be read. At its `n`th reading the other end sends to `port` what is to be sent then. At the reading `breaks_at` the port
+/// breaks: its next call fails. Where `port` is, whoever binds a UDP port is given that one.
 #[derive(Drop)]
 pub struct Machine<'a, N> {
     pub host: &'a N,
-    pub moments: &'a [u64],
-    pub other: &'a UdpSocket,
-    pub to: &'a str,
-    pub sends: &'a [(usize, Vec<u8>)],
+    pub port: UdpSocket,
+    pub other: UdpSocket,
+    pub moments: &'static [u64],
+    pub sends: Vec<(usize, Vec<u8>)>,
     pub breaks_at: usize,
     pub readings: Cell<usize>,
-    pub bound: Cell<Option<UdpSocket>>,
 }
 
 impl<'a, N: Net<Stream = TcpStream, Listener = TcpListener>> Machine<'a, N> {
     /// What happens at a reading of the clock.
     fn happens(&self, reading: usize) -> io::Result<()> {
-        for (when, octets) in self.sends {
+        for (when, octets) in self.sends.as_slice() {
             if *when == reading {
-                self.other.send_to(octets.as_slice(), self.to)?;
+                self.other
+                    .send_to(octets.as_slice(), self.port.local_addr()?)?;
             }
         }
         if reading == self.breaks_at {
-            if let Some(port) = self.bound.replace(None) {
-                port.connect(NOBODY)?;
-                port.send(b"x")?;
-            }
+            self.port.connect(NOBODY)?;
+            self.port.send(b"x")?;
         }
         Ok(())
     }
@@ -68,9 +66,11 @@ impl<'a, N: Net<Stream = TcpStream, Listener = TcpListener>> Net for Machine<'a,
     }
 
     fn bind_udp(&self, addr: SocketAddr) -> io::Result<UdpSocket> {
-        let socket = self.host.bind_udp(addr)?;
-        self.bound.set(Some(socket.try_clone()?));
-        Ok(socket)
+        if addr == self.port.local_addr()? {
+            self.port.try_clone()
+        } else {
+            self.host.bind_udp(addr)
+        }
     }
 
     fn connect(&self, addr: SocketAddr) -> io::Result<TcpStream> {

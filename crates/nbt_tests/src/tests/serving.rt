@@ -245,20 +245,18 @@ fn expect_row<R>(rt: &R, row: &Row) -> Result<(), Fail>
 where
     R: Abort + AllocGlobal + Net<Stream = TcpStream, Listener = TcpListener>,
 {
-    let other = UdpSocket::bind(rt, OTHER)?;
     let mut sends = Vec::new(rt.alloc());
     for (reading, text) in row.sends {
         sends.push((*reading, octets(rt, text)?))?;
     }
     let machine = Machine {
         host: rt,
+        port: UdpSocket::bind(rt, OWN)?,
+        other: UdpSocket::bind(rt, OTHER)?,
         moments: row.moments,
-        other: &other,
-        to: OWN,
-        sends: sends.as_slice(),
+        sends,
         breaks_at: row.breaks_at,
         readings: Cell::new(0),
-        bound: Cell::new(None),
     };
     let words = words_of(rt, row.words);
     let mut paper = Paper::new();
@@ -274,7 +272,7 @@ where
     assert_eq!(rt; status, row.status, "{about}");
     assert!(rt; paper.is_line_by_line(), "{about}");
     assert_eq!(rt; machine.readings.get(), row.readings, "{about}");
-    expect_sent(rt, row, &other)
+    expect_sent(rt, row, &machine.other)
 }
 
 /// What came to the other end: these, each from the command's own port, and nothing else.

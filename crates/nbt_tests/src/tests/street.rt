@@ -77,8 +77,8 @@ impl AsRawFd for Line {
     }
 }
 
-/// A TCP socket that listens. The next connection that it accepts has its luck, and all others are well. It passes over
-/// none: a stranger's connection, which is the first, is well.
+/// A TCP socket that listens. Behind so many strangers' connections, the first one that it accepts has its luck; all others
+/// are well.
 #[derive(Drop)]
 pub struct Door {
     socket: TcpListener,
@@ -109,15 +109,15 @@ impl AsRawFd for Door {
 }
 
 /// The network of `machine`. Strangers send to each socket as soon as it is bound. The first connection that is made has
-/// its luck at each end, and all others are well; how many are made is counted. What `last` sends goes from the UDP port
-/// that is bound last, to `to`.
+/// its luck at each end, and all others are well; how many are made is counted. Once the UDP port `last.0` is bound, it sends
+/// the octets `last.1` to `last.2`.
 #[derive(Drop)]
 pub struct Street<'a, N> {
     pub machine: &'a N,
     pub caller: Cell<Luck>,
     pub listener: Luck,
     pub connections: Cell<usize>,
-    pub last: (SocketAddr, &'a [u8], SocketAddr),
+    pub last: (SocketAddr, &'static [u8], SocketAddr),
 }
 
 impl<'a, N: Net<Stream = TcpStream, Listener = TcpListener>> Net for Street<'a, N> {
