@@ -101,15 +101,20 @@ fn print(prints: Prints, octets: &[u8], text: &mut String) -> Result<bool, Fail>
     }
 }
 
-#[test]
-fn octets_packets_datagrams_sessions_and_vectors(rt: HostRuntime) -> Result<(), Fail> {
-    for (prints, octets, well, wanted) in ROWS {
+/// Each row is printed so, behind what stands there.
+fn play<R: Abort + AllocGlobal>(rt: &R, rows: &[Row]) -> Result<(), Fail> {
+    for (prints, octets, well, wanted) in rows {
         let mut text = String::from_str(rt.alloc(), "> ")?;
-        let got = print(prints, octets, &mut text)?;
-        assert_eq!(&rt; text.as_str(), wanted);
-        assert_eq!(&rt; got, well, "{wanted}");
+        let got = print(*prints, octets, &mut text)?;
+        assert_eq!(rt; text.as_str(), *wanted);
+        assert_eq!(rt; got, *well, "{wanted}");
     }
     Ok(())
+}
+
+#[test]
+fn octets_packets_datagrams_sessions_and_vectors(rt: HostRuntime) -> Result<(), Fail> {
+    play(&rt, &ROWS)
 }
 
 /// How many octets a long input has.

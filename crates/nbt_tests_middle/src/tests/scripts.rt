@@ -46,9 +46,9 @@ fn a_script_of_2_000_events(rt: HostRuntime) -> Result<(), Fail> {
     let mut script = String::from_str(rt.alloc(), "config 1000 60 4096 2\nstart s\nstart n1\n")?;
     let mut wanted = String::from_str(rt.alloc(), "ok\nok\n")?;
     // A lookup is open until its answer, so each is answered before the next.
-    for number in 0..500 {
-        let moment = 60_000 + number;
-        let request = 2 * number;
+    for round in 0..500_u16 {
+        let moment = 60_000 + u32::from(round);
+        let request = 2 * u32::from(round);
         let reply = request + 1;
         writeln!(
             script,
