@@ -69,11 +69,13 @@ held_passes _ _ p pass (held before after first f fragments s idle was goes bega
 pub held_given_up : (puts : List Put) (s : Slot) (now : ℕ) → s.began + 2000 < now → Held puts s → Leaves s.key puts now none
 held_given_up _ _ now past (held before after first f fragments s idle was goes began has) = was_given_up before after first f fragments now idle was goes (omega (arith, past, began))
 
-pub held_left : (puts : List Put) (s : Slot) (now : ℕ) → now ≤ s.began + 2000 → Held puts s → (fragments : List FragmentValue) × Leaves s.key puts now (since s.began fragments) × Since fragments s
+pub held_left : (puts : List Put) (s : Slot) (now : ℕ) → now ≤ s.began + 2000 → Held puts s → (fragments : List FragmentValue) × Leaves s.key puts now (since s.began fragments) × Since fragments s × (first : FragmentValue) × Contains fragments first
 held_left _ _ now young (held before after first f fragments s idle was goes began has) = (
   f ∷ fragments,
   subst (λ (k : ℕ). Leaves s.key (before ++ first ∷ after) now (since k (f ∷ fragments))) began (is_left before after first f fragments now idle was goes (omega (arith, young, began))),
   has,
+  f,
+  (0, omega arith, refl),
 )
 
 -- ---- one fragment alone

@@ -1,7 +1,7 @@
 -- Packets that are put one after the other: each slot carries the fragments of its key, and what is told they tell.
 use Rattle.std.proofs.Common.{◌≡◌, ℕ, ◌+◌, ◌<◌, ◌≤◌, Bool, true, false, List, [], ◌∷◌, ◌++◌, length, map, set, replicate, Option, Some, None, refl, sym, ap, subst, ◌∙◌, arith, inl, inr}
 use Rattle.std.specs.Prelude.{slice_get}
-use Rattle.std.specs.List.{position}
+use Rattle.std.specs.List.{position, Contains}
 use Rattle.std.proofs.lemmas.Bool.{cases_lt, cases_eq, lt-ltb, ltb-true}
 use Rattle.std.proofs.lemmas.List.Quantifiers.{position-Some}
 use Rattle.nbt_dgram.specs.declared.dgram.Names.{Names}
@@ -13,7 +13,7 @@ use Rattle.nbt_dgram.specs.declared.joined.Dropped.TheVariants as reasons
 use Rattle.nbt_dgram.specs.Dgram.{FragmentValue, fragment, DgramValue}
 use Rattle.nbt_dgram.specs.Slot.{fresh, joined, Since, one_more}
 use Rattle.nbt_dgram.specs.Joiner.{JoinedValue, whole, waiting, dropped, is_old, kept, is_of, is_free, emptied, key_of, Joins, too_long, no_room, begins, conflicts, waits, completes, JoinerValue, Puts, clock_back, alone, joins, Sweeps, too_early, given_up}
-use Rattle.nbt_dgram.specs.Carrying.{Put, put, Run, is_new, after_put, after_sweep, IsAlone, Passes, other_key, went_back, is_alone, Ends, nobody, Unfinished, none, since, fragments_in, Leaves, none_came, Tells, is_whole, is_unfinished, is_dropped}
+use Rattle.nbt_dgram.specs.Carrying.{Put, put, Run, is_new, after_put, after_sweep, IsAlone, Passes, other_key, went_back, is_alone, Ends, nobody, Unfinished, none, since, fragments_in, Leaves, none_came, Tells, is_too_long, is_full, is_conflict, is_whole, is_unfinished}
 use Rattle.nbt_dgram.proofs.SlotLists.{got_below, got_is}
 use Rattle.nbt_dgram.proofs.SlotKeys.{key_or, of_is, is_of_own, is_not_of, NoSlot, slot_or_none, no_slot, got_mapped, map_got, got_set, set_here, set_elsewhere, none_in_free}
 use Rattle.nbt_dgram.proofs.Carried.{not_passing, none_later, none_passes, none_ended, Held, held_begins, held_joins, held_passes, held_given_up, held_left, cut_makes_nothing}
@@ -127,6 +127,9 @@ module _ (puts : List Put) (now : ℕ) (slots : List (Option Slot)) (p : Put) (b
         ];
   }
 
+none_within : (g : FragmentValue) → Contains [] g → ⊥
+none_within g member = omega (arith, member.1)
+
 -- the place of a slot that `position` finds
 found_at : (key : Key) (slots : List (Option Slot)) (place : ℕ) (s : Slot) → position (is_of key) slots ≡ Some place → slice_get slots place ≡ Some (Some s) → s.key ≡ key
 found_at key slots place s found there = of_is key s (subst (λ (slot : Option Slot). is_of key slot ≡ true) (got_is slots place (Some s) None there) (position-Some (is_of key) slots place None found).1)
@@ -168,23 +171,28 @@ module _ (puts : List Put) (now : ℕ) (slots : List (Option Slot)) (d : DgramVa
         | inr without ↦ (none, before.idle (key_of d) without)
       ]
 
-  join_tells : (j : JoinedValue) (after : List (Option Slot)) → Joins slots now (key_of d) f j after → (u : Unfinished) × Leaves (key_of d) puts now u × Tells (fragments_in u ++ f ∷ []) j
-  join_tells _ _ (too_long above) = (left_of.0, left_of.1, is_dropped reasons.TooLong)
-  join_tells _ _ (no_room fits new full) = (left_of.0, left_of.1, is_dropped reasons.Full)
-  join_tells _ _ (conflicts place s fits found there not) = (left_of.0, left_of.1, is_dropped reasons.Conflict)
-  join_tells _ _ (begins place fits new free) = (none, before.idle (key_of d) (no_slot (key_of d) slots new), is_unfinished (cut_makes_nothing f cut))
+  join_tells : (j : JoinedValue) (after : List (Option Slot)) → Joins slots now (key_of d) f j after → (u : Unfinished) × Leaves (key_of d) puts now u × Tells (fragments_in u) f j
+  join_tells _ _ (too_long above) = (left_of.0, left_of.1, is_too_long above)
+  join_tells _ _ (no_room fits new full) = (none, before.idle (key_of d) (no_slot (key_of d) slots new), is_full fits refl)
+  join_tells _ _ (conflicts place s fits found there not) =
+      let left = held_left puts s now (before.young place s there) (before.held place s there) in (
+        since s.began left.0,
+        subst (λ (k : Key). Leaves k puts now (since s.began left.0)) (found_at (key_of d) slots place s found there) left.1,
+        is_conflict fits (λ all. not (holding.all_agree left.0 s left.2 f left.3 left.4 all)),
+      )
+  join_tells _ _ (begins place fits new free) = (none, before.idle (key_of d) (no_slot (key_of d) slots new), is_unfinished fits (λ g member. absurd (none_within g member)) (cut_makes_nothing f cut))
   join_tells _ _ (waits place s fits found there agrees not) =
       let left = held_left puts s now (before.young place s there) (before.held place s there) in (
         since s.began left.0,
         subst (λ (k : Key). Leaves k puts now (since s.began left.0)) (found_at (key_of d) slots place s found there) left.1,
-        is_unfinished (λ payload made. let w = holding.is_whole (left.0 ++ f ∷ []) (joined f s) (one_more left.0 s f left.2 fits agrees) payload made in not w.0 payload w.1),
+        is_unfinished fits (holding.agrees_with_all left.0 s left.2 f agrees) (λ payload made. let w = holding.is_whole (left.0 ++ f ∷ []) (joined f s) (one_more left.0 s f left.2 fits agrees) payload made in not w.0 payload w.1),
       )
   join_tells _ _ (completes place s names payload fits found there agrees is) =
       let left = held_left puts s now (before.young place s there) (before.held place s there) in
       let more : Since (left.0 ++ f ∷ []) (joined f s) = one_more left.0 s f left.2 fits agrees in (
         since s.began left.0,
         subst (λ (k : Key). Leaves k puts now (since s.began left.0)) (found_at (key_of d) slots place s found there) left.1,
-        is_whole names payload (holding.made_up (left.0 ++ f ∷ []) (joined f s) more names payload is) (holding.all_named (left.0 ++ f ∷ []) (joined f s) more names payload is),
+        is_whole names payload fits (holding.agrees_with_all left.0 s left.2 f agrees) (holding.made_up (left.0 ++ f ∷ []) (joined f s) more names payload is) (holding.all_named (left.0 ++ f ∷ []) (joined f s) more names payload is),
       )
 
 -- ---- whole runs
@@ -214,13 +222,14 @@ pub carried : (count : ℕ) (puts : List Put) (j : JoinerValue) (place : ℕ) (s
     → (fragments : List FragmentValue) × Leaves s.key puts j.last (since s.began fragments) × Since fragments s
 carried count puts j place s run there =
     let all = are_held count puts j run in
-    held_left puts s j.last (all.young place s there) (all.held place s there)
+    let left = held_left puts s j.last (all.young place s there) (all.held place s there) in
+    (left.0, left.1, left.2)
 
 pub idle : (count : ℕ) (puts : List Put) (j : JoinerValue) (key : Key) → Run count puts j → NoSlot key j.slots → Leaves key puts j.last none
 idle count puts j key run without = (are_held count puts j run).idle key without
 
 pub told : (count : ℕ) (puts : List Put) (now : ℕ) (d : DgramValue) (f : FragmentValue) (outcome : JoinedValue) (old new : JoinerValue) → Run count puts old → old.last ≤ now → d.body ≡ fragment f → ¬ IsAlone f → Puts old now d outcome new
-    → (u : Unfinished) × Leaves (key_of d) puts now u × Tells (fragments_in u ++ f ∷ []) outcome
+    → (u : Unfinished) × Leaves (key_of d) puts now u × Tells (fragments_in u) f outcome
 told count puts now d f _ old _ run later body cut (clock_back early) = absurd (omega (arith, early, later))
 told count puts now d f _ old _ run later body cut (alone g names _ other part more) = absurd (cut (subst IsAlone (one_fragment d.body g f other body) (names, part, more)))
 told count puts now d f _ old _ run later body cut (joins g outcome slots _ other not does) =

@@ -13,7 +13,7 @@ use Rattle.nbt_dgram.specs.declared.slot.Key.{Key}
 use Rattle.nbt_dgram.specs.declared.slot.Slot.{Slot}
 use Rattle.nbt_dgram.specs.Dgram.{FragmentValue}
 use Rattle.nbt_dgram.specs.Pieces.{begin_of, end_of, Covers, octet_in, MakesUp}
-use Rattle.nbt_dgram.specs.Carrying.{AreNamed}
+use Rattle.nbt_dgram.specs.Carrying.{AreNamed, AllAgree}
 use Rattle.nbt_dgram.specs.Slot.{nothing, fresh, known_at, Agrees, names_with, joined, IsWhole, Since, begun, one_more}
 use Rattle.nbt_dgram.proofs.Marks.{nothing_known, map_at, written-length, written_before, written_inside, written_behind}
 
@@ -208,6 +208,37 @@ pub all_named : (fragments : List FragmentValue) (s : Slot) → Since fragments 
 all_named fragments s since names whole is f own member part =
     let held : Holds fragments s = holds fragments s since in
     let same : ◌≡◌ {A = Option Names} (Some own) (Some names) = sym (held.names_to f member own part) ∙ is.names_known in cc
+
+-- ---- and a fragment agrees with the slot exactly where it agrees with each of them
+
+one_type : (fragments : List FragmentValue) (s : Slot) → Since fragments s → (g : FragmentValue) → Contains fragments g → s.delivery ≡ g.delivery
+one_type _ _ (begun key now delivery) g member = absurd (none_in g member)
+one_type _ _ (one_more fragments s f since fits agrees) g member =
+    elim (Contains-push_cases fragments f g member) [ inl old ↦ one_type fragments s since g old | inr same ↦ agrees.type ∙ ap (λ (h : FragmentValue). h.delivery) same ]
+
+pub agrees_with_all : (fragments : List FragmentValue) (s : Slot) → Since fragments s → (f : FragmentValue) → Agrees s f → AllAgree fragments f
+agrees_with_all fragments s since f agrees g member =
+    let held : Holds fragments s = holds fragments s since in
+    record {
+      type = sym (one_type fragments s since g member) ∙ agrees.type;
+      names = λ a b first also. agrees.names a b (held.names_to g member a first) also;
+      octets = λ place covers also. agrees.octets place (octet_in g place) (held.octet_to g member place covers) also;
+      within = λ last. agrees.within (end_of g) (held.end_to g member last);
+      end_is = λ more last. agrees.end_is (end_of g) (held.end_to g member last) more;
+      last = λ more place covers. agrees.last more place (octet_in g place) (held.octet_to g member place covers);
+    }
+
+pub all_agree : (fragments : List FragmentValue) (s : Slot) → Since fragments s → (f some : FragmentValue) → Contains fragments some → AllAgree fragments f → Agrees s f
+all_agree fragments s since f some member all =
+    let held : Holds fragments s = holds fragments s since in
+    record {
+      type = one_type fragments s since some member ∙ (all some member).type;
+      names = λ a b first also. let g = held.names_from a first in (all g.0 g.1).names a b g.2 also;
+      octets = λ place octet known covers. let g = held.octet_from place octet known in sym g.3 ∙ (all g.0 g.1).octets place g.2 covers;
+      within = λ end is. let g = held.end_from end is in let least = (all g.0 g.1).within g.2 in omega (arith, least, g.3);
+      end_is = λ end is more. let g = held.end_from end is in (all g.0 g.1).end_is more g.2 ∙ g.3;
+      last = λ more place octet known. let g = held.octet_from place octet known in (all g.0 g.1).last more place g.2;
+    }
 
 -- ---- such data is unique
 

@@ -12,4 +12,5 @@ pub mod OneAccept
 pub mod Fitting
 pub mod SlotKeys
 pub mod Carried
+pub mod OneLeft
 pub mod History

@@ -5,10 +5,9 @@ use Rattle.std.specs.List.{Contains}
 use Rattle.nbt_dgram.specs.declared.dgram.Names.{Names}
 use Rattle.nbt_dgram.specs.declared.dgram.Part.TheVariants.{First}
 use Rattle.nbt_dgram.specs.declared.slot.Key.{Key}
-use Rattle.nbt_dgram.specs.declared.joined.Dropped.{Dropped}
-use Rattle.nbt_dgram.specs.declared.joined.Dropped.TheVariants.{ClockBack}
+use Rattle.nbt_dgram.specs.declared.joined.Dropped.TheVariants.{TooLong, Conflict, Full, ClockBack}
 use Rattle.nbt_dgram.specs.Dgram.{FragmentValue, fragment, DgramValue}
-use Rattle.nbt_dgram.specs.Pieces.{MakesUp}
+use Rattle.nbt_dgram.specs.Pieces.{end_of, Covers, octet_in, MakesUp}
 use Rattle.nbt_dgram.specs.Joiner.{JoinedValue, whole, waiting, dropped, JoinerValue, joiner_of, key_of, Puts, Sweeps}
 
 -- A packet that was put at a moment, and what it led to.
@@ -84,8 +83,25 @@ pub data Leaves (key : Key) : List Put → (now : ℕ) → Unfinished → Type 0
 abbrev pub AreNamed : List FragmentValue → Names → Type 0
 AreNamed fragments names = (f : FragmentValue) (own : Names) → Contains fragments f → f.part ≡ First own → own ≡ names
 
--- Whole where they make up data, with these names; Waiting where they make up none.
-pub data Tells (fragments : List FragmentValue) : JoinedValue → Type 0 where
-  is_whole : (names : Names) (payload : List ℕ) → MakesUp fragments payload → AreNamed fragments names → Tells fragments (whole names payload)
-  is_unfinished : ((payload : List ℕ) → ¬ MakesUp fragments payload) → Tells fragments waiting
-  is_dropped : (reason : Dropped) → Tells fragments (dropped reason)
+-- A fragment that came before, and one that comes, agree: they are of one type, and say the same of names and of octets.
+-- Where the earlier one is the last, the later one ends no further; where the later one is the last, the earlier one
+-- has no octet behind its end; and where both are, they end at one place.
+pub record AgreesWith (g f : FragmentValue) : Type 0 where
+  pub type : g.delivery ≡ f.delivery
+  pub names : (a b : Names) → g.part ≡ First a → f.part ≡ First b → a ≡ b
+  pub octets : (place : ℕ) → Covers g place → Covers f place → octet_in g place ≡ octet_in f place
+  pub within : g.more ≡ false → end_of f ≤ end_of g
+  pub end_is : f.more ≡ false → g.more ≡ false → end_of f ≡ end_of g
+  pub last : f.more ≡ false → (place : ℕ) → Covers g place → place < end_of f
+
+abbrev pub AllAgree : List FragmentValue → FragmentValue → Type 0
+AllAgree fragments f = (g : FragmentValue) → Contains fragments g → AgreesWith g f
+
+-- What a fragment leads to by those that are unfinished, a line for each case: Whole where all make up data, with these
+-- names; Waiting where they make up none.
+pub data Tells (fragments : List FragmentValue) (f : FragmentValue) : JoinedValue → Type 0 where
+  is_too_long : 512 < end_of f → Tells fragments f (dropped TooLong)
+  is_full : end_of f ≤ 512 → fragments ≡ [] → Tells fragments f (dropped Full)
+  is_conflict : end_of f ≤ 512 → ¬ AllAgree fragments f → Tells fragments f (dropped Conflict)
+  is_whole : (names : Names) (payload : List ℕ) → end_of f ≤ 512 → AllAgree fragments f → MakesUp (fragments ++ f ∷ []) payload → AreNamed (fragments ++ f ∷ []) names → Tells fragments f (whole names payload)
+  is_unfinished : end_of f ≤ 512 → AllAgree fragments f → ((payload : List ℕ) → ¬ MakesUp (fragments ++ f ∷ []) payload) → Tells fragments f waiting

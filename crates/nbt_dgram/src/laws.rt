@@ -60,8 +60,9 @@ pub fn a_slot_is_whole_where_its_fragments_make_up_data()
 
 /// A joiner that was given packets one after the other, with sweeps between them, carries of each SOURCE_IP,
 /// SOURCE_PORT and DGM_ID exactly the fragments since their datagram began; and it tells what these and the packet's
-/// own make up: Whole where they make up data, with these and their names, and Waiting where they make up none. The
-/// packet is a fragment, and no earlier than the last packet or sweep.
+/// own make up: Whole where they make up data, with these and their names, Waiting where they make up none, and
+/// `Conflict` where it doesn't agree with one of them. The packet is a fragment, and no earlier than the last packet or
+/// sweep. What packets leave unfinished is one thing.
 pub fn a_joiner_carries_the_fragments_of_each_key()
     ensures carried { (count : ℕ) (puts : List Put) (j : JoinerValue) (place : ℕ) (s : Slot) → Run count puts j
         → slice_get j.slots place ≡ Some (Some s)
@@ -72,7 +73,9 @@ pub fn a_joiner_carries_the_fragments_of_each_key()
     ensures told { (count : ℕ) (puts : List Put) (now : ℕ) (d : DgramValue) (f : FragmentValue) (outcome : JoinedValue)
         (old new : JoinerValue) → Run count puts old → old.last ≤ now → d.body ≡ fragment f → ¬ IsAlone f
         → Puts old now d outcome new
-        → (u : Unfinished) × Leaves (key_of d) puts now u × Tells (fragments_in u ++ f ∷ []) outcome }
+        → (u : Unfinished) × Leaves (key_of d) puts now u × Tells (fragments_in u) f outcome }
+    ensures one { (key : Key) (puts : List Put) (now : ℕ) (u v : Unfinished)
+        → Leaves key puts now u → Leaves key puts now v → u ≡ v }
 {}
 
 /// A packet does one thing to a joiner: what it leads to, and the joiner afterwards, are determined.

@@ -1,6 +1,7 @@
 pub mod Places
 pub mod Table
 pub mod Known
+pub mod Awake
 pub mod Moving
 pub mod Due
 pub mod Steps

@@ -13,12 +13,13 @@ use Rattle.nbt_node.specs.declared.state.State.{State}
 use Rattle.nbt_node.specs.declared.state.State.TheVariants.{Idle, Asking, Held, Releasing, Resting}
 use Rattle.nbt_node.specs.declared.state.Slot.{Slot}
 use Rattle.nbt_node.specs.Settling.{settled}
-use Rattle.nbt_node.specs.Node.{NodeValue, IsNode, is_in, has_room, AreDistinct, state_in, with_state, settled_slot, state_at, changed, Passes, settled_node}
+use Rattle.nbt_node.specs.Node.{NodeValue, IsNode, is_in, has_room, AreDistinct, AreAwake, state_in, with_state, settled_slot, state_at, changed, Passes, settled_node}
 use Rattle.nbt_node.specs.Moves.{NameEvent, ask, poll, hear, next_due, nothing, Told, Move, NameMoves, asks, gives_back, asks_again, gives_back_again, refreshes_again, refreshes, granted_to, renewed_to, refused_to, loses_asked, loses_held, freed, asking_waits, giving_back_waits, refresh_waits, unmoved}
 use Rattle.nbt_node.specs.Calls.{is_busy, is_quiet, ask_refusal, AreWritten, question, LooksUp, slot_due, lookup_due, due_lookup, Polls, polls_name, polls_lookup, polls_nothing}
 use Rattle.nbt_node.specs.Datagrams.{same_end, Hears, from_server, from_stranger, ends, Ends, is_answered, is_unanswered}
 use Rattle.nbt_node.specs.Sending.{IsSending}
 use Rattle.nbt_node.proofs.Due.{known_due}
+use Rattle.nbt_node.proofs.Awake.{awake-settled, awake-with_state}
 use Rattle.nbt_node.proofs.Known.{absent, distinct-settled, state_in-settled, distinct-with_state, length-with_state, with_state-other, with_state-same}
 
 -- what the node keeps, it keeps
@@ -32,6 +33,7 @@ keeps old new count life now xs ys zs name state is old_is new_is settles change
       some = is.some;
       count_is = ap length (new_is ∙ changes) ∙ length-with_state ys name state ∙ ap length settles ∙ length-map xs (settled_slot life now) ∙ ap length (sym old_is) ∙ is.count_is;
       apart = subst AreDistinct (sym (new_is ∙ changes)) (distinct-with_state ys name state apart_then);
+      awake = subst AreAwake (sym (new_is ∙ changes)) (awake-with_state ys name state (subst AreAwake (sym settles) (awake-settled life now xs)));
     }
 
 -- a name that is Idle stays so, unless it is asked for
@@ -140,6 +142,7 @@ settles old new count life now xs ys is old_is new_is settled_is = record {
   some = is.some;
   count_is = ap length (new_is ∙ settled_is) ∙ length-map xs (settled_slot life now) ∙ ap length (sym old_is) ∙ is.count_is;
   apart = subst AreDistinct (sym (new_is ∙ settled_is)) (distinct-settled life now xs (subst AreDistinct old_is is.apart));
+  awake = subst AreAwake (sym (new_is ∙ settled_is)) (awake-settled life now xs);
 }
 
 pub passes : (old new : NodeValue) (now : ℕ) → new ≡ settled_node old now → AreDistinct old.slots → Passes old now new

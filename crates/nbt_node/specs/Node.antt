@@ -12,7 +12,7 @@ use Rattle.nbt_node.specs.declared.lookup.Lookup.{Lookup}
 use Rattle.nbt_node.specs.Settling.{is_over, settled}
 
 -- Its own address and its server's, the limits, its start, the moment of the last call that wasn't refused, the id
--- that comes next, the lookup that is open, and the slots: each is free or has a name and its state.
+-- that comes next, the lookup that is open, and the slots: each is free or has a name that isn't Idle.
 pub record NodeValue : Type 0 where
   pub addr : Addr
   pub server : Addr
@@ -48,6 +48,12 @@ AreDistinct [] = Unit {0}
 AreDistinct (None ∷ rest) = AreDistinct rest
 AreDistinct (Some slot ∷ rest) = (is_in rest slot.name ≡ false) × AreDistinct rest
 
+-- no slot has a name that is Idle
+abbrev pub AreAwake : List (Option Slot) → Type 0
+AreAwake [] = Unit {0}
+AreAwake (None ∷ rest) = AreAwake rest
+AreAwake (Some slot ∷ rest) = (slot.state ≢ Idle) × AreAwake rest
+
 -- a name that has no slot is Idle
 abbrev pub state_in : List (Option Slot) → NameValue → State
 state_in [] name = Idle
@@ -80,6 +86,7 @@ pub record IsNode (count : ℕ) (node : NodeValue) : Type 0 where
   pub some : 1 ≤ count
   pub count_is : length node.slots ≡ count
   pub apart : AreDistinct node.slots
+  pub awake : AreAwake node.slots
 
 -- ---- time
 

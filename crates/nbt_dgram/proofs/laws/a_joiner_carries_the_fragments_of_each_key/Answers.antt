@@ -1,4 +1,5 @@
 use Rattle.nbt_dgram.proofs.History.{carried, idle, told}
+use Rattle.nbt_dgram.proofs.OneLeft.{one_unfinished}
 use Rattle.nbt_dgram.proofs.laws.a_joiner_carries_the_fragments_of_each_key.Goals as goal
 
 pub returns-clause-carried : goal.returns-clause-carried
@@ -9,3 +10,6 @@ returns-clause-nothing c = λ count puts j key run no. idle count puts j key run
 
 pub returns-clause-told : goal.returns-clause-told
 returns-clause-told c = λ count puts now d f outcome old new run later body cut does. told count puts now d f outcome old new run later body cut does
+
+pub returns-clause-one : goal.returns-clause-one
+returns-clause-one c = λ key puts now u v x y. one_unfinished key puts now u v x y
