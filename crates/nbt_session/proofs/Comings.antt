@@ -53,6 +53,11 @@ unfilled_is_partial kind n tail has short p rest (is, e) =
     let same = header_apart kind (type_of p) n (length (body_of p)) tail (body_of p ++ rest) (omega (arith, has.1, most_fits kind)) (body_short p is) e in
     omega (arith, same.count, ap length same.tail, length-append (body_of p) rest)
 
+pub message_lacks : (size : ℕ) (octets : List ℕ) → size ≤ 131071 → length octets < size → IsPartial (header Message size ++ octets) × ((fault : Fault) → ¬ HasFault (header Message size ++ octets) fault)
+message_lacks size octets fits short =
+    let has : HasLength Message size = (omega arith, fits) in
+    (unfilled_is_partial Message size octets has short, λ fault. sound Message size octets fault has (λ is. short))
+
 -- another type's header is no message's
 other_is_no_message : (kind : PacketType) (n : ℕ) (tail : List ℕ) → HasLength kind n → kind ≢ Message → IsNoMessage (header kind n ++ tail)
 other_is_no_message kind n tail has apart size rest fits e =

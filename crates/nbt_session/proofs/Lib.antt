@@ -4,8 +4,8 @@ pub mod Cells
 pub mod Comings
 pub mod Entries
 pub mod Faults
+pub mod Gathering
 pub mod InParts
-pub mod Joining
 pub mod Lines
 pub mod Packets
 pub mod Spelling

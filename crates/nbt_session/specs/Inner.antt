@@ -1,5 +1,5 @@
 -- What only the contracts of private functions cite: a caller needs none of it.
 pub mod Coming
-pub mod Held
+pub mod Gathering
 pub mod Listening
 pub mod Pieces

@@ -12,20 +12,6 @@ use crate::packet::{Packet, PacketType};
 use byteorder::{BigEndian, ByteOrder};
 use nbt_name::{Addr, NameFault, NameFaultKind, read_plain};
 
-/// The packet that these octets behind a header are.
-pub(crate) fn packet_in(kind: PacketType, body: Vec<u8>) -> Result<Packet, Fault>
-    requires { HasLength kind (length body.items) }
-    ensures packet { IfOk result (λ p. IsPacket (packet_of p)) }
-    ensures kind { IfOk result (λ p. type_of (packet_of p) ≡ kind) }
-    ensures body { IfOk result (λ p. body_of (packet_of p) ≡ body.items) }
-    ensures fault { IfErr result (λ fault. (kind ≡ Request) × RequestFault body.items fault) }
-{
-    match kind {
-        PacketType::Message => Ok(Packet::Message(body)),
-        _ => other_in(kind, &body),
-    }
-}
-
 /// The packet that these octets behind a header are. It is no message.
 pub(crate) fn other_in(kind: PacketType, body: &[u8]) -> Result<Packet, Fault>
     requires other { kind ≢ Message }

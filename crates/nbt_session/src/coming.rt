@@ -58,6 +58,19 @@ impl Coming {
         }
     }
 
+    /// The same octets of the same packet.
+    pub(crate) fn copy(&self) -> Coming
+        requires { IsComing self.now }
+        ensures coming { IsComing result }
+        ensures octets { octets_of result ≡ octets_of self.now }
+    {
+        Coming {
+            header: copied(&self.header),
+            frame: self.frame,
+            body: copied(&self.body),
+        }
+    }
+
     /// Takes the octets of a piece up to the end of the packet, or of a message's header: how many, and what is whole.
     pub(crate) fn take(&mut self, piece: &[u8]) -> Result<(usize, Came), Fault>
         requires { IsComing self.old }
@@ -127,4 +140,13 @@ fn joined(header: &ArrayVec<u8, HEADER>, octets: &[u8]) -> ArrayVec<u8, HEADER>
     whole.try_extend_from_slice(header.as_slice()).unwrap();
     whole.try_extend_from_slice(octets).unwrap();
     whole
+}
+
+/// The same octets.
+fn copied<const N: usize>(octets: &ArrayVec<u8, N>) -> ArrayVec<u8, N>
+    ensures { result.items ≡ octets.now.items }
+{
+    let mut copy = ArrayVec::new();
+    copy.try_extend_from_slice(octets.as_slice()).unwrap();
+    copy
 }

@@ -1,17 +1,18 @@
 //! What holds of session packets and streams, whatever the code does: laws over the definitions alone.
 
-ghost use Rattle.std.specs.Prelude.{◌≡◌, ℕ, ◌≤◌, List, ◌++◌, [], take, Option, Some, Ok, Err};
+ghost use Rattle.std.specs.Prelude.{◌≡◌, ℕ, ◌<◌, ◌≤◌, length, List, ◌++◌, [], take, Option, Some, Ok, Err};
 ghost use Rattle.nbt_name.specs.declared.addr.Kind.{Kind};
 ghost use Rattle.nbt_name.specs.Wire.{NameValue};
 ghost use Rattle.nbt_session.specs.declared.caller.CallerState.{CallerState};
 ghost use Rattle.nbt_session.specs.declared.fault.Fault.{Fault};
 ghost use Rattle.nbt_session.specs.declared.fault.StreamFault.TheVariants.{Malformed, OutOfMemory};
+ghost use Rattle.nbt_session.specs.declared.packet.PacketType.TheVariants.{Message};
 ghost use Rattle.nbt_session.specs.Caller.{AnswerValue, CallerMoves};
 ghost use Rattle.nbt_session.specs.Event.{EventValue, packet};
 ghost use Rattle.nbt_session.specs.Listener.{ListenerValue, ListenerAnswerValue, ListenerMoves, LetsIn, open_count};
-ghost use Rattle.nbt_session.specs.Packet.{PacketValue, IsPacket, request, text};
+ghost use Rattle.nbt_session.specs.Packet.{PacketValue, IsPacket, header, request, text};
 ghost use Rattle.nbt_session.specs.Parts.{PartValue, PiecesState, between, TakesPart, PartsRun, PutTogether, held_in, octets_in};
-ghost use Rattle.nbt_session.specs.Stream.{Begins, StreamIs, HasFault};
+ghost use Rattle.nbt_session.specs.Stream.{Begins, IsPartial, StreamIs, HasFault};
 ghost use Rattle.nbt_session.specs.Taking.{StreamState, holding, Takes, Taken, Run};
 
 /// Each packet's text, whatever follows it, begins with that packet and with no other, and has no fault
@@ -72,6 +73,12 @@ pub fn parts_are_the_stream()
 {
     text_is_read();
 }
+
+/// A message of which octets are to come is no packet yet, and has no fault.
+pub fn a_message_that_lacks_octets()
+    ensures { (size : ℕ) (octets : List ℕ) → size ≤ 131071 → length octets < size
+        → IsPartial (header Message size ++ octets) × ((fault : Fault) → ¬ HasFault (header Message size ++ octets) fault) }
+{}
 
 /// A stream that is given a piece has one answer, and is in one state afterwards, unless memory is refused.
 pub fn one_answer()

@@ -50,6 +50,16 @@ impl Pieces {
         }
     }
 
+    /// An equal stream.
+    pub(crate) fn copy(&self) -> Pieces
+        ensures { result ≡ self.now }
+    {
+        Pieces {
+            coming: self.coming.copy(),
+            place: self.place,
+        }
+    }
+
     /// Takes the octets of `piece` up to the end of one part, and says how many it took: all of them where it returns
     /// no part (RFC 1002 section 4.3). `MessageStart` comes as soon as the header is whole, `MessageData` lends the
     /// octets of the piece that belong to the message, and `MessageEnd` is returned by the next call after the last of

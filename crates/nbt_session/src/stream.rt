@@ -1,35 +1,36 @@
 //! A session's stream of octets, packet by packet (RFC 1002 section 4.3).
 
-ghost use Rattle.std.specs.Prelude.{◌≡◌, ◌+◌, ◌≤◌, [], ◌++◌, length, List, ℕ, None, IfOk, IfErr};
-ghost use Rattle.nbt_session.specs.Stream.{HasFault};
+ghost use Rattle.std.specs.Prelude.{◌≡◌, ◌≤◌, [], length, List, ℕ, IfOk};
+ghost use Rattle.nbt_name.specs.Wire.{AreOctets};
+ghost use Rattle.nbt_session.specs.Inner.Gathering.{IsGathering, Gathers};
 ghost use Rattle.nbt_session.specs.Taking.{Takes, holding, taken};
 
-use crate::body::packet_in;
-use crate::fault::{Fault, StreamFault};
-use crate::header::{Frame, HEADER, frame_of};
+use crate::fault::StreamFault;
 use crate::packet::Packet;
-use arrayvec::ArrayVec;
+use crate::part::Part;
+use crate::pieces::Pieces;
 use std::alloc::Global;
 use std::marker::Model;
 use std::mem;
 
 /// A stream of session packets that comes in pieces (RFC 1002 section 4.3). It holds what came of the next packet, at
-/// most 131,075 octets, and takes memory for that alone.
+/// most 131,075 octets, and takes memory for a message's alone.
 #[derive(Debug, Drop)]
 pub struct Stream {
-    held: Held,
-    fault: Option<Fault>,
+    pieces: Pieces,
+    /// What came of the message that isn't whole.
+    message: Vec<u8>,
 }
 
 impl Model for Stream {
     ghost use Rattle.nbt_session.specs.Taking.{StreamState};
-    ghost use Rattle.nbt_session.specs.Inner.Held.{state_of, IsHeld};
+    ghost use Rattle.nbt_session.specs.Inner.Gathering.{stream_state, IsGathering};
 
     ghost Value = { StreamState };
 
-    ghost view = { λ s. state_of s.held s.fault };
+    ghost view = { λ s. stream_state s.pieces s.message.items };
 
-    ghost invariant = { λ s. IsHeld s.held };
+    ghost invariant = { λ s. IsGathering s.pieces s.message.items };
 }
 
 impl Stream {
@@ -38,12 +39,8 @@ impl Stream {
         ensures { result ≡ holding [] }
     {
         Stream {
-            held: Held {
-                header: ArrayVec::new(),
-                frame: None,
-                body: Vec::new(alloc),
-            },
-            fault: None,
+            pieces: Pieces::new(),
+            message: Vec::new(alloc),
         }
     }
 
@@ -56,101 +53,49 @@ impl Stream {
         ensures within { IfOk result (λ t. t.0 ≤ length piece.now) }
         ensures most { (held : List ℕ) → self.new ≡ holding held → length held ≤ 131075 }
     {
-        if let Some(fault) = self.fault {
-            return Err(StreamFault::Malformed(fault));
-        }
-        let result = self.held.take(piece);
-        if let Err(StreamFault::Malformed(fault)) = &result {
-            self.fault = Some(*fault);
-        }
-        result
-    }
-}
-
-/// What came of the next packet.
-#[derive(Debug, Drop)]
-pub(crate) struct Held {
-    /// What came of the header, while it isn't whole.
-    header: ArrayVec<u8, HEADER>,
-    /// What the header says, once it is whole.
-    frame: Option<Frame>,
-    /// What came behind it.
-    body: Vec<u8>,
-}
-
-/// How far a piece brings the header.
-#[derive(Debug, Drop)]
-pub(crate) enum Reach {
-    /// It isn't whole with the whole piece. This came of it.
-    Cut(ArrayVec<u8, HEADER>),
-    /// It says this, with so many octets of the piece.
-    Whole(Frame, usize),
-}
-
-impl Held {
-    ghost use Rattle.nbt_session.specs.Inner.Held.{octets_of, IsHeld, Reaches, state_after};
-
-    fn take(&mut self, piece: &[u8]) -> Result<(usize, Option<Packet>), StreamFault>
-        requires { IsHeld self.old }
-        ensures held { IsHeld self.new }
-        ensures takes { Takes piece.now (holding (octets_of self.old)) (taken result) (state_after self.new result) }
-        ensures within { IfOk result (λ t. t.0 ≤ length piece.now) }
-    {
-        let (frame, begin) = match self.reach(piece)? {
-            Reach::Whole(frame, begin) => (frame, begin),
-            Reach::Cut(header) => {
-                self.header = header;
-                return Ok((piece.len(), None));
+        let before = self.pieces.copy();
+        let held = self.message.len();
+        match gather(&mut self.pieces, &mut self.message, piece) {
+            Err(StreamFault::OutOfMemory) => {
+                self.pieces = before;
+                self.message.truncate(held);
+                Err(StreamFault::OutOfMemory)
             }
-        };
-        let rest = &piece[begin..];
-        let missing = frame.count - self.body.len();
-        if rest.len() < missing {
-            self.body.extend_from_slice(rest)?;
-            self.frame = Some(frame);
-            return Ok((piece.len(), None));
+            answer => answer,
         }
-        self.body.extend_from_slice(&rest[..missing])?;
-        let packet = packet_in(frame.kind, self.give_up())?;
-        Ok((begin + missing, Some(packet)))
-    }
-
-    /// Reads the header, with the octets of the piece that belong to it.
-    fn reach(&self, piece: &[u8]) -> Result<Reach, Fault>
-        requires { IsHeld self.now }
-        ensures reaches { IfOk result (Reaches self.now piece.now) }
-        ensures fault { IfErr result (HasFault (octets_of self.now ++ piece.now)) }
-    {
-        if let Some(frame) = self.frame {
-            return Ok(Reach::Whole(frame, 0));
-        }
-        let begin = piece.len().min(self.header.remaining_capacity());
-        let header = joined(&self.header, &piece[..begin]);
-        match frame_of(header.as_slice())? {
-            Some(frame) => Ok(Reach::Whole(frame, begin)),
-            None => Ok(Reach::Cut(header)),
-        }
-    }
-
-    /// What stands behind the header. Nothing is held afterwards.
-    fn give_up(&mut self) -> Vec<u8>
-        ensures body { result.items ≡ self.old.body.items }
-        ensures nothing { (self.new.header.items ≡ []) × (self.new.frame ≡ None) × (self.new.body.items ≡ []) }
-    {
-        let alloc = *self.body.allocator();
-        self.header = ArrayVec::new();
-        self.frame = None;
-        mem::replace(&mut self.body, Vec::new(alloc))
     }
 }
 
-/// A header, as far as it came, and its next octets.
-fn joined(header: &ArrayVec<u8, HEADER>, octets: &[u8]) -> ArrayVec<u8, HEADER>
-    requires { length header.now.items + length octets.now ≤ 4 }
-    ensures { result.items ≡ header.now.items ++ octets.now }
+/// Takes parts of the piece, and puts a message's octets together, until a packet is whole or the piece is taken.
+fn gather(
+    pieces: &mut Pieces,
+    message: &mut Vec<u8>,
+    piece: &[u8],
+) -> Result<(usize, Option<Packet>), StreamFault>
+    requires { IsGathering pieces.old message.old.items }
+    ensures gathers { Gathers piece.now pieces.old message.old.items (taken result) pieces.new message.new.items }
+    ensures within { IfOk result (λ t. t.0 ≤ length piece.now) }
 {
-    let mut whole = ArrayVec::new();
-    whole.try_extend_from_slice(header.as_slice()).unwrap();
-    whole.try_extend_from_slice(octets).unwrap();
-    whole
+    let mut taken = 0;
+    'parts: loop {
+        let (count, part) = pieces.take(&piece[taken..])?;
+        taken += count;
+        match part {
+            None => return Ok((taken, None)),
+            Some(Part::MessageStart(_)) => {}
+            Some(Part::MessageData(octets)) => message.extend_from_slice(octets)?,
+            Some(Part::MessageEnd) => return Ok((taken, Some(Packet::Message(give_up(message))))),
+            Some(Part::Other(packet)) => return Ok((taken, Some(packet))),
+        }
+    }
+}
+
+/// The message's octets. None are left.
+fn give_up(message: &mut Vec<u8>) -> Vec<u8>
+    ensures octets { result.items ≡ message.old.items }
+    ensures fits { AreOctets result.items }
+    ensures nothing { message.new.items ≡ [] }
+{
+    let alloc = *message.allocator();
+    mem::replace(message, Vec::new(alloc))
 }

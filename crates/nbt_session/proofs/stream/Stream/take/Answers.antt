@@ -1,12 +1,11 @@
-use Rattle.nbt_session.specs.Taking.{fault_stays}
-use Rattle.nbt_session.proofs.Joining.{held_most}
+use Rattle.std.proofs.Common.{◌≡◌, length, ap, ◌∙◌, take, arith}
+use Rattle.nbt_session.proofs.Gathering.{refused_at}
 use Rattle.nbt_session.proofs.stream.Stream.take.Goals as goal
 
-pub returns-in-Some-clause-takes : goal.returns-in-Some-clause-takes
-returns-in-Some-clause-takes c = rw (← c.self.view_is, c.in-Some.is) (fault_stays c.in-Some.fault)
-
-pub returns-in_default-clause-most : goal.returns-in_default-clause-most
-returns-in_default-clause-most c = held_most c.take-result.new.self c.self.inside.fault c.take-result.ensures.held
-
-pub returns-in_default-2-clause-most : goal.returns-in_default-2-clause-most
-returns-in_default-2-clause-most c = held_most c.take-result.new.self c.self.inside.fault c.take-result.ensures.held
+pub returns-in-Err-OutOfMemory-clause-takes : goal.returns-in-Err-OutOfMemory-clause-takes
+returns-in-Err-OutOfMemory-clause-takes c =
+    let fault = rw c.in-Err-OutOfMemory.is at c.gather.ensures.gathers in
+    let gathers = rw c.in-Err-OutOfMemory.field-0-is at fault in
+    let count : c.len-held.result ≡ length c.self.inside.message.items = omega (arith, c.len-held.ensures) in
+    refused_at c.args.piece.now c.args.self.now c.self.inside.pieces c.copy-before.result c.gather.new.pieces c.self.inside.message.items c.gather.new.message.items c.truncate.new.self.items c.self.view_is gathers c.copy-before.ensures
+    (c.truncate.ensures.items ∙ ap (λ n. take n c.gather.new.message.items) count)
