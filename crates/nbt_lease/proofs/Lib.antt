@@ -6,4 +6,8 @@ pub mod Outcomes
 pub mod Others
 pub mod Finding
 pub mod Changes
+pub mod Dues
+pub mod Ending
+pub mod Flat
+pub mod Agreeing
 pub mod Placing

@@ -131,7 +131,7 @@ others_released table now name addr result after lease r other =
 
 -- ---- the asker
 
-some_there : (before behind : List Lease) (lease : Lease) → before ++ lease ∷ behind ≡ [] → ⊥
+pub some_there : (before behind : List Lease) (lease : Lease) → before ++ lease ∷ behind ≡ [] → ⊥
 some_there [] behind lease empty = cc
 some_there (x ∷ before) behind lease empty = cc
 

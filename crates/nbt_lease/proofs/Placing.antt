@@ -1,6 +1,10 @@
--- The exits of a grant and a release over the rows.
-use Rattle.std.proofs.Common.{◌≡◌, ◌≢◌, ℕ, ◌+◌, ◌<◌, ◌≤◌, List, [], ◌∷◌, ◌++◌, length, take, drop, max, Result, Ok, Err, MatchResult, OnErr, refl, sym, ap, ◌∙◌, subst, arith}
-use Rattle.std.specs.List.{filter}
+-- The exits of a grant and a release.
+use Rattle.std.proofs.Common.{◌≡◌, ◌≢◌, ℕ, ◌+◌, ◌<◌, ◌≤◌, List, [], ◌∷◌, ◌++◌, length, max, Bool, true, false, Option, Some, None, Result, Ok, Err, MatchResult, IfOk, OnErr, refl, sym, ap, ◌∙◌, subst, ⊎_elim, arith}
+use Rattle.std.specs.List.{filter, IsDistinct, AllByRecursion}
+use Rattle.std.specs.Map.{keys_of}
+use Rattle.std.specs.Bool.{OnFalse}
+use Rattle.std.specs.Option.{IfNone}
+use Rattle.std.proofs.lemmas.Bool.{cond_both, both_ways, cases_lt, false≢true}
 use Rattle.std.proofs.lemmas.List.{length-append}
 use Rattle.nbt_name.specs.Wire.{NameValue}
 use Rattle.nbt_lease.specs.declared.lease.Lease.{Lease}
@@ -9,87 +13,166 @@ use Rattle.nbt_lease.specs.declared.lease.Released.{Released}
 use Rattle.nbt_lease.specs.declared.lease.Released.TheVariants.{Gone}
 use Rattle.nbt_lease.specs.declared.fault.GrantFault.{GrantFault}
 use Rattle.nbt_lease.specs.declared.fault.GrantFault.TheVariants.{OutOfMemory}
-use Rattle.nbt_lease.specs.Lease.{Rows, Leases, TableValue, is_live, leases_at, live_count, at_name, IsSound}
-use Rattle.nbt_lease.specs.Rules.{Asked, IsAllowed, end_of, grant_until, begun, renewed, GrantCase, renews, begins, Grants, ReleaseCase, gone, no_lease, of_others, Releases}
-use Rattle.nbt_lease.specs.Standing.{IsOwnRow}
+use Rattle.nbt_lease.specs.Lease.{Rows, Leases, TableValue, is_live, is_name, leases_at, live_count, at_name, HasNone, IsSound}
+use Rattle.nbt_lease.specs.Rules.{Asked, IsAllowed, end_of, grant_until, begun, renewed, GrantCase, active, renews, group_full, table_full, begins, Grants, ReleaseCase, gone, no_lease, of_others, Releases}
 use Rattle.nbt_lease.specs.Config.{ConfigValue, granted}
-use Rattle.nbt_lease.specs.Placing.{MayBegin, Places, granted_until}
-use Rattle.nbt_lease.proofs.Counts.{last_at}
-use Rattle.nbt_lease.proofs.Sound.{sound_granted}
+use Rattle.nbt_lease.specs.Index.{Entries, members_of, rows_of, AreLive, IsMember, Renewed, Moves, Ended}
+use Rattle.nbt_lease.specs.declared.standing.Standing.{Standing}
+use Rattle.nbt_lease.specs.Standing.{StandsIn}
+use Rattle.nbt_lease.specs.Placing.{HoldsLive, Places, granted_until}
+use Rattle.nbt_lease.proofs.Rows.{same_leases}
+use Rattle.nbt_lease.proofs.Counts.{same_count}
+use Rattle.nbt_lease.proofs.Sound.{all_joined, all_replaced, all_without, sound_granted}
 use Rattle.nbt_lease.proofs.Others.{here}
-use Rattle.nbt_lease.proofs.Finding.{own_among}
-use Rattle.nbt_lease.proofs.Changes.{due_out, due_out_count, due_out_length, at_same, replaced_at, closed_at}
+use Rattle.nbt_lease.proofs.Changes.{at_same}
+use Rattle.nbt_lease.proofs.Finding.{found_in}
+use Rattle.nbt_lease.proofs.Flat.{leases_are, live_left, all_counted, leases_members}
+
+-- ---- what is left where the leases that are over were taken out
+
+pub record Left (now : ℕ) (old left : Entries) : Type 0 where
+  pub live : (q : NameValue) → AreLive now (members_of left q)
+  pub leases : members_of left ≡ leases_at now (rows_of old)
+  pub same : leases_at now (rows_of left) ≡ leases_at now (rows_of old)
+  pub count : length (rows_of left) ≡ live_count now (rows_of old)
+  pub all : live_count now (rows_of left) ≡ length (rows_of left)
+
+pub left_over : (now : ℕ) (old left : Entries) → IsDistinct is_name (keys_of old) → IsDistinct is_name (keys_of left) → ((q : NameValue) → members_of left q ≡ filter (is_live now) (members_of old q)) → Left now old left
+left_over now old left names names_left h =
+    let live : (q : NameValue) → AreLive now (members_of left q) = λ q. subst (AreLive now) (sym (h q)) (live_left now (members_of old q)) in
+    let leases : members_of left ≡ leases_at now (rows_of old) = same_leases (members_of left) (leases_at now (rows_of old)) (λ q. h q ∙ sym (leases_are now old q names)) in
+    let same : leases_at now (rows_of left) ≡ leases_at now (rows_of old) = leases_members now left names_left live ∙ leases in
+    let all : live_count now (rows_of left) ≡ length (rows_of left) = all_counted now left names_left live in
+    record {
+      live = live;
+      leases = leases;
+      same = same;
+      count = sym all ∙ same_count now (rows_of left) (rows_of old) same;
+      all = all;
+    }
+
+pub holds_live : (table : TableValue) (now : ℕ) (old left : Entries) → rows_of old ≡ table.rows → Left now old left → HoldsLive table now left
+holds_live table now old left is h = record { leases = h.leases ∙ ap (leases_at now) is; count = h.count ∙ ap (live_count now) is }
+
+-- ---- one outcome of a call
+
+pub ok_is : {T E : Type 0} (r : Result T E) (x : T) (P : T → Type 0) → r ≡ Ok x → IfOk r P → P x
+ok_is {T} {E} r x P is h = subst (λ (o : Result T E). IfOk o P) is h
+
+pub err_is : {T E : Type 0} (r : Result T E) (P : Type 0) → ((x : T) → r ≡ Ok x → ⊥) → OnErr r P → P
+err_is (Ok x) P never h = absurd (never x refl)
+err_is (Err e) P never h = h
+
+pub none_is : {T : Type 0} (r : Option T) (P : Type 0) → ((x : T) → r ≡ Some x → ⊥) → IfNone r P → P
+none_is None P never h = h
+none_is (Some x) P never h = absurd (never x refl)
+
+pub false_is : (b : Bool) (P : Type 0) → b ≡ false → OnFalse b P → P
+false_is true P is h = absurd (false≢true (sym is))
+false_is false P is h = h
+
+pub room_left : (members count : ℕ) (full : Bool) → members ≡ count → full ≡ false → (48 ≤ members → full ≡ true) → count < 48
+room_left members count full same left more = ⊎_elim (λ less. less) (λ most. absurd (both_ways full left (more (omega (arith, most, same))))) (cases_lt count 48)
+
+-- the same leases in another index
+pub holds_on : (table : TableValue) (now : ℕ) (es fs : Entries) → HoldsLive table now es → members_of fs ≡ members_of es → length (rows_of fs) ≡ length (rows_of es) → HoldsLive table now fs
+holds_on table now es fs holds same count = record { leases = same ∙ holds.leases; count = count ∙ holds.count }
+
+-- how the asker stands
+pub stands_so : (table : TableValue) (now : ℕ) (name : NameValue) (addr other : ℕ) (es : Entries) (slice : List Lease) (standing : Standing) → HoldsLive table now es → addr ≡ other → slice ≡ members_of es name → StandsIn addr slice standing
+    → StandsIn other (leases_at now table.rows name) standing
+stands_so table now name addr other es slice standing holds same is found = found_in addr other slice (leases_at now table.rows name) standing same (is ∙ ap (λ (f : Leases). f name) holds.leases) found
+
+-- none of the asker's
+pub none_so : (table : TableValue) (now : ℕ) (name : NameValue) (addr other : ℕ) (es : Entries) → HoldsLive table now es → addr ≡ other → HasNone addr (members_of es name) → HasNone other (leases_at now table.rows name)
+none_so table now name addr other es holds same none = subst (HasNone other) (ap (λ (f : Leases). f name) holds.leases) (subst (λ (n : ℕ). HasNone n (members_of es name)) same none)
 
 -- ---- a grant
 
--- refused, the leases being as before
-pub refuses : (table : TableValue) (now : ℕ) (name : NameValue) (a : Asked) (fault : GrantFault) (rows : Rows) → fault ≢ OutOfMemory → leases_at now rows ≡ leases_at now table.rows → length rows ≤ table.config.rows
-    → GrantCase table.config now (live_count now table.rows) a (leases_at now table.rows name) (Err fault) (leases_at now table.rows name) → Places table now name a (Err fault) rows
-refuses table now name a fault rows other same fits case = record {
-  rule = λ _. record { leases = leases_at now table.rows name; rule = case; after_is = same ∙ at_same name (leases_at now table.rows) };
-  memory = λ is. let same_fault : fault ≡ OutOfMemory = cc in absurd (other same_fault);
-  refused = same;
-  fits = fits;
-}
+module _ (table : TableValue) (now : ℕ) (name : NameValue) (a : Asked) where
+  -- refused, the leases being as before
+  pub refuses : (fault : GrantFault) (after : Leases) → fault ≢ OutOfMemory → after ≡ leases_at now table.rows
+      → GrantCase table.config now (live_count now table.rows) a (leases_at now table.rows name) (Err fault) (leases_at now table.rows name) → Places table now name a (Err fault) after
+  refuses fault after other same case = record {
+    rule = λ _. record { leases = leases_at now table.rows name; rule = case; after_is = same ∙ at_same name (leases_at now table.rows) };
+    memory = λ is. let same_fault : fault ≡ OutOfMemory = cc in absurd (other same_fault);
+    refused = same;
+  }
 
--- the asker's lease is renewed
-pub renews_row : (table : TableValue) (now : ℕ) (name : NameValue) (a : Asked) (index : ℕ) (rows : Rows) (own : IsOwnRow now table.rows name a.addr index) → IsAllowed a (leases_at now table.rows name) → now < end_of table.config now a
-    → rows ≡ take index table.rows ++ (name, renewed table.config now a own.lease) ∷ drop (index + 1) table.rows → length table.rows ≤ table.config.rows → Places table now name a (Ok (max own.lease.end (end_of table.config now a))) rows
-renews_row table now name a index rows own allowed live is fits =
-    let before : Rows = take index table.rows in
-    let behind : Rows = drop (index + 1) table.rows in
-    let new : Lease = renewed table.config now a own.lease in
-    let leases : List Lease = leases_at now before name ++ new ∷ leases_at now behind name in
-    record {
-      rule = λ _. record {
-        leases = leases;
-        rule = renews allowed (leases_at now before name) (leases_at now behind name) own.lease (own_among now table.rows name a.addr index own) own.owner;
-        after_is = ap (leases_at now) is ∙ (replaced_at now name before behind own.lease new (omega (arith, live)) ∙ ap (λ (rs : Rows). at_name name leases (leases_at now rs)) (sym own.row));
-      };
-      memory = λ e. absurd cc;
-      refused = tt;
-      fits = omega (arith, fits, ap length is, ap length own.row, length-append before ((name, new) ∷ behind), length-append before ((name, own.lease) ∷ behind));
-    }
+  -- the members of the name are the leases that live
+  leases_here : (es : Entries) (before behind : List Lease) (lease : Lease) → HoldsLive table now es → IsMember a.addr (members_of es name) before lease behind → leases_at now table.rows name ≡ before ++ lease ∷ behind
+  leases_here es before behind lease holds is = ap (λ (f : Leases). f name) (sym holds.leases) ∙ is.is
 
-begins_rule : (table : TableValue) (now : ℕ) (name : NameValue) (a : Asked) (after : Leases) → MayBegin a (leases_at now table.rows name) → live_count now table.rows < table.config.rows
-    → after ≡ at_name name (leases_at now table.rows name ++ begun table.config now a ∷ []) (leases_at now table.rows) → Grants table now name a (Ok (grant_until table.config a (end_of table.config now a))) after
-begins_rule table now name a after may free is = record { leases = leases_at now table.rows name ++ begun table.config now a ∷ []; rule = begins may.allowed may.none may.room free; after_is = is }
+  -- the asker's lease is renewed
+  pub renews_lease : (es : Entries) (until : ℕ) (after : Leases) → HoldsLive table now es → IsAllowed a (leases_at now table.rows name) → Renewed es name a.addr (end_of table.config now a) until after → Places table now name a (Ok until) after
+  renews_lease es until after holds allowed r =
+      let leases : List Lease = r.before ++ record r.lease { end = until } ∷ r.behind in
+      record {
+        rule = λ _. record {
+          leases = leases;
+          rule =
+              subst (λ (u : ℕ). GrantCase table.config now (live_count now table.rows) a (leases_at now table.rows name) (Ok (grant_until table.config a u)) (r.before ++ record r.lease { end = u } ∷ r.behind)) (sym r.until_is)
+              (renews allowed r.before r.behind r.lease (leases_here es r.before r.behind r.lease holds r.member) r.member.owner_is);
+          after_is = r.after_is ∙ ap (at_name name leases) holds.leases;
+        };
+        memory = λ e. absurd cc;
+        refused = tt;
+      }
 
-longer : (leases : List Lease) (lease : Lease) → leases ++ lease ∷ [] ≡ leases → ⊥
-longer leases lease e = omega (arith, ap length e, length-append leases (lease ∷ []))
+  same_middle : (before behind : List Lease) (x y : Lease) → before ++ x ∷ behind ≡ before ++ y ∷ behind → x ≡ y
+  same_middle [] behind x y e = cc
+  same_middle (z ∷ before) behind x y e = let rest : before ++ x ∷ behind ≡ before ++ y ∷ behind = cc in same_middle before behind x y rest
 
--- memory was refused to a lease that would begin
-pub runs_out : (table : TableValue) (now : ℕ) (name : NameValue) (a : Asked) (rows : Rows) → MayBegin a (leases_at now table.rows name) → live_count now table.rows < table.config.rows
-    → leases_at now rows ≡ leases_at now table.rows → length rows ≤ table.config.rows → Places table now name a (Err OutOfMemory) rows
-runs_out table now name a rows may free same fits =
-    let new : Lease = begun table.config now a in
-    let leases : Leases = leases_at now table.rows in
-    let after : Leases = at_name name (leases name ++ new ∷ []) leases in
-    record {
-      rule = λ other. absurd (other refl);
-      memory = λ _. record {
-        result = grant_until table.config a (end_of table.config now a);
-        after = after;
-        rule = begins_rule table now name a after may free refl;
-        other = λ e. longer (leases name) new (sym (here name (leases name ++ new ∷ []) leases) ∙ ap (λ (f : Leases). f name) e);
-      };
-      refused = same;
-      fits = fits;
-    }
+  -- memory was refused to an end that would move
+  pub runs_out_moving : (es : Entries) (after : Leases) → HoldsLive table now es → IsAllowed a (leases_at now table.rows name) → Moves es name a.addr (end_of table.config now a) → after ≡ leases_at now table.rows → Places table now name a (Err OutOfMemory) after
+  runs_out_moving es after holds allowed m same =
+      let new : Lease = renewed table.config now a m.lease in
+      let is : leases_at now table.rows name ≡ m.before ++ m.lease ∷ m.behind = leases_here es m.before m.behind m.lease holds m.member in
+      let leases : List Lease = m.before ++ new ∷ m.behind in
+      record {
+        rule = λ other. absurd (other refl);
+        memory = λ _. record {
+          result = grant_until table.config a (max m.lease.end (end_of table.config now a));
+          after = at_name name leases (leases_at now table.rows);
+          rule = record { leases = leases; rule = renews allowed m.before m.behind m.lease is m.member.owner_is; after_is = refl };
+          other = λ e.
+              let one : new ≡ m.lease = same_middle m.before m.behind new m.lease (sym (here name leases (leases_at now table.rows)) ∙ (ap (λ (f : Leases). f name) e ∙ is)) in
+              omega (arith, m.later, ap (λ (l : Lease). l.end) one);
+        };
+        refused = same;
+      }
 
--- a lease begins behind the rows that are left
-pub begins_row : (table : TableValue) (now : ℕ) (name : NameValue) (a : Asked) (left rows : Rows) → MayBegin a (leases_at now table.rows name) → now < end_of table.config now a
-    → left ≡ filter (λ row. is_live now row.1) table.rows → length left < table.config.rows → rows ≡ left ++ (name, begun table.config now a) ∷ [] → Places table now name a (Ok (end_of table.config now a)) rows
-begins_row table now name a left rows may live left_is free is =
-    let new : Lease = begun table.config now a in
-    let same : leases_at now left ≡ leases_at now table.rows = ap (leases_at now) left_is ∙ due_out now table.rows in
-    record {
-      rule = λ _. begins_rule table now name a (leases_at now rows) may (omega (arith, free, ap length left_is, due_out_count now table.rows))
-          (ap (leases_at now) is ∙ (last_at now name new left live ∙ ap (λ (f : Leases). at_name name (f name ++ new ∷ []) f) same));
-      memory = λ e. absurd cc;
-      refused = tt;
-      fits = omega (arith, free, ap length is, length-append left ((name, new) ∷ []));
-    }
+  -- a lease begins
+  pub begins_lease : (es : Entries) (after : Leases) → HoldsLive table now es → IsAllowed a (leases_at now table.rows name) → HasNone a.addr (leases_at now table.rows name) → length (leases_at now table.rows name) < 48 → live_count now table.rows < table.config.rows
+      → after ≡ at_name name (members_of es name ++ begun table.config now a ∷ []) (members_of es) → Places table now name a (Ok (end_of table.config now a)) after
+  begins_lease es after holds allowed none room vacant is = record {
+    rule = λ _. record {
+      leases = leases_at now table.rows name ++ begun table.config now a ∷ [];
+      rule = begins allowed none room vacant;
+      after_is = is ∙ ap (λ (f : Leases). at_name name (f name ++ begun table.config now a ∷ []) f) holds.leases;
+    };
+    memory = λ e. absurd cc;
+    refused = tt;
+  }
+
+  longer : (leases : List Lease) (lease : Lease) → leases ++ lease ∷ [] ≡ leases → ⊥
+  longer leases lease e = omega (arith, ap length e, length-append leases (lease ∷ []))
+
+  -- memory was refused to a lease that would begin
+  pub runs_out : (after : Leases) → IsAllowed a (leases_at now table.rows name) → HasNone a.addr (leases_at now table.rows name) → length (leases_at now table.rows name) < 48 → live_count now table.rows < table.config.rows → after ≡ leases_at now table.rows → Places table now name a (Err OutOfMemory) after
+  runs_out after allowed none room vacant same =
+      let new : Lease = begun table.config now a in
+      let leases : Leases = leases_at now table.rows in
+      record {
+        rule = λ other. absurd (other refl);
+        memory = λ _. record {
+          result = grant_until table.config a (end_of table.config now a);
+          after = at_name name (leases name ++ new ∷ []) leases;
+          rule = record { leases = leases name ++ new ∷ []; rule = begins allowed none room vacant; after_is = refl };
+          other = λ e. longer (leases name) new (sym (here name (leases name ++ new ∷ []) leases) ∙ ap (λ (f : Leases). f name) e);
+        };
+        refused = same;
+      }
 
 -- the end that was returned, with the seconds granted
 pub granted_is : (table : TableValue) (a : Asked) (seconds : ℕ) (result : Result ℕ GrantFault) (grant : Result Grant GrantFault) → seconds ≡ granted table.config.longest a.ttl
@@ -106,44 +189,50 @@ pub refused_so : (config : ConfigValue) (a : Asked) (result : Result ℕ GrantFa
 refused_so config a (Ok end) P h = h
 refused_so config a (Err fault) P h = h
 
-pub sound_placed : (table : TableValue) (now : ℕ) (name : NameValue) (a : Asked) (result : Result ℕ GrantFault) (rows : Rows) → Places table now name a result rows → IsSound table.config now (leases_at now table.rows) → IsSound table.config now (leases_at now rows)
-sound_placed table now name a (Ok end) rows placed sound = sound_granted table now name a (Ok (grant_until table.config a end)) (leases_at now rows) sound (placed.rule (λ e. cc))
-sound_placed table now name a (Err fault) rows placed sound = subst (IsSound table.config now) (sym placed.refused) sound
+pub sound_placed : (table : TableValue) (now : ℕ) (name : NameValue) (a : Asked) (result : Result ℕ GrantFault) (after : Leases) → Places table now name a result after → IsSound table.config now (leases_at now table.rows) → IsSound table.config now after
+sound_placed table now name a (Ok end) after placed sound = sound_granted table now name a (Ok (grant_until table.config a end)) after sound (placed.rule (λ e. cc))
+sound_placed table now name a (Err fault) after placed sound = subst (IsSound table.config now) (sym placed.refused) sound
 
--- ---- the rows that are left where those that are over were taken out
+-- ---- none is over afterwards
 
-pub record Left (table : TableValue) (now : ℕ) (left : Rows) : Type 0 where
-  pub is : left ≡ filter (λ row. is_live now row.1) table.rows
-  pub same : leases_at now left ≡ leases_at now table.rows
-  pub count : length left ≡ live_count now table.rows
-  pub fits : length left ≤ table.config.rows
+live_at : (now : ℕ) (name : NameValue) (leases : List Lease) (others : Leases) → AreLive now leases → ((q : NameValue) → AreLive now (others q)) → (q : NameValue) → AreLive now (at_name name leases others q)
+live_at now name leases others one all q = cond_both (is_name q name) leases (others q) (AreLive now) (λ _. one) (λ _. all q)
 
-pub left_over : (table : TableValue) (now most : ℕ) (old left : Rows) → table.rows ≡ old → table.config.rows ≡ most → left ≡ filter (λ row. is_live now row.1) old → length old ≤ most → Left table now left
-left_over table now most old left rows_are most_is is fits =
-    let due : left ≡ filter (λ row. is_live now row.1) table.rows = is ∙ ap (filter (λ (row : NameValue × Lease). is_live now row.1)) (sym rows_are) in
-    record {
-      is = due;
-      same = ap (leases_at now) due ∙ due_out now table.rows;
-      count = ap length due ∙ due_out_count now table.rows;
-      fits = omega (arith, fits, most_is, ap length rows_are, ap length due, due_out_length now table.rows);
-    }
+live_granted : (config : ConfigValue) (now count : ℕ) (a : Asked) (leases after : List Lease) (result : Result Grant GrantFault) → now < end_of config now a → GrantCase config now count a leases result after → AreLive now leases → AreLive now after
+live_granted config now count a leases after result onward (active _) h = h
+live_granted config now count a leases after result onward (group_full _ _ _) h = h
+live_granted config now count a leases after result onward (table_full _ _ _ _) h = h
+live_granted config now count a leases after result onward (renews _ before behind lease is _) h =
+    all_replaced (λ l. now < l.end) before behind lease (renewed config now a lease) (λ live. omega (arith, live, onward)) (subst (AreLive now) is h)
+live_granted config now count a leases after result onward (begins _ _ _ _) h = all_joined (λ l. now < l.end) leases (begun config now a ∷ []) h (onward, tt)
+
+pub live_placed : (table : TableValue) (now : ℕ) (name : NameValue) (a : Asked) (result : Result ℕ GrantFault) (after : Leases) → now < end_of table.config now a → Places table now name a result after → ((q : NameValue) → AreLive now (leases_at now table.rows q)) → (q : NameValue) → AreLive now (after q)
+live_placed table now name a (Ok end) after onward placed live =
+    let g = placed.rule (λ e. cc) in
+    subst (λ (f : Leases). (q : NameValue) → AreLive now (f q)) (sym g.after_is)
+    (live_at now name g.leases (leases_at now table.rows) (live_granted table.config now (live_count now table.rows) a (leases_at now table.rows name) g.leases (Ok (grant_until table.config a end)) onward g.rule (live name)) live)
+live_placed table now name a (Err fault) after onward placed live = subst (λ (f : Leases). (q : NameValue) → AreLive now (f q)) (sym placed.refused) live
+
+live_released : (now addr : ℕ) (leases after : List Lease) (result : Released) → ReleaseCase addr leases result after → AreLive now leases → AreLive now after
+live_released now addr leases after result (gone before behind lease is _) h = all_without (λ l. now < l.end) before behind lease (subst (AreLive now) is h)
+live_released now addr leases after result (no_lease _) h = h
+live_released now addr leases after result (of_others _ _) h = h
+
+pub live_after_release : (table : TableValue) (now : ℕ) (name : NameValue) (addr : ℕ) (result : Released) (after : Leases) → Releases table now name addr result after → ((q : NameValue) → AreLive now (leases_at now table.rows q)) → (q : NameValue) → AreLive now (after q)
+live_after_release table now name addr result after r live =
+    subst (λ (f : Leases). (q : NameValue) → AreLive now (f q)) (sym r.after_is) (live_at now name r.leases (leases_at now table.rows) (live_released now addr (leases_at now table.rows name) r.leases result r.rule (live name)) live)
 
 -- ---- a release
 
-pub takes_back : (table : TableValue) (now : ℕ) (name : NameValue) (addr index : ℕ) (rows : Rows) (own : IsOwnRow now table.rows name addr index)
-    → rows ≡ take index table.rows ++ (name, record own.lease { end = now }) ∷ drop (index + 1) table.rows → Releases table now name addr Gone (leases_at now rows)
-takes_back table now name addr index rows own is =
-    let before : Rows = take index table.rows in
-    let behind : Rows = drop (index + 1) table.rows in
-    let leases : List Lease = leases_at now before name ++ leases_at now behind name in
-    record {
-      leases = leases;
-      rule = gone (leases_at now before name) (leases_at now behind name) own.lease (own_among now table.rows name addr index own) own.owner;
-      after_is = ap (leases_at now) is ∙ (closed_at now name before behind own.lease (record own.lease { end = now }) (omega arith) ∙ ap (λ (rs : Rows). at_name name leases (leases_at now rs)) (sym own.row));
-    }
+pub takes_back : (table : TableValue) (now : ℕ) (name : NameValue) (addr : ℕ) (es : Entries) (after : Leases) → HoldsLive table now es → Ended es name addr after → Releases table now name addr Gone after
+takes_back table now name addr es after holds e = record {
+  leases = e.before ++ e.behind;
+  rule = gone e.before e.behind e.lease (ap (λ (f : Leases). f name) (sym holds.leases) ∙ e.member.is) e.member.owner_is;
+  after_is = e.after_is ∙ ap (at_name name (e.before ++ e.behind)) holds.leases;
+}
 
-pub releases_none : (table : TableValue) (now : ℕ) (name : NameValue) (addr : ℕ) (result : Released) → ReleaseCase addr (leases_at now table.rows name) result (leases_at now table.rows name) → Releases table now name addr result (leases_at now table.rows)
-releases_none table now name addr result case = record { leases = leases_at now table.rows name; rule = case; after_is = at_same name (leases_at now table.rows) }
+pub releases_none : (table : TableValue) (now : ℕ) (name : NameValue) (addr : ℕ) (result : Released) (after : Leases) → after ≡ leases_at now table.rows → ReleaseCase addr (leases_at now table.rows name) result (leases_at now table.rows name) → Releases table now name addr result after
+releases_none table now name addr result after same case = record { leases = leases_at now table.rows name; rule = case; after_is = same ∙ at_same name (leases_at now table.rows) }
 
 kept_case : (addr : ℕ) (leases after : List Lease) (result : Released) → ReleaseCase addr leases result after → result ≢ Gone → after ≡ leases
 kept_case addr leases after result (gone _ _ _ _ _) other = absurd (other refl)

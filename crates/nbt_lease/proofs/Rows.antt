@@ -44,16 +44,6 @@ row_over m row rows name over =
     let out : is_row_of m name row ≡ false = and_right (is_name row.0 name) (is_live m row.1) over in
     rw out refl
 
--- the same, where the rows are known by an equation
-pub lives_on : (m : ℕ) (row : NameValue × Lease) (rows others : Rows) (name : NameValue) → rows ≡ row ∷ others → m < row.1.end → is_name row.0 name ≡ true → leases_at m rows name ≡ row.1 ∷ leases_at m others name
-lives_on m row rows others name is live named = ap (λ (rs : Rows). leases_at m rs name) is ∙ row_lives m row others name named (lt-ltb m row.1.end live)
-
-pub passes_other : (m : ℕ) (row : NameValue × Lease) (rows others : Rows) (name : NameValue) → rows ≡ row ∷ others → is_name row.0 name ≡ false → leases_at m rows name ≡ leases_at m others name
-passes_other m row rows others name is other = ap (λ (rs : Rows). leases_at m rs name) is ∙ row_of_other m row others name other
-
-pub passes_over : (m : ℕ) (row : NameValue × Lease) (rows others : Rows) (name : NameValue) → rows ≡ row ∷ others → row.1.end ≤ m → leases_at m rows name ≡ leases_at m others name
-passes_over m row rows others name is over = ap (λ (rs : Rows). leases_at m rs name) is ∙ row_over m row others name (le-ltb m row.1.end over)
-
 pub count_lives : (m : ℕ) (row : NameValue × Lease) (rows : Rows) → is_live m row.1 ≡ true → live_count m (row ∷ rows) ≡ suc (live_count m rows)
 unfolding live_count
 count_lives m row rows live = rw live refl
@@ -69,9 +59,6 @@ none_live m name = refl
 pub none_count : (m : ℕ) → live_count m [] ≡ 0
 unfolding live_count
 none_count m = refl
-
-pub passes_none : (m : ℕ) (rows : Rows) (name : NameValue) → rows ≡ [] → leases_at m rows name ≡ []
-passes_none m rows name is = ap (λ (rs : Rows). leases_at m rs name) is ∙ none_live m name
 
 pub leases_at-append : (m : ℕ) (xs ys : Rows) (name : NameValue) → leases_at m (xs ++ ys) name ≡ leases_at m xs name ++ leases_at m ys name
 unfolding leases_at

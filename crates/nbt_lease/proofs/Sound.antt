@@ -39,13 +39,13 @@ all_filter P p (x ∷ xs) h =
     (cases_Bool (p x))
 
 -- another lease in one's place
-all_replaced : (P : Lease → Type 0) (xs ys : List Lease) (old new : Lease) → (P old → P new) → AllByRecursion P (xs ++ old ∷ ys) → AllByRecursion P (xs ++ new ∷ ys)
+pub all_replaced : (P : Lease → Type 0) (xs ys : List Lease) (old new : Lease) → (P old → P new) → AllByRecursion P (xs ++ old ∷ ys) → AllByRecursion P (xs ++ new ∷ ys)
 all_replaced P xs ys old new change h =
     let behind : AllByRecursion P (old ∷ ys) = all_behind P xs (old ∷ ys) h in
     all_joined P xs (new ∷ ys) (all_front P xs (old ∷ ys) h) (change behind.0, behind.1)
 
 -- one lease less
-all_without : (P : Lease → Type 0) (xs ys : List Lease) (old : Lease) → AllByRecursion P (xs ++ old ∷ ys) → AllByRecursion P (xs ++ ys)
+pub all_without : (P : Lease → Type 0) (xs ys : List Lease) (old : Lease) → AllByRecursion P (xs ++ old ∷ ys) → AllByRecursion P (xs ++ ys)
 all_without P xs ys old h =
     let behind : AllByRecursion P (old ∷ ys) = all_behind P xs (old ∷ ys) h in
     all_joined P xs ys (all_front P xs (old ∷ ys) h) behind.1
@@ -60,16 +60,16 @@ apart_filter p (x ∷ xs) h =
     (λ left. rw left (apart_filter p xs h.1))
     (cases_Bool (p x))
 
-apart_replaced : (xs ys : List Lease) (old new : Lease) → new.addr ≡ old.addr → AreApart (xs ++ old ∷ ys) → AreApart (xs ++ new ∷ ys)
+pub apart_replaced : (xs ys : List Lease) (old new : Lease) → new.addr ≡ old.addr → AreApart (xs ++ old ∷ ys) → AreApart (xs ++ new ∷ ys)
 apart_replaced [] ys old new same h = (subst (λ (addr : ℕ). HasNone addr ys) (sym same) h.0, h.1)
 apart_replaced (x ∷ xs) ys old new same h =
     (all_replaced (λ lease. lease.addr ≢ x.addr) xs ys old new (λ other equal. other (sym same ∙ equal)) h.0, apart_replaced xs ys old new same h.1)
 
-apart_without : (xs ys : List Lease) (old : Lease) → AreApart (xs ++ old ∷ ys) → AreApart (xs ++ ys)
+pub apart_without : (xs ys : List Lease) (old : Lease) → AreApart (xs ++ old ∷ ys) → AreApart (xs ++ ys)
 apart_without [] ys old h = h.1
 apart_without (x ∷ xs) ys old h = (all_without (λ lease. lease.addr ≢ x.addr) xs ys old h.0, apart_without xs ys old h.1)
 
-apart_push : (xs : List Lease) (new : Lease) → HasNone new.addr xs → AreApart xs → AreApart (xs ++ new ∷ [])
+pub apart_push : (xs : List Lease) (new : Lease) → HasNone new.addr xs → AreApart xs → AreApart (xs ++ new ∷ [])
 apart_push [] new none h = (tt, tt)
 apart_push (x ∷ xs) new none h =
     (all_joined (λ lease. lease.addr ≢ x.addr) xs (new ∷ []) h.0 ((λ equal. none.0 (sym equal)), tt), apart_push xs new none.1 h.1)

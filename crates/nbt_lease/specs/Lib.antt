@@ -2,5 +2,6 @@ pub mod Config
 pub mod Numbers
 pub mod Lease
 pub mod Rules
+pub mod Index
 pub mod Standing
 pub mod Placing

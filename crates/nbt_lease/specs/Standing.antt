@@ -1,20 +1,20 @@
--- How an asker stands with a name, as the code finds it in the rows (private functions alone).
-use Rattle.std.specs.Prelude.{◌≡◌, ℕ, ◌+◌, ◌<◌, ◌↔◌, IsTrue, List, ◌∷◌, ◌++◌, length, take, drop, MatchOption}
-use Rattle.nbt_name.specs.Wire.{NameValue}
+-- How an asker stands with a name, as the code finds it (private functions alone).
+use Rattle.std.specs.Prelude.{◌≡◌, ℕ, ◌↔◌, true, false, IsTrue, List, ◌∷◌, ◌++◌, length}
 use Rattle.nbt_lease.specs.declared.standing.Standing.{Standing}
 use Rattle.nbt_lease.specs.declared.lease.Lease.{Lease}
-use Rattle.nbt_lease.specs.Lease.{Rows, is_live, HasNone, AreGroup}
+use Rattle.nbt_lease.specs.Lease.{HasNone, AreGroup}
 
--- The row of a live lease of the name and the address.
-pub record IsOwnRow (moment : ℕ) (rows : Rows) (name : NameValue) (addr index : ℕ) : Type 0 where
+-- An address has one of these leases.
+pub record HasOne (addr : ℕ) (leases : List Lease) : Type 0 where
+  pub before : List Lease
   pub lease : Lease
-  pub row : rows ≡ take index rows ++ (name, lease) ∷ drop (index + 1) rows
-  pub within : index < length rows
-  pub live : IsTrue (is_live moment lease)
-  pub owner : lease.addr ≡ addr
+  pub behind : List Lease
+  pub is : leases ≡ before ++ lease ∷ behind
+  pub owner_is : lease.addr ≡ addr
 
--- How the address stands among these leases of the name, found in the rows.
-pub record StandsIn (moment : ℕ) (rows : Rows) (name : NameValue) (addr : ℕ) (leases : List Lease) (standing : Standing) : Type 0 where
+-- How the address stands among these leases of the name.
+pub record StandsIn (addr : ℕ) (leases : List Lease) (standing : Standing) : Type 0 where
   pub members : standing.members ≡ length leases
   pub group : IsTrue standing.group ↔ AreGroup leases
-  pub own : MatchOption standing.own (HasNone addr leases) (λ index. IsOwnRow moment rows name addr index)
+  pub own : standing.own ≡ true → HasOne addr leases
+  pub none : standing.own ≡ false → HasNone addr leases

@@ -4,18 +4,24 @@
 //! takes memory.
 #![tactic(auto)]
 
+mod both;
 mod config;
+mod ends;
 mod fault;
+mod index;
 pub mod laws;
 mod lease;
+mod looks;
 mod members;
 mod moment;
+mod named;
 mod standing;
 mod table;
 
 pub use config::Config;
 pub use fault::{ConfigFault, GrantFault};
 pub use lease::{Grant, Lease, Released};
+pub use looks::Looks;
 pub use members::Members;
 pub use moment::Moment;
 pub use table::Table;

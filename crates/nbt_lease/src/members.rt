@@ -1,36 +1,34 @@
 //! The live leases of one name.
 
-ghost use Rattle.std.specs.Prelude.{◌≡◌};
+ghost use Rattle.std.specs.Prelude.{◌≡◌, filter};
 
 use crate::lease::Lease;
-use nbt_name::Name;
 use std::marker::Model;
 
 /// The live leases of a name at a moment, in order of their beginnings. It lends from the table and takes no memory.
 #[derive(Drop)]
 pub struct Members<'a> {
-    rows: &'a [(Name, Lease)],
-    name: &'a Name,
+    leases: &'a [Lease],
     now: u64,
 }
 
 impl<'a> Model for Members<'a> {
-    ghost use Rattle.std.specs.Prelude.{List};
+    ghost use Rattle.std.specs.Prelude.{List, filter};
     ghost use Rattle.nbt_lease.specs.declared.lease.Lease.{Lease};
-    ghost use Rattle.nbt_lease.specs.Lease.{leases_at};
+    ghost use Rattle.nbt_lease.specs.Lease.{is_live};
 
     ghost Value = { List Lease };
 
-    ghost view = { λ m. leases_at m.now m.rows.now m.name.now };
+    ghost view = { λ m. filter (is_live m.now) m.leases.now };
 }
 
 impl<'a> Members<'a> {
-    ghost use Rattle.nbt_lease.specs.Lease.{leases_at};
+    ghost use Rattle.nbt_lease.specs.Lease.{is_live};
 
-    pub(crate) fn new(rows: &'a [(Name, Lease)], name: &'a Name, now: u64) -> Members<'a>
-        ensures { result ≡ leases_at now rows.now name.now }
+    pub(crate) fn new(leases: &'a [Lease], now: u64) -> Members<'a>
+        ensures { result ≡ filter (is_live now) leases.now }
     {
-        Members { rows, name, now }
+        Members { leases, now }
     }
 }
 
@@ -44,9 +42,9 @@ impl Iterator for Members<'_> {
     ghost remaining = { item_count (λ s. s) };
 
     fn next(&mut self) -> Option<Lease> {
-        while let Some(((held, lease), others)) = self.rows.split_first() {
-            self.rows = others;
-            if self.now < lease.end && held == self.name {
+        while let Some((lease, others)) = self.leases.split_first() {
+            self.leases = others;
+            if self.now < lease.end {
                 return Some(*lease);
             }
         }

@@ -1,21 +1,26 @@
 //! The table of leases.
 
-ghost use Rattle.std.specs.Prelude.{◌≡◌, ◌≢◌, ◌+◌, ◌<◌, ◌≤◌, max, [], ◌∷◌, ◌++◌, length, filter, OnErr};
+ghost use Rattle.std.specs.Prelude.{◌≡◌, ◌≢◌, ℕ, ◌+◌, ◌<◌, ◌≤◌, [], length, filter, OnErr};
+ghost use Rattle.std.specs.List.{IsDistinct};
+ghost use Rattle.std.specs.Map.{keys_of};
 ghost use Rattle.nbt_name.specs.Wire.{NameValue};
-ghost use Rattle.nbt_lease.specs.declared.lease.Lease.{Lease};
-ghost use Rattle.nbt_lease.specs.Lease.{Rows, TableValue, is_live, leases_at};
+ghost use Rattle.nbt_lease.specs.Lease.{TableValue, is_live, is_name, leases_at, HasNone};
 ghost use Rattle.nbt_lease.specs.Rules.{Asked, begun, Releases};
-ghost use Rattle.nbt_lease.specs.Placing.{MayBegin, Places};
+ghost use Rattle.nbt_lease.specs.Placing.{HoldsLive, MayBegin, Places};
+ghost use Rattle.nbt_lease.specs.Index.{members_of, rows_of};
 
 use crate::config::Config;
 use crate::fault::GrantFault;
+use crate::index::Index;
 use crate::lease::{Grant, Lease, Released};
+use crate::looks::Looks;
 use crate::members::Members;
 use crate::moment::Moment;
 use crate::standing::Standing;
 use nbt_name::{Kind, Name};
 use std::alloc::Global;
-use std::marker::Model;
+use std::marker::{Brand, Model};
+use std::sync::ledger::{Blank, Ledger};
 
 /// The leases of a name server: of each name those that live, in order of their beginnings. No two live leases are of
 /// one name and one address, and the live leases of a name are at most 48, all of a group, or one that is unique.
@@ -25,18 +30,21 @@ use std::marker::Model;
 pub struct Table {
     config: Config,
     last: Moment,
-    rows: Vec<(Name, Lease)>,
+    index: Index,
 }
 
 impl Model for Table {
     ghost use Rattle.std.specs.Prelude.{◌≤◌, length};
-    ghost use Rattle.nbt_lease.specs.Lease.{TableValue, leases_at, IsSound};
+    ghost use Rattle.std.specs.List.{IsDistinct};
+    ghost use Rattle.std.specs.Map.{keys_of};
+    ghost use Rattle.nbt_lease.specs.Lease.{TableValue, is_name, leases_at, IsSound};
+    ghost use Rattle.nbt_lease.specs.Index.{rows_of};
 
     ghost Value = { TableValue };
 
-    ghost view = { λ t. record { config = t.config; last = t.last; rows = t.rows.items } };
+    ghost view = { λ t. record { config = t.config; last = t.last; rows = rows_of t.index } };
 
-    ghost invariant = { λ t. IsSound t.config t.last (leases_at t.last t.rows.items) × (length t.rows.items ≤ t.config.rows) };
+    ghost invariant = { λ t. IsDistinct is_name (keys_of t.index) × IsSound t.config t.last (leases_at t.last (rows_of t.index)) × (length (rows_of t.index) ≤ t.config.rows) };
 }
 
 impl Table {
@@ -52,7 +60,7 @@ impl Table {
         Table {
             config,
             last: Moment::zero(),
-            rows: Vec::new(alloc),
+            index: Index::new(alloc),
         }
     }
 
@@ -102,16 +110,15 @@ impl Table {
         ensures sound { IsSound self.new.config now (leases_at now self.new.rows) }
     {
         self.last = now;
+        let ms = now.get();
         let seconds = self.config.granted(ttl);
         let lease = Lease {
             addr,
             kind,
-            end: now.get() + 1000 * u64::from(seconds),
+            end: ms + 1000 * u64::from(seconds),
         };
-        place(&mut self.rows, self.config.rows(), now.get(), name, lease).map(|end| Grant {
-            seconds,
-            end,
-        })
+        take_out_due::<Brand>(&mut self.index, ms, Blank::new(1));
+        place(&mut self.index, self.config.rows(), name, lease).map(|end| Grant { seconds, end })
     }
 
     /// Takes out the address's live lease of the name, of either kind: `Gone`. Where it has none, `NoLease` where the
@@ -126,7 +133,8 @@ impl Table {
         ensures sound { IsSound self.new.config now (leases_at now self.new.rows) }
     {
         self.last = now;
-        take_back(&mut self.rows, now.get(), name, addr)
+        take_out_due::<Brand>(&mut self.index, now.get(), Blank::new(1));
+        take_back(&mut self.index, name, addr)
     }
 
     /// The live leases of the name at `now`, in order of their beginnings: at most 48. It lends them and takes no
@@ -136,7 +144,7 @@ impl Table {
         ensures members { result ≡ leases_at now self.now.rows name.now }
         ensures sound { IsSound self.now.config now (leases_at now self.now.rows) }
     {
-        Members::new(self.rows.as_slice(), name, now.get())
+        Members::new(self.index.members(name), now.get())
     }
 
     /// The least end among the live leases of the name at `now`, in milliseconds; none where it has no live lease.
@@ -158,90 +166,108 @@ impl Table {
         ensures last { self.new.last ≡ now }
         ensures sound { IsSound self.new.config now (leases_at now self.new.rows) }
     {
+        self.sweep_uncounted::<Brand>(now, Blank::new(1));
+    }
+
+    /// Takes out the leases that are over at `now`, and no others, looking at each of them and at one more at most: each
+    /// look adds one to `looks`. The live leases are as before. Takes no memory. `now` is at least `last()`, and is
+    /// `last()` afterwards.
+    pub fn sweep_counted<L: Ledger>(&mut self, now: Moment, looks: &mut Looks<L>)
+        requires { self.old.last ≤ now }
+        ensures leases { leases_at now self.new.rows ≡ leases_at now self.old.rows }
+        ensures over { live_count now self.new.rows ≡ length self.new.rows }
+        ensures looks { looks.new + length self.new.rows ≤ looks.old + length self.old.rows + 1 }
+        ensures config { self.new.config ≡ self.old.config }
+        ensures last { self.new.last ≡ now }
+        ensures sound { IsSound self.new.config now (leases_at now self.new.rows) }
+    {
         self.last = now;
-        take_out_due(&mut self.rows, now.get());
+        self.index.take_out_due(now.get(), looks);
+    }
+
+    /// The same, where nobody counts the looks.
+    fn sweep_uncounted<L: Ledger>(&mut self, now: Moment, blank: Blank)
+        requires time { self.old.last ≤ now }
+        requires name { blank.name ≡ L.name }
+        requires parts { blank.parts ≡ L.parts }
+        requires some { 0 < blank.parts }
+        ensures leases { leases_at now self.new.rows ≡ leases_at now self.old.rows }
+        ensures config { self.new.config ≡ self.old.config }
+        ensures last { self.new.last ≡ now }
+        ensures sound { IsSound self.new.config now (leases_at now self.new.rows) }
+    {
+        let mut looks = Looks::<L>::new(blank);
+        self.sweep_counted(now, &mut looks);
     }
 }
 
-/// Renews the live lease of the lease's address, or begins one; returns its end.
-fn place(
-    rows: &mut Vec<(Name, Lease)>,
-    most: usize,
-    now: u64,
-    name: &Name,
-    lease: Lease,
-) -> Result<u64, GrantFault>
-    requires fits { length rows.old.items ≤ most }
-    requires live { now < lease.end }
-    ensures { (table : TableValue) (a : Asked) → table.rows ≡ rows.old.items → table.config.rows ≡ most → lease ≡ begun table.config now a → Places table now name.now a result rows.new.items }
+/// Takes out the leases that are over; nobody counts the looks.
+fn take_out_due<L: Ledger>(index: &mut Index, now: u64, blank: Blank)
+    requires name { blank.name ≡ L.name }
+    requires parts { blank.parts ≡ L.parts }
+    requires some { 0 < blank.parts }
+    ensures leases { (q : NameValue) → members_of index.new q ≡ filter (is_live now) (members_of index.old q) }
+    ensures fewer { length (rows_of index.new) ≤ length (rows_of index.old) }
+    ensures names { IsDistinct is_name (keys_of index.new) }
 {
-    let standing = Standing::find(rows.as_slice(), now, name, lease.addr);
+    let mut looks = Looks::<L>::new(blank);
+    index.take_out_due(now, &mut looks);
+}
+
+/// Renews the lease of the lease's address, or begins one; returns its end. All leases live.
+fn place(index: &mut Index, most: usize, name: &Name, lease: Lease) -> Result<u64, GrantFault>
+    requires names { IsDistinct is_name (keys_of index.old) }
+    requires fits { length (rows_of index.old) ≤ most }
+    ensures rule { (table : TableValue) (now : ℕ) (a : Asked) → HoldsLive table now index.old → table.config.rows ≡ most → lease ≡ begun table.config now a → Places table now name.now a result (members_of index.new) }
+    ensures fits { length (rows_of index.new) ≤ most }
+    ensures names { IsDistinct is_name (keys_of index.new) }
+{
+    let standing = Standing::find(index.members(name), lease.addr);
     if !standing.allows(lease.kind) {
         return Err(GrantFault::Active);
     }
-    if let Some(index) = standing.own {
-        let end = rows[index].1.end.max(lease.end);
-        set_end(rows, index, end);
+    let Ok(renewed) = index.renew(name, lease.addr, lease.end) else {
+        return Err(GrantFault::OutOfMemory);
+    };
+    if let Some(end) = renewed {
         return Ok(end);
     }
     if standing.is_full() {
         return Err(GrantFault::GroupFull);
     }
-    begin(rows, most, now, name, lease)
+    begin(index, most, name, lease)
 }
 
-/// Begins a lease, which goes last; returns its end.
-fn begin(
-    rows: &mut Vec<(Name, Lease)>,
-    most: usize,
-    now: u64,
-    name: &Name,
-    lease: Lease,
-) -> Result<u64, GrantFault>
-    requires fits { length rows.old.items ≤ most }
-    requires live { now < lease.end }
-    ensures { (table : TableValue) (a : Asked) → table.rows ≡ rows.old.items → table.config.rows ≡ most → lease ≡ begun table.config now a
-        → MayBegin a (leases_at now table.rows name.now) → Places table now name.now a result rows.new.items }
+/// Begins a lease, which goes last; returns its end. All leases live.
+fn begin(index: &mut Index, most: usize, name: &Name, lease: Lease) -> Result<u64, GrantFault>
+    requires none { HasNone lease.addr (members_of index.old name.now) }
+    requires names { IsDistinct is_name (keys_of index.old) }
+    requires fits { length (rows_of index.old) ≤ most }
+    ensures rule { (table : TableValue) (now : ℕ) (a : Asked) → HoldsLive table now index.old → table.config.rows ≡ most → lease ≡ begun table.config now a
+        → MayBegin a (leases_at now table.rows name.now) → Places table now name.now a result (members_of index.new) }
+    ensures fits { length (rows_of index.new) ≤ most }
+    ensures names { IsDistinct is_name (keys_of index.new) }
 {
-    take_out_due(rows, now);
-    if rows.len() >= most {
+    if index.count() >= most {
         return Err(GrantFault::TableFull);
     }
-    if rows.push((name.copy(), lease)).is_err() {
+    if let Err(_) = index.begin(name, lease) {
         return Err(GrantFault::OutOfMemory);
     }
     Ok(lease.end)
 }
 
-/// Ends the address's live lease of the name at once: its row is taken out with those that are over.
-fn take_back(rows: &mut Vec<(Name, Lease)>, now: u64, name: &Name, addr: u32) -> Released
-    ensures rule { (table : TableValue) → table.rows ≡ rows.old.items → Releases table now name.now addr result (leases_at now rows.new.items) }
-    ensures count { length rows.new.items ≡ length rows.old.items }
+/// Ends the address's lease of the name. All leases live.
+fn take_back(index: &mut Index, name: &Name, addr: u32) -> Released
+    ensures rule { (table : TableValue) (now : ℕ) → HoldsLive table now index.old → Releases table now name.now addr result (members_of index.new) }
+    ensures count { length (rows_of index.new) ≤ length (rows_of index.old) }
+    ensures names { IsDistinct is_name (keys_of index.new) }
 {
-    let standing = Standing::find(rows.as_slice(), now, name, addr);
-    match standing.own {
-        Some(index) => {
-            set_end(rows, index, now);
-            Released::Gone
-        }
-        None if standing.members == 0 => Released::NoLease,
-        None => Released::OfOthers,
+    if index.end(name, addr) {
+        return Released::Gone;
     }
-}
-
-/// Takes out the rows whose leases are over.
-fn take_out_due(rows: &mut Vec<(Name, Lease)>, now: u64)
-    ensures { rows.new.items ≡ filter (λ row. is_live now row.1) rows.old.items }
-{
-    rows.retain(|(_, lease)| now < lease.end);
-}
-
-/// Gives the lease in this row another end.
-fn set_end(rows: &mut Vec<(Name, Lease)>, index: usize, end: u64)
-    requires { index < length rows.old.items }
-    ensures { (name : NameValue) (lease : Lease) (before after : Rows) → rows.old.items ≡ before ++ (name, lease) ∷ after → length before ≡ index
-        → rows.new.items ≡ before ++ (name, record lease { end = end }) ∷ after }
-{
-    let (_, lease) = &mut rows[index];
-    lease.end = end;
+    if index.members(name).is_empty() {
+        return Released::NoLease;
+    }
+    Released::OfOthers
 }

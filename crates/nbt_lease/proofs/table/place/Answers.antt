@@ -1,60 +1,63 @@
-use Rattle.std.proofs.Common.{◌≡◌, ◌+◌, ℕ, ◌<◌, ◌≤◌, ◌∷◌, ◌++◌, length, take, drop, max, refl, Bool, true, false, Err, Ok, sym, ap, subst, ⊎_elim, get_or, ◌∙◌, arith}
-use Rattle.std.proofs.lemmas.Bool.{both_ways, cases_lt}
-use Rattle.nbt_name.specs.Wire.{NameValue}
+use Rattle.std.proofs.Common.{◌≡◌, ℕ, ◌<◌, ◌≤◌, length, Bool, true, false, Option, Some, Err, Ok, IfOk, refl, sym, ap, subst, ◌∙◌, arith}
+use Rattle.std.specs.Option.{IfSome, IfNone}
+use Rattle.std.proofs.lemmas.Bool.{both_ways}
 use Rattle.nbt_lease.specs.declared.lease.Lease.{Lease}
-use Rattle.nbt_lease.specs.declared.fault.GrantFault.TheVariants.{Active, GroupFull}
-use Rattle.nbt_lease.specs.Lease.{Rows, leases_at}
-use Rattle.nbt_lease.specs.Rules.{end_of, active, group_full}
+use Rattle.nbt_lease.specs.declared.fault.GrantFault.TheVariants.{Active, GroupFull, OutOfMemory}
+use Rattle.nbt_lease.specs.Lease.{Leases, leases_at, HasNone}
+use Rattle.nbt_lease.specs.Rules.{active, group_full}
+use Rattle.nbt_lease.specs.Index.{members_of, Renewed, Moves}
 use Rattle.nbt_lease.specs.Placing.{Places}
-use Rattle.nbt_lease.proofs.Finding.{found_in, own_row, none_own, none_from, row_at, row_is}
-use Rattle.nbt_lease.proofs.Placing.{refuses, renews_row}
+use Rattle.nbt_lease.proofs.Placing.{ok_is, err_is, none_is, room_left, holds_on, stands_so, none_so, refuses, renews_lease, runs_out_moving}
 use Rattle.nbt_lease.proofs.table.place.Goals as goal
 
-room_left : (members count : ℕ) (full : Bool) → members ≡ count → full ≡ false → (48 ≤ members → full ≡ true) → count < 48
-room_left members count full same left more = ⊎_elim (λ less. less) (λ most. absurd (both_ways full left (more (omega (arith, most, same))))) (cases_lt count 48)
+pub returns-then-not-allows-clause-rule : goal.returns-then-not-allows-clause-rule
+returns-then-not-allows-clause-rule c table now a holds most_is lease_is =
+    let found = stands_so table now c.args.name.now c.args.lease.addr a.addr c.args.index.now c.members.result.now c.find-standing.result holds (ap (λ (l : Lease). l.addr) lease_is) c.members.ensures c.find-standing.ensures in
+    let allows = c.allows.ensures (leases_at now table.rows c.args.name.now) a found (sym (ap (λ (l : Lease). l.kind) lease_is)) in
+    refuses table now c.args.name.now a Active (members_of c.args.index.now) (λ e. cc) holds.leases (active (λ allowed. both_ways c.allows.result c.if-not-allows.true (allows.1 allowed)))
 
-pub returns-then-not-allows : goal.returns-then-not-allows
-returns-then-not-allows c table a rows_are most_is lease_is =
-    let found = found_in c.args.now c.args.name.now c.args.lease.addr a.addr c.as_slice.result.now table.rows c.find-standing.result (ap (λ (l : Lease). l.addr) lease_is) (c.as_slice.ensures.value ∙ sym rows_are) c.find-standing.ensures in
-    let allows = c.allows.ensures c.args.now table.rows c.args.name.now a found (sym (ap (λ (l : Lease). l.kind) lease_is)) in
-    subst (λ (rs : Rows). Places table c.args.now c.args.name.now a (Err Active) rs) rows_are
-    (refuses table c.args.now c.args.name.now a Active table.rows (λ e. cc) refl (omega (arith, c.requires.fits, most_is, ap length rows_are))
-    (active (λ allowed. both_ways c.allows.result c.if-not-allows.true (allows.1 allowed))))
+pub returns-in_default-clause-rule : goal.returns-in_default-clause-rule
+returns-in_default-clause-rule c table now a holds most_is lease_is =
+    let found = stands_so table now c.args.name.now c.args.lease.addr a.addr c.args.index.now c.members.result.now c.find-standing.result holds (ap (λ (l : Lease). l.addr) lease_is) c.members.ensures c.find-standing.ensures in
+    let allows = c.allows.ensures (leases_at now table.rows c.args.name.now) a found (sym (ap (λ (l : Lease). l.kind) lease_is)) in
+    let moves = err_is c.renew.result _ c.in_default.not-Ok c.renew.ensures.moves in
+    let same = err_is c.renew.result _ c.in_default.not-Ok c.renew.ensures.unchanged in
+    runs_out_moving table now c.args.name.now a c.args.index.now (members_of c.renew.new.self) holds (allows.0 c.if-not-allows.false)
+    (subst (λ (l : Lease). Moves c.args.index.now c.args.name.now l.addr l.end) lease_is moves) (same ∙ holds.leases)
 
-pub returns-then-is_full : goal.returns-then-is_full
-returns-then-is_full c table a rows_are most_is lease_is =
-    let found = found_in c.args.now c.args.name.now c.args.lease.addr a.addr c.as_slice.result.now table.rows c.find-standing.result (ap (λ (l : Lease). l.addr) lease_is) (c.as_slice.ensures.value ∙ sym rows_are) c.find-standing.ensures in
-    let allows = c.allows.ensures c.args.now table.rows c.args.name.now a found (sym (ap (λ (l : Lease). l.kind) lease_is)) in
-    subst (λ (rs : Rows). Places table c.args.now c.args.name.now a (Err GroupFull) rs) rows_are
-    (refuses table c.args.now c.args.name.now a GroupFull table.rows (λ e. cc) refl (omega (arith, c.requires.fits, most_is, ap length rows_are))
-    (group_full (allows.0 c.if-not-allows.false) (none_own c.args.now c.args.name.now a.addr table.rows c.find-standing.result found (none_from c.find-standing.result.own c.in_default.not-Some))
-    (omega (arith, found.members, c.is_full.ensures.0 c.if-is_full.true))))
+pub returns-in-Some-clause-rule : goal.returns-in-Some-clause-rule
+returns-in-Some-clause-rule c table now a holds most_is lease_is =
+    let found = stands_so table now c.args.name.now c.args.lease.addr a.addr c.args.index.now c.members.result.now c.find-standing.result holds (ap (λ (l : Lease). l.addr) lease_is) c.members.ensures c.find-standing.ensures in
+    let allows = c.allows.ensures (leases_at now table.rows c.args.name.now) a found (sym (ap (λ (l : Lease). l.kind) lease_is)) in
+    let renewed = ok_is c.renew.result c.in-Ok.renewed _ c.in-Ok.is c.renew.ensures.renewed in
+    let here = subst (λ (o : Option ℕ). IfSome o (λ until. Renewed c.args.index.now c.args.name.now c.args.lease.addr c.args.lease.end until (members_of c.renew.new.self))) c.in-Some.is renewed in
+    renews_lease table now c.args.name.now a c.args.index.now c.in-Some.end (members_of c.renew.new.self) holds (allows.0 c.if-not-allows.false)
+    (subst (λ (l : Lease). Renewed c.args.index.now c.args.name.now l.addr l.end c.in-Some.end (members_of c.renew.new.self)) lease_is here)
 
-pub returns-in-Some : goal.returns-in-Some
-returns-in-Some c table a rows_are most_is lease_is =
-    let found = found_in c.args.now c.args.name.now c.args.lease.addr a.addr c.as_slice.result.now table.rows c.find-standing.result (ap (λ (l : Lease). l.addr) lease_is) (c.as_slice.ensures.value ∙ sym rows_are) c.find-standing.ensures in
-    let allows = c.allows.ensures c.args.now table.rows c.args.name.now a found (sym (ap (λ (l : Lease). l.kind) lease_is)) in
-    let own = own_row c.args.now c.args.name.now a.addr c.in-Some.index table.rows c.find-standing.result found c.in-Some.is in
-    let end_is : c.args.lease.end ≡ end_of table.config c.args.now a = ap (λ (l : Lease). l.end) lease_is in
-    let before : Rows = take c.in-Some.index table.rows in
-    let behind : Rows = drop (c.in-Some.index + 1) table.rows in
-    let row : NameValue × Lease = (c.args.name.now, own.lease) in
-    let read : c.index.result.now ≡ row =
-    c.index.ensures ∙ (ap (λ (rs : Rows). get_or rs c.in-Some.index c.index.result.now) (sym rows_are) ∙ row_is c.args.now table.rows c.args.name.now a.addr c.in-Some.index own c.index.result.now) in
-    let max_is : c.max-end.result ≡ max own.lease.end (end_of table.config c.args.now a) =
-    c.max-end.ensures ∙ (λ i. max (read i).1.end (end_is i)) in
-    let changed = c.set_end.ensures c.args.name.now own.lease before behind (sym rows_are ∙ own.row) (row_at c.args.now table.rows c.args.name.now a.addr c.in-Some.index own) in
-    subst (λ (end : ℕ). Places table c.args.now c.args.name.now a (Ok end) c.set_end.new.rows.items) (sym max_is)
-    (renews_row table c.args.now c.args.name.now a c.in-Some.index c.set_end.new.rows.items own (allows.0 c.if-not-allows.false) (omega (arith, end_is, c.requires.live))
-    (changed ∙ ap (λ (end : ℕ). before ++ (c.args.name.now, record own.lease { end = end }) ∷ behind) max_is)
-    (omega (arith, c.requires.fits, most_is, ap length rows_are)))
+pub returns-then-is_full-clause-rule : goal.returns-then-is_full-clause-rule
+returns-then-is_full-clause-rule c table now a holds most_is lease_is =
+    let found = stands_so table now c.args.name.now c.args.lease.addr a.addr c.args.index.now c.members.result.now c.find-standing.result holds (ap (λ (l : Lease). l.addr) lease_is) c.members.ensures c.find-standing.ensures in
+    let allows = c.allows.ensures (leases_at now table.rows c.args.name.now) a found (sym (ap (λ (l : Lease). l.kind) lease_is)) in
+    let none = none_is c.in-Ok.renewed _ c.in_default-renewed.not-Some (ok_is c.renew.result c.in-Ok.renewed _ c.in-Ok.is c.renew.ensures.none) in
+    let same = none_is c.in-Ok.renewed _ c.in_default-renewed.not-Some (ok_is c.renew.result c.in-Ok.renewed _ c.in-Ok.is c.renew.ensures.none_left) in
+    refuses table now c.args.name.now a GroupFull (members_of c.renew.new.self) (λ e. cc) (same ∙ holds.leases)
+    (group_full (allows.0 c.if-not-allows.false) (none_so table now c.args.name.now c.args.lease.addr a.addr c.args.index.now holds (ap (λ (l : Lease). l.addr) lease_is) none) (omega (arith, found.members, c.is_full.ensures.0 c.if-is_full.true)))
 
-pub returns : goal.returns
-returns c table a rows_are most_is lease_is =
-    let found = found_in c.args.now c.args.name.now c.args.lease.addr a.addr c.as_slice.result.now table.rows c.find-standing.result (ap (λ (l : Lease). l.addr) lease_is) (c.as_slice.ensures.value ∙ sym rows_are) c.find-standing.ensures in
-    let allows = c.allows.ensures c.args.now table.rows c.args.name.now a found (sym (ap (λ (l : Lease). l.kind) lease_is)) in
-    c.begin.ensures table a rows_are most_is lease_is (record {
+pub begin-requires-clause-none : goal.begin-requires-clause-none
+begin-requires-clause-none c =
+    let none = none_is c.in-Ok.renewed _ c.in_default-renewed.not-Some (ok_is c.renew.result c.in-Ok.renewed _ c.in-Ok.is c.renew.ensures.none) in
+    let same = none_is c.in-Ok.renewed _ c.in_default-renewed.not-Some (ok_is c.renew.result c.in-Ok.renewed _ c.in-Ok.is c.renew.ensures.none_left) in
+    subst (λ (f : Leases). HasNone c.args.lease.addr (f c.args.name.now)) (sym same) none
+
+pub returns-clause-rule : goal.returns-clause-rule
+returns-clause-rule c table now a holds most_is lease_is =
+    let found = stands_so table now c.args.name.now c.args.lease.addr a.addr c.args.index.now c.members.result.now c.find-standing.result holds (ap (λ (l : Lease). l.addr) lease_is) c.members.ensures c.find-standing.ensures in
+    let allows = c.allows.ensures (leases_at now table.rows c.args.name.now) a found (sym (ap (λ (l : Lease). l.kind) lease_is)) in
+    let none = none_is c.in-Ok.renewed _ c.in_default-renewed.not-Some (ok_is c.renew.result c.in-Ok.renewed _ c.in-Ok.is c.renew.ensures.none) in
+    let same = none_is c.in-Ok.renewed _ c.in_default-renewed.not-Some (ok_is c.renew.result c.in-Ok.renewed _ c.in-Ok.is c.renew.ensures.none_left) in
+    c.begin.ensures.rule table now a (holds_on table now c.args.index.now c.renew.new.self holds same c.renew.ensures.count) most_is lease_is
+    (record {
       allowed = allows.0 c.if-not-allows.false;
-      none = none_own c.args.now c.args.name.now a.addr table.rows c.find-standing.result found (none_from c.find-standing.result.own c.in_default.not-Some);
-      room = room_left c.find-standing.result.members (length (leases_at c.args.now table.rows c.args.name.now)) c.is_full.result found.members c.if-is_full.false c.is_full.ensures.1;
+      none = none_so table now c.args.name.now c.args.lease.addr a.addr c.args.index.now holds (ap (λ (l : Lease). l.addr) lease_is) none;
+      room = room_left c.find-standing.result.members (length (leases_at now table.rows c.args.name.now)) c.is_full.result found.members c.if-is_full.false c.is_full.ensures.1;
     })

@@ -1,11 +1,12 @@
 use Rattle.std.proofs.Common.{◌≡◌, length}
-use Rattle.nbt_lease.specs.Lease.{leases_at}
+use Rattle.std.specs.List.{filter}
+use Rattle.nbt_lease.specs.Lease.{is_live}
 use Rattle.nbt_lease.proofs.members.MembersIterator.next.Given as goal
 
-abbrev pub invariant-loop-held : goal.invariant-loop-held
-invariant-loop-held l =
+abbrev pub invariant-loop-lease : goal.invariant-loop-lease
+invariant-loop-lease l =
     let before = l.initial.self-inside in
-    leases_at l.self-inside.now l.self-inside.rows.now l.self-inside.name.now ≡ leases_at before.now before.rows.now before.name.now
+    filter (is_live l.self-inside.now) l.self-inside.leases.now ≡ filter (is_live before.now) before.leases.now
 
-abbrev pub decreases-loop-held : goal.decreases-loop-held
-decreases-loop-held l = length l.self-inside.rows.now
+abbrev pub decreases-loop-lease : goal.decreases-loop-lease
+decreases-loop-lease l = length l.self-inside.leases.now

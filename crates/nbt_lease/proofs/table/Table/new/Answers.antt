@@ -1,10 +1,18 @@
 use Rattle.std.proofs.Common.{length, sym, ap, subst, arith}
-use Rattle.nbt_lease.specs.Lease.{Rows, leases_at, IsSound}
+use Rattle.std.specs.List.{IsDistinct}
+use Rattle.std.specs.Map.{keys_of}
+use Rattle.nbt_lease.specs.Lease.{is_name, leases_at, IsSound}
+use Rattle.nbt_lease.specs.Index.{Entries, rows_of}
 use Rattle.nbt_lease.proofs.Changes.{none_sound}
+use Rattle.nbt_lease.proofs.Agreeing.{none_distinct}
 use Rattle.nbt_lease.proofs.table.Table.new.Goals as goal
+
+pub returns-clause-empty : goal.returns-clause-empty
+returns-clause-empty c = ap rows_of c.new.ensures
 
 pub invariant_of-result : goal.invariant_of-result
 invariant_of-result c = (
-  subst (λ (rs : Rows). IsSound c.args.config c.zero.result (leases_at c.zero.result rs)) (sym c.new.ensures.items) (none_sound c.args.config c.zero.result),
-  omega (arith, ap length c.new.ensures.items),
+  subst (λ (es : Entries). IsDistinct is_name (keys_of es)) (sym c.new.ensures) none_distinct,
+  subst (λ (es : Entries). IsSound c.args.config c.zero.result (leases_at c.zero.result (rows_of es))) (sym c.new.ensures) (none_sound c.args.config c.zero.result),
+  omega (arith, ap (λ (es : Entries). length (rows_of es)) c.new.ensures),
 )

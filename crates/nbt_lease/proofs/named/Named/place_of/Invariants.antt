@@ -1,0 +1,6 @@
+use Rattle.std.proofs.Common.{take}
+use Rattle.nbt_lease.specs.Lease.{HasNone}
+use Rattle.nbt_lease.proofs.named.Named.place_of.Given as goal
+
+abbrev pub invariant-loop-place : goal.invariant-loop-place
+invariant-loop-place l = HasNone l.addr (take l.place l.self)

@@ -1,0 +1,97 @@
+//! The ends of all leases, in order.
+
+ghost use Rattle.std.specs.Prelude.{◌≡◌, ◌+◌, ◌<◌, ◌≤◌, true, false, length, if◌then◌else◌, IfSome, IfNone, OnOk, OnErr, []};
+
+use crate::looks::Looks;
+use nbt_name::Name;
+use std::alloc::{AllocError, Global};
+use std::collections::BTreeSet;
+use std::marker::Model;
+use std::sync::ledger::Ledger;
+
+/// When the lease of a name and an address ends. The order is that of the ends, then of the names and the addresses.
+#[derive(PartialEq, Eq, PartialOrd, Ord, Drop)]
+pub(crate) struct Due {
+    pub end: u64,
+    pub name: Name,
+    pub addr: u32,
+}
+
+/// The ends of all leases, each with its name and address. Only `take_due` shows one, and it counts that as a look.
+#[derive(Drop)]
+pub(crate) struct Ends {
+    dues: BTreeSet<Due>,
+}
+
+impl Model for Ends {
+    ghost use Rattle.std.specs.Prelude.{List};
+    ghost use Rattle.nbt_lease.specs.declared.ends.Due.{Due as Seen};
+
+    ghost Value = { List Seen };
+
+    ghost view = { λ e. e.dues.keys };
+}
+
+impl Ends {
+    ghost use Rattle.std.specs.List.{IsDistinct};
+    ghost use Rattle.nbt_lease.specs.declared.ends.Due.{Due as Seen};
+    ghost use Rattle.nbt_lease.specs.Index.{due, is_due, in_set};
+
+    /// No ends. Takes no memory.
+    pub fn new(alloc: Global) -> Ends
+        ensures { result ≡ [] }
+    {
+        Ends {
+            dues: BTreeSet::new(alloc),
+        }
+    }
+
+    /// How many leases there are.
+    pub fn count(&self) -> usize
+        ensures { result ≡ length self.now }
+    {
+        self.dues.len()
+    }
+
+    /// Adds the end of a lease that isn't there. Where memory is refused, all is as before.
+    pub fn insert(&mut self, end: u64, name: &Name, addr: u32) -> Result<(), AllocError>
+        requires absent { in_set self.old (due end name.now addr) ≡ false }
+        ensures found { OnOk result ((d : Seen) → in_set self.new d ≡ (if is_due (due end name.now addr) d then true else in_set self.old d)) }
+        ensures count { OnOk result (length self.new ≡ length self.old + 1) }
+        ensures distinct { OnOk result (IsDistinct is_due self.new) }
+        ensures unchanged { OnErr result (self.new ≡ self.old) }
+    {
+        let name = name.copy();
+        self.dues.insert(Due { end, name, addr })?;
+        Ok(())
+    }
+
+    /// Takes out the end of a lease that is there. Takes no memory.
+    pub fn remove(&mut self, end: u64, name: &Name, addr: u32)
+        requires there { in_set self.old (due end name.now addr) ≡ true }
+        ensures found { (d : Seen) → in_set self.new d ≡ (if is_due (due end name.now addr) d then false else in_set self.old d) }
+        ensures count { length self.new + 1 ≡ length self.old }
+        ensures distinct { IsDistinct is_due self.new }
+    {
+        let name = name.copy();
+        self.dues.remove(&Due { end, name, addr });
+    }
+
+    /// Looks at the least end, and takes it out where it is over at `now`. Takes no memory.
+    pub fn take_due<L: Ledger>(&mut self, now: u64, looks: &mut Looks<L>) -> Option<Due>
+        ensures looks { looks.new ≡ looks.old + 1 }
+        ensures over { IfSome result (λ d. d.end ≤ now) }
+        ensures there { IfSome result (λ d. in_set self.old d ≡ true) }
+        ensures found { IfSome result (λ taken. (d : Seen) → in_set self.new d ≡ (if is_due taken d then false else in_set self.old d)) }
+        ensures count { IfSome result (λ d. length self.new + 1 ≡ length self.old) }
+        ensures distinct { IfSome result (λ d. IsDistinct is_due self.new) }
+        ensures live { IfNone result ((d : Seen) → in_set self.old d ≡ true → now < d.end) }
+        ensures unchanged { IfNone result (self.new ≡ self.old) }
+    {
+        looks.add_one();
+        match self.dues.first() {
+            Some(due) if due.end <= now => self.dues.pop_first(),
+            _ => None,
+        }
+    }
+}

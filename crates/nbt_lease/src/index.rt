@@ -1,0 +1,150 @@
+//! The leases by name, and their ends in order.
+
+ghost use Rattle.std.specs.Prelude.{◌≡◌, ◌+◌, ◌<◌, ◌≤◌, IsTrue, [], ◌∷◌, ◌++◌, length, filter, IfOk, IfSome, IfNone, OnOk, OnErr, if◌then◌else◌};
+ghost use Rattle.std.specs.Bool.{OnFalse};
+ghost use Rattle.std.specs.List.{IsDistinct};
+ghost use Rattle.std.specs.Map.{keys_of};
+ghost use Rattle.nbt_name.specs.Wire.{NameValue};
+
+use crate::both::{begin_in, take_out};
+use crate::ends::Ends;
+use crate::lease::Lease;
+use crate::looks::Looks;
+use crate::named::Named;
+use indexmap::IndexMap;
+use nbt_name::Name;
+use std::alloc::{AllocError, Global};
+use std::marker::Model;
+use std::sync::ledger::Ledger;
+
+/// The leases by name, and their ends in order. Each name has a member at least; its members are of different addresses;
+/// and the set holds the end, name and address of each member, and no other.
+#[derive(Drop)]
+pub(crate) struct Index {
+    members: IndexMap<Name, Named>,
+    ends: Ends,
+    alloc: Global,
+}
+
+impl Model for Index {
+    ghost use Rattle.nbt_lease.specs.Index.{Entries, Agrees};
+
+    ghost Value = { Entries };
+
+    ghost view = { λ i. i.members.entries };
+
+    ghost invariant = { λ i. Agrees i.members.entries i.ends };
+}
+
+impl Index {
+    ghost use Rattle.nbt_lease.specs.Lease.{is_live, is_name, at_name, HasNone};
+    ghost use Rattle.nbt_lease.specs.Index.{members_of, rows_of, AreLive, Renewed, Moves, Ended};
+
+    /// No leases. Takes no memory.
+    pub fn new(alloc: Global) -> Index
+        ensures { result ≡ [] }
+    {
+        Index {
+            members: IndexMap::new(alloc),
+            ends: Ends::new(alloc),
+            alloc,
+        }
+    }
+
+    /// The members of a name, in order of their beginnings. One look-up; takes no memory.
+    pub fn members(&self, name: &Name) -> &[Lease]
+        ensures { result.now ≡ members_of self.now name.now }
+    {
+        match self.members.get(name) {
+            Some(named) => named.as_slice(),
+            None => &[],
+        }
+    }
+
+    /// How many leases there are.
+    pub fn count(&self) -> usize
+        ensures { result ≡ length (rows_of self.now) }
+    {
+        self.ends.count()
+    }
+
+    /// Begins a lease, which goes last at its name. Where memory is refused, the leases are as before.
+    pub fn begin(&mut self, name: &Name, lease: Lease) -> Result<(), AllocError>
+        requires none { HasNone lease.addr (members_of self.old name.now) }
+        ensures begun { OnOk result (members_of self.new ≡ at_name name.now (members_of self.old name.now ++ lease ∷ []) (members_of self.old)) }
+        ensures unchanged { OnErr result (members_of self.new ≡ members_of self.old) }
+        ensures count { OnOk result (length (rows_of self.new) ≡ length (rows_of self.old) + 1) }
+        ensures count_left { OnErr result (length (rows_of self.new) ≡ length (rows_of self.old)) }
+        ensures names { IsDistinct is_name (keys_of self.new) }
+    {
+        begin_in(&mut self.members, &mut self.ends, self.alloc, name, lease)
+    }
+
+    /// Gives the member of this address this end, if its own is earlier, and returns its end; none where there is no such
+    /// member. Only an end that moves takes memory: the set grows by the new end before the old one goes. Where memory is
+    /// refused, the leases are as before.
+    pub fn renew(&mut self, name: &Name, addr: u32, end: u64) -> Result<Option<u64>, AllocError>
+        ensures renewed { IfOk result (λ found. IfSome found (λ until. Renewed self.old name.now addr end until (members_of self.new))) }
+        ensures none { IfOk result (λ found. IfNone found (HasNone addr (members_of self.old name.now))) }
+        ensures none_left { IfOk result (λ found. IfNone found (members_of self.new ≡ members_of self.old)) }
+        ensures moves { OnErr result (Moves self.old name.now addr end) }
+        ensures unchanged { OnErr result (members_of self.new ≡ members_of self.old) }
+        ensures count { length (rows_of self.new) ≡ length (rows_of self.old) }
+        ensures names { IsDistinct is_name (keys_of self.new) }
+    {
+        let Some(named) = self.members.get_mut(name) else {
+            return Ok(None);
+        };
+        let Some(place) = named.place_of(addr) else {
+            return Ok(None);
+        };
+        let before = named.end_at(place);
+        if end <= before {
+            return Ok(Some(before));
+        }
+        self.ends.insert(end, name, addr)?;
+        self.ends.remove(before, name, addr);
+        named.set_end(place, end);
+        Ok(Some(end))
+    }
+
+    /// Ends the lease of the name and the address, if there is one. Takes no memory.
+    pub fn end(&mut self, name: &Name, addr: u32) -> bool
+        ensures gone { IsTrue result → Ended self.old name.now addr (members_of self.new) }
+        ensures none { OnFalse result (HasNone addr (members_of self.old name.now)) }
+        ensures unchanged { OnFalse result (members_of self.new ≡ members_of self.old) }
+        ensures count { length (rows_of self.new) ≤ length (rows_of self.old) }
+        ensures names { IsDistinct is_name (keys_of self.new) }
+    {
+        let Some(lease) = take_out(&mut self.members, name, addr) else {
+            return false;
+        };
+        self.ends.remove(lease.end, name, addr);
+        true
+    }
+
+    /// Takes out the lease that is over first, if one is over at `now`. Takes no memory.
+    fn pop_due<L: Ledger>(&mut self, now: u64, looks: &mut Looks<L>) -> bool
+        ensures leases { (q : NameValue) → filter (is_live now) (members_of self.new q) ≡ filter (is_live now) (members_of self.old q) }
+        ensures looks { looks.new ≡ looks.old + 1 }
+        ensures count { length (rows_of self.new) + (if result then 1 else 0) ≡ length (rows_of self.old) }
+        ensures live { OnFalse result ((q : NameValue) → AreLive now (members_of self.new q)) }
+        ensures names { IsDistinct is_name (keys_of self.new) }
+    {
+        let Some(due) = self.ends.take_due(now, looks) else {
+            return false;
+        };
+        take_out(&mut self.members, &due.name, due.addr);
+        true
+    }
+
+    /// Takes out the leases that are over at `now`: one look at each, and one more. Takes no memory.
+    pub fn take_out_due<L: Ledger>(&mut self, now: u64, looks: &mut Looks<L>)
+        ensures leases { (q : NameValue) → members_of self.new q ≡ filter (is_live now) (members_of self.old q) }
+        ensures looks { looks.new + length (rows_of self.new) ≡ looks.old + length (rows_of self.old) + 1 }
+        ensures fewer { length (rows_of self.new) ≤ length (rows_of self.old) }
+        ensures names { IsDistinct is_name (keys_of self.new) }
+    {
+        'dues: while self.pop_due(now, looks) {}
+    }
+}
