@@ -1,6 +1,7 @@
 //! Sessions: packets from outside, streams in pieces, calls, listeners, and memory refused at each growth.
 
 mod listening;
+mod pieces;
 
 ghost use Rattle.std.specs.Prelude.{◌≤◌, length, IfOk};
 
