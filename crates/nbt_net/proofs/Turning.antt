@@ -7,6 +7,7 @@ use Rattle.nbt_node.specs.Node.{NodeValue}
 use Rattle.nbt_engine.specs.Acts.{Act, Chain}
 use Rattle.nbt_engine.specs.declared.turning.Seen.{Seen}
 use Rattle.nbt_engine.specs.declared.turning.Want.{Want}
+use Rattle.nbt_engine.specs.Udp.{MachineTells}
 use Rattle.nbt_net.specs.Node.{Turns, TakesTurns, seen_text}
 use Rattle.nbt_net.proofs.Printing.{appends_nothing, appends_both}
 
@@ -35,3 +36,13 @@ turns_on does tells server want count old_port mid_port port old_clock mid_clock
   count_is = length-append before.seen (one ∷ []) ∙ ap (λ (n : ℕ). n + 1) before.count_is;
   printed = subst (Appends old_text text) (sym (text_on before.seen one)) (appends_both old_text mid_text text (flat_map seen_text before.seen) (seen_text one) before.printed told);
 }
+
+-- turns from a clock, a node and a text that are known by other words
+pub turns_from : {P : Type 0} (does : P → Act → P → Type 0) (server : Addr) (want : Want) (old_port port : P) (old_clock start clock : ℕ) (old first new : NodeValue) (count turns : ℕ) (old_text text : Option (List ℕ))
+    → count ≡ turns → old_clock ≡ start → old ≡ first
+    → TakesTurns does MachineTells server want count old_port old_clock old old_text port clock new text
+    → TakesTurns does MachineTells server want turns old_port start first old_text port clock new text
+turns_from does server want old_port port old_clock start clock old first new count turns old_text text counts starts firsts taken =
+    subst (λ (n : ℕ). TakesTurns does MachineTells server want n old_port start first old_text port clock new text) counts
+    (subst (λ (t : ℕ). TakesTurns does MachineTells server want count old_port t first old_text port clock new text) starts
+    (subst (λ (v : NodeValue). TakesTurns does MachineTells server want count old_port old_clock v old_text port clock new text) firsts taken))

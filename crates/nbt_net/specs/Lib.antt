@@ -1,3 +1,4 @@
 pub mod Line
 pub mod Node
 pub mod Serve
+pub mod Turns

@@ -5,6 +5,7 @@
 mod clock;
 mod fault;
 mod node;
+mod port;
 mod serve;
 
 pub use fault::Fault;

@@ -4,11 +4,12 @@ ghost use Rattle.std.specs.Prelude.{◌≡◌, ℕ, ◌<◌, ◌^◌, OnOk};
 ghost use Rattle.std.specs.Io.KnownBytes.{Appends};
 ghost use Rattle.nbt_node.specs.Calls.{started};
 ghost use Rattle.nbt_node.specs.Node.{holds};
-ghost use Rattle.nbt_net.specs.Node.{TakesTurns, seen_text, held_text};
+ghost use Rattle.nbt_net.specs.Node.{RunsNode, RunsNodeHere, TakesTurns, seen_text, held_text};
 
 use crate::clock::readable_clock;
 use crate::fault::Fault;
-use nbt_engine::{Clock, MachineClock, Port, Seen, UdpPort, Want, node_turn};
+use crate::port::bound_port;
+use nbt_engine::{Clock, MachineClock, Port, Seen, Want, node_turn};
 use nbt_lease::{Config, Moment};
 use nbt_name::Addr;
 use nbt_node::Node;
@@ -35,14 +36,16 @@ pub struct NodeArguments {
 }
 
 /// Runs an end node on a UDP port of this machine, over its clock. It prints a line for each event as it comes, and after
-/// the last turn whether the name is held. Refused: `Device` where the port can't be had, the clock can't be read at first,
-/// or a socket fails; `Output` where `writer` fails.
+/// the last turn whether the name is held; with no end that is after 2^64 - 1 turns. Refused: `Device` where the port can't
+/// be had, the clock can't be read at first, or a socket fails; `Output` where `writer` fails.
 pub fn run_node<M: Net + time::Clock, W: Write>(
     machine: &M,
     arguments: &NodeArguments,
     writer: &mut W,
-) -> Result<(), Fault> {
-    let mut port = UdpPort::bind(machine, arguments.bind).map_err(|_| Fault::Device)?;
+) -> Result<(), Fault>
+    ensures { OnOk result (RunsNodeHere arguments.now (W.contents writer.old) (W.contents writer.new)) }
+{
+    let mut port = bound_port(machine, arguments.bind)?;
     let mut clock = readable_clock(machine)?;
     run_turns(&mut port, &mut clock, arguments, writer)
 }
@@ -55,6 +58,8 @@ pub fn run_turns<P: Port, M: time::Clock, W: Write>(
     writer: &mut W,
 ) -> Result<(), Fault>
     requires few { P.failures port.old < 2 ^ 62 }
+    ensures { OnOk result (RunsNode P.does arguments.now
+        port.old clock.old (W.contents writer.old) port.new clock.new (W.contents writer.new)) }
 {
     let mut node = start_node(clock, arguments);
     let turns = arguments.turns.unwrap_or(u64::MAX);

@@ -1,12 +1,14 @@
 //! A name server over UDP and the machine's clock.
 
-ghost use Rattle.std.specs.Prelude.{◌≡◌, ◌<◌, ◌^◌, OnOk, IfSome};
+ghost use Rattle.std.specs.Prelude.{◌<◌, ◌^◌, OnOk};
 ghost use Rattle.std.specs.Io.KnownBytes.{Appends};
-ghost use Rattle.nbt_net.specs.Serve.{Serves, counts_text};
+ghost use Rattle.nbt_net.specs.Serve.{Serves, ServesHere, begin_line, begin_text, counts_text};
+ghost use Rattle.std.specs.Net.Text.{socket_v4_text};
 
 use crate::clock::readable_clock;
 use crate::fault::Fault;
-use nbt_engine::{Clock, Counts, Port, UdpPort, serve_turns};
+use crate::port::bound_port;
+use nbt_engine::{Clock, Counts, Port, serve_turns};
 use nbt_lease::Config;
 use nbt_name::Addr;
 use nbt_server::Server;
@@ -27,15 +29,17 @@ pub struct ServeArguments {
 }
 
 /// Runs a name server on a UDP port of this machine, over its clock. Where there is no end, it first prints a line that
-/// says that it has begun; else it prints what was done, after the last turn. Refused: `Device` where the port can't be had,
-/// the clock can't be read at first, or a socket fails; `Output` where `writer` fails.
+/// says that it has begun, and then goes through 2^64 - 1 turns; else it prints what was done, after the last turn. Refused:
+/// `Device` where the port can't be had, the clock can't be read at first, or a socket fails; `Output` where `writer` fails.
 pub fn run_server<M: Net + time::Clock, W: Write>(
     machine: &M,
     alloc: Global,
     arguments: &ServeArguments,
     writer: &mut W,
-) -> Result<(), Fault> {
-    let mut port = UdpPort::bind(machine, arguments.bind).map_err(|_| Fault::Device)?;
+) -> Result<(), Fault>
+    ensures { OnOk result (ServesHere arguments.now (W.contents writer.old) (W.contents writer.new)) }
+{
+    let mut port = bound_port(machine, arguments.bind)?;
     let mut clock = readable_clock(machine)?;
     serve(alloc, &mut port, &mut clock, arguments, writer)
 }
@@ -49,8 +53,8 @@ pub fn serve<P: Port, C: Clock, W: Write>(
     writer: &mut W,
 ) -> Result<(), Fault>
     requires few { P.failures port.old < 2 ^ 62 }
-    ensures { OnOk result (IfSome arguments.now.turns (λ turns. Serves P.does C.tells arguments.now.config turns
-        port.old clock.old (W.contents writer.old) port.new clock.new (W.contents writer.new))) }
+    ensures { OnOk result (Serves P.does C.tells arguments.now
+        port.old clock.old (W.contents writer.old) port.new clock.new (W.contents writer.new)) }
 {
     let start = clock.now();
     let mut server = Server::start(alloc, arguments.config, start);
@@ -82,9 +86,18 @@ fn print_counts<W: Write>(counts: Counts, writer: &mut W) -> io::Result<()>
 }
 
 /// Prints where the server is, and for how long it will be silent, at once.
-fn print_begin<W: Write>(arguments: &ServeArguments, writer: &mut W) -> io::Result<()> {
-    let bind = SocketAddrV4::new(Ipv4Addr::from_bits(arguments.bind.ip), arguments.bind.port);
-    let seconds = arguments.config.longest();
+fn print_begin<W: Write>(arguments: &ServeArguments, writer: &mut W) -> io::Result<()>
+    ensures { OnOk result (Appends (W.contents writer.old) (W.contents writer.new) (begin_text arguments.now.bind arguments.now.config)) }
+{
+    let Addr { ip, port } = arguments.bind;
+    let bind = SocketAddrV4::new(Ipv4Addr::from_bits(ip), port);
+    print_begin_at(bind, arguments.config, writer)
+}
+
+fn print_begin_at<W: Write>(bind: SocketAddrV4, config: Config, writer: &mut W) -> io::Result<()>
+    ensures { OnOk result (Appends (W.contents writer.old) (W.contents writer.new) (begin_line (socket_v4_text bind) config.longest)) }
+{
+    let seconds = config.longest();
     writeln!(writer, "serving {bind}, silent for {seconds} s")?;
     writer.flush()
 }

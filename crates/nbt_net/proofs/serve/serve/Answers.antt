@@ -2,7 +2,7 @@ use Rattle.nbt_net.proofs.Printing.{ok_before}
 use Rattle.nbt_net.proofs.serve.serve.Goals as goal
 
 pub returns-in-Some : goal.returns-in-Some
-returns-in-Some g c = rw c.in-Some.is (record {
+returns-in-Some g c = record {
   start = c.now-start.result;
   started_clock = c.now-start.new.self;
   first = c.start-server.result;
@@ -10,6 +10,19 @@ returns-in-Some g c = rw c.in-Some.is (record {
   counts = c.in_ok-counts-in-Some.counts;
   clock_told = c.now-start.ensures;
   is_new = record { start = c.start-server.ensures.start.0; last = c.start-server.ensures.start.1; config_is = c.start-server.ensures.config; empty = c.start-server.ensures.empty };
-  runs = c.in_ok-counts-in-Some.ensures.ok;
-  printed = ok_before c.print_counts.result c.map_err.result c.map_err.ensures.variant _ c.in_ok-map_err-in-Some.was c.print_counts.ensures;
-})
+  runs = rw c.in-Some.is c.in_ok-counts-in-Some.ensures.ok;
+  printed = rw c.in-Some.is (ok_before c.print_counts.result c.map_err.result c.map_err.ensures.variant _ c.in_ok-map_err-in-Some.was c.print_counts.ensures);
+}
+
+pub returns : goal.returns
+returns g c = record {
+  start = c.now-start.result;
+  started_clock = c.now-start.new.self;
+  first = c.start-server.result;
+  last = c.serve_turns.new.server;
+  counts = c.in_ok-serve_turns-in-None.field-0;
+  clock_told = c.now-start.ensures;
+  is_new = record { start = c.start-server.ensures.start.0; last = c.start-server.ensures.start.1; config_is = c.start-server.ensures.config; empty = c.start-server.ensures.empty };
+  runs = rw c.in-None.is c.in_ok-serve_turns-in-None.ensures.ok;
+  printed = rw c.in-None.is (ok_before c.print_begin.result c.map_err.result c.map_err.ensures.variant _ c.in_ok-map_err-in-None.was c.print_begin.ensures);
+}
