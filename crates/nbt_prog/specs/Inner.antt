@@ -2,6 +2,8 @@
 pub mod Answer
 pub mod Arguments
 pub mod Failure
+pub mod Network
 pub mod Outcome
 pub mod Printed
+pub mod Requests
 pub mod Show

@@ -1,23 +1,21 @@
 //! What the words of the command line ask for.
 
-ghost use Rattle.std.specs.Prelude.{◌≡◌, ◌≤◌, ◌^◌, ◌⊎◌, ◌↔◌, ℕ, Ok, Some, IfOk, IfErr, IsSome, IfSome, codes};
-ghost use Rattle.clap.specs.Words.{kind_of};
-ghost use Rattle.hex.specs.Hex.{decode_of};
-ghost use Rattle.nbt_prog.specs.Inner.Arguments.{AreGiven, IsFailureOf, IsHexadecimal, IsTime, SpellsTime, argument_of};
+ghost use Rattle.std.specs.Prelude.{◌≡◌, ◌↔◌, ℕ, Some, IfOk, IfErr, IfSome, codes};
+ghost use Rattle.nbt_prog.specs.Inner.Arguments.{AreGiven, IsFailureOf, IsTime, IsUsageFailure, SpellsTime};
+ghost use Rattle.nbt_prog.specs.Inner.Requests.{AsksFor, IsRefusalOf, ShowGiven, ShowFails};
 ghost use Rattle.nbt_prog.specs.declared.commands.show.Service.TheVariants.{Dgram, Session};
-ghost use Rattle.nbt_prog.specs.declared.failure.Failure.TheVariants.{Unreadable, Memory};
+
+mod network;
 
 use crate::commands::answer::AnswerArguments;
 use crate::commands::show::{Service, ShowArguments};
 use crate::failure::Failure;
-use crate::network::arguments::{loop_ports, node_arguments, serve_arguments};
-use crate::{network, usage};
-use clap::error::ErrorKind;
-use clap::{ArgMatches, Error};
 use nbt_lease::Moment;
 use nbt_loop::Ports;
 use nbt_net::{NodeArguments, ServeArguments};
 use nbt_text::{parse_address, parse_number};
+use nbt_usage::{AnswerWords, ShowWords, Words};
+use network::{loop_ports, node_arguments, serve_arguments};
 use std::alloc::Global;
 use std::convert::AsStr;
 
@@ -35,45 +33,43 @@ pub enum Request {
 
 /// Reads the words, of which the first is the program's name. Wrong usage is found before a text that can't be read.
 pub fn parse_words<S: AsStr>(alloc: Global, words: &[S]) -> Result<Request, Failure> {
-    let mut program = usage::program(alloc)?;
-    let matches = program.try_get_matches_from_mut(words)?;
-    match matches.subcommand() {
-        Some((usage::ANSWER, inner)) => Ok(Request::Answer(answer_arguments(alloc, inner)?)),
-        Some((usage::SHOW, inner)) => Ok(Request::Show(show_arguments(alloc, inner)?)),
-        Some((usage::CHECK, _)) => Ok(Request::Check),
-        Some((usage::SIM, _)) => Ok(Request::Sim),
-        Some((network::usage::SERVE, inner)) => Ok(Request::Serve(serve_arguments(alloc, inner)?)),
-        Some((network::usage::NODE, inner)) => Ok(Request::Node(node_arguments(alloc, inner)?)),
-        Some((network::usage::LOOP, inner)) => Ok(Request::Loop(loop_ports(alloc, inner)?)),
-        _ => {
-            let message = "a command is needed";
-            Err(program.error(ErrorKind::MissingSubcommand, message)?)?
-        }
+    request_of(alloc, &nbt_usage::read(alloc, words)?)
+}
+
+/// What the words of a command ask for.
+fn request_of(alloc: Global, words: &Words<'_>) -> Result<Request, Failure>
+    ensures given { IfOk result (AsksFor words.now) }
+    ensures failure { IfErr result (IsRefusalOf words.now) }
+{
+    match words {
+        Words::Answer(words) => Ok(Request::Answer(answer_arguments(alloc, words)?)),
+        Words::Show(words) => Ok(Request::Show(show_arguments(alloc, words)?)),
+        Words::Check => Ok(Request::Check),
+        Words::Sim => Ok(Request::Sim),
+        Words::Serve(words) => Ok(Request::Serve(serve_arguments(alloc, words)?)),
+        Words::Node(words) => Ok(Request::Node(node_arguments(alloc, words)?)),
+        Words::Loop(port) => Ok(Request::Loop(loop_ports(alloc, port)?)),
     }
 }
 
 /// The arguments of `answer`.
-fn answer_arguments(alloc: Global, matches: &ArgMatches<'_>) -> Result<AnswerArguments, Failure>
-    ensures given { IfOk result (AreGiven matches.now) }
-    ensures failure { IfErr result (IsFailureOf matches.now) }
+fn answer_arguments(alloc: Global, words: &AnswerWords<'_>) -> Result<AnswerArguments, Failure>
+    ensures given { IfOk result (AreGiven words.now) }
+    ensures failure { IfErr result (IsFailureOf words.now) }
 {
-    let at = time_or_usage(alloc, argument(matches, usage::AT))?;
-    let from = parse_address(argument(matches, usage::FROM)).ok_or(Failure::Unreadable)?;
-    let octets = hex::decode(alloc, argument(matches, usage::HEX))?;
+    let at = time_or_usage(alloc, words.at)?;
+    let from = parse_address(words.from).ok_or(Failure::Unreadable)?;
+    let octets = hex::decode(alloc, words.hex)?;
     Ok(AnswerArguments { from, at, octets })
 }
 
 /// The arguments of `show`.
-fn show_arguments(alloc: Global, matches: &ArgMatches<'_>) -> Result<ShowArguments, Failure>
-    ensures given { IfOk result (λ a. decode_of (argument_of matches.now (codes "hex")) ≡ Ok a.octets.items) }
-    ensures dgram { IfOk result (λ a. (a.service ≡ Dgram) ↔ (argument_of matches.now (codes "kind") ≡ codes "dgram")) }
-    ensures session { IfOk result (λ a.
-        (a.service ≡ Session) ↔ (argument_of matches.now (codes "kind") ≡ codes "session")) }
-    ensures failure { IfErr result (λ failure. (failure ≡ Memory)
-        ⊎ (¬ (IsHexadecimal (argument_of matches.now (codes "hex"))) × (failure ≡ Unreadable))) }
+fn show_arguments(alloc: Global, words: &ShowWords<'_>) -> Result<ShowArguments, Failure>
+    ensures given { IfOk result (ShowGiven words.now) }
+    ensures failure { IfErr result (ShowFails words.now) }
 {
-    let service = service_of(argument(matches, usage::KIND));
-    let octets = hex::decode(alloc, argument(matches, usage::HEX))?;
+    let service = service_of(words.kind);
+    let octets = hex::decode(alloc, words.hex)?;
     Ok(ShowArguments { service, octets })
 }
 
@@ -83,31 +79,20 @@ fn service_of(kind: &str) -> Service
     ensures session { (result ≡ Session) ↔ (kind.now ≡ codes "session") }
 {
     match kind {
-        usage::DGRAM => Service::Dgram,
-        usage::SESSION => Service::Session,
+        nbt_usage::DGRAM => Service::Dgram,
+        nbt_usage::SESSION => Service::Session,
         _ => Service::Name,
     }
 }
 
-/// The text of an argument, which is there, since each is required or has a default.
-pub fn argument<'a>(matches: &ArgMatches<'a>, name: &str) -> &'a str
-    ensures { result.now ≡ argument_of matches.now name.now }
-{
-    match matches.get_str(name) {
-        Some(text) => text,
-        None => "",
-    }
-}
-
-/// The time, or clap's error on it.
-fn time_or_usage(alloc: Global, text: &str) -> Result<Moment, Error>
+/// The time, or the refusal of it.
+fn time_or_usage(alloc: Global, text: &str) -> Result<Moment, Failure>
     ensures read { IfOk result (SpellsTime text.now) }
-    ensures refused { IfErr result (λ e. (kind_of e ≡ ErrorKind.OutOfMemory)
-        ⊎ (¬ (IsTime text.now) × (kind_of e ≡ ErrorKind.ValueValidation))) }
+    ensures refused { IfErr result (IsUsageFailure (IsTime text.now)) }
 {
     match parse_time(text) {
         Some(at) => Ok(at),
-        None => Err(usage::bad_time(alloc, text)?),
+        None => Err(nbt_usage::bad_time(alloc, text))?,
     }
 }
 

@@ -3,6 +3,7 @@
 ghost use Rattle.std.specs.Prelude.{◌≡◌, ◌≤◌};
 
 use hex::FromHexError;
+use nbt_usage::{Refusal, Text};
 use std::alloc::{AllocError, AllocFailed};
 use std::io;
 use thiserror::Error;
@@ -10,9 +11,12 @@ use thiserror::Error;
 /// Why a command did not do its work.
 #[derive(Debug, Drop, Error)]
 pub enum Failure {
-    /// The words name no command, or help was asked for.
-    #[error(transparent)]
-    Usage(clap::Error),
+    /// Help or the version was asked for.
+    #[error("{0}")]
+    Help(Text),
+    /// The words are wrong.
+    #[error("{0}")]
+    Usage(Text),
     /// An address, a hexadecimal text or the input can't be read.
     #[error("unreadable")]
     Unreadable,
@@ -37,20 +41,21 @@ impl Failure {
         ensures bound { result ≤ 4 }
     {
         match self {
-            Failure::Usage(error) => { if error.use_stderr() { 2 } else { 0 } }
+            Failure::Help(_) => 0,
             Failure::Unreadable => 1,
+            Failure::Usage(_) => 2,
             Failure::Device | Failure::Output => 3,
             Failure::Memory => 4,
         }
     }
 
-    /// The line that is printed alone, with its end; of wrong usage nothing, whose text is clap's, and nothing where the
-    /// output failed.
+    /// The line that is printed alone, with its end; of help and wrong usage nothing, since they have a text of their own,
+    /// and nothing where the output failed.
     pub fn line(&self) -> &'static str
         ensures { IfSome (failure_text self.now) (λ text. result.now ≡ text) }
     {
         match self {
-            Failure::Usage(_) | Failure::Output => "",
+            Failure::Help(_) | Failure::Usage(_) | Failure::Output => "",
             Failure::Unreadable => "unreadable\n",
             Failure::Device => "device\n",
             Failure::Memory => "memory\n",
@@ -78,15 +83,16 @@ impl From<AllocError> for Failure {
     }
 }
 
-impl From<clap::Error> for Failure {
+impl From<Refusal> for Failure {
     ghost use Rattle.nbt_prog.specs.Inner.Failure.{failure_of_usage};
 
-    ghost from_gives = { λ error failure. failure ≡ failure_of_usage error };
+    ghost from_gives = { λ refusal failure. failure ≡ failure_of_usage refusal };
 
-    fn from(error: clap::Error) -> Failure {
-        match error.kind() {
-            clap::error::ErrorKind::OutOfMemory => Failure::Memory,
-            _ => Failure::Usage(error),
+    fn from(refusal: Refusal) -> Failure {
+        match refusal {
+            Refusal::Help(text) => Failure::Help(text),
+            Refusal::Wrong(text) => Failure::Usage(text),
+            Refusal::Memory => Failure::Memory,
         }
     }
 }
@@ -113,19 +119,6 @@ impl From<io::Error> for Failure {
         match error.kind() {
             io::ErrorKind::OutOfMemory => Failure::Memory,
             _ => Failure::Device,
-        }
-    }
-}
-
-impl From<nbt_net::Fault> for Failure {
-    ghost use Rattle.nbt_prog.specs.Inner.Failure.{failure_of_net};
-
-    ghost from_gives = { λ fault failure. failure ≡ failure_of_net fault };
-
-    fn from(fault: nbt_net::Fault) -> Failure {
-        match fault {
-            nbt_net::Fault::Device => Failure::Device,
-            nbt_net::Fault::Output => Failure::Output,
         }
     }
 }

@@ -8,6 +8,8 @@ ghost use Rattle.std.specs.Prelude.{◌≡◌, ◌≢◌, ◌≤◌, ◌⊎◌, 
 ghost use Rattle.std.specs.IoError.{error_kind};
 ghost use Rattle.std.specs.declared.io.ErrorKind.TheVariants.{InvalidData};
 ghost use Rattle.std.specs.Io.KnownBytes.{Appends};
+ghost use Rattle.nbt_net.specs.Node.{RunsNodeHere};
+ghost use Rattle.nbt_net.specs.Serve.{ServesHere};
 ghost use Rattle.nbt_prog.specs.Inner.Failure.{failure_status, failure_text};
 ghost use Rattle.nbt_prog.specs.Inner.Outcome.{status_of_outcome, text_of_outcome};
 
@@ -15,12 +17,11 @@ mod arguments;
 mod commands;
 mod failure;
 mod input;
-mod network;
 mod printed;
-mod usage;
 
 use arguments::Request;
 use failure::Failure;
+use nbt_net::{Fault, NodeArguments, ServeArguments};
 use printed::Printed;
 use std::alloc::Global;
 use std::convert::AsStr;
@@ -65,20 +66,55 @@ pub fn command_on<M: Net + time::Clock, S: AsStr, R: Read, W: Write>(
     ensures bound { result ≤ 4 }
 {
     match arguments::parse_words(alloc, words) {
-        Ok(Request::Serve(arguments)) => {
-            let outcome = nbt_net::run_server(machine, alloc, &arguments, writer);
-            conclude_written(outcome.map_err(Failure::from), writer)
-        }
-        Ok(Request::Node(arguments)) => {
-            let outcome = nbt_net::run_node(machine, &arguments, writer);
-            conclude_written(outcome.map_err(Failure::from), writer)
-        }
+        Ok(Request::Serve(arguments)) => serve_on(machine, alloc, &arguments, writer),
+        Ok(Request::Node(arguments)) => node_on(machine, &arguments, writer),
         Ok(Request::Loop(ports)) => {
             let outcome = nbt_loop::run(machine, alloc, ports, writer);
             conclude_written(outcome.map_err(Failure::from), writer)
         }
         Ok(request) => conclude(run_request(alloc, request, reader), writer),
         Err(failure) => conclude(Err(failure), writer),
+    }
+}
+
+/// Runs a server. With status 0 it went through its turns, and printed what it has to.
+fn serve_on<M: Net + time::Clock, W: Write>(
+    machine: &M,
+    alloc: Global,
+    arguments: &ServeArguments,
+    writer: &mut W,
+) -> u8
+    ensures bound { result ≤ 4 }
+    ensures done { result ≡ 0 → ServesHere arguments.now (W.contents writer.old) (W.contents writer.new) }
+{
+    match nbt_net::run_server(machine, alloc, arguments, writer) {
+        Ok(()) => 0,
+        Err(fault) => conclude_fault(fault, writer),
+    }
+}
+
+/// Runs a node. With status 0 it took its turns, and printed what it has to.
+fn node_on<M: Net + time::Clock, W: Write>(
+    machine: &M,
+    arguments: &NodeArguments,
+    writer: &mut W,
+) -> u8
+    ensures bound { result ≤ 4 }
+    ensures done { result ≡ 0 → RunsNodeHere arguments.now (W.contents writer.old) (W.contents writer.new) }
+{
+    match nbt_net::run_node(machine, arguments, writer) {
+        Ok(()) => 0,
+        Err(fault) => conclude_fault(fault, writer),
+    }
+}
+
+/// Returns the status of a server or a node that ended early.
+fn conclude_fault<W: Write>(fault: Fault, writer: &mut W) -> u8
+    ensures { result ≡ 3 }
+{
+    match fault {
+        Fault::Device => conclude_written(Err(Failure::Device), writer),
+        Fault::Output => conclude_written(Err(Failure::Output), writer),
     }
 }
 
@@ -108,7 +144,7 @@ pub fn command_without_words<W: Write>(alloc: Global, error: io::Error, writer: 
         → Appends (W.contents writer.old) (W.contents writer.new) (codes "memory" ++ 10 ∷ []) }
 {
     let failure = match error.kind() {
-        io::ErrorKind::InvalidData => usage::no_text(alloc).into(),
+        io::ErrorKind::InvalidData => nbt_usage::no_text(alloc).into(),
         _ => Failure::from(error),
     };
     conclude(Err(failure), writer)
@@ -158,7 +194,7 @@ fn print<W: Write>(outcome: &Result<Printed, Failure>, writer: &mut W) -> io::Re
 {
     match outcome {
         Ok(printed) => writer.write_all(printed.text.as_bytes())?,
-        Err(Failure::Usage(error)) => write!(writer, "{error}")?,
+        Err(Failure::Help(text) | Failure::Usage(text)) => write!(writer, "{text}")?,
         Err(failure) => writer.write_all(failure.line().as_bytes())?,
     }
     writer.flush()

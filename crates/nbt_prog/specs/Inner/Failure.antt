@@ -4,40 +4,29 @@ use Rattle.std.specs.IoError.{error_kind}
 use Rattle.std.specs.declared.io.Error.{Error as IoError}
 use Rattle.std.specs.declared.io.ErrorKind.{ErrorKind as IoErrorKind}
 use Rattle.std.specs.declared.io.ErrorKind.TheVariants as io_kind
-use Rattle.clap.specs.Words.{kind_of}
-use Rattle.clap.specs.declared.error.Error.{Error as UsageError}
-use Rattle.clap.specs.declared.error.kind.ErrorKind.{ErrorKind as UsageKind}
-use Rattle.clap.specs.declared.error.kind.ErrorKind.TheVariants as usage_kind
+use Rattle.nbt_usage.specs.declared.refusal.Refusal.{Refusal}
+use Rattle.nbt_usage.specs.declared.refusal.Refusal.TheVariants as refusal
 use Rattle.hex.specs.declared.error.FromHexError.{FromHexError}
 use Rattle.hex.specs.declared.error.FromHexError.TheVariants as hex_error
-use Rattle.nbt_net.specs.declared.fault.Fault.{Fault as NetFault}
-use Rattle.nbt_net.specs.declared.fault.Fault.TheVariants as net
 use Rattle.nbt_loop.specs.declared.fault.Fault.{Fault as LoopFault}
 use Rattle.nbt_loop.specs.declared.fault.Fault.TheVariants as loop
 use Rattle.nbt_prog.specs.declared.failure.Failure.{Failure}
-use Rattle.nbt_prog.specs.declared.failure.Failure.TheVariants.{Usage, Unreadable, Device, Output, Memory}
-
--- help and the version were asked for; any other text of clap says what is wrong
-abbrev pub usage_status : UsageKind → ℕ
-usage_status usage_kind.DisplayHelp = 0
-usage_status usage_kind.DisplayVersion = 0
-usage_status _ = 2
+use Rattle.nbt_prog.specs.declared.failure.Failure.TheVariants.{Help, Usage, Unreadable, Device, Output, Memory}
 
 -- the status with which the program ends
 abbrev pub failure_status : Failure → ℕ
-failure_status (Usage e) = usage_status (kind_of e)
+failure_status (Help _) = 0
+failure_status (Usage _) = 2
 failure_status Unreadable = 1
 failure_status Device = 3
 failure_status Output = 3
 failure_status Memory = 4
 
-abbrev pub failure_of_usage_kind : UsageError → UsageKind → Failure
-failure_of_usage_kind e usage_kind.OutOfMemory = Memory
-failure_of_usage_kind e _ = Usage e
-
--- an error of clap is wrong usage, unless an allocation was refused
-abbrev pub failure_of_usage : UsageError → Failure
-failure_of_usage e = failure_of_usage_kind e (kind_of e)
+-- help is no wrong usage, and a refused allocation neither
+abbrev pub failure_of_usage : Refusal → Failure
+failure_of_usage (refusal.Help text) = Help text
+failure_of_usage (refusal.Wrong text) = Usage text
+failure_of_usage refusal.Memory = Memory
 
 -- a text that hex does not decode can't be read, unless an allocation was refused
 abbrev pub failure_of_hex : FromHexError → Failure
@@ -52,11 +41,6 @@ failure_of_io_kind _ = Device
 abbrev pub failure_of_io : IoError → Failure
 failure_of_io e = failure_of_io_kind (error_kind e)
 
--- a server or a node that ended early
-abbrev pub failure_of_net : NetFault → Failure
-failure_of_net net.Device = Device
-failure_of_net net.Output = Output
-
 -- the ends of `loop`
 abbrev pub failure_of_loop : LoopFault → Failure
 failure_of_loop loop.Device = Device
@@ -67,8 +51,9 @@ failure_of_loop loop.Memory = Memory
 abbrev pub one_line : List ℕ → List ℕ
 one_line word = word ++ (10 ∷ [])
 
--- all that is printed at a failure: nothing where the output failed; of wrong usage clap's text, of which nothing is said
+-- all that is printed at a failure: nothing where the output failed; of help and wrong usage a text of which nothing is said
 abbrev pub failure_text : Failure → Option (List ℕ)
+failure_text (Help _) = None
 failure_text (Usage _) = None
 failure_text Unreadable = Some (one_line (codes "unreadable"))
 failure_text Device = Some (one_line (codes "device"))

@@ -1,8 +1,11 @@
 //! The commands that open sockets, their arguments, and the help on them.
 
-ghost use Rattle.std.specs.Prelude.{◌≡◌, ◌≤◌, IfOk};
+ghost use Rattle.std.specs.Prelude.{◌≡◌, IfOk};
 ghost use Rattle.clap.specs.Words.{kind_of};
+ghost use Rattle.nbt_usage.specs.Limits.{least_of, most_of};
+ghost use Rattle.nbt_usage.specs.Refusal.{IsWrongUsage};
 
+use crate::refusal::Refusal;
 use clap::builder::ValueParser;
 use clap::error::ErrorKind;
 use clap::{Arg, ArgAction, Command, Error};
@@ -214,18 +217,10 @@ pub enum Limited {
 }
 
 impl Limited {
-    /// The argument that has it.
-    pub fn argument(self) -> &'static str {
-        match self {
-            Limited::Life => LIFE,
-            Limited::Longest => LONGEST,
-            Limited::Ttl => TTL,
-            Limited::Turns => TURNS,
-        }
-    }
-
     /// The least that it may be.
-    pub fn least(self) -> u64 {
+    pub fn least(self) -> u64
+        ensures { result ≡ least_of self }
+    {
         match self {
             Limited::Ttl => 0,
             _ => 1,
@@ -234,7 +229,7 @@ impl Limited {
 
     /// The most that it may be.
     pub fn most(self) -> u64
-        ensures { result ≤ 4294967295 }
+        ensures { result ≡ most_of self }
     {
         match self {
             Limited::Life => 60_000,
@@ -244,8 +239,17 @@ impl Limited {
     }
 }
 
-/// The error of a port that is not as the help says, with clap's own text around it.
-pub fn bad_port(alloc: Global, value: &str) -> Result<Error, AllocError>
+/// The refusal of a port that is not as the help says, with clap's own text around it, or the one of memory.
+pub fn bad_port(alloc: Global, value: &str) -> Refusal
+    ensures { IsWrongUsage result }
+{
+    match bad_port_error(alloc, value) {
+        Ok(error) => Refusal::from(error),
+        Err(_) => Refusal::Memory,
+    }
+}
+
+fn bad_port_error(alloc: Global, value: &str) -> Result<Error, AllocError>
     ensures { IfOk result (λ e. kind_of e ≡ ErrorKind.ValueValidation) }
 {
     let message = format!(in alloc;
@@ -255,8 +259,17 @@ pub fn bad_port(alloc: Global, value: &str) -> Result<Error, AllocError>
     command.error(ErrorKind::ValueValidation, message.as_str())
 }
 
-/// The error of a number that is out of its limits, with clap's own text around it.
-pub fn bad_number(
+/// The refusal of a number that is out of its limits, with clap's own text around it, or the one of memory.
+pub fn bad_number(alloc: Global, which: Which, limited: Limited, value: &str) -> Refusal
+    ensures { IsWrongUsage result }
+{
+    match bad_number_error(alloc, which, limited, value) {
+        Ok(error) => Refusal::from(error),
+        Err(_) => Refusal::Memory,
+    }
+}
+
+fn bad_number_error(
     alloc: Global,
     which: Which,
     limited: Limited,

@@ -1,9 +1,11 @@
 //! The commands and arguments, and the help on them.
 
-ghost use Rattle.std.specs.Prelude.{◌≡◌, ◌⊎◌, IfOk};
+ghost use Rattle.std.specs.Prelude.{◌≡◌, IfOk};
 ghost use Rattle.clap.specs.Words.{kind_of};
+ghost use Rattle.nbt_usage.specs.Refusal.{IsWrongUsage};
 
 use crate::network;
+use crate::refusal::Refusal;
 use clap::builder::ValueParser;
 use clap::error::ErrorKind;
 use clap::{Arg, Command, Error};
@@ -175,9 +177,9 @@ pub fn program<'a>(alloc: Global) -> Result<Command<'a>, AllocError> {
         .subcommand(show_command(alloc)?)?
         .subcommand(check_command(alloc))?
         .subcommand(sim_command(alloc))?
-        .subcommand(network::usage::serve_command(alloc)?)?
-        .subcommand(network::usage::node_command(alloc)?)?
-        .subcommand(network::usage::loop_command(alloc)?)
+        .subcommand(network::serve_command(alloc)?)?
+        .subcommand(network::node_command(alloc)?)?
+        .subcommand(network::loop_command(alloc)?)
 }
 
 fn answer_command<'a>(alloc: Global) -> Result<Command<'a>, AllocError> {
@@ -228,8 +230,17 @@ fn sim_command<'a>(alloc: Global) -> Command<'a> {
         .after_help(SIM_HELP)
 }
 
-/// The error of a time that is not as the help says, with clap's own text around it.
-pub fn bad_time(alloc: Global, value: &str) -> Result<Error, AllocError>
+/// The refusal of a time that is not as the help says, with clap's own text around it, or the one of memory.
+pub fn bad_time(alloc: Global, value: &str) -> Refusal
+    ensures { IsWrongUsage result }
+{
+    match bad_time_error(alloc, value) {
+        Ok(error) => Refusal::from(error),
+        Err(_) => Refusal::Memory,
+    }
+}
+
+fn bad_time_error(alloc: Global, value: &str) -> Result<Error, AllocError>
     ensures { IfOk result (λ e. kind_of e ≡ ErrorKind.ValueValidation) }
 {
     let message = format!(in alloc;
@@ -239,13 +250,13 @@ pub fn bad_time(alloc: Global, value: &str) -> Result<Error, AllocError>
     command.error(ErrorKind::ValueValidation, message.as_str())
 }
 
-/// The error of a word that is no UTF-8, with clap's own text around it, or the one of memory.
-pub fn no_text(alloc: Global) -> Error
-    ensures { (kind_of result ≡ ErrorKind.InvalidValue) ⊎ (kind_of result ≡ ErrorKind.OutOfMemory) }
+/// The refusal of a word that is no UTF-8, with clap's own text around it, or the one of memory.
+pub fn no_text(alloc: Global) -> Refusal
+    ensures { IsWrongUsage result }
 {
     match no_text_error(alloc) {
-        Ok(error) => error,
-        Err(error) => Error::from(error),
+        Ok(error) => Refusal::from(error),
+        Err(_) => Refusal::Memory,
     }
 }
 

@@ -3,7 +3,7 @@ use Rattle.std.specs.Prelude.{IsSome, IfSome, ◌↔◌}
 use Rattle.nbt_loop.specs.declared.ports.Ports.{Ports}
 use Rattle.nbt_text.specs.Number.{SpellsNumber}
 use Rattle.nbt_prog.specs.Inner.Arguments.{IsPort, SpellsPort}
-use Rattle.nbt_prog.proofs.network.arguments.parse_ports.Goals as goal
+use Rattle.nbt_prog.proofs.arguments.network.parse_ports.Goals as goal
 
 -- a number, where it is a port
 its_ports : (text : List ℕ) (number : ℕ) (r : Option Ports) → SpellsNumber text number

@@ -1,0 +1,15 @@
+//! The command line of `nbt`: its commands and their words, and the help on them (our profile).
+//!
+//! [`read`] gives the words of a command, each under its name. What they mean is for who asks: a word that can't be taken
+//! is told by [`bad_time`], [`bad_port`] or [`bad_number`], in the same text as other wrong usage.
+#![tactic(auto)]
+
+mod network;
+mod program;
+mod refusal;
+mod words;
+
+pub use network::{GROUP, Limited, Which, bad_number, bad_port};
+pub use program::{DGRAM, SESSION, bad_time, no_text};
+pub use refusal::{Refusal, Text};
+pub use words::{AnswerWords, NodeWords, ServeWords, ShowWords, Words, read};
