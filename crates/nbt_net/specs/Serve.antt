@@ -1,10 +1,7 @@
 -- What `serve` does and prints (our profile).
-use Rattle.std.specs.Prelude.{◌≡◌, ◌≢◌, ℕ, List, [], ◌++◌, Option, None, Some, codes}
+use Rattle.std.specs.Prelude.{◌≡◌, ◌≢◌, ℕ, List, [], ◌++◌, Option, IfSome, codes}
 use Rattle.std.specs.Fmt.{decimal}
-use Rattle.std.specs.Int.{w32, to_be_bytes}
-use Rattle.std.specs.Net.Text.{ipv4_text}
 use Rattle.std.specs.Io.KnownBytes.{Appends}
-use Rattle.nbt_name.specs.declared.addr.Addr.{Addr}
 use Rattle.nbt_lease.specs.Config.{ConfigValue}
 use Rattle.nbt_server.specs.Serving.{ServerValue}
 use Rattle.nbt_engine.specs.Acts.{Act}
@@ -26,28 +23,8 @@ pub record IsNew (config : ConfigValue) (now : ℕ) (server : ServerValue) : Typ
   pub config_is : server.table.config ≡ config
   pub empty : server.table.rows ≡ []
 
--- an address and its port
-abbrev pub bind_text : Addr → List ℕ
-bind_text bind = ipv4_text (to_be_bytes w32 bind.ip) ++ codes ":" ++ decimal bind.port
-
--- the line of a server that has begun at an address, and will be silent for so many seconds
-abbrev pub begin_line : List ℕ → (seconds : ℕ) → List ℕ
-begin_line bind seconds = codes "serving " ++ bind ++ codes ", silent for " ++ decimal seconds ++ codes " s\n"
-
-abbrev pub begin_text : Addr → ConfigValue → List ℕ
-begin_text bind config = begin_line (bind_text bind) config.longest
-
--- the one line of two that is printed
-abbrev pub printed_by : Option ℕ → (begun counted : List ℕ) → List ℕ
-printed_by None begun counted = begun
-printed_by (Some turns) begun counted = counted
-
--- what is printed: with a number of turns the counts, behind the last one; else that the server has begun, before the first
-abbrev pub printed_of : ServeArguments → Counts → List ℕ
-printed_of a counts = printed_by a.turns (begin_text a.bind a.config) (counts_text counts)
-
 -- A clock is read, a server starts at that moment, and the three go through the turns from there; with no end these are
--- 2^64 - 1. The text grows by one line.
+-- 2^64 - 1. With a number of turns the text grows by the line of the counts.
 pub record Serves {P C : Type 0} (does : P → Act → P → Type 0) (tells : C → ℕ → C → Type 0) (a : ServeArguments)
     (old_port : P) (old_clock : C) (old_text : Option (List ℕ)) (port : P) (clock : C) (text : Option (List ℕ)) : Type 0 where
   pub start : ℕ
@@ -58,7 +35,7 @@ pub record Serves {P C : Type 0} (does : P → Act → P → Type 0) (tells : C 
   pub clock_told : tells old_clock start started_clock
   pub is_new : IsNew a.config start first
   pub runs : Runs does tells (turns_of a.turns) counts old_port started_clock first port clock last
-  pub printed : Appends old_text text (printed_of a counts)
+  pub printed : IfSome a.turns (λ turns. Appends old_text text (counts_text counts))
 
 -- The same on a UDP port of this machine that was bound to the server's address, and over the machine's clock, which has
 -- told a moment other than 0.

@@ -2,8 +2,7 @@
 
 ghost use Rattle.std.specs.Prelude.{◌<◌, ◌^◌, OnOk};
 ghost use Rattle.std.specs.Io.KnownBytes.{Appends};
-ghost use Rattle.nbt_net.specs.Serve.{Serves, ServesHere, begin_line, begin_text, counts_text};
-ghost use Rattle.std.specs.Net.Text.{socket_v4_text};
+ghost use Rattle.nbt_net.specs.Serve.{Serves, ServesHere, counts_text};
 
 use crate::clock::readable_clock;
 use crate::fault::Fault;
@@ -86,18 +85,9 @@ fn print_counts<W: Write>(counts: Counts, writer: &mut W) -> io::Result<()>
 }
 
 /// Prints where the server is, and for how long it will be silent, at once.
-fn print_begin<W: Write>(arguments: &ServeArguments, writer: &mut W) -> io::Result<()>
-    ensures { OnOk result (Appends (W.contents writer.old) (W.contents writer.new) (begin_text arguments.now.bind arguments.now.config)) }
-{
-    let Addr { ip, port } = arguments.bind;
-    let bind = SocketAddrV4::new(Ipv4Addr::from_bits(ip), port);
-    print_begin_at(bind, arguments.config, writer)
-}
-
-fn print_begin_at<W: Write>(bind: SocketAddrV4, config: Config, writer: &mut W) -> io::Result<()>
-    ensures { OnOk result (Appends (W.contents writer.old) (W.contents writer.new) (begin_line (socket_v4_text bind) config.longest)) }
-{
-    let seconds = config.longest();
+fn print_begin<W: Write>(arguments: &ServeArguments, writer: &mut W) -> io::Result<()> {
+    let bind = SocketAddrV4::new(Ipv4Addr::from_bits(arguments.bind.ip), arguments.bind.port);
+    let seconds = arguments.config.longest();
     writeln!(writer, "serving {bind}, silent for {seconds} s")?;
     writer.flush()
 }

@@ -19,10 +19,10 @@ returns g c = record {
   start = c.now-start.result;
   started_clock = c.now-start.new.self;
   first = c.start-server.result;
-  last = c.serve_turns.new.server;
+  last = c.serve_turns-in-None.new.server;
   counts = c.in_ok-serve_turns-in-None.field-0;
   clock_told = c.now-start.ensures;
   is_new = record { start = c.start-server.ensures.start.0; last = c.start-server.ensures.start.1; config_is = c.start-server.ensures.config; empty = c.start-server.ensures.empty };
   runs = rw c.in-None.is c.in_ok-serve_turns-in-None.ensures.ok;
-  printed = rw c.in-None.is (ok_before c.print_begin.result c.map_err.result c.map_err.ensures.variant _ c.in_ok-map_err-in-None.was c.print_begin.ensures);
+  printed = rw c.in-None.is tt;
 }
