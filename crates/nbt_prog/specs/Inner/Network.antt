@@ -21,7 +21,7 @@ use Rattle.nbt_prog.specs.declared.failure.Failure.TheVariants.{Unreadable, Memo
 
 -- The text is a number, in digits alone, within the limits that the help says.
 abbrev pub SpellsWithin : Limited → List ℕ → ℕ → Type 0
-SpellsWithin limited text number = SpellsNumber text number × (least_of limited ≤ number) × (number ≤ most_of limited)
+SpellsWithin limited text number = SpellsNumber text number × ((least_of limited ≤ number) × (number ≤ most_of limited))
 
 abbrev pub IsWithin : Limited → List ℕ → Type 0
 IsWithin limited text = (number : ℕ) × SpellsWithin limited text number
