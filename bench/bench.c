@@ -1,0 +1,216 @@
+/* How fast `nbt serve` is, beside a loop in C that only echoes: all in one run, each number the median of five rounds.
+ *
+ * bench PROGRAM [PORT]: starts PROGRAM as a name server on PORT of 127.0.0.1, and the echo on PORT + 1. Leases last 2 s, so
+ * each round registers its names anew. Each reply's id is checked, and of a lookup the address too. */
+#define _GNU_SOURCE
+#include <arpa/inet.h>
+#include <signal.h>
+#include <stdint.h>
+#include <stdio.h>
+#include <stdlib.h>
+#include <string.h>
+#include <sys/resource.h>
+#include <sys/socket.h>
+#include <sys/time.h>
+#include <sys/wait.h>
+#include <time.h>
+#include <unistd.h>
+
+enum { ROUNDS = 5, NAMES = 4096, FEW = 10, OUTSTANDING = 32, QUERIES = 40000, NAME_AT = 12, NAME_LENGTH = 34 };
+enum measure { FEW_NAMES, ALL_NAMES, NOT_THERE, REGISTER, RENEW, ECHO, MEASURES };
+
+static const char *const LABELS[MEASURES] = {
+    "queries over 10 names", "queries over 4,096 names", "queries for names that aren't there",
+    "registrations of 4,096 names", "renewals of 4,096 names", "the same queries, echoed",
+};
+
+static struct sockaddr_in server, echo_end;
+static int lookup_socket, owner_sockets[NAMES];
+static unsigned long lost, wrong;
+
+static void fail(const char *what) {
+    perror(what);
+    exit(1);
+}
+
+static double seconds(void) {
+    struct timespec t;
+    clock_gettime(CLOCK_MONOTONIC, &t);
+    return (double)t.tv_sec + (double)t.tv_nsec / 1e9;
+}
+
+static int udp_socket(uint16_t port) {
+    struct sockaddr_in own = {.sin_family = AF_INET, .sin_addr.s_addr = htonl(INADDR_LOOPBACK), .sin_port = htons(port)};
+    struct timeval wait = {.tv_usec = 100000};
+    int s = socket(AF_INET, SOCK_DGRAM, 0);
+    if (s < 0 || bind(s, (struct sockaddr *)&own, sizeof own) < 0) fail("socket");
+    setsockopt(s, SOL_SOCKET, SO_RCVTIMEO, &wait, sizeof wait);
+    return s;
+}
+
+/* The wire form of the name LETTER and four digits, filled up with spaces (RFC 1001 section 14.1). */
+static void put_name(unsigned char *at, char letter, unsigned number) {
+    char octets[16];
+    memset(octets, ' ', sizeof octets);
+    octets[0] = letter;
+    for (int k = 4; k > 0; k--, number /= 10) octets[k] = (char)('0' + number % 10);
+    *at++ = 32;
+    for (int k = 0; k < 16; k++) {
+        *at++ = (unsigned char)('A' + (octets[k] >> 4));
+        *at++ = (unsigned char)('A' + (octets[k] & 15));
+    }
+    *at = 0;
+}
+
+static size_t put_query(unsigned char *out, uint16_t id, char letter, unsigned number) {
+    const unsigned char head[12] = {(unsigned char)(id >> 8), (unsigned char)id, 1, 0, 0, 1};
+    memcpy(out, head, sizeof head);
+    put_name(out + NAME_AT, letter, number);
+    memcpy(out + NAME_AT + NAME_LENGTH, "\0\x20\0\1", 4);
+    return 50;
+}
+
+/* A registration for 2 s of the name with this number, by 127.0.0.1 (RFC 1002 section 4.2.2). */
+static size_t put_registration(unsigned char *out, uint16_t id, unsigned number) {
+    put_query(out, id, 'N', number);
+    out[2] = 0x29;
+    out[11] = 1;
+    memcpy(out + 50, "\xc0\x0c\0\x20\0\1\0\0\0\2\0\6\x20\0\x7f\0\0\1", 18);
+    return 68;
+}
+
+static uint16_t id_of(const unsigned char *octets) {
+    return (uint16_t)(octets[0] << 8 | octets[1]);
+}
+
+/* Queries a second, OUTSTANDING at a time; what doesn't come within 100 ms is lost, and so many are sent anew. */
+static double queries(const struct sockaddr_in *to, char letter, unsigned names, int flags) {
+    unsigned char out[80], in[600];
+    unsigned sent = 0, answered = 0, open = 0;
+    double begun = seconds();
+    while (answered < QUERIES) {
+        while (open < OUTSTANDING && answered + open < QUERIES) {
+            size_t length = put_query(out, (uint16_t)sent, letter, sent % names);
+            if (sendto(lookup_socket, out, length, 0, (const struct sockaddr *)to, sizeof *to) < 0) fail("sendto");
+            sent++;
+            open++;
+        }
+        ssize_t length = recv(lookup_socket, in, sizeof in, 0);
+        if (length < 0) {
+            lost += open;
+            open = 0;
+            continue;
+        }
+        if ((uint16_t)(sent - id_of(in)) > 2 * OUTSTANDING) {
+            wrong++;
+            continue;
+        }
+        if (flags && ((in[2] << 8 | in[3]) != flags || (flags == 0x8580 && memcmp(in + length - 4, "\x7f\0\0\1", 4)))) wrong++;
+        answered++;
+        open--;
+    }
+    return QUERIES / (seconds() - begun);
+}
+
+/* Registrations a second, of each name from a port of its own, OUTSTANDING at a time. */
+static double registrations(void) {
+    unsigned char out[80], in[600];
+    double begun = seconds();
+    for (unsigned first = 0; first < NAMES; first += OUTSTANDING) {
+        for (unsigned k = first; k < first + OUTSTANDING; k++) {
+            size_t length = put_registration(out, (uint16_t)k, k);
+            if (sendto(owner_sockets[k], out, length, 0, (struct sockaddr *)&server, sizeof server) < 0) fail("sendto");
+        }
+        for (unsigned k = first; k < first + OUTSTANDING; k++) {
+            ssize_t length = recv(owner_sockets[k], in, sizeof in, 0);
+            if (length < 0) lost++;
+            else if (length != 62 || id_of(in) != (uint16_t)k || in[2] != 0xad || in[3] != 0x80) wrong++;
+        }
+    }
+    return NAMES / (seconds() - begun);
+}
+
+/* The resident memory of a process, in kB. */
+static long resident(pid_t pid) {
+    char path[64], line[256];
+    long found = -1;
+    snprintf(path, sizeof path, "/proc/%d/status", (int)pid);
+    FILE *file = fopen(path, "r");
+    while (file && fgets(line, sizeof line, file)) sscanf(line, "VmRSS: %ld", &found);
+    if (file) fclose(file);
+    return found;
+}
+
+static pid_t start_server(const char *program, uint16_t port) {
+    char bind_to[32];
+    snprintf(bind_to, sizeof bind_to, "127.0.0.1:%u", port);
+    pid_t pid = fork();
+    if (pid == 0) {
+        freopen("/dev/null", "w", stdout);
+        execl(program, "nbt", "serve", bind_to, "1000", "2", "--forever", (char *)NULL);
+        fail(program);
+    }
+    return pid;
+}
+
+static pid_t start_echo(uint16_t port) {
+    int s = udp_socket(port);
+    pid_t pid = fork();
+    if (pid == 0) {
+        unsigned char octets[600];
+        for (;;) {
+            struct sockaddr_in from;
+            socklen_t size = sizeof from;
+            ssize_t length = recvfrom(s, octets, sizeof octets, 0, (struct sockaddr *)&from, &size);
+            if (length >= 0) sendto(s, octets, (size_t)length, 0, (struct sockaddr *)&from, size);
+        }
+    }
+    close(s);
+    return pid;
+}
+
+static int by_size(const void *a, const void *b) {
+    double d = *(const double *)a - *(const double *)b;
+    return (d > 0) - (d < 0);
+}
+
+int main(int count, char **words) {
+    uint16_t port = (uint16_t)(count > 2 ? atoi(words[2]) : 21937);
+    double taken[MEASURES][ROUNDS], median[MEASURES];
+    struct rlimit files = {.rlim_cur = NAMES + 64, .rlim_max = NAMES + 64};
+    if (count < 2) return fprintf(stderr, "bench PROGRAM [PORT]\n"), 2;
+    if (setrlimit(RLIMIT_NOFILE, &files) < 0) fail("setrlimit");
+    server = (struct sockaddr_in){.sin_family = AF_INET, .sin_addr.s_addr = htonl(INADDR_LOOPBACK), .sin_port = htons(port)};
+    echo_end = server;
+    echo_end.sin_port = htons((uint16_t)(port + 1));
+    pid_t echo = start_echo((uint16_t)(port + 1));
+    pid_t served = start_server(words[1], port);
+    lookup_socket = udp_socket(0);
+    for (unsigned k = 0; k < NAMES; k++) owner_sockets[k] = udp_socket(0);
+    sleep(3); /* the server is silent for the longest lease, 2 s */
+    long before = resident(served), after = 0;
+    for (int round = 0; round < ROUNDS; round++) {
+        sleep(3); /* the leases of the last round are over */
+        taken[REGISTER][round] = registrations();
+        taken[RENEW][round] = registrations();
+        after = resident(served);
+        taken[FEW_NAMES][round] = queries(&server, 'N', FEW, 0x8580);
+        taken[ALL_NAMES][round] = queries(&server, 'N', NAMES, 0x8580);
+        taken[NOT_THERE][round] = queries(&server, 'X', NAMES, 0x8583);
+        taken[ECHO][round] = queries(&echo_end, 'N', NAMES, 0);
+    }
+    for (int m = 0; m < MEASURES; m++) {
+        qsort(taken[m], ROUNDS, sizeof taken[m][0], by_size);
+        median[m] = taken[m][ROUNDS / 2];
+        printf("%-38s %9.0f a second\n", LABELS[m], median[m]);
+    }
+    printf("resident memory: %ld kB before, %ld kB with 4,096 names\n", before, after);
+    printf("lost %lu, wrong %lu\n", lost, wrong);
+    printf("4,096 names : 10 names   %.2f   (at least 0.97)\n", median[ALL_NAMES] / median[FEW_NAMES]);
+    printf("10 names : echo          %.2f   (at least 0.8)\n", median[FEW_NAMES] / median[ECHO]);
+    printf("not there : 10 names     %.2f   (at least 0.97)\n", median[NOT_THERE] / median[FEW_NAMES]);
+    printf("renewals : 4,096 names   %.2f   (at least 0.8)\n", median[RENEW] / median[ALL_NAMES]);
+    kill(served, SIGTERM);
+    kill(echo, SIGTERM);
+    return 0;
+}
