@@ -1,6 +1,6 @@
 //! What the commands of `nbt` print, and how they end: tests of `nbt_prog` from without, and nothing else.
 //!
-//! They are a crate of their own, since a crate with tests is proved twice, and `nbt_prog` stands on `clap`.
+//! They are a crate of their own, since a crate with tests is proved twice.
 #![tactic(auto)]
 
 #[cfg(test)]
