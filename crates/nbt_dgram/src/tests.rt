@@ -1,7 +1,7 @@
 //! Datagrams from outside: the packets of our profile over RFC 1002's layouts, FRED's and TEAM's.
 
 use crate::laws::{
-    a_joiner_hands_up_what_fragments_make_up, a_packet_does_one_thing,
+    a_joiner_carries_the_fragments_of_each_key, a_packet_does_one_thing,
     a_slot_is_whole_where_its_fragments_make_up_data, fragments_make_up_one_whole,
     octets_mean_one_thing, one_datagram_or_fault, what_is_read_fits, written_form_is_read,
 };
@@ -432,7 +432,7 @@ fn the_laws_are_called() -> Result<(), Fail> {
     a_packet_does_one_thing();
     octets_mean_one_thing();
     what_is_read_fits();
-    a_joiner_hands_up_what_fragments_make_up();
+    a_joiner_carries_the_fragments_of_each_key();
     fragments_make_up_one_whole();
     a_slot_is_whole_where_its_fragments_make_up_data();
     Ok(())
