@@ -77,7 +77,7 @@ then_read : {X Y : Type 0} → Result X DgramFault → (X → Result Y DgramFaul
 then_read (Ok x) next = next x
 then_read (Err fault) next = Err fault
 
--- behind a name within what DGM_LENGTH counts, and behind any other
+-- after a name within what DGM_LENGTH counts, and after any other
 behind : {X : Type 0} → Result (NameValue × ℕ) NameFault → (NameValue → ℕ → Result X DgramFault) → Result X DgramFault
 behind (Ok read) next = next read.0 read.1
 behind (Err fault) next = Err (fault_within fault)

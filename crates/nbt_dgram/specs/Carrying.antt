@@ -19,7 +19,7 @@ pub record Put : Type 0 where
 abbrev pub put : ℕ → DgramValue → JoinedValue → Put
 put now d outcome = record { now = now; packet = d; outcome = outcome }
 
--- The packets that a joiner with so many slots was given since it was new, in their order, and the joiner afterwards.
+-- The packets that a joiner with `count` slots was given since it was new, in their order, and the joiner afterwards.
 -- Sweeps may come between them.
 pub data Run (count : ℕ) : List Put → JoinerValue → Type 0 where
   is_new : Run count [] (joiner_of 0 (replicate count None))
@@ -85,7 +85,7 @@ AreNamed fragments names = (f : FragmentValue) (own : Names) → Contains fragme
 
 -- A fragment that came before, and one that comes, agree: they are of one type, and say the same of names and of octets.
 -- Where the earlier one is the last, the later one ends no further; where the later one is the last, the earlier one
--- has no octet behind its end; and where both are, they end at one place.
+-- has no octet after its end; and where both are, they end at one place.
 pub record AgreesWith (g f : FragmentValue) : Type 0 where
   pub type : g.delivery ≡ f.delivery
   pub names : (a b : Names) → g.part ≡ First a → f.part ≡ First b → a ≡ b

@@ -48,7 +48,7 @@ type_of (lookup l name) = types.Lookup l
 abbrev pub IsTypeAt : List ℕ → MsgType → Type 0
 IsTypeAt octets t = (0 < length octets) × (octet_at octets 0 ≡ type_number t)
 
--- Two plain names stand at 14, one behind the other, and `next` is the place after them.
+-- Two plain names stand at 14, one after the other, and `next` is the place after them.
 pub record NamesAt (octets : List ℕ) (names : Names) (next : ℕ) : Type 0 where
   pub named : ℕ
   pub source : PlainNameAt octets 14 names.source named
@@ -90,7 +90,7 @@ pub data NamesFault (octets : List ℕ) : DgramFault → Type 0 where
   source_bad : (fault : NameFault) → PlainFaultAt octets 14 fault → NamesFault octets (fault_within fault)
   destination_bad : (name : NameValue) (named : ℕ) (fault : NameFault) → PlainNameAt octets 14 name named → PlainFaultAt octets named fault → NamesFault octets (fault_within fault)
 
--- A fragment's fault behind the ten octets that each datagram begins with: a first one is not at 0, it is cut, or has
+-- A fragment's fault after the ten octets that each datagram begins with: a first one is not at 0, it is cut, or has
 -- a bad name.
 pub data FragmentFault (octets : List ℕ) : DgramFault → Type 0 where
   offset_bad : first_at octets ≡ true → offset_at octets ≢ 0 → FragmentFault octets bad_offset

@@ -90,7 +90,7 @@ fn least_of(msg_type: MsgType) -> usize
     }
 }
 
-/// What stands behind the ten octets that each datagram begins with.
+/// What stands after the ten octets that each datagram begins with.
 fn body_at(octets: &[u8], msg_type: MsgType) -> Result<(Body<'_>, usize), DgramFault>
     requires kind { IsTypeAt octets.now msg_type }
     requires head { head_size msg_type ≤ length octets.now }
@@ -112,7 +112,7 @@ fn body_at(octets: &[u8], msg_type: MsgType) -> Result<(Body<'_>, usize), DgramF
     }
 }
 
-/// A fragment: the octets that DGM_LENGTH counts, with F behind its names.
+/// A fragment: the octets that DGM_LENGTH counts, with F after its names.
 fn fragment_at(octets: &[u8], delivery: Delivery) -> Result<(Fragment<'_>, usize), DgramFault>
     requires { 14 ≤ length octets.now }
     ensures fragment { IfOk result (λ read. FragmentAt octets.now (fragment_of read.0) read.1) }

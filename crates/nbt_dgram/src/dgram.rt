@@ -17,7 +17,7 @@
 //! +-+-+-+-+-+-+-+-+-+-+-+-+-+-+-+-+-+-+-+-+-+-+-+-+-+-+-+-+-+-+-+-+
 //! ```
 //!
-//! RFC 1002 sections 4.4.1 to 4.4.5. DGM_LENGTH counts what stands behind PACKET_OFFSET. PACKET_OFFSET counts octets
+//! RFC 1002 sections 4.4.1 to 4.4.5. DGM_LENGTH counts what stands after PACKET_OFFSET. PACKET_OFFSET counts octets
 //! of data, and names stand in the first fragment alone: our profile's choices.
 
 ghost use Rattle.std.specs.Prelude.{◌≡◌, ◌≤◌, length};
@@ -108,7 +108,7 @@ impl Fragment<'_> {
     }
 }
 
-/// What stands behind the ten octets that each datagram begins with.
+/// What stands after the ten octets that each datagram begins with.
 #[derive(Debug, PartialEq, Eq, Drop)]
 pub enum Body<'a> {
     /// 0x10 to 0x12: a fragment, or a whole datagram.

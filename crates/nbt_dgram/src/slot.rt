@@ -132,7 +132,7 @@ fn is_same_end(known: Option<usize>, end: usize, more: bool) -> bool
     }
 }
 
-/// Whether a fragment is not the last one, or ends behind all known octets.
+/// Whether a fragment is not the last one, or ends after all known octets.
 fn is_behind_all(known: &[Option<u8>], end: usize, more: bool) -> bool
     requires { end ≤ length known.now }
     ensures { IsTrue result ↔ (more ≡ false → (place octet : ℕ) → known_at known.now place ≡ Some octet → place < end) }

@@ -16,7 +16,7 @@ pub type Fragments<'a> = ArrayVec<Dgram<'a>, 2>;
 /// The most octets of data (our profile; RFC 1001 section 17 leaves it to each end).
 pub(crate) const DATA_MOST: usize = 512;
 
-/// How many octets of a packet of 576 octets are left behind PACKET_OFFSET, for the names and the data.
+/// How many octets of a packet of 576 octets are left after PACKET_OFFSET, for the names and the data.
 const ROOM: usize = 562;
 
 /// The packets that carry these data from `source` at `own` to `destination`. Where all fits in 576 octets, that is one

@@ -381,7 +381,7 @@ fn every_type_is_read_back(rt: HostRuntime) -> Result<(), Fail> {
     Ok(())
 }
 
-/// Whether a datagram with this body is read as it was written, also with octets behind it.
+/// Whether a datagram with this body is read as it was written, also with octets after it.
 fn is_read_back(body: Body<'_>) -> Result<bool, Fail> {
     let dgram = Dgram {
         id: 0x1234,

@@ -1,4 +1,4 @@
--- Steps in order: one of them, and some behind others.
+-- Steps in order: one of them, and some after others.
 use Rattle.std.proofs.Common.{List, [], ◌∷◌, ◌++◌, refl, subst}
 use Rattle.nbt_engine.specs.Acts.{Chain}
 

@@ -1,4 +1,4 @@
--- Turns of a server: one alone, and one behind others.
+-- Turns of a server: one alone, and one after others.
 use Rattle.std.proofs.Common.{◌≡◌, ℕ, ◌+◌, ◌<◌, ◌≤◌, List, [], ◌∷◌, ◌++◌, length, refl, sym, subst, arith, length-append, append_assoc, None, Some}
 use Rattle.std.specs.List.{sum_by}
 use Rattle.std.proofs.lemmas.List.{append-nil}
@@ -44,7 +44,7 @@ runs_none does tells counts p c s counted = record { turns = []; server = refl; 
 counts_of-append : (xs ys : List Turn) → counts_of (xs ++ ys) ≡ sum_of (counts_of xs) (counts_of ys)
 counts_of-append xs ys = rw (length-append, sum_by-append replies_in xs ys, sum_by-append lost_in xs ys) refl
 
--- turns behind others
+-- turns after others
 pub runs_on : {P C : Type 0} (does : P → Act → P → Type 0) (tells : C → ℕ → C → Type 0) (m n : ℕ) (a b : Counts) (p q r : P) (c d e : C) (s t u : ServerValue)
     → Runs does tells m a p c s q d t → Runs does tells n b q d t r e u → Runs does tells (m + n) (sum_of a b) p c s r e u
 runs_on does tells m n a b p q r c d e s t u x y = record {
@@ -56,7 +56,7 @@ runs_on does tells m n a b p q r c d e s t u x y = record {
   counts_are = rw (x.counts_are, y.counts_are) (sym (counts_of-append x.turns y.turns));
 }
 
--- the device fails behind some turns
+-- the device fails after some turns
 pub breaks_on : {P C : Type 0} (does : P → Act → P → Type 0) (tells : C → ℕ → C → Type 0) (m n : ℕ) (a : Counts) (p q r : P) (c d e : C) (s t u : ServerValue)
     → m < n → Runs does tells m a p c s q d t → Breaks does tells 1 q d t r e u → Breaks does tells n p c s r e u
 breaks_on does tells m n a p q r c d e s t u lt x y = record {

@@ -63,7 +63,7 @@ failed_in-cons receive_failed acts = omega arith
 failed_in-cons (sent addr octets) acts = omega arith
 failed_in-cons (send_failed addr octets) acts = omega arith
 
--- what came in one call, and in those behind it
+-- what came in one call, and in those after it
 came_on : (act : Act) (acts : List Act) (incoming rest : List (Option Datagram)) → came_in (act ∷ []) ≡ datagrams_in (take (received_in (act ∷ [])) incoming)
     → rest ≡ drop (received_in (act ∷ [])) incoming → came_in acts ≡ datagrams_in (take (received_in acts) rest) → came_in (act ∷ acts) ≡ datagrams_in (take (received_in (act ∷ acts)) incoming)
 came_on act acts incoming rest one left more =

@@ -43,7 +43,7 @@ module _ {P C : Type 0} (does : P → Act → P → Type 0) (tells : C → ℕ �
     chain_one tells c now d told,
   )
 
-  -- both are done, and what follows is in order behind them
+  -- both are done, and what follows is in order after them
   behind : (now : ℕ) (q r t : P) (asked polled : NodeValue) (a : Asked now q asked) (b : Polled now q asked r polled) (acts : List Act) → Chain does r acts t → Chain does p (a.0 ++ (b.0 ++ acts)) t
   behind now q r t asked polled a b acts did = chain-append does p q t a.0 (b.0 ++ acts) a.2 (chain-append does q r t b.0 acts b.2 did)
 

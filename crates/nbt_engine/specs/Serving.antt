@@ -18,7 +18,7 @@ pub data Turn : Type 0 where
   is_taken : (now : ℕ) → (from : Addr) → (octets : List ℕ) → (reply : Option MessageValue) → Turn
   is_lost : (now : ℕ) → (from : Addr) → (octets : List ℕ) → Turn
 
--- the calls of the port: one receive, and the reply to whom it came from
+-- the calls of the port: one receive, and the reply to the datagram's sender
 abbrev pub acts_in : Turn → List Act
 acts_in is_empty = nothing_came ∷ []
 acts_in (is_taken now from octets None) = came from octets ∷ []
@@ -94,7 +94,7 @@ counts_of turns = record { receives = length turns; replies = sum_by replies_in 
 abbrev pub sum_of : Counts → Counts → Counts
 sum_of a b = record { receives = a.receives + b.receives; replies = a.replies + b.replies; lost = a.lost + b.lost }
 
--- A server, a port and a clock go through so many turns, one after the other.
+-- A server, a port and a clock go through `count` turns, one after the other.
 pub record Runs {P C : Type 0} (does : P → Act → P → Type 0) (tells : C → ℕ → C → Type 0) (count : ℕ) (counts : Counts)
     (old_port : P) (old_clock : C) (old : ServerValue) (port : P) (clock : C) (new : ServerValue) : Type 0 where
   pub turns : List Turn
@@ -104,7 +104,7 @@ pub record Runs {P C : Type 0} (does : P → Act → P → Type 0) (tells : C �
   pub count_is : length turns ≡ count
   pub counts_are : counts ≡ counts_of turns
 
--- They go through some turns, fewer than so many, and then the device fails.
+-- They go through some turns, fewer than `count`, and then the device fails.
 pub record Breaks {P C : Type 0} (does : P → Act → P → Type 0) (tells : C → ℕ → C → Type 0) (count : ℕ)
     (old_port : P) (old_clock : C) (old : ServerValue) (port : P) (clock : C) (new : ServerValue) : Type 0 where
   pub turns : List Turn

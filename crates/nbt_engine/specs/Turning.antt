@@ -50,8 +50,8 @@ seen_of (is_refused rcode) = s.Refused rcode
 seen_of is_lost = s.Lost
 seen_of told = s.Nothing
 
--- The node takes what came, if anything, at a moment that doesn't go back. The reply to a status request is sent to whom
--- that came from. A datagram that the node refuses since the clock went back is passed over.
+-- The node takes what came, if anything, at a moment that doesn't go back. The reply to a status request is sent to its
+-- sender. A datagram that the node refuses since the clock went back is passed over.
 pub data Hears (now : ℕ) (old : NodeValue) : List Act → Seen → NodeValue → Type 0 where
   hears_nothing : Hears now old (nothing_came ∷ []) s.Nothing old
   hears : (from : Addr) (octets : List ℕ) (told : Told) (new : NodeValue) → told ≢ replied → Handles old now from octets new told [] → Hears now old (came from octets ∷ []) (seen_of told) new

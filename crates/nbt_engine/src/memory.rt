@@ -56,7 +56,7 @@ impl MemoryPort {
         }
     }
 
-    /// After so many calls more, one call is to fail.
+    /// After `calls` more calls, one call is to fail.
     pub fn fail_after(&mut self, calls: u64)
         ensures { self.new ≡ record self.old { fails_after = Some calls } }
     {
@@ -139,7 +139,7 @@ fn hand_out(
     Some(datagram.addr)
 }
 
-/// Keeps what is sent, behind all that was sent before.
+/// Keeps what is sent, after all that was sent before.
 fn keep(alloc: Global, sent: &mut Vec<Datagram>, to: Addr, octets: &[u8]) -> Result<(), AllocError>
     ensures ok { OnOk result (values_of sent.new.items ≡ values_of sent.old.items ++ datagram_to to octets.now ∷ []) }
     ensures err { OnErr result (values_of sent.new.items ≡ values_of sent.old.items) }

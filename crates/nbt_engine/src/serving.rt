@@ -49,8 +49,8 @@ impl Counts {
     }
 }
 
-/// The server goes through so many turns: in each it receives, and where a datagram came it reads the clock, takes the
-/// datagram at that moment, and sends the reply, if there is one, to whom the datagram came from. Returns what it did. A
+/// The server goes through `turns` turns: in each it receives, and where a datagram came it reads the clock, takes the
+/// datagram at that moment, and sends the reply, if there is one, to the datagram's sender. Returns what it did. A
 /// datagram that the server refuses is lost: its moment goes back, or it changes the leases and memory was refused; start
 /// and leases stay, and the turns go on. Refused with `Device` at the first call of the port that fails: the server is
 /// then as after the datagrams that came.

@@ -45,7 +45,7 @@ pub enum Seen {
 /// The node goes through one turn. The clock is read, and the name is asked for at that moment, the request going to
 /// `server`; a refused ask is passed over. The node is polled until it has nothing to send, each datagram going to its
 /// end. Then the port receives once, the clock is read again, and the node takes what came at that moment; the reply to
-/// a status request goes to whom that came from. Returns what was seen. What the node refuses since the clock went back
+/// a status request goes to its sender. Returns what was seen. What the node refuses since the clock went back
 /// is passed over. Refused with `Device` at the first call of the port that fails: nothing else of the turn is done, and
 /// the node is as it was before the receive, or as after the call that made the sending, which is lost.
 pub fn node_turn<P: Port, C: Clock, const N: usize>(

@@ -1,4 +1,4 @@
--- The texts of what came of a step, each behind a space (our profile).
+-- The texts of what came of a step, each after a space (our profile).
 use Rattle.std.specs.Prelude.{ℕ, List, [], ◌∷◌, ◌++◌, slice_index, codes}
 use Rattle.std.specs.Fmt.{decimal}
 use Rattle.hex.specs.Hex.{encode_lower}

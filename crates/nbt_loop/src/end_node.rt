@@ -47,7 +47,7 @@ pub struct NameServer<P: Drop> {
 }
 
 impl<P: Port + Drop> NameServer<P> {
-    /// A server behind this port, which is at `addr`. It started at 0, and the clock is at 60,000.
+    /// A server over this port, which is at `addr`. It started at 0, and the clock is at 60,000.
     pub fn start(alloc: Global, config: Config, addr: Addr, port: P) -> NameServer<P>
         ensures addr { result.addr ≡ addr }
         ensures clock { result.clock ≡ 60000 }

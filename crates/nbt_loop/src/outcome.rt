@@ -24,7 +24,7 @@ pub enum Outcome<'a> {
     Nothing,
 }
 
-/// Appends the outcome's text, behind a space.
+/// Appends the outcome's text, after a space.
 pub fn write_outcome(outcome: Outcome<'_>, out: &mut String) -> Result<(), AllocError>
     ensures { OnOk result (string_bytes out.new ≡ string_bytes out.old ++ outcome_text outcome.entry) }
 {

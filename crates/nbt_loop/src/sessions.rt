@@ -99,7 +99,7 @@ impl<R: Net> Session<R> {
         Ok(())
     }
 
-    /// Connects, and lets the end that listens take the connection. A connection that can't be had is lost.
+    /// Connects, and lets the end that listens take the connection. A connection that fails is lost.
     fn connect(
         &mut self,
         rt: &R,

@@ -24,7 +24,7 @@ IsScope-from_parts n xs low high fits rest =
     let count : length (take n xs) ≡ n = omega (arith, length-take n xs) in
     subst (λ (k : ℕ). IsScope (k ∷ xs)) count (subst (λ (ys : List ℕ). IsScope (length (take n xs) ∷ ys)) (take-append-drop n xs) (label (take n xs) (drop n xs) (omega arith) (omega arith) rest))
 
--- a loop's turn: the labels of a scope go on behind its first one
+-- a loop's turn: the labels of a scope go on after its first one
 pub scope_behind : (scope rest labels : List ℕ) (first n : ℕ) → rest ≡ first ∷ labels → n ≡ first → 1 ≤ n → n ≤ 63 → n ≤ length labels → IsScope scope ↔ IsScope rest
     → IsScope scope ↔ IsScope (take (length labels - n) (drop n labels))
 scope_behind scope rest labels first n e m low high fits both =

@@ -6,7 +6,7 @@ use Rattle.nbt_name.specs.declared.form.Form.{Form}
 use Rattle.nbt_name.specs.declared.form.Form.TheVariants.{Plain, Compressed}
 use Rattle.nbt_name.specs.Wire.{NameValue, IsName, wire}
 
--- A stop on a reader's way: the place, the labels passed so far, each behind its length octet, and, once a
+-- A stop on a reader's way: the place, the labels passed so far, each after its length octet, and, once a
 -- pointer was followed, the place after the first one.
 pub record Spot : Type 0 where
   pub place : ℕ
@@ -38,7 +38,7 @@ LettersAt octets place n = (k : ℕ) → k < n → IsLetter (slice_index octets 
 abbrev pub target : ℕ → ℕ → ℕ
 target high low = (high - 0xC0) * 256 + low
 
--- behind a label of n octets
+-- after a label of n octets
 abbrev pub past : List ℕ → Spot → ℕ → Spot
 past octets from n = record {
   place = from.place + 1 + n;

@@ -59,7 +59,7 @@ pub enum NameRefusal {
     /// 2: the scope has more than 221 octets, so that the wire form would pass 255.
     #[error("ScopeLong")]
     ScopeLong,
-    /// 3: the scope is no row of labels of 1 to 63 octets, each behind its length octet.
+    /// 3: the scope is no row of labels of 1 to 63 octets, each after its length octet.
     #[error("BadLabel")]
     BadLabel,
 }

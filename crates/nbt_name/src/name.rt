@@ -34,7 +34,7 @@ impl Name {
     /// The first octet of the name that stands for all names, `*` (RFC 1002 section 4.2.17).
     const STAR: u8 = 0x2A;
 
-    /// The name of sixteen octets and a scope, given as its labels, each behind its length octet, without the closing
+    /// The name of sixteen octets and a scope, given as its labels, each after its length octet, without the closing
     /// zero. Refused in this order: `Star` (1) where the first octet is 0x2A; `ScopeLong` (2) where the scope has more
     /// than 221 octets; `BadLabel` (3) where it is no row of labels of 1 to 63 octets. Our profile's order; RFC 1002
     /// section 4.1.
@@ -102,7 +102,7 @@ impl Name {
         &self.octets
     }
 
-    /// The scope: its labels, each behind its length octet, without the closing zero; at most 221 octets.
+    /// The scope: its labels, each after its length octet, without the closing zero; at most 221 octets.
     pub fn scope(&self) -> &[u8]
         ensures value { result.now ≡ self.now.scope }
         ensures name { IsName self.now }
@@ -143,7 +143,7 @@ impl Name {
     }
 }
 
-/// Whether these are labels of 1 to 63 octets, each behind its length octet (RFC 1002 section 4.1).
+/// Whether these are labels of 1 to 63 octets, each after its length octet (RFC 1002 section 4.1).
 fn is_scope(scope: &[u8]) -> bool
     ensures { IsTrue result ↔ IsScope scope.now }
 {

@@ -18,7 +18,7 @@ pub(crate) struct Reader {
     pub(crate) place: usize,
     /// The octets that the first label spells, once it was passed.
     pub(crate) first: Option<[u8; 16]>,
-    /// The later labels, each behind its length octet.
+    /// The later labels, each after its length octet.
     pub(crate) scope: ArrayVec<u8, 221>,
     /// The place after the first pointer, once it was followed.
     pub(crate) resume: Option<usize>,
@@ -31,7 +31,7 @@ pub(crate) struct Reader {
 pub(crate) enum Progress {
     /// A label was passed, or a pointer followed.
     Moved,
-    /// The closing zero stands here, behind a first label that spells these octets.
+    /// The closing zero stands here, after a first label that spells these octets.
     Closed([u8; 16]),
 }
 

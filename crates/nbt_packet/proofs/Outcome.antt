@@ -67,7 +67,7 @@ then_read : {X Y : Type 0} → Result X Fault → (X → Result Y Fault) → Res
 then_read (Ok x) next = next x
 then_read (Err fault) next = Err fault
 
--- a count that fits, and what is behind it
+-- a count that fits, and what comes after it
 counted : {Y : Type 0} → List ℕ → (place most : ℕ) → Result Y Fault → Result Y Fault
 counted octets place most next = cond (ltb (length octets) (place + 2)) (Err (short octets)) (cond (ltb most (word_at octets place)) (Err (too_many place)) next)
 

@@ -48,7 +48,7 @@ header_there id flags qs ans ads body id_fits flags_fit one_q one_a one_ad =
       behind = record { is = refl; within = omega arith };
     }
 
--- ---- a question, and a record's fields behind its name
+-- ---- a question, and a record's fields after its name
 
 question_there : NameLaws → {octets : List ℕ} {p : ℕ} (name : NameValue) (rtype : ℕ) (rest : List ℕ) → IsName name → rtype < 2 ^ 16 → Behind octets p ((wire name ++ word rtype ++ word internet) ++ rest)
     → QuestionAt octets p (record { name = name; rtype = rtype; class = internet }) (p + length (wire name ++ word rtype ++ word internet))

@@ -12,7 +12,7 @@ fields_of rtype ttl rdlength = word rtype ++ word internet ++ long ttl ++ word r
 joined : (head name fields one names zeros : List ℕ) → (((head ++ (name ++ fields)) ++ one) ++ names) ++ zeros ≡ head ++ (name ++ (fields ++ ((one ++ names) ++ zeros)))
 joined head name fields one names zeros = simp append_assoc
 
--- the parts of a node status, one behind the other
+-- the parts of a node status, one after the other
 pub status_is : (id : ℕ) (name : NameValue) (names head pushed named all : List ℕ)
     → head ≡ header id 0x8400 0 1 0 ++ (wire name ++ (word nbstat ++ word internet ++ long 0 ++ word (1 + length names + 46)))
     → pushed ≡ head ++ length names / 18 ∷ [] → named ≡ pushed ++ names → all ≡ named ++ replicate 46 0

@@ -28,7 +28,7 @@ pub record PacketValue : Type 0 where
 
 -- ---- the sections
 
--- A question stands at a place: a name, and behind it its type and its class.
+-- A question stands at a place: a name, and after it its type and its class.
 pub record QuestionAt (octets : List ℕ) (place : ℕ) (q : Question) (next : ℕ) : Type 0 where
   pub named : ℕ
   pub name : NameAt octets place q.name named
@@ -37,7 +37,7 @@ pub record QuestionAt (octets : List ℕ) (place : ℕ) (q : Question) (next : �
   pub class : q.class ≡ word_at octets (named + 2)
   pub next_is : next ≡ named + 4
 
--- A record stands at a place: a name, its type, its class, its TTL, and RDATA behind its length.
+-- A record stands at a place: a name, its type, its class, its TTL, and RDATA after its length.
 pub record RecordAt (octets : List ℕ) (place : ℕ) (r : RecordValue) (next : ℕ) : Type 0 where
   pub named : ℕ
   pub name : NameAt octets place r.name named
@@ -83,7 +83,7 @@ pub record PacketIs (octets : List ℕ) (packet : PacketValue) (n : ℕ) : Type 
   pub answer : SectionAt (RecordAt octets) (word_at octets 6) asked packet.answer answered
   pub additional : SectionAt (RecordAt octets) (word_at octets 10) answered packet.additional n
 
--- A question's place has a fault: in its name, or behind it, where the octets end.
+-- A question's place has a fault: in its name, or after it, where the octets end.
 pub data QuestionFault (octets : List ℕ) (place : ℕ) : Fault → Type 0 where
   question_name : (fault : NameFault) → FaultAt octets place fault → QuestionFault octets place (fault_of fault)
   question_cut : (name : NameValue) (named : ℕ) → NameAt octets place name named

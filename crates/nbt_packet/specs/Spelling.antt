@@ -4,7 +4,7 @@ use Rattle.nbt_name.specs.Wire.{NameValue}
 use Rattle.nbt_packet.specs.Packet.{PacketValue, PacketIs}
 use Rattle.nbt_packet.specs.Message.{MessageValue, MessageIs, registration, overwrite, refresh, release, query, status_request, registered, released, found, not_found, status, wait}
 
--- The octets begin with a packet that spells the message; what is behind that packet is not looked at.
+-- The octets begin with a packet that spells the message; what comes after that packet is not looked at.
 pub record Spells (octets : List ℕ) (message : MessageValue) : Type 0 where
   pub packet : PacketValue
   pub taken : ℕ

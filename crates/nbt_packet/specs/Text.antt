@@ -12,7 +12,7 @@ abbrev pub header : (id flags questions answers additionals : ℕ) → List ℕ
 header id flags questions answers additionals =
     word id ++ word flags ++ word questions ++ word answers ++ word 0 ++ word additionals
 
--- a type, the class IN, a TTL, and RDATA behind its length
+-- a type, the class IN, a TTL, and RDATA after its length
 abbrev pub record_fields : (rtype ttl : ℕ) → List ℕ → List ℕ
 record_fields rtype ttl rdata = word rtype ++ word internet ++ long ttl ++ word (length rdata) ++ rdata
 

@@ -219,7 +219,7 @@ fn names_end(rdata: &[u8]) -> usize
     1 + NODE_NAME * usize::from(rdata[0])
 }
 
-/// A node's names; what is behind them is not looked at.
+/// A node's names; what comes after them is not looked at.
 fn names_in(rdata: &[u8]) -> &[u8]
     requires counted { 0 < length rdata.now }
     requires whole { 1 + 18 * slice_index rdata.now 0 ≤ length rdata.now }

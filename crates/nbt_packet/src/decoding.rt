@@ -105,7 +105,7 @@ fn count(octets: &[u8], place: usize, most: u16) -> Result<u16, Fault>
     Ok(count)
 }
 
-/// The question that a count of 1 says stands here, and the place behind it; a count of 0 says that none does.
+/// The question that a count of 1 says stands here, and the place after it; a count of 0 says that none does.
 fn question_section(
     octets: &[u8],
     count: u16,
@@ -124,7 +124,7 @@ fn question_section(
     Ok((Some(question), next))
 }
 
-/// The record that a count of 1 says stands here, and the place behind it; a count of 0 says that none does.
+/// The record that a count of 1 says stands here, and the place after it; a count of 0 says that none does.
 fn record_section(
     octets: &[u8],
     count: u16,
@@ -143,7 +143,7 @@ fn record_section(
     Ok((Some(record), next))
 }
 
-/// The question that stands here, and the place behind it (RFC 1002 section 4.2.1.2).
+/// The question that stands here, and the place after it (RFC 1002 section 4.2.1.2).
 fn question_at(octets: &[u8], place: usize) -> Result<(Question, usize), Fault>
     requires { place ≤ length octets.now }
     ensures question { IfOk result (λ read. QuestionAt octets.now place read.0 read.1) }
@@ -162,7 +162,7 @@ fn question_at(octets: &[u8], place: usize) -> Result<(Question, usize), Fault>
     Ok((question, named + 4))
 }
 
-/// The record that stands here, and the place behind it (RFC 1002 section 4.2.1.3).
+/// The record that stands here, and the place after it (RFC 1002 section 4.2.1.3).
 fn record_at(octets: &[u8], place: usize) -> Result<(Record<'_>, usize), Fault>
     requires { place ≤ length octets.now }
     ensures record { IfOk result (λ read. RecordAt octets.now place (record_of read.0) read.1) }

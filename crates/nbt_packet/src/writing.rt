@@ -40,7 +40,7 @@ const STATUS: u16 = 0x8400;
 /// WAIT FOR ACKNOWLEDGEMENT RESPONSE: OPCODE 7, AA (RFC 1002 section 4.2.16).
 const WAIT: u16 = 0xBC00;
 
-/// A pointer to the question's name, which stands behind the header (RFC 1002 section 4.2.2).
+/// A pointer to the question's name, which stands after the header (RFC 1002 section 4.2.2).
 const QUESTION_NAME: u16 = 0xC00C;
 /// RDATA of WAIT FOR ACKNOWLEDGEMENT RESPONSE: the flags of the request that waits (RFC 1002 section 4.2.16).
 const WAITS: [u8; 2] = [0x29, 0x00];

@@ -1,4 +1,4 @@
--- Lines that are written one behind another, and lists of holders.
+-- Lines that are written one after another, and lists of holders.
 use Rattle.std.proofs.Common.{◌≡◌, ◌∙◌, ℕ, ◌+◌, ◌<◌, List, [], ◌∷◌, ◌++◌, length, get_or, take, Some, Result, Ok, Err, refl, sym, ap, append_assoc, add-one}
 use Rattle.std.specs.Prelude.{OnOk, codes}
 use Rattle.std.specs.Bool.{if◌then◌else◌}
@@ -53,7 +53,7 @@ holders_written (Ok u) old a b c d new name world n holders e f printed g h are 
 )
 holders_written (Err x) old a b c d new name world n holders e f printed g h are i = tt
 
--- what happened was told of, and so was who holds a name
+-- what happened was printed, and so was who holds a name
 pub happened : {E : Type 0} (r : Result (Unit {0}) E) (old new : List ℕ) (before next : WorldValue) (event : Event) (outcome : Outcome) → Step before event outcome next
     → OnOk r ((x : List ℕ) × (new ≡ old ++ x ++ newline) × PrintsOutcome event outcome x) → OnOk r ((x : List ℕ) × (new ≡ old ++ x) × Does (Some before) (instruction.Happens event) (Some next) x)
 happened (Ok u) old new before next event outcome s h = (h.0 ++ newline, h.1 ∙ append_assoc old h.0 newline, happens event outcome before next h.0 s h.2)

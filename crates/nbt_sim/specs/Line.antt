@@ -16,7 +16,7 @@ use Rattle.nbt_sim.specs.declared.verb.Verb.{Verb}
 use Rattle.nbt_sim.specs.declared.verb.Verb.TheVariants.{Config, At, Start, Crash, Ask, Release, Resolve, Status, Poll, Deliver, Stranger, Holders}
 use Rattle.nbt_sim.specs.Words.{verb_word, kind_word, SpellsNode, SpellsEnd, SpellsSeconds, SpellsMoment}
 
--- What the words behind a verb say, in their order: `config LIFE LONGEST ROWS NODES`, `at MS`, `start E`, `crash E`,
+-- What the words after a verb say, in their order: `config LIFE LONGEST ROWS NODES`, `at MS`, `start E`, `crash E`,
 -- `ask NODE NAME KIND TTL`, `release NODE NAME`, `resolve NODE NAME`, `status NODE ADDRESS NAME`, `poll NODE`,
 -- `deliver K`, `stranger ADDRESS E HEX`, `holders NAME`.
 pub data SaysOf : Verb → List (List ℕ) → Instruction → Type 0 where

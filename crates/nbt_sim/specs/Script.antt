@@ -32,7 +32,7 @@ use Rattle.nbt_sim.specs.Words.{kind_word, ask_fault_word, release_fault_word, l
 abbrev pub place : (number : ℕ) → Addr
 place number = record { ip = 0x7F000001 + number; port = 137 }
 
--- the server's address and those of so many nodes
+-- the server's address and those of the nodes
 pub record ArePlaces (addrs : List Addr) (nodes : ℕ) : Type 0 where
   pub count : length addrs ≡ nodes + 1
   pub places : (number : ℕ) → number ≤ nodes → slice_get addrs number ≡ Some (place number)
@@ -111,7 +111,7 @@ pub data IsUnreadable (world : Option WorldValue) (words : List (List ℕ)) : Ty
   says_what_does_not_fit : (i : Instruction) → Says words i → ¬ Fits world i → IsUnreadable world words
 
 -- What is printed of lines, of which the first has this number, and whether each could be read: the first one that
--- couldn't is told of, and ends the script.
+-- couldn't is named by its number, and ends the script.
 pub data Plays : (number : ℕ) → Option WorldValue → List (List ℕ) → Bool → List ℕ → Type 0 where
   ends : (number : ℕ) (world : Option WorldValue) → Plays number world [] true []
   passes_over : (number : ℕ) (world : Option WorldValue) (line : List ℕ) (rest : List (List ℕ)) (well : Bool) (text : List ℕ) → IsPassedOver line

@@ -19,7 +19,7 @@ use std::alloc::{AllocError, Global};
 /// What a line asks for.
 #[derive(Debug, Drop)]
 pub enum Instruction {
-    /// A world with these limits and so many nodes.
+    /// A world with these limits and this number of nodes.
     Config(Config, usize),
     /// The clock goes on to a moment.
     At(Moment),
@@ -74,7 +74,7 @@ fn instruction_of(alloc: Global, words: &[&[u8]]) -> Result<Option<Instruction>,
     }
 }
 
-/// What the words behind the verb say; nothing behind `stranger`.
+/// What the words after the verb say; nothing after `stranger`.
 fn arguments_of(verb: Verb, words: &[&[u8]]) -> Option<Instruction>
     requires { ¬ (verb ≡ verbs.Stranger) }
     ensures { (i : Instruction) → (result ≡ Some i) ↔ SaysOf verb (texts words.now) i }

@@ -14,7 +14,7 @@ use crate::stage::Stage;
 use std::alloc::{AllocError, Global};
 
 /// Appends what the lines of a script print, in order; the first line that can't be read, or asks for what can't be done,
-/// is told of by its number, counted from 1 and with the blank ones among them, and ends the script. Returns whether
+/// is named by its number, counted from 1 and with the blank ones among them, and ends the script. Returns whether
 /// there was none. `AllocError` only where memory was refused; to a server, memory refused is a datagram lost.
 pub fn play(script: &[u8], out: &mut String) -> Result<bool, AllocError>
     ensures { IfOk result (λ well. (text : List ℕ) × (string_bytes out.new ≡ string_bytes out.old ++ text)

@@ -34,7 +34,7 @@ impl Stage {
     ghost use Rattle.nbt_sim.specs.Script.{AreFew, Does};
     ghost use Rattle.nbt_sim.specs.declared.instruction.Instruction.TheVariants as instruction;
 
-    /// A world of these limits with so many nodes; `None` where there aren't 1 to 8.
+    /// A world of these limits with `nodes` nodes; `None` where there aren't 1 to 8.
     pub fn begin(alloc: Global, config: Config, nodes: usize) -> Option<Stage>
         ensures { MatchOption result (¬ AreFew nodes)
             (λ stage. Does None (instruction.Config config nodes) (Some stage.world) []) }

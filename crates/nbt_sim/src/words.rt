@@ -1,4 +1,4 @@
-//! The words behind the first one of a line: ends, addresses, kinds, numbers.
+//! The words after the first one of a line: ends, addresses, kinds, numbers.
 
 ghost use Rattle.std.specs.Prelude.{◌≡◌, ◌↔◌, ℕ, Some};
 ghost use Rattle.nbt_name.specs.declared.addr.Addr.{Addr};

@@ -26,8 +26,8 @@ mod terminal;
 /// The most that a test prints.
 const ROOM: usize = 4096;
 
-/// A writer that takes so many octets a call, and fails at its first call past `calls`. It tells whether each line was
-/// flushed before the next.
+/// A writer that takes `at_once` octets a call, and fails at its first call past `calls`. It tells whether each line
+/// was flushed before the next.
 #[derive(Drop)]
 struct Paper {
     text: ArrayVec<u8, ROOM>,
@@ -50,7 +50,7 @@ impl Paper {
         }
     }
 
-    /// Takes one octet a call, for so many calls.
+    /// Takes one octet a call, for `calls` calls.
     fn short(calls: usize) -> Paper {
         Paper {
             at_once: 1,

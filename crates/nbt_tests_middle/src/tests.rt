@@ -96,7 +96,7 @@ fn digits(word: &str) -> &str {
 }
 
 /// The registration by 127.0.0.2, or the reply to it, of one of 65,536 names of fourteen N and two octets, where `head`
-/// is its flags and counts, and `tail` what is behind the name.
+/// is its flags and counts, and `tail` what comes after the name.
 fn one_of_many<R: AllocGlobal>(
     rt: &R,
     number: u16,

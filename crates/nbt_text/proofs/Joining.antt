@@ -1,4 +1,4 @@
--- Texts written one behind another.
+-- Texts written one after another.
 use Rattle.std.proofs.Common.{◌≡◌, ◌++◌, ℕ, List, Result, Ok, Err, append_assoc}
 use Rattle.std.specs.Prelude.{OnOk}
 

@@ -28,7 +28,7 @@ pub record StandsAsItIs (octets : List ℕ) : Type 0 where
 
 -- ---- reading
 
--- A component spells octets: itself, or those of the digits behind `hex:`.
+-- A component spells octets: itself, or those of the digits after `hex:`.
 pub data Component : List ℕ → List ℕ → Type 0 where
   as_it_is : (octets : List ℕ) → StandsAsItIs octets → Component octets octets
   in_digits : (digits octets : List ℕ) → decode_of digits ≡ Ok octets → Component (prefix ++ digits) octets
@@ -40,7 +40,7 @@ pub data Sixteen : List ℕ → List ℕ → Type 0 where
   in_32_digits : (digits octets : List ℕ) → decode_of digits ≡ Ok octets → length octets ≡ 16
       → Sixteen (prefix ++ digits) octets
 
--- Each other one spells a label of the scope, and stands behind a dot.
+-- Each other one spells a label of the scope, and stands after a dot.
 pub data Labels : List ℕ → List ℕ → Type 0 where
   no_label : Labels [] []
   label : (component octets rest scope : List ℕ) → Component component octets → 1 ≤ length octets

@@ -78,7 +78,7 @@ fn sixteen_of(component: &[u8]) -> Option<[u8; 16]>
     Some(octets)
 }
 
-/// Appends the label that the component spells, behind its length octet.
+/// Appends the label that the component spells, after its length octet.
 fn push_label(component: &[u8], scope: &mut ArrayVec<u8, 221>) -> Option<()>
     ensures pushed { OnSome result ((label : List ℕ) × Component component.now label × (1 ≤ length label)
         × (length label ≤ 63) × (scope.new.items ≡ scope.old.items ++ length label ∷ label)) }
@@ -100,7 +100,7 @@ fn push_label(component: &[u8], scope: &mut ArrayVec<u8, 221>) -> Option<()>
     }
 }
 
-/// Appends a label of 1 to 63 octets behind its length octet.
+/// Appends a label of 1 to 63 octets after its length octet.
 fn push_counted(label: &[u8], scope: &mut ArrayVec<u8, 221>) -> Option<()>
     ensures pushed { OnSome result ((1 ≤ length label.now) × (length label.now ≤ 63)
         × (scope.new.items ≡ scope.old.items ++ length label.now ∷ label.now)) }

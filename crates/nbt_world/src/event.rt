@@ -7,7 +7,7 @@ use thiserror::Error;
 /// numbered from 0, in the order of their sending.
 #[derive(Debug, Drop)]
 pub enum Event {
-    /// The clock goes on by so many milliseconds, at most to 2^60.
+    /// The clock goes on by this number of milliseconds, at most to 2^60.
     Tick(u64),
     /// An end starts, and knows nothing of before.
     Start(usize),

@@ -3,7 +3,7 @@
 use nbt_prog::command;
 use std::process::Abort;
 
-/// A long text: how it begins, what comes then so many times, and how it ends.
+/// A long text: how it begins, what is repeated then and how often, and how it ends.
 #[derive(Clone, Copy)]
 struct Long(&'static str, &'static str, usize, &'static str);
 
@@ -62,7 +62,7 @@ const ROWS: [Row; 7] = [
             "\nlength 60014\n",
         ),
     },
-    // Octets behind a packet, which a server passes over.
+    // Octets after a packet, which a server passes over.
     Row {
         words: &["nbt", "answer", "127.0.0.2:137"],
         last: Long(

@@ -187,7 +187,7 @@ const LINES: [(&str, &[u8]); 3] = [
     ),
 ];
 
-/// A flush that fails, and a write, end the command, and what was written before stays: no `device` is behind it.
+/// A flush that fails, and a write, end the command, and what was written before stays: no `device` comes after it.
 #[test]
 fn a_writer_that_failed_is_told_nothing_more(rt: HostRuntime) {
     for (line, text) in LINES {

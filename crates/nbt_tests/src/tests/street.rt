@@ -77,7 +77,7 @@ impl AsRawFd for Line {
     }
 }
 
-/// A TCP socket that listens. Behind so many strangers' connections, the first one that it accepts has its luck; all others
+/// A TCP socket that listens. The first connection that it accepts after those of the strangers has its luck; all others
 /// are well.
 #[derive(Drop)]
 pub struct Door {

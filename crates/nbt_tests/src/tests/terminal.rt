@@ -110,7 +110,7 @@ pub fn words_of<R: Abort + AllocGlobal>(rt: &R, line: &str) -> Vec<String> {
     words
 }
 
-/// A word: its parts, one behind the other.
+/// A word: its parts, one after the other.
 pub fn word_of<R: Abort + AllocGlobal>(rt: &R, text: &str) -> String {
     let mut word = String::new(rt.alloc());
     for part in text.split("_") {

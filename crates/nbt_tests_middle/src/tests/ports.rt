@@ -127,7 +127,7 @@ fn a_datagram_that_udp_can_not_carry_is_a_failure(rt: HostRuntime) -> Result<(),
     assert_eq!(&rt; near.failures(), 1);
     assert_eq!(&rt; send(&rt, &mut near, there, long.as_slice()), Err(Device));
     assert_eq!(&rt; near.failures(), 2);
-    // What is sent behind it comes.
+    // What is sent after it comes.
     let mut octets = ArrayVec::new();
     send(&rt, &mut near, there, b"hello")?;
     assert_eq!(&rt; receive(&rt, &mut far, &mut octets)?, Some(here));
@@ -136,7 +136,7 @@ fn a_datagram_that_udp_can_not_carry_is_a_failure(rt: HostRuntime) -> Result<(),
     Ok(())
 }
 
-/// A machine whose clock shows so many milliseconds, or can't be read.
+/// A machine whose clock shows these milliseconds, or can't be read.
 #[derive(Drop)]
 struct Machine {
     shows: Cell<Option<u64>>,

@@ -87,7 +87,7 @@ const ROWS: [Row; 8] = [
     ),
 ];
 
-/// Prints octets behind what stands there.
+/// Prints octets after what stands there.
 fn print(prints: Prints, octets: &[u8], text: &mut String) -> Result<bool, Fail> {
     match prints {
         Prints::Octets => {
@@ -101,7 +101,7 @@ fn print(prints: Prints, octets: &[u8], text: &mut String) -> Result<bool, Fail>
     }
 }
 
-/// Each row is printed so, behind what stands there.
+/// Each row is printed so, after what stands there.
 fn play<R: Abort + AllocGlobal>(rt: &R, rows: &[Row]) -> Result<(), Fail> {
     for (prints, octets, well, wanted) in rows {
         let mut text = String::from_str(rt.alloc(), "> ")?;
@@ -120,7 +120,7 @@ fn octets_packets_datagrams_sessions_and_vectors(rt: HostRuntime) -> Result<(), 
 /// How many octets a long input has.
 const MANY: usize = 60_000;
 
-/// A head, and then an octet so many times.
+/// A head, and then an octet `count` times.
 fn repeated<R: AllocGlobal>(rt: &R, head: &[u8], octet: u8, count: usize) -> Result<Vec<u8>, Fail> {
     let mut octets = Vec::from_slice(rt.alloc(), head)?;
     for _ in 0..count {
@@ -129,7 +129,7 @@ fn repeated<R: AllocGlobal>(rt: &R, head: &[u8], octet: u8, count: usize) -> Res
     Ok(octets)
 }
 
-/// A head, the digits of the octet 0xA5 so many times, and a tail.
+/// A head, the digits of the octet 0xA5 `count` times, and a tail.
 fn digits<R: AllocGlobal>(rt: &R, head: &str, count: usize, tail: &str) -> Result<String, Fail> {
     let mut text = String::from_str(rt.alloc(), head)?;
     for _ in 0..count {
@@ -151,7 +151,7 @@ fn a_message_of_60_000_octets(rt: HostRuntime) -> Result<(), Fail> {
 
 #[test]
 fn a_datagram_of_1_000_octets_of_data(rt: HostRuntime) -> Result<(), Fail> {
-    // What stands behind the offset has 1,068 octets (RFC 1002 section 4.4.1).
+    // What stands after the offset has 1,068 octets (RFC 1002 section 4.4.1).
     let head = octets(&rt, "1106 0001 127.0.0.2 008a 042c 0000 FRED TEAM")?;
     let octets = repeated(&rt, head.as_slice(), 0xA5, 1_000)?;
     let wanted = digits(

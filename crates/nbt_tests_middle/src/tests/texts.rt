@@ -126,7 +126,7 @@ fn texts_that_are_no_names(rt: HostRuntime) {
     }
 }
 
-/// `FRED` and labels of so many octets each, as they are or in hexadecimal.
+/// `FRED` and labels of these lengths, as they are or in hexadecimal.
 fn with_labels<R: Abort + AllocGlobal>(
     rt: &R,
     prefix: &str,

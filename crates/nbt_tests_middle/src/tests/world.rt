@@ -214,7 +214,7 @@ fn an_early_ask_after_a_release_is_quiet_and_the_name_goes_to_another(
     )
 }
 
-/// What is polled 30 seconds behind the last sending is the refresh; it goes there and back.
+/// What is polled 30 seconds after the last sending is the refresh; it goes there and back.
 const RENEWED: [[Row; 4]; 3] = [
     [
         (Tick(30_000), Done),
@@ -427,7 +427,7 @@ const ROUND: [Does; 18] = [
     Crash(2),
 ];
 
-/// An event happens, and behind it the delivery of what it sent, and that of the reply; they are put into the list.
+/// An event happens, and after it the delivery of what it sent, and that of the reply; they are put into the list.
 fn happen(world: &mut World, first: Event, events: &mut Vec<Event>) -> Result<(), Fail> {
     let mut outcome = world.step(&first)?;
     events.push(first)?;
@@ -441,7 +441,7 @@ fn happen(world: &mut World, first: Event, events: &mut Vec<Event>) -> Result<()
     Ok(())
 }
 
-/// Both worlds have the same holders, and the same comes of the delivery of each datagram, and of a request behind them.
+/// Both worlds have the same holders, and the same comes of the delivery of each datagram, and of a request after them.
 fn expect_same<R: Abort>(rt: &R, one: &mut World, other: &mut World) -> Result<(), Fail> {
     for name in [FRED, TEAM] {
         let name = Name::new(name, b"")?;
