@@ -83,7 +83,7 @@ static uint16_t id_of(const unsigned char *octets) {
     return (uint16_t)(octets[0] << 8 | octets[1]);
 }
 
-/* Queries a second, OUTSTANDING at a time; what doesn't come within 100 ms is lost, and so many are sent anew. */
+/* Queries a second, OUTSTANDING at a time; what doesn't come within 100 ms is lost, and as many are sent anew. */
 static double queries(const struct sockaddr_in *to, char letter, unsigned names, int flags) {
     unsigned char out[80], in[600];
     unsigned sent = 0, answered = 0, open = 0;

@@ -60,9 +60,9 @@ pub fn a_slot_is_whole_where_its_fragments_make_up_data()
 
 /// A joiner that was given packets one after the other, with sweeps between them, carries of each SOURCE_IP,
 /// SOURCE_PORT and DGM_ID exactly the fragments since their datagram began; and it tells what these and the packet's
-/// own make up: Whole where they make up data, with these and their names, Waiting where they make up none, and
-/// `Conflict` where it doesn't agree with one of them. The packet is a fragment, and no earlier than the last packet or
-/// sweep. What packets leave unfinished is one thing.
+/// own make up: Whole where they make up data, with these and their names, Waiting where they make up none, `Conflict`
+/// where it doesn't agree with one of them, `TooLong` past 512 octets, and `Full` only where none is carried. The packet
+/// is a fragment, and no earlier than the last packet or sweep. What packets leave unfinished is one thing.
 pub fn a_joiner_carries_the_fragments_of_each_key()
     ensures carried { (count : ℕ) (puts : List Put) (j : JoinerValue) (place : ℕ) (s : Slot) → Run count puts j
         → slice_get j.slots place ≡ Some (Some s)
