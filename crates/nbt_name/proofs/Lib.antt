@@ -16,6 +16,8 @@ pub mod Passing
 pub mod WireForms
 -- at each place stands one name or one fault, and the reader comes to an end
 pub mod Ends
+-- the reader makes at most 112 steps for each octet, and 112 more
+pub mod Counts
 -- in all octets, at each place, stands one of the two
 pub mod Looking
 -- a wire form is read as its name, wherever it stands

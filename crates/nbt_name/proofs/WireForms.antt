@@ -65,7 +65,7 @@ AreOctets-take n xs fits k =
     ]
 
 -- n octets from a place on, where they stand
-length-range : (octets : List ℕ) (p n : ℕ) → p + n ≤ length octets → length (slice_range octets p (p + n)) ≡ n
+pub length-range : (octets : List ℕ) (p n : ℕ) → p + n ≤ length octets → length (slice_range octets p (p + n)) ≡ n
 length-range octets p n fits = omega (arith, length-take ((p + n) - p) (drop p octets), length-drop p octets)
 
 letters_in_range : (octets : List ℕ) (p n : ℕ) → p + n ≤ length octets → LettersAt octets p n → AreLetters (slice_range octets p (p + n))

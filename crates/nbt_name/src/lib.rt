@@ -11,9 +11,11 @@ pub mod laws;
 mod name;
 mod reader;
 mod reading;
+mod steps;
 mod wire;
 
 pub use addr::{Addr, Kind};
 pub use fault::{NameFault, NameFaultKind, NameRefusal};
 pub use name::Name;
-pub use reading::{read_in, read_plain};
+pub use reading::{read_in, read_in_counted, read_plain};
+pub use steps::Steps;

@@ -1,6 +1,6 @@
 //! Reading names from octets (RFC 1002 section 4.1).
 
-ghost use Rattle.std.specs.Prelude.{◌≡◌, ℕ, ◌≤◌, ◌↔◌, Ok, Err, IfOk, IfErr, length};
+ghost use Rattle.std.specs.Prelude.{◌≡◌, ℕ, ◌+◌, ◌*◌, ◌<◌, ◌≤◌, ◌↔◌, Ok, Err, IfOk, IfErr, length};
 ghost use Rattle.nbt_name.specs.declared.fault.NameFault.{NameFault};
 ghost use Rattle.nbt_name.specs.Wire.{NameValue};
 ghost use Rattle.nbt_name.specs.Reading.{Stands, Fails, NameAt, PlainNameAt, FaultAt, PlainFaultAt};
@@ -9,6 +9,9 @@ use crate::fault::NameFault;
 use crate::form::Form;
 use crate::name::Name;
 use crate::reader::{Progress, Reader};
+use crate::steps::Steps;
+use std::marker::Brand;
+use std::sync::ledger::{Blank, Ledger};
 
 /// Reads the plain name that stands at `place`, and returns it with the place after it. A pointer is a fault
 /// (`BadPointer`). The fault is the first one in reading order, with its place (RFC 1002 section 4.1). That `place` is
@@ -19,7 +22,7 @@ pub fn read_plain(octets: &[u8], place: usize) -> Result<(Name, usize), NameFaul
     ensures fault { (fault : NameFault) → (result ≡ Err fault) ↔ PlainFaultAt octets.now place fault }
     ensures within { IfOk result (λ read. read.1 ≤ length octets.now) }
 {
-    read(Form::Plain, octets, place)
+    read_uncounted::<Brand>(Form::Plain, octets, place, Blank::new(1))
 }
 
 /// Reads the name that stands at `place`, following pointers, and returns it with the place after it: after the first
@@ -31,17 +34,59 @@ pub fn read_in(octets: &[u8], place: usize) -> Result<(Name, usize), NameFault>
     ensures fault { (fault : NameFault) → (result ≡ Err fault) ↔ FaultAt octets.now place fault }
     ensures within { IfOk result (λ read. read.1 ≤ length octets.now) }
 {
-    read(Form::Compressed, octets, place)
+    read_uncounted::<Brand>(Form::Compressed, octets, place, Blank::new(1))
 }
 
-/// Reads a name in one of the two forms: what is found stands there.
-fn read(form: Form, octets: &[u8], place: usize) -> Result<(Name, usize), NameFault>
+/// What `read_in` does, in at most 112 steps for each octet and 112 more, whatever the octets are (our profile). A step
+/// is a label passed, a pointer followed, or the closing zero; each turn of the reader's one loop adds one to `steps`. That
+/// no step is left out is read there: the clause on `steps` says only that no more were counted.
+pub fn read_in_counted<L: Ledger>(
+    octets: &[u8],
+    place: usize,
+    steps: &mut Steps<L>,
+) -> Result<(Name, usize), NameFault>
     requires { place ≤ length octets.now }
+    ensures name { (name : NameValue) (next : ℕ) → (result ≡ Ok (name, next)) ↔ NameAt octets.now place name next }
+    ensures fault { (fault : NameFault) → (result ≡ Err fault) ↔ FaultAt octets.now place fault }
+    ensures within { IfOk result (λ read. read.1 ≤ length octets.now) }
+    ensures steps { steps.new ≤ steps.old + 112 * (length octets.now + 1) }
+{
+    read(Form::Compressed, octets, place, steps)
+}
+
+/// Reads a name in one of the two forms, where nobody counts the steps.
+fn read_uncounted<L: Ledger>(
+    form: Form,
+    octets: &[u8],
+    place: usize,
+    blank: Blank,
+) -> Result<(Name, usize), NameFault>
+    requires place { place ≤ length octets.now }
+    requires name { blank.name ≡ L.name }
+    requires parts { blank.parts ≡ L.parts }
+    requires some { 0 < blank.parts }
     ensures name { IfOk result (λ read. Stands form octets.now place read.0 read.1) }
     ensures fault { IfErr result (Fails form octets.now place) }
 {
+    let mut steps = Steps::<L>::new(blank);
+    read(form, octets, place, &mut steps)
+}
+
+/// Reads a name in one of the two forms: what is found stands there.
+fn read<L: Ledger>(
+    form: Form,
+    octets: &[u8],
+    place: usize,
+    steps: &mut Steps<L>,
+) -> Result<(Name, usize), NameFault>
+    requires { place ≤ length octets.now }
+    ensures name { IfOk result (λ read. Stands form octets.now place read.0 read.1) }
+    ensures fault { IfErr result (Fails form octets.now place) }
+    ensures steps { steps.new ≤ steps.old + 112 * (length octets.now + 1) }
+{
     let mut reader = Reader::new(place);
     'steps: loop {
+        steps.add_one();
         match reader.turn(form, octets)? {
             Progress::Moved => {}
             Progress::Closed(sixteen) => {

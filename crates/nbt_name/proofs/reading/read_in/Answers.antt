@@ -4,7 +4,7 @@ use Rattle.nbt_name.proofs.reading.read_in.Goals as goal
 
 pub returns : goal.returns
 returns c = record {
-  name = name_iff Compressed c.args.octets.now c.args.place c.read.result c.read.ensures.name c.read.ensures.fault;
-  fault = fault_iff Compressed c.args.octets.now c.args.place c.read.result c.read.ensures.name c.read.ensures.fault;
-  within = result_within Compressed c.args.octets.now c.args.place c.read.result c.read.ensures.name;
+  name = name_iff Compressed c.args.octets.now c.args.place c.read_uncounted.result c.read_uncounted.ensures.name c.read_uncounted.ensures.fault;
+  fault = fault_iff Compressed c.args.octets.now c.args.place c.read_uncounted.result c.read_uncounted.ensures.name c.read_uncounted.ensures.fault;
+  within = result_within Compressed c.args.octets.now c.args.place c.read_uncounted.result c.read_uncounted.ensures.name;
 }

@@ -1,0 +1,48 @@
+-- How many steps a reader makes: fewer than 112 labels fit into a name, and between two labels each pointer leads to a smaller place.
+use Rattle.std.proofs.Common.{◌≡◌, ℕ, suc, ◌+◌, ◌*◌, ◌≤◌, List, [], ◌∷◌, length, ap, arith}
+use Rattle.std.specs.Prelude.{slice_range}
+use Rattle.std.proofs.Math.Nat.{mul-le-mul_right}
+use Rattle.std.proofs.lemmas.List.{length-append}
+use Rattle.nbt_name.specs.declared.form.Form.{Form}
+use Rattle.nbt_name.proofs.WireForms.{length-range}
+use Rattle.nbt_name.specs.Reading.{Spot, Step, letters_pass, label_passes, pointer_leads}
+
+-- how many labels were passed, by the octets that they take
+pub data AreLabels (passed : List ℕ) : ℕ → Type 0 where
+  no_label : passed ≡ [] → AreLabels passed 0
+  some_labels : (labels : ℕ) → 2 * labels + 31 ≤ length passed → length passed ≤ 254 → AreLabels passed labels
+
+-- the count, of a reader that began with `base`: each label adds at most the octets' length and one
+pub record IsCounted (octets : List ℕ) (base : ℕ) (at : Spot) (count : ℕ) : Type 0 where
+  pub labels : ℕ
+  pub are_labels : AreLabels at.passed labels
+  pub bound : count + at.place ≤ base + labels * suc (length octets)
+
+by_labels : {form : Form} (octets : List ℕ) (base count labels : ℕ) {s t : Spot} → Step form octets s t → AreLabels s.passed labels → count + s.place ≤ base + labels * suc (length octets) → IsCounted octets base t (count + 1)
+by_labels octets base count labels {s} (letters_pass first finds fits are) (no_label none) bound =
+    let taken = length-append s.passed (32 ∷ slice_range octets (s.place + 1) (s.place + 1 + 32)) in
+    let letters = length-range octets (s.place + 1) 32 (omega arith) in
+    let empty : length s.passed ≡ 0 = ap length first in
+    record { labels = 1; are_labels = some_labels 1 (omega (arith, taken, letters, empty)) (omega (arith, taken, letters, empty)); bound = omega arith }
+by_labels octets base count labels {s} (letters_pass first finds fits are) (some_labels q enough most) bound =
+    let empty : length s.passed ≡ 0 = ap length first in
+    absurd (omega (arith, empty))
+by_labels octets base count labels (label_passes n later finds low high room fits) (no_label none) bound = absurd (later none)
+by_labels octets base count labels {s} (label_passes n later finds low high room fits) (some_labels q enough most) bound =
+    let taken = length-append s.passed (n ∷ slice_range octets (s.place + 1) (s.place + 1 + n)) in
+    let label = length-range octets (s.place + 1) n (omega arith) in
+    record { labels = suc q; are_labels = some_labels (suc q) (omega (arith, taken, label)) (omega (arith, taken, label)); bound = omega arith }
+by_labels octets base count labels (pointer_leads high low compressed finds le at back) are_labels bound = record { labels = labels; are_labels = are_labels; bound = omega arith }
+
+pub step_counts : {form : Form} (octets : List ℕ) (base count : ℕ) {s t : Spot} → Step form octets s t → IsCounted octets base s count → IsCounted octets base t (count + 1)
+step_counts octets base count step counted = by_labels octets base count counted.labels step counted.are_labels counted.bound
+
+-- with the turn that it is in, a reader has made at most 112 steps for each octet, and 112 more
+pub turns_bounded : (octets : List ℕ) (old place count : ℕ) (at : Spot) → place ≤ length octets → IsCounted octets (old + place) at count → count + 1 ≤ old + 112 * (length octets + 1)
+turns_bounded octets old place count at within counted =
+    let few : counted.labels ≤ 111 = few_labels at.passed counted.labels counted.are_labels in
+    omega (arith, counted.bound, mul-le-mul_right (suc (length octets)) few)
+  where
+    few_labels : (passed : List ℕ) (labels : ℕ) → AreLabels passed labels → labels ≤ 111
+    few_labels passed labels (no_label none) = omega arith
+    few_labels passed labels (some_labels q enough most) = omega arith
