@@ -2,7 +2,7 @@
 
 use super::{FRED, STAR, TEAM, fred, name_of, patched};
 use arrayvec::ArrayVec;
-use nbt_name::{Kind, Name, NameFaultKind};
+use nbt_name::{Kind, Name, NameFaultKind, read_in};
 use nbt_packet::laws::{
     few_rows_are_written, one_message, one_message_spelled, one_packet_or_fault,
     spelled_message_fits, written_form_is_read, written_length,
@@ -233,6 +233,10 @@ fn registration_of_fred(rt: HostRuntime) -> Result<(), Fail> {
     Ok(())
 }
 
+/// A query whose name is FRED's first label, and then a pointer to that label again, and so on.
+const ROUND_AND_ROUND: &[u8] =
+    b"\x00\x01\x01\x00\x00\x01\x00\x00\x00\x00\x00\x00 EGFCEFEECACACACACACACACACACACACA\xC0\x0C\x00\x20\x00\x01";
+
 /// Octets, with others at some places; the first fault, and its place.
 type Fails = (&'static [u8], &'static [(usize, u8)], FaultKind, usize);
 
@@ -244,6 +248,12 @@ const FAULTS: &[Fails] = &[
         QUERY,
         &[(12, 0xC0), (13, 0x0C)],
         FaultKind::Name(NameFaultKind::BadPointer),
+        12,
+    ),
+    (
+        ROUND_AND_ROUND,
+        &[],
+        FaultKind::Name(NameFaultKind::Long),
         12,
     ),
     (
@@ -380,6 +390,41 @@ fn packets_cut_at_every_length(rt: HostRuntime) -> Result<(), Fail> {
         }
         assert!(rt; read(octets).is_some(), "{octets:?}");
     }
+    Ok(())
+}
+
+/// A packet up to its answer's data: the answer is of FRED, and has 2,000 octets of data, from place 56 on.
+const UP_TO_DATA: &[u8] =
+    b"\x00\x01\x85\x80\x00\x00\x00\x01\x00\x00\x00\x01 EGFCEFEECACACACACACACACACACACACA\x00\x00\x20\x00\x01\x00\x00\x00\x00\x07\xD0";
+
+/// An additional record without data, whose name is a pointer to place 2,054.
+const ADDITIONAL: &[u8] = b"\xC8\x06\x00\x20\x00\x01\x00\x00\x00\x00\x00\x00";
+
+/// That packet with 1,000 pointers as its data, the first one to this place, and each later one to the one before it.
+fn chain_of_1000_pointers(rt: &HostRuntime, first: u8) -> Result<Vec<u8>, Fail> {
+    let mut octets = Vec::from_slice(rt.alloc(), UP_TO_DATA)?;
+    octets.extend_from_slice(&[0xC0, first])?;
+    for k in 0..999u16 {
+        octets.extend_from_slice(&(0xC038 + 2 * k).to_be_bytes())?;
+    }
+    octets.extend_from_slice(ADDITIONAL)?;
+    Ok(octets)
+}
+
+#[test]
+fn a_name_at_the_end_of_1000_pointers(rt: HostRuntime) -> Result<(), Fail> {
+    let octets = chain_of_1000_pointers(&rt, 12)?;
+    let (_, length) = decode(&octets)?;
+    assert_eq!(rt; length, 2_068);
+    assert_eq!(rt; octets.len(), 2_068);
+    assert!(rt; read_in(&octets, 2_056) == Ok((fred(b"")?, 2_058)));
+
+    let octets = chain_of_1000_pointers(&rt, 56)?;
+    let to_itself = Fault {
+        kind: FaultKind::Name(NameFaultKind::BadPointer),
+        place: 56,
+    };
+    assert_eq!(rt; decode(&octets).err(), Some(to_itself));
     Ok(())
 }
 
