@@ -26,6 +26,3 @@ pub use msg_type::{Delivery, Lookup, MsgType};
 pub use outcome::Accept;
 pub use splitting::{Fragments, split};
 pub use writing::encode;
-
-#[cfg(test)]
-mod tests;

@@ -4,6 +4,7 @@ use nbt_lease::Moment;
 use nbt_name::Name;
 use std::test::Fail;
 
+mod datagrams;
 mod names;
 mod node;
 mod packets;

@@ -1,0 +1,531 @@
+//! Datagrams from outside: the packets of our profile over RFC 1002's layouts (section 4.4), FRED's and TEAM's.
+
+use super::{at, fred, patched, team};
+use arrayvec::ArrayVec;
+use nbt_dgram::laws::{
+    a_joiner_carries_the_fragments_of_each_key, a_packet_does_one_thing,
+    a_slot_is_whole_where_its_fragments_make_up_data, fragments_make_up_one_whole,
+    octets_mean_one_thing, one_datagram_or_fault, what_is_read_fits, written_form_is_read,
+};
+use nbt_dgram::{
+    Accept, Body, Delivery, Dgram, DgramFault, DgramFaultKind, Dropped, Fragment, Fragments, Full,
+    Joined, Joiner, Lookup, MsgType, Names, Part, Payload, TooLong, accept, decode, encode, split,
+};
+use nbt_lease::Config;
+use nbt_name::{Addr, Kind};
+use nbt_node::{Event, Node};
+use std::process::Abort;
+use std::test::Fail;
+
+/// Five octets from FRED at 127.0.0.2:138 to the group TEAM, with id 1.
+const HELLO: &[u8] =
+    b"\x11\x06\x00\x01\x7F\x00\x00\x02\x00\x8A\x00\x49\x00\x00 EGFCEFEECACACACACACACACACACACACA\x00 FEEFEBENCACACACACACACACACACACACA\x00hello";
+
+/// The error packet that 127.0.0.3:138 returns where TEAM is not held there.
+const NOT_PRESENT: &[u8] = b"\x13\x06\x00\x01\x7F\x00\x00\x03\x00\x8A\x82";
+
+/// Four labels of at most 63 octets, 221 octets with their length octets.
+const LONG_SCOPE: &[u8] =
+    b"\x3Faaaaaaaaaaaaaaaaaaaaaaaaaaaaaaaaaaaaaaaaaaaaaaaaaaaaaaaaaaaaaaa\x3Faaaaaaaaaaaaaaaaaaaaaaaaaaaaaaaaaaaaaaaaaaaaaaaaaaaaaaaaaaaaaaa\x3Faaaaaaaaaaaaaaaaaaaaaaaaaaaaaaaaaaaaaaaaaaaaaaaaaaaaaaaaaaaaaaa\x1Caaaaaaaaaaaaaaaaaaaaaaaaaaaa";
+
+const FIRST_END: Addr = Addr {
+    ip: 0x7F000002,
+    port: 138,
+};
+
+const SECOND_END: Addr = Addr {
+    ip: 0x7F000003,
+    port: 138,
+};
+
+/// The packets that these octets of data are split into.
+fn fragments<'a>(
+    delivery: Delivery,
+    scope: &[u8],
+    payload: &'a [u8],
+) -> Result<Fragments<'a>, Fail> {
+    Ok(split(
+        delivery,
+        1,
+        FIRST_END,
+        &fred(scope)?,
+        &team(scope)?,
+        payload,
+    )?)
+}
+
+/// The octets of the packets that data of 512 octets are split into.
+fn written(rt: &HostRuntime, scope: &[u8]) -> Result<Vec<Vec<u8>>, Fail> {
+    let payload = [7; 512];
+    let packets = fragments(Delivery::DirectGroup, scope, &payload)?;
+    let mut all = Vec::new(rt.alloc());
+    for packet in packets.as_slice() {
+        if !packet.fits() {
+            return Err("a packet that doesn't fit")?;
+        }
+        let mut out = ArrayVec::new();
+        encode(packet, &mut out)?;
+        all.push(Vec::from_slice(rt.alloc(), out.as_slice())?)?;
+    }
+    Ok(all)
+}
+
+/// A fragment of a datagram to TEAM with this id.
+fn piece(id: u16, part: Part, more: bool, payload: &[u8]) -> Dgram<'_> {
+    Dgram {
+        id,
+        source: FIRST_END,
+        body: Body::Fragment(Fragment {
+            delivery: Delivery::DirectGroup,
+            part,
+            more,
+            payload,
+        }),
+    }
+}
+
+#[test]
+fn hello_is_read_and_written(rt: HostRuntime) -> Result<(), Fail> {
+    let (dgram, count) = decode(HELLO)?;
+    assert_eq!(rt; count, 87);
+    assert_eq!(rt; dgram.msg_type().number(), 0x11);
+    assert_eq!(rt; dgram.id, 1);
+    assert_eq!(rt; dgram.source, FIRST_END);
+    assert!(rt; dgram.has_data());
+    assert!(rt; dgram.fits());
+    let mut out = ArrayVec::new();
+    encode(&dgram, &mut out)?;
+    assert_eq!(rt; out.as_slice(), HELLO);
+    let Body::Fragment(fragment) = dgram.body else {
+        return Err("no data")?;
+    };
+    assert_eq!(rt; fragment.payload, b"hello".as_slice());
+    assert_eq!(rt; fragment.part.offset(), 0);
+    assert!(rt; !fragment.more);
+    let Part::First(names) = fragment.part else {
+        return Err("no names")?;
+    };
+    assert_eq!(rt; names.source, fred(b"")?);
+    assert_eq!(rt; names.copy().destination, team(b"")?);
+    Ok(())
+}
+
+/// The scope of two names; of the packets that data of 512 octets are split into the lengths, and of some octets, by
+/// packet and place, what they are: flags, lengths and offsets.
+type Splits = (&'static [u8], [usize; 2], &'static [(usize, usize, u8)]);
+
+const SPLITS: &[Splits] = &[
+    // Two names of 255 octets leave 52 octets in the first packet.
+    (
+        LONG_SCOPE,
+        [576, 474],
+        &[
+            (0, 1, 0x07),
+            (0, 10, 0x02),
+            (0, 11, 0x32),
+            (0, 12, 0x00),
+            (0, 13, 0x00),
+            (1, 1, 0x04),
+            (1, 12, 0x00),
+            (1, 13, 0x34),
+        ],
+    ),
+    // Two names without a scope leave 494.
+    (
+        b"",
+        [576, 32],
+        &[(1, 10, 0x00), (1, 11, 0x12), (1, 12, 0x01), (1, 13, 0xEE)],
+    ),
+];
+
+#[test]
+fn data_of_512_octets_are_split(rt: HostRuntime) -> Result<(), Fail> {
+    for (scope, lengths, octets) in SPLITS {
+        let packets = written(&rt, scope)?;
+        assert_eq!(rt; packets.len(), 2);
+        for (packet, length) in packets.iter().zip(lengths) {
+            assert_eq!(rt; packet.len(), *length);
+        }
+        for (which, place, octet) in *octets {
+            let packet = packets.get(*which).ok_or("no such packet")?;
+            assert_eq!(rt; packet.get(*place), Some(octet), "{place}");
+        }
+    }
+    Ok(())
+}
+
+#[test]
+fn more_than_512_octets_are_too_long(rt: HostRuntime) -> Result<(), Fail> {
+    let names = (fred(b"")?, team(b"")?);
+    let long = [7; 513];
+    let refused = split(
+        Delivery::DirectUnique,
+        1,
+        FIRST_END,
+        &names.0,
+        &names.1,
+        &long,
+    );
+    assert!(rt; matches!(refused, Err(TooLong)));
+    assert_eq!(rt; TooLong.number(), 1);
+    assert_eq!(rt; fragments(Delivery::DirectUnique, b"", b"hello")?.len(), 1);
+    Ok(())
+}
+
+/// What is done with a joiner of one slot, and what that leads to.
+#[derive(Clone, Copy, Debug)]
+enum Step {
+    /// A packet of those that data of 512 octets are split into, with other octets at some places, is put at a moment.
+    Put(usize, &'static [(usize, u8)], u64, Told),
+    /// At moment 0 two octets at an offset are put, the last ones or not, of a datagram with an id.
+    Piece(u16, u16, bool, Told),
+    /// A sweep at a moment empties as many slots.
+    Sweep(u64, usize),
+}
+
+/// What a joiner tells: whole data of a length, or what else.
+#[derive(Clone, Copy, Debug, PartialEq)]
+enum Told {
+    Whole(usize),
+    Waiting,
+    Dropped(u8),
+}
+
+fn outcome_of(joined: Joined<'_>) -> Told {
+    match joined {
+        Joined::Whole(_, payload) => Told::Whole(payload.as_slice().len()),
+        Joined::Waiting => Told::Waiting,
+        Joined::Dropped(why) => Told::Dropped(why.number()),
+    }
+}
+
+fn put(joiner: &mut Joiner<1>, ms: u64, dgram: &Dgram<'_>) -> Result<Told, Fail> {
+    if !dgram.has_data() {
+        return Err("no data")?;
+    }
+    Ok(outcome_of(joiner.put(at(ms)?, dgram)))
+}
+
+const TOO_LONG: Told = Told::Dropped(1);
+
+const CONFLICT: Told = Told::Dropped(2);
+
+const FULL: Told = Told::Dropped(3);
+
+const CLOCK_BACK: Told = Told::Dropped(4);
+
+const JOINS: &[(&str, &[u8], &[Step])] = &[
+    (
+        "fragments are joined in any order",
+        LONG_SCOPE,
+        &[
+            Step::Put(1, &[], 100, Told::Waiting),
+            Step::Put(0, &[], 200, Told::Whole(512)),
+            Step::Put(0, &[], 300, Told::Waiting),
+            Step::Sweep(2300, 0),
+            Step::Sweep(2301, 1),
+            Step::Put(0, &[], 2300, CLOCK_BACK),
+            Step::Sweep(2300, 0),
+        ],
+    ),
+    (
+        "fragments that disagree empty the slot",
+        b"",
+        &[
+            Step::Put(1, &[], 100, Told::Waiting),
+            Step::Put(1, &[(14, 8)], 100, CONFLICT),
+            Step::Put(0, &[], 100, Told::Waiting),
+            Step::Put(1, &[(14, 8), (3, 2)], 100, FULL),
+        ],
+    ),
+    (
+        "a gap stays a gap",
+        b"",
+        &[
+            Step::Piece(1, 0, true, Told::Waiting),
+            Step::Piece(1, 4, false, Told::Waiting),
+            Step::Piece(1, 2, true, Told::Whole(6)),
+            Step::Piece(2, 511, true, TOO_LONG),
+        ],
+    ),
+    (
+        "a datagram is waited for 2,000 ms",
+        b"",
+        &[
+            Step::Put(0, &[], 0, Told::Waiting),
+            Step::Put(1, &[], 2000, Told::Whole(512)),
+            Step::Put(0, &[], 3000, Told::Waiting),
+            Step::Put(1, &[], 5001, Told::Waiting),
+        ],
+    ),
+];
+
+#[test]
+fn fragments_are_joined(rt: HostRuntime) -> Result<(), Fail> {
+    for (what, scope, steps) in JOINS {
+        let packets = written(&rt, scope)?;
+        let mut joiner = Joiner::new();
+        for step in *steps {
+            match *step {
+                Step::Put(which, patches, ms, expected) => {
+                    let packet = packets.get(which).ok_or("no such packet")?;
+                    let octets = patched(&rt, packet, patches)?;
+                    let (dgram, _) = decode(&octets)?;
+                    assert_eq!(rt; put(&mut joiner, ms, &dgram)?, expected, "{what}");
+                }
+                Step::Piece(id, offset, more, expected) => {
+                    let part = part_at(offset)?;
+                    let dgram = piece(id, part, more, b"ab");
+                    assert_eq!(rt; put(&mut joiner, 0, &dgram)?, expected, "{what}");
+                }
+                Step::Sweep(ms, emptied) => {
+                    assert_eq!(rt; joiner.sweep(at(ms)?), emptied, "{what}")
+                }
+            }
+        }
+    }
+    Ok(())
+}
+
+/// The part at an offset: the first one has the names.
+fn part_at(offset: u16) -> Result<Part, Fail> {
+    if offset > 0 {
+        return Ok(Part::Later(offset));
+    }
+    Ok(Part::First(Names {
+        source: fred(b"")?,
+        destination: team(b"")?,
+    }))
+}
+
+/// What a datagram means for the node at 127.0.0.3.
+#[derive(Clone, Copy, Debug, PartialEq)]
+enum Means {
+    /// `hello` for TEAM.
+    Up,
+    /// The error packet for its sender.
+    Reply,
+    /// An error with an id and a code.
+    Error(u16, u8),
+    Waiting,
+    Nothing,
+}
+
+fn meaning_of(accepted: Accept<'_>) -> Result<Means, Fail> {
+    Ok(match accepted {
+        Accept::Up(names, payload) => {
+            let is_hello = matches!(payload, Payload::Lent(_))
+                && payload.as_slice() == b"hello".as_slice();
+            if !is_hello || names.destination != team(b"")? {
+                return Err("something else is handed up")?;
+            }
+            Means::Up
+        }
+        Accept::Reply(to) if to == FIRST_END => Means::Reply,
+        Accept::Reply(_) => return Err("a reply to somebody else")?,
+        Accept::Error(id, code) => Means::Error(id, code),
+        Accept::Waiting => Means::Waiting,
+        Accept::Nothing => Means::Nothing,
+    })
+}
+
+/// A node at 127.0.0.3 that was granted the group TEAM for 60 s at 60,000, or asked for nothing.
+fn node(is_granted: bool) -> Result<Node<1>, Fail> {
+    let config = Config::new(1000, 60, 4096)?;
+    let mut node = Node::start(SECOND_END, FIRST_END, config, at(0)?);
+    if is_granted {
+        let mut out = ArrayVec::new();
+        node.ask(at(60_000)?, &team(b"")?, Kind::Group, 60, &mut out)?;
+        let reply =
+            b"\x00\x01\xAD\x80\x00\x00\x00\x01\x00\x00\x00\x00 FEEFEBENCACACACACACACACACACACACA\x00\x00\x20\x00\x01\x00\x00\x00\x3C\x00\x06\xA0\x00\x7F\x00\x00\x03";
+        let heard = node.on_datagram(at(60_000)?, FIRST_END, reply, &mut out);
+        if !matches!(heard, Ok(Event::Granted(60))) {
+            return Err("TEAM isn't granted")?;
+        }
+    }
+    Ok(node)
+}
+
+/// Whether TEAM was granted, the moment, who sent the datagram, its octets with others at some places, and what it means.
+type Accepts = (
+    bool,
+    u64,
+    Addr,
+    &'static [u8],
+    &'static [(usize, u8)],
+    Means,
+);
+
+const ACCEPTS: &[Accepts] = &[
+    (true, 60_000, SECOND_END, HELLO, &[], Means::Up),
+    (true, 120_000, SECOND_END, HELLO, &[], Means::Nothing),
+    (false, 1, SECOND_END, HELLO, &[(0, 0x10)], Means::Reply),
+    (false, 1, SECOND_END, HELLO, &[], Means::Nothing),
+    (false, 1, SECOND_END, HELLO, &[(0, 0x12)], Means::Nothing),
+    (false, 1, SECOND_END, HELLO, &[(0, 0x17)], Means::Nothing),
+    (false, 1, FIRST_END, NOT_PRESENT, &[], Means::Error(1, 0x82)),
+    (false, 1, SECOND_END, HELLO, &[(1, 0x07)], Means::Waiting),
+];
+
+#[test]
+fn datagrams_are_for_names_that_are_held(rt: HostRuntime) -> Result<(), Fail> {
+    for (is_granted, ms, from, octets, patches, expected) in ACCEPTS {
+        let node = node(*is_granted)?;
+        let octets = patched(&rt, octets, patches)?;
+        let mut joiner: Joiner<1> = Joiner::new();
+        let mut out = ArrayVec::new();
+        let accepted = accept(&mut joiner, at(*ms)?, &node, *from, &octets, &mut out);
+        assert_eq!(rt; meaning_of(accepted)?, *expected, "{octets:?}");
+        let reply = if *expected == Means::Reply {
+            NOT_PRESENT
+        } else {
+            b"".as_slice()
+        };
+        assert_eq!(rt; out.as_slice(), reply);
+    }
+    Ok(())
+}
+
+/// Octets, with others at some places; the first fault, and its place.
+type Fails = (&'static [u8], &'static [(usize, u8)], DgramFaultKind, usize);
+
+const FAULTS: &[Fails] = &[
+    (b"", &[], DgramFaultKind::Short, 0),
+    (b"\x10", &[], DgramFaultKind::Short, 1),
+    (b"\x17", &[], DgramFaultKind::BadType, 0),
+    (
+        b"\x10\x06\x00\x01\x7F\x00\x00\x02\x00\x8A\x00\x00\x00\x01",
+        &[],
+        DgramFaultKind::BadOffset,
+        12,
+    ),
+    (
+        b"\x10\x06\x00\x01\x7F\x00\x00\x02\x00\x8A\x00\x00\x00\x00",
+        &[],
+        DgramFaultKind::BadLength,
+        10,
+    ),
+    (HELLO, &[(14, 0x21)], DgramFaultKind::BadLabel, 14),
+    (HELLO, &[(49, 0x51)], DgramFaultKind::BadHalf, 49),
+    (HELLO, &[(47, 0xC0)], DgramFaultKind::BadPointer, 47),
+    (HELLO, &[(11, 0x43)], DgramFaultKind::BadLength, 10),
+];
+
+#[test]
+fn faults_have_their_places(rt: HostRuntime) -> Result<(), Fail> {
+    for (octets, patches, kind, place) in FAULTS {
+        let octets = patched(&rt, octets, patches)?;
+        let fault = DgramFault {
+            kind: *kind,
+            place: *place,
+        };
+        assert_eq!(rt; decode(&octets).err(), Some(fault), "{patches:?}");
+    }
+    assert_eq!(rt; DgramFaultKind::BadLength.number(), 8);
+    Ok(())
+}
+
+/// A query of TEAM, of FRED's end.
+const QUERY: &[u8] =
+    b"\x14\x06\x00\x01\x7F\x00\x00\x02\x00\x8A FEEFEBENCACACACACACACACACACACACA\x00";
+
+/// Each datagram that is cut short has its fault at its end.
+#[test]
+fn datagrams_cut_at_every_length(rt: HostRuntime) {
+    for octets in [HELLO, QUERY, NOT_PRESENT] {
+        for place in 0..octets.len() {
+            let short = DgramFault {
+                kind: DgramFaultKind::Short,
+                place,
+            };
+            assert_eq!(rt; decode(&octets[..place]).err(), Some(short), "{place}");
+        }
+        assert!(rt; decode(octets).is_ok());
+    }
+}
+
+#[test]
+fn every_type_is_read_back(rt: HostRuntime) -> Result<(), Fail> {
+    for delivery in [
+        Delivery::DirectUnique,
+        Delivery::DirectGroup,
+        Delivery::Broadcast,
+    ] {
+        for more in [false, true] {
+            let names = Names {
+                source: fred(b"")?,
+                destination: team(LONG_SCOPE)?,
+            };
+            for part in [Part::First(names), Part::Later(9)] {
+                let body = Body::Fragment(Fragment {
+                    delivery,
+                    part,
+                    more,
+                    payload: b"hello",
+                });
+                assert!(rt; is_read_back(body)?);
+            }
+        }
+    }
+    for lookup in [Lookup::Request, Lookup::Positive, Lookup::Negative] {
+        assert!(rt; is_read_back(Body::Lookup(lookup, team(b"")?))?);
+    }
+    assert!(rt; is_read_back(Body::Error(0x84))?);
+    Ok(())
+}
+
+/// Whether a datagram with this body is read as it was written, also with octets after it.
+fn is_read_back(body: Body<'_>) -> Result<bool, Fail> {
+    let dgram = Dgram {
+        id: 0x1234,
+        source: SECOND_END,
+        body,
+    };
+    if !dgram.fits() {
+        return Err("a datagram that doesn't fit")?;
+    }
+    let mut out = ArrayVec::new();
+    encode(&dgram, &mut out)?;
+    let count = out.len();
+    out.try_push(0xFF)?;
+    let (read, taken) = decode(out.as_slice())?;
+    Ok(taken == count && read == dgram)
+}
+
+#[test]
+fn a_datagram_of_more_than_576_octets_is_not_written(rt: HostRuntime) -> Result<(), Fail> {
+    let payload = [7; 563];
+    let long = piece(1, Part::Later(0), false, &payload);
+    let mut out = ArrayVec::new();
+    out.push(1);
+    assert!(rt; long.fits());
+    assert_eq!(rt; encode(&long, &mut out), Err(Full));
+    assert!(rt; out.is_empty());
+    assert_eq!(rt; Full.number(), 1);
+    let just = piece(1, Part::Later(0), false, &payload[1..]);
+    assert!(rt; just.fits());
+    assert_eq!(rt; encode(&just, &mut out), Ok(()));
+    assert_eq!(rt; out.len(), 576);
+    Ok(())
+}
+
+#[test]
+fn a_joiner_takes_1584_octets_a_slot(rt: HostRuntime) -> Result<(), Fail> {
+    assert_eq!(rt; size_of::<Joiner<4>>(), 8 + 4 * 1584);
+    assert_eq!(rt; MsgType::of(0x16).ok_or("no type")?.number(), 0x16);
+    assert_eq!(rt; MsgType::of(0x0F), None);
+    assert_eq!(rt; Dropped::ClockBack.number(), 4);
+    Ok(())
+}
+
+#[test]
+fn the_laws_of_datagrams_are_called() {
+    one_datagram_or_fault();
+    written_form_is_read();
+    a_packet_does_one_thing();
+    octets_mean_one_thing();
+    what_is_read_fits();
+    a_joiner_carries_the_fragments_of_each_key();
+    fragments_make_up_one_whole();
+    a_slot_is_whole_where_its_fragments_make_up_data();
+}
