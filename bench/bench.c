@@ -16,12 +16,12 @@
 #include <time.h>
 #include <unistd.h>
 
-enum { ROUNDS = 5, NAMES = 4096, FEW = 10, OUTSTANDING = 32, QUERIES = 40000, NAME_AT = 12, NAME_LENGTH = 34 };
-enum measure { FEW_NAMES, ALL_NAMES, NOT_THERE, REGISTER, RENEW, ECHO, MEASURES };
+enum { ROUNDS = 5, NAMES = 4096, FEW = 10, OUTSTANDING = 32, QUERIES = 40000, NAME_AT = 12, NAME_LENGTH = 34, POINTERS = 990, DATA_AT = 56 };
+enum measure { FEW_NAMES, ALL_NAMES, NOT_THERE, CHAINS, REGISTER, RENEW, ECHO, MEASURES };
 
 static const char *const LABELS[MEASURES] = {
     "queries over 10 names", "queries over 4,096 names", "queries for names that aren't there",
-    "registrations of 4,096 names", "renewals of 4,096 names", "the same queries, echoed",
+    "queries, each after a chain of pointers", "registrations of 4,096 names", "renewals of 4,096 names", "the same queries, echoed",
 };
 
 static struct sockaddr_in server, echo_end;
@@ -79,18 +79,38 @@ static size_t put_registration(unsigned char *out, uint16_t id, unsigned number)
     return 68;
 }
 
+/* A packet of 2,048 octets whose additional record's name takes the most steps: it is a pointer to the last of 990, each of
+ * which leads to the one before it, and the first to a name (RFC 1002 section 4.2.1.3). The server has no reply to it. */
+static size_t put_chain(unsigned char *out) {
+    const unsigned last = DATA_AT + 2 * (POINTERS - 1), end = DATA_AT + 2 * POINTERS;
+    put_query(out, 0, 'N', 0);
+    out[2] = 0x85, out[3] = 0x80, out[5] = 0, out[7] = 1, out[11] = 1;
+    memset(out + 50, 0, 4);
+    out[54] = (unsigned char)(2 * POINTERS >> 8), out[55] = (unsigned char)(2 * POINTERS);
+    for (unsigned k = 0; k < POINTERS; k++) {
+        unsigned to = k ? DATA_AT + 2 * (k - 1) : NAME_AT;
+        out[DATA_AT + 2 * k] = (unsigned char)(0xc0 | to >> 8);
+        out[DATA_AT + 2 * k + 1] = (unsigned char)to;
+    }
+    out[end] = (unsigned char)(0xc0 | last >> 8), out[end + 1] = (unsigned char)last;
+    memcpy(out + end + 2, "\0\x20\0\1\0\0\0\0\0\0", 10);
+    return end + 12;
+}
+
 static uint16_t id_of(const unsigned char *octets) {
     return (uint16_t)(octets[0] << 8 | octets[1]);
 }
 
-/* Queries a second, OUTSTANDING at a time; what doesn't come within 100 ms is lost, and as many are sent anew. */
-static double queries(const struct sockaddr_in *to, char letter, unsigned names, int flags) {
+/* Queries a second, OUTSTANDING at a time, each after this other packet, if there is one; what doesn't come within 100 ms is
+ * lost, and as many are sent anew. */
+static double queries(const struct sockaddr_in *to, char letter, unsigned names, int flags, const unsigned char *before, size_t before_length) {
     unsigned char out[80], in[600];
     unsigned sent = 0, answered = 0, open = 0;
     double begun = seconds();
     while (answered < QUERIES) {
         while (open < OUTSTANDING && answered + open < QUERIES) {
             size_t length = put_query(out, (uint16_t)sent, letter, sent % names);
+            if (before_length && sendto(lookup_socket, before, before_length, 0, (const struct sockaddr *)to, sizeof *to) < 0) fail("sendto");
             if (sendto(lookup_socket, out, length, 0, (const struct sockaddr *)to, sizeof *to) < 0) fail("sendto");
             sent++;
             open++;
@@ -116,15 +136,16 @@ static double queries(const struct sockaddr_in *to, char letter, unsigned names,
 static double registrations(void) {
     unsigned char out[80], in[600];
     double begun = seconds();
-    for (unsigned first = 0; first < NAMES; first += OUTSTANDING) {
-        for (unsigned k = first; k < first + OUTSTANDING; k++) {
+    for (unsigned k = 0; k < NAMES + OUTSTANDING; k++) {
+        if (k < NAMES) {
             size_t length = put_registration(out, (uint16_t)k, k);
             if (sendto(owner_sockets[k], out, length, 0, (struct sockaddr *)&server, sizeof server) < 0) fail("sendto");
         }
-        for (unsigned k = first; k < first + OUTSTANDING; k++) {
-            ssize_t length = recv(owner_sockets[k], in, sizeof in, 0);
+        if (k >= OUTSTANDING) {
+            unsigned asked = k - OUTSTANDING;
+            ssize_t length = recv(owner_sockets[asked], in, sizeof in, 0);
             if (length < 0) lost++;
-            else if (length != 62 || id_of(in) != (uint16_t)k || in[2] != 0xad || in[3] != 0x80) wrong++;
+            else if (length != 62 || id_of(in) != (uint16_t)asked || in[2] != 0xad || in[3] != 0x80) wrong++;
         }
     }
     return NAMES / (seconds() - begun);
@@ -177,6 +198,8 @@ static int by_size(const void *a, const void *b) {
 int main(int count, char **words) {
     uint16_t port = (uint16_t)(count > 2 ? atoi(words[2]) : 21937);
     double taken[MEASURES][ROUNDS], median[MEASURES];
+    unsigned char chain[2048];
+    size_t chain_length = put_chain(chain);
     struct rlimit files = {.rlim_cur = NAMES + 64, .rlim_max = NAMES + 64};
     if (count < 2) return fprintf(stderr, "bench PROGRAM [PORT]\n"), 2;
     if (setrlimit(RLIMIT_NOFILE, &files) < 0) fail("setrlimit");
@@ -194,10 +217,11 @@ int main(int count, char **words) {
         taken[REGISTER][round] = registrations();
         taken[RENEW][round] = registrations();
         after = resident(served);
-        taken[FEW_NAMES][round] = queries(&server, 'N', FEW, 0x8580);
-        taken[ALL_NAMES][round] = queries(&server, 'N', NAMES, 0x8580);
-        taken[NOT_THERE][round] = queries(&server, 'X', NAMES, 0x8583);
-        taken[ECHO][round] = queries(&echo_end, 'N', NAMES, 0);
+        taken[FEW_NAMES][round] = queries(&server, 'N', FEW, 0x8580, NULL, 0);
+        taken[ALL_NAMES][round] = queries(&server, 'N', NAMES, 0x8580, NULL, 0);
+        taken[NOT_THERE][round] = queries(&server, 'X', NAMES, 0x8583, NULL, 0);
+        taken[CHAINS][round] = queries(&server, 'N', FEW, 0x8580, chain, chain_length);
+        taken[ECHO][round] = queries(&echo_end, 'N', NAMES, 0, NULL, 0);
     }
     for (int m = 0; m < MEASURES; m++) {
         qsort(taken[m], ROUNDS, sizeof taken[m][0], by_size);
@@ -210,6 +234,7 @@ int main(int count, char **words) {
     printf("10 names : echo          %.2f   (at least 0.8)\n", median[FEW_NAMES] / median[ECHO]);
     printf("not there : 10 names     %.2f   (at least 0.97)\n", median[NOT_THERE] / median[FEW_NAMES]);
     printf("renewals : 4,096 names   %.2f   (at least 0.8)\n", median[RENEW] / median[ALL_NAMES]);
+    printf("a chain : a query        %.1f    (less than 40)\n", median[FEW_NAMES] / median[CHAINS] - 1);
     kill(served, SIGTERM);
     kill(echo, SIGTERM);
     return 0;
