@@ -7,7 +7,8 @@ ghost use Rattle.nbt_packet.specs.Message.{MessageValue, message_of, message_if,
 ghost use Rattle.nbt_packet.specs.Spelling.{HasFewRows};
 ghost use Rattle.nbt_packet.specs.Text.{text};
 ghost use Rattle.nbt_lease.specs.Config.{IsConfig};
-ghost use Rattle.nbt_lease.specs.Lease.{leases_at};
+ghost use Rattle.nbt_lease.specs.Lease.{leases_at, latest_end, AreSound};
+ghost use Rattle.nbt_lease.specs.Rules.{IsLeastEnd};
 ghost use Rattle.nbt_server.specs.Serving.{AsksFor, IsOwn, fault_rcode, refusal, release_rcode, seconds_until, entries, Serves, NeedsMemory, written, Spelled};
 ghost use Rattle.nbt_packet.specs.Spelling.{Spells};
 
@@ -201,7 +202,8 @@ fn find(table: &Table, now: Moment, id: u16, name: Name, out: &mut ArrayVec<u8, 
         × ((ip : ℕ) → Serves table.now now ip (query id name) (Some reply) (leases_at now table.now.rows))
         × (out.new.items ≡ text reply) × Spells out.new.items reply }
 {
-    let Some(end) = table.least_end(now, &name) else {
+    let listed = list(table, now, &name);
+    let Some(end) = listed.end else {
         let missing = Message::NotFound {
             id,
             rcode: NAME_ERROR,
@@ -209,12 +211,11 @@ fn find(table: &Table, now: Moment, id: u16, name: Name, out: &mut ArrayVec<u8, 
         };
         return put(&missing, out);
     };
-    let entries = entries_of(table, now, &name);
     let found = Message::Found {
         id,
         name,
         ttl: seconds_left(now, end),
-        entries: entries.as_slice(),
+        entries: listed.entries.as_slice(),
     };
     put(&found, out);
 }
@@ -228,18 +229,30 @@ fn seconds_left(now: Moment, end: u64) -> u32
     milliseconds.div_ceil(1000) as u32
 }
 
-/// The entries of a name's live leases, in their order (RFC 1002 section 4.2.13).
-fn entries_of(table: &Table, now: Moment, name: &Name) -> ArrayVec<u8, ENTRIES_MOST>
+/// What a response to a query says of a name's live leases.
+#[derive(Drop)]
+struct Listed {
+    /// Their entries, in their order (RFC 1002 section 4.2.13).
+    entries: ArrayVec<u8, ENTRIES_MOST>,
+    /// The least of their ends; none where there is no lease.
+    end: Option<u64>,
+}
+
+/// What there is to say of a name's live leases, by one look-up.
+fn list(table: &Table, now: Moment, name: &Name) -> Listed
     requires { table.now.last ≤ now }
-    ensures entries { result.items ≡ entries (leases_at now table.now.rows name.now) }
-    ensures few { length (leases_at now table.now.rows name.now) ≤ 48 }
+    ensures entries { result.entries.items ≡ entries (leases_at now table.now.rows name.now) }
+    ensures end { IsLeastEnd (leases_at now table.now.rows name.now) result.end }
+    ensures sound { AreSound (latest_end table.now.config now) (leases_at now table.now.rows name.now) }
 {
     let mut entries = ArrayVec::new();
+    let mut end: Option<u64> = None;
     for lease in table.members(now, name) {
         let entry = entry_octets(lease.kind, lease.addr);
         entries.try_extend_from_slice(&entry).unwrap();
+        end = Some(end.unwrap_or(lease.end).min(lease.end));
     }
-    entries
+    Listed { entries, end }
 }
 
 /// Leaves in `out` the written form of a reply, which has at most 48 entries and so at most 576 octets.

@@ -1,33 +1,34 @@
-use Rattle.std.proofs.Common.{Some, arith}
+use Rattle.std.proofs.Common.{Some, subst, arith}
 use Rattle.nbt_packet.specs.Message.{found, not_found}
 use Rattle.nbt_lease.specs.Lease.{leases_at, latest_end}
+use Rattle.nbt_lease.specs.Rules.{IsLeastEnd}
 use Rattle.nbt_server.specs.Serving.{finds, finds_none}
 use Rattle.nbt_server.proofs.Rules.{entries_fit, ends_in_time}
 use Rattle.nbt_server.proofs.serving.find.Goals as goal
 
 pub returns-in_default : goal.returns-in_default
-returns-in_default c = (not_found c.args.id 3 (Some c.args.name), λ ip. finds_none _ _ c.in_default.ensures.end, c.put.ensures.form, c.put.ensures.spells)
+returns-in_default c = (not_found c.args.id 3 (Some c.args.name), λ ip. finds_none _ _ (subst (IsLeastEnd (leases_at c.args.now c.args.table.now.rows c.args.name)) c.in_default.is c.list-listed.ensures.end), c.put.ensures.form, c.put.ensures.spells)
 
 pub seconds_left-requires : goal.seconds_left-requires
 seconds_left-requires c =
-    let soon = ends_in_time (leases_at c.args.now c.args.table.now.rows c.args.name) (latest_end c.args.table.now.config c.args.now) c.in-Some.end c.in-Some.ensures.end (c.in-Some.ensures.sound c.args.name) in
+    let soon = ends_in_time (leases_at c.args.now c.args.table.now.rows c.args.name) (latest_end c.args.table.now.config c.args.now) c.in-Some.end (subst (IsLeastEnd (leases_at c.args.now c.args.table.now.rows c.args.name)) c.in-Some.is c.list-listed.ensures.end) c.list-listed.ensures.sound in
     let longest = c.requires.limits.longest in
     omega arith
 
 pub put-requires-2-clause-fits : goal.put-requires-2-clause-fits
 put-requires-2-clause-fits c =
-    let fit = entries_fit (leases_at c.args.now c.args.table.now.rows c.args.name) c.in-Some.end c.entries_of-entries.ensures.few c.in-Some.ensures.end in
-    rw (c.as_slice.ensures.value, c.entries_of-entries.ensures.entries) (fit.0, omega arith, fit.2)
+    let fit = entries_fit (leases_at c.args.now c.args.table.now.rows c.args.name) c.in-Some.end c.list-listed.ensures.sound.most (subst (IsLeastEnd (leases_at c.args.now c.args.table.now.rows c.args.name)) c.in-Some.is c.list-listed.ensures.end) in
+    rw (c.as_slice.ensures.value, c.list-listed.ensures.entries) (fit.0, omega arith, fit.2)
 
 pub put-requires-2-clause-few : goal.put-requires-2-clause-few
 put-requires-2-clause-few c =
-    let fit = entries_fit (leases_at c.args.now c.args.table.now.rows c.args.name) c.in-Some.end c.entries_of-entries.ensures.few c.in-Some.ensures.end in
-    rw (c.as_slice.ensures.value, c.entries_of-entries.ensures.entries) (omega arith)
+    let fit = entries_fit (leases_at c.args.now c.args.table.now.rows c.args.name) c.in-Some.end c.list-listed.ensures.sound.most (subst (IsLeastEnd (leases_at c.args.now c.args.table.now.rows c.args.name)) c.in-Some.is c.list-listed.ensures.end) in
+    rw (c.as_slice.ensures.value, c.list-listed.ensures.entries) (omega arith)
 
 pub returns : goal.returns
 returns c = (
   found c.args.id c.args.name c.seconds_left.result c.as_slice.result.now,
-  λ ip. rw (c.seconds_left.ensures, c.as_slice.ensures.value, c.entries_of-entries.ensures.entries) (finds c.args.id c.args.name c.in-Some.end c.in-Some.ensures.end),
+  λ ip. rw (c.seconds_left.ensures, c.as_slice.ensures.value, c.list-listed.ensures.entries) (finds c.args.id c.args.name c.in-Some.end (subst (IsLeastEnd (leases_at c.args.now c.args.table.now.rows c.args.name)) c.in-Some.is c.list-listed.ensures.end)),
   c.put-2.ensures.form,
   c.put-2.ensures.spells,
 )
