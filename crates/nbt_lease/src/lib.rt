@@ -25,6 +25,3 @@ pub use looks::Looks;
 pub use members::Members;
 pub use moment::Moment;
 pub use table::Table;
-
-#[cfg(test)]
-mod tests;

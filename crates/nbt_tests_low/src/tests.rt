@@ -5,6 +5,7 @@ use nbt_name::Name;
 use std::test::Fail;
 
 mod datagrams;
+mod leases;
 mod names;
 mod node;
 mod packets;

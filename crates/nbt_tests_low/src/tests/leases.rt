@@ -1,0 +1,416 @@
+//! Leases over time: the rows of our profile, and memory refused at each growth. A datagram lives 1,000 ms at most, and
+//! the longest lease is 60 s.
+
+ghost use Rattle.std.specs.Prelude.{◌≤◌, IfOk};
+
+use super::{FRED, TEAM, at, name_of};
+use arrayvec::ArrayVec;
+use nbt_lease::{Config, ConfigFault, Grant, GrantFault, Moment, Released, Table, laws};
+use nbt_name::{Kind, Name};
+use std::process::Abort;
+use std::test::Fail;
+
+const FIRST: u32 = 0x7F000002;
+
+const SECOND: u32 = 0x7F000003;
+
+/// What is asked of a table at a moment, and what has to come of it. A grant gives its seconds and its end, or why not.
+#[derive(Clone, Copy, Debug)]
+enum Step<'a> {
+    /// A name is asked for by an address, as a kind, for some seconds. Memory isn't refused.
+    Grant(u64, &'a [u8; 16], u32, Kind, u32, Result<(u32, u64), GrantFault>),
+    /// The group TEAM is asked for by the addresses from 1 on, as many as there are, for 60 s.
+    Join(u64, u32, Result<(u32, u64), GrantFault>),
+    /// The same as by `Grant`, but memory may be refused.
+    Grow(u64, &'a [u8; 16], u32, Kind, u32, Result<(u32, u64), GrantFault>),
+    /// The same as by `Join`, but memory may be refused.
+    JoinGrowing(u64, u32, Result<(u32, u64), GrantFault>),
+    /// FRED is released by an address.
+    Release(u64, u32, Released),
+    /// What is over is taken out.
+    Sweep(u64),
+    /// The least end of a name's leases.
+    LeastEnd(u64, &'a [u8; 16], Option<u64>),
+    /// The addresses and ends of a name's leases.
+    Members(u64, &'a [u8; 16], &'a [(u32, u64)]),
+}
+
+/// The addresses and ends of a name's leases.
+type Leases = ArrayVec<(u32, u64), 48>;
+
+/// A table of leases, at 0.
+fn table(rt: &HostRuntime, rows: usize) -> Result<Table, Fail> {
+    Ok(Table::new(rt.alloc(), Config::new(1000, 60, rows)?))
+}
+
+/// The moment, which must not lie before the table's last one.
+fn later(rt: &impl Abort, table: &Table, ms: u64) -> Result<Moment, Fail>
+    ensures { IfOk result (λ now. table.now.last ≤ now) }
+{
+    let now = at(ms)?;
+    assert!(rt; table.last() <= now, "moments go on");
+    Ok(now)
+}
+
+/// A table goes through the steps.
+fn play(rt: &impl Abort, mut table: Table, steps: &[Step<'_>]) -> Result<(), Fail> {
+    for step in steps {
+        match *step {
+            Step::Grant(ms, octets, addr, kind, ttl, expected) => {
+                let name = name_of(octets)?;
+                let answer = grant(rt, &mut table, ms, &name, addr, kind, ttl)?;
+                assert_eq!(rt; answer, expected, "{step:?}");
+            }
+            Step::Join(ms, count, expected) => join(rt, &mut table, ms, count, expected)?,
+            Step::Grow(ms, octets, addr, kind, ttl, expected) => {
+                let name = name_of(octets)?;
+                let answer = grow(rt, &mut table, ms, &name, addr, kind, ttl)?;
+                assert_eq!(rt; answer, expected, "{step:?}");
+            }
+            Step::JoinGrowing(ms, count, expected) => {
+                join_growing(rt, &mut table, ms, count, expected)?;
+            }
+            _ => ask(rt, &mut table, step)?,
+        }
+    }
+    Ok(())
+}
+
+/// The steps that take no memory.
+fn ask(rt: &impl Abort, table: &mut Table, step: &Step<'_>) -> Result<(), Fail> {
+    match *step {
+        Step::Release(ms, addr, expected) => {
+            let now = later(rt, table, ms)?;
+            let released = table.release(now, &name_of(FRED)?, addr);
+            assert_eq!(rt; released, expected, "{step:?}");
+        }
+        Step::Sweep(ms) => {
+            let now = later(rt, table, ms)?;
+            table.sweep(now);
+            assert!(rt; table.last() == now, "{step:?}");
+        }
+        Step::LeastEnd(ms, octets, expected) => {
+            let now = later(rt, table, ms)?;
+            let end = table.least_end(now, &name_of(octets)?);
+            assert_eq!(rt; end, expected, "{step:?}");
+        }
+        Step::Members(ms, octets, expected) => {
+            let now = later(rt, table, ms)?;
+            let leases = leases(table, now, &name_of(octets)?)?;
+            assert_eq!(rt; leases.as_slice(), expected, "{step:?}");
+        }
+        _ => return Err("a step that grants")?,
+    }
+    Ok(())
+}
+
+fn leases(table: &Table, now: Moment, name: &Name) -> Result<Leases, Fail>
+    requires { table.now.last ≤ now }
+{
+    let mut leases = ArrayVec::new();
+    for lease in table.members(now, name) {
+        leases
+            .try_push((lease.addr, lease.end))
+            .ok()
+            .ok_or("more than 48")?;
+    }
+    Ok(leases)
+}
+
+fn grant(
+    rt: &impl Abort,
+    table: &mut Table,
+    ms: u64,
+    name: &Name,
+    addr: u32,
+    kind: Kind,
+    ttl: u32,
+) -> Result<Result<(u32, u64), GrantFault>, Fail> {
+    let now = later(rt, table, ms)?;
+    let answer = table.grant(now, name, addr, kind, ttl);
+    assert!(rt; table.last() == now);
+    Ok(answer.map(|grant| (grant.seconds, grant.end)))
+}
+
+fn join(
+    rt: &impl Abort,
+    table: &mut Table,
+    ms: u64,
+    count: u32,
+    expected: Result<(u32, u64), GrantFault>,
+) -> Result<(), Fail> {
+    let team = name_of(TEAM)?;
+    for addr in 1..=count {
+        let answer = grant(rt, table, ms, &team, addr, Kind::Group, 60)?;
+        assert_eq!(rt; answer, expected, "{addr}");
+    }
+    Ok(())
+}
+
+/// Grants; where memory was refused, the name's leases are as before, and the same is asked for again.
+fn grow(
+    rt: &impl Abort,
+    table: &mut Table,
+    ms: u64,
+    name: &Name,
+    addr: u32,
+    kind: Kind,
+    ttl: u32,
+) -> Result<Result<(u32, u64), GrantFault>, Fail> {
+    let now = later(rt, table, ms)?;
+    let before = leases(table, now, name)?;
+    let answer = grant(rt, table, ms, name, addr, kind, ttl)?;
+    if answer != Err(GrantFault::OutOfMemory) {
+        return Ok(answer);
+    }
+    let now = later(rt, table, ms)?;
+    let after = leases(table, now, name)?;
+    assert_eq!(rt; after.as_slice(), before.as_slice());
+    grant(rt, table, ms, name, addr, kind, ttl)
+}
+
+fn join_growing(
+    rt: &impl Abort,
+    table: &mut Table,
+    ms: u64,
+    count: u32,
+    expected: Result<(u32, u64), GrantFault>,
+) -> Result<(), Fail> {
+    let team = name_of(TEAM)?;
+    for addr in 1..=count {
+        let answer = grow(rt, table, ms, &team, addr, Kind::Group, 60)?;
+        assert_eq!(rt; answer, expected, "{addr}");
+    }
+    Ok(())
+}
+
+#[test]
+fn moments_up_to_2_to_the_60(rt: HostRuntime) -> Result<(), Fail> {
+    let last = at(1 << 60)?;
+    assert_eq!(rt; last.get(), 1_152_921_504_606_846_976);
+    assert!(rt; Moment::new((1 << 60) + 1).is_none());
+    assert!(rt; Moment::zero() < last);
+    Ok(())
+}
+
+/// Limits that are refused: the life, the longest lease, the rows; the fault, and its number.
+const REFUSED_LIMITS: &[(u64, u32, usize, ConfigFault, u8)] = &[
+    (0, 0, 0, ConfigFault::Life, 1),
+    (60_001, 1, 1, ConfigFault::Life, 1),
+    (1, 0, 0, ConfigFault::Longest, 2),
+    (1, 1_000_001, 1, ConfigFault::Longest, 2),
+    (1, 1, 0, ConfigFault::Rows, 3),
+    (1, 1, 4_097, ConfigFault::Rows, 3),
+];
+
+#[test]
+fn limits_of_a_configuration(rt: HostRuntime) -> Result<(), Fail> {
+    for (life, longest, rows, fault, number) in REFUSED_LIMITS {
+        assert_eq!(rt; Config::new(*life, *longest, *rows).err(), Some(*fault));
+        assert_eq!(rt; fault.number(), *number);
+    }
+    let most = Config::new(60_000, 1_000_000, 4_096)?;
+    assert_eq!(rt;
+        (most.life(), most.longest(), most.rows()),
+        (60_000, 1_000_000, 4_096)
+    );
+    assert_eq!(rt;
+        (most.granted(0), most.granted(7), most.granted(u32::MAX)),
+        (1_000_000, 7, 1_000_000)
+    );
+    assert_eq!(rt; table(&rt, 4_096)?.config().rows(), 4_096);
+    assert_eq!(rt; GrantFault::TableFull.number(), 2);
+    assert_eq!(rt; GrantFault::GroupFull.number(), 3);
+    Ok(())
+}
+
+const FRED_BELONGS_TO_ITS_OWNER_UNTIL_120_000: &[Step<'static>] = &[
+    Step::Grant(60_000, FRED, FIRST, Kind::Unique, 0, Ok((60, 120_000))),
+    Step::Grant(
+        60_000,
+        FRED,
+        SECOND,
+        Kind::Unique,
+        60,
+        Err(GrantFault::Active),
+    ),
+    Step::Grant(61_000, FRED, FIRST, Kind::Unique, 10, Ok((10, 120_000))),
+    Step::Grant(
+        62_000,
+        FRED,
+        FIRST,
+        Kind::Group,
+        60,
+        Err(GrantFault::Active),
+    ),
+    Step::LeastEnd(119_999, FRED, Some(120_000)),
+    Step::LeastEnd(120_000, FRED, None),
+    Step::Grant(
+        119_999,
+        FRED,
+        SECOND,
+        Kind::Unique,
+        60,
+        Err(GrantFault::Active),
+    ),
+    Step::Grant(
+        120_000,
+        FRED,
+        SECOND,
+        Kind::Unique,
+        u32::MAX,
+        Ok((60, 180_000)),
+    ),
+];
+
+#[test]
+fn fred_belongs_to_its_owner_until_120_000(rt: HostRuntime) -> Result<(), Fail> {
+    play(
+        &rt,
+        table(&rt, 4096)?,
+        FRED_BELONGS_TO_ITS_OWNER_UNTIL_120_000,
+    )
+}
+
+const RELEASE_BY_THE_OWNER_ALONE: &[Step<'static>] = &[
+    Step::Grant(60_000, FRED, FIRST, Kind::Unique, 60, Ok((60, 120_000))),
+    Step::Release(70_000, SECOND, Released::OfOthers),
+    Step::Release(70_000, FIRST, Released::Gone),
+    Step::Release(70_000, FIRST, Released::NoLease),
+];
+
+#[test]
+fn release_by_the_owner_alone(rt: HostRuntime) -> Result<(), Fail> {
+    play(&rt, table(&rt, 4096)?, RELEASE_BY_THE_OWNER_ALONE)
+}
+
+const MEMBERS_IN_ORDER_OF_THEIR_BEGINNINGS: &[Step<'static>] = &[
+    Step::Grant(60_000, TEAM, FIRST, Kind::Group, 50, Ok((50, 110_000))),
+    Step::Grant(60_000, FRED, SECOND, Kind::Unique, 60, Ok((60, 120_000))),
+    Step::Grant(60_000, TEAM, SECOND, Kind::Group, 20, Ok((20, 80_000))),
+    Step::Grant(60_500, TEAM, FIRST, Kind::Group, 60, Ok((60, 120_500))),
+    Step::Sweep(60_500),
+    Step::Members(60_500, TEAM, &[(FIRST, 120_500), (SECOND, 80_000)]),
+    Step::LeastEnd(60_500, TEAM, Some(80_000)),
+];
+
+#[test]
+fn members_in_order_of_their_beginnings(rt: HostRuntime) -> Result<(), Fail> {
+    play(&rt, table(&rt, 4096)?, MEMBERS_IN_ORDER_OF_THEIR_BEGINNINGS)
+}
+
+const A_GROUP_OF_48_IS_FULL_BEFORE_A_TABLE_OF_48: &[Step<'static>] = &[
+    Step::Join(60_000, 48, Ok((60, 120_000))),
+    Step::Grant(
+        60_000,
+        TEAM,
+        49,
+        Kind::Group,
+        60,
+        Err(GrantFault::GroupFull),
+    ),
+    Step::Grant(61_000, TEAM, 48, Kind::Group, 60, Ok((60, 121_000))),
+    Step::Grant(
+        61_000,
+        FRED,
+        49,
+        Kind::Unique,
+        60,
+        Err(GrantFault::TableFull),
+    ),
+];
+
+#[test]
+fn a_group_of_48_is_full_before_a_table_of_48(rt: HostRuntime) -> Result<(), Fail> {
+    play(
+        &rt,
+        table(&rt, 48)?,
+        A_GROUP_OF_48_IS_FULL_BEFORE_A_TABLE_OF_48,
+    )
+}
+
+const A_TABLE_OF_ONE_LEASE_HAS_ROOM_ONCE_IT_IS_OVER: &[Step<'static>] = &[
+    Step::Grant(60_000, FRED, FIRST, Kind::Unique, 60, Ok((60, 120_000))),
+    Step::Grant(
+        119_999,
+        TEAM,
+        FIRST,
+        Kind::Group,
+        60,
+        Err(GrantFault::TableFull),
+    ),
+    Step::Grant(120_000, TEAM, FIRST, Kind::Group, 60, Ok((60, 180_000))),
+];
+
+#[test]
+fn a_table_of_one_lease_has_room_once_it_is_over(rt: HostRuntime) -> Result<(), Fail> {
+    play(
+        &rt,
+        table(&rt, 1)?,
+        A_TABLE_OF_ONE_LEASE_HAS_ROOM_ONCE_IT_IS_OVER,
+    )
+}
+
+/// One of 65,536 names.
+fn one_of_many(number: u16) -> Result<Name, Fail> {
+    let mut octets = *FRED;
+    let [high, low] = number.to_be_bytes();
+    octets[13] = high;
+    octets[14] = low;
+    Ok(Name::new(&octets, b"")?)
+}
+
+/// Of 4,096 names every second one ends at 90,000, and the others at 120,000.
+#[test]
+fn a_full_table_has_room_once_half_of_it_is_over(rt: HostRuntime) -> Result<(), Fail> {
+    let mut table = table(&rt, 4096)?;
+    for number in 0..4096u16 {
+        let name = one_of_many(number)?;
+        let ttl = if number % 2 == 0 { 30 } else { 60 };
+        let answer = grant(&rt, &mut table, 60_000, &name, FIRST, Kind::Unique, ttl)?;
+        assert_eq!(rt;
+            answer,
+            Ok((ttl, 60_000 + 1000 * u64::from(ttl))),
+            "{number}"
+        );
+    }
+    let further = one_of_many(4096)?;
+    let full = grant(&rt, &mut table, 89_999, &further, FIRST, Kind::Unique, 60)?;
+    assert_eq!(rt; full, Err(GrantFault::TableFull));
+    let answer = grant(&rt, &mut table, 90_000, &further, FIRST, Kind::Unique, 60)?;
+    assert_eq!(rt; answer, Ok((60, 150_000)));
+    Ok(())
+}
+
+/// A new name, new members, and renewals that move the end may be refused memory. A renewal that moves no end takes none.
+const EACH_GROWTH: &[Step<'static>] = &[
+    Step::Grow(60_000, FRED, FIRST, Kind::Unique, 30, Ok((30, 90_000))),
+    Step::JoinGrowing(60_000, 48, Ok((60, 120_000))),
+    Step::JoinGrowing(61_000, 48, Ok((60, 121_000))),
+    Step::Join(61_000, 48, Ok((60, 121_000))),
+    Step::Grant(61_000, FRED, FIRST, Kind::Unique, 10, Ok((10, 90_000))),
+    Step::Grow(61_000, FRED, FIRST, Kind::Unique, 60, Ok((60, 121_000))),
+    Step::Members(61_000, FRED, &[(FIRST, 121_000)]),
+    Step::LeastEnd(120_999, TEAM, Some(121_000)),
+    Step::LeastEnd(121_000, TEAM, None),
+];
+
+/// With `rt try --test --fail-alloc N` the Nth allocation is refused. Where it is one of the table's, `grant` says so,
+/// the leases are as before, and the same call with memory gives what the rule says.
+#[test]
+fn refused_memory_leaves_the_leases(rt: HostRuntime) -> Result<(), Fail> {
+    play(&rt, table(&rt, 4096)?, EACH_GROWTH)
+}
+
+#[test]
+fn the_laws_of_leases_are_called() {
+    laws::same_leases_same_count();
+    laws::same_leases_later();
+    laws::later_leases_live_now();
+    laws::one_more_lives();
+    laws::one_name_changes();
+    laws::leases_stay_sound();
+    laws::one_case_stands();
+    laws::leases_of_others_stay();
+    laws::granted_lease_stands();
+}
