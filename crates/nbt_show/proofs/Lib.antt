@@ -4,7 +4,9 @@
 pub mod Packets
 -- the same of datagrams
 pub mod Datagrams
--- what a session's stream makes of octets, and the lines of its packets so far
+-- what the parts of a session's octets make, up to the end of one packet
+pub mod NextPacket
+-- the lines of a session's packets so far
 pub mod Sessions
 -- the words of a vector, one by one
 pub mod Vectors

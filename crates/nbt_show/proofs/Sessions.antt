@@ -1,43 +1,17 @@
--- What a new stream makes of a piece, and the lines of the packets so far.
-use Rattle.std.proofs.Common.{◌≡◌, ℕ, ◌<◌, List, [], ◌∷◌, ◌++◌, ◌-◌, length, take, drop, Some, None, Ok, Err, refl, sym, ◌∙◌, ap, subst, arith, append_assoc}
+-- The lines of the packets so far.
+use Rattle.std.proofs.Common.{◌≡◌, ℕ, List, [], ◌∷◌, ◌++◌, ◌-◌, length, take, drop, refl, sym, ◌∙◌, ap, subst, append_assoc}
 use Rattle.std.specs.List.{flat_map}
-use Rattle.std.proofs.lemmas.List.{append-nil, length-append, length-drop, take-append-drop, take_all}
+use Rattle.std.proofs.lemmas.List.{append-nil}
 use Rattle.nbt_session.specs.declared.fault.Fault.{Fault}
-use Rattle.nbt_session.specs.declared.fault.StreamFault.TheVariants.{Malformed}
 use Rattle.nbt_session.specs.Packet.{PacketValue, IsPacket, text}
 use Rattle.nbt_session.specs.Stream.{Begins, IsPartial, StreamIs, HasFault}
-use Rattle.nbt_session.specs.Taking.{StreamState, holding, Takes, packet_is_whole, piece_is_held, fault_is_seen, fault_stays}
+use Rattle.nbt_text.proofs.Joining.{two_parts}
+use Rattle.nbt_show.proofs.NextPacket.{left_is}
 use Rattle.nbt_show.specs.SessionText.{PrintsPacketLine, PrintsPackets, no_packets, one_packet}
 
--- ---- a stream that holds nothing
-
-pub whole_packet : (piece : List ℕ) (before after : StreamState) (n : ℕ) (packet : PacketValue) → before ≡ holding [] → Takes piece before (Ok (n, Some packet)) after → (after ≡ holding []) × IsPacket packet × (take n piece ≡ text packet)
-whole_packet piece _ _ _ _ new (packet_is_whole held n packet fits is whole) =
-    let none : held ≡ [] = cc in (refl, is, subst (λ (x : List ℕ). x ++ take n piece ≡ text packet) none whole)
-
-pub no_packet : (piece : List ℕ) (before after : StreamState) (n : ℕ) → before ≡ holding [] → Takes piece before (Ok (n, None)) after → IsPartial piece × ((fault : Fault) → ¬ HasFault piece fault)
-no_packet piece _ _ _ new (piece_is_held held partial faultless) =
-    let none : held ≡ [] = cc in
-    (subst (λ (x : List ℕ). IsPartial (x ++ piece)) none partial, subst (λ (x : List ℕ). (fault : Fault) → ¬ HasFault (x ++ piece) fault) none faultless)
-
-pub fault_there : (piece : List ℕ) (before after : StreamState) (fault : Fault) → before ≡ holding [] → Takes piece before (Err (Malformed fault)) after → HasFault piece fault
-fault_there piece _ _ _ new (fault_is_seen held fault has) =
-    let none : held ≡ [] = cc in subst (λ (x : List ℕ). HasFault (x ++ piece) fault) none has
-fault_there piece _ _ _ new (fault_stays fault) = absurd cc
-
 -- each packet takes octets, and what is left stands behind it
-pub behind : (n : ℕ) (piece : List ℕ) (packet : PacketValue) → take n piece ≡ text packet → piece ≡ text packet ++ take (length piece - n) (drop n piece)
-behind n piece packet e =
-    let whole : take n piece ++ drop n piece ≡ piece = take-append-drop n piece in
-    let count : length (drop n piece) ≡ length piece - n = length-drop n piece in
-    let rest : take (length piece - n) (drop n piece) ≡ drop n piece = rw (← count) (take_all (length (drop n piece)) (drop n piece) (omega arith)) in
-    sym whole ∙ ap (λ (x : List ℕ). x ++ drop n piece) e ∙ ap (λ (x : List ℕ). text packet ++ x) (sym rest)
-
-pub less_left : (n : ℕ) (piece : List ℕ) (packet : PacketValue) → take n piece ≡ text packet → length (take (length piece - n) (drop n piece)) < length piece
-less_left n piece packet e =
-    let whole = behind n piece packet e in
-    let packet_long : 0 < length (text packet) = omega arith in
-    omega (arith, ap length whole, length-append (text packet) (take (length piece - n) (drop n piece)))
+behind : (n : ℕ) (octets : List ℕ) (packet : PacketValue) → Begins octets packet (drop n octets) → octets ≡ text packet ++ take (length octets - n) (drop n octets)
+behind n octets packet begins = begins.1 ∙ ap (λ (xs : List ℕ). text packet ++ xs) (sym (left_is octets n))
 
 -- a fault stands where no whole packet does
 pub partial_fault : ((octets : List ℕ) (packet : PacketValue) (rest : List ℕ) (fault : Fault) → Begins octets packet rest → HasFault octets fault → ⊥) → (octets : List ℕ) (fault : Fault) → HasFault octets fault → IsPartial octets
@@ -70,8 +44,14 @@ all_printed octets rest lines partial so_far =
     let next = so_far [] rest [] (record { whole = refl; each = tt; partial = partial }) no_packets in
     (next.0, next.1, subst (λ (x : List ℕ). PrintsPackets next.0 x) (append-nil lines) next.2)
 
-pub next_round : (octets rest lines line : List ℕ) (n : ℕ) (packet : PacketValue) (before after : StreamState) → before ≡ holding [] → Takes rest before (Ok (n, Some packet)) after → PrintsPacketLine packet line → Continues octets rest lines
-    → (after ≡ holding []) × Continues octets (take (length rest - n) (drop n rest)) (lines ++ line)
-next_round octets rest lines line n packet before after new takes prints so_far =
-    let w = whole_packet rest before after n packet new takes in
-    (w.0, one_more octets rest (take (length rest - n) (drop n rest)) lines line packet (behind n rest packet w.2) w.1 prints so_far)
+-- what was appended are the lines of the packets so far
+abbrev pub Printed : (octets rest before now : List ℕ) → Type 0
+Printed octets rest before now = (lines : List ℕ) × (now ≡ before ++ lines) × Continues octets rest lines
+
+pub next_round : (octets rest before now after : List ℕ) (n : ℕ) (packet : PacketValue) → Printed octets rest before now → Begins rest packet (drop n rest) → (line : List ℕ) × (after ≡ now ++ line) × PrintsPacketLine packet line
+    → Printed octets (take (length rest - n) (drop n rest)) before after
+next_round octets rest before now after n packet so_far begins line = (
+  so_far.0 ++ line.0,
+  two_parts before now after so_far.0 line.0 so_far.1 line.1,
+  one_more octets rest (take (length rest - n) (drop n rest)) so_far.0 line.0 packet (behind n rest packet begins) begins.0 line.2 so_far.2,
+)

@@ -5,6 +5,7 @@
 
 mod dgram_text;
 mod packet_text;
+mod session_packet;
 mod session_text;
 mod vector;
 mod verdicts;

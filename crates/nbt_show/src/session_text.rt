@@ -4,13 +4,15 @@ ghost use Rattle.std.specs.Prelude.{◌≡◌, ℕ, ◌++◌, List, OnOk, IfOk, 
 ghost use Rattle.std.specs.String.{string_bytes};
 ghost use Rattle.nbt_session.specs.Packet.{packet_of};
 ghost use Rattle.nbt_text.specs.NameText.{PrintsName};
+ghost use Rattle.nbt_show.specs.Inner.Whole.{whole_of};
 ghost use Rattle.nbt_show.specs.SessionText.{PrintsPacketLine, PrintsSession, message_line, request_line, rest_line, session_fault_line};
 ghost use Rattle.nbt_show.specs.Words.{session_fault_word};
 
 use crate::dgram_text::write_octet;
 use crate::packet_text::{end_line, write_data};
+use crate::session_packet::{Whole, next_packet};
 use nbt_name::Name;
-use nbt_session::{Fault, FaultKind, Packet, Stream, StreamFault};
+use nbt_session::{Fault, FaultKind, Packet, Pieces, StreamFault};
 use nbt_text::{write_address, write_name};
 use std::alloc::AllocError;
 
@@ -22,15 +24,15 @@ pub fn write_session(octets: &[u8], out: &mut String) -> Result<bool, AllocError
         × PrintsSession octets.now faultless text) }
 {
     nbt_session::laws::text_is_read();
-    let mut stream = Stream::new(*out.allocator());
+    let mut pieces = Pieces::new();
     let mut rest = octets;
     'packets: loop {
-        match stream.take(rest) {
-            Ok((taken, Some(packet))) => {
+        match next_packet(&mut pieces, rest) {
+            Ok(Some((taken, packet))) => {
                 write_packet_line(&packet, out)?;
                 rest = &rest[taken..];
             }
-            Ok((_, None)) => {
+            Ok(None) => {
                 write_rest(rest, out)?;
                 return Ok(true);
             }
@@ -44,7 +46,18 @@ pub fn write_session(octets: &[u8], out: &mut String) -> Result<bool, AllocError
 }
 
 /// Appends the line of a packet.
-fn write_packet_line(packet: &Packet, out: &mut String) -> Result<(), AllocError>
+fn write_packet_line(packet: &Whole<'_>, out: &mut String) -> Result<(), AllocError>
+    ensures { OnOk result ((line : List ℕ) × (string_bytes out.new ≡ string_bytes out.old ++ line)
+        × PrintsPacketLine (whole_of packet.now) line) }
+{
+    match packet {
+        Whole::Message(octets) => write_message_line(octets, out),
+        Whole::Other(packet) => write_other_line(packet, out),
+    }
+}
+
+/// Appends the line of a packet that has its own octets.
+fn write_other_line(packet: &Packet, out: &mut String) -> Result<(), AllocError>
     ensures { OnOk result ((line : List ℕ) × (string_bytes out.new ≡ string_bytes out.old ++ line)
         × PrintsPacketLine (packet_of packet.now) line) }
 {
