@@ -8,7 +8,7 @@ use Rattle.nbt_session.specs.declared.fault.StreamFault.{StreamFault}
 use Rattle.nbt_session.specs.declared.fault.StreamFault.TheVariants.{Malformed}
 use Rattle.nbt_session.specs.declared.packet.PacketType.TheVariants.{Message}
 use Rattle.nbt_session.specs.Packet.{PacketValue, message, header, text}
-use Rattle.nbt_session.specs.Parts.{PartValue, message_start, message_data, message_end, other, PiecesState, between, inside, faulty, TakesPart, message_starts, message_goes_on, message_waits, message_ends, packet_is_whole, piece_is_held, fault_is_seen, fault_stays}
+use Rattle.nbt_session.specs.Parts.{message_start, message_data, message_end, other, PiecesState, between, inside, faulty, TakesPart, message_starts, message_goes_on, message_waits, message_ends, packet_is_whole, piece_is_held, fault_is_seen, fault_stays}
 use Rattle.nbt_session.specs.Stream.{Begins, IsPartial, HasFault}
 
 AreOctets-append : (xs ys : List ℕ) → AreOctets xs → AreOctets ys → AreOctets (xs ++ ys)

@@ -1,7 +1,6 @@
 use Rattle.std.proofs.Common.{◌≡◌, ◌++◌, subst}
 use Rattle.std.specs.String.{string_bytes}
 use Rattle.nbt_session.specs.declared.fault.Fault.{Fault}
-use Rattle.nbt_show.specs.Inner.Whole.{whole_of}
 use Rattle.nbt_show.specs.SessionText.{rest_follows, fault_follows, rest_line, session_fault_line}
 use Rattle.nbt_text.proofs.Joining.{two_parts}
 use Rattle.nbt_show.proofs.Sessions.{all_printed, next_round, partial_fault}
@@ -13,7 +12,7 @@ packets-preserved-in_ok-write_packet_line-in-Ok-Some c =
     let anew = rw c.in-Ok-Some.field-0-is at c.in-Ok-Some.ensures.anew in
     record {
       anew = anew;
-      printed = next_round c.args.octets.now c.packets.rest.now (string_bytes c.args.out.now) (string_bytes c.packets.out) (string_bytes c.write_packet_line.new.out) c.in-Ok-Some.taken (whole_of c.in-Ok-Some.packet) c.packets.invariant.printed begins c.in_ok-write_packet_line-in-Ok-Some.ensures;
+      printed = next_round c.args.octets.now c.packets.rest.now (string_bytes c.args.out.now) (string_bytes c.packets.out) (string_bytes c.write_packet_line.new.out) _ _ c.packets.invariant.printed begins c.in_ok-write_packet_line-in-Ok-Some.ensures;
     }
 
 pub packets-preserved-in_ok-write_packet_line-in-Ok-Some-2 : goal.packets-preserved-in_ok-write_packet_line-in-Ok-Some-2
@@ -31,7 +30,7 @@ packets-preserved c =
     let anew = rw c.in-Ok-Some.field-0-is at c.in-Ok-Some.ensures.anew in
     record {
       anew = anew;
-      printed = next_round c.args.octets.now c.packets.rest.now (string_bytes c.args.out.now) (string_bytes c.packets.out) (string_bytes c.write_packet_line.new.out) c.in-Ok-Some.taken (whole_of c.in-Ok-Some.packet) c.packets.invariant.printed begins c.in_ok-write_packet_line-in-Ok-Some.ensures;
+      printed = next_round c.args.octets.now c.packets.rest.now (string_bytes c.args.out.now) (string_bytes c.packets.out) (string_bytes c.write_packet_line.new.out) _ _ c.packets.invariant.printed begins c.in_ok-write_packet_line-in-Ok-Some.ensures;
     }
 
 pub returns-in-Ok-None : goal.returns-in-Ok-None
