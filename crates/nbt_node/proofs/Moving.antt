@@ -1,7 +1,8 @@
 -- What a call that moves one name makes of the node.
-use Rattle.std.proofs.Common.{◌≡◌, ◌≢◌, ℕ, ◌+◌, ◌*◌, ◌<◌, Bool, true, false, cond, List, [], length, map, Option, Some, None, refl, sym, ap, subst, ◌∙◌, inl, inr, leb-false}
+use Rattle.std.proofs.Common.{◌≡◌, ◌≢◌, ℕ, ◌+◌, ◌*◌, ◌<◌, ◌≤◌, Bool, true, false, cond, List, [], length, map, Option, Some, None, refl, sym, ap, subst, ◌∙◌, inl, inr, leb-false}
 use Rattle.std.specs.Prelude.{◌⊎◌, ◌||◌, nat_lt, nat_le, MatchOption}
 use Rattle.std.proofs.lemmas.List.{length-map}
+use Rattle.std.proofs.Math.Nat.{le_trans}
 use Rattle.nbt_name.specs.declared.addr.Addr.{Addr}
 use Rattle.nbt_name.specs.declared.addr.Kind.{Kind}
 use Rattle.nbt_name.specs.Wire.{NameValue}
@@ -24,8 +25,8 @@ use Rattle.nbt_node.proofs.Known.{absent, distinct-settled, state_in-settled, di
 
 -- what the node keeps, it keeps
 pub keeps : (old new : NodeValue) (count life now : ℕ) (xs ys zs : List (Option Slot)) (name : NameValue) (state : State) → IsNode count old → old.slots ≡ xs → new.slots ≡ zs
-    → ys ≡ map (settled_slot life now) xs → zs ≡ with_state ys name state → IsNode count new
-keeps old new count life now xs ys zs name state is old_is new_is settles changes =
+    → ys ≡ map (settled_slot life now) xs → zs ≡ with_state ys name state → new.start ≡ old.start → new.last ≡ now → old.last ≤ now → IsNode count new
+keeps old new count life now xs ys zs name state is old_is new_is settles changes start_is last_is later =
     let apart : AreDistinct xs = subst AreDistinct old_is is.apart in
     let apart_then : AreDistinct ys = rw settles (distinct-settled life now xs apart) in
     record {
@@ -34,6 +35,7 @@ keeps old new count life now xs ys zs name state is old_is new_is settles change
       count_is = ap length (new_is ∙ changes) ∙ length-with_state ys name state ∙ ap length settles ∙ length-map xs (settled_slot life now) ∙ ap length (sym old_is) ∙ is.count_is;
       apart = subst AreDistinct (sym (new_is ∙ changes)) (distinct-with_state ys name state apart_then);
       awake = subst AreAwake (sym (new_is ∙ changes)) (awake-with_state ys name state (subst AreAwake (sym settles) (awake-settled life now xs)));
+      since = rw (start_is, last_is) (le_trans is.since later);
     }
 
 -- a name that is Idle stays so, unless it is asked for
@@ -136,13 +138,15 @@ may_ask node now name e =
 
 -- ---- time alone
 
-pub settles : (old new : NodeValue) (count life now : ℕ) (xs ys : List (Option Slot)) → IsNode count old → old.slots ≡ xs → new.slots ≡ ys → ys ≡ map (settled_slot life now) xs → IsNode count new
-settles old new count life now xs ys is old_is new_is settled_is = record {
+pub settles : (old new : NodeValue) (count life now : ℕ) (xs ys : List (Option Slot)) → IsNode count old → old.slots ≡ xs → new.slots ≡ ys → ys ≡ map (settled_slot life now) xs
+    → new.start ≡ old.start → new.last ≡ now → old.last ≤ now → IsNode count new
+settles old new count life now xs ys is old_is new_is settled_is start_is last_is later = record {
   few = is.few;
   some = is.some;
   count_is = ap length (new_is ∙ settled_is) ∙ length-map xs (settled_slot life now) ∙ ap length (sym old_is) ∙ is.count_is;
   apart = subst AreDistinct (sym (new_is ∙ settled_is)) (distinct-settled life now xs (subst AreDistinct old_is is.apart));
   awake = subst AreAwake (sym (new_is ∙ settled_is)) (awake-settled life now xs);
+  since = rw (start_is, last_is) (le_trans is.since later);
 }
 
 pub passes : (old new : NodeValue) (now : ℕ) → new ≡ settled_node old now → AreDistinct old.slots → Passes old now new

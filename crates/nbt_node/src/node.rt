@@ -1,6 +1,6 @@
 //! An end node: the names that it asks for and holds.
 
-ghost use Rattle.std.specs.Prelude.{◌≡◌, ℕ, ◌≤◌, ◌<◌, ◌↔◌, [], Option, None, OnOk, OnErr, IfOk, IsErr};
+ghost use Rattle.std.specs.Prelude.{◌≡◌, ℕ, ◌≤◌, ◌<◌, ◌↔◌, [], Option, None, IsNone, OnOk, OnErr, IfOk, IsErr};
 ghost use Rattle.std.specs.Result.{result_err};
 
 use crate::asking::{claim, id_after, next_due, release};
@@ -94,7 +94,8 @@ impl<const N: usize> Node<N> {
 
     /// Why the name may not be asked for, judged by the node that is settled at `now`.
     fn ask_fault(&self, now: Moment, name: &Name) -> Option<AskFault>
-        ensures { result ≡ ask_refusal self.now now name.now }
+        ensures fault { result ≡ ask_refusal self.now now name.now }
+        ensures later { IsNone result → self.now.last ≤ now }
     {
         if now.get() < self.last.get() {
             return Some(AskFault::ClockBack);
@@ -118,6 +119,7 @@ impl<const N: usize> Node<N> {
 
     /// Settles the node at `now`, gives the name another state, which settles too, and takes the next id.
     fn change(&mut self, now: Moment, name: &Name, after: &State, next_id: u16)
+        requires { self.old.last ≤ now }
         ensures node { self.new ≡ changed self.old now name.now after.now next_id }
         ensures apart { AreDistinct self.old.slots }
     {
@@ -208,6 +210,7 @@ impl<const N: usize> Node<N> {
 
     /// Settles every name and the lookup at `now`.
     fn settle(&mut self, now: Moment)
+        requires { self.old.last ≤ now }
         ensures node { self.new ≡ settled_node self.old now }
         ensures apart { AreDistinct self.old.slots }
     {
@@ -248,6 +251,7 @@ impl<const N: usize> Node<N> {
     }
 
     fn poll_lookup(&mut self, now: Moment, out: &mut ArrayVec<u8, 576>) -> Option<Addr>
+        requires later { self.old.last ≤ now }
         requires slot { slot_due self.old now ≡ None }
         requires empty { out.old.items ≡ [] }
         ensures { Polls self.old now self.new result out.new.items }
@@ -327,6 +331,7 @@ impl<const N: usize> Node<N> {
         wanted: Wanted,
         out: &mut ArrayVec<u8, 576>,
     )
+        requires { self.old.last ≤ now }
         ensures { Opens self.old now name.now to wanted self.new out.new.items }
     {
         self.settle(now);
@@ -383,7 +388,8 @@ impl<const N: usize> Node<N> {
         message: &Message<'a>,
         out: &mut ArrayVec<u8, 576>,
     ) -> Event<'a>
-        requires { out.old.items ≡ [] }
+        requires later { self.old.last ≤ now }
+        requires empty { out.old.items ≡ [] }
         ensures { (sent : Option MessageValue) × Takes self.old now from (message_of message.now) self.new sent (told_of result) × AreWritten sent out.new.items }
     {
         match message {
@@ -431,7 +437,8 @@ impl<const N: usize> Node<N> {
         name: &Name,
         out: &mut ArrayVec<u8, 576>,
     ) -> Event<'a>
-        requires { out.old.items ≡ [] }
+        requires later { self.old.last ≤ now }
+        requires empty { out.old.items ≡ [] }
         ensures { (sent : Option MessageValue) × Lists self.old now id name.now self.new sent (told_of result) × AreWritten sent out.new.items }
     {
         let is_listed_for = self.is_listed_for(now, name);
@@ -459,6 +466,7 @@ impl<const N: usize> Node<N> {
         message: &Message<'_>,
         event: Event<'a>,
     ) -> Event<'a>
+        requires { self.old.last ≤ now }
         ensures { Ends self.old now from (message_of message.now) (told_of event.entry) self.new None (told_of result) }
     {
         self.settle(now);
@@ -477,6 +485,7 @@ impl<const N: usize> Node<N> {
         rcode: u8,
         r: &Registration,
     ) -> Event<'a>
+        requires { self.old.last ≤ now }
         ensures { Hears self.old now from r.now.name (registered rcode r.now) self.new None (told_of result) }
     {
         if !is_same_end(from, self.server) {
@@ -499,6 +508,7 @@ impl<const N: usize> Node<N> {
         rcode: u8,
         name: &Name,
     ) -> Event<'a>
+        requires { self.old.last ≤ now }
         ensures { (k : NameKind) (a : ℕ) → Hears self.old now from name.now (released id rcode name.now k a) self.new None (told_of result) }
     {
         if !is_same_end(from, self.server) {
@@ -521,6 +531,7 @@ impl<const N: usize> Node<N> {
         name: &Name,
         ttl: u32,
     ) -> Event<'a>
+        requires { self.old.last ≤ now }
         ensures { Hears self.old now from name.now (wait id name.now ttl) self.new None (told_of result) }
     {
         if !is_same_end(from, self.server) {

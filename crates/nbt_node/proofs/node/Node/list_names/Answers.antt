@@ -9,7 +9,7 @@ use Rattle.nbt_node.proofs.node.Node.list_names.Goals as goal
 
 pub returns-then-not-is_listed_for : goal.returns-then-not-is_listed_for
 returns-then-not-is_listed_for g c =
-    (None, lists_nothing c.settle.new.self (sym c.if-not-is_listed_for.ensures) (passes c.args.self.now c.settle.new.self c.args.now c.settle.ensures.node c.settle.ensures.apart), c.requires)
+    (None, lists_nothing c.settle.new.self (sym c.if-not-is_listed_for.ensures) (passes c.args.self.now c.settle.new.self c.args.now c.settle.ensures.node c.settle.ensures.apart), c.requires.empty)
 
 pub returns : goal.returns
 returns g c =

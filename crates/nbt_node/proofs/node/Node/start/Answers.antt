@@ -1,5 +1,6 @@
 use Rattle.std.proofs.Common.{◌≡◌, length, None, Option, List, ap}
 use Rattle.std.specs.Prelude.{replicate}
+use Rattle.std.proofs.Math.Nat.{le_refl}
 use Rattle.nbt_node.specs.declared.state.Slot.{Slot}
 use Rattle.nbt_node.specs.Node.{NodeValue}
 use Rattle.nbt_node.proofs.Awake.{awake-none}
@@ -10,7 +11,7 @@ pub invariant_of-result : goal.invariant_of-result
 invariant_of-result g c =
     let count : length c.from_fn.result ≡ g.row.N = c.from_fn.ensures.items.long in
     let free : c.from_fn.result ≡ replicate g.row.N None = all_free c.from_fn.result g.row.N count (λ i within. (c.from_fn.ensures.items.at i None within).2.met.0) in
-    record { few = c.requires.few; some = c.requires.some; count_is = count; apart = distinct-none c.from_fn.result g.row.N free; awake = awake-none c.from_fn.result g.row.N free }
+    record { few = c.requires.few; some = c.requires.some; count_is = count; apart = distinct-none c.from_fn.result g.row.N free; awake = awake-none c.from_fn.result g.row.N free; since = le_refl c.args.now }
 
 pub returns : goal.returns
 returns g c =
