@@ -157,11 +157,12 @@ impl Table {
         self.members(now, name).map(|lease| lease.end).min()
     }
 
-    /// Takes out the leases that are over at `now`. The live leases are as before. Takes no memory. `now` is at least
+    /// Takes out the leases that are over at `now`, and no others. The live leases are as before. Takes no memory. `now` is at least
     /// `last()`, and is `last()` afterwards.
     pub fn sweep(&mut self, now: Moment)
         requires { self.old.last ≤ now }
         ensures leases { leases_at now self.new.rows ≡ leases_at now self.old.rows }
+        ensures over { live_count now self.new.rows ≡ length self.new.rows }
         ensures config { self.new.config ≡ self.old.config }
         ensures last { self.new.last ≡ now }
         ensures sound { IsSound self.new.config now (leases_at now self.new.rows) }
@@ -192,6 +193,7 @@ impl Table {
         requires parts { blank.parts ≡ L.parts }
         requires some { 0 < blank.parts }
         ensures leases { leases_at now self.new.rows ≡ leases_at now self.old.rows }
+        ensures over { live_count now self.new.rows ≡ length self.new.rows }
         ensures config { self.new.config ≡ self.old.config }
         ensures last { self.new.last ≡ now }
         ensures sound { IsSound self.new.config now (leases_at now self.new.rows) }
