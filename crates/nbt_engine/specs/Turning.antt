@@ -60,7 +60,7 @@ pub data Hears (now : ℕ) (old : NodeValue) : List Act → Seen → NodeValue �
 
 -- ---- a turn
 
--- The ask and the polls at one moment, one receive, and what is heard at the moment after it.
+-- The ask and the polls at the first moment that is read, one receive, and what is heard at the second.
 pub record TakesTurn (server : Addr) (want : Want) (old : NodeValue) (acts : List Act) (moments : List ℕ) (seen : Seen) (new : NodeValue) : Type 0 where
   pub first : ℕ
   pub second : ℕ
