@@ -138,11 +138,11 @@ fn start() -> Result<Node<1>, Fail> {
     Ok(Node::start(OWN, SERVER, Config::new(1000, 60, 4096)?, at(0)?))
 }
 
-/// A node goes through the steps.
+/// A node goes through the steps, all with one buffer: each call leaves in it what it has to send, and no more.
 fn play(rt: &impl Abort, steps: &[Step<'_>]) -> Result<(), Fail> {
     let mut node = start()?;
+    let mut out = ArrayVec::new();
     for step in steps {
-        let mut out = ArrayVec::new();
         match *step {
             Step::Ask(ms, name, kind, expected) => {
                 let asked = node.ask(at(ms)?, &name_of(name)?, kind, 60, &mut out);
@@ -163,37 +163,41 @@ fn play(rt: &impl Abort, steps: &[Step<'_>]) -> Result<(), Fail> {
                 node.name_status(at(ms)?, OWN, &fred(b"")?, &mut out)?;
                 assert!(rt; out.as_slice() == expected, "{step:?}");
             }
-            _ => hear(rt, &mut node, step)?,
+            _ => hear(rt, &mut node, step, &mut out)?,
         }
     }
     Ok(())
 }
 
 /// The steps by which a node is told of time and of others.
-fn hear(rt: &impl Abort, node: &mut Node<1>, step: &Step<'_>) -> Result<(), Fail> {
-    let mut out = ArrayVec::new();
+fn hear(
+    rt: &impl Abort,
+    node: &mut Node<1>,
+    step: &Step<'_>,
+    out: &mut ArrayVec<u8, 576>,
+) -> Result<(), Fail> {
     match *step {
         Step::Poll(ms, expected) => {
-            let to = node.poll(at(ms)?, &mut out)?;
+            let to = node.poll(at(ms)?, out)?;
             assert_eq!(rt; to, expected.map(|_| SERVER), "{step:?}");
             assert!(rt; out.as_slice() == expected.unwrap_or(b""), "{step:?}");
         }
         Step::PollBack(ms) => {
-            assert_eq!(rt; node.poll(at(ms)?, &mut out), Err(ClockBack), "{step:?}");
+            assert_eq!(rt; node.poll(at(ms)?, out), Err(ClockBack), "{step:?}");
         }
         Step::Respond(ms, from, response, expected) => {
             let octets = response.octets();
-            let event = node.on_datagram(at(ms)?, from, &octets, &mut out)?;
+            let event = node.on_datagram(at(ms)?, from, &octets, out)?;
             assert!(rt; event == expected, "{step:?}");
             assert!(rt; out.is_empty(), "{step:?}");
         }
         Step::Hear(ms, from, octets, expected) => {
-            let event = node.on_datagram(at(ms)?, from, octets, &mut out)?;
+            let event = node.on_datagram(at(ms)?, from, octets, out)?;
             assert!(rt; event == expected, "{step:?}");
             assert!(rt; out.is_empty(), "{step:?}");
         }
         Step::Reply(ms, from, octets, expected) => {
-            let event = node.on_datagram(at(ms)?, from, octets, &mut out)?;
+            let event = node.on_datagram(at(ms)?, from, octets, out)?;
             assert!(rt; event == Event::Reply, "{step:?}");
             assert!(rt; out.as_slice() == expected, "{step:?}");
         }

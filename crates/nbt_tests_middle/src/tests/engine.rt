@@ -334,6 +334,9 @@ fn a_name_is_asked_for_granted_and_renewed(rt: HostRuntime) -> Result<(), Fail> 
     for seen in SEEN {
         let got = turn(&rt, &mut port, &mut clock, &mut node, &want)?;
         assert_eq!(&rt; got, seen);
+        if seen == Seen::Granted(60) {
+            expect_sent(&rt, &port, &[(SERVER, REGISTRATION)])?;
+        }
     }
     // The request, the reply to the status request, and the refresh.
     let status =
