@@ -60,7 +60,7 @@ fn end(last: u8, port: u16) -> SocketAddr {
 
 /// The luck of the first connection at the end that calls and at the end that listens, and how many connections both
 /// calls are made with.
-const LUCKS: [(Luck, Luck, usize); 8] = [
+const LUCKS: [(Luck, Luck, usize); 13] = [
     (Luck::Well, Luck::Well, 2),
     (Luck::Refused, Luck::Well, 3),
     (Luck::Mute, Luck::Well, 3),
@@ -69,6 +69,11 @@ const LUCKS: [(Luck, Luck, usize); 8] = [
     (Luck::Well, Luck::Mute, 3),
     (Luck::Well, Luck::Deaf, 3),
     (Luck::Well, Luck::Garbled, 3),
+    (Luck::Well, Luck::Silent, 3),
+    (Luck::Interrupted, Luck::Well, 2),
+    (Luck::Well, Luck::Interrupted, 2),
+    (Luck::Slow, Luck::Well, 2),
+    (Luck::Well, Luck::Slow, 2),
 ];
 
 /// A datagram from TEAM at 127.0.0.4:21340 to NONE, which is nobody's name.
@@ -78,18 +83,23 @@ const TO_NOBODY: &[u8] =
 /// What comes of it: an error from n1's own port, 127.0.0.2:21138 (RFC 1002 section 4.4.3).
 const NOT_PRESENT: &[u8] = b"\x13\x06\x00\x07\x7F\x00\x00\x02\x52\x92\x82";
 
+/// This machine's network, where the first connection has this luck at its two ends.
+fn street_of<'a>(rt: &'a HostRuntime, caller: Luck, listener: Luck) -> Street<'a, HostRuntime> {
+    Street {
+        machine: rt,
+        caller: Cell::new(caller),
+        listener,
+        connections: Cell::new(0),
+        last: (end(3, 21138), TO_NOBODY, end(2, 21138)),
+    }
+}
+
 #[test]
 fn strangers_and_a_connection_that_fails_change_nothing(rt: HostRuntime) -> Result<(), Fail> {
     let teller = UdpSocket::bind(&rt, end(4, 21340))?;
     teller.set_read_timeout(Some(Duration::from_millis(1)))?;
     for (caller, listener, connections) in LUCKS {
-        let street = Street {
-            machine: &rt,
-            caller: Cell::new(caller),
-            listener,
-            connections: Cell::new(0),
-            last: (end(3, 21138), TO_NOBODY, end(2, 21138)),
-        };
+        let street = street_of(&rt, caller, listener);
         let mut paper = Paper::new();
         let words = ["nbt", "loop", "21137"];
         let status = command_on(&street, rt.alloc(), &words, &mut io::empty(), &mut paper);
@@ -110,4 +120,27 @@ fn strangers_and_a_connection_that_fails_change_nothing(rt: HostRuntime) -> Resu
         assert_eq!(&rt; from, end(2, 21138), "{caller:?} {listener:?}");
     }
     Ok(())
+}
+
+/// What is told where the socket that listens fails: it is a device's fault at the first call.
+const TOLD_WITHOUT_CALLS: &str = "\
+server up
+n1 asks FRED: granted 60
+n2 asks FRED: refused 6
+n1 asks TEAM: granted 60
+n2 asks TEAM: granted 60
+n2 finds FRED: 127.0.0.2
+n2 finds TEAM: 127.0.0.2 127.0.0.3
+datagram to FRED: 5 octets
+device
+";
+
+#[test]
+fn a_socket_that_listens_and_fails_ends_all(rt: HostRuntime) {
+    let street = street_of(&rt, Luck::Well, Luck::Refused);
+    let mut paper = Paper::new();
+    let words = ["nbt", "loop", "21137"];
+    let status = command_on(&street, rt.alloc(), &words, &mut io::empty(), &mut paper);
+    assert_eq!(&rt; paper.text.as_slice(), TOLD_WITHOUT_CALLS.as_bytes());
+    assert_eq!(&rt; status, 3);
 }

@@ -171,8 +171,8 @@ fn with_nobody_else(rt: HostRuntime) {
     }
 }
 
-/// Each line that is printed, of which there is one.
-const LINES: [(&str, &[u8]); 3] = [
+/// The first line that is printed of each.
+const LINES: [(&str, &[u8]); 4] = [
     (
         "nbt serve 127.42.22.1:20138 1000 60 1",
         b"turns 1 replies 0 lost 0\n",
@@ -185,6 +185,7 @@ const LINES: [(&str, &[u8]); 3] = [
         "nbt serve 127.42.22.1:20138 1000 60 --forever",
         b"serving 127.42.22.1:20138, silent for 60 s\n",
     ),
+    ("nbt loop 21737", b"server up\n"),
 ];
 
 /// A flush that fails, and a write, end the command, and what was written before stays: no `device` comes after it.

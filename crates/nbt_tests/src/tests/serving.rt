@@ -73,7 +73,7 @@ const REFUSED: &str = "0001_ad86_0000_0001_0000_0000_{FRED}_0020_0001_00000000_0
 
 const CONFLICT: &str = "0002_ad87_0000_0001_0000_0000_{FRED}_0020_0001_00000000_0006_2000_7f2a1602";
 
-const SERVERS: [Row; 7] = [
+const SERVERS: [Row; 8] = [
     Row {
         about: "BIND, LONGEST and TURNS: silent for 70 s, and then leases of 70 s at most, of two names and more",
         words: "nbt serve 127.42.22.2:20138 1000 70 5",
@@ -130,6 +130,17 @@ const SERVERS: [Row; 7] = [
         status: 3,
         readings: 4,
         text: "serving 127.42.22.2:20138, silent for 60 s\ndevice\n",
+        sent: &[FIRST_GRANTED],
+    },
+    Row {
+        about: "of turns that its port doesn't bear it says nothing but that",
+        words: "nbt serve 127.42.22.2:20138 1000 60 9",
+        moments: &[1_000_000, 1_000_000, 1_060_000, 1_060_000],
+        sends: &[(1, FIRST), (1, "00")],
+        breaks_at: 4,
+        status: 3,
+        readings: 4,
+        text: "device\n",
         sent: &[FIRST_GRANTED],
     },
     Row {
@@ -240,8 +251,8 @@ fn octets<R: Abort + AllocGlobal>(rt: &R, text: &str) -> Result<Vec<u8>, Fail> {
     Ok(hex::decode(rt.alloc(), word_of(rt, text).as_str())?)
 }
 
-/// Runs a row's command, while the other end sends.
-fn expect_row<R>(rt: &R, row: &Row) -> Result<(), Fail>
+/// The machine of a row, and its other end.
+fn machine_of<'a, R>(rt: &'a R, row: &Row) -> Result<Machine<'a, R>, Fail>
 where
     R: Abort + AllocGlobal + Net<Stream = TcpStream, Listener = TcpListener>,
 {
@@ -249,7 +260,7 @@ where
     for (reading, text) in row.sends {
         sends.push((*reading, octets(rt, text)?))?;
     }
-    let machine = Machine {
+    Ok(Machine {
         host: rt,
         port: UdpSocket::bind(rt, OWN)?,
         other: UdpSocket::bind(rt, OTHER)?,
@@ -257,7 +268,15 @@ where
         sends,
         breaks_at: row.breaks_at,
         readings: Cell::new(0),
-    };
+    })
+}
+
+/// Runs a row's command, while the other end sends.
+fn expect_row<R>(rt: &R, row: &Row) -> Result<(), Fail>
+where
+    R: Abort + AllocGlobal + Net<Stream = TcpStream, Listener = TcpListener>,
+{
+    let machine = machine_of(rt, row)?;
     let words = words_of(rt, row.words);
     let mut paper = Paper::new();
     let status = command_on(
@@ -302,6 +321,35 @@ fn servers(rt: HostRuntime) -> Result<(), Fail> {
 fn nodes(rt: HostRuntime) -> Result<(), Fail> {
     for row in &NODES {
         expect_row(&rt, row)?;
+    }
+    Ok(())
+}
+
+/// The first line of each row of a node.
+const FIRST_LINES: [&str; 5] = [
+    "granted 70\n",
+    "granted 60\n",
+    "refused 6\n",
+    "granted 60\n",
+    "device\n",
+];
+
+/// An event's line that can't be flushed ends the node, and nothing is told behind it.
+#[test]
+fn an_event_that_can_not_be_told(rt: HostRuntime) -> Result<(), Fail> {
+    for (row, line) in NODES.iter().zip(FIRST_LINES) {
+        let machine = machine_of(&rt, row)?;
+        let words = words_of(&rt, row.words);
+        let mut paper = Paper::stuck();
+        let status = command_on(
+            &machine,
+            rt.alloc(),
+            words.as_slice(),
+            &mut io::empty(),
+            &mut paper,
+        );
+        assert_eq!(&rt; status, 3, "{line}");
+        assert_eq!(&rt; paper.text.as_slice(), line.as_bytes(), "{line}");
     }
     Ok(())
 }

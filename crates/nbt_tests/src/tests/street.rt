@@ -13,10 +13,14 @@ use std::time::{Clock, Duration};
 const STATUS_REQUEST: &[u8] =
     b"\x00\x09\x00\x00\x00\x01\x00\x00\x00\x00\x00\x00 CKAAAAAAAAAAAAAAAAAAAAAAAAAAAAAA\x00\x00\x21\x00\x01";
 
+/// A reply to a node's first request: FRED is refused to n1, since it is active. The server sends none such.
+const REFUSAL: &[u8] =
+    b"\x00\x01\xAD\x86\x00\x00\x00\x01\x00\x00\x00\x00 EGFCEFEECACACACACACACACACACACACA\x00\x00\x20\x00\x01\x00\x00\x00\x00\x00\x06\x20\x00\x7F\x00\x00\x02";
+
 /// What becomes of a connection.
 #[derive(Clone, Copy, Debug, PartialEq, Eq)]
 pub enum Luck {
-    /// It can't be made.
+    /// It can't be made, or not be accepted.
     Refused,
     /// Nothing can be written to it.
     Mute,
@@ -24,24 +28,55 @@ pub enum Luck {
     Deaf,
     /// What is read from it is no session's stream.
     Garbled,
+    /// What is written to it never comes.
+    Silent,
+    /// Its first read is interrupted.
+    Interrupted,
+    /// A read gets one octet.
+    Slow,
     /// All is well.
     Well,
 }
 
-/// One end of a TCP connection, with its luck.
+/// How long a read waits at most, in milliseconds (our profile).
+const WAIT: u64 = 1000;
+
+/// One end of a TCP connection, with its luck, and how long its reads wait. One that would wait otherwise fails.
 #[derive(Drop)]
 pub struct Line {
     socket: TcpStream,
-    luck: Luck,
+    luck: Cell<Luck>,
+    waits: Cell<Option<Duration>>,
+}
+
+impl Line {
+    fn new(socket: TcpStream, luck: Luck) -> Line {
+        Line {
+            socket,
+            luck: Cell::new(luck),
+            waits: Cell::new(None),
+        }
+    }
 }
 
 impl Read for Line {
     fn read(&mut self, buf: &mut [u8]) -> io::Result<usize> {
-        match self.luck {
+        if self.waits.get() != Some(Duration::from_millis(WAIT)) {
+            return Err(io::Error::from(io::ErrorKind::Unsupported));
+        }
+        match self.luck.get() {
             Luck::Deaf => Err(io::Error::from(io::ErrorKind::ConnectionReset)),
             Luck::Garbled => {
                 buf.fill(0xFF);
                 Ok(buf.len())
+            }
+            Luck::Interrupted => {
+                self.luck.set(Luck::Well);
+                Err(io::Error::from(io::ErrorKind::Interrupted))
+            }
+            Luck::Slow => {
+                let most = buf.len().min(1);
+                self.socket.read(&mut buf[..most])
             }
             _ => self.socket.read(buf),
         }
@@ -50,8 +85,9 @@ impl Read for Line {
 
 impl Write for Line {
     fn write(&mut self, buf: &[u8]) -> io::Result<usize> {
-        match self.luck {
+        match self.luck.get() {
             Luck::Mute => Err(io::Error::from(io::ErrorKind::BrokenPipe)),
+            Luck::Silent => Ok(buf.len()),
             _ => self.socket.write(buf),
         }
     }
@@ -67,6 +103,7 @@ impl OpenStream for Line {
     }
 
     fn set_read_timeout(&self, dur: Option<Duration>) -> io::Result<()> {
+        self.waits.set(dur);
         self.socket.set_read_timeout(dur)
     }
 }
@@ -98,7 +135,10 @@ impl OpenListener for Door {
         } else {
             Luck::Well
         };
-        Ok((Line { socket, luck }, from))
+        if luck == Luck::Refused {
+            return Err(io::Error::from(io::ErrorKind::InvalidInput));
+        }
+        Ok((Line::new(socket, luck), from))
     }
 }
 
@@ -140,6 +180,7 @@ impl<'a, N: Net<Stream = TcpStream, Listener = TcpListener>> Net for Street<'a, 
         let free = SocketAddr::new(IpAddr::V4(Ipv4Addr::LOCALHOST), 0);
         let stranger = self.machine.bind_udp(free)?;
         stranger.send_to(STATUS_REQUEST, addr)?;
+        stranger.send_to(REFUSAL, addr)?;
         let (from, octets, to) = self.last;
         if addr == from {
             socket.send_to(octets, to)?;
@@ -155,7 +196,7 @@ impl<'a, N: Net<Stream = TcpStream, Listener = TcpListener>> Net for Street<'a, 
             return Err(io::Error::from(io::ErrorKind::ConnectionRefused));
         }
         let socket = self.machine.connect(addr)?;
-        Ok(Line { socket, luck })
+        Ok(Line::new(socket, luck))
     }
 }
 
