@@ -25,6 +25,3 @@ pub use part::Part;
 pub use pieces::Pieces;
 pub use stream::Stream;
 pub use writing::encode;
-
-#[cfg(test)]
-mod tests;

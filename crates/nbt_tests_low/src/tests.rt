@@ -4,11 +4,13 @@ use nbt_lease::Moment;
 use nbt_name::Name;
 use std::test::Fail;
 
+mod calls;
 mod datagrams;
 mod leases;
 mod names;
 mod node;
 mod packets;
+mod sessions;
 
 /// The sixteen octets of names: FRED's and TEAM's, filled with spaces, and of the name that stands for all.
 const FRED: &[u8; 16] = b"FRED            ";

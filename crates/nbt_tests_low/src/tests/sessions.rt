@@ -1,0 +1,484 @@
+//! Packets of sessions, and streams of them in one piece and cut (RFC 1002 section 4.3), whole and in parts.
+
+ghost use Rattle.std.specs.Prelude.{◌≤◌, length, IfOk};
+
+use super::{FRED, TEAM, fred, name_of, patched};
+use nbt_name::{Addr, Name};
+use nbt_session::{
+    EncodeFault, Fault, FaultKind, Packet, Part, Pieces, Stream, StreamFault, encode, laws,
+};
+use std::process::Abort;
+use std::test::Fail;
+
+pub(super) const SECOND: Addr = Addr {
+    ip: 0x7F00_0003,
+    port: 139,
+};
+
+const KEEP_ALIVE: &[u8] = b"\x85\x00\x00\x00";
+
+/// The request that calls FRED, by TEAM.
+const REQUEST: &[u8] =
+    b"\x81\x00\x00\x44 EGFCEFEECACACACACACACACACACACACA\x00 FEEFEBENCACACACACACACACACACACACA\x00";
+
+/// The same with one octet more.
+const LONGER: &[u8] =
+    b"\x81\x00\x00\x45 EGFCEFEECACACACACACACACACACACACA\x00 FEEFEBENCACACACACACACACACACACACA\x00\x00";
+
+/// A packet, with the sixteen octets of its names.
+#[derive(Clone, Copy, Debug)]
+pub(super) enum Said<'a> {
+    Message(&'a [u8]),
+    Request(&'a [u8; 16], &'a [u8; 16]),
+    Positive,
+    Negative(u8),
+    Retarget(Addr),
+    KeepAlive,
+}
+
+/// The packet that is said.
+pub(super) fn packet<A: AllocGlobal>(rt: &A, said: Said<'_>) -> Result<Packet, Fail> {
+    Ok(match said {
+        Said::Message(octets) => Packet::Message(Vec::from_slice(rt.alloc(), octets)?),
+        Said::Request(called, calling) => Packet::Request {
+            called: name_of(called)?,
+            calling: name_of(calling)?,
+        },
+        Said::Positive => Packet::Positive,
+        Said::Negative(code) => Packet::Negative(code),
+        Said::Retarget(to) => Packet::Retarget(to),
+        Said::KeepAlive => Packet::KeepAlive,
+    })
+}
+
+/// Packets and their texts.
+const TEXTS: [(Said<'static>, &[u8]); 8] = [
+    (Said::KeepAlive, KEEP_ALIVE),
+    (Said::Negative(0x82), b"\x83\x00\x00\x01\x82"),
+    (Said::Request(FRED, TEAM), REQUEST),
+    (Said::Message(b""), b"\x00\x00\x00\x00"),
+    (Said::Message(b"hello"), b"\x00\x00\x00\x05hello"),
+    (
+        Said::Retarget(SECOND),
+        b"\x84\x00\x00\x06\x7F\x00\x00\x03\x00\x8B",
+    ),
+    (Said::Positive, b"\x82\x00\x00\x00"),
+    (Said::Message(b"hi"), b"\x00\x00\x00\x02hi"),
+];
+
+#[test]
+fn packets_are_their_texts(rt: HostRuntime) -> Result<(), Fail> {
+    laws::text_is_read();
+    for (said, text) in &TEXTS {
+        let packet = packet(&rt, *said)?;
+        let mut octets = Vec::from_slice(rt.alloc(), b"\xFF")?;
+        encode(&packet, &mut octets)?;
+        assert_eq!(rt; octets[0], 0xFF);
+        assert_eq!(rt; &octets[1..], *text, "{said:?}");
+        let mut stream = Stream::new(rt.alloc());
+        assert!(rt;
+            stream.take(&octets[1..]) == Ok((text.len(), Some(packet))),
+            "{said:?}"
+        );
+    }
+    Ok(())
+}
+
+/// Gives a new stream the octets in pieces of a size: the packets of the table come in order, and so many octets more.
+fn play_cut<R: Abort + AllocGlobal>(
+    rt: &R,
+    octets: &[u8],
+    size: usize,
+    more: usize,
+) -> Result<(), Fail> {
+    let mut stream = Stream::new(rt.alloc());
+    let mut came = 0usize;
+    let mut held = 0usize;
+    for piece in octets.chunks(size.max(1)) {
+        let mut rest = piece;
+        for _ in 0..16 {
+            let (taken, answer) = stream.take(rest)?;
+            rest = &rest[taken..];
+            held = held.saturating_add(taken);
+            let Some(answer) = answer else { break };
+            let (said, _) = TEXTS.get(came).ok_or("a packet more")?;
+            assert!(rt;
+                answer == packet(rt, *said)?,
+                "{said:?} in pieces of {size}"
+            );
+            came = came.saturating_add(1);
+            held = 0;
+        }
+    }
+    assert_eq!(rt; came, TEXTS.len(), "in pieces of {size}");
+    assert_eq!(rt; held, more, "in pieces of {size}");
+    Ok(())
+}
+
+#[test]
+fn a_stream_cut_anywhere(rt: HostRuntime) -> Result<(), Fail> {
+    laws::one_stream();
+    laws::cutting_changes_nothing();
+    let mut octets = Vec::new(rt.alloc());
+    for (_, text) in &TEXTS {
+        octets.extend_from_slice(*text)?;
+    }
+    octets.extend_from_slice(b"\x00\x01\x00\x00rest")?;
+    for size in [1, 2, 3, 5, 7, 64, 200] {
+        play_cut(&rt, &octets, size, 8)?;
+    }
+    Ok(())
+}
+
+/// Octets, what stands at some of their places instead, and the fault that their last octet shows.
+type Fails = (&'static [u8], &'static [(usize, u8)], FaultKind, usize);
+
+const FAULTS: [Fails; 17] = [
+    (b"\x86", &[], FaultKind::BadType, 0),
+    (b"\x80", &[], FaultKind::BadType, 0),
+    (b"\x01", &[], FaultKind::BadType, 0),
+    (b"\x00\x02", &[], FaultKind::BadFlags, 1),
+    (b"\x85\x80", &[], FaultKind::BadFlags, 1),
+    (b"\x83\x00\x00\x02", &[], FaultKind::BadLength, 2),
+    (b"\x85\x01\x00\x00", &[], FaultKind::BadLength, 2),
+    (b"\x82\x00\x00\x01", &[], FaultKind::BadLength, 2),
+    (b"\x84\x00\x00\x05", &[], FaultKind::BadLength, 2),
+    (b"\x81\x00\x00\x43", &[], FaultKind::BadLength, 2),
+    (b"\x81\x00\x01\xFF", &[], FaultKind::BadLength, 2),
+    // Both names end before the length does; and one ends behind it.
+    (LONGER, &[], FaultKind::BadLength, 2),
+    (REQUEST, &[(71, 0x01)], FaultKind::BadLength, 2),
+    // The count of a label, a half octet, a pointer, and a count again.
+    (REQUEST, &[(4, 0x21)], FaultKind::BadName, 4),
+    (REQUEST, &[(5, 0x51)], FaultKind::BadName, 5),
+    (REQUEST, &[(38, 0xC0)], FaultKind::BadName, 38),
+    (REQUEST, &[(39, 0x40)], FaultKind::BadName, 39),
+];
+
+/// Gives the octets whole, and all but the last before it: the fault comes, and then for ever.
+fn see_fault<R: Abort + AllocGlobal>(
+    rt: &R,
+    octets: &[u8],
+    fault: StreamFault,
+) -> Result<(), Fail> {
+    let last = octets.len().max(1) - 1;
+    let mut stream = Stream::new(rt.alloc());
+    for piece in [octets, b"", KEEP_ALIVE] {
+        assert_eq!(rt; stream.take(piece), Err(fault));
+    }
+    let mut stream = Stream::new(rt.alloc());
+    assert_eq!(rt; stream.take(&octets[..last]), Ok((last, None)));
+    for piece in [&octets[last..], KEEP_ALIVE, b""] {
+        assert_eq!(rt; stream.take(piece), Err(fault));
+    }
+    Ok(())
+}
+
+/// The same of a stream in parts, which is given all but the last octet by octet.
+fn see_fault_in_parts(rt: &impl Abort, octets: &[u8], fault: StreamFault) -> Result<(), Fail> {
+    let last = octets.len().max(1) - 1;
+    let mut pieces = Pieces::new();
+    for piece in [octets, b"", KEEP_ALIVE] {
+        assert_eq!(rt; pieces.take(piece), Err(fault));
+    }
+    let mut pieces = Pieces::new();
+    for octet in &octets[..last] {
+        assert_eq!(rt; pieces.take(&[*octet]), Ok((1, None)));
+    }
+    for piece in [&octets[last..], KEEP_ALIVE, b""] {
+        assert_eq!(rt; pieces.take(piece), Err(fault));
+    }
+    Ok(())
+}
+
+#[test]
+fn faults_where_they_are_seen(rt: HostRuntime) -> Result<(), Fail> {
+    laws::one_fault();
+    for (octets, patches, kind, place) in &FAULTS {
+        let octets = patched(&rt, *octets, *patches)?;
+        let fault = StreamFault::Malformed(Fault {
+            kind: *kind,
+            place: *place,
+        });
+        see_fault(&rt, &octets, fault)?;
+        see_fault_in_parts(&rt, &octets, fault)?;
+    }
+    Ok(())
+}
+
+const NUMBERS: [(FaultKind, u8); 4] = [
+    (FaultKind::BadType, 1),
+    (FaultKind::BadFlags, 2),
+    (FaultKind::BadLength, 3),
+    (FaultKind::BadName, 4),
+];
+
+#[test]
+fn numbers_of_faults(rt: HostRuntime) {
+    for (kind, number) in NUMBERS {
+        assert_eq!(rt; kind.number(), number);
+        let fault = StreamFault::Malformed(Fault { kind, place: 0 });
+        assert_eq!(rt; fault.number(), number);
+    }
+    assert_eq!(rt; StreamFault::OutOfMemory.number(), 5);
+    assert_eq!(rt; EncodeFault::TooLong.number(), 1);
+    assert_eq!(rt; EncodeFault::OutOfMemory.number(), 2);
+}
+
+/// What comes of a call: a part, or none.
+#[derive(Clone, Copy, Debug)]
+enum Comes<'a> {
+    Start(usize),
+    Data(&'a [u8]),
+    End,
+    Other(Said<'a>),
+    Nothing,
+}
+
+/// Octets that a new stream is given, and after each call those that it left: what each takes, and what comes of it.
+type Parts = (&'static [u8], &'static [(usize, Comes<'static>)]);
+
+const PARTS: [Parts; 3] = [
+    (
+        b"\x00\x00\x00\x02hi\x85\x00\x00\x00",
+        &[
+            (4, Comes::Start(2)),
+            (2, Comes::Data(b"hi")),
+            (0, Comes::End),
+            (4, Comes::Other(Said::KeepAlive)),
+            (0, Comes::Nothing),
+        ],
+    ),
+    (
+        b"\x00\x00\x00\x00\x00\x00\x00\x01",
+        &[
+            (4, Comes::Start(0)),
+            (0, Comes::End),
+            (4, Comes::Start(1)),
+            (0, Comes::Nothing),
+            (0, Comes::Nothing),
+        ],
+    ),
+    (
+        REQUEST,
+        &[
+            (72, Comes::Other(Said::Request(FRED, TEAM))),
+            (0, Comes::Nothing),
+        ],
+    ),
+];
+
+fn part<'a, A: AllocGlobal>(rt: &A, comes: Comes<'a>) -> Result<Option<Part<'a>>, Fail> {
+    Ok(match comes {
+        Comes::Start(size) => Some(Part::MessageStart(size)),
+        Comes::Data(octets) => Some(Part::MessageData(octets)),
+        Comes::End => Some(Part::MessageEnd),
+        Comes::Other(said) => Some(Part::Other(packet(rt, said)?)),
+        Comes::Nothing => None,
+    })
+}
+
+#[test]
+fn parts_in_one_piece(rt: HostRuntime) -> Result<(), Fail> {
+    laws::parts_are_the_stream();
+    for (octets, calls) in &PARTS {
+        let mut pieces = Pieces::new();
+        let mut rest = *octets;
+        for (count, comes) in *calls {
+            let (taken, returned) = pieces.take(rest)?;
+            assert_eq!(rt; taken, *count, "{comes:?}");
+            assert!(rt; returned == part(&rt, *comes)?, "{comes:?}");
+            rest = &rest[taken..];
+        }
+    }
+    Ok(())
+}
+
+/// The longest message: its header, and 131,071 octets.
+fn longest_message<A: AllocGlobal>(rt: &A) -> Result<Vec<u8>, Fail> {
+    let mut octets = Vec::from_slice(rt.alloc(), b"\x00\x01\xFF\xFF")?;
+    for place in 0..131_071usize {
+        octets.push((place % 251) as u8)?;
+    }
+    Ok(octets)
+}
+
+#[test]
+fn the_longest_message_octet_by_octet(rt: HostRuntime) -> Result<(), Fail> {
+    let sent = longest_message(&rt)?;
+    let last = sent.len().max(1) - 1;
+    let mut stream = Stream::new(rt.alloc());
+    for octet in &sent[..last] {
+        let (taken, packet) = stream.take(&[*octet])?;
+        assert_eq!(rt; taken, 1);
+        assert!(rt; packet.is_none());
+    }
+    let mut piece = Vec::from_slice(rt.alloc(), &sent[last..])?;
+    piece.push(b'!')?;
+    let (taken, packet) = stream.take(&piece)?;
+    assert_eq!(rt; taken, 1);
+    let Some(Packet::Message(octets)) = packet else {
+        return Err("no message")?;
+    };
+    assert!(rt; octets.as_slice() == &sent[4..]);
+    Ok(())
+}
+
+/// The longest message, cut into pieces of a size: how many parts of data come, which are its octets in order.
+fn parts_of_data<R: Abort + AllocGlobal>(rt: &R, size: usize) -> Result<usize, Fail> {
+    let octets = longest_message(rt)?;
+    let mut pieces = Pieces::new();
+    let mut others: Vec<Part<'_>> = Vec::new(rt.alloc());
+    let mut came = Vec::new(rt.alloc());
+    let mut parts = 0usize;
+    for piece in octets.chunks(size.max(1)) {
+        let mut rest = piece;
+        for _ in 0..4 {
+            let (taken, part) = pieces.take(rest)?;
+            rest = &rest[taken..];
+            match part {
+                None => break,
+                Some(Part::MessageData(lent)) => {
+                    assert!(rt; !lent.is_empty());
+                    came.extend_from_slice(lent)?;
+                    parts = parts.saturating_add(1);
+                }
+                Some(other) => {
+                    assert_eq!(rt; came.len(), 131_071 * others.len().min(1));
+                    others.push(other)?;
+                }
+            }
+        }
+        assert_eq!(rt; rest.len(), 0);
+    }
+    assert!(rt; came.as_slice() == &octets[4..]);
+    assert_eq!(rt; others.len(), 2);
+    assert!(rt; others[0] == Part::MessageStart(131_071));
+    assert!(rt; others[1] == Part::MessageEnd);
+    Ok(parts)
+}
+
+#[test]
+fn the_longest_message_in_pieces(rt: HostRuntime) -> Result<(), Fail> {
+    for (size, parts) in [(1, 131_071), (1_460, 90), (131_075, 1)] {
+        assert_eq!(rt; parts_of_data(&rt, size)?, parts, "in pieces of {size}");
+    }
+    Ok(())
+}
+
+/// A name whose wire form has 255 octets: its scope has three labels of 63 octets and one of 28.
+fn longest(rt: &HostRuntime) -> Result<Name, Fail> {
+    let mut scope = Vec::new(rt.alloc());
+    for count in [63u8, 63, 63, 28] {
+        scope.push(count)?;
+        for _ in 0..count {
+            scope.push(b'A')?;
+        }
+    }
+    fred(&scope)
+}
+
+#[test]
+fn the_longest_request_octet_by_octet(rt: HostRuntime) -> Result<(), Fail> {
+    let request = Packet::Request {
+        called: longest(&rt)?,
+        calling: longest(&rt)?,
+    };
+    let mut octets = Vec::new(rt.alloc());
+    encode(&request, &mut octets)?;
+    assert_eq!(rt; octets.len(), 514);
+    let mut pieces = Pieces::new();
+    let last = octets.len().max(1) - 1;
+    for octet in &octets[..last] {
+        assert_eq!(rt; pieces.take(&[*octet]), Ok((1, None)));
+    }
+    assert!(rt; pieces.take(&octets[last..]) == Ok((1, Some(Part::Other(request)))));
+    Ok(())
+}
+
+#[test]
+fn a_message_of_131072_octets_is_too_long(rt: HostRuntime) -> Result<(), Fail> {
+    let mut octets = Vec::new(rt.alloc());
+    octets.resize(131_071, b'x')?;
+    let mut out = Vec::new(rt.alloc());
+    encode(&packet(&rt, Said::Message(&octets))?, &mut out)?;
+    assert_eq!(rt; out.len(), 131_075);
+    assert_eq!(rt; &out[..5], b"\x00\x01\xFF\xFFx".as_slice());
+    octets.push(b'x')?;
+    out.truncate(2);
+    let refused = encode(&packet(&rt, Said::Message(&octets))?, &mut out);
+    assert_eq!(rt; refused, Err(EncodeFault::TooLong));
+    assert_eq!(rt; out.as_slice(), b"\x00\x01".as_slice());
+    Ok(())
+}
+
+/// What `take` returns, called again where memory was refused.
+fn take(stream: &mut Stream, piece: &[u8]) -> Result<(usize, Option<Packet>), StreamFault>
+    ensures { IfOk result (λ t. t.0 ≤ length piece.now) }
+{
+    let mut answer = stream.take(piece);
+    if let Err(StreamFault::OutOfMemory) = &answer {
+        answer = stream.take(piece);
+    }
+    answer
+}
+
+/// What a stream makes of pieces, one after the other: how many octets each takes, and the packet.
+const MEMORY: [(&[u8], usize, Option<Said<'static>>); 3] = [
+    (
+        b"\x85\x00\x00\x00\x00\x00\x00\x02hi",
+        4,
+        Some(Said::KeepAlive),
+    ),
+    (b"\x00\x00\x00\x02hi", 6, Some(Said::Message(b"hi"))),
+    (REQUEST, 72, Some(Said::Request(FRED, TEAM))),
+];
+
+/// With `rt try --test --fail-alloc N` the Nth allocation is refused. Where it is one of the stream's, nothing is
+/// taken, and the same call with memory returns what it would have.
+#[test]
+fn refused_memory_leaves_the_stream(rt: HostRuntime) -> Result<(), Fail> {
+    laws::one_answer();
+    let mut stream = Stream::new(rt.alloc());
+    let mut sent = Vec::new(rt.alloc());
+    assert!(rt; take(&mut stream, b"\x00\x00\x01\x00") == Ok((4, None)));
+    for place in 0..255u8 {
+        sent.push(place)?;
+        assert!(rt; take(&mut stream, &[place]) == Ok((1, None)));
+    }
+    sent.push(0xFF)?;
+    let message = packet(&rt, Said::Message(&sent))?;
+    assert!(rt; take(&mut stream, b"\xFF\x85\x00\x00\x00") == Ok((1, Some(message))));
+    for (piece, taken, said) in &MEMORY {
+        let wanted = match said {
+            Some(said) => Some(packet(&rt, *said)?),
+            None => None,
+        };
+        assert!(rt;
+            take(&mut stream, *piece) == Ok((*taken, wanted)),
+            "{said:?}"
+        );
+    }
+    Ok(())
+}
+
+/// The same for what is written: the octets are as before.
+#[test]
+fn refused_memory_leaves_the_octets(rt: HostRuntime) -> Result<(), Fail> {
+    let mut octets: Vec<u8> = Vec::new(rt.alloc());
+    for count in 0..40 {
+        let mut written = encode(&Packet::Retarget(SECOND), &mut octets);
+        if written == Err(EncodeFault::OutOfMemory) {
+            assert_eq!(rt; octets.len(), 10 * count);
+            written = encode(&Packet::Retarget(SECOND), &mut octets);
+        }
+        assert_eq!(rt; written, Ok(()));
+        assert_eq!(rt; octets.len(), 10 * (count + 1));
+        let last = octets.len().max(10) - 10;
+        assert_eq!(rt;
+            &octets[last..],
+            b"\x84\x00\x00\x06\x7F\x00\x00\x03\x00\x8B".as_slice()
+        );
+    }
+    Ok(())
+}
