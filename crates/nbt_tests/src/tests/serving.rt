@@ -73,7 +73,7 @@ const REFUSED: &str = "0001_ad86_0000_0001_0000_0000_{FRED}_0020_0001_00000000_0
 
 const CONFLICT: &str = "0002_ad87_0000_0001_0000_0000_{FRED}_0020_0001_00000000_0006_2000_7f2a1602";
 
-const SERVERS: [Row; 8] = [
+const SERVERS: [Row; 9] = [
     Row {
         about: "BIND, LONGEST and TURNS: silent for 70 s, and then leases of 70 s at most, of two names and more",
         words: "nbt serve 127.42.22.2:20138 1000 70 5",
@@ -120,6 +120,17 @@ const SERVERS: [Row; 8] = [
         readings: 5,
         text: "turns 4 replies 2 lost 1\n",
         sent: &[FIRST_GRANTED, AGAIN_GRANTED],
+    },
+    Row {
+        about: "with no end it says that it has begun before it receives anything",
+        words: "nbt serve 127.42.22.2:20138 1000 60 --forever",
+        moments: &[1_000_000],
+        sends: &[],
+        breaks_at: 2,
+        status: 3,
+        readings: 2,
+        text: "serving 127.42.22.2:20138, silent for 60 s\ndevice\n",
+        sent: &[],
     },
     Row {
         about: "with no end it says that it has begun, and goes on until its port fails",
