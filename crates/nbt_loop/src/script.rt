@@ -52,13 +52,7 @@ pub fn run<R: Net, W: Write>(
     writer: &mut W,
 ) -> Result<(), Fault> {
     let mut scene = Scene::open(rt, alloc, ports)?;
-    tell_line(writer, "server up\n")?;
-    scene.claim_names(writer)?;
-    let holder = scene.find_names(writer)?;
-    scene.send_datagram(writer, holder)?;
-    scene.hold_session(rt, writer, holder)?;
-    scene.give_up_name(rt, writer, holder)?;
-    tell_line(writer, "done\n")
+    scene.play(rt, writer)
 }
 
 /// The name server, the two end nodes, and the session that is held.
@@ -75,6 +69,17 @@ struct Scene<R: Net> {
 }
 
 impl<R: Net> Scene<R> {
+    /// Goes through the steps, and tells each.
+    fn play<W: Write>(&mut self, rt: &R, writer: &mut W) -> Result<(), Fault> {
+        tell_line(writer, "server up\n")?;
+        self.claim_names(writer)?;
+        let holder = self.find_names(writer)?;
+        self.send_datagram(writer, holder)?;
+        self.hold_session(rt, writer, holder)?;
+        self.give_up_name(rt, writer, holder)?;
+        tell_line(writer, "done\n")
+    }
+
     /// Binds all sockets, and starts all ends at 0.
     fn open(rt: &R, alloc: Global, ports: Ports) -> Result<Scene<R>, Fault> {
         let config = Config::new(LIFE, LONGEST, ROWS).unwrap();
