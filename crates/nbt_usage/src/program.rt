@@ -166,17 +166,34 @@ pub const AT: &str = "at";
 
 /// The program with each of its commands.
 pub fn program<'a>(alloc: Global) -> Result<Command<'a>, AllocError> {
-    Command::new(alloc, "nbt")
-        .bin_name("nbt")?
-        .version("0.1.0")
-        .about(ABOUT)
-        .after_help(PROGRAM_HELP)
-        .subcommand_required(true)
-        .arg_required_else_help(true)
+    let program = with_values(alloc, without_commands(alloc)?)?;
+    with_network(alloc, program)
+}
+
+fn without_commands<'a>(alloc: Global) -> Result<Command<'a>, AllocError> {
+    Ok(
+        Command::new(alloc, "nbt")
+            .bin_name("nbt")?
+            .version("0.1.0")
+            .about(ABOUT)
+            .after_help(PROGRAM_HELP)
+            .subcommand_required(true)
+            .arg_required_else_help(true),
+    )
+}
+
+/// Adds the commands that read and print, and use no network.
+fn with_values<'a>(alloc: Global, program: Command<'a>) -> Result<Command<'a>, AllocError> {
+    program
         .subcommand(answer_command(alloc)?)?
         .subcommand(show_command(alloc)?)?
         .subcommand(check_command(alloc))?
-        .subcommand(sim_command(alloc))?
+        .subcommand(sim_command(alloc))
+}
+
+/// Adds the commands over this machine's sockets.
+fn with_network<'a>(alloc: Global, program: Command<'a>) -> Result<Command<'a>, AllocError> {
+    program
         .subcommand(network::serve_command(alloc)?)?
         .subcommand(network::node_command(alloc)?)?
         .subcommand(network::loop_command(alloc)?)
