@@ -320,6 +320,7 @@ fn the_longest_message_octet_by_octet(rt: HostRuntime) -> Result<(), Fail> {
     let Some(Packet::Message(octets)) = packet else {
         return Err("no message")?;
     };
+    assert_eq!(rt; sent.len(), 131_075);
     assert!(rt; octets.as_slice() == &sent[4..]);
     Ok(())
 }
@@ -351,6 +352,7 @@ fn parts_of_data<R: Abort + AllocGlobal>(rt: &R, size: usize) -> Result<usize, F
         }
         assert_eq!(rt; rest.len(), 0);
     }
+    assert_eq!(rt; octets.len(), 131_075);
     assert!(rt; came.as_slice() == &octets[4..]);
     assert_eq!(rt; others.len(), 2);
     assert!(rt; others[0] == Part::MessageStart(131_071));
