@@ -10,7 +10,7 @@ use Rattle.nbt_lease.proofs.Sound.{all_behind}
 
 -- ---- the asker's lease, or none
 
--- A lease of an address, and the leases before it and behind it.
+-- A lease of an address, and the leases before it and after it.
 pub record Own (addr : ℕ) (leases : List Lease) : Type 0 where
   pub before : List Lease
   pub lease : Lease

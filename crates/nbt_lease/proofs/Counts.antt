@@ -14,7 +14,7 @@ record Without (m : ℕ) (rows : Rows) (name : NameValue) (rest : List Lease) : 
   elsewhere : (q : NameValue) → is_name name q ≡ false → leases_at m others q ≡ leases_at m rows q
   one_less : live_count m rows ≡ suc (live_count m others)
 
--- behind a row that is over
+-- after a row that is over
 behind_over : (m : ℕ) (row : NameValue × Lease) (rows : Rows) (name : NameValue) (rest : List Lease) → is_live m row.1 ≡ false → Without m rows name rest → Without m (row ∷ rows) name rest
 behind_over m row rows name rest over w = record {
   others = w.others;
@@ -23,7 +23,7 @@ behind_over m row rows name rest over w = record {
   one_less = count_over m row rows over ∙ w.one_less;
 }
 
--- behind a row of another name
+-- after a row of another name
 behind_other : (m : ℕ) (row : NameValue × Lease) (rows : Rows) (name : NameValue) (rest : List Lease) → is_name row.0 name ≡ false → Without m rows name rest → Without m (row ∷ rows) name rest
 behind_other m row rows name rest other w =
     ⊎_elim

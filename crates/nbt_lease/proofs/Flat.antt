@@ -32,7 +32,7 @@ here_is e es q named = ap (λ (b : Bool). unwrap_or (cond b (Some e.1) (lookup (
 behind_is : (e : NameValue × List Lease) (es : Entries) (q : NameValue) → is_name q e.0 ≡ false → members_of (e ∷ es) q ≡ members_of es q
 behind_is e es q other = ap (λ (b : Bool). unwrap_or (cond b (Some e.1) (lookup (is_name q) es)) []) other
 
--- what holds of the members of each name holds of them behind the first name
+-- what holds of the members of each name holds of them after the first name
 pub holds_behind : (P : List Lease → Type 0) (e : NameValue × List Lease) (es : Entries) → IsDistinct is_name (keys_of (e ∷ es)) → P [] → ((q : NameValue) → P (members_of (e ∷ es) q)) → (q : NameValue) → P (members_of es q)
 holds_behind P e es distinct empty all q =
     ⊎_elim

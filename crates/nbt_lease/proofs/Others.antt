@@ -31,7 +31,7 @@ contains_first x xs = Contains-append_left (x ∷ []) xs x (Contains-push [] x)
 contains_rest : (x : Lease) (xs : List Lease) (lease : Lease) → Contains xs lease → Contains (x ∷ xs) lease
 contains_rest x xs lease h = Contains-append_right (x ∷ []) xs lease h
 
--- a lease that stands there has leases before it and behind it
+-- a lease that stands there has leases before it and after it
 record Place (leases : List Lease) (lease : Lease) : Type 0 where
   before : List Lease
   behind : List Lease

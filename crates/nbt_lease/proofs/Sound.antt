@@ -76,7 +76,7 @@ apart_push (x ∷ xs) new none h =
 
 -- ---- all of a group, or one unique
 
--- a list of one lease has nothing before or behind it
+-- a list of one lease has nothing before or after it
 pub alone : (xs ys : List Lease) (old lease : Lease) → xs ++ old ∷ ys ≡ lease ∷ [] → (xs ≡ []) × (old ≡ lease) × (ys ≡ [])
 alone [] ys old lease e = (refl, cc, cc)
 alone (x ∷ []) ys old lease e = absurd cc

@@ -46,7 +46,7 @@ pub record Agrees (entries : Entries) (ends : List Due) : Type 0 where
 abbrev pub AreLive : ℕ → List Lease → Type 0
 AreLive moment leases = AllByRecursion (λ lease. moment < lease.end) leases
 
--- The member of an address, with those before it and those behind it.
+-- The member of an address, with those before it and those after it.
 pub record IsMember (addr : ℕ) (leases before : List Lease) (lease : Lease) (behind : List Lease) : Type 0 where
   pub is : leases ≡ before ++ lease ∷ behind
   pub owner_is : lease.addr ≡ addr

@@ -26,7 +26,7 @@ abbrev pub granted_until : ConfigValue → Asked → Result ℕ GrantFault → R
 granted_until config a (Ok end) = Ok (grant_until config a end)
 granted_until config a (Err fault) = Err fault
 
--- The leases behind a grant of which the lease's end, or a fault, was returned.
+-- The leases after a grant that returned the lease's end, or a fault.
 pub record Places (table : TableValue) (now : ℕ) (name : NameValue) (a : Asked) (result : Result ℕ GrantFault) (after : Leases) : Type 0 where
   pub rule : result ≢ Err OutOfMemory → Grants table now name a (granted_until table.config a result) after
   pub memory : result ≡ Err OutOfMemory → ChangesLeases table now name a

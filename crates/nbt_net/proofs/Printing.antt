@@ -1,4 +1,4 @@
--- What a writer has behind what it had: nothing more, one text behind another, and what was written before an error was
+-- What a writer has after what it had: nothing more, one text after another, and what was written before an error was
 -- another's.
 use Rattle.std.proofs.Common.{◌≡◌, ℕ, List, [], ◌++◌, Option, Some, None, Result, Ok, Err, OnOk, sym, ap, ◌∙◌, append-nil, append_assoc}
 use Rattle.std.specs.Prelude.{is_ok}

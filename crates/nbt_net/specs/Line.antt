@@ -1,6 +1,6 @@
 -- A line as it is printed (our profile).
 use Rattle.std.specs.Prelude.{ℕ, List, [], ◌∷◌, ◌++◌}
 
--- with its end behind it
+-- with its end after it
 abbrev pub one_line : List ℕ → List ℕ
 one_line words = words ++ (10 ∷ [])

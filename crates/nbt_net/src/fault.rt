@@ -8,7 +8,7 @@ use thiserror::Error;
 /// Why a server or a node ends early.
 #[derive(Clone, Copy, Debug, PartialEq, Eq, Error)]
 pub enum Fault {
-    /// A port can't be had, a socket failed, or the clock can't be read.
+    /// A port can't be bound, a socket failed, or the clock can't be read.
     #[error("device")]
     Device,
     /// What is printed can't be written.

@@ -37,7 +37,7 @@ pub struct NodeArguments {
 
 /// Runs an end node on a UDP port of this machine, over its clock. It prints a line for each event as it comes, and after
 /// the last turn whether the name is held; with no end that is after 2^64 - 1 turns. Refused: `Device` where the port can't
-/// be had, the clock can't be read at first, or a socket fails; `Output` where `writer` fails.
+/// be bound, the clock can't be read at first, or a socket fails; `Output` where `writer` fails.
 pub fn run_node<M: Net + time::Clock, W: Write>(
     machine: &M,
     arguments: &NodeArguments,
@@ -76,7 +76,7 @@ fn start_node<C: Clock>(clock: &mut C, arguments: &NodeArguments) -> Node<SLOTS>
     Node::start(arguments.bind, arguments.server, arguments.config, now)
 }
 
-/// Takes so many turns, and prints what is seen in each.
+/// Takes `turns` turns, and prints what is seen in each.
 fn take_turns<P: Port, C: Clock, W: Write>(
     port: &mut P,
     clock: &mut C,

@@ -29,7 +29,7 @@ pub struct ServeArguments {
 
 /// Runs a name server on a UDP port of this machine, over its clock. Where there is no end, it first prints a line that
 /// says that it has begun, and then goes through 2^64 - 1 turns; else it prints what was done, after the last turn. Refused:
-/// `Device` where the port can't be had, the clock can't be read at first, or a socket fails; `Output` where `writer` fails.
+/// `Device` where the port can't be bound, the clock can't be read at first, or a socket fails; `Output` where `writer` fails.
 pub fn run_server<M: Net + time::Clock, W: Write>(
     machine: &M,
     alloc: Global,

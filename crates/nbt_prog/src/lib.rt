@@ -54,7 +54,7 @@ pub fn command<S: AsStr, R: Read, W: Write>(
 }
 
 /// Runs the command that `words` name, as [`command`] does, and on this machine those that open sockets too: `serve`,
-/// `node` and `loop`. They write to `writer` as they go on. Status 3 is also that of a port that can't be had, of a
+/// `node` and `loop`. They write to `writer` as they go on. Status 3 is also that of a port that can't be bound, of a
 /// clock that can't be read at the start of `serve` or `node`, and of a socket that failed.
 pub fn command_on<M: Net + time::Clock, S: AsStr, R: Read, W: Write>(
     machine: &M,

@@ -64,7 +64,7 @@ other_is_no_message kind n tail has apart size rest fits e =
     let same = header_apart kind Message n size tail rest (omega (arith, has.1, most_fits kind)) fits e in
     apart same.kind
 
--- what is held and a piece are the header and what comes behind it
+-- what is held and a piece are the header and what comes after it
 all_is : (held piece body : List ℕ) (f : Frame) (k : ℕ) → Completes held piece f k body → held ++ piece ≡ header f.kind f.count ++ (body ++ drop k piece)
 all_is held piece body f k c =
     ap (λ (xs : List ℕ). held ++ xs) (sym (take-append-drop k piece)) ∙ sym (append_assoc held (take k piece) (drop k piece)) ∙ ap (λ (xs : List ℕ). xs ++ drop k piece) c.octets ∙ append_assoc (header f.kind f.count) body (drop k piece)
@@ -80,7 +80,7 @@ body_cut held piece body after f k c apart short is =
 
 -- ---- a packet that is whole, or a request with a fault
 
--- the octets behind the header, as many as it counts
+-- the octets after the header, as many as it counts
 pub record Fills (body piece filled : List ℕ) (k m n : ℕ) : Type 0 where
   pub octets : filled ≡ body ++ take m (drop k piece)
   pub there : m ≤ length (drop k piece)
@@ -116,7 +116,7 @@ request_fault held piece body filled f k m fault c fills request bad =
 
 -- ---- as the code has it
 
--- the rest of a piece behind the header
+-- the rest of a piece after the header
 pub rest_is : (piece : List ℕ) (k : ℕ) → k ≤ length piece → take (length piece - k) (drop k piece) ≡ drop k piece
 rest_is piece k within = take_all (length piece - k) (drop k piece) (omega (arith, length-drop k piece))
 

@@ -82,7 +82,7 @@ length_is n flags high low le e f g = omega arith
 has_by : (a b : PacketType) (n m : ℕ) → a ≡ b → n ≡ m → HasLength a n → HasLength b m
 has_by a b n m e f has = subst (λ (k : PacketType). HasLength k m) e (subst (λ (k : ℕ). HasLength a k) f has)
 
--- behind a header there is no other length
+-- after a header there is no other length
 header_has_length : (octets : List ℕ) (kind kind2 : PacketType) (flags high low : ℕ) (rest : List ℕ) (n : ℕ) (tail : List ℕ) → octets ≡ octet_of kind ∷ flags ∷ high ∷ low ∷ rest → octets ≡ header kind2 n ++ tail
     → n ≤ 131071 → HasLength kind2 n → ¬ HasLength kind (count flags high low) → ⊥
 header_has_length octets kind kind2 flags high low rest n tail e e2 fits has wrong =

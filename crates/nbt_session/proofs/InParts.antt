@@ -32,7 +32,7 @@ pub record Gathered (octets : List ℕ) (parts : List PartValue) (u : PiecesStat
   pub stream : StreamIs octets packets (begun ++ held_in u)
   pub settled : (held : List ℕ) → u ≡ between held → begun ≡ []
 
--- what comes of octets in a message of which so many are to come
+-- what comes of octets in a message that lacks some
 data Within (u : PiecesState) (missing : ℕ) (octets : List ℕ) (parts : List PartValue) : Type 0 where
   goes_past : (own more : List ℕ) (others : List PartValue) → DataIs parts own (message_end ∷ others) → AreOctets own → length own ≡ missing → octets ≡ own ++ more → Gathered more others u
       → Within u missing octets parts
@@ -58,7 +58,7 @@ message_first : (octets more : List ℕ) (packets : List PacketValue) (rest : Li
 message_first octets more packets rest fits are s =
     stream_by _ _ _ _ (append_assoc (header Message (length octets)) octets more) (packet_first (message octets) more packets rest (fits, are) s)
 
--- behind a message's header
+-- after a message's header
 started : (size : ℕ) (octets : List ℕ) (parts : List PartValue) (u : PiecesState) → size ≤ 131071 → Within u size octets parts → Gathered (header Message size ++ octets) (message_start size ∷ parts) u
 started size octets parts u fits (goes_past own more others are_data are count is g) =
     let whole : header Message (length own) ++ (own ++ more) ≡ header Message size ++ octets = ap (λ (n : ℕ). header Message n ++ (own ++ more)) count ∙ ap (λ (xs : List ℕ). header Message size ++ xs) (sym is) in
@@ -114,7 +114,7 @@ one_packet packet octets parts u is g = record {
   settled = g.settled;
 }
 
--- a part, and what comes behind it
+-- a part, and what comes after it
 answered : (piece octets : List ℕ) (n : ℕ) (part : PartValue) (parts : List PartValue) (s t u : PiecesState) → TakesPart piece s (Ok (n, Some part)) t → Outcome t octets parts u → Outcome s (take n piece ++ octets) (part ∷ parts) u
 answered piece octets _ _ parts _ _ u (message_starts held n size within fits whole) after =
     λ partial. gathered_by _ _ _ _ (ap (λ (xs : List ℕ). xs ++ octets) (sym whole) ∙ append_assoc held (take n piece) octets) (started size octets parts u fits after)
@@ -124,7 +124,7 @@ answered piece octets _ _ parts _ _ u message_ends after = ended octets parts u 
 answered piece octets _ _ parts _ _ u (packet_is_whole held n packet within is other_type whole) after =
     λ partial. gathered_by _ _ _ _ (ap (λ (xs : List ℕ). xs ++ octets) (sym whole) ∙ append_assoc held (take n piece) octets) (one_packet packet octets parts u is (after nothing_is_partial))
 
--- no part, and what comes behind it
+-- no part, and what comes after it
 waited : (piece octets : List ℕ) (n : ℕ) (parts : List PartValue) (s t u : PiecesState) → TakesPart piece s (Ok (n, None)) t → Outcome t octets parts u → Outcome s (take n piece ++ octets) parts u
 waited piece octets _ parts _ _ u (message_waits missing some none) after = after
 waited piece octets _ parts _ _ u (piece_is_held held other_type partial none) after =
@@ -175,7 +175,7 @@ run_sound _ _ _ _ (ends s) sound = sound
 run_sound _ _ _ _ (answers piece octets n part parts s t u takes run) sound = run_sound t octets parts u run (ok_sound piece n (Some part) s t takes)
 run_sound _ _ _ _ (waits piece octets n parts s t u takes run) sound = run_sound t octets parts u run (ok_sound piece n None s t takes)
 
--- a fault behind parts
+-- a fault after parts
 pub fault_is_stream : NoFault → (octets piece : List ℕ) (parts : List PartValue) (before after : PiecesState) (fault : Fault) → PartsRun (between []) octets parts before → TakesPart piece before (Err (Malformed fault)) after
     → (packets : List PacketValue) × PutTogether parts packets [] × StreamIs (octets ++ piece) packets (held_in before ++ piece) × HasFault (held_in before ++ piece) fault
 fault_is_stream no_fault octets piece parts _ _ _ run (fault_is_seen held fault has) =

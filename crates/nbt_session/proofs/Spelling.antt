@@ -48,7 +48,7 @@ record Covers (octets : List ℕ) (place : ℕ) (s : Spot) : Type 0 where
   passed : drop place octets ≡ s.passed ++ drop s.place octets
   straight : s.resume ≡ None
 
--- behind a label of n octets
+-- after a label of n octets
 label_passed : (octets : List ℕ) (p n : ℕ) → slice_get octets p ≡ Some n → drop p octets ≡ n ∷ slice_range octets (p + 1) (p + 1 + n) ++ drop (p + 1 + n) octets
 label_passed octets p n found =
     let width : (p + 1 + n) - (p + 1) ≡ n = omega arith in

@@ -74,7 +74,7 @@ run_from held _ _ _ _ rest e f partial (starves piece octets packets s t u takes
 pub run_is_stream : (octets : List ℕ) (packets : List PacketValue) (rest : List ℕ) → Run (holding []) octets packets (holding rest) → StreamIs octets packets rest
 run_is_stream octets packets rest run = run_from [] octets packets (holding []) (holding rest) rest refl refl nothing_is_partial run
 
--- a fault behind a stream
+-- a fault after a stream
 pub fault_is_stream : NoFault → (octets piece : List ℕ) (packets : List PacketValue) (rest : List ℕ) (fault : Fault) (after : StreamState) → Run (holding []) octets packets (holding rest)
     → Takes piece (holding rest) (Err (Malformed fault)) after → StreamIs (octets ++ piece) packets (rest ++ piece) × HasFault (rest ++ piece) fault
 fault_is_stream no_fault octets piece packets rest fault after run (fault_is_seen rest2 fault2 has) =

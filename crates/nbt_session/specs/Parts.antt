@@ -17,7 +17,7 @@ pub data PartValue : Type 0 where
   message_end : PartValue
   other : PacketValue → PartValue
 
--- Where a stream stands: between packets, with what came of the next one; in a message, of which so many octets are to
+-- Where a stream stands: between packets, with what came of the next one; in a message, with `missing` octets yet to
 -- come; or at a fault, for ever.
 pub data PiecesState : Type 0 where
   between : List ℕ → PiecesState

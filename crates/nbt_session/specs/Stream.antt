@@ -32,7 +32,7 @@ pub record StreamIs (octets : List ℕ) (packets : List PacketValue) (rest : Lis
 abbrev pub bad : FaultKind → ℕ → Fault
 bad kind place = record { kind = kind; place = place }
 
--- A name's fault in a request, whose names stand behind four octets; a name that doesn't end within LENGTH is a
+-- A name's fault in a request, whose names stand after four octets; a name that doesn't end within LENGTH is a
 -- fault of LENGTH.
 abbrev pub name_fault_by : NameFaultKind → ℕ → Fault
 name_fault_by names.Short place = bad BadLength 2

@@ -1,4 +1,4 @@
-//! What stands behind a packet's header (RFC 1002 sections 4.3.2 to 4.3.7).
+//! What stands after a packet's header (RFC 1002 sections 4.3.2 to 4.3.7).
 
 ghost use Rattle.std.specs.Prelude.{◌≡◌, ◌≢◌, ◌+◌, ◌<◌, ◌≤◌, ◌^◌, ◌++◌, length, IfOk, IfErr};
 ghost use Rattle.byteorder.specs.Endian.{big_bytes};
@@ -12,7 +12,7 @@ use crate::packet::{Packet, PacketType};
 use byteorder::{BigEndian, ByteOrder};
 use nbt_name::{Addr, NameFault, NameFaultKind, read_plain};
 
-/// The packet that these octets behind a header are. It is no message.
+/// The packet that these octets after a header are. It is no message.
 pub(crate) fn other_in(kind: PacketType, body: &[u8]) -> Result<Packet, Fault>
     requires other { kind ≢ Message }
     requires long { HasLength kind (length body.now) }

@@ -19,7 +19,7 @@ pub(crate) struct Coming {
     header: ArrayVec<u8, HEADER>,
     /// What the header says, once it is whole. It is no message's.
     frame: Option<Frame>,
-    /// What came behind it.
+    /// What came after it.
     body: ArrayVec<u8, OTHER_MOST>,
 }
 
@@ -28,7 +28,7 @@ pub(crate) struct Coming {
 pub(crate) enum Reach {
     /// It isn't whole with the whole piece. This came of it.
     Cut(ArrayVec<u8, HEADER>),
-    /// It says this, with so many octets of the piece.
+    /// It says this, and takes this number of octets of the piece.
     Whole(Frame, usize),
 }
 
@@ -37,7 +37,7 @@ pub(crate) enum Reach {
 pub(crate) enum Came {
     /// Nothing.
     Nothing,
-    /// The header of a message of so many octets.
+    /// The header of a message of this number of octets.
     Message(usize),
     /// Another packet.
     Other(Packet),
@@ -120,7 +120,7 @@ impl Coming {
         }
     }
 
-    /// What stands behind the header. Nothing is held afterwards.
+    /// What stands after the header. Nothing is held afterwards.
     fn give_up(&mut self) -> ArrayVec<u8, OTHER_MOST>
         ensures body { result.items ≡ self.old.body.items }
         ensures nothing { (self.new.header.items ≡ []) × (self.new.frame ≡ None) × (self.new.body.items ≡ []) }

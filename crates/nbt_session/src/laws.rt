@@ -29,7 +29,7 @@ pub fn text_is_read()
     nbt_name::laws::one_name_or_fault();
 }
 
-/// Octets have one fault at most, and keep it, whatever comes behind them.
+/// Octets have one fault at most, and keep it, whatever comes after them.
 pub fn one_fault()
     ensures one { (octets : List ℕ) (a b : Fault) → HasFault octets a → HasFault octets b → a ≡ b }
     ensures stays { (octets more : List ℕ) (fault : Fault) → HasFault octets fault → HasFault (octets ++ more) fault }

@@ -7,7 +7,7 @@ use nbt_name::{Addr, Name};
 /// The most octets of a message: what 17 bits of length can say (RFC 1002 section 4.3.1).
 pub(crate) const MESSAGE_MOST: usize = 0x1FFFF;
 
-/// The most octets behind the header of another packet: two names of 255 octets (RFC 1002 section 4.3.2).
+/// The most octets after the header of another packet: two names of 255 octets (RFC 1002 section 4.3.2).
 pub(crate) const OTHER_MOST: usize = 510;
 
 /// A packet of a session (RFC 1002 section 4.3.1).

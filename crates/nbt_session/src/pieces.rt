@@ -22,7 +22,7 @@ pub struct Pieces {
 pub(crate) enum Place {
     /// Between packets, or in one that is no message.
     Between,
-    /// In a message, of which so many octets are to come.
+    /// In a message, of which this number of octets is to come.
     Inside(usize),
     /// At a fault.
     Faulty(Fault),

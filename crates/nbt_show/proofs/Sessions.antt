@@ -9,7 +9,7 @@ use Rattle.nbt_text.proofs.Joining.{two_parts}
 use Rattle.nbt_show.proofs.NextPacket.{left_is}
 use Rattle.nbt_show.specs.SessionText.{PrintsPacketLine, PrintsPackets, no_packets, one_packet}
 
--- each packet takes octets, and what is left stands behind it
+-- each packet takes octets, and what is left stands after it
 behind : (n : ℕ) (octets : List ℕ) (packet : PacketValue) → Begins octets packet (drop n octets) → octets ≡ text packet ++ take (length octets - n) (drop n octets)
 behind n octets packet begins = begins.1 ∙ ap (λ (xs : List ℕ). text packet ++ xs) (sym (left_is octets n))
 

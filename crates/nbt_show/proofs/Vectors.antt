@@ -44,7 +44,7 @@ two_services service name dgram = cc
 
 -- ---- `ok N`
 
--- the service whose reader takes so many octets
+-- the service whose reader takes this number of octets
 abbrev pub Takes : Service → ℕ → Expected → Type 0
 Takes service count e = ((service ≡ services.Name) × (e ≡ Name (Ok count))) ⊎ ((service ≡ services.Dgram) × (e ≡ Dgram (Ok count)))
 
@@ -147,7 +147,7 @@ no_vector _ word b rest _ e asked all names none (vector service digits more oct
     let others : more ≡ rest = cc in
     none service ((names service).1 one) (subst (λ (x : List (List ℕ)). SpellsExpected service x e) others spelled)
 
--- the words behind the service's spell nothing for it, and so for any service that the first one names
+-- the words after the service's spell nothing for it, and so for any service that the first one names
 pub nothing_spelled : (rest : List (List ℕ)) (e : Expected) (asked : Option Service) (service : Service) (found : Option Expected) → asked ≡ Some service → ((found ≡ Some e) ↔ SpellsExpected service rest e) → found ≡ None
     → (s : Service) → asked ≡ Some s → ¬ SpellsExpected s rest e
 nothing_spelled rest e asked service found is spells none s other spelled =

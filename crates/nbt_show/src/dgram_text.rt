@@ -54,7 +54,7 @@ fn write_head(flags: u8, dgram: &Dgram<'_>, out: &mut String) -> Result<(), Allo
     end_line(out)
 }
 
-/// Appends the lines of what stands behind.
+/// Appends the lines of what stands after the first ten octets.
 fn write_body(body: &Body<'_>, out: &mut String) -> Result<(), AllocError>
     ensures { OnOk result ((text : List ℕ) × (string_bytes out.new ≡ string_bytes out.old ++ text)
         × PrintsBody (body_of body.now) text) }

@@ -16,7 +16,7 @@ use nbt_session::{Fault, FaultKind, Packet, Pieces, StreamFault};
 use nbt_text::{write_address, write_name};
 use std::alloc::AllocError;
 
-/// Appends a line for each packet that the octets begin with, one behind the other, and one for how many octets are
+/// Appends a line for each packet that the octets begin with, one after the other, and one for how many octets are
 /// left, which begin with no whole packet and have no fault; or, where they have one, the line of that fault, whose
 /// place is counted from the first octet left. Returns whether there is no fault.
 pub fn write_session(octets: &[u8], out: &mut String) -> Result<bool, AllocError>

@@ -22,7 +22,7 @@ octets_by header (Some f) body = spec.header f.kind f.count ++ body
 abbrev pub octets_of : Coming → List ℕ
 octets_of c = octets_by c.header.items c.frame c.body.items
 
--- A part of a header has no fault, and nothing behind it. Behind a whole one, which is no message's, there is less than
+-- A part of a header has no fault, and nothing after it. After a whole one, which is no message's, there is less than
 -- it counts.
 abbrev pub IsComingAs : List ℕ → Option Frame → List ℕ → Type 0
 IsComingAs header None body = (length header < 4) × ((fault : Fault) → HasFault header fault → ⊥) × (body ≡ [])
@@ -63,7 +63,7 @@ abbrev pub state_after : Coming → Result (ℕ × Came) Fault → PiecesState
 state_after c (Ok t) = state_by c t.1
 state_after c (Err fault) = faulty fault
 
--- behind a message's header nothing is held
+-- after a message's header nothing is held
 abbrev pub IsEmptied : Coming → Came → Type 0
 IsEmptied c cames.Nothing = Unit {0}
 IsEmptied c (cames.Message size) = octets_of c ≡ []
