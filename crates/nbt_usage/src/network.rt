@@ -125,10 +125,29 @@ pub fn serve_command<'a>(alloc: Global) -> Result<Command<'a>, AllocError> {
 
 /// The command that runs an end node.
 pub fn node_command<'a>(alloc: Global) -> Result<Command<'a>, AllocError> {
+    let command = Command::new(alloc, NODE)
+        .about(NODE_ABOUT)
+        .after_help(NODE_HELP);
+    let command = with_ends(alloc, command)?;
+    let command = with_claim(alloc, command)?;
+    command.arg(turns(alloc)?)?.arg(forever(alloc))
+}
+
+/// With the node's address, its server's, and the limits that they share.
+fn with_ends<'a>(alloc: Global, command: Command<'a>) -> Result<Command<'a>, AllocError> {
     let server = Arg::new(alloc, SERVER)
         .value_name("SERVER")
         .required(true)
         .help("The name server's address and port");
+    command
+        .arg(bind(alloc))?
+        .arg(server)?
+        .arg(life(alloc))?
+        .arg(longest(alloc))
+}
+
+/// With the name that is asked for, as which kind, and for how long.
+fn with_claim<'a>(alloc: Global, command: Command<'a>) -> Result<Command<'a>, AllocError> {
     let name = Arg::new(alloc, NAME).value_name("NAME").required(true).help(
         "The name to be asked for: as text, or 32 hexadecimal digits, and `.` before each label of its scope",
     );
@@ -140,18 +159,7 @@ pub fn node_command<'a>(alloc: Global) -> Result<Command<'a>, AllocError> {
     let ttl = Arg::new(alloc, TTL).value_name("TTL").required(true).help(
         "The seconds to ask for: 0, as long as may be, to 4294967295",
     );
-    Command::new(alloc, NODE)
-        .about(NODE_ABOUT)
-        .after_help(NODE_HELP)
-        .arg(bind(alloc))?
-        .arg(server)?
-        .arg(life(alloc))?
-        .arg(longest(alloc))?
-        .arg(name)?
-        .arg(kind)?
-        .arg(ttl)?
-        .arg(turns(alloc)?)?
-        .arg(forever(alloc))
+    command.arg(name)?.arg(kind)?.arg(ttl)
 }
 
 /// The command that runs a server and two nodes.

@@ -82,18 +82,30 @@ pub enum Words<'a> {
 pub fn read<'a, S: AsStr>(alloc: Global, words: &'a [S]) -> Result<Words<'a>, Refusal> {
     let mut program = program::program(alloc)?;
     let matches = program.try_get_matches_from_mut(words)?;
-    match matches.subcommand() {
-        Some((program::ANSWER, inner)) => Ok(Words::Answer(answer_words(inner))),
-        Some((program::SHOW, inner)) => Ok(Words::Show(show_words(inner))),
-        Some((program::CHECK, _)) => Ok(Words::Check),
-        Some((program::SIM, _)) => Ok(Words::Sim),
-        Some((network::SERVE, inner)) => Ok(Words::Serve(serve_words(inner))),
-        Some((network::NODE, inner)) => Ok(Words::Node(node_words(inner))),
-        Some((network::LOOP, inner)) => Ok(Words::Loop(argument(inner, network::PORT))),
-        _ => {
+    let found = match matches.subcommand() {
+        Some((name, inner)) => words_of(name, inner),
+        None => None,
+    };
+    match found {
+        Some(words) => Ok(words),
+        None => {
             let message = "a command is needed";
             Err(program.error(ErrorKind::MissingSubcommand, message)?)?
         }
+    }
+}
+
+/// The command of this name, with its words; `None` where there is none of that name.
+fn words_of<'a>(name: &str, matches: &ArgMatches<'a>) -> Option<Words<'a>> {
+    match name {
+        program::ANSWER => Some(Words::Answer(answer_words(matches))),
+        program::SHOW => Some(Words::Show(show_words(matches))),
+        program::CHECK => Some(Words::Check),
+        program::SIM => Some(Words::Sim),
+        network::SERVE => Some(Words::Serve(serve_words(matches))),
+        network::NODE => Some(Words::Node(node_words(matches))),
+        network::LOOP => Some(Words::Loop(argument(matches, network::PORT))),
+        _ => None,
     }
 }
 
