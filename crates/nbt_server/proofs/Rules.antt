@@ -1,7 +1,9 @@
 -- What the code has found, as a line of the server's rules; and that replies have a written form, which is short.
-use Rattle.std.proofs.Common.{◌≡◌, ◌≢◌, false, ℕ, ◌+◌, ◌++◌, ap, ◌*◌, ◌%◌, ◌<◌, ◌≤◌, List, [], ◌∷◌, length, length-append, Option, Some, None, Result, Ok, Err, sym, subst, refl, arith}
+use Rattle.std.proofs.Common.{◌≡◌, ◌≢◌, Bool, true, false, ℕ, zero, suc, ◌+◌, ◌-◌, ◌++◌, ◌*◌, ◌%◌, ◌<◌, ◌≤◌, List, [], ◌∷◌, take, length, length-append, append_assoc, ◌∙◌, Option, Some, None, Result, Ok, Err, sym, subst, refl, arith}
+use Rattle.std.proofs.lemmas.Bool.{lt-ltb, le-ltb}
+use Rattle.std.proofs.lemmas.List.{length-take}
 use Rattle.std.proofs.lemmas.List.Elements.{All-contains, All-from_recursion}
-use Rattle.std.specs.Prelude.{OnErr, IsErr, is_ok}
+use Rattle.std.specs.Prelude.{OnErr, IsErr, is_ok, min, nat_lt}
 use Rattle.nbt_name.specs.declared.addr.Kind.{Kind}
 use Rattle.nbt_name.specs.declared.addr.Kind.TheVariants.{Unique, Group}
 use Rattle.nbt_name.specs.Wire.{NameValue}
@@ -158,5 +160,5 @@ pub record Counts (most room : ℕ) (cut : Bool) (rest all : ℕ) : Type 0 where
   pub left : cut ≡ false → most + rest ≡ all + room
 
 pub cut_is : (most room : ℕ) (cut : Bool) (leases : List Lease) → Counts most room cut 0 (length leases) → cut ≡ nat_lt (length (take most leases)) (length leases)
-cut_is most room true leases counts = sym (nat_lt-true (omega (arith, counts.more refl, length-take most leases)))
-cut_is most room false leases counts = sym (nat_lt-false (omega (arith, counts.left refl, length-take most leases)))
+cut_is most room true leases counts = sym (lt-ltb (length (take most leases)) (length leases) (omega (arith, counts.more refl, length-take most leases)))
+cut_is most room false leases counts = sym (le-ltb (length (take most leases)) (length leases) (omega (arith, counts.left refl, length-take most leases)))
