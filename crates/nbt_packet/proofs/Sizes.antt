@@ -8,7 +8,7 @@ use Rattle.nbt_name.specs.Wire.{NameValue, IsName, letters, wire}
 use Rattle.nbt_packet.specs.declared.message.Registration.{Registration}
 use Rattle.nbt_packet.specs.Fields.{word}
 use Rattle.nbt_packet.specs.Message.{MessageValue, HoldsNumbers, registration, overwrite, refresh, release, query, status_request, registered, released, found, not_found, status, wait, nb, nbstat, null, internet}
-use Rattle.nbt_packet.specs.Text.{header, record_fields, entry, question_octets, claim_octets, answer_octets, found_flags, text, wire_size, size_of, entries_most}
+use Rattle.nbt_packet.specs.Text.{header, record_fields, entry, question_octets, claim_octets, answer_octets, found_flags, text, wire_size, size_of}
 use Rattle.nbt_packet.specs.Spelling.{HasFewRows}
 
 length-letters : (os : List ℕ) → length (letters os) ≡ 2 * length os
