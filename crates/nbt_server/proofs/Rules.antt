@@ -159,6 +159,13 @@ pub record Counts (most room : ℕ) (cut : Bool) (rest all : ℕ) : Type 0 where
   pub more : cut ≡ true → most < all
   pub left : cut ≡ false → most + rest ≡ all + room
 
+pub counts_next : (most room rest all : ℕ) (cut : Bool) → 0 < room → Counts most room cut (suc rest) all → Counts most (room - 1) cut rest all
+counts_next most room rest all cut some counts = record { more = counts.more; left = λ e. omega (arith, some, counts.left e) }
+
+pub counts_no_more : (most room rest all : ℕ) (cut : Bool) → room ≡ 0 → Counts most room cut (suc rest) all → Counts most room true rest all
+counts_no_more most room rest all true none counts = record { more = counts.more; left = λ e. absurd cc }
+counts_no_more most room rest all false none counts = record { more = λ e. omega (arith, none, counts.left refl); left = λ e. absurd cc }
+
 pub cut_is : (most room : ℕ) (cut : Bool) (leases : List Lease) → Counts most room cut 0 (length leases) → cut ≡ nat_lt (length (take most leases)) (length leases)
 cut_is most room true leases counts = sym (lt-ltb (length (take most leases)) (length leases) (omega (arith, counts.more refl, length-take most leases)))
 cut_is most room false leases counts = sym (le-ltb (length (take most leases)) (length leases) (omega (arith, counts.left refl, length-take most leases)))
