@@ -16,16 +16,17 @@
 #include <time.h>
 #include <unistd.h>
 
-enum { ROUNDS = 5, NAMES = 4096, FEW = 10, OUTSTANDING = 32, QUERIES = 40000, NAME_AT = 12, NAME_LENGTH = 34, POINTERS = 990, DATA_AT = 56 };
-enum measure { FEW_NAMES, ALL_NAMES, NOT_THERE, CHAINS, REGISTER, RENEW, ECHO, MEASURES };
+enum { ROUNDS = 5, NAMES = 4096, GROUP = 1000, SMALL_GROUP = 80, FEW = 10, OUTSTANDING = 32, QUERIES = 40000, NAME_AT = 12, NAME_LENGTH = 34, POINTERS = 990, DATA_AT = 56 };
+enum measure { FEW_NAMES, ALL_NAMES, NOT_THERE, CHAINS, OF_SMALL_GROUP, OF_GROUP, JOINING_SMALL, JOINING, REJOINING, REGISTER, RENEW, ECHO, MEASURES };
 
 static const char *const LABELS[MEASURES] = {
     "queries over 10 names", "queries over 4,096 names", "queries for names that aren't there",
-    "queries, each after a chain of pointers", "registrations of 4,096 names", "renewals of 4,096 names", "the same queries, echoed",
+    "queries, each after a chain of pointers", "queries of a group of 80", "queries of a group of 1,000",
+    "registrations of 80 members", "registrations of 1,000 members", "renewals of 1,000 members", "registrations of 4,096 names", "renewals of 4,096 names", "the same queries, echoed",
 };
 
 static struct sockaddr_in server, echo_end;
-static int lookup_socket, owner_sockets[NAMES];
+static int lookup_socket, owner_sockets[NAMES], member_sockets[GROUP];
 static unsigned long lost, wrong;
 
 static void fail(const char *what) {
@@ -39,8 +40,8 @@ static double seconds(void) {
     return (double)t.tv_sec + (double)t.tv_nsec / 1e9;
 }
 
-static int udp_socket(uint16_t port) {
-    struct sockaddr_in own = {.sin_family = AF_INET, .sin_addr.s_addr = htonl(INADDR_LOOPBACK), .sin_port = htons(port)};
+static int udp_socket(uint32_t ip, uint16_t port) {
+    struct sockaddr_in own = {.sin_family = AF_INET, .sin_addr.s_addr = htonl(ip), .sin_port = htons(port)};
     struct timeval wait = {.tv_usec = 100000};
     int s = socket(AF_INET, SOCK_DGRAM, 0);
     if (s < 0 || bind(s, (struct sockaddr *)&own, sizeof own) < 0) fail("socket");
@@ -77,6 +78,21 @@ static size_t put_registration(unsigned char *out, uint16_t id, unsigned number)
     out[11] = 1;
     memcpy(out + 50, "\xc0\x0c\0\x20\0\1\0\0\0\2\0\6\x20\0\x7f\0\0\1", 18);
     return 68;
+}
+
+/* The address of a group's member: 127.1.0.0 and those after it. */
+static uint32_t member_ip(unsigned k) {
+    return 0x7f010000 + k;
+}
+
+/* The registration for 2 s of a group by a member. */
+static size_t put_membership(unsigned char *out, uint16_t id, char letter, unsigned member) {
+    size_t length = put_registration(out, id, 0);
+    put_name(out + NAME_AT, letter, 0);
+    out[62] = 0xa0;
+    uint32_t ip = htonl(member_ip(member));
+    memcpy(out + 64, &ip, 4);
+    return length;
 }
 
 /* A packet of 2,048 octets whose additional record's name takes the most steps: it is a pointer to the last of 990, each of
@@ -125,7 +141,7 @@ static double queries(const struct sockaddr_in *to, char letter, unsigned names,
             wrong++;
             continue;
         }
-        if (flags && ((in[2] << 8 | in[3]) != flags || (flags == 0x8580 && memcmp(in + length - 4, "\x7f\0\0\1", 4)))) wrong++;
+        if (flags && ((in[2] << 8 | in[3]) != flags || (letter == 'N' && flags == 0x8580 && memcmp(in + length - 4, "\x7f\0\0\1", 4)))) wrong++;
         answered++;
         open--;
     }
@@ -149,6 +165,25 @@ static double registrations(void) {
         }
     }
     return NAMES / (seconds() - begun);
+}
+
+/* Registrations a second of a group by so many members, each from its own address, OUTSTANDING at a time. */
+static double memberships(char letter, unsigned members) {
+    unsigned char out[80], in[600];
+    double begun = seconds();
+    for (unsigned k = 0; k < members + OUTSTANDING; k++) {
+        if (k < members) {
+            size_t length = put_membership(out, (uint16_t)k, letter, k);
+            if (sendto(member_sockets[k], out, length, 0, (struct sockaddr *)&server, sizeof server) < 0) fail("sendto");
+        }
+        if (k >= OUTSTANDING) {
+            unsigned asked = k - OUTSTANDING;
+            ssize_t length = recv(member_sockets[asked], in, sizeof in, 0);
+            if (length < 0) lost++;
+            else if (length != 62 || id_of(in) != (uint16_t)asked || in[2] != 0xad || in[3] != 0x80) wrong++;
+        }
+    }
+    return members / (seconds() - begun);
 }
 
 /* The resident memory of a process, in kB. */
@@ -175,7 +210,7 @@ static pid_t start_server(const char *program, uint16_t port) {
 }
 
 static pid_t start_echo(uint16_t port) {
-    int s = udp_socket(port);
+    int s = udp_socket(INADDR_LOOPBACK, port);
     pid_t pid = fork();
     if (pid == 0) {
         unsigned char octets[600];
@@ -200,7 +235,7 @@ int main(int count, char **words) {
     double taken[MEASURES][ROUNDS], median[MEASURES];
     unsigned char chain[2048];
     size_t chain_length = put_chain(chain);
-    struct rlimit files = {.rlim_cur = NAMES + 64, .rlim_max = NAMES + 64};
+    struct rlimit files = {.rlim_cur = NAMES + GROUP + 64, .rlim_max = NAMES + GROUP + 64};
     if (count < 2) return fprintf(stderr, "bench PROGRAM [PORT]\n"), 2;
     if (setrlimit(RLIMIT_NOFILE, &files) < 0) fail("setrlimit");
     server = (struct sockaddr_in){.sin_family = AF_INET, .sin_addr.s_addr = htonl(INADDR_LOOPBACK), .sin_port = htons(port)};
@@ -208,8 +243,9 @@ int main(int count, char **words) {
     echo_end.sin_port = htons((uint16_t)(port + 1));
     pid_t echo = start_echo((uint16_t)(port + 1));
     pid_t served = start_server(words[1], port);
-    lookup_socket = udp_socket(0);
-    for (unsigned k = 0; k < NAMES; k++) owner_sockets[k] = udp_socket(0);
+    lookup_socket = udp_socket(INADDR_LOOPBACK, 0);
+    for (unsigned k = 0; k < NAMES; k++) owner_sockets[k] = udp_socket(INADDR_LOOPBACK, 0);
+    for (unsigned k = 0; k < GROUP; k++) member_sockets[k] = udp_socket(member_ip(k), 0);
     sleep(3); /* the server is silent for the longest lease, 2 s */
     long before = resident(served), after = 0;
     for (int round = 0; round < ROUNDS; round++) {
@@ -221,6 +257,13 @@ int main(int count, char **words) {
         taken[ALL_NAMES][round] = queries(&server, 'N', NAMES, 0x8580, NULL, 0);
         taken[NOT_THERE][round] = queries(&server, 'X', NAMES, 0x8583, NULL, 0);
         taken[CHAINS][round] = queries(&server, 'N', FEW, 0x8580, chain, chain_length);
+        sleep(3); /* so are the names of this one */
+        taken[JOINING_SMALL][round] = memberships('S', SMALL_GROUP);
+        taken[OF_SMALL_GROUP][round] = queries(&server, 'S', 1, 0x8580, NULL, 0);
+        sleep(3);
+        taken[JOINING][round] = memberships('T', GROUP);
+        taken[REJOINING][round] = memberships('T', GROUP);
+        taken[OF_GROUP][round] = queries(&server, 'T', 1, 0x8780, NULL, 0);
         taken[ECHO][round] = queries(&echo_end, 'N', NAMES, 0, NULL, 0);
     }
     for (int m = 0; m < MEASURES; m++) {
@@ -235,6 +278,8 @@ int main(int count, char **words) {
     printf("not there : 10 names     %.2f   (at least 0.97)\n", median[NOT_THERE] / median[FEW_NAMES]);
     printf("renewals : 4,096 names   %.2f   (at least 0.8)\n", median[RENEW] / median[ALL_NAMES]);
     printf("a chain : a query        %.1f    (less than 40)\n", median[FEW_NAMES] / median[CHAINS] - 1);
+    printf("80 members : 1,000       %.2f   (less than 3)\n", median[OF_SMALL_GROUP] / median[OF_GROUP]);
+    printf("joining 80 : 1,000       %.2f\n", median[JOINING_SMALL] / median[JOINING]);
     kill(served, SIGTERM);
     kill(echo, SIGTERM);
     return 0;

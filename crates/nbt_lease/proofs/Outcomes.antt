@@ -9,7 +9,7 @@ use Rattle.nbt_lease.specs.declared.lease.Released.TheVariants.{Gone, NoLease, O
 use Rattle.nbt_lease.specs.declared.fault.GrantFault.{GrantFault}
 use Rattle.nbt_lease.specs.declared.fault.GrantFault.TheVariants.{Active, TableFull, GroupFull}
 use Rattle.nbt_lease.specs.Config.{ConfigValue}
-use Rattle.nbt_lease.specs.Lease.{Leases, TableValue, leases_at, live_count, at_name, HasNone, AreApart, IsSound}
+use Rattle.nbt_lease.specs.Lease.{Leases, TableValue, leases_at, live_count, members_most, at_name, HasNone, AreApart, IsSound}
 use Rattle.nbt_lease.specs.Rules.{Asked, IsAllowed, end_of, grant_until, GrantCase, active, renews, group_full, table_full, begins, Grants, renewed, begun, ReleaseCase, gone, no_lease, of_others, Releases}
 use Rattle.nbt_lease.proofs.Cases.{Own, own_or_none, not_none, one_own, allowed_or_not}
 
@@ -29,7 +29,7 @@ new_lease config now count a leases allowed none =
     (λ full. record { result = Err TableFull; after = leases; rule = table_full allowed none room full })
     (cases_lt count config.rows))
     (λ full. record { result = Err GroupFull; after = leases; rule = group_full allowed none full })
-    (cases_lt (length leases) 48)
+    (cases_lt (length leases) members_most)
 
 granted_case : (config : ConfigValue) (now count : ℕ) (a : Asked) (leases : List Lease) → GrantOutcome config now count a leases
 granted_case config now count a leases =

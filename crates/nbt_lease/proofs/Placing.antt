@@ -13,7 +13,7 @@ use Rattle.nbt_lease.specs.declared.lease.Released.{Released}
 use Rattle.nbt_lease.specs.declared.lease.Released.TheVariants.{Gone}
 use Rattle.nbt_lease.specs.declared.fault.GrantFault.{GrantFault}
 use Rattle.nbt_lease.specs.declared.fault.GrantFault.TheVariants.{OutOfMemory}
-use Rattle.nbt_lease.specs.Lease.{Rows, Leases, TableValue, is_live, is_name, leases_at, live_count, at_name, HasNone, IsSound}
+use Rattle.nbt_lease.specs.Lease.{Rows, Leases, TableValue, is_live, is_name, leases_at, live_count, members_most, at_name, HasNone, IsSound}
 use Rattle.nbt_lease.specs.Rules.{Asked, IsAllowed, end_of, grant_until, begun, renewed, GrantCase, active, renews, group_full, table_full, begins, Grants, ReleaseCase, gone, no_lease, of_others, Releases}
 use Rattle.nbt_lease.specs.Config.{ConfigValue, granted}
 use Rattle.nbt_lease.specs.Index.{Entries, members_of, rows_of, AreLive, IsMember, Renewed, Moves, Ended}
@@ -71,8 +71,8 @@ pub false_is : (b : Bool) (P : Type 0) → b ≡ false → OnFalse b P → P
 false_is true P is h = absurd (false≢true (sym is))
 false_is false P is h = h
 
-pub room_left : (members count : ℕ) (full : Bool) → members ≡ count → full ≡ false → (48 ≤ members → full ≡ true) → count < 48
-room_left members count full same left more = ⊎_elim (λ less. less) (λ most. absurd (both_ways full left (more (omega (arith, most, same))))) (cases_lt count 48)
+pub room_left : (members count : ℕ) (full : Bool) → members ≡ count → full ≡ false → (members_most ≤ members → full ≡ true) → count < members_most
+room_left members count full same left more = ⊎_elim (λ less. less) (λ most. absurd (both_ways full left (more (omega (arith, most, same))))) (cases_lt count members_most)
 
 -- the same leases in another index
 pub holds_on : (table : TableValue) (now : ℕ) (es fs : Entries) → HoldsLive table now es → members_of fs ≡ members_of es → length (rows_of fs) ≡ length (rows_of es) → HoldsLive table now fs
@@ -143,7 +143,7 @@ module _ (table : TableValue) (now : ℕ) (name : NameValue) (a : Asked) where
       }
 
   -- a lease begins
-  pub begins_lease : (es : Entries) (after : Leases) → HoldsLive table now es → IsAllowed a (leases_at now table.rows name) → HasNone a.addr (leases_at now table.rows name) → length (leases_at now table.rows name) < 48 → live_count now table.rows < table.config.rows
+  pub begins_lease : (es : Entries) (after : Leases) → HoldsLive table now es → IsAllowed a (leases_at now table.rows name) → HasNone a.addr (leases_at now table.rows name) → length (leases_at now table.rows name) < members_most → live_count now table.rows < table.config.rows
       → after ≡ at_name name (members_of es name ++ begun table.config now a ∷ []) (members_of es) → Places table now name a (Ok (end_of table.config now a)) after
   begins_lease es after holds allowed none room vacant is = record {
     rule = λ _. record {
@@ -159,7 +159,7 @@ module _ (table : TableValue) (now : ℕ) (name : NameValue) (a : Asked) where
   longer leases lease e = omega (arith, ap length e, length-append leases (lease ∷ []))
 
   -- memory was refused to a lease that would begin
-  pub runs_out : (after : Leases) → IsAllowed a (leases_at now table.rows name) → HasNone a.addr (leases_at now table.rows name) → length (leases_at now table.rows name) < 48 → live_count now table.rows < table.config.rows → after ≡ leases_at now table.rows → Places table now name a (Err OutOfMemory) after
+  pub runs_out : (after : Leases) → IsAllowed a (leases_at now table.rows name) → HasNone a.addr (leases_at now table.rows name) → length (leases_at now table.rows name) < members_most → live_count now table.rows < table.config.rows → after ≡ leases_at now table.rows → Places table now name a (Err OutOfMemory) after
   runs_out after allowed none room vacant same =
       let new : Lease = begun table.config now a in
       let leases : Leases = leases_at now table.rows in

@@ -66,12 +66,16 @@ pub data AreOneKind (leases : List Lease) : Type 0 where
 abbrev pub latest_end : ConfigValue → ℕ → ℕ
 latest_end config moment = moment + 1000 * config.longest
 
--- What holds of the live leases of a name: at most 48, no two of one address, all of a group or one unique, and none
--- ends too late.
+-- the most live members of a group
+abbrev pub members_most : ℕ
+members_most = 1000
+
+-- What holds of the live leases of a name: no more than a group has, no two of one address, all of a group or one
+-- unique, and none ends too late.
 pub record AreSound (latest : ℕ) (leases : List Lease) : Type 0 where
   pub apart : AreApart leases
   pub one_kind : AreOneKind leases
-  pub most : length leases ≤ 48
+  pub most : length leases ≤ members_most
   pub in_time : AllByRecursion (λ lease. lease.end ≤ latest) leases
 
 abbrev pub IsSound : ConfigValue → (moment : ℕ) → Leases → Type 0

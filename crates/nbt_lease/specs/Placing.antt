@@ -6,7 +6,7 @@ use Rattle.nbt_lease.specs.declared.lease.Grant.{Grant}
 use Rattle.nbt_lease.specs.declared.fault.GrantFault.{GrantFault}
 use Rattle.nbt_lease.specs.declared.fault.GrantFault.TheVariants.{OutOfMemory}
 use Rattle.nbt_lease.specs.Config.{ConfigValue}
-use Rattle.nbt_lease.specs.Lease.{Leases, TableValue, leases_at, live_count, HasNone}
+use Rattle.nbt_lease.specs.Lease.{Leases, TableValue, leases_at, live_count, members_most, HasNone}
 use Rattle.nbt_lease.specs.Rules.{Asked, IsAllowed, grant_until, Grants, ChangesLeases}
 use Rattle.nbt_lease.specs.Index.{Entries, members_of, rows_of}
 
@@ -19,7 +19,7 @@ pub record HoldsLive (table : TableValue) (now : ℕ) (entries : Entries) : Type
 pub record MayBegin (a : Asked) (leases : List Lease) : Type 0 where
   pub allowed : IsAllowed a leases
   pub none : HasNone a.addr leases
-  pub room : length leases < 48
+  pub room : length leases < members_most
 
 -- the grant of a lease that ends then
 abbrev pub granted_until : ConfigValue → Asked → Result ℕ GrantFault → Result Grant GrantFault

@@ -10,7 +10,7 @@ use Rattle.nbt_lease.specs.declared.lease.Released.TheVariants.{Gone, NoLease, O
 use Rattle.nbt_lease.specs.declared.fault.GrantFault.{GrantFault}
 use Rattle.nbt_lease.specs.declared.fault.GrantFault.TheVariants.{Active, TableFull, GroupFull}
 use Rattle.nbt_lease.specs.Config.{ConfigValue, granted}
-use Rattle.nbt_lease.specs.Lease.{Leases, TableValue, leases_at, live_count, at_name, HasNone, AreGroup}
+use Rattle.nbt_lease.specs.Lease.{Leases, TableValue, leases_at, live_count, members_most, at_name, HasNone, AreGroup}
 
 -- What is asked for: by which address, as which kind, and for how many seconds.
 pub record Asked : Type 0 where
@@ -47,9 +47,9 @@ pub data GrantCase (config : ConfigValue) (now count : ℕ) (a : Asked) (leases 
   active : ¬ IsAllowed a leases → GrantCase config now count a leases (Err Active) leases
   renews : IsAllowed a leases → (before after : List Lease) (lease : Lease) → leases ≡ before ++ lease ∷ after → lease.addr ≡ a.addr
       → GrantCase config now count a leases (Ok (grant_until config a (max lease.end (end_of config now a)))) (before ++ renewed config now a lease ∷ after)
-  group_full : IsAllowed a leases → HasNone a.addr leases → 48 ≤ length leases → GrantCase config now count a leases (Err GroupFull) leases
-  table_full : IsAllowed a leases → HasNone a.addr leases → length leases < 48 → config.rows ≤ count → GrantCase config now count a leases (Err TableFull) leases
-  begins : IsAllowed a leases → HasNone a.addr leases → length leases < 48 → count < config.rows
+  group_full : IsAllowed a leases → HasNone a.addr leases → members_most ≤ length leases → GrantCase config now count a leases (Err GroupFull) leases
+  table_full : IsAllowed a leases → HasNone a.addr leases → length leases < members_most → config.rows ≤ count → GrantCase config now count a leases (Err TableFull) leases
+  begins : IsAllowed a leases → HasNone a.addr leases → length leases < members_most → count < config.rows
       → GrantCase config now count a leases (Ok (grant_until config a (end_of config now a))) (leases ++ begun config now a ∷ [])
 
 -- A grant changes the leases of its name alone.

@@ -42,7 +42,7 @@ pub enum GrantFault {
     /// 2: as many leases live as the table keeps.
     #[error("TableFull")]
     TableFull,
-    /// 3: 48 leases of the group live.
+    /// 3: 1,000 leases of the group live.
     #[error("GroupFull")]
     GroupFull,
     /// 4: memory was refused.

@@ -7,7 +7,7 @@ use crate::lease::Lease;
 use nbt_name::Kind;
 
 /// The most live members of a group (our profile).
-const MEMBERS_MOST: usize = 48;
+const MEMBERS_MOST: usize = 1_000;
 
 /// How an asker stands with a name, all of whose leases live.
 #[derive(Drop)]
@@ -22,6 +22,7 @@ pub(crate) struct Standing {
 
 impl Standing {
     ghost use Rattle.nbt_lease.specs.Standing.{StandsIn};
+    ghost use Rattle.nbt_lease.specs.Lease.{members_most};
     ghost use Rattle.nbt_lease.specs.Rules.{Asked, IsAllowed};
 
     /// How the address stands among these leases of a name.
@@ -64,7 +65,7 @@ impl Standing {
 
     /// Whether the group has no room for a further member.
     pub fn is_full(&self) -> bool
-        ensures { IsTrue result ↔ (48 ≤ self.now.members) }
+        ensures { IsTrue result ↔ (members_most ≤ self.now.members) }
     {
         self.members >= MEMBERS_MOST
     }

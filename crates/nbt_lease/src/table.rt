@@ -23,7 +23,7 @@ use std::marker::{Brand, Model};
 use std::sync::ledger::{Blank, Ledger};
 
 /// The leases of a name server: of each name those that live, in order of their beginnings. No two live leases are of
-/// one name and one address, and the live leases of a name are at most 48, all of a group, or one that is unique.
+/// one name and one address, and the live leases of a name are at most 1,000, all of a group, or one that is unique.
 ///
 /// Moments don't go back: `now` of each call is at least `last()`.
 #[derive(Drop)]
@@ -84,7 +84,7 @@ impl Table {
     /// lease's end. Refused in this order (our profile):
     /// - `Active` (1): the name has live leases, and they aren't all of a group where a group is asked for, nor one
     ///   unique lease of the asker where a unique name is asked for.
-    /// - `GroupFull` (3): a new lease is to begin, and 48 members of the group live.
+    /// - `GroupFull` (3): a new lease is to begin, and 1,000 members of the group live.
     /// - `TableFull` (2): a new lease is to begin, and as many leases live as the table keeps.
     /// - `OutOfMemory` (4): memory was refused; only where the live leases would change.
     ///
@@ -137,8 +137,8 @@ impl Table {
         take_back(&mut self.index, name, addr)
     }
 
-    /// The live leases of the name at `now`, in order of their beginnings: at most 48. It lends them and takes no
-    /// memory. `now` is at least `last()`.
+    /// The live leases of the name at `now`, in order of their beginnings: at most 1,000. It lends them and takes
+    /// no memory. `now` is at least `last()`.
     pub fn members<'a>(&'a self, now: Moment, name: &'a Name) -> Members<'a>
         requires { self.now.last ≤ now }
         ensures members { result ≡ leases_at now self.now.rows name.now }

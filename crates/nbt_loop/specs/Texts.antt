@@ -25,7 +25,7 @@ abbrev pub event_text : Event → List ℕ
 event_text (event.Granted seconds) = codes " granted " ++ decimal seconds
 event_text (event.Refused rcode) = codes " refused " ++ decimal rcode
 event_text (event.Freed rcode) = codes " " ++ decimal rcode
-event_text (event.Found entries) = addresses_text entries.now
+event_text (event.Found entries cut) = addresses_text entries.now
 event_text other = codes " none"
 
 -- why a call failed: the code of a refusal has two hexadecimal digits

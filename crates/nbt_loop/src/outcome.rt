@@ -45,7 +45,7 @@ fn write_event(event: Event<'_>, out: &mut String) -> Result<(), AllocError>
         Event::Granted(seconds) => write!(out, " granted {seconds}"),
         Event::Refused(rcode) => write!(out, " refused {rcode}"),
         Event::Freed(rcode) => write!(out, " {rcode}"),
-        Event::Found(entries) => write_addresses(entries, out),
+        Event::Found { entries, .. } => write_addresses(entries, out),
         _ => out.push_str(" none"),
     }
 }

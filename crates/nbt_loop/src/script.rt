@@ -271,7 +271,10 @@ fn end_node<R: Net>(
 /// The address of the first entry that was found.
 fn first_address(event: Event<'_>) -> Option<u32> {
     match event {
-        Event::Found([_, _, a, b, c, d, ..]) => Some(u32::from_be_bytes([*a, *b, *c, *d])),
+        Event::Found {
+            entries: [_, _, a, b, c, d, ..],
+            ..
+        } => Some(u32::from_be_bytes([*a, *b, *c, *d])),
         _ => None,
     }
 }

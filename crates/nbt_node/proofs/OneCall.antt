@@ -91,7 +91,7 @@ module _ (old : NodeValue) (now : ℕ) where
   one_taking from (status_request id name) a b m n t u x y = one_listing id name a b m n t u x y
   one_taking from (registered rcode r) a b m n t u x y = one_hearing from r.name (registered rcode r) a b m n t u x y
   one_taking from (released id rcode name kind addr) a b m n t u x y = one_hearing from name (released id rcode name kind addr) a b m n t u x y
-  one_taking from (found id name ttl entries) a b m n t u x y = one_ending from (found id name ttl entries) (finds entries) a b m n t u x y
+  one_taking from (found id name ttl entries cut) a b m n t u x y = one_ending from (found id name ttl entries cut) (finds entries cut) a b m n t u x y
   one_taking from (not_found id rcode name) a b m n t u x y = one_ending from (not_found id rcode name) finds_none a b m n t u x y
   one_taking from (status id name names) a b m n t u x y = one_ending from (status id name names) (lists names) a b m n t u x y
   one_taking from (wait id name ttl) a b m n t u x y = one_hearing from name (wait id name ttl) a b m n t u x y

@@ -47,8 +47,8 @@ pub data Lists (old : NodeValue) (now id : ℕ) (name : NameValue) : NodeValue �
 -- a lookup ends by what it asks for, or by word that it isn't there, with its id and its name where one is told, and
 -- only from the end that was asked
 abbrev pub wants : MessageValue → Wanted → Bool
-wants (found id name ttl entries) Entries = true
-wants (found id name ttl entries) Names = false
+wants (found id name ttl entries cut) Entries = true
+wants (found id name ttl entries cut) Names = false
 wants (status id name names) Entries = false
 wants (status id name names) Names = true
 wants (not_found id rcode name) wanted = true
@@ -76,7 +76,7 @@ Takes old now from (registered rcode r) = Hears old now from r.name (registered 
 Takes old now from (released id rcode name kind addr) = Hears old now from name (released id rcode name kind addr)
 Takes old now from (wait id name ttl) = Hears old now from name (wait id name ttl)
 Takes old now from (status_request id name) = Lists old now id name
-Takes old now from (found id name ttl entries) = Ends old now from (found id name ttl entries) (finds entries)
+Takes old now from (found id name ttl entries cut) = Ends old now from (found id name ttl entries cut) (finds entries cut)
 Takes old now from (not_found id rcode name) = Ends old now from (not_found id rcode name) finds_none
 Takes old now from (status id name names) = Ends old now from (status id name names) (lists names)
 Takes old now from message = Idles old now

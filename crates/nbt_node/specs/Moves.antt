@@ -31,7 +31,7 @@ pub data Told : Type 0 where
   is_lost : Told
   is_freed : (rcode : ℕ) → Told
   waits : Told
-  finds : (entries : List ℕ) → Told
+  finds : (entries : List ℕ) (cut : Bool) → Told
   finds_none : Told
   lists : (names : List ℕ) → Told
 
@@ -44,7 +44,7 @@ told_of (e.Refused rcode) = is_refused rcode
 told_of e.Lost = is_lost
 told_of (e.Freed rcode) = is_freed rcode
 told_of e.Wait = waits
-told_of (e.Found entries) = finds entries.now
+told_of (e.Found entries cut) = finds entries.now cut
 told_of e.NotFound = finds_none
 told_of (e.Status names) = lists names.now
 

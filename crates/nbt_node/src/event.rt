@@ -20,8 +20,13 @@ pub enum Event<'a> {
     Freed(u8),
     /// The server asks to wait for its reply (RFC 1002 section 4.2.16).
     Wait,
-    /// The entries of the name that was looked up, of six octets each, lent (RFC 1002 section 4.2.13).
-    Found(&'a [u8]),
+    /// The name that was looked up is there (RFC 1002 section 4.2.13).
+    Found {
+        /// Its entries, of six octets each, lent.
+        entries: &'a [u8],
+        /// TC of the reply: the name has more entries than these.
+        cut: bool,
+    },
     /// The name that was looked up isn't there.
     NotFound,
     /// The names of the end whose status was asked for, of 18 octets each, lent (RFC 1002 section 4.2.18).

@@ -405,12 +405,10 @@ impl<const N: usize> Node<N> {
             } => self.hear_released(now, from, *id, *rcode, name),
             Message::Wait { id, name, ttl } => self.hear_wait(now, from, *id, name, *ttl),
             Message::StatusRequest { id, name } => self.list_names(now, *id, name, out),
-            Message::Found { entries, .. } => self.end_lookup(
-                now,
-                from,
-                message,
-                Event::Found(entries),
-            ),
+            Message::Found { entries, cut, .. } => {
+                let found = Event::Found { entries, cut: *cut };
+                self.end_lookup(now, from, message, found)
+            }
             Message::NotFound { .. } => self.end_lookup(now, from, message, Event::NotFound),
             Message::Status { names, .. } => self.end_lookup(
                 now,

@@ -1,6 +1,6 @@
 -- No packet meets two lines of the table.
 use Rattle.std.proofs.Common.{◌≡◌, ℕ, ◌+◌, ◌*◌, List, Option, Some, None, refl, sym, ap, ◌∙◌, arith}
-use Rattle.std.specs.Prelude.{slice_index, slice_range}
+use Rattle.std.specs.Prelude.{◌↔◌, Bool, true, false, IsTrue, slice_index, slice_range}
 use Rattle.nbt_name.specs.Wire.{NameValue}
 use Rattle.nbt_packet.specs.declared.message.Registration.{Registration}
 use Rattle.nbt_packet.specs.declared.packet.Question.{Question}
@@ -36,6 +36,13 @@ one_name p None (Some b) x y = absurd (let none = x.no_answer in let some = y.1.
 one_name p (Some a) None x y = absurd (let none = y.no_answer in let some = x.1.answer_is in cc)
 one_name p (Some a) (Some b) x y = ap {B = Option NameValue} Some (sym x.2 ∙ ap (λ (v : RecordValue). v.name) (one_of x.1.answer_is y.1.answer_is) ∙ y.2)
 
+-- one bit is set or clear
+one_bit : {A : Type 0} (x y : Bool) → (IsTrue x ↔ A) → (IsTrue y ↔ A) → x ≡ y
+one_bit true true a b = refl
+one_bit false false a b = refl
+one_bit true false a b = absurd (let e = b.1 (a.0 refl) in cc)
+one_bit false true a b = absurd (let e = a.1 (b.0 refl) in cc)
+
 pub one_line : (p : PacketValue) (m n : MessageValue) → MessageIs p m → MessageIs p n → m ≡ n
 one_line p (registration r) (registration s) a b = ap registration (one_claim p r s a.2 b.2)
 one_line p (overwrite r) (overwrite s) a b = ap overwrite (one_claim p r s a.2 b.2)
@@ -57,10 +64,11 @@ one_line p (released id rcode name kind addr) (released id' rcode' name' kind' a
     let rcodes : rcode ≡ rcode' = a.1 ∙ sym b.1 in
     let same = one_answer p _ _ a.3 b.3 in
     λ i. released (same i).id (rcodes i) (same i).name (same i).kind (same i).addr
-one_line p (found id name ttl entries) (found id' name' ttl' entries') a b =
+one_line p (found id name ttl entries cut) (found id' name' ttl' entries' cut') a b =
     let ids : id ≡ id' = sym a.0 ∙ b.0 in
-    let told = one_of a.3.answer_is b.3.answer_is in
-    λ i. found (ids i) (told i).name (told i).ttl (told i).rdata
+    let cuts : cut ≡ cut' = one_bit cut cut' a.3 b.3 in
+    let told = one_of a.4.answer_is b.4.answer_is in
+    λ i. found (ids i) (told i).name (told i).ttl (told i).rdata (cuts i)
 one_line p (not_found id rcode name) (not_found id' rcode' name') a b =
     let ids : id ≡ id' = sym a.0 ∙ b.0 in
     let rcodes : rcode ≡ rcode' = a.2 ∙ sym b.2 in
@@ -79,6 +87,6 @@ one_line p (wait id name ttl) (wait id' name' ttl') a b =
     λ i. wait (ids i) (names i) (ttls i)
 one_line p (query id name) (status_request id' name') a b = absurd (omega (arith, ap (λ (q : Question). q.rtype) (one_of a.2.question_is b.3.question_is)))
 one_line p (status_request id name) (query id' name') a b = absurd (omega (arith, ap (λ (q : Question). q.rtype) (one_of a.3.question_is b.2.question_is)))
-one_line p (found id name ttl entries) (status id' name' names) a b = absurd (omega (arith, ap (λ (v : RecordValue). v.rtype) (one_of a.3.answer_is b.5.answer_is)))
-one_line p (status id name names) (found id' name' ttl entries) a b = absurd (omega (arith, ap (λ (v : RecordValue). v.rtype) (one_of a.5.answer_is b.3.answer_is)))
+one_line p (found id name ttl entries cut) (status id' name' names) a b = absurd (omega (arith, ap (λ (v : RecordValue). v.rtype) (one_of a.4.answer_is b.5.answer_is)))
+one_line p (status id name names) (found id' name' ttl entries cut) a b = absurd (omega (arith, ap (λ (v : RecordValue). v.rtype) (one_of a.5.answer_is b.4.answer_is)))
 one_line p m n a b = absurd (first_of (cc, omega arith))

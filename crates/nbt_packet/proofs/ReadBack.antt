@@ -1,5 +1,5 @@
 -- The written form of each message that fits is a packet that spells it.
-use Rattle.std.proofs.Common.{◌≡◌, ℕ, ◌+◌, ◌*◌, ◌-◌, ◌/◌, ◌%◌, ◌<◌, ◌≤◌, ◌^◌, List, [], ◌∷◌, ◌++◌, length, replicate, Some, None, refl, sym, arith, inl}
+use Rattle.std.proofs.Common.{◌≡◌, true, false, ℕ, ◌+◌, ◌*◌, ◌-◌, ◌/◌, ◌%◌, ◌<◌, ◌≤◌, ◌^◌, List, [], ◌∷◌, ◌++◌, length, replicate, Some, None, refl, sym, arith, inl}
 use Rattle.std.specs.Prelude.{slice_range}
 use Rattle.std.proofs.lemmas.List.{length-append, take_at}
 use Rattle.byteorder.specs.Numbers.{big_number-reads_back}
@@ -124,10 +124,15 @@ text_is_read names (released id rcode name kind addr) rest (id_fits, is_name, ad
       answering_is names id (0xB400 + rcode) name nb 0 (entry kind addr) rest id_fits flags.small is_name (omega arith) (omega arith) (entry_short kind addr),
       (responds (0xB400 + rcode) 6 rcode flags, flags.rcode_is, 0, answers_entry (0xB400 + rcode) (record { id = id; name = name; kind = kind; addr = addr; ttl = 0 }) addr_fits),
     )
-text_is_read names (found id name ttl entries) rest (id_fits, is_name, ttl_fits, octets) (some, most, whole) = (
+text_is_read names (found id name ttl entries false) rest (id_fits, is_name, ttl_fits, octets) (some, most, whole) = (
   answer_packet id 0x8580 name nb ttl entries,
   answering_is names id 0x8580 name nb ttl entries rest id_fits (omega arith) is_name (omega arith) ttl_fits (omega arith),
-  (refl, record { response = omega arith; opcode_is = refl; unicast = refl }, refl, answers_it id 0x8580 name nb ttl entries, (some, whole)),
+  (refl, record { response = omega arith; opcode_is = refl; unicast = refl }, refl, (λ e. absurd cc, λ e. absurd (omega (arith, e))), answers_it id 0x8580 name nb ttl entries, (some, whole)),
+)
+text_is_read names (found id name ttl entries true) rest (id_fits, is_name, ttl_fits, octets) (some, most, whole) = (
+  answer_packet id 0x8780 name nb ttl entries,
+  answering_is names id 0x8780 name nb ttl entries rest id_fits (omega arith) is_name (omega arith) ttl_fits (omega arith),
+  (refl, record { response = omega arith; opcode_is = refl; unicast = refl }, refl, (λ e. refl, λ e. refl), answers_it id 0x8780 name nb ttl entries, (some, whole)),
 )
 text_is_read names (not_found id rcode None) rest id_fits (low, most) =
     let flags = queried_flags rcode most in

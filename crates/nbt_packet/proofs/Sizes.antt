@@ -8,14 +8,14 @@ use Rattle.nbt_name.specs.Wire.{NameValue, IsName, letters, wire}
 use Rattle.nbt_packet.specs.declared.message.Registration.{Registration}
 use Rattle.nbt_packet.specs.Fields.{word}
 use Rattle.nbt_packet.specs.Message.{MessageValue, HoldsNumbers, registration, overwrite, refresh, release, query, status_request, registered, released, found, not_found, status, wait, nb, nbstat, null, internet}
-use Rattle.nbt_packet.specs.Text.{header, record_fields, entry, question_octets, claim_octets, answer_octets, text, wire_size, size_of}
+use Rattle.nbt_packet.specs.Text.{header, record_fields, entry, question_octets, claim_octets, answer_octets, found_flags, text, wire_size, size_of}
 use Rattle.nbt_packet.specs.Spelling.{HasFewRows}
 
 length-letters : (os : List ℕ) → length (letters os) ≡ 2 * length os
 length-letters [] = refl
 length-letters (o ∷ os) = omega (arith, length-letters os)
 
-length-wire : (n : NameValue) → IsName n → length (wire n) ≡ wire_size n
+pub length-wire : (n : NameValue) → IsName n → length (wire n) ≡ wire_size n
 length-wire n is = omega (arith, length-append (letters n.octets ++ n.scope) (0 ∷ []), length-append (letters n.octets) n.scope, length-letters n.octets, is.sixteen)
 
 length-entry : (kind : Kind) (addr : ℕ) → length (entry kind addr) ≡ 6
@@ -51,7 +51,7 @@ length-text (query id name) holds = length-asking id 0x0100 nb name holds.1
 length-text (status_request id name) holds = length-asking id 0 nbstat name holds.1
 length-text (registered rcode r) holds = omega (arith, length-answering r.id (0xAD80 + rcode) r.name nb r.ttl (entry r.kind r.addr) holds.1, length-entry r.kind r.addr)
 length-text (released id rcode name kind addr) holds = omega (arith, length-answering id (0xB400 + rcode) name nb 0 (entry kind addr) holds.1, length-entry kind addr)
-length-text (found id name ttl entries) holds = length-answering id 0x8580 name nb ttl entries holds.1
+length-text (found id name ttl entries cut) holds = length-answering id (found_flags cut) name nb ttl entries holds.1
 length-text (not_found id rcode None) holds = refl
 length-text (not_found id rcode (Some name)) holds = omega (arith, length-answering id (0x8580 + rcode) name null 0 [] holds.1)
 length-text (status id name names) holds =
@@ -67,7 +67,7 @@ few_rows m holds few = rw (length-text m holds) (size_small m holds few)
     size_small (overwrite r) holds few = omega (arith, holds.1.fits)
     size_small (refresh r) holds few = omega (arith, holds.1.fits)
     size_small (registered rcode r) holds few = omega (arith, holds.1.fits)
-    size_small (found id name ttl entries) holds few = omega (arith, holds.1.fits, few)
+    size_small (found id name ttl entries cut) holds few = omega (arith, holds.1.fits, length-wire name holds.1, few)
     size_small (not_found id rcode None) holds few = omega arith
     size_small (not_found id rcode (Some name)) holds few = omega (arith, holds.1.fits)
     size_small (status id name names) holds few = omega (arith, holds.1.fits, few)

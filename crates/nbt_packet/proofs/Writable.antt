@@ -105,9 +105,9 @@ message_holds p (query id name) holds is = ((rw (← is.0) holds.id, holds.quest
 message_holds p (status_request id name) holds is = ((rw (← is.0) holds.id, holds.question _ is.3.question_is), tt)
 message_holds p (registered rcode r) holds is = (answer_holds p r holds is.3, omega (arith, is.2))
 message_holds p (released id rcode name kind addr) holds is = let r = answer_holds p _ holds is.3 in ((r.0, r.1, r.2), omega (arith, is.1))
-message_holds p (found id name ttl entries) holds is =
-    let answer = holds.answer _ is.3.answer_is in
-    ((rw (← is.0) holds.id, answer.name, answer.ttl, answer.octets), (is.4.0, omega (arith, answer.most, is.4.1), is.4.1))
+message_holds p (found id name ttl entries cut) holds is =
+    let answer = holds.answer _ is.4.answer_is in
+    ((rw (← is.0) holds.id, answer.name, answer.ttl, answer.octets), (is.5.0, omega (arith, answer.most, is.5.1), is.5.1))
 message_holds p (not_found id rcode name) holds is = (given_name p id name rcode holds is.0 is.4, (omega (arith, is.3), omega (arith, is.2)))
 message_holds p (status id name names) holds is =
     let answer = holds.answer _ is.5.answer_is in

@@ -1,5 +1,5 @@
 -- Messages, and the table of the packets that spell them: RFC 1002 sections 4.2.2 to 4.2.18.
-use Rattle.std.specs.Prelude.{◌≡◌, ◌≢◌, ℕ, ◌+◌, ◌*◌, ◌/◌, ◌%◌, ◌^◌, ◌<◌, ◌≤◌, ◌⊎◌, List, length, slice_index, slice_range, Option, Some, None, nat_lt, if◌then◌else◌}
+use Rattle.std.specs.Prelude.{◌≡◌, ◌≢◌, ℕ, ◌+◌, ◌*◌, ◌/◌, ◌%◌, ◌^◌, ◌<◌, ◌≤◌, ◌↔◌, ◌⊎◌, Bool, IsTrue, List, length, slice_index, slice_range, Option, Some, None, nat_lt, if◌then◌else◌}
 use Rattle.nbt_name.specs.declared.addr.Kind.{Kind}
 use Rattle.nbt_name.specs.declared.addr.Kind.TheVariants.{Unique, Group}
 use Rattle.nbt_name.specs.Wire.{NameValue, IsName, AreOctets}
@@ -20,12 +20,12 @@ pub data MessageValue : Type 0 where
   status_request : (id : ℕ) (name : NameValue) → MessageValue
   registered : (rcode : ℕ) → Registration → MessageValue
   released : (id rcode : ℕ) (name : NameValue) (kind : Kind) (addr : ℕ) → MessageValue
-  found : (id : ℕ) (name : NameValue) (ttl : ℕ) (entries : List ℕ) → MessageValue
+  found : (id : ℕ) (name : NameValue) (ttl : ℕ) (entries : List ℕ) (cut : Bool) → MessageValue
   not_found : (id rcode : ℕ) (name : Option NameValue) → MessageValue
   status : (id : ℕ) (name : NameValue) (names : List ℕ) → MessageValue
   wait : (id : ℕ) (name : NameValue) (ttl : ℕ) → MessageValue
 
--- ---- the flags' word: R, OPCODE, RD, RA, B and RCODE (RFC 1002 section 4.2.1.1)
+-- ---- the flags' word: R, OPCODE, TC, RD, RA, B and RCODE (RFC 1002 section 4.2.1.1)
 
 -- R clear, and R set
 abbrev pub IsRequest : ℕ → Type 0
@@ -36,6 +36,10 @@ IsResponse flags = 0x8000 ≤ flags
 
 abbrev pub opcode_of : ℕ → ℕ
 opcode_of flags = flags / 0x800 % 16
+
+-- TC set: there is more than the packet has
+abbrev pub IsTruncated : ℕ → Type 0
+IsTruncated flags = flags / 0x200 % 2 ≡ 1
 
 -- RD set, and RA set
 abbrev pub DesiresRecursion : ℕ → Type 0
@@ -172,8 +176,8 @@ MessageIs p (registered rcode r) =
 MessageIs p (released id rcode name kind addr) =
     Responds p.flags 6 × (rcode ≡ rcode_of p.flags)
     × (ttl : ℕ) × AnswersEntry p (record { id = id; name = name; kind = kind; addr = addr; ttl = ttl })
-MessageIs p (found id name ttl entries) =
-    (p.id ≡ id) × Responds p.flags 0 × (rcode_of p.flags ≡ 0)
+MessageIs p (found id name ttl entries cut) =
+    (p.id ≡ id) × Responds p.flags 0 × (rcode_of p.flags ≡ 0) × (IsTrue cut ↔ IsTruncated p.flags)
     × Answers p (internet_record name nb ttl entries) × AreEntries entries
 MessageIs p (not_found id rcode name) =
     (p.id ≡ id) × Responds p.flags 0 × (rcode ≡ rcode_of p.flags) × (rcode ≢ 0) × GivesName p name
@@ -199,7 +203,7 @@ HoldsNumbers (query id name) = (id < 2 ^ 16) × IsName name
 HoldsNumbers (status_request id name) = (id < 2 ^ 16) × IsName name
 HoldsNumbers (registered rcode r) = IsRegistration r
 HoldsNumbers (released id rcode name kind addr) = (id < 2 ^ 16) × IsName name × (addr < 2 ^ 32)
-HoldsNumbers (found id name ttl entries) = (id < 2 ^ 16) × IsName name × (ttl < 2 ^ 32) × AreOctets entries
+HoldsNumbers (found id name ttl entries cut) = (id < 2 ^ 16) × IsName name × (ttl < 2 ^ 32) × AreOctets entries
 HoldsNumbers (not_found id rcode None) = id < 2 ^ 16
 HoldsNumbers (not_found id rcode (Some name)) = (id < 2 ^ 16) × IsName name
 HoldsNumbers (status id name names) = (id < 2 ^ 16) × IsName name × AreOctets names
@@ -209,7 +213,7 @@ HoldsNumbers (wait id name ttl) = (id < 2 ^ 16) × IsName name × (ttl < 2 ^ 32)
 abbrev pub Fits : MessageValue → Type 0
 Fits (registered rcode r) = rcode ≤ 15
 Fits (released id rcode name kind addr) = rcode ≤ 15
-Fits (found id name ttl entries) = (0 < length entries) × (length entries ≤ 6 * 10922) × (length entries % 6 ≡ 0)
+Fits (found id name ttl entries cut) = (0 < length entries) × (length entries ≤ 6 * 10922) × (length entries % 6 ≡ 0)
 Fits (not_found id rcode name) = (0 < rcode) × (rcode ≤ 15)
 Fits (status id name names) = (length names ≤ 18 * 255) × (length names % 18 ≡ 0)
 Fits _ = Unit {0}
@@ -225,7 +229,7 @@ message_of (m.Query id name) = query id name
 message_of (m.StatusRequest id name) = status_request id name
 message_of (m.Registered rcode r) = registered rcode r
 message_of (m.Released id rcode name kind addr) = released id rcode name kind addr
-message_of (m.Found id name ttl entries) = found id name ttl entries.now
+message_of (m.Found id name ttl entries cut) = found id name ttl entries.now cut
 message_of (m.NotFound id rcode name) = not_found id rcode name
 message_of (m.Status id name names) = status id name names.now
 message_of (m.Wait id name ttl) = wait id name ttl

@@ -3,6 +3,7 @@ use Rattle.std.specs.Prelude.{ℕ, ◌*◌, ◌≤◌, List, length, Option, Som
 use Rattle.nbt_name.specs.Wire.{NameValue}
 use Rattle.nbt_packet.specs.Packet.{PacketValue, PacketIs}
 use Rattle.nbt_packet.specs.Message.{MessageValue, MessageIs, registration, overwrite, refresh, release, query, status_request, registered, released, found, not_found, status, wait}
+use Rattle.nbt_packet.specs.Text.{entries_most}
 
 -- The octets begin with a packet that spells the message; what comes after that packet is not looked at.
 pub record Spells (octets : List ℕ) (message : MessageValue) : Type 0 where
@@ -21,7 +22,7 @@ id_of (query id name) = id
 id_of (status_request id name) = id
 id_of (registered rcode r) = r.id
 id_of (released id rcode name kind addr) = id
-id_of (found id name ttl entries) = id
+id_of (found id name ttl entries cut) = id
 id_of (not_found id rcode name) = id
 id_of (status id name names) = id
 id_of (wait id name ttl) = id
@@ -36,13 +37,13 @@ name_in (query id name) = Some name
 name_in (status_request id name) = Some name
 name_in (registered rcode r) = Some r.name
 name_in (released id rcode name kind addr) = Some name
-name_in (found id name ttl entries) = Some name
+name_in (found id name ttl entries cut) = Some name
 name_in (not_found id rcode name) = name
 name_in (status id name names) = Some name
 name_in (wait id name ttl) = Some name
 
--- at most 49 entries, and at most 14 names of a node status: as many as fit beside any name
+-- as many entries as fit beside the name, and at most 14 names of a node status, as many as fit beside any name
 abbrev pub HasFewRows : MessageValue → Type 0
-HasFewRows (found id name ttl entries) = length entries ≤ 6 * 49
+HasFewRows (found id name ttl entries cut) = length entries ≤ 6 * entries_most name
 HasFewRows (status id name names) = length names ≤ 18 * 14
 HasFewRows _ = Unit {0}

@@ -1,5 +1,5 @@
 -- The one written form of each message: RFC 1002 sections 4.2.2 to 4.2.18.
-use Rattle.std.specs.Prelude.{ℕ, ◌+◌, ◌/◌, List, [], ◌∷◌, ◌++◌, length, Some, None, replicate}
+use Rattle.std.specs.Prelude.{ℕ, ◌+◌, ◌-◌, ◌/◌, Bool, true, false, List, [], ◌∷◌, ◌++◌, length, Some, None, replicate}
 use Rattle.nbt_name.specs.declared.addr.Kind.{Kind}
 use Rattle.nbt_name.specs.declared.addr.Kind.TheVariants.{Unique, Group}
 use Rattle.nbt_name.specs.Wire.{NameValue, wire}
@@ -38,6 +38,11 @@ claim_octets flags r =
 abbrev pub answer_octets : (id flags : ℕ) → NameValue → (rtype ttl : ℕ) → List ℕ → List ℕ
 answer_octets id flags name rtype ttl rdata = header id flags 0 1 0 ++ (wire name ++ record_fields rtype ttl rdata)
 
+-- AA, RD and RA, and TC where the entries are cut
+abbrev pub found_flags : (cut : Bool) → ℕ
+found_flags false = 0x8580
+found_flags true = 0x8780
+
 abbrev pub text : MessageValue → List ℕ
 text (registration r) = claim_octets 0x2900 r
 text (overwrite r) = claim_octets 0x2800 r
@@ -47,7 +52,7 @@ text (query id name) = question_octets id 0x0100 nb name
 text (status_request id name) = question_octets id 0 nbstat name
 text (registered rcode r) = answer_octets r.id (0xAD80 + rcode) r.name nb r.ttl (entry r.kind r.addr)
 text (released id rcode name kind addr) = answer_octets id (0xB400 + rcode) name nb 0 (entry kind addr)
-text (found id name ttl entries) = answer_octets id 0x8580 name nb ttl entries
+text (found id name ttl entries cut) = answer_octets id (found_flags cut) name nb ttl entries
 text (not_found id rcode None) = header id (0x8580 + rcode) 0 0 0
 text (not_found id rcode (Some name)) = answer_octets id (0x8580 + rcode) name null 0 []
 text (status id name names) = answer_octets id 0x8400 name nbstat 0 (length names / 18 ∷ names ++ replicate 46 0)
@@ -67,8 +72,13 @@ size_of (query id name) = 16 + wire_size name
 size_of (status_request id name) = 16 + wire_size name
 size_of (registered rcode r) = 28 + wire_size r.name
 size_of (released id rcode name kind addr) = 28 + wire_size name
-size_of (found id name ttl entries) = 22 + wire_size name + length entries
+size_of (found id name ttl entries cut) = 22 + wire_size name + length entries
 size_of (not_found id rcode None) = 12
 size_of (not_found id rcode (Some name)) = 22 + wire_size name
 size_of (status id name names) = 69 + wire_size name + length names
 size_of (wait id name ttl) = 24 + wire_size name
+
+-- the most entries of six octets for which a response has room in 576 octets, beside its name's wire form and 22 octets
+-- of header and record fields
+abbrev pub entries_most : NameValue → ℕ
+entries_most name = (576 - 22 - length (wire name)) / 6

@@ -17,8 +17,8 @@ use byteorder::{BigEndian, ByteOrder};
 use nbt_name::Kind;
 
 /// The message that a packet spells, or `None` where it spells none of this profile (RFC 1002 sections 4.2.2 to
-/// 4.2.18). B set makes a packet no message, but for a status request. AA, TC, the two zero bits and a request's RCODE
-/// are not looked at.
+/// 4.2.18). B set makes a packet no message, but for a status request. TC is looked at in a positive response to a query
+/// alone, as `cut`. AA, the two zero bits and a request's RCODE are not looked at.
 pub fn classify<'a>(packet: &Packet<'a>) -> Option<Message<'a>>
     ensures { (message : MessageValue) → (message_if result ≡ Some message) ↔ MessageIs (packet_of packet.now) message }
 {
@@ -152,12 +152,12 @@ fn message_of_query_response<'a>(packet: &Packet<'a>, answer: &Record<'a>) -> Op
         return Some(Message::NotFound { id, rcode, name });
     }
     if has_entries(answer) {
-        let (ttl, entries) = (answer.ttl, answer.rdata);
         return Some(Message::Found {
             id,
             name,
-            ttl,
-            entries,
+            ttl: answer.ttl,
+            entries: answer.rdata,
+            cut: flags::is_truncated(packet.flags),
         });
     }
     if has_names(answer) {

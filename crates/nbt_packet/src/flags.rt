@@ -8,7 +8,7 @@
 //! ```
 
 ghost use Rattle.std.specs.Prelude.{◌≡◌, ◌↔◌, IsTrue};
-ghost use Rattle.nbt_packet.specs.Message.{IsRequest, IsUnicast, DesiresRecursion, OffersRecursion, IsChallenge, opcode_of, rcode_of};
+ghost use Rattle.nbt_packet.specs.Message.{IsRequest, IsUnicast, IsTruncated, DesiresRecursion, OffersRecursion, IsChallenge, opcode_of, rcode_of};
 
 use crate::wire::OPCODE_REGISTRATION;
 
@@ -24,6 +24,13 @@ pub fn is_unicast(flags: u16) -> bool
     ensures { IsTrue result ↔ IsUnicast flags }
 {
     flags / 0x10 % 2 == 0
+}
+
+/// TC set.
+pub fn is_truncated(flags: u16) -> bool
+    ensures { IsTrue result ↔ IsTruncated flags }
+{
+    flags / 0x200 % 2 == 1
 }
 
 /// RD set.

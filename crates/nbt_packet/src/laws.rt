@@ -57,8 +57,8 @@ pub fn written_length()
     ensures { (m : MessageValue) → HoldsNumbers m → length (text m) ≡ size_of m }
 {}
 
-/// A message with at most 49 entries, or 14 names of a node status, is written in at most 576 octets, whatever its
-/// name.
+/// A message with as many entries as `entries_most` says of its name, or with 14 names of a node status, is written in at
+/// most 576 octets.
 pub fn few_rows_are_written()
     ensures { (m : MessageValue) → HoldsNumbers m → HasFewRows m → length (text m) ≤ 576 }
 {}

@@ -84,6 +84,8 @@ pub enum Message<'a> {
         ttl: u32,
         /// The name's entries of six octets each, NB_FLAGS and NB_ADDRESS, lent as they stand.
         entries: &'a [u8],
+        /// TC: the name has more entries than these (RFC 1002 section 4.2.1.1).
+        cut: bool,
     },
     /// NEGATIVE NAME QUERY RESPONSE (RFC 1002 section 4.2.14), with or without its record.
     NotFound {

@@ -1,5 +1,7 @@
 //! The numbers of name service packets, under the names of RFC 1002.
 
+/// The most octets of a packet over UDP, MAX_DATAGRAM_LENGTH (RFC 1002 section 6).
+pub const DATAGRAM_MOST: usize = 576;
 /// How many octets the header has: six words (RFC 1002 section 4.2.1.1).
 pub const HEADER: usize = 12;
 /// Where NAME_TRN_ID stands (RFC 1002 section 4.2.1.1).
@@ -14,6 +16,13 @@ pub const ANCOUNT: usize = 6;
 pub const NSCOUNT: usize = 8;
 /// Where the count of additional records stands (RFC 1002 section 4.2.1.1).
 pub const ARCOUNT: usize = 10;
+
+/// How many octets stand between a record's name and its RDATA: type, class, TTL and RDLENGTH (RFC 1002 section
+/// 4.2.1.3).
+pub const RECORD_FIELDS: usize = 10;
+/// How many octets a name's wire form has beside its scope: a label of 32 letters and the closing zero (RFC 1002 section
+/// 4.1).
+pub const WIRE_WITHOUT_SCOPE: usize = 34;
 
 /// Type NB, a name's entries (RFC 1002 section 4.2.1.3).
 pub const NB: u16 = 0x0020;

@@ -11,7 +11,8 @@ ghost use Rattle.nbt_packet.specs.Text.{text, entry, status_name, question_octet
 use crate::fault::Full;
 use crate::message::{Message, Registration};
 use crate::wire::{
-    ADDR_ENTRY, GROUP, IN, NAME_FLAGS_P_ACTIVE, NB, NB_FLAGS_P, NBSTAT, NODE_NAME, NULL, STATISTICS,
+    ADDR_ENTRY, DATAGRAM_MOST, GROUP, HEADER, IN, NAME_FLAGS_P_ACTIVE, NB, NB_FLAGS_P, NBSTAT,
+    NODE_NAME, NULL, RECORD_FIELDS, STATISTICS, WIRE_WITHOUT_SCOPE,
 };
 use arrayvec::ArrayVec;
 use byteorder::{BigEndian, ByteOrder};
@@ -35,6 +36,8 @@ const REGISTERED: u16 = 0xAD80;
 const RELEASED: u16 = 0xB400;
 /// NAME QUERY RESPONSE, without its RCODE: OPCODE 0, AA, RD, RA (RFC 1002 sections 4.2.13 and 4.2.14).
 const QUERIED: u16 = 0x8580;
+/// TC, in a NAME QUERY RESPONSE that has not all entries (RFC 1002 section 4.2.1.1).
+const TRUNCATED: u16 = 0x0200;
 /// NODE STATUS RESPONSE: OPCODE 0, AA (RFC 1002 section 4.2.18).
 const STATUS: u16 = 0x8400;
 /// WAIT FOR ACKNOWLEDGEMENT RESPONSE: OPCODE 7, AA (RFC 1002 section 4.2.16).
@@ -90,7 +93,8 @@ pub fn encode(message: &Message<'_>, out: &mut ArrayVec<u8, 576>) -> Result<(), 
             name,
             ttl,
             entries,
-        } => return put_answer_packet(out, *id, QUERIED, name, NB, *ttl, entries),
+            cut,
+        } => return put_answer_packet(out, *id, found_flags(*cut), name, NB, *ttl, entries),
         Message::NotFound { id, rcode, name } => return put_not_found(out, *id, *rcode, name),
         Message::Status { id, name, names } => return put_status(out, *id, name, names),
         Message::Wait { id, name, ttl } => return put_answer_packet(
@@ -180,6 +184,13 @@ fn put_released(
     let flags = RELEASED + u16::from(rcode);
     let rdata = entry_octets(kind, addr);
     put_answer_packet(out, id, flags, name, NB, 0, &rdata)
+}
+
+/// The flags of a positive name query response (RFC 1002 section 4.2.13).
+fn found_flags(cut: bool) -> u16
+    ensures { result ≡ spec.found_flags cut }
+{
+    if cut { QUERIED + TRUNCATED } else { QUERIED }
 }
 
 /// A negative name query response: with its record, which has no RDATA, or the header alone (RFC 1002 section 4.2.14).
@@ -317,6 +328,17 @@ fn put_record_fields(out: &mut ArrayVec<u8, 576>, rtype: u16, ttl: u32, rdlength
     put_word(out, IN);
     put_long(out, ttl);
     put_word(out, rdlength);
+}
+
+/// The most entries of six octets for which a positive name query response has room in a datagram of 576 octets beside
+/// this name: 49 beside a wire form of 255 octets, 86 beside one of 34, the shortest (RFC 1002 section 4.2.13).
+pub fn entries_most(name: &Name) -> usize
+    ensures value { result ≡ spec.entries_most name.now }
+    ensures bounds { (49 ≤ result) × (result ≤ 86) }
+    ensures name { IsName name.now }
+{
+    let beside = HEADER + RECORD_FIELDS + WIRE_WITHOUT_SCOPE + name.scope().len();
+    (DATAGRAM_MOST - beside) / ADDR_ENTRY
 }
 
 /// The six octets of a P node's entry: NB_FLAGS, then NB_ADDRESS (RFC 1002 section 4.2.2).

@@ -3,7 +3,7 @@ use Rattle.std.proofs.Common.{◌≡◌, ℕ, ◌≤◌, Bool, true, false, List
 use Rattle.std.specs.Prelude.{Any, All}
 use Rattle.nbt_name.specs.Wire.{NameValue}
 use Rattle.nbt_packet.specs.declared.message.Registration.{Registration}
-use Rattle.nbt_packet.specs.Message.{MessageValue, registration, overwrite, refresh, release, query, released, found}
+use Rattle.nbt_packet.specs.Message.{MessageValue, registration, overwrite, refresh, release, query, released}
 use Rattle.nbt_packet.specs.Spelling.{Spells}
 use Rattle.nbt_lease.specs.declared.fault.GrantFault.{GrantFault}
 use Rattle.nbt_lease.specs.declared.lease.Grant.{Grant}
@@ -11,7 +11,7 @@ use Rattle.nbt_lease.specs.declared.lease.Lease.{Lease}
 use Rattle.nbt_lease.specs.declared.lease.Released.{Released}
 use Rattle.nbt_lease.specs.Lease.{Leases, TableValue, leases_at}
 use Rattle.nbt_lease.specs.Rules.{Asked, Grants, Releases, IsLeastEnd}
-use Rattle.nbt_server.specs.Serving.{AsksFor, by_registration, by_refresh, IsOwn, IsForNodes, asked_in, refused_error, refusal, grant_reply, release_rcode, seconds_until, entries, Serves, registers, refuses, refuses_overwrite, releases, refuses_release, finds, finds_none, passes_over, ServerValue, ServesOctets, is_silent, is_no_message, serves}
+use Rattle.nbt_server.specs.Serving.{AsksFor, by_registration, by_refresh, IsOwn, IsForNodes, asked_in, refused_error, refusal, grant_reply, release_rcode, found_reply, Serves, registers, refuses, refuses_overwrite, releases, refuses_release, finds, finds_none, passes_over, ServerValue, ServesOctets, is_silent, is_no_message, serves}
 
 -- ---- which messages ask for a lease
 
@@ -94,7 +94,7 @@ module _ (table : TableValue) (now ip : ℕ) (one : OneCase table now) where
   one_serving _ _ _ _ _ (finds id name end least) (registers _ p other later asks own rule) = absurd (let e : false ≡ true = asks_is (query id name) p asks in cc)
   one_serving _ _ _ _ _ (finds id name end least) (refuses _ p asks not) = absurd (let e : false ≡ true = asks_is (query id name) p asks in cc)
   one_serving _ _ _ _ _ (finds id name end least) (finds _ _ other least_too) =
-      (ap (λ (k : ℕ). Some (found id name (seconds_until now k) (entries (leases_at now table.rows name)))) (one_end (leases_at now table.rows name) end other least least_too), refl)
+      (ap (λ (k : ℕ). Some (found_reply id name now k (leases_at now table.rows name))) (one_end (leases_at now table.rows name) end other least least_too), refl)
   one_serving _ _ _ _ _ (finds id name end least) (finds_none _ _ none) = absurd (not_empty (leases_at now table.rows name) end least none)
   one_serving _ _ _ _ _ (finds id name end least) (passes_over _ nodes) = absurd nodes
   one_serving _ _ _ _ _ (finds_none id name none) (registers _ p other later asks own rule) = absurd (let e : false ≡ true = asks_is (query id name) p asks in cc)

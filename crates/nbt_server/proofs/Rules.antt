@@ -1,7 +1,9 @@
 -- What the code has found, as a line of the server's rules; and that replies have a written form, which is short.
-use Rattle.std.proofs.Common.{◌≡◌, ◌≢◌, false, ℕ, ◌+◌, ◌++◌, ap, ◌*◌, ◌%◌, ◌<◌, ◌≤◌, List, [], ◌∷◌, length, length-append, Option, Some, None, Result, Ok, Err, sym, subst, refl, arith}
+use Rattle.std.proofs.Common.{◌≡◌, ◌≢◌, Bool, true, false, ℕ, zero, suc, ◌+◌, ◌-◌, ◌++◌, ◌*◌, ◌%◌, ◌<◌, ◌≤◌, List, [], ◌∷◌, take, length, length-append, append_assoc, ◌∙◌, Option, Some, None, Result, Ok, Err, sym, subst, refl, arith}
+use Rattle.std.proofs.lemmas.Bool.{lt-ltb, le-ltb}
+use Rattle.std.proofs.lemmas.List.{length-take}
 use Rattle.std.proofs.lemmas.List.Elements.{All-contains, All-from_recursion}
-use Rattle.std.specs.Prelude.{OnErr, IsErr, is_ok}
+use Rattle.std.specs.Prelude.{OnErr, IsErr, is_ok, min, nat_lt}
 use Rattle.nbt_name.specs.declared.addr.Kind.{Kind}
 use Rattle.nbt_name.specs.declared.addr.Kind.TheVariants.{Unique, Group}
 use Rattle.nbt_name.specs.Wire.{NameValue}
@@ -17,7 +19,7 @@ use Rattle.nbt_lease.specs.declared.lease.Grant.{Grant}
 use Rattle.nbt_lease.specs.declared.lease.Lease.{Lease}
 use Rattle.nbt_lease.specs.declared.lease.Released.{Released}
 use Rattle.nbt_lease.specs.declared.lease.Released.TheVariants as outcomes
-use Rattle.nbt_lease.specs.Lease.{Leases, TableValue, AreSound, leases_at}
+use Rattle.nbt_lease.specs.Lease.{Leases, TableValue, members_most, AreSound, leases_at}
 use Rattle.nbt_lease.specs.Rules.{Grants, IsLeastEnd}
 use Rattle.nbt_server.specs.Serving.{AsksFor, IsOwn, IsForNodes, asked_in, refused_error, refusal, grant_reply, release_rcode, entries, Serves, registers, refuses, refuses_overwrite, releases, refuses_release, finds, finds_none, passes_over}
 
@@ -42,7 +44,7 @@ is_for_nodes (code.Query id name) a b c d e = e id name refl
 is_for_nodes (code.StatusRequest id name) a b c d e = tt
 is_for_nodes (code.Registered rcode r) a b c d e = tt
 is_for_nodes (code.Released id rcode name kind addr) a b c d e = tt
-is_for_nodes (code.Found id name ttl entries) a b c d e = tt
+is_for_nodes (code.Found id name ttl entries cut) a b c d e = tt
 is_for_nodes (code.NotFound id rcode name) a b c d e = tt
 is_for_nodes (code.Status id name names) a b c d e = tt
 is_for_nodes (code.Wait id name ttl) a b c d e = tt
@@ -97,13 +99,18 @@ some_lease : (leases : List Lease) (end : ℕ) → IsLeastEnd leases (Some end) 
 some_lease [] end least = absurd (omega arith)
 some_lease (lease ∷ rest) end least = omega arith
 
--- the entries of a name's leases have a written form, and it is short
-pub entries_fit : (leases : List Lease) (end : ℕ) → length leases ≤ 48 → IsLeastEnd leases (Some end)
-    → (0 < length (entries leases)) × (length (entries leases) ≤ 6 * 48) × (length (entries leases) % 6 ≡ 0)
-entries_fit leases end most least =
+-- the entries of a name's first leases have a written form
+pub entries_fit : (room : ℕ) (leases : List Lease) (end : ℕ) → 0 < room → length leases ≤ members_most → IsLeastEnd leases (Some end)
+    → (0 < length (entries (take room leases))) × (length (entries (take room leases)) ≤ 6 * 10922) × (length (entries (take room leases)) % 6 ≡ 0)
+entries_fit room leases end some_room most least =
     let some : 0 < length leases = some_lease leases end least in
-    let six : length (entries leases) ≡ 6 * length leases = length-entries leases in
+    let count : length (take room leases) ≡ min room (length leases) = length-take room leases in
+    let six : length (entries (take room leases)) ≡ 6 * length (take room leases) = length-entries (take room leases) in
     (omega arith, omega arith, omega arith)
+
+-- and it is short
+pub entries_short : (room : ℕ) (leases : List Lease) → length (entries (take room leases)) ≤ 6 * room
+entries_short room leases = omega (arith, length-entries (take room leases), length-take room leases)
 
 -- what is not the code's query is no query
 pub is_no_query : (m : Message) → ((id : ℕ) (name : NameValue) → m ≡ code.Query id name → ⊥) → (id : ℕ) (name : NameValue) → message_of m ≢ query id name
@@ -115,7 +122,7 @@ is_no_query (code.Release i n k a) other id name e = absurd cc
 is_no_query (code.StatusRequest i n) other id name e = absurd cc
 is_no_query (code.Registered rcode r) other id name e = absurd cc
 is_no_query (code.Released i rcode n k a) other id name e = absurd cc
-is_no_query (code.Found i n ttl es) other id name e = absurd cc
+is_no_query (code.Found i n ttl es cut) other id name e = absurd cc
 is_no_query (code.NotFound i rcode n) other id name e = absurd cc
 is_no_query (code.Status i n ns) other id name e = absurd cc
 is_no_query (code.Wait i n ttl) other id name e = absurd cc
@@ -131,6 +138,34 @@ ends_in_time ls latest end least sound =
     let timely : one.1.end ≤ latest = All-contains (λ (lease : Lease). lease.end ≤ latest) ls one.1 (All-from_recursion (λ (lease : Lease). lease.end ≤ latest) ls sound.in_time) (one.0, one.2, one.3) in
     subst (λ (e : ℕ). e ≤ latest) one.4 timely
 
--- the next entry has room among those of 48 leases
-pub has_room : (written : List ℕ) (lease : Lease) (rest all : List Lease) → written ++ entries (lease ∷ rest) ≡ entries all → length all ≤ 48 → length written + 6 ≤ 288
-has_room written lease rest all is most = omega (arith, length-append written (entries (lease ∷ rest)), length-entries (lease ∷ rest), length-entries all, ap length is)
+-- ---- a name's leases, listed one after the other
+
+-- a lease is listed where there is room
+pub lists_next : (room : ℕ) (written : List ℕ) (lease : Lease) (rest : List Lease) (all : List ℕ) → 0 < room → written ++ entries (take room (lease ∷ rest)) ≡ all
+    → (written ++ entry lease.kind lease.addr) ++ entries (take (room - 1) rest) ≡ all
+lists_next zero written lease rest all some is = absurd (omega arith)
+lists_next (suc k) written lease rest all some is =
+    let left : suc k - 1 ≡ k = omega arith in
+    rw left (append_assoc written (entry lease.kind lease.addr) (entries (take k rest)) ∙ is)
+
+-- and passed over where there is none
+pub lists_no_more : (room : ℕ) (written : List ℕ) (lease : Lease) (rest : List Lease) (all : List ℕ) → room ≡ 0 → written ++ entries (take room (lease ∷ rest)) ≡ all
+    → written ++ entries (take room rest) ≡ all
+lists_no_more zero written lease rest all none is = is
+lists_no_more (suc k) written lease rest all none is = absurd (omega arith)
+
+-- whether there are more leases than have room, found by counting down
+pub record Counts (most room : ℕ) (cut : Bool) (rest all : ℕ) : Type 0 where
+  pub more : cut ≡ true → most < all
+  pub left : cut ≡ false → most + rest ≡ all + room
+
+pub counts_next : (most room rest all : ℕ) (cut : Bool) → 0 < room → Counts most room cut (suc rest) all → Counts most (room - 1) cut rest all
+counts_next most room rest all cut some counts = record { more = counts.more; left = λ e. omega (arith, some, counts.left e) }
+
+pub counts_no_more : (most room rest all : ℕ) (cut : Bool) → room ≡ 0 → Counts most room cut (suc rest) all → Counts most room true rest all
+counts_no_more most room rest all true none counts = record { more = counts.more; left = λ e. absurd cc }
+counts_no_more most room rest all false none counts = record { more = λ e. omega (arith, none, counts.left refl); left = λ e. absurd cc }
+
+pub cut_is : (most room : ℕ) (cut : Bool) (leases : List Lease) → Counts most room cut 0 (length leases) → cut ≡ nat_lt (length (take most leases)) (length leases)
+cut_is most room true leases counts = sym (lt-ltb (length (take most leases)) (length leases) (omega (arith, counts.more refl, length-take most leases)))
+cut_is most room false leases counts = sym (le-ltb (length (take most leases)) (length leases) (omega (arith, counts.left refl, length-take most leases)))

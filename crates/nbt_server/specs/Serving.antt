@@ -1,13 +1,13 @@
 -- What the name server does with a message, and with octets: RFC 1002 section 5.1.4. The silence after a start, the
 -- refusal of what is not the sender's own, and which refusal has which RCODE are our profile.
-use Rattle.std.specs.Prelude.{◌≡◌, ◌≢◌, ℕ, ◌+◌, ◌-◌, ◌*◌, ◌/◌, ◌<◌, ◌≤◌, List, [], slice_index, Option, Some, None, Result, Ok, Err}
+use Rattle.std.specs.Prelude.{◌≡◌, ◌≢◌, ℕ, ◌+◌, ◌-◌, ◌*◌, ◌/◌, ◌<◌, ◌≤◌, Bool, nat_lt, List, [], take, length, slice_index, Option, Some, None, Result, Ok, Err}
 use Rattle.std.specs.List.{flat_map}
 use Rattle.nbt_name.specs.declared.addr.Kind.{Kind}
 use Rattle.nbt_name.specs.Wire.{NameValue}
 use Rattle.nbt_packet.specs.declared.message.Registration.{Registration}
 use Rattle.nbt_packet.specs.Message.{MessageValue, registration, overwrite, refresh, release, query, registered, released, found, not_found}
 use Rattle.nbt_packet.specs.Spelling.{Spells}
-use Rattle.nbt_packet.specs.Text.{text, entry}
+use Rattle.nbt_packet.specs.Text.{text, entry, entries_most}
 use Rattle.nbt_lease.specs.declared.fault.GrantFault.{GrantFault}
 use Rattle.nbt_lease.specs.declared.fault.GrantFault.TheVariants.{Active, TableFull, GroupFull, OutOfMemory}
 use Rattle.nbt_lease.specs.declared.lease.Grant.{Grant}
@@ -84,6 +84,18 @@ seconds_until now end = (end - now + 999) / 1000
 abbrev pub entries : List Lease → List ℕ
 entries leases = flat_map (λ lease. entry lease.kind lease.addr) leases
 
+-- a response lists the first leases of a name: all, or as many as have room in a datagram
+abbrev pub listed : NameValue → List Lease → List Lease
+listed name leases = take (entries_most name) leases
+
+-- it is cut where it doesn't list all
+abbrev pub is_cut : NameValue → List Lease → Bool
+is_cut name leases = nat_lt (length (listed name leases)) (length leases)
+
+-- its TTL is that of the least end among all leases, listed or not
+abbrev pub found_reply : (id : ℕ) → NameValue → (now end : ℕ) → List Lease → MessageValue
+found_reply id name now end leases = found id name (seconds_until now end) (entries (listed name leases)) (is_cut name leases)
+
 -- ---- the server's rules
 
 -- What the server does with a message from an end at the address `ip`: the reply, or none, and the leases that live
@@ -99,7 +111,7 @@ pub data Serves (table : TableValue) (now ip : ℕ) : MessageValue → Option Me
   refuses_release : (id : ℕ) (name : NameValue) (kind : Kind) (addr : ℕ) → ¬ IsOwn ip name addr
       → Serves table now ip (release id name kind addr) (Some (released id refused_error name kind addr)) (leases_at now table.rows)
   finds : (id : ℕ) (name : NameValue) (end : ℕ) → IsLeastEnd (leases_at now table.rows name) (Some end)
-      → Serves table now ip (query id name) (Some (found id name (seconds_until now end) (entries (leases_at now table.rows name)))) (leases_at now table.rows)
+      → Serves table now ip (query id name) (Some (found_reply id name now end (leases_at now table.rows name))) (leases_at now table.rows)
   finds_none : (id : ℕ) (name : NameValue) → leases_at now table.rows name ≡ []
       → Serves table now ip (query id name) (Some (not_found id name_error (Some name))) (leases_at now table.rows)
   passes_over : (m : MessageValue) → IsForNodes m → Serves table now ip m None (leases_at now table.rows)

@@ -55,13 +55,14 @@ impl Server {
     ///
     /// - Until the longest lease has passed since the start there is no reply, and no lease changes (our profile).
     /// - A registration or refresh is granted for its TTL, at most the longest lease, a TTL of 0 asking for that; or
-    ///   refused with ACT_ERR (6) where other leases stand in its way, or SRV_ERR (2) where 48 members of the group or
-    ///   as many leases as the table keeps live. RFS_ERR (5) where its address isn't that of `from`, or its name begins
+    ///   refused with ACT_ERR (6) where other leases stand in its way, or SRV_ERR (2) where 1,000 members of the group
+    ///   or as many leases as the table keeps live. RFS_ERR (5) where its address isn't that of `from`, or its name begins
     ///   with `*` (our profile).
     /// - A release takes away the lease of the sender alone. It is refused with ACT_ERR where others have the name and
     ///   the sender hasn't, and with RFS_ERR like a registration.
-    /// - A query is answered with the live leases in order of their beginnings, its TTL being the seconds until the
-    ///   first of them ends, rounded up; or with NAM_ERR (3).
+    /// - A query is answered with the live leases in order of their beginnings, as many as have room in 576 octets; TC is
+    ///   set where these aren't all. Its TTL is the seconds until the first of all of them ends, rounded up. Or with
+    ///   NAM_ERR (3).
     /// - An overwrite is refused with RFS_ERR (our profile). All else has no reply.
     ///
     /// Refused in this order, `out` being empty: `ClockBack` (1) where `now` is before the start, or before an earlier

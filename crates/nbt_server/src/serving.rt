@@ -1,21 +1,21 @@
 //! What a name server does with a message (RFC 1002 section 5.1.4).
 
-ghost use Rattle.std.specs.Prelude.{◌≡◌, ◌≢◌, ℕ, ◌+◌, ◌*◌, ◌≤◌, ◌↔◌, Option, Some, IsTrue, IfOk, IfSome, IsNone, OnErr, [], length, is_some};
+ghost use Rattle.std.specs.Prelude.{◌≡◌, ◌≢◌, ℕ, ◌+◌, ◌*◌, ◌<◌, ◌≤◌, ◌↔◌, Option, Some, IsTrue, IfOk, IfSome, IsNone, OnErr, [], length, is_some};
 ghost use Rattle.nbt_name.specs.declared.addr.Kind.{Kind};
 ghost use Rattle.nbt_name.specs.Wire.{NameValue};
 ghost use Rattle.nbt_packet.specs.Message.{MessageValue, message_of, message_if, query, release, released, Fits};
 ghost use Rattle.nbt_packet.specs.Spelling.{HasFewRows};
-ghost use Rattle.nbt_packet.specs.Text.{text};
+ghost use Rattle.nbt_packet.specs.Text.{text, entries_most};
 ghost use Rattle.nbt_lease.specs.Config.{IsConfig};
 ghost use Rattle.nbt_lease.specs.Lease.{leases_at, latest_end, AreSound};
 ghost use Rattle.nbt_lease.specs.Rules.{IsLeastEnd};
-ghost use Rattle.nbt_server.specs.Serving.{AsksFor, IsOwn, fault_rcode, refusal, release_rcode, seconds_until, entries, Serves, NeedsMemory, written, Spelled};
+ghost use Rattle.nbt_server.specs.Serving.{AsksFor, IsOwn, fault_rcode, refusal, release_rcode, seconds_until, entries, listed, is_cut, Serves, NeedsMemory, written, Spelled};
 ghost use Rattle.nbt_packet.specs.Spelling.{Spells};
 
 use arrayvec::ArrayVec;
 use nbt_lease::{GrantFault, Moment, Released, Table};
 use nbt_name::{Kind, Name};
-use nbt_packet::{Message, Registration, encode, entry_octets};
+use nbt_packet::{Message, Registration, encode, entries_most, entry_octets};
 use std::alloc::AllocError;
 
 /// RCODE SRV_ERR: the server can't (RFC 1002 section 4.2.6).
@@ -27,8 +27,9 @@ const REFUSED: u8 = 5;
 /// RCODE ACT_ERR: another machine has the name (RFC 1002 section 4.2.6).
 const ACTIVE: u8 = 6;
 
-/// The most octets of a query's entries: 48 leases of six octets each.
-const ENTRIES_MOST: usize = 288;
+/// The most octets of a response's entries: 86 of six octets each, beside a name without a scope (RFC 1002 section
+/// 4.2.13).
+const ENTRIES_OCTETS: usize = 516;
 
 /// Does with a message from an end at `ip` what the rules say. With `true` the reply stands in `out`; with `false` there
 /// is none, and `out` stays empty.
@@ -193,8 +194,8 @@ fn released_rcode(outcome: Released) -> u8
     }
 }
 
-/// Leaves in `out` the response to a query: the leases of the name, with the seconds until the first of them ends, or
-/// that the name isn't there (RFC 1002 sections 4.2.13 and 4.2.14).
+/// Leaves in `out` the response to a query: the first leases of the name, as many as have room, with the seconds until the
+/// first of all its leases ends; or that the name isn't there (RFC 1002 sections 4.2.13 and 4.2.14).
 fn find(table: &Table, now: Moment, id: u16, name: Name, out: &mut ArrayVec<u8, 576>)
     requires limits { IsConfig table.now.config }
     requires time { table.now.last ≤ now }
@@ -216,6 +217,7 @@ fn find(table: &Table, now: Moment, id: u16, name: Name, out: &mut ArrayVec<u8, 
         name,
         ttl: seconds_left(now, end),
         entries: listed.entries.as_slice(),
+        cut: listed.cut,
     };
     put(&found, out);
 }
@@ -232,30 +234,41 @@ fn seconds_left(now: Moment, end: u64) -> u32
 /// What a response to a query says of a name's live leases.
 #[derive(Drop)]
 struct Listed {
-    /// Their entries, in their order (RFC 1002 section 4.2.13).
-    entries: ArrayVec<u8, ENTRIES_MOST>,
-    /// The least of their ends; none where there is no lease.
+    /// The entries of the first ones, as many as have room, in their order (RFC 1002 section 4.2.13).
+    entries: ArrayVec<u8, ENTRIES_OCTETS>,
+    /// Whether there are more.
+    cut: bool,
+    /// The least of all their ends; none where there is no lease.
     end: Option<u64>,
 }
 
 /// What there is to say of a name's live leases, by one look-up.
 fn list(table: &Table, now: Moment, name: &Name) -> Listed
     requires { table.now.last ≤ now }
-    ensures entries { result.entries.items ≡ entries (leases_at now table.now.rows name.now) }
+    ensures entries { result.entries.items ≡ entries (listed name.now (leases_at now table.now.rows name.now)) }
+    ensures cut { result.cut ≡ is_cut name.now (leases_at now table.now.rows name.now) }
     ensures end { IsLeastEnd (leases_at now table.now.rows name.now) result.end }
     ensures sound { AreSound (latest_end table.now.config now) (leases_at now table.now.rows name.now) }
+    ensures room { 0 < entries_most name.now }
 {
     let mut entries = ArrayVec::new();
+    let mut room = entries_most(name);
+    let mut cut = false;
     let mut end: Option<u64> = None;
     for lease in table.members(now, name) {
-        let entry = entry_octets(lease.kind, lease.addr);
-        entries.try_extend_from_slice(&entry).unwrap();
+        if room > 0 {
+            let entry = entry_octets(lease.kind, lease.addr);
+            entries.try_extend_from_slice(&entry).unwrap();
+            room -= 1;
+        } else {
+            cut = true;
+        }
         end = Some(end.unwrap_or(lease.end).min(lease.end));
     }
-    Listed { entries, end }
+    Listed { entries, cut, end }
 }
 
-/// Leaves in `out` the written form of a reply, which has at most 48 entries and so at most 576 octets.
+/// Leaves in `out` the written form of a reply, which has no more entries than have room in 576 octets.
 fn put(reply: &Message<'_>, out: &mut ArrayVec<u8, 576>)
     requires fits { Fits (message_of reply.now) }
     requires few { HasFewRows (message_of reply.now) }

@@ -20,7 +20,7 @@ use Rattle.nbt_lease.specs.declared.fault.GrantFault.{GrantFault}
 use Rattle.nbt_lease.specs.declared.lease.Grant.{Grant}
 use Rattle.nbt_lease.specs.declared.lease.Released.{Released}
 use Rattle.nbt_lease.specs.Rules.{Asked as Asking, Grants, Releases}
-use Rattle.nbt_server.specs.Serving.{ServerValue, AsksFor, grant_reply, refusal, refused_error, release_rcode, name_error, seconds_until, entries, Serves, ServesOctets}
+use Rattle.nbt_server.specs.Serving.{ServerValue, AsksFor, grant_reply, refusal, refused_error, release_rcode, name_error, found_reply, Serves, ServesOctets}
 use Rattle.nbt_server.specs.Serving as serving
 use Rattle.nbt_world.specs.declared.ends.Ends.{Ends}
 use Rattle.nbt_world.specs.declared.network.Datagram.{Datagram}
@@ -153,7 +153,7 @@ takes_kept law w i node new from to (query id name) sent told out kept up t writ
 takes_kept law w i node new from to (status_request id name) sent told out kept up t written heard = lists_kept law w i node new to id name sent told out kept up t written
 takes_kept law w i node new from to (registered rcode r) sent told out kept up t written heard = heard_kept w i node new from to _ _ sent told kept up t heard (λ x e. named_registered rcode r x e)
 takes_kept law w i node new from to (released id rcode name kind addr) sent told out kept up t written heard = heard_kept w i node new from to _ _ sent told kept up t heard (λ x e. cc)
-takes_kept law w i node new from to (found id name ttl entries) sent told out kept up t written heard = ended_kept w i node new from to _ sent _ told kept up t
+takes_kept law w i node new from to (found id name ttl entries cut) sent told out kept up t written heard = ended_kept w i node new from to _ sent _ told kept up t
 takes_kept law w i node new from to (not_found id rcode name) sent told out kept up t written heard = ended_kept w i node new from to _ sent _ told kept up t
 takes_kept law w i node new from to (status id name names) sent told out kept up t written heard = ended_kept w i node new from to _ sent _ told kept up t
 takes_kept law w i node new from to (wait id name ttl) sent told out kept up t written heard = heard_kept w i node new from to _ _ sent told kept up t heard (λ x e. cc)
@@ -188,7 +188,7 @@ taken_addr now node new from (query id name) sent told t = idle_addr now node ne
 taken_addr now node new from (status_request id name) sent told t = listed_addr now node new id name sent told t
 taken_addr now node new from (registered rcode r) sent told t = heard_addr now node new from r.name _ sent told t
 taken_addr now node new from (released id rcode name kind addr) sent told t = heard_addr now node new from name _ sent told t
-taken_addr now node new from (found id name ttl entries) sent told t = ended_addr now node new from _ _ sent told t
+taken_addr now node new from (found id name ttl entries cut) sent told t = ended_addr now node new from _ _ sent told t
 taken_addr now node new from (not_found id rcode name) sent told t = ended_addr now node new from _ _ sent told t
 taken_addr now node new from (status id name names) sent told t = ended_addr now node new from _ _ sent told t
 taken_addr now node new from (wait id name ttl) sent told t = heard_addr now node new from name _ sent told t
@@ -263,7 +263,7 @@ serves_asked table now ip k reply after (serving.releases id n kind addr result 
 serves_asked table now ip k reply after (serving.refuses_release id n kind addr own) m e name is =
     by_request (subst (λ (y : MessageValue). IsReply name y) (sym (same_Some (released id refused_error n kind addr) m e)) is)
 serves_asked table now ip k reply after (serving.finds id n end least) m e name is =
-    absurd (subst (λ (y : MessageValue). IsReply name y) (sym (same_Some (found id n (seconds_until now end) (entries (leases_at now table.rows n))) m e)) is)
+    absurd (subst (λ (y : MessageValue). IsReply name y) (sym (same_Some (found_reply id n now end (leases_at now table.rows n)) m e)) is)
 serves_asked table now ip k reply after (serving.finds_none id n none) m e name is =
     absurd (subst (λ (y : MessageValue). IsReply name y) (sym (same_Some (not_found id name_error (Some n)) m e)) is)
 serves_asked table now ip k reply after (serving.passes_over x own) m e name is = absurd (none-some m e)

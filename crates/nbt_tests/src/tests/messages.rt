@@ -6,9 +6,10 @@ use std::process::Abort;
 use std::time::Clock;
 
 /// The flags of requests of two sections, and their messages.
-const REQUESTS: [(&str, &str); 8] = [
+const REQUESTS: [(&str, &str); 9] = [
     ("2900", "registration"),
     ("2910", "none"),
+    ("2b00", "registration"),
     ("2800", "overwrite"),
     ("4000", "refresh"),
     ("4100", "refresh"),
@@ -18,7 +19,7 @@ const REQUESTS: [(&str, &str); 8] = [
 ];
 
 /// Requests of one question, and then responses: their octets, messages and lengths.
-const OTHERS: [(&str, &str, &str); 13] = [
+const OTHERS: [(&str, &str, &str); 15] = [
     (
         "0001_0100_0001_0000_0000_0000_{FRED}_0020_0001",
         "query",
@@ -60,11 +61,17 @@ const OTHERS: [(&str, &str, &str); 13] = [
         "68",
     ),
     (
+        "0001_8780_0000_0001_0000_0000_{TEAM}_0020_0001_0000003c_000c_a000_7f000002_a000_7f000003",
+        "found",
+        "68",
+    ),
+    (
         "0001_8583_0000_0001_0000_0000_{FRED}_000a_0001_00000000_0000",
         "not-found",
         "56",
     ),
     ("0001_8583_0000_0000_0000_0000", "not-found", "12"),
+    ("0001_8783_0000_0000_0000_0000", "not-found", "12"),
     (
         "0001_8400_0000_0001_0000_0000_{FRED}_0021_0001_00000000_0001_00",
         "status",

@@ -36,7 +36,7 @@ enum Step<'a> {
 }
 
 /// The addresses and ends of a name's leases.
-type Leases = ArrayVec<(u32, u64), 48>;
+type Leases = ArrayVec<(u32, u64), 40>;
 
 /// A table of leases, at 0.
 fn table(rt: &HostRuntime, rows: usize) -> Result<Table, Fail> {
@@ -112,7 +112,7 @@ fn leases(table: &Table, now: Moment, name: &Name) -> Result<Leases, Fail>
         leases
             .try_push((lease.addr, lease.end))
             .ok()
-            .ok_or("more than 48")?;
+            .ok_or("more than 40")?;
     }
     Ok(leases)
 }
@@ -299,33 +299,58 @@ fn members_in_order_of_their_beginnings(rt: HostRuntime) -> Result<(), Fail> {
     play(&rt, table(&rt, 4096)?, MEMBERS_IN_ORDER_OF_THEIR_BEGINNINGS)
 }
 
-const A_GROUP_OF_48_IS_FULL_BEFORE_A_TABLE_OF_48: &[Step<'static>] = &[
-    Step::Join(60_000, 48, Ok((60, 120_000))),
+const A_GROUP_OF_1_000_IS_FULL_BEFORE_A_TABLE_OF_1_000: &[Step<'static>] = &[
+    Step::Join(60_000, 1_000, Ok((60, 120_000))),
     Step::Grant(
         60_000,
         TEAM,
-        49,
+        1_001,
         Kind::Group,
         60,
         Err(GrantFault::GroupFull),
     ),
-    Step::Grant(61_000, TEAM, 48, Kind::Group, 60, Ok((60, 121_000))),
+    Step::Grant(61_000, TEAM, 1_000, Kind::Group, 60, Ok((60, 121_000))),
+    Step::LeastEnd(61_000, TEAM, Some(120_000)),
     Step::Grant(
         61_000,
         FRED,
-        49,
+        1_001,
         Kind::Unique,
+        60,
+        Err(GrantFault::TableFull),
+    ),
+    // The 1,000th alone lives on.
+    Step::LeastEnd(120_000, TEAM, Some(121_000)),
+    Step::Members(120_000, TEAM, &[(1_000, 121_000)]),
+];
+
+#[test]
+fn a_group_of_1_000_is_full_before_a_table_of_1_000(rt: HostRuntime) -> Result<(), Fail> {
+    play(
+        &rt,
+        table(&rt, 1_000)?,
+        A_GROUP_OF_1_000_IS_FULL_BEFORE_A_TABLE_OF_1_000,
+    )
+}
+
+const A_TABLE_OF_999_IS_FULL_BEFORE_A_GROUP_OF_1_000: &[Step<'static>] = &[
+    Step::Join(60_000, 999, Ok((60, 120_000))),
+    Step::Grant(
+        60_000,
+        TEAM,
+        1_000,
+        Kind::Group,
         60,
         Err(GrantFault::TableFull),
     ),
 ];
 
 #[test]
-fn a_group_of_48_is_full_before_a_table_of_48(rt: HostRuntime) -> Result<(), Fail> {
+fn a_table_of_999_is_full_before_a_group_of_1_000(rt: HostRuntime) -> Result<(), Fail> {
     play(
         &rt,
-        table(&rt, 48)?,
-        A_GROUP_OF_48_IS_FULL_BEFORE_A_TABLE_OF_48,
+        table(&rt, 999)?,
+        A_TABLE_OF_999_IS_FULL_BEFORE_A_GROUP_OF_1_000,
     )
 }
 
@@ -385,9 +410,9 @@ fn a_full_table_has_room_once_half_of_it_is_over(rt: HostRuntime) -> Result<(), 
 /// A new name, new members, and renewals that move the end may be refused memory. A renewal that moves no end takes none.
 const EACH_GROWTH: &[Step<'static>] = &[
     Step::Grow(60_000, FRED, FIRST, Kind::Unique, 30, Ok((30, 90_000))),
-    Step::JoinGrowing(60_000, 48, Ok((60, 120_000))),
-    Step::JoinGrowing(61_000, 48, Ok((60, 121_000))),
-    Step::Join(61_000, 48, Ok((60, 121_000))),
+    Step::JoinGrowing(60_000, 40, Ok((60, 120_000))),
+    Step::JoinGrowing(61_000, 40, Ok((60, 121_000))),
+    Step::Join(61_000, 40, Ok((60, 121_000))),
     Step::Grant(61_000, FRED, FIRST, Kind::Unique, 10, Ok((10, 90_000))),
     Step::Grow(61_000, FRED, FIRST, Kind::Unique, 60, Ok((60, 121_000))),
     Step::Members(61_000, FRED, &[(FIRST, 121_000)]),

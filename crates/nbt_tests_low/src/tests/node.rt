@@ -467,7 +467,10 @@ const A_LOOKUP_DOES_NOT_END_BY_THE_ID_OF_A_REGISTRATION: &[Step<'static>] = &[
         60_001,
         SERVER,
         Response(2, [0x85, 0x80], 60),
-        Event::Found(b"\x20\x00\x7F\x00\x00\x02"),
+        Event::Found {
+            entries: b"\x20\x00\x7F\x00\x00\x02",
+            cut: false,
+        },
     ),
 ];
 
@@ -497,10 +500,33 @@ const A_LOOKUP_ENDS_BY_THE_END_THAT_WAS_ASKED: &[Step<'static>] = &[
         60_001,
         SERVER,
         Response(1, [0x85, 0x80], 60),
-        Event::Found(b"\x20\x00\x7F\x00\x00\x02"),
+        Event::Found {
+            entries: b"\x20\x00\x7F\x00\x00\x02",
+            cut: false,
+        },
     ),
     Step::LookupOpen(60_001, false),
 ];
+
+/// By TC the reply says that the name has more entries.
+const A_LOOKUP_TELLS_THAT_THE_REPLY_IS_CUT: &[Step<'static>] = &[
+    Step::Resolve(60_000, Ok(QUERY)),
+    Step::Respond(
+        60_001,
+        SERVER,
+        Response(1, [0x87, 0x80], 60),
+        Event::Found {
+            entries: b"\x20\x00\x7F\x00\x00\x02",
+            cut: true,
+        },
+    ),
+    Step::LookupOpen(60_001, false),
+];
+
+#[test]
+fn a_lookup_tells_that_the_reply_is_cut(rt: HostRuntime) -> Result<(), Fail> {
+    play(&rt, A_LOOKUP_TELLS_THAT_THE_REPLY_IS_CUT)
+}
 
 #[test]
 fn a_lookup_ends_by_the_end_that_was_asked(rt: HostRuntime) -> Result<(), Fail> {

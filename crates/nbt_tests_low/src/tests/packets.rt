@@ -8,8 +8,8 @@ use nbt_packet::laws::{
     spelled_message_fits, written_form_is_read, written_length,
 };
 use nbt_packet::{
-    Fault, FaultKind, Full, Message, Registration, classify, decode, encode, entry_octets, read,
-    status_name_octets,
+    Fault, FaultKind, Full, Message, Registration, classify, decode, encode, entries_most,
+    entry_octets, read, status_name_octets,
 };
 use std::process::Abort;
 use std::test::Fail;
@@ -69,7 +69,7 @@ enum Says<'a> {
     StatusRequest,
     Registered(u8, Kind),
     Released(u8, Kind),
-    Found(u32, &'a [u8]),
+    Found(u32, &'a [u8], bool),
     NotFound(u8),
     NotFoundBare(u8),
     Status(&'a [u8]),
@@ -110,11 +110,12 @@ fn message(id: u16, name: Name, says: Says<'_>) -> Message<'_> {
             kind,
             addr: 0x7F000002,
         },
-        Says::Found(ttl, entries) => Message::Found {
+        Says::Found(ttl, entries, cut) => Message::Found {
             id,
             name,
             ttl,
             entries,
+            cut,
         },
         Says::NotFound(rcode) => Message::NotFound {
             id,
@@ -139,6 +140,9 @@ type Written = (
     &'static [u8],
     &'static [(usize, u8)],
 );
+
+/// The entries of 127.0.0.2 and 127.0.0.3 in a group.
+const TEAM_ENTRIES: &[u8] = b"\xA0\x00\x7F\x00\x00\x02\xA0\x00\x7F\x00\x00\x03";
 
 const WRITTEN: &[Written] = &[
     (1, FRED, Says::Registration(Kind::Unique), REGISTRATION, &[]),
@@ -173,12 +177,14 @@ const WRITTEN: &[Written] = &[
         REGISTERED,
         &[(2, 0xB4), (3, 0x06), (53, 0)],
     ),
+    (7, TEAM, Says::Found(60, TEAM_ENTRIES, false), FOUND, &[]),
+    // TC: there are more.
     (
         7,
         TEAM,
-        Says::Found(60, b"\xA0\x00\x7F\x00\x00\x02\xA0\x00\x7F\x00\x00\x03"),
+        Says::Found(60, TEAM_ENTRIES, true),
         FOUND,
-        &[],
+        &[(2, 0x87)],
     ),
     (8, FRED, Says::NotFound(3), NOT_FOUND, &[]),
     (8, FRED, Says::NotFoundBare(3), NOT_FOUND_BARE, &[]),
@@ -308,6 +314,18 @@ const LINES: &[(&[u8], &[(usize, u8)], &str)] = &[
     (REGISTERED, &[(3, 0x06)], "registered"),
     (REGISTERED, &[(2, 0xC0), (3, 0x00)], "registered"),
     (REGISTERED, &[(2, 0x85)], "found"),
+    // TC in a response to a query, and in other messages, where it isn't looked at.
+    (REGISTERED, &[(2, 0x87)], "found, cut"),
+    (FOUND, &[(2, 0x83)], "found, cut"),
+    (NOT_FOUND, &[(2, 0x87)], "not found"),
+    (NOT_FOUND_BARE, &[(2, 0x87)], "not found"),
+    (STATUS, &[(2, 0x86)], "status"),
+    (WAIT, &[(2, 0xBE)], "wait"),
+    (REGISTERED, &[(2, 0xAF)], "registered"),
+    (REGISTERED, &[(2, 0xB6), (3, 0x00)], "released"),
+    (REGISTRATION, &[(2, 0x2B)], "registration"),
+    (REGISTRATION, &[(2, 0x42)], "refresh"),
+    (QUERY, &[(2, 0x03)], "query"),
     (NOT_FOUND, &[(3, 0x80)], "none"),
     (NOT_FOUND, &[(2, 0xBC), (3, 0)], "wait"),
     // The additional record is about another name, and about the same name spelled out.
@@ -341,7 +359,8 @@ fn word_of(octets: &[u8]) -> Result<&'static str, Fail> {
         Some(Message::StatusRequest { .. }) => "status request",
         Some(Message::Registered { .. }) => "registered",
         Some(Message::Released { .. }) => "released",
-        Some(Message::Found { .. }) => "found",
+        Some(Message::Found { cut: false, .. }) => "found",
+        Some(Message::Found { cut: true, .. }) => "found, cut",
         Some(Message::NotFound { .. }) => "not found",
         Some(Message::Status { .. }) => "status",
         Some(Message::Wait { .. }) => "wait",
@@ -464,6 +483,7 @@ fn a_written_form_of_576_octets_and_one_longer(rt: HostRuntime) -> Result<(), Fa
             name: fred(b"\x03abc")?,
             ttl: 60,
             entries: &entries[..end],
+            cut: false,
         };
         assert!(rt; found.fits());
         let mut out = ArrayVec::new();
@@ -472,5 +492,20 @@ fn a_written_form_of_576_octets_and_one_longer(rt: HostRuntime) -> Result<(), Fa
         assert_eq!(rt; out.len(), length);
     }
     assert_eq!(rt; Full.number(), 7);
+    Ok(())
+}
+
+/// Beside a wire form of w octets there is room for (576 - 22 - w) / 6 entries, rounded down.
+#[test]
+fn as_many_entries_as_have_room_beside_a_name(rt: HostRuntime) -> Result<(), Fail> {
+    let mut longest = [b'a'; 221];
+    for place in [0, 64, 128] {
+        longest[place] = 63;
+    }
+    longest[192] = 28;
+    assert_eq!(rt; entries_most(&fred(b"")?), 86);
+    assert_eq!(rt; entries_most(&fred(b"\x03abc")?), 86);
+    assert_eq!(rt; entries_most(&fred(b"\x04abcd")?), 85);
+    assert_eq!(rt; entries_most(&fred(&longest)?), 49);
     Ok(())
 }

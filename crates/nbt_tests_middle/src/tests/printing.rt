@@ -167,14 +167,14 @@ fn a_datagram_of_1_000_octets_of_data(rt: HostRuntime) -> Result<(), Fail> {
 }
 
 #[test]
-fn a_packet_of_48_entries(rt: HostRuntime) -> Result<(), Fail> {
-    let head = octets(&rt, "0008 8580 reply FRED NB 60s 0120")?;
-    let octets = repeated(&rt, head.as_slice(), 0xA5, 288)?;
+fn a_packet_of_86_entries_that_is_cut(rt: HostRuntime) -> Result<(), Fail> {
+    let head = octets(&rt, "0008 8780 reply FRED NB 60s 0204")?;
+    let octets = repeated(&rt, head.as_slice(), 0xA5, 516)?;
     let wanted = digits(
         &rt,
-        "id 0008 flags 8580\nanswer FRED type 0020 class 0001 ttl 60 data ",
-        288,
-        "\nmessage found\nlength 344\n",
+        "id 0008 flags 8780\nanswer FRED type 0020 class 0001 ttl 60 data ",
+        516,
+        "\nmessage found\nlength 572\n",
     )?;
     let mut text = String::new(rt.alloc());
     assert!(&rt; write_packet(octets.as_slice(), &mut text)?);

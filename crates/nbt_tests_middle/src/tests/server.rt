@@ -7,6 +7,7 @@ use super::{
 use arrayvec::ArrayVec;
 use nbt_name::Addr;
 use nbt_server::{Server, ServerFault};
+use std::ops::Range;
 use std::process::Abort;
 use std::test::Fail;
 
@@ -129,30 +130,125 @@ const TWO_MEMBERS: [Row; 3] = [
     ),
 ];
 
-#[test]
-fn a_group_has_48_members_and_is_found_in_their_order(rt: HostRuntime) -> Result<(), Fail> {
-    let mut server = started(&rt, 4096, 0)?;
-    play(&rt, &mut server, &TWO_MEMBERS)?;
-    for addr in 1_u32..48 {
-        let mut asks = octets(&rt, "0001 2900 two-parts TEAM NB again NB 60s group")?;
-        let reply = if addr < 47 {
-            "0001 ad80 reply TEAM NB 60s group"
-        } else {
-            "0001 ad82 reply TEAM NB 0s group"
-        };
-        let mut gives = octets(&rt, reply)?;
-        asks.extend_from_slice(&addr.to_be_bytes())?;
-        gives.extend_from_slice(&addr.to_be_bytes())?;
-        expect(
-            &rt,
-            &mut server,
-            60_500,
-            addr,
-            asks.as_slice(),
-            gives.as_slice(),
-        )?;
+/// Each of these addresses registers at 60,500, and gets this reply; its address ends both.
+fn join<R: Abort + AllocGlobal>(
+    rt: &R,
+    server: &mut Server,
+    addresses: Range<u32>,
+    asks: &[u8],
+    gives: &[u8],
+) -> Result<(), Fail> {
+    for addr in addresses {
+        let mut request = Vec::new(rt.alloc());
+        request.extend_from_slice(asks)?;
+        request.extend_from_slice(&addr.to_be_bytes())?;
+        let mut reply = Vec::new(rt.alloc());
+        reply.extend_from_slice(gives)?;
+        reply.extend_from_slice(&addr.to_be_bytes())?;
+        expect(rt, server, 60_500, addr, &request, &reply)?;
     }
     Ok(())
+}
+
+/// What stands before a name, the name, what stands after it, and the entries of a group's members at these addresses.
+fn spelled<R: AllocGlobal>(
+    rt: &R,
+    before: &str,
+    name: &[u8],
+    after: &str,
+    members: Range<u32>,
+) -> Result<Vec<u8>, Fail> {
+    let mut spelled = octets(rt, before)?;
+    spelled.extend_from_slice(name)?;
+    spelled.extend_from_slice(&octets(rt, after)?)?;
+    for addr in members {
+        spelled.extend_from_slice(b"\xA0\x00")?;
+        spelled.extend_from_slice(&addr.to_be_bytes())?;
+    }
+    Ok(spelled)
+}
+
+/// The registration of a group for these seconds, and its positive reply, but for the address.
+fn joining<R: AllocGlobal>(rt: &R, name: &[u8], seconds: &str) -> Result<(Vec<u8>, Vec<u8>), Fail> {
+    let group = format!(in rt.alloc(); "NB {seconds} group")?;
+    let again = format!(in rt.alloc(); "NB again {group}")?;
+    let asks = spelled(rt, "0001 2900 two-parts", name, &again, 0..0)?;
+    let gives = spelled(rt, "0001 ad80 reply", name, &group, 0..0)?;
+    Ok((asks, gives))
+}
+
+#[test]
+fn a_group_has_1_000_members_and_is_found_in_their_order(rt: HostRuntime) -> Result<(), Fail> {
+    let mut server = started(&rt, 4096, 0)?;
+    play(&rt, &mut server, &TWO_MEMBERS)?;
+    let (asks, gives) = joining(&rt, &octets(&rt, "TEAM")?, "60s")?;
+    let full = octets(&rt, "0001 ad82 reply TEAM NB 0s group")?;
+    join(&rt, &mut server, 1..999, &asks, &gives)?;
+    join(&rt, &mut server, 999..1001, &asks, &full)?;
+    join(&rt, &mut server, 998..999, &asks, &gives)
+}
+
+/// 86 entries, of 0x0204 octets, have room beside a name without a scope: (576 - 22 - 34) / 6.
+#[test]
+fn of_a_group_of_87_the_first_86_are_listed(rt: HostRuntime) -> Result<(), Fail> {
+    let mut server = started(&rt, 4096, 0)?;
+    let (asks, gives) = joining(&rt, &octets(&rt, "TEAM")?, "60s")?;
+    let query = octets(&rt, "0007 0100 one-name TEAM NB")?;
+    let all = spelled(&rt, "0007 8580 reply TEAM", b"", "NB 60s 0204", 1..87)?;
+    let cut = spelled(&rt, "0007 8780 reply TEAM", b"", "NB 60s 0204", 1..87)?;
+    assert_eq!(rt; all.len(), 572);
+    join(&rt, &mut server, 1..87, &asks, &gives)?;
+    expect(&rt, &mut server, 60_500, FIRST, &query, &all)?;
+    join(&rt, &mut server, 87..88, &asks, &gives)?;
+    expect(&rt, &mut server, 60_500, FIRST, &query, &cut)
+}
+
+/// Of 87 members the first's lease lasts 30 s, and the last's, which isn't listed, 10 s. Once it is over, all are listed.
+#[test]
+fn the_ttl_is_that_of_a_member_that_is_not_listed(rt: HostRuntime) -> Result<(), Fail> {
+    let mut server = started(&rt, 4096, 0)?;
+    let team = octets(&rt, "TEAM")?;
+    for (first, last, seconds) in [(1, 1, "30s"), (2, 86, "60s"), (87, 87, "10s")] {
+        let (asks, gives) = joining(&rt, &team, seconds)?;
+        join(&rt, &mut server, first..last + 1, &asks, &gives)?;
+    }
+    let query = octets(&rt, "0007 0100 one-name TEAM NB")?;
+    let cut = spelled(&rt, "0007 8780 reply TEAM", b"", "NB 10s 0204", 1..87)?;
+    expect(&rt, &mut server, 60_500, FIRST, &query, &cut)?;
+    let last_second = spelled(&rt, "0007 8780 reply TEAM", b"", "NB 1s 0204", 1..87)?;
+    expect(&rt, &mut server, 70_499, FIRST, &query, &last_second)?;
+    let all = spelled(&rt, "0007 8580 reply TEAM", b"", "NB 00000014 0204", 1..87)?;
+    expect(&rt, &mut server, 70_500, FIRST, &query, &all)
+}
+
+/// TEAM in the longest scope, three labels of 63 octets and one of 28: its wire form has 255.
+fn team_in_the_longest_scope<R: AllocGlobal>(rt: &R) -> Result<Vec<u8>, Fail> {
+    let mut wire = octets(rt, "TEAM")?;
+    wire.pop();
+    for length in [63_u8, 63, 63, 28] {
+        wire.push(length)?;
+        for _ in 0..length {
+            wire.push(b'a')?;
+        }
+    }
+    wire.push(0)?;
+    Ok(wire)
+}
+
+/// Beside the longest name 49 entries, of 0x0126 octets, have room: (576 - 22 - 255) / 6.
+#[test]
+fn of_a_group_of_50_with_the_longest_name_49_are_listed(rt: HostRuntime) -> Result<(), Fail> {
+    let mut server = started(&rt, 4096, 0)?;
+    let team = team_in_the_longest_scope(&rt)?;
+    assert_eq!(rt; team.len(), 255);
+    let (asks, gives) = joining(&rt, &team, "60s")?;
+    let query = spelled(&rt, "0007 0100 one-name", &team, "NB", 0..0)?;
+    let all = spelled(&rt, "0007 8580 reply", &team, "NB 60s 0126", 1..50)?;
+    let cut = spelled(&rt, "0007 8780 reply", &team, "NB 60s 0126", 1..50)?;
+    join(&rt, &mut server, 1..50, &asks, &gives)?;
+    expect(&rt, &mut server, 60_500, FIRST, &query, &all)?;
+    join(&rt, &mut server, 50..51, &asks, &gives)?;
+    expect(&rt, &mut server, 60_500, FIRST, &query, &cut)
 }
 
 const ENDING: [Row; 4] = [

@@ -1,9 +1,10 @@
 use Rattle.std.proofs.Common.{Some, subst, arith}
 use Rattle.nbt_packet.specs.Message.{found, not_found}
+use Rattle.nbt_packet.specs.Text.{entries_most}
 use Rattle.nbt_lease.specs.Lease.{leases_at, latest_end}
 use Rattle.nbt_lease.specs.Rules.{IsLeastEnd}
 use Rattle.nbt_server.specs.Serving.{finds, finds_none}
-use Rattle.nbt_server.proofs.Rules.{entries_fit, ends_in_time}
+use Rattle.nbt_server.proofs.Rules.{entries_fit, entries_short, ends_in_time}
 use Rattle.nbt_server.proofs.serving.find.Goals as goal
 
 pub returns-in_default : goal.returns-in_default
@@ -17,18 +18,18 @@ seconds_left-requires c =
 
 pub put-requires-2-clause-fits : goal.put-requires-2-clause-fits
 put-requires-2-clause-fits c =
-    let fit = entries_fit (leases_at c.args.now c.args.table.now.rows c.args.name) c.in-Some.end c.list-listed.ensures.sound.most (subst (IsLeastEnd (leases_at c.args.now c.args.table.now.rows c.args.name)) c.in-Some.is c.list-listed.ensures.end) in
-    rw (c.as_slice.ensures.value, c.list-listed.ensures.entries) (fit.0, omega arith, fit.2)
+    let leases = leases_at c.args.now c.args.table.now.rows c.args.name in
+    rw (c.as_slice.ensures.value, c.list-listed.ensures.entries)
+    (entries_fit (entries_most c.args.name) leases c.in-Some.end c.list-listed.ensures.room c.list-listed.ensures.sound.most (subst (IsLeastEnd leases) c.in-Some.is c.list-listed.ensures.end))
 
 pub put-requires-2-clause-few : goal.put-requires-2-clause-few
 put-requires-2-clause-few c =
-    let fit = entries_fit (leases_at c.args.now c.args.table.now.rows c.args.name) c.in-Some.end c.list-listed.ensures.sound.most (subst (IsLeastEnd (leases_at c.args.now c.args.table.now.rows c.args.name)) c.in-Some.is c.list-listed.ensures.end) in
-    rw (c.as_slice.ensures.value, c.list-listed.ensures.entries) (omega arith)
+    rw (c.as_slice.ensures.value, c.list-listed.ensures.entries) (entries_short (entries_most c.args.name) (leases_at c.args.now c.args.table.now.rows c.args.name))
 
 pub returns : goal.returns
 returns c = (
-  found c.args.id c.args.name c.seconds_left.result c.as_slice.result.now,
-  λ ip. rw (c.seconds_left.ensures, c.as_slice.ensures.value, c.list-listed.ensures.entries) (finds c.args.id c.args.name c.in-Some.end (subst (IsLeastEnd (leases_at c.args.now c.args.table.now.rows c.args.name)) c.in-Some.is c.list-listed.ensures.end)),
+  found c.args.id c.args.name c.seconds_left.result c.as_slice.result.now c.list-listed.result.cut,
+  λ ip. rw (c.seconds_left.ensures, c.as_slice.ensures.value, c.list-listed.ensures.entries, c.list-listed.ensures.cut) (finds c.args.id c.args.name c.in-Some.end (subst (IsLeastEnd (leases_at c.args.now c.args.table.now.rows c.args.name)) c.in-Some.is c.list-listed.ensures.end)),
   c.put-2.ensures.form,
   c.put-2.ensures.spells,
 )

@@ -19,8 +19,8 @@ returns-in-StatusRequest g c = (c.list_names.ensures.0, rw c.in-StatusRequest.is
 
 pub returns-in-Found : goal.returns-in-Found
 returns-in-Found g c =
-    let is : message_of c.args.message.now ≡ found c.in-Found.id c.in-Found.name c.in-Found.ttl c.in-Found.entries.now = ap message_of c.in-Found.is in
-    (None, rw c.in-Found.is (subst (λ (m : MessageValue). Ends c.args.self.now c.args.now c.args.from m (finds c.in-Found.entries.now) c.end_lookup.new.self None (told_of c.end_lookup.result)) is c.end_lookup.ensures), c.requires.empty)
+    let is : message_of c.args.message.now ≡ found c.in-Found.id c.in-Found.name c.in-Found.ttl c.in-Found.entries.now c.in-Found.cut = ap message_of c.in-Found.is in
+    (None, rw c.in-Found.is (subst (λ (m : MessageValue). Ends c.args.self.now c.args.now c.args.from m (finds c.in-Found.entries.now c.in-Found.cut) c.end_lookup.new.self None (told_of c.end_lookup.result)) is c.end_lookup.ensures), c.requires.empty)
 
 pub returns-in-NotFound : goal.returns-in-NotFound
 returns-in-NotFound g c =
