@@ -11,3 +11,4 @@ pub mod Ending
 pub mod Flat
 pub mod Agreeing
 pub mod Placing
+pub mod Drift

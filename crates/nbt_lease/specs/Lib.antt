@@ -1,4 +1,5 @@
 pub mod Config
+pub mod Drift
 pub mod Numbers
 pub mod Lease
 pub mod Rules

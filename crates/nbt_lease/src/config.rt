@@ -1,7 +1,8 @@
 //! The limits that a server and its nodes share.
 
-ghost use Rattle.std.specs.Prelude.{◌≡◌, ◌<◌, ◌≤◌, ◌↔◌, IsOk, IfOk, IsErrOf};
+ghost use Rattle.std.specs.Prelude.{◌≡◌, ◌*◌, ◌<◌, ◌≤◌, ◌↔◌, IsOk, IfOk, IsErrOf};
 ghost use Rattle.nbt_lease.specs.Config.{IsConfig, IsLife, IsLongest, IsRows, config_of, granted};
+ghost use Rattle.nbt_lease.specs.Drift.{hold, quiet};
 
 use crate::fault::ConfigFault;
 use std::marker::Model;
@@ -101,5 +102,31 @@ impl Config {
             return self.longest;
         }
         ttl.min(self.longest)
+    }
+
+    /// How many milliseconds of its own clock a node holds a name for that was granted for `seconds`:
+    /// `floor((1000 * seconds - 1) * 999 / 1001) - 1`, and none for 0 seconds (our profile). Clocks drift: however slow the
+    /// node's and however fast the server's is, within a thousandth and a millisecond of the true one, the hold is over
+    /// before the lease. So 60 s are held for 59,878 ms. It is at least 996 where `seconds` is at least 1.
+    pub fn hold(seconds: u32) -> u64
+        ensures value { result ≡ hold seconds }
+        ensures some { 1 ≤ seconds → 996 ≤ result }
+        ensures bound { result ≤ 1000 * seconds }
+    {
+        let less_than_granted = (1000 * u64::from(seconds)).saturating_sub(1);
+        (less_than_granted * 999 / 1001).saturating_sub(1)
+    }
+
+    /// How many milliseconds of its own clock a name rests for after the last sending about it, and after its node's
+    /// start: `2 * life + floor(2 * life / 1000) + 2` (our profile). However fast the clock is, within a thousandth and a
+    /// millisecond of the true one, no datagram from before and no reply to one lives after a longer time. It is 4 to
+    /// 120,122.
+    pub fn quiet(self) -> u64
+        ensures value { result ≡ quiet self.life }
+        ensures bounds { (4 ≤ result) × (result ≤ 120122) }
+        ensures config { IsConfig self }
+    {
+        let two_lives = 2 * self.life;
+        two_lives + two_lives / 1000 + 2
     }
 }

@@ -1,6 +1,6 @@
 //! What holds of leases, whatever the code does: laws over the definitions alone.
 
-ghost use Rattle.std.specs.Prelude.{◌≡◌, ◌≢◌, ℕ, ◌+◌, ◌<◌, ◌≤◌, ◌↔◌, List, [], ◌∷◌, ◌++◌, filter, Contains, Result, Ok};
+ghost use Rattle.std.specs.Prelude.{◌≡◌, ◌≢◌, ℕ, ◌+◌, ◌*◌, ◌<◌, ◌≤◌, ◌↔◌, List, [], ◌∷◌, ◌++◌, filter, Contains, Result, Ok};
 ghost use Rattle.nbt_name.specs.Wire.{NameValue};
 ghost use Rattle.nbt_name.specs.declared.addr.Kind.TheVariants.{Group};
 ghost use Rattle.nbt_lease.specs.declared.fault.GrantFault.{GrantFault};
@@ -8,6 +8,7 @@ ghost use Rattle.nbt_lease.specs.declared.lease.Grant.{Grant};
 ghost use Rattle.nbt_lease.specs.declared.lease.Lease.{Lease};
 ghost use Rattle.nbt_lease.specs.declared.lease.Released.{Released};
 ghost use Rattle.nbt_lease.specs.Config.{ConfigValue};
+ghost use Rattle.nbt_lease.specs.Drift.{IsWithinDrift, KeepsDriftBound, hold, quiet};
 ghost use Rattle.nbt_lease.specs.Lease.{Leases, Rows, TableValue, is_live, leases_at, live_count, at_name, IsSound};
 ghost use Rattle.nbt_lease.specs.Rules.{Asked, Grants, Releases, IsGranted};
 
@@ -69,4 +70,25 @@ pub fn granted_lease_stands()
         → (lease : Lease) × IsGranted table now name a grant (after name) lease }
     ensures beside { (table : TableValue) (now : ℕ) (name : NameValue) (a : Asked) (grant : Grant) (after : Leases) (other : Lease) → Grants table now name a (Ok grant) after
         → Contains (leases_at now table.rows name) other → other.addr ≢ a.addr → (other.kind ≡ Group) × (a.kind ≡ Group) }
+{}
+
+/// A node's hold ends before the lease that it rests on, although their clocks drift: while the node's own reading moves
+/// by less than `hold seconds`, the server's moves by less than `1000 * seconds`. Both keep the drift bound to one true
+/// clock. Said of what the clocks moved by, and of what they read at two moments.
+pub fn hold_ends_first()
+    ensures moved { (passed node server seconds : ℕ) → IsWithinDrift passed node → IsWithinDrift passed server → node < hold seconds → server < 1000 * seconds }
+    ensures between { (true_then true_now node_then node_now server_then server_now seconds : ℕ) → KeepsDriftBound true_then node_then true_now node_now → KeepsDriftBound true_then server_then true_now server_now
+        → node_then ≤ node_now → node_now < node_then + hold seconds → server_now < server_then + 1000 * seconds }
+{}
+
+/// A name rests for more than two lives of a datagram, although the node's clock drifts: once its own reading has moved by
+/// more than `quiet life`, the true clock has moved by more than `2 * life`. Said in the same two ways.
+pub fn rest_outlasts_datagrams()
+    ensures moved { (passed node life : ℕ) → IsWithinDrift passed node → quiet life < node → 2 * life < passed }
+    ensures between { (true_then true_now node_then node_now life : ℕ) → KeepsDriftBound true_then node_then true_now node_now → node_then + quiet life < node_now → true_then + 2 * life < true_now }
+{}
+
+/// The drift bound between two moments is that of what the clocks moved by.
+pub fn drift_bound_of_moves()
+    ensures { (true_then read_then passed moved : ℕ) → IsWithinDrift passed moved ↔ KeepsDriftBound true_then read_then (true_then + passed) (read_then + moved) }
 {}

@@ -1,5 +1,5 @@
 -- What each call of a node does, on message values (our profile; RFC 1002 section 5.1).
-use Rattle.std.specs.Prelude.{◌≡◌, ℕ, ◌+◌, ◌*◌, Bool, true, false, ◌||◌, nat_eq, nat_lt, nat_le, is_some, if◌then◌else◌, List, [], ◌∷◌, map, slice_index, replicate, Option, Some, None}
+use Rattle.std.specs.Prelude.{◌≡◌, ℕ, ◌+◌, Bool, true, false, ◌||◌, nat_eq, nat_lt, nat_le, is_some, if◌then◌else◌, List, [], ◌∷◌, map, slice_index, replicate, Option, Some, None}
 use Rattle.nbt_name.specs.declared.addr.Addr.{Addr}
 use Rattle.nbt_name.specs.declared.addr.Kind.{Kind}
 use Rattle.nbt_name.specs.Wire.{NameValue}
@@ -7,6 +7,7 @@ use Rattle.nbt_packet.specs.Message.{MessageValue, query, status_request}
 use Rattle.nbt_packet.specs.Text.{text}
 use Rattle.nbt_packet.specs.Spelling.{Spells}
 use Rattle.nbt_lease.specs.Config.{ConfigValue}
+use Rattle.nbt_lease.specs.Drift.{quiet}
 use Rattle.nbt_node.specs.declared.fault.AskFault.{AskFault}
 use Rattle.nbt_node.specs.declared.fault.AskFault.TheVariants as asks
 use Rattle.nbt_node.specs.declared.fault.ReleaseFault.{ReleaseFault}
@@ -50,7 +51,7 @@ ask_refusal node now name =
     if nat_lt now node.last then Some asks.ClockBack
     else (if is_star name then Some asks.BadName
     else (if is_busy (state_at node now name) then Some asks.Busy
-    else (if is_quiet (state_at node now name) || nat_le now (node.start + 2 * node.config.life) then Some asks.Quiet
+    else (if is_quiet (state_at node now name) || nat_le now (node.start + quiet node.config.life) then Some asks.Quiet
     else (if has_room (map (settled_slot node.config.life now) node.slots) then None else Some asks.Full))))
 
 abbrev pub release_refusal : NodeValue → ℕ → NameValue → Option ReleaseFault

@@ -6,6 +6,7 @@ use Rattle.nbt_name.specs.Wire.{NameValue}
 use Rattle.nbt_packet.specs.declared.message.Registration.{Registration}
 use Rattle.nbt_packet.specs.Message.{MessageValue, registration, refresh, release, registered, released, wait}
 use Rattle.nbt_lease.specs.Config.{granted}
+use Rattle.nbt_lease.specs.Drift.{hold, quiet}
 use Rattle.nbt_node.specs.declared.event.Event.{Event}
 use Rattle.nbt_node.specs.declared.event.Event.TheVariants as e
 use Rattle.nbt_node.specs.declared.state.State.{State}
@@ -63,7 +64,7 @@ is_next now tries due = nat_lt tries 3 && nat_le due now
 abbrev pub is_due : (life now : ℕ) → State → Bool
 is_due life now (Asking kind ttl id first last tries due) = is_next now tries due
 is_due life now (Releasing kind id last tries due) = is_next now tries due
-is_due life now (Held kind ttl until renew last None) = nat_le renew now && nat_lt (last + 2 * life) now
+is_due life now (Held kind ttl until renew last None) = nat_le renew now && nat_lt (last + quiet life) now
 is_due life now (Held kind ttl until renew last (Some p)) = is_next now p.tries p.due
 is_due life now Idle = false
 is_due life now (Resting last) = false
@@ -92,7 +93,7 @@ matters state message = false
 
 -- The table: a state, an event, the state afterwards, what is sent to the server, what is told, and the next id.
 pub data Move (node : NodeValue) (now : ℕ) (name : NameValue) : State → NameEvent → State → Option MessageValue → Told → ℕ → Type 0 where
-  asks : (kind : Kind) (ttl : ℕ) → node.start + 2 * node.config.life < now
+  asks : (kind : Kind) (ttl : ℕ) → node.start + quiet node.config.life < now
       → Move node now name Idle (ask kind ttl) (Asking kind ttl node.next_id now now 1 (next_due now)) (Some (registration (claim node node.next_id name kind ttl))) nothing (id_after node.next_id)
   gives_back : (kind : Kind) (ttl until renew last : ℕ) (pending : Option Refresh)
       → Move node now name (Held kind ttl until renew last pending) give_back (Releasing kind node.next_id now 1 (next_due now)) (Some (release node.next_id name kind node.addr.ip)) nothing (id_after node.next_id)
@@ -104,14 +105,14 @@ pub data Move (node : NodeValue) (now : ℕ) (name : NameValue) : State → Name
   refreshes_again : (kind : Kind) (ttl until renew last : ℕ) (p : Refresh) → is_next now p.tries p.due ≡ true
       → Move node now name (Held kind ttl until renew last (Some p)) poll (Held kind ttl until renew now (Some (record { id = p.id; first = p.first; tries = p.tries + 1; due = next_due now })))
       (Some (refresh (claim node p.id name kind ttl))) nothing node.next_id
-  refreshes : (kind : Kind) (ttl until renew last : ℕ) → renew ≤ now → last + 2 * node.config.life < now
+  refreshes : (kind : Kind) (ttl until renew last : ℕ) → renew ≤ now → last + quiet node.config.life < now
       → Move node now name (Held kind ttl until renew last None) poll (Held kind ttl until renew now (Some (record { id = node.next_id; first = now; tries = 1; due = next_due now })))
       (Some (refresh (claim node node.next_id name kind ttl))) nothing (id_after node.next_id)
   -- a reply of the server: a hold is counted from the transaction's first sending
   granted_to : (kind : Kind) (ttl id first last tries due : ℕ) (r : Registration) → r.id ≡ id
-      → Move node now name (Asking kind ttl id first last tries due) (hear (registered 0 r)) (Held kind ttl (first + 1000 * granted node.config.longest r.ttl) (first + 500 * granted node.config.longest r.ttl) last None) None (is_granted (granted node.config.longest r.ttl)) node.next_id
+      → Move node now name (Asking kind ttl id first last tries due) (hear (registered 0 r)) (Held kind ttl (first + hold (granted node.config.longest r.ttl)) (first + 500 * granted node.config.longest r.ttl) last None) None (is_granted (granted node.config.longest r.ttl)) node.next_id
   renewed_to : (kind : Kind) (ttl until renew last : ℕ) (p : Refresh) (r : Registration) → r.id ≡ p.id
-      → Move node now name (Held kind ttl until renew last (Some p)) (hear (registered 0 r)) (Held kind ttl (p.first + 1000 * granted node.config.longest r.ttl) (p.first + 500 * granted node.config.longest r.ttl) last None) None (is_renewed (granted node.config.longest r.ttl)) node.next_id
+      → Move node now name (Held kind ttl until renew last (Some p)) (hear (registered 0 r)) (Held kind ttl (p.first + hold (granted node.config.longest r.ttl)) (p.first + 500 * granted node.config.longest r.ttl) last None) None (is_renewed (granted node.config.longest r.ttl)) node.next_id
   refused_to : (kind : Kind) (ttl id first last tries due rcode : ℕ) (r : Registration) → r.id ≡ id → rcode ≢ 0
       → Move node now name (Asking kind ttl id first last tries due) (hear (registered rcode r)) (Resting last) None (is_refused rcode) node.next_id
   loses_asked : (kind : Kind) (ttl id first last tries due : ℕ) (r : Registration) → r.id ≢ id

@@ -1,5 +1,6 @@
 -- What time alone makes of a name's state (our profile).
-use Rattle.std.specs.Prelude.{ℕ, ◌+◌, ◌*◌, Bool, ◌&&◌, nat_lt, nat_le, if◌then◌else◌, Option, Some, None}
+use Rattle.std.specs.Prelude.{ℕ, ◌+◌, Bool, ◌&&◌, nat_lt, nat_le, if◌then◌else◌, Option, Some, None}
+use Rattle.nbt_lease.specs.Drift.{quiet}
 use Rattle.nbt_node.specs.declared.state.State.{State}
 use Rattle.nbt_node.specs.declared.state.State.TheVariants.{Idle, Asking, Held, Releasing, Resting}
 use Rattle.nbt_node.specs.declared.state.Refresh.{Refresh}
@@ -8,9 +9,9 @@ use Rattle.nbt_node.specs.declared.state.Refresh.{Refresh}
 abbrev pub is_over : (now tries due : ℕ) → Bool
 is_over now tries due = nat_le 3 tries && nat_le due now
 
--- a name rests until more than twice the life has passed since the last sending about it
+-- a name rests from the last sending about it, until more than the quiet time of this life has passed
 abbrev pub rested : (life now last : ℕ) → State
-rested life now last = if nat_lt (last + 2 * life) now then Idle else Resting last
+rested life now last = if nat_lt (last + quiet life) now then Idle else Resting last
 
 abbrev pub pending_at : (now : ℕ) → Option Refresh → Option Refresh
 pending_at now None = None
