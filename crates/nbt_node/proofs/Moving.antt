@@ -1,5 +1,5 @@
 -- What a call that moves one name makes of the node.
-use Rattle.std.proofs.Common.{◌≡◌, ◌≢◌, ℕ, ◌+◌, ◌*◌, ◌<◌, ◌≤◌, Bool, true, false, cond, List, [], length, map, Option, Some, None, refl, sym, ap, subst, ◌∙◌, inl, inr, leb-false}
+use Rattle.std.proofs.Common.{◌≡◌, ◌≢◌, ℕ, ◌+◌, ◌<◌, ◌≤◌, Bool, true, false, cond, List, [], length, map, Option, Some, None, refl, sym, ap, subst, ◌∙◌, inl, inr, leb-false}
 use Rattle.std.specs.Prelude.{◌⊎◌, ◌||◌, nat_lt, nat_le, MatchOption}
 use Rattle.std.proofs.lemmas.List.{length-map}
 use Rattle.std.proofs.Math.Nat.{le_trans}
@@ -7,6 +7,7 @@ use Rattle.nbt_name.specs.declared.addr.Addr.{Addr}
 use Rattle.nbt_name.specs.declared.addr.Kind.{Kind}
 use Rattle.nbt_name.specs.Wire.{NameValue}
 use Rattle.nbt_packet.specs.Message.{MessageValue, message_of}
+use Rattle.nbt_lease.specs.Drift.{quiet}
 use Rattle.nbt_node.specs.declared.fault.AskFault.TheVariants as fault
 use Rattle.nbt_node.specs.declared.lookup.Lookup.{Lookup}
 use Rattle.nbt_node.specs.declared.polling.Sending.{Sending}
@@ -98,7 +99,7 @@ module _ (old new : NodeValue) (now : ℕ) (name : NameValue) where
 
 pub record MayAsk (node : NodeValue) (now : ℕ) (name : NameValue) : Type 0 where
   pub idle : state_at node now name ≡ Idle
-  pub rested : node.start + 2 * node.config.life < now
+  pub rested : node.start + quiet node.config.life < now
   pub room : has_room (map (settled_slot node.config.life now) node.slots) ≡ true
 
 none_of : {X : Type 0} (b : Bool) (x : X) (o : Option X) → None ≡ cond b (Some x) o → (b ≡ false) × (None ≡ o)
@@ -110,23 +111,23 @@ or_false true b e = absurd cc
 or_false false b e = (refl, e)
 
 neither_is_idle : (state : State) → is_busy state ≡ false → is_quiet state ≡ false → state ≡ Idle
-neither_is_idle Idle busy quiet = refl
-neither_is_idle (Asking kind ttl id first last tries due) busy quiet = absurd cc
-neither_is_idle (Held kind ttl until renew last pending) busy quiet = absurd cc
-neither_is_idle (Releasing kind id last tries due) busy quiet = absurd cc
-neither_is_idle (Resting last) busy quiet = absurd cc
+neither_is_idle Idle busy rests = refl
+neither_is_idle (Asking kind ttl id first last tries due) busy rests = absurd cc
+neither_is_idle (Held kind ttl until renew last pending) busy rests = absurd cc
+neither_is_idle (Releasing kind id last tries due) busy rests = absurd cc
+neither_is_idle (Resting last) busy rests = absurd cc
 
 pub may_ask : (node : NodeValue) (now : ℕ) (name : NameValue) → None ≡ ask_refusal node now name → MayAsk node now name
 may_ask node now name e =
     let clock = none_of (nat_lt now node.last) _ _ e in
     let star = none_of _ _ _ clock.1 in
     let busy = none_of (is_busy (state_at node now name)) _ _ star.1 in
-    let quiet = none_of (is_quiet (state_at node now name) || nat_le now (node.start + 2 * node.config.life)) _ _ busy.1 in
-    let still = or_false (is_quiet (state_at node now name)) (nat_le now (node.start + 2 * node.config.life)) quiet.0 in
+    let rests = none_of (is_quiet (state_at node now name) || nat_le now (node.start + quiet node.config.life)) _ _ busy.1 in
+    let still = or_false (is_quiet (state_at node now name)) (nat_le now (node.start + quiet node.config.life)) rests.0 in
     record {
       idle = neither_is_idle (state_at node now name) busy.0 still.0;
-      rested = above now (node.start + 2 * node.config.life) still.1;
-      room = roomy (has_room (map (settled_slot node.config.life now) node.slots)) quiet.1;
+      rested = above now (node.start + quiet node.config.life) still.1;
+      room = roomy (has_room (map (settled_slot node.config.life now) node.slots)) rests.1;
     }
   where
     above : (a b : ℕ) → nat_le a b ≡ false → b < a

@@ -6,6 +6,7 @@ use Rattle.nbt_name.specs.Wire.{NameValue}
 use Rattle.nbt_packet.specs.declared.message.Registration.{Registration}
 use Rattle.nbt_packet.specs.Message.{MessageValue, registration, refresh, release, registered, released, wait}
 use Rattle.nbt_lease.specs.Config.{granted}
+use Rattle.nbt_lease.specs.Drift.{hold}
 use Rattle.nbt_node.specs.declared.state.State.{State}
 use Rattle.nbt_node.specs.declared.state.State.TheVariants.{Idle, Asking, Held, Releasing, Resting}
 use Rattle.nbt_node.specs.declared.state.Refresh.{Refresh}
@@ -26,13 +27,13 @@ module _ (node : NodeValue) (now : ℕ) (name : NameValue) where
   abbrev opening : State → MessageValue → Outcome
   opening state sent = record { state = state; sent = Some sent; told = nothing; next = id_after node.next_id }
 
-  abbrev hold : Kind → (ttl first last seconds : ℕ) → State
-  hold kind ttl first last seconds = Held kind ttl (first + 1000 * seconds) (first + 500 * seconds) last None
+  abbrev held_for : Kind → (ttl first last seconds : ℕ) → State
+  held_for kind ttl first last seconds = Held kind ttl (first + hold seconds) (first + 500 * seconds) last None
 
   abbrev on_reply : State → MessageValue → Outcome
   on_reply (Asking kind ttl id first last tries due) (registered rcode r) =
       if nat_eq r.id id
-      then (if nat_eq rcode 0 then now_in (hold kind ttl first last (granted node.config.longest r.ttl)) None (is_granted (granted node.config.longest r.ttl)) else now_in (Resting last) None (is_refused rcode))
+      then (if nat_eq rcode 0 then now_in (held_for kind ttl first last (granted node.config.longest r.ttl)) None (is_granted (granted node.config.longest r.ttl)) else now_in (Resting last) None (is_refused rcode))
       else (if nat_eq rcode 7 then now_in (Resting last) None is_lost else now_in (Asking kind ttl id first last tries due) None nothing)
   on_reply (Asking kind ttl id first last tries due) (wait w n t) =
       if nat_eq w id then now_in (Asking kind ttl id first last tries (put_off now t)) None waits else now_in (Asking kind ttl id first last tries due) None nothing
@@ -40,7 +41,7 @@ module _ (node : NodeValue) (now : ℕ) (name : NameValue) where
       if nat_eq rcode 7 then now_in (Resting last) None is_lost else now_in (Held kind ttl until renew last None) None nothing
   on_reply (Held kind ttl until renew last (Some p)) (registered rcode r) =
       if nat_eq r.id p.id
-      then (if nat_eq rcode 0 then now_in (hold kind ttl p.first last (granted node.config.longest r.ttl)) None (is_renewed (granted node.config.longest r.ttl)) else now_in (Resting last) None is_lost)
+      then (if nat_eq rcode 0 then now_in (held_for kind ttl p.first last (granted node.config.longest r.ttl)) None (is_renewed (granted node.config.longest r.ttl)) else now_in (Resting last) None is_lost)
       else (if nat_eq rcode 7 then now_in (Resting last) None is_lost else now_in (Held kind ttl until renew last (Some p)) None nothing)
   on_reply (Held kind ttl until renew last (Some p)) (wait w n t) =
       if nat_eq w p.id then now_in (Held kind ttl until renew last (Some (record p { due = put_off now t }))) None waits else now_in (Held kind ttl until renew last (Some p)) None nothing
@@ -87,7 +88,7 @@ module _ (node : NodeValue) (now : ℕ) (name : NameValue) where
   lost kind ttl until renew last rcode (Some p) r bad (inl same) = rw (same, ne_eqb rcode 0 bad) refl
   lost kind ttl until renew last rcode (Some p) r bad (inr seven) = go (eqb r.id p.id)
     where
-      go : (b : Bool) → cond b (cond (eqb rcode 0) (now_in (hold kind ttl p.first last (granted node.config.longest r.ttl)) None (is_renewed (granted node.config.longest r.ttl))) (now_in (Resting last) None is_lost))
+      go : (b : Bool) → cond b (cond (eqb rcode 0) (now_in (held_for kind ttl p.first last (granted node.config.longest r.ttl)) None (is_renewed (granted node.config.longest r.ttl))) (now_in (Resting last) None is_lost))
           (cond (eqb rcode 7) (now_in (Resting last) None is_lost) (now_in (Held kind ttl until renew last (Some p)) None nothing)) ≡ now_in (Resting last) None is_lost
       go true = rw (ne_eqb rcode 0 bad) refl
       go false = rw (eq-eqb rcode 7 seven) refl

@@ -1,9 +1,10 @@
 -- Settling in steps.
-use Rattle.std.proofs.Common.{◌≡◌, ℕ, ◌+◌, ◌*◌, ◌≤◌, Bool, true, false, leb, List, [], ◌∷◌, map, Option, Some, None, refl, ap, ◌∙◌, arith, inl, inr, le-leb, lt-ltb, le-ltb, leb-true}
+use Rattle.std.proofs.Common.{◌≡◌, ℕ, ◌+◌, ◌≤◌, Bool, true, false, leb, List, [], ◌∷◌, map, Option, Some, None, refl, ap, ◌∙◌, arith, inl, inr, le-leb, lt-ltb, le-ltb, leb-true}
 use Rattle.std.specs.Prelude.{◌⊎◌}
 use Rattle.std.proofs.lemmas.Bool.{and_parts, and_from}
 use Rattle.std.proofs.lemmas.Bool.Decides.{leb_tells}
 use Rattle.nbt_name.specs.Wire.{NameValue}
+use Rattle.nbt_lease.specs.Drift.{quiet}
 use Rattle.nbt_node.specs.declared.lookup.Lookup.{Lookup}
 use Rattle.nbt_node.specs.declared.state.Slot.{Slot}
 use Rattle.nbt_node.specs.declared.state.State.{State}
@@ -14,9 +15,9 @@ use Rattle.nbt_node.specs.Settling.{is_over, rested, pending_at, settled}
 
 module _ (life a b : ℕ) (later : a ≤ b) where
   settled-rested : (last : ℕ) → settled life b (rested life a last) ≡ rested life b last
-  settled-rested last = elim (leb_tells a (last + 2 * life)) [
-    | inl rests ↦ rw (le-ltb (last + 2 * life) a rests.1) refl
-    | inr gone ↦ rw (lt-ltb (last + 2 * life) a gone.1, lt-ltb (last + 2 * life) b (omega (arith, gone.1))) refl
+  settled-rested last = elim (leb_tells a (last + quiet life)) [
+    | inl rests ↦ rw (le-ltb (last + quiet life) a rests.1) refl
+    | inr gone ↦ rw (lt-ltb (last + quiet life) a gone.1, lt-ltb (last + quiet life) b (omega (arith, gone.1))) refl
   ]
 
   over_later : (tries due : ℕ) → is_over a tries due ≡ true → is_over b tries due ≡ true

@@ -7,6 +7,7 @@ use Rattle.nbt_name.specs.Wire.{NameValue}
 use Rattle.nbt_packet.specs.declared.message.Registration.{Registration}
 use Rattle.nbt_packet.specs.Message.{MessageValue, registered, release}
 use Rattle.nbt_lease.specs.Config.{granted}
+use Rattle.nbt_lease.specs.Drift.{hold}
 use Rattle.nbt_node.specs.declared.state.State.{State}
 use Rattle.nbt_node.specs.declared.state.State.TheVariants.{Idle, Asking, Held, Releasing, Resting}
 use Rattle.nbt_node.specs.declared.state.Refresh.{Refresh}
@@ -53,13 +54,13 @@ module _ (node : NodeValue) (now : ℕ) (name : NameValue) where
       rw is (loses_held kind ttl until renew last rcode pending r bad (inl (rw one (eq-eqb r.id p.id same))))
 
   pub asking_granted : (state after : State) (kind : Kind) (ttl id first last tries due rcode seconds : ℕ) (r : Registration) → state ≡ Asking kind ttl id first last tries due → r.id ≡ id → rcode ≡ 0
-      → granted node.config.longest r.ttl ≡ seconds → after ≡ Held kind ttl (first + 1000 * seconds) (first + 500 * seconds) last None
+      → granted node.config.longest r.ttl ≡ seconds → after ≡ Held kind ttl (first + hold seconds) (first + 500 * seconds) last None
       → Move node now name state (hear (registered rcode r)) after None (is_granted seconds) node.next_id
   asking_granted state after kind ttl id first last tries due rcode seconds r is same good g held =
       rw (is, good, held, ← g) (granted_to kind ttl id first last tries due r same)
 
   pub held_renewed : (state after : State) (kind : Kind) (ttl until renew last : ℕ) (pending : Option Refresh) (p : Refresh) (rcode seconds : ℕ) (r : Registration) → state ≡ Held kind ttl until renew last pending
-      → pending ≡ Some p → r.id ≡ p.id → rcode ≡ 0 → granted node.config.longest r.ttl ≡ seconds → after ≡ Held kind ttl (p.first + 1000 * seconds) (p.first + 500 * seconds) last None
+      → pending ≡ Some p → r.id ≡ p.id → rcode ≡ 0 → granted node.config.longest r.ttl ≡ seconds → after ≡ Held kind ttl (p.first + hold seconds) (p.first + 500 * seconds) last None
       → Move node now name state (hear (registered rcode r)) after None (is_renewed seconds) node.next_id
   held_renewed state after kind ttl until renew last pending p rcode seconds r is one same good g held =
       rw (is, one, good, held, ← g) (renewed_to kind ttl until renew last p r same)

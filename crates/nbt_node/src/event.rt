@@ -7,10 +7,10 @@ pub enum Event<'a> {
     Nothing,
     /// A status request: the reply to its sender stands in the buffer.
     Reply,
-    /// The name that was asked for is held, for these seconds from the first sending of the request. They may have
-    /// passed already.
+    /// The name that was asked for is granted for these seconds. It is held for `Config::hold` of them from the first
+    /// sending of the request, which may have passed already.
     Granted(u32),
-    /// The hold was renewed, for these seconds from the first sending of the refresh. They may have passed already.
+    /// The hold was renewed for these seconds, and is counted so from the first sending of the refresh.
     Renewed(u32),
     /// The name that was asked for isn't granted, with this RCODE (RFC 1002 section 4.2.6).
     Refused(u8),

@@ -10,7 +10,7 @@ use thiserror::Error;
 #[derive(Clone, Copy, Debug, PartialEq, Eq, Error)]
 pub enum AskFault {
     /// 1: the name is being given back, or rests: since the node's start, or since the last sending about it, no more
-    /// than twice a datagram's life has passed, so that an old datagram may still be on its way.
+    /// than `Config::quiet()` has passed by the node's clock, so that an old datagram may still be on its way.
     #[error("Quiet")]
     Quiet,
     /// 2: the name was asked for already, or is held.

@@ -50,8 +50,9 @@ impl<const N: usize> Node<N> {
     ghost use Rattle.nbt_node.specs.Calls.{started, ask_refusal, release_refusal, resolve_refusal, status_refusal, Sends, Opens, Polls, slot_due, AreWritten};
     ghost use Rattle.nbt_node.specs.Datagrams.{Hears, Lists, Ends, Takes, Handles, is_listed_for};
 
-    /// A node at `addr` whose name server is at `server`. It knows nothing, and asks for nothing until more than twice
-    /// the greatest life of a datagram has passed (our profile). That `N` is 1 to 14 is the caller's.
+    /// A node at `addr` whose name server is at `server`. It knows nothing, and asks for nothing until more than
+    /// `Config::quiet()` has passed: two lives of a datagram, and what its clock may be fast by (our profile). All moments
+    /// that a node is given are of its own clock. That `N` is 1 to 14 is the caller's.
     pub fn start(addr: Addr, server: Addr, config: Config, now: Moment) -> Node<N>
         requires some { 1 ≤ N }
         requires few { N ≤ 14 }
@@ -103,15 +104,14 @@ impl<const N: usize> Node<N> {
         if name.is_star() {
             return Some(AskFault::BadName);
         }
-        let life = self.config.life();
-        let state = slots::state_in(&self.slots, name).settled(life, now);
+        let state = slots::state_in(&self.slots, name).settled(self.config, now);
         if state.is_busy() {
             return Some(AskFault::Busy);
         }
-        if state.is_quiet() || now.get() <= self.start.get() + 2 * life {
+        if state.is_quiet() || now.get() <= self.start.get() + self.config.quiet() {
             return Some(AskFault::Quiet);
         }
-        if !slots::has_room(&self.slots, life, now) {
+        if !slots::has_room(&self.slots, self.config, now) {
             return Some(AskFault::Full);
         }
         None
@@ -123,10 +123,9 @@ impl<const N: usize> Node<N> {
         ensures node { self.new ≡ changed self.old now name.now after.now next_id }
         ensures apart { AreDistinct self.old.slots }
     {
-        let life = self.config.life();
         Lookup::settle(&mut self.lookup, now);
-        slots::settle(&mut self.slots, life, now);
-        slots::change(&mut self.slots, name, &after.settled(life, now));
+        slots::settle(&mut self.slots, self.config, now);
+        slots::change(&mut self.slots, name, &after.settled(self.config, now));
         self.next_id = next_id;
         self.last = now;
     }
@@ -135,8 +134,8 @@ impl<const N: usize> Node<N> {
     /// NAME REGISTRATION REQUEST for the server, and nothing else (RFC 1002 section 4.2.2). Refused in this order, the
     /// node staying as it was and `out` empty: `ClockBack` (4), where `now` is before the node's start or the moment of
     /// an earlier call that wasn't refused; `BadName` (5), where the name begins with `*`; `Busy` (2), where the name was
-    /// asked for already or is held; `Quiet` (1), where the name is being given back, or no more than twice the greatest
-    /// life of a datagram has passed since the node's start, or since the last sending about the name; `Full` (3), where
+    /// asked for already or is held; `Quiet` (1), where the name is being given back, or no more than
+    /// `Config::quiet()` has passed since the node's start, or since the last sending about the name; `Full` (3), where
     /// no slot is free.
     pub fn ask(
         &mut self,
@@ -172,10 +171,10 @@ impl<const N: usize> Node<N> {
     }
 
     /// Gives the name back: `out` then holds the NAME RELEASE REQUEST for the server, and nothing else (RFC 1002 section
-    /// 4.2.9). The name isn't held any more, and may not be asked for until more than twice the greatest life of a
-    /// datagram has passed since the last sending about it. Refused in this order, the node staying as it was and `out`
-    /// empty: `ClockBack` (4), where `now` is before the node's start or the moment of an earlier call that wasn't
-    /// refused; `NotHeld` (1), where the name isn't held.
+    /// 4.2.9). The name isn't held any more, and may not be asked for until more than `Config::quiet()` has passed since
+    /// the last sending about it. Refused in this order, the node staying as it was and `out` empty: `ClockBack` (4),
+    /// where `now` is before the node's start or the moment of an earlier call that wasn't refused; `NotHeld` (1), where
+    /// the name isn't held.
     pub fn release(
         &mut self,
         now: Moment,
@@ -215,14 +214,14 @@ impl<const N: usize> Node<N> {
         ensures apart { AreDistinct self.old.slots }
     {
         Lookup::settle(&mut self.lookup, now);
-        slots::settle(&mut self.slots, self.config.life(), now);
+        slots::settle(&mut self.slots, self.config, now);
         self.last = now;
     }
 
     /// Sends at most one datagram that is due at `now`: that of the lowest slot that has one, or else the lookup's.
     /// Returns the address for which it stands in `out`, or `None`, `out` being empty. Whoever polls calls until
     /// `None`. A request is sent again 5,000 ms after its last sending, three times in all, and a hold is refreshed
-    /// after half its time, but only where more than twice the greatest life of a datagram has passed since the last
+    /// after half of the seconds that were granted, but only where more than `Config::quiet()` has passed since the last
     /// sending about the name (RFC 1002 sections 5.1.2.6 and 6; the numbers are our profile's). Refused with
     /// `ClockBack` (4) where `now` is before the node's start or the moment of an earlier call that wasn't refused: the
     /// node stays as it was, and `out` is empty.
@@ -239,8 +238,7 @@ impl<const N: usize> Node<N> {
         if now.get() < self.last.get() {
             return Err(ClockBack);
         }
-        let life = self.config.life();
-        match first_due(&self.slots, self.addr.ip, self.next_id, life, now) {
+        match first_due(&self.slots, self.addr.ip, self.next_id, self.config, now) {
             Some(sending) => {
                 self.change(now, &sending.name, &sending.state, sending.next_id);
                 write(&sending.message, out);
@@ -549,6 +547,6 @@ impl<const N: usize> Node<N> {
     fn state_at(&self, now: Moment, name: &Name) -> State
         ensures { result ≡ state_at self.now now name.now }
     {
-        slots::state_in(&self.slots, name).settled(self.config.life(), now)
+        slots::state_in(&self.slots, name).settled(self.config, now)
     }
 }

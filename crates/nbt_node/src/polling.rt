@@ -14,7 +14,7 @@ ghost use Rattle.nbt_node.specs.Sending.{IsSending};
 use crate::asking::{claim, id_after, next_due, release};
 use crate::settling::SENDINGS;
 use crate::state::{Refresh, Slot, State};
-use nbt_lease::Moment;
+use nbt_lease::{Config, Moment};
 use nbt_name::Name;
 use nbt_packet::Message;
 
@@ -40,12 +40,11 @@ fn polled<'a>(
     name: &Name,
     own: u32,
     id: u16,
-    life: u64,
+    config: Config,
     now: Moment,
 ) -> Option<Sending<'a>>
-    requires { life ≤ 60000 }
-    ensures due { is_some result ≡ is_due life now state.now }
-    ensures sending { IfSome result (λ s. IsSending life now own id name.now state.now s) }
+    ensures due { is_some result ≡ is_due config.life now state.now }
+    ensures sending { IfSome result (λ s. IsSending config.life now own id name.now state.now s) }
 {
     match state {
         State::Asking {
@@ -106,7 +105,7 @@ fn polled<'a>(
             last,
             pending,
         } => {
-            let (refresh, next_id) = match next_refresh(pending, *renew, *last, id, life, now) {
+            let (refresh, next_id) = match next_refresh(pending, *renew, *last, id, config, now) {
                 Some(next) => next,
                 None => return None,
             };
@@ -136,12 +135,11 @@ fn next_refresh(
     renew: u64,
     last: Moment,
     id: u16,
-    life: u64,
+    config: Config,
     now: Moment,
 ) -> Option<(Refresh, u16)>
-    requires { life ≤ 60000 }
-    ensures due { (kind : NameKind) (ttl until : ℕ) → is_some result ≡ is_due life now (State.Held kind ttl until renew last pending.now) }
-    ensures moves { IfSome result (λ r. (node : NodeValue) (name : NameValue) (kind : NameKind) (ttl until : ℕ) → node.next_id ≡ id → node.config.life ≡ life
+    ensures due { (kind : NameKind) (ttl until : ℕ) → is_some result ≡ is_due config.life now (State.Held kind ttl until renew last pending.now) }
+    ensures moves { IfSome result (λ r. (node : NodeValue) (name : NameValue) (kind : NameKind) (ttl until : ℕ) → node.next_id ≡ id → node.config.life ≡ config.life
         → Move node now name (State.Held kind ttl until renew last pending.now) poll (State.Held kind ttl until renew now (Some r.0)) (Some (refresh (spec.claim node r.0.id name kind ttl))) nothing r.1) }
 {
     match pending {
@@ -158,7 +156,7 @@ fn next_refresh(
             Some((again, id))
         }
         None => {
-            if now.get() < renew || now.get() <= last.get() + 2 * life {
+            if now.get() < renew || now.get() <= last.get() + config.quiet() {
                 return None;
             }
             let opened = Refresh {
@@ -177,20 +175,19 @@ fn slot_due<'a>(
     slot: &Option<Slot>,
     own: u32,
     id: u16,
-    life: u64,
+    config: Config,
     now: Moment,
 ) -> Option<Sending<'a>>
-    requires { life ≤ 60000 }
-    ensures nothing_due { IsNone result → (rest : List (Option Kept)) → first_due life now (settled_slot life now slot.now ∷ rest) ≡ first_due life now rest }
-    ensures sending { IfSome result (λ s. (kept : Kept) × ((rest : List (Option Kept)) → first_due life now (settled_slot life now slot.now ∷ rest) ≡ Some kept) × IsSending life now own id kept.name kept.state s) }
+    ensures nothing_due { IsNone result → (rest : List (Option Kept)) → first_due config.life now (settled_slot config.life now slot.now ∷ rest) ≡ first_due config.life now rest }
+    ensures sending { IfSome result (λ s. (kept : Kept) × ((rest : List (Option Kept)) → first_due config.life now (settled_slot config.life now slot.now ∷ rest) ≡ Some kept) × IsSending config.life now own id kept.name kept.state s) }
 {
     match slot {
         Some(kept) => polled(
-            &kept.state.settled(life, now),
+            &kept.state.settled(config, now),
             &kept.name,
             own,
             id,
-            life,
+            config,
             now,
         ),
         None => None,
@@ -202,15 +199,14 @@ pub fn first_due<'a>(
     slots: &[Option<Slot>],
     own: u32,
     id: u16,
-    life: u64,
+    config: Config,
     now: Moment,
 ) -> Option<Sending<'a>>
-    requires { life ≤ 60000 }
-    ensures nothing_due { IsNone result → first_due life now (map (settled_slot life now) slots.now) ≡ None }
-    ensures sending { IfSome result (λ s. (kept : Kept) × (first_due life now (map (settled_slot life now) slots.now) ≡ Some kept) × IsSending life now own id kept.name kept.state s) }
+    ensures nothing_due { IsNone result → first_due config.life now (map (settled_slot config.life now) slots.now) ≡ None }
+    ensures sending { IfSome result (λ s. (kept : Kept) × (first_due config.life now (map (settled_slot config.life now) slots.now) ≡ Some kept) × IsSending config.life now own id kept.name kept.state s) }
 {
     for slot in slots {
-        match slot_due(slot, own, id, life, now) {
+        match slot_due(slot, own, id, config, now) {
             Some(sending) => return Some(sending),
             None => {}
         }

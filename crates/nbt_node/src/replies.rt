@@ -6,12 +6,13 @@ ghost use Rattle.nbt_name.specs.declared.addr.Kind.{Kind as NameKind};
 ghost use Rattle.nbt_packet.specs.declared.message.Registration.{Registration as Claim};
 ghost use Rattle.nbt_packet.specs.Message.{registered, released, wait};
 ghost use Rattle.nbt_lease.specs.Config.{granted};
+ghost use Rattle.nbt_lease.specs.Drift.{hold};
 ghost use Rattle.nbt_node.specs.Node.{NodeValue};
 ghost use Rattle.nbt_node.specs.Moves.{Move, hear, told_of, nothing, is_lost, waits, matters, put_off};
 
 use crate::event::Event;
 use crate::state::{Refresh, State};
-use nbt_lease::Moment;
+use nbt_lease::{Config, Moment};
 use nbt_name::Kind;
 
 /// RCODE of a conflict demand (RFC 1002 section 4.2.8).
@@ -49,17 +50,17 @@ fn rests<'a>(last: Moment, event: Event<'a>) -> Outcome<'a>
     }
 }
 
-/// A hold of these seconds from the transaction's first sending; half of them later it is refreshed.
+/// A hold for what was granted, counted from the transaction's first sending: it ends before the lease, also where the
+/// node's clock is slow. It is refreshed after half of the seconds.
 fn hold(kind: Kind, ttl: u32, first: Moment, last: Moment, seconds: u32) -> State
     requires { seconds ≤ 1000000 }
-    ensures { result ≡ State.Held kind ttl (first + 1000 * seconds) (first + 500 * seconds) last None }
+    ensures { result ≡ State.Held kind ttl (first + hold seconds) (first + 500 * seconds) last None }
 {
-    let seconds = u64::from(seconds);
     State::Held {
         kind,
         ttl,
-        until: first.get() + 1000 * seconds,
-        renew: first.get() + 500 * seconds,
+        until: first.get() + Config::hold(seconds),
+        renew: first.get() + 500 * u64::from(seconds),
         last,
         pending: None,
     }
@@ -77,7 +78,7 @@ fn demanded<'a>(state: &State, last: Moment, rcode: u8) -> Outcome<'a>
 }
 
 /// What the reply to a registration or a refresh, with this RCODE and id, makes of a name. A hold is counted from the
-/// transaction's first sending, for the seconds that the reply's TTL grants. A conflict demand (RCODE 7) drops a name
+/// transaction's first sending, and is `Config::hold` of the seconds that the reply's TTL grants. A conflict demand (RCODE 7) drops a name
 /// that is asked for or held, whatever its id (our profile).
 pub fn on_registered<'a>(state: &State, rcode: u8, id: u16, seconds: u32) -> Outcome<'a>
     requires { seconds ≤ 1000000 }

@@ -1,10 +1,10 @@
 //! What time alone makes of a name's state (our profile).
 
-ghost use Rattle.std.specs.Prelude.{◌≡◌, ◌≤◌};
+ghost use Rattle.std.specs.Prelude.{◌≡◌};
 ghost use Rattle.nbt_node.specs.Settling.{is_over, rested, pending_at, settled};
 
 use crate::state::{Refresh, State};
-use nbt_lease::Moment;
+use nbt_lease::{Config, Moment};
 use nbt_name::Kind;
 
 /// How often a request is sent in all (RFC 1002 section 6).
@@ -17,13 +17,12 @@ pub fn is_over(tries: u8, due: u64, now: Moment) -> bool
     tries >= SENDINGS && due <= now.get()
 }
 
-/// A name rests until more than twice the life has passed since the last sending about it: an old request may live
-/// one life, and its reply one more.
-pub fn rested(last: Moment, life: u64, now: Moment) -> State
-    requires { life ≤ 60000 }
-    ensures { result ≡ rested life now last }
+/// A name rests until more than `Config::quiet()` has passed since the last sending about it: an old request may live
+/// one life, its reply one more, and the node's clock may be fast.
+pub fn rested(last: Moment, config: Config, now: Moment) -> State
+    ensures { result ≡ rested config.life now last }
 {
-    if last.get() + 2 * life < now.get() {
+    if last.get() + config.quiet() < now.get() {
         State::Idle
     } else {
         State::Resting { last }
@@ -42,9 +41,8 @@ impl State {
     ghost use Rattle.nbt_node.specs.Calls.{is_busy, is_quiet, held_kind};
 
     /// The state in which time's own moves end at `now`.
-    pub fn settled(&self, life: u64, now: Moment) -> State
-        requires { life ≤ 60000 }
-        ensures { result ≡ settled life now self.now }
+    pub fn settled(&self, config: Config, now: Moment) -> State
+        ensures { result ≡ settled config.life now self.now }
     {
         match self {
             State::Asking {
@@ -58,8 +56,8 @@ impl State {
                 tries,
                 due,
                 ..
-            } if is_over(*tries, *due, now) => rested(*last, life, now),
-            State::Held { until, last, .. } if *until <= now.get() => rested(*last, life, now),
+            } if is_over(*tries, *due, now) => rested(*last, config, now),
+            State::Held { until, last, .. } if *until <= now.get() => rested(*last, config, now),
             State::Held {
                 kind,
                 ttl,
@@ -75,7 +73,7 @@ impl State {
                 last: *last,
                 pending: pending_at(*pending, now),
             },
-            State::Resting { last } => rested(*last, life, now),
+            State::Resting { last } => rested(*last, config, now),
             State::Idle | State::Asking { .. } | State::Releasing { .. } => *self,
         }
     }

@@ -5,7 +5,7 @@ ghost use Rattle.nbt_node.specs.Node.{same_name, state_in, slot_of, settled_slot
 ghost use Rattle.nbt_node.specs.Settling.{settled};
 
 use crate::state::{Slot, State};
-use nbt_lease::Moment;
+use nbt_lease::{Config, Moment};
 use nbt_name::Name;
 
 /// Whether two names are one.
@@ -30,12 +30,11 @@ pub fn state_in(slots: &[Option<Slot>], name: &Name) -> State
 }
 
 /// What time makes of a slot.
-fn settle_slot(slot: &mut Option<Slot>, life: u64, now: Moment)
-    requires { life ≤ 60000 }
-    ensures { slot.new ≡ settled_slot life now slot.old }
+fn settle_slot(slot: &mut Option<Slot>, config: Config, now: Moment)
+    ensures { slot.new ≡ settled_slot config.life now slot.old }
 {
     if let Some(kept) = slot {
-        let state = kept.state.settled(life, now);
+        let state = kept.state.settled(config, now);
         if state == State::Idle {
             *slot = None;
         } else {
@@ -45,33 +44,30 @@ fn settle_slot(slot: &mut Option<Slot>, life: u64, now: Moment)
 }
 
 /// Settles every name at `now`.
-pub fn settle(slots: &mut [Option<Slot>], life: u64, now: Moment)
-    requires { life ≤ 60000 }
-    ensures { slots.new ≡ map (settled_slot life now) slots.old }
+pub fn settle(slots: &mut [Option<Slot>], config: Config, now: Moment)
+    ensures { slots.new ≡ map (settled_slot config.life now) slots.old }
 {
     for slot in slots.iter_mut() {
-        settle_slot(slot, life, now);
+        settle_slot(slot, config, now);
     }
 }
 
 /// Whether a slot is free once time has done its own at `now`.
-fn is_free(slot: &Option<Slot>, life: u64, now: Moment) -> bool
-    requires { life ≤ 60000 }
-    ensures { result ≡ is_none (settled_slot life now slot.now) }
+fn is_free(slot: &Option<Slot>, config: Config, now: Moment) -> bool
+    ensures { result ≡ is_none (settled_slot config.life now slot.now) }
 {
     match slot {
-        Some(kept) => kept.state.settled(life, now) == State::Idle,
+        Some(kept) => kept.state.settled(config, now) == State::Idle,
         None => true,
     }
 }
 
 /// Whether a slot is free once every name is settled at `now`.
-pub fn has_room(slots: &[Option<Slot>], life: u64, now: Moment) -> bool
-    requires { life ≤ 60000 }
-    ensures { result ≡ has_room (map (settled_slot life now) slots.now) }
+pub fn has_room(slots: &[Option<Slot>], config: Config, now: Moment) -> bool
+    ensures { result ≡ has_room (map (settled_slot config.life now) slots.now) }
 {
     for slot in slots {
-        if is_free(slot, life, now) {
+        if is_free(slot, config, now) {
             return true;
         }
     }

@@ -43,7 +43,7 @@ pub enum State {
         tries: u8,
         due: u64,
     },
-    /// The name may not be asked for until more than twice a datagram's life has passed since the last sending.
+    /// The name may not be asked for until more than `Config::quiet()` has passed since the last sending.
     Resting {
         last: Moment,
     },

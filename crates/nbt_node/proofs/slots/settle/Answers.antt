@@ -5,4 +5,4 @@ use Rattle.nbt_node.proofs.slots.settle.Goals as goal
 
 pub loop-slot-preserved : goal.loop-slot-preserved
 loop-slot-preserved c =
-    rw (c.settle_slot.ensures, ← c.slot-item.is) (map_over_more (settled_slot c.args.life c.args.now) c.args.slots.now c.loop-slot.slots c.loop-slot.slot-index c.slot-item.result (omega arith) c.loop-slot.invariant c.slot-item.is)
+    rw (c.settle_slot.ensures, ← c.slot-item.is) (map_over_more (settled_slot c.args.config.life c.args.now) c.args.slots.now c.loop-slot.slots c.loop-slot.slot-index c.slot-item.result (omega arith) c.loop-slot.invariant c.slot-item.is)

@@ -5,5 +5,5 @@ use Rattle.nbt_node.proofs.node.Node.change.Goals as goal
 
 pub invariant_of-self : goal.invariant_of-self
 invariant_of-self g c =
-    keeps _ _ g.row.N c.life-life.result c.args.now c.self.inside.slots c.settle-2.new.slots c.change.new.slots c.args.name.now c.settled.result c.self.invariant refl refl c.settle-2.ensures c.change.ensures refl refl
+    keeps _ _ g.row.N c.self.inside.config.life c.args.now c.self.inside.slots c.settle-2.new.slots c.change.new.slots c.args.name.now c.settled.result c.self.invariant refl refl c.settle-2.ensures c.change.ensures refl refl
     (subst (λ (n : NodeValue). n.last ≤ c.args.now) (sym c.self.view_is) c.requires)

@@ -1,7 +1,7 @@
-use Rattle.std.proofs.Common.{◌≡◌, ℕ, Some, map, ap, subst, ◌∙◌}
+use Rattle.std.proofs.Common.{◌≡◌, Some, ap, subst, ◌∙◌}
 use Rattle.nbt_node.specs.declared.state.Slot.{Slot}
-use Rattle.nbt_node.specs.Node.{NodeValue, settled_slot}
-use Rattle.nbt_node.specs.Calls.{first_due, slot_due}
+use Rattle.nbt_node.specs.Node.{NodeValue}
+use Rattle.nbt_node.specs.Calls.{slot_due}
 use Rattle.nbt_node.specs.Sending.{IsSending}
 use Rattle.nbt_node.proofs.Moving.{polls_sending}
 use Rattle.nbt_node.proofs.node.Node.poll.Goals as goal
@@ -12,11 +12,11 @@ returns-in-Some-clause-ok g c =
     let kept : Slot = c.in-Some.ensures.sending.0 in
     let due : slot_due old c.args.now ≡ Some kept =
     subst (λ (n : NodeValue). slot_due n c.args.now ≡ Some kept) c.self.view_is
-    (subst (λ (life : ℕ). first_due life c.args.now (map (settled_slot life c.args.now) c.self.inside.slots) ≡ Some kept) c.life-life.ensures.value c.in-Some.ensures.sending.1)
+    c.in-Some.ensures.sending.1
     in
     let sends : IsSending old.config.life c.args.now old.addr.ip old.next_id kept.name kept.state c.in-Some.sending =
     subst (λ (n : NodeValue). IsSending n.config.life c.args.now n.addr.ip n.next_id kept.name kept.state c.in-Some.sending) c.self.view_is
-    (subst (λ (life : ℕ). IsSending life c.args.now c.self.inside.addr.ip c.self.inside.next_id kept.name kept.state c.in-Some.sending) c.life-life.ensures.value c.in-Some.ensures.sending.2)
+    c.in-Some.ensures.sending.2
     in
     let server_is : c.self-in-Some.inside.server ≡ old.server = ap (λ (n : NodeValue). n.server) (c.self-in-Some.view_is ∙ c.change.ensures.node) in
     rw server_is
