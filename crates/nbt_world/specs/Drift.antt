@@ -15,15 +15,15 @@ later moment ms = min (moment + ms) (2 ^ 60)
 
 -- The end's reading kept the drift bound between these two moments.
 abbrev pub IsBounded : (early late : Clocks) → (number : ℕ) → Type 0
-IsBounded early late number = KeepsDriftBound early.now (reading early number) late.now (reading late number)
+IsBounded early late number = KeepsDriftBound early.clock (reading early number) late.clock (reading late number)
 
 -- With D the true clock and C the reading: 1000 * C - 1001 * D, and 999 * D - 1000 * C, each more by what makes it a
 -- natural number. Neither grows by more than 1,000 while the bound is kept.
 abbrev pub ahead : Clocks → (number : ℕ) → ℕ
-ahead clocks number = 1000 * reading clocks number + 1001 * (2 ^ 60 - clocks.now)
+ahead clocks number = 1000 * reading clocks number + 1001 * (2 ^ 60 - clocks.clock)
 
 abbrev pub behind : Clocks → (number : ℕ) → ℕ
-behind clocks number = 999 * clocks.now + 1000 * (2 ^ 60 - reading clocks number)
+behind clocks number = 999 * clocks.clock + 1000 * (2 ^ 60 - reading clocks number)
 
 -- the least of them so far, of the end of this number
 abbrev pub least_of : List Least → (number : ℕ) → Least

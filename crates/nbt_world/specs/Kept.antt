@@ -122,7 +122,7 @@ Holds (Some k) kind end = HoldsIn k.state kind end
 -- open, by a positive reply that may still be delivered.
 pub data Claims (longest life clock : ℕ) (replied : Clocks → MessageValue → Type 0) (k : Option Known) : Kind → (end : ℕ) → Type 0 where
   has : (kind : Kind) (end : ℕ) → Holds k kind end → Claims longest life clock replied k kind end
-  may_get : (kind : Kind) (first : ℕ) (moment : Clocks) (r : Registration) → IsOpen k kind first → replied moment (registered 0 r) → IsDeliverable life clock moment.now
+  may_get : (kind : Kind) (first : ℕ) (moment : Clocks) (r : Registration) → IsOpen k kind first → replied moment (registered 0 r) → IsDeliverable life clock moment.clock
       → Claims longest life clock replied k kind (first + hold (granted longest r.ttl))
 
 -- ---- what the server has for it
@@ -154,23 +154,23 @@ pub record IsCovered (longest number : ℕ) (replied : Clocks → MessageValue �
 -- Old requests have ended: one that may still be delivered was sent no later than the node knows of, by its reading, and
 -- where it asks for the name or holds it, it asks for it as that kind, and is no release.
 pub record RequestsEnded (life number clock now : ℕ) (asked : Clocks → MessageValue → Type 0) (k : Option Known) : Type 0 where
-  pub ended : (moment : Clocks) (message : MessageValue) → asked moment message → IsDeliverable life clock moment.now → reading moment number ≤ bound now k
-  pub one_kind : (kind : Kind) (moment : Clocks) (message : MessageValue) → Wants k kind → asked moment message → IsDeliverable life clock moment.now → AsksAs kind message
+  pub ended : (moment : Clocks) (message : MessageValue) → asked moment message → IsDeliverable life clock moment.clock → reading moment number ≤ bound now k
+  pub one_kind : (kind : Kind) (moment : Clocks) (message : MessageValue) → Wants k kind → asked moment message → IsDeliverable life clock moment.clock → AsksAs kind message
 
 -- A reply was sent at this moment, no more than a life after some request that the node knows of.
 pub record DrawnBy (life number now : ℕ) (asked : Clocks → MessageValue → Type 0) (k : Option Known) (moment : Clocks) : Type 0 where
   pub sent : Clocks
   pub request : MessageValue
   pub asked_is : asked sent request
-  pub in_time : moment.now ≤ sent.now + life
+  pub in_time : moment.clock ≤ sent.clock + life
   pub known_of : reading sent number ≤ bound now k
 
 -- What is open is fresh: each reply that may still be delivered was sent no more than a life after some request that the
 -- node knows of; what is open was first sent by now, and no request or reply that may still be delivered is older.
 pub record RepliesFresh (life number clock now : ℕ) (asked replied : Clocks → MessageValue → Type 0) (k : Option Known) : Type 0 where
-  pub drawn : (moment : Clocks) (message : MessageValue) → replied moment message → IsDeliverable life clock moment.now → DrawnBy life number now asked k moment
+  pub drawn : (moment : Clocks) (message : MessageValue) → replied moment message → IsDeliverable life clock moment.clock → DrawnBy life number now asked k moment
   pub begun : (kind : Kind) (first : ℕ) → IsOpen k kind first → first ≤ now
-  pub since : (kind : Kind) (first : ℕ) (moment : Clocks) (message : MessageValue) → IsOpen k kind first → asked moment message ⊎ replied moment message → IsDeliverable life clock moment.now
+  pub since : (kind : Kind) (first : ℕ) (moment : Clocks) (message : MessageValue) → IsOpen k kind first → asked moment message ⊎ replied moment message → IsDeliverable life clock moment.clock
       → first ≤ reading moment number
 
 -- ---- what holds of the ends and of the network
@@ -204,7 +204,7 @@ pub record IsSeen (least : List Least) (now moment : Clocks) (number : ℕ) : Ty
 -- No clock is past its last moment, the numbers of each end now are no less than its least, and allowed beside them where
 -- the bound is kept.
 pub record AreRead (world : WorldValue) : Type 0 where
-  pub now : world.now.now ≤ 2 ^ 60
+  pub now : world.now.clock ≤ 2 ^ 60
   pub readings : (number : ℕ) → IsEnd world.ends number → reading world.now number ≤ 2 ^ 60
   pub seen : (number : ℕ) → IsEnd world.ends number → IsSeen world.least world.now world.now number
   pub allowed : IsTrue world.kept → (number : ℕ) → IsEnd world.ends number → IsAllowed (least_of world.least number) world.now number
@@ -214,7 +214,7 @@ pub record AreRead (world : WorldValue) : Type 0 where
 pub record IsSent (ends : Ends) (now : Clocks) (least : List Least) (d : Datagram) : Type 0 where
   pub number : ℕ
   pub message : MessageValue
-  pub past : d.moment.now ≤ now.now
+  pub past : d.moment.clock ≤ now.clock
   pub seen : (n : ℕ) → IsEnd ends n → IsSeen least now d.moment n
   pub sender : addr_of ends number ≡ Some d.from
   pub written : d.octets.items ≡ text message
@@ -226,7 +226,7 @@ pub record IsSent (ends : Ends) (now : Clocks) (least : List Least) (d : Datagra
 
 -- what the node of this number and address claims in a world, and that such a claim is covered there
 abbrev pub ClaimsIn : WorldValue → (number : ℕ) → Addr → NameValue → Kind → (end : ℕ) → Type 0
-ClaimsIn world number addr name = Claims world.config.longest world.config.life world.now.now (Replied world.sent world.ends.server_addr addr name) (known (node_of world.ends number) name)
+ClaimsIn world number addr name = Claims world.config.longest world.config.life world.now.clock (Replied world.sent world.ends.server_addr addr name) (known (node_of world.ends number) name)
 
 abbrev pub IsCoveredIn : WorldValue → (number : ℕ) → Addr → NameValue → Kind → (end : ℕ) → Type 0
 IsCoveredIn world number addr name = IsCovered world.config.longest number (Replied world.sent world.ends.server_addr addr name) (Backs (reading world.now 0) world.ends.server addr.ip name)
@@ -248,7 +248,7 @@ pub record IsKept (world : WorldValue) : Type 0 where
   pub sent : (d : Datagram) → Contains world.sent d → IsSent world.ends world.now world.least d
   -- where the readings kept the drift bound so far
   pub requests : IsTrue world.kept → (number : ℕ) (addr : Addr) (name : NameValue) → addr_of world.ends number ≡ Some addr
-      → RequestsEnded world.config.life number world.now.now (reading world.now number) (Asked world.sent addr.ip name) (known (node_of world.ends number) name)
+      → RequestsEnded world.config.life number world.now.clock (reading world.now number) (Asked world.sent addr.ip name) (known (node_of world.ends number) name)
   pub replies : IsTrue world.kept → (number : ℕ) (addr : Addr) (name : NameValue) → addr_of world.ends number ≡ Some addr
-      → RepliesFresh world.config.life number world.now.now (reading world.now number) (Asked world.sent addr.ip name) (Replied world.sent world.ends.server_addr addr name) (known (node_of world.ends number) name)
+      → RepliesFresh world.config.life number world.now.clock (reading world.now number) (Asked world.sent addr.ip name) (Replied world.sent world.ends.server_addr addr name) (known (node_of world.ends number) name)
   pub claims : IsTrue world.kept → ClaimsKept world

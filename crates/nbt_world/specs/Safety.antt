@@ -52,7 +52,7 @@ KeepDriftBound worlds = (i j : ℕ) (early late : WorldValue) → i ≤ j → sl
 
 -- all ends read the true clock
 abbrev pub IsInStep : WorldValue → Type 0
-IsInStep world = (number : ℕ) → IsEnd world.ends number → reading world.now number ≡ world.now.now
+IsInStep world = (number : ℕ) → IsEnd world.ends number → reading world.now number ≡ world.now.clock
 
 -- no event gives an end another clock than the true one
 abbrev pub LetsClocksDrift : Event → Type 0

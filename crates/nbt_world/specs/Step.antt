@@ -180,7 +180,7 @@ outcome_of_taking world (takes (Some reply)) = o.Sent (length world.sent)
 -- The true clock goes on, and each end's reading by its own milliseconds, also while the end is down. The bound is kept
 -- still where no end's numbers are more than the bound allows above the least so far.
 pub record Advances (old : WorldValue) (ms : ℕ) (moves : ℕ → ℕ) (new : WorldValue) : Type 0 where
-  pub now : new.now.now ≡ later old.now.now ms
+  pub now : new.now.clock ≡ later old.now.clock ms
   pub readings : (number : ℕ) → IsEnd old.ends number → reading new.now number ≡ later (reading old.now number) (moves number)
   pub least : (number : ℕ) → IsEnd old.ends number → least_of new.least number ≡ lesser (least_of old.least number) (numbers_of new.now number)
   pub kept : IsTrue new.kept ↔ (IsTrue old.kept × ((number : ℕ) → IsEnd old.ends number → IsAllowed (least_of new.least number) new.now number))
@@ -200,10 +200,10 @@ pub data Step (old : WorldValue) : Event → Outcome → WorldValue → Type 0 w
   -- a datagram of the list is delivered: to nobody, too late, or to an end, whose reply goes back
   no_datagram : (k : ℕ) → slice_get old.sent k ≡ None → Step old (Deliver k) o.Nobody old
   no_end : (k : ℕ) (d : Datagram) → slice_get old.sent k ≡ Some d → ((number : ℕ) → addr_of old.ends number ≢ Some d.to) → Step old (Deliver k) o.Nobody old
-  too_late : (k : ℕ) (d : Datagram) (number : ℕ) → slice_get old.sent k ≡ Some d → addr_of old.ends number ≡ Some d.to → ¬ IsDeliverable old.config.life old.now.now d.moment.now
+  too_late : (k : ℕ) (d : Datagram) (number : ℕ) → slice_get old.sent k ≡ Some d → addr_of old.ends number ≡ Some d.to → ¬ IsDeliverable old.config.life old.now.clock d.moment.clock
       → Step old (Deliver k) o.Lost old
   delivered : (k : ℕ) (d : Datagram) (number : ℕ) (taken : TakenValue) (ends : Ends) → slice_get old.sent k ≡ Some d → addr_of old.ends number ≡ Some d.to
-      → IsDeliverable old.config.life old.now.now d.moment.now → Takes (reading old.now number) old.ends d.from d.octets.items number taken ends
+      → IsDeliverable old.config.life old.now.clock d.moment.clock → Takes (reading old.now number) old.ends d.from d.octets.items number taken ends
       → Step old (Deliver k) (outcome_of_taking old taken) (after_taking old ends d.to d.from taken)
   -- a datagram comes from an address that is no end's
   from_an_end : (from : Addr) (number : ℕ) (octets : Vec ℕ) → IsOfEnd old.ends from.ip → Step old (Stranger from number octets) o.Nobody old

@@ -94,7 +94,7 @@ ends_at server others = record { server_addr = server; server = None; nodes = re
 
 -- all ends are down, all clocks are at 0, and no datagram was sent
 pub record IsFresh (config : ConfigValue) (addrs : List Addr) (world : WorldValue) : Type 0 where
-  pub now : world.now.now ≡ 0
+  pub now : world.now.clock ≡ 0
   pub readings : (number : ℕ) → reading world.now number ≡ 0
   pub least : (number : ℕ) → IsEnd world.ends number → least_of world.least number ≡ numbers_of world.now number
   pub kept : IsTrue world.kept

@@ -1,6 +1,6 @@
 //! The true clock of a world, what each end reads, and whether the readings kept the drift bound.
 
-ghost use Rattle.std.specs.Prelude.{◌≡◌, ℕ, ◌<◌, ◌≤◌, ◌↔◌, IsTrue, slice_index, replicate};
+ghost use Rattle.std.specs.Prelude.{◌≡◌, ℕ, ◌+◌, ◌-◌, ◌*◌, ◌^◌, ◌<◌, ◌≤◌, ◌↔◌, IsTrue, slice_index, replicate};
 ghost use Rattle.nbt_world.specs.Drift.{reading, later, least_of, numbers_of, lesser, IsAllowed};
 
 use nbt_lease::Moment;
@@ -17,8 +17,8 @@ const MOST: u128 = 1000;
 /// The true clock, and each end's own reading of it: the server's, and then the nodes'.
 #[derive(Clone, Copy, Debug)]
 pub struct Clocks {
-    /// The true moment.
-    pub now: Moment,
+    /// The true clock.
+    pub clock: Moment,
     /// What each end reads. Those that the world hasn't say nothing.
     pub readings: [Moment; 9],
 }
@@ -44,11 +44,11 @@ fn later(moment: Moment, ms: u64) -> Moment
 impl Clocks {
     /// All clocks are at 0.
     pub fn zero() -> Clocks
-        ensures now { result.now ≡ 0 }
+        ensures clock { result.clock ≡ 0 }
         ensures readings { result.readings ≡ replicate 9 0 }
     {
         Clocks {
-            now: Moment::zero(),
+            clock: Moment::zero(),
             readings: [Moment::zero(); 9],
         }
     }
@@ -66,10 +66,10 @@ impl Clocks {
 
     /// Each clock goes on by its own number of milliseconds.
     pub fn go_on(&mut self, ms: u64, moves: &[u64; 9])
-        ensures now { self.new.now ≡ later self.old.now ms }
+        ensures clock { self.new.clock ≡ later self.old.clock ms }
         ensures readings { (number : ℕ) → number < 9 → reading self.new number ≡ later (reading self.old number) (slice_index moves.now number) }
     {
-        self.now = later(self.now, ms);
+        self.clock = later(self.clock, ms);
         for number in 0..ENDS_MOST {
             self.readings[number] = later(self.readings[number], moves[number]);
         }
@@ -90,14 +90,22 @@ impl Least {
         }
     }
 
-    /// Takes in the two numbers of a later moment. Returns whether neither grew by more than the bound allows.
-    fn sees(&mut self, seen: Least) -> bool
-        ensures least { self.new ≡ lesser self.old seen }
-        ensures allowed { IsTrue result ↔ ((seen.ahead ≤ self.new.ahead + 1000) × (seen.behind ≤ self.new.behind + 1000)) }
+    /// The lesser of each.
+    fn lesser(self, seen: Least) -> Least
+        ensures { result ≡ lesser self seen }
     {
-        self.ahead = self.ahead.min(seen.ahead);
-        self.behind = self.behind.min(seen.behind);
-        seen.ahead <= self.ahead + MOST && seen.behind <= self.behind + MOST
+        Least {
+            ahead: self.ahead.min(seen.ahead),
+            behind: self.behind.min(seen.behind),
+        }
+    }
+
+    /// Whether neither number grew by more than the bound allows.
+    fn allows(self, seen: Least) -> bool
+        ensures { IsTrue result ↔ ((seen.ahead ≤ self.ahead + 1000) × (seen.behind ≤ self.behind + 1000)) }
+    {
+        seen.ahead <= self.ahead.saturating_add(MOST)
+            && seen.behind <= self.behind.saturating_add(MOST)
     }
 }
 
@@ -117,8 +125,9 @@ pub fn watch(least: &mut [Least; 9], clocks: &Clocks, ends: usize) -> bool
 {
     let mut kept = true;
     for number in 0..ends {
-        let seen = Least::of(clocks.now, clocks.reading(number));
-        if !least[number].sees(seen) {
+        let seen = Least::of(clocks.clock, clocks.reading(number));
+        least[number] = least[number].lesser(seen);
+        if !least[number].allows(seen) {
             kept = false;
         }
     }

@@ -5,6 +5,7 @@ ghost use Rattle.nbt_name.specs.declared.addr.Kind.{Kind as KindValue};
 ghost use Rattle.nbt_world.specs.World.{WorldValue, AreAddrs, IsFresh};
 ghost use Rattle.nbt_world.specs.Step.{Advances, Step, number_in, TakesNoMemory};
 ghost use Rattle.nbt_world.specs.Safety.{Run, holding, MayHold, IsSafe, RunsSafely};
+ghost use Rattle.nbt_world.specs.Kept.{AreRead};
 ghost use Rattle.nbt_world.specs.declared.ends.Holder.{Holder as HolderValue};
 
 use crate::clocks::{Clocks, ENDS_MOST, Least, at_beginning, watch};
@@ -76,10 +77,12 @@ impl World {
 
     /// The clocks go on, and with them whether the readings keep the drift bound.
     fn go_on(&mut self, ms: u64, readings: &[u64; 9])
-        ensures { Advances self.old ms (slice_index readings.now) self.new }
+        ensures step { Advances self.old ms (slice_index readings.now) self.new }
+        ensures few { length self.old.ends.nodes.items ≤ 8 }
     {
         nbt_lease::laws::leases_stay_sound();
         nbt_lease::laws::later_leases_live_now();
+        nbt_lease::laws::hold_ends_first();
         self.clocks.go_on(ms, readings);
         let ends = self.ends.nodes.len() + 1;
         let allowed = watch(&mut self.least, &self.clocks, ends);
@@ -132,6 +135,7 @@ impl World {
         ensures refused { OnErr result (self.new ≡ self.old) }
     {
         nbt_packet::laws::one_message_spelled();
+        nbt_lease::laws::rest_outlasts_datagrams();
         if self.sent.try_reserve(1).is_err() {
             return Err(OutOfMemory);
         }
@@ -154,6 +158,8 @@ impl World {
         nbt_lease::laws::one_name_changes();
         nbt_lease::laws::leases_of_others_stay();
         nbt_lease::laws::granted_lease_stands();
+        nbt_lease::laws::hold_ends_first();
+        nbt_lease::laws::rest_outlasts_datagrams();
         if self.sent.try_reserve(1).is_err() {
             return Err(OutOfMemory);
         }
@@ -165,7 +171,7 @@ impl World {
         let Some(number) = self.ends.find(to) else {
             return Ok(Outcome::Nobody);
         };
-        if datagram.moment.now.get() + self.config.life() < self.clocks.now.get() {
+        if datagram.moment.clock.get() + self.config.life() < self.clocks.clock.get() {
             return Ok(Outcome::Lost);
         }
         let now = self.clocks.reading(number);
@@ -191,6 +197,8 @@ impl World {
         nbt_lease::laws::one_name_changes();
         nbt_lease::laws::leases_of_others_stay();
         nbt_lease::laws::granted_lease_stands();
+        nbt_lease::laws::hold_ends_first();
+        nbt_lease::laws::rest_outlasts_datagrams();
         if self.sent.try_reserve(1).is_err() {
             return Err(OutOfMemory);
         }
@@ -256,7 +264,8 @@ impl World {
     /// What the facts that every world keeps come to: no two nodes hold one name, unless both as a group, where the drift
     /// bound was kept so far.
     fn is_safe(&self)
-        ensures { IsTrue self.now.kept → IsSafe self.now }
+        ensures safe { IsTrue self.now.kept → IsSafe self.now }
+        ensures read { AreRead self.now }
     {
         let _facts = &self.sent;
     }
