@@ -1,11 +1,12 @@
 -- A poll that has something for an end leaves less that is due, so polls come to an end.
-use Rattle.std.proofs.Common.{◌≡◌, ℕ, ◌+◌, ◌*◌, ◌<◌, ◌≤◌, Bool, true, false, ltb, leb, List, [], ◌∷◌, length, map, Option, Some, None, refl, ap, arith}
+use Rattle.std.proofs.Common.{◌≡◌, ℕ, ◌+◌, ◌<◌, ◌≤◌, Bool, true, false, ltb, leb, List, [], ◌∷◌, length, map, Option, Some, None, refl, ap, arith}
 use Rattle.std.specs.Prelude.{◌&&◌, is_some}
 use Rattle.std.proofs.lemmas.Bool.{lt-leb, le-leb}
 use Rattle.nbt_name.specs.declared.addr.Addr.{Addr}
 use Rattle.nbt_name.specs.declared.addr.Kind.{Kind}
 use Rattle.nbt_name.specs.Wire.{NameValue}
 use Rattle.nbt_packet.specs.Message.{MessageValue}
+use Rattle.nbt_lease.specs.Drift.{quiet}
 use Rattle.nbt_node.specs.declared.state.State.{State}
 use Rattle.nbt_node.specs.declared.state.State.TheVariants.{Idle, Asking, Held, Releasing, Resting}
 use Rattle.nbt_node.specs.declared.state.Refresh.{Refresh}
@@ -59,9 +60,9 @@ not_over : (now tries : ℕ) → is_over now tries (next_due now) ≡ false
 not_over now tries = and_false (leb 3 tries) (leb (now + 5000) now) (later now)
 
 rested_not_due : (life now last : ℕ) → is_due life now (rested life now last) ≡ false
-rested_not_due life now last = go (ltb (last + 2 * life) now) refl
+rested_not_due life now last = go (ltb (last + quiet life) now) refl
   where
-    go : (b : Bool) → ltb (last + 2 * life) now ≡ b → is_due life now (rested life now last) ≡ false
+    go : (b : Bool) → ltb (last + quiet life) now ≡ b → is_due life now (rested life now last) ≡ false
     go true e = rw e refl
     go false e = rw e refl
 
@@ -81,7 +82,7 @@ polled node now name before after message told id (asks_again kind ttl i first l
 polled node now name before after message told id (gives_back_again kind i last tries due is) = (is, rw (not_over now (tries + 1)) (not_next now (tries + 1)))
 polled node now name before after message told id (refreshes_again kind ttl until renew last p is) = (is, held_not_due node.config.life now kind ttl until renew p (p.tries + 1))
 polled node now name before after message told id (refreshes kind ttl until renew last half rest) =
-    (and_both (leb renew now) (ltb (last + 2 * node.config.life) now) (le-leb renew now half) (le-leb _ _ rest), held_not_due node.config.life now kind ttl until renew (record { id = node.next_id; first = now; tries = 1; due = next_due now }) 1)
+    (and_both (leb renew now) (ltb (last + quiet node.config.life) now) (le-leb renew now half) (le-leb _ _ rest), held_not_due node.config.life now kind ttl until renew (record { id = node.next_id; first = now; tries = 1; due = next_due now }) 1)
 
 -- ---- one slot more or less
 

@@ -32,9 +32,9 @@ Exit status:
 const NODE_ABOUT: &str = "Runs an end node that asks a name server for a name, and holds it";
 
 const NODE_HELP: &str = "\
-Runs an end node, over this machine's clock. It asks SERVER for NAME as soon as it may, once twice LIFE has passed
-since it started, refreshes what it holds, and replies to status requests. NAME is registered under the address of BIND,
-so 0.0.0.0 won't do. A turn is one receive, which waits 100 ms at most. Prints `granted G`, `renewed G`, `refused R` or
+Runs an end node, over this machine's clock. It asks SERVER for NAME as soon as it may, once a little more than
+twice LIFE has passed since it started, refreshes what it holds, and replies to status requests. NAME is registered
+under the address of BIND, so 0.0.0.0 won't do. A turn is one receive, which waits 100 ms at most. Prints `granted G`, `renewed G`, `refused R` or
 `lost` as it happens, G being seconds and R the RCODE in decimal, and after the last turn `held` or `not held`. With
 --forever it goes on until a signal ends it.
 

@@ -96,11 +96,11 @@ fn an_early_ask_after_a_release_is_refused(rt: HostRuntime) -> Result<(), Fail> 
     let granted = reply(&rt, &mut server, 71_000, SECOND, &request, b"\xAD\x80")?;
     assert!(rt; hears(&mut second, 71_000, &granted)? == Event::Granted(60));
 
-    assert_eq!(rt; refusal(&mut first, 72_000)?, Some(AskFault::Quiet));
-    let request = asks(&mut first, 72_001)?;
-    let refused = reply(&rt, &mut server, 72_001, FIRST, &request, b"\xAD\x86")?;
-    assert!(rt; hears(&mut first, 72_001, &refused)? == Event::Refused(6));
-    assert_eq!(rt; first.holds(at(72_001)?, &fred()?), None);
-    assert_eq!(rt; second.holds(at(72_001)?, &fred()?), Some(Kind::Unique));
+    assert_eq!(rt; refusal(&mut first, 72_004)?, Some(AskFault::Quiet));
+    let request = asks(&mut first, 72_005)?;
+    let refused = reply(&rt, &mut server, 72_005, FIRST, &request, b"\xAD\x86")?;
+    assert!(rt; hears(&mut first, 72_005, &refused)? == Event::Refused(6));
+    assert_eq!(rt; first.holds(at(72_005)?, &fred()?), None);
+    assert_eq!(rt; second.holds(at(72_005)?, &fred()?), Some(Kind::Unique));
     Ok(())
 }

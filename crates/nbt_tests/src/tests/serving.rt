@@ -180,9 +180,9 @@ const SERVERS: [Row; 9] = [
 
 const NODES: [Row; 5] = [
     Row {
-        about: "each argument: it asks for 300 s as a group, behind twice 700 ms, and holds for 70 s at most",
+        about: "each argument: it asks for 300 s as a group, once more than 1,403 ms have passed, and is granted 70 s at most",
         words: "nbt node 127.42.22.2:20138 127.42.22.3:20139 700 70 FRED group 300 4",
-        moments: &[1_000_000, 1_000_000, 1_001_400, 1_001_400, 1_001_401],
+        moments: &[1_000_000, 1_000_000, 1_001_403, 1_001_403, 1_001_404],
         // The first reply comes before the node asks, so it replies to nothing.
         sends: &[
             (
@@ -206,7 +206,7 @@ const NODES: [Row; 5] = [
         about: "a name is granted, and renewed after half its time",
         words: "nbt node 127.42.22.2:20138 127.42.22.3:20139 1000 60 FRED unique 60 3",
         moments: &[
-            1_000_000, 1_000_000, 1_002_001, 1_002_001, 1_032_000, 1_032_000, 1_032_001,
+            1_000_000, 1_000_000, 1_002_005, 1_002_005, 1_032_004, 1_032_004, 1_032_005,
         ],
         sends: &[(3, GRANTED), (5, SECOND_GRANTED), (7, SECOND_GRANTED)],
         breaks_at: 0,
@@ -219,8 +219,8 @@ const NODES: [Row; 5] = [
         about: "a name is refused, granted and lost",
         words: "nbt node 127.42.22.2:20138 127.42.22.3:20139 1000 60 FRED unique 60 5",
         moments: &[
-            1_000_000, 1_000_000, 1_002_000, 1_002_000, 1_002_001, 1_002_001, 1_004_001, 1_004_001,
-            1_004_002,
+            1_000_000, 1_000_000, 1_002_004, 1_002_004, 1_002_005, 1_002_005, 1_004_009, 1_004_009,
+            1_004_010,
         ],
         sends: &[
             (3, GRANTED),
@@ -237,7 +237,7 @@ const NODES: [Row; 5] = [
     Row {
         about: "with no end it goes on until its port fails",
         words: "nbt node 127.42.22.2:20138 127.42.22.3:20139 1000 60 FRED unique 60 --forever",
-        moments: &[1_000_000, 1_000_000, 1_002_001],
+        moments: &[1_000_000, 1_000_000, 1_002_005],
         sends: &[(3, GRANTED)],
         breaks_at: 6,
         status: 3,

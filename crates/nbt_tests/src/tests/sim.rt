@@ -4,7 +4,7 @@ use super::expect_of_input;
 use super::terminal::play;
 
 const SCRIPTS: &str = "\
-# A node that crashed rests for two lives after its start.
+# A node that crashed rests for two lives and a little more after its start.
 $ nbt sim
 < config 1000 60 4096 2
 < start s
@@ -19,9 +19,9 @@ $ nbt sim
 < at 101003
 < deliver 1
 < ask n1 FRED unique 60
-< at 102001
+< at 102005
 < ask n1 FRED unique 60
-< at 102002
+< at 102006
 < deliver 1
 < ask n1 FRED unique 60
 < holders FRED
@@ -60,10 +60,10 @@ $ nbt sim
 < deliver 5
 < holders FRED
 < deliver 3
-< at 72000
+< at 72004
 < deliver 2
 < ask n1 FRED unique 60
-< at 72001
+< at 72005
 < ask n1 FRED unique 60
 < deliver 6
 < deliver 7
@@ -170,8 +170,11 @@ $ nbt sim
 < crash s
 < start s
 < start s
-< at 129998
+< at 129876
 < holders FRED
+< at 129877
+< holders FRED
+< at 129998
 < ask n2 FRED unique 60
 < at 129999
 < deliver 2
@@ -191,6 +194,7 @@ none
 ok
 none
 holders FRED: n1 unique
+holders FRED: none
 sent 2
 taken
 holders FRED: none
@@ -210,7 +214,7 @@ $ nbt sim
 < release n1 FRED
 < ask n1 *FRED unique 60
 < resolve n1 *FRED
-< at 002001
+< at 002005
 <   ask  n1 hex:46524544202020202020202020202020 unique 0
 < ask n1 FRED unique 4294967295
 < holders hex:46524544202020202020202020202020

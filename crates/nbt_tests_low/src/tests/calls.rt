@@ -1,4 +1,4 @@
-//! Calls of sessions: the end that calls, and the end that listens for a node that holds FRED until 120,000 (RFC 1002
+//! Calls of sessions: the end that calls, and the end that listens for a node that holds FRED until 119,878 (RFC 1002
 //! section 5.2.1 and our profile).
 
 use super::sessions::{SECOND, Said, packet};
@@ -286,8 +286,8 @@ const LISTENERS: [Row; 5] = [
             ANYBODY,
             FIRST_STANDS,
             SECOND_STANDS,
-            Step::On(119_999, 0, Happens::Brings(REQUEST), Listens::Takes),
-            Step::On(120_000, 1, Happens::Brings(REQUEST), Listens::Refuses(0x82)),
+            Step::On(119_877, 0, Happens::Brings(REQUEST), Listens::Takes),
+            Step::On(119_878, 1, Happens::Brings(REQUEST), Listens::Refuses(0x82)),
             SECOND_STANDS,
             Step::On(
                 70_000,

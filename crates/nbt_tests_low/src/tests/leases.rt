@@ -224,6 +224,32 @@ fn limits_of_a_configuration(rt: HostRuntime) -> Result<(), Fail> {
     Ok(())
 }
 
+/// Seconds that are granted, and for how many milliseconds a node holds a name by them.
+const HOLDS: [(u32, u64); 4] = [(0, 0), (1, 996), (60, 59_878), (1_000_000, 998_001_996)];
+
+/// Lives of a datagram, and for how many milliseconds a name rests where a datagram lives so long.
+const RESTS: [(u64, u64); 5] = [
+    (1, 4),
+    (499, 1_000),
+    (500, 1_003),
+    (1_000, 2_004),
+    (60_000, 120_122),
+];
+
+#[test]
+fn what_a_node_allows_for_clocks_that_drift(rt: HostRuntime) -> Result<(), Fail> {
+    for (seconds, ms) in HOLDS {
+        assert_eq!(rt; Config::hold(seconds), ms);
+    }
+    for (life, ms) in RESTS {
+        assert_eq!(rt; Config::new(life, 60, 4_096)?.quiet(), ms);
+    }
+    laws::hold_ends_first();
+    laws::rest_outlasts_datagrams();
+    laws::drift_bound_of_moves();
+    Ok(())
+}
+
 const FRED_BELONGS_TO_ITS_OWNER_UNTIL_120_000: &[Step<'static>] = &[
     Step::Grant(60_000, FRED, FIRST, Kind::Unique, 0, Ok((60, 120_000))),
     Step::Grant(

@@ -212,19 +212,20 @@ fn hear(
     Ok(())
 }
 
-const A_NODE_IS_QUIET_FOR_TWO_LIVES_AFTER_ITS_START: &[Step<'static>] = &[
-    Step::Ask(2_000, FRED, Kind::Unique, Err(AskFault::Quiet)),
-    Step::Ask(2_001, FRED, Kind::Unique, Ok(REGISTRATION)),
-    Step::Ask(2_002, FRED, Kind::Unique, Err(AskFault::Busy)),
-    Step::Ask(1_999, FRED, Kind::Unique, Err(AskFault::ClockBack)),
-    Step::Poll(2_001, None),
-    Step::PollBack(2_000),
-    Step::Ask(2_002, STAR, Kind::Unique, Err(AskFault::BadName)),
+/// Two lives, and what its clock may be fast by.
+const A_NODE_IS_QUIET_FOR_2_004_MS_AFTER_ITS_START: &[Step<'static>] = &[
+    Step::Ask(2_004, FRED, Kind::Unique, Err(AskFault::Quiet)),
+    Step::Ask(2_005, FRED, Kind::Unique, Ok(REGISTRATION)),
+    Step::Ask(2_006, FRED, Kind::Unique, Err(AskFault::Busy)),
+    Step::Ask(2_003, FRED, Kind::Unique, Err(AskFault::ClockBack)),
+    Step::Poll(2_005, None),
+    Step::PollBack(2_004),
+    Step::Ask(2_006, STAR, Kind::Unique, Err(AskFault::BadName)),
 ];
 
 #[test]
-fn a_node_is_quiet_for_two_lives_after_its_start(rt: HostRuntime) -> Result<(), Fail> {
-    play(&rt, A_NODE_IS_QUIET_FOR_TWO_LIVES_AFTER_ITS_START)
+fn a_node_is_quiet_for_2_004_ms_after_its_start(rt: HostRuntime) -> Result<(), Fail> {
+    play(&rt, A_NODE_IS_QUIET_FOR_2_004_MS_AFTER_ITS_START)
 }
 
 const A_LATE_REPLY_COUNTS_FROM_THE_FIRST_SENDING: &[Step<'static>] = &[
@@ -235,8 +236,8 @@ const A_LATE_REPLY_COUNTS_FROM_THE_FIRST_SENDING: &[Step<'static>] = &[
         Response(1, [0xAD, 0x80], 60),
         Event::Granted(60),
     ),
-    Step::Holds(119_999, Some(Kind::Unique)),
-    Step::Holds(120_000, None),
+    Step::Holds(119_877, Some(Kind::Unique)),
+    Step::Holds(119_878, None),
     Step::Holds(60_899, None),
     Step::Poll(89_999, None),
     Step::Poll(90_000, Some(REFRESH)),
@@ -246,8 +247,8 @@ const A_LATE_REPLY_COUNTS_FROM_THE_FIRST_SENDING: &[Step<'static>] = &[
         Response(2, [0xAD, 0x80], 60),
         Event::Renewed(60),
     ),
-    Step::Holds(149_999, Some(Kind::Unique)),
-    Step::Holds(150_000, None),
+    Step::Holds(149_877, Some(Kind::Unique)),
+    Step::Holds(149_878, None),
 ];
 
 #[test]
@@ -264,8 +265,8 @@ const A_REPLY_AFTER_A_RETRY_COUNTS_FROM_THE_FIRST_SENDING: &[Step<'static>] = &[
         Response(1, [0xAD, 0x80], 60),
         Event::Granted(60),
     ),
-    Step::Holds(119_999, Some(Kind::Unique)),
-    Step::Holds(120_000, None),
+    Step::Holds(119_877, Some(Kind::Unique)),
+    Step::Holds(119_878, None),
 ];
 
 #[test]
@@ -299,6 +300,32 @@ fn a_wack_puts_the_next_sending_off_by_a_minute_at_most(rt: HostRuntime) -> Resu
     play(&rt, A_WACK_PUTS_THE_NEXT_SENDING_OFF_BY_A_MINUTE_AT_MOST)
 }
 
+const A_HOLD_FROM_69_999_AND_ONE_OF_A_SECOND: &[Step<'static>] = &[
+    Step::Ask(69_999, FRED, Kind::Unique, Ok(REGISTRATION)),
+    Step::Respond(
+        70_000,
+        SERVER,
+        Response(1, [0xAD, 0x80], 60),
+        Event::Granted(60),
+    ),
+    Step::Holds(129_876, Some(Kind::Unique)),
+    Step::Holds(129_877, None),
+    Step::Ask(140_000, FRED, Kind::Unique, Ok(SECOND_REGISTRATION)),
+    Step::Respond(
+        140_001,
+        SERVER,
+        Response(2, [0xAD, 0x80], 1),
+        Event::Granted(1),
+    ),
+    Step::Holds(140_995, Some(Kind::Unique)),
+    Step::Holds(140_996, None),
+];
+
+#[test]
+fn a_hold_from_69_999_and_one_of_a_second(rt: HostRuntime) -> Result<(), Fail> {
+    play(&rt, A_HOLD_FROM_69_999_AND_ONE_OF_A_SECOND)
+}
+
 const A_HOLD_THAT_IS_OVER_WHEN_ITS_REPLY_COMES: &[Step<'static>] = &[
     Step::Ask(60_000, FRED, Kind::Unique, Ok(REGISTRATION)),
     Step::Hear(60_500, SERVER, WACK, Event::Wait),
@@ -309,8 +336,8 @@ const A_HOLD_THAT_IS_OVER_WHEN_ITS_REPLY_COMES: &[Step<'static>] = &[
         Event::Granted(1),
     ),
     Step::Holds(61_500, None),
-    Step::Ask(62_000, FRED, Kind::Unique, Err(AskFault::Quiet)),
-    Step::Ask(62_001, FRED, Kind::Unique, Ok(SECOND_REGISTRATION)),
+    Step::Ask(62_004, FRED, Kind::Unique, Err(AskFault::Quiet)),
+    Step::Ask(62_005, FRED, Kind::Unique, Ok(SECOND_REGISTRATION)),
 ];
 
 #[test]
@@ -335,8 +362,8 @@ const A_NAME_RESTS_AFTER_ITS_RELEASE: &[Step<'static>] = &[
         Event::Freed(0),
     ),
     Step::Ask(70_500, FRED, Kind::Unique, Err(AskFault::Quiet)),
-    Step::Ask(72_000, FRED, Kind::Unique, Err(AskFault::Quiet)),
-    Step::Ask(72_001, FRED, Kind::Unique, Ok(THIRD_REGISTRATION)),
+    Step::Ask(72_004, FRED, Kind::Unique, Err(AskFault::Quiet)),
+    Step::Ask(72_005, FRED, Kind::Unique, Ok(THIRD_REGISTRATION)),
 ];
 
 #[test]
@@ -353,7 +380,7 @@ const A_FULL_NODE_KEEPS_ITS_NAME: &[Step<'static>] = &[
         Event::Granted(60),
     ),
     Step::Ask(61_000, TEAM, Kind::Group, Err(AskFault::Full)),
-    Step::Holds(119_999, Some(Kind::Group)),
+    Step::Holds(119_877, Some(Kind::Group)),
 ];
 
 #[test]
@@ -444,8 +471,8 @@ const A_REPLY_TO_A_REQUEST_THAT_WAS_GIVEN_UP_IS_NOTHING: &[Step<'static>] = &[
         Response(2, [0xAD, 0x80], 60),
         Event::Granted(60),
     ),
-    Step::Holds(134_999, Some(Kind::Unique)),
-    Step::Holds(135_000, None),
+    Step::Holds(134_877, Some(Kind::Unique)),
+    Step::Holds(134_878, None),
 ];
 
 #[test]

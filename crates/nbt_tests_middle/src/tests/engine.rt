@@ -348,7 +348,7 @@ fn a_name_is_asked_for_granted_and_renewed(rt: HostRuntime) -> Result<(), Fail> 
         &[(SERVER, REGISTRATION), (SECOND, status), (SERVER, refresh)],
     )?;
     assert_eq!(&rt;
-        node.holds(moment(149_999)?, &want.name),
+        node.holds(moment(149_877)?, &want.name),
         Some(Kind::Unique)
     );
     Ok(())
@@ -423,7 +423,7 @@ fn a_node_goes_on_after_a_failure_at_any_call(rt: HostRuntime) -> Result<(), Fai
         assert_eq!(&rt; port.failures(), 1, "{call}");
         four_turns(&rt, &mut port, &mut clock, &mut node, &want)?;
         assert_eq!(&rt; port.failures(), 1, "{call}");
-        let held = node.holds(moment(149_999)?, &want.name);
+        let held = node.holds(moment(149_877)?, &want.name);
         assert_eq!(&rt; held, Some(Kind::Unique), "{call}");
     }
     Ok(())

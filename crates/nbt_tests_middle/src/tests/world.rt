@@ -159,7 +159,7 @@ const CRASHED: [Row; 17] = [
     (Tick(3), Done),
     (Deliver(1), Taken),
     (Ask(1, FRED), Refused(1)),
-    (Tick(998), Done),
+    (Tick(1_002), Done),
     (Ask(1, FRED), Refused(1)),
     (Tick(1), Done),
     (Deliver(1), Lost),
@@ -195,7 +195,7 @@ const RELEASED: [Row; 9] = [
 
 const ASKED_AGAIN: [Row; 8] = [
     (Deliver(3), Taken),
-    (Tick(1_000), Done),
+    (Tick(1_004), Done),
     (Deliver(2), Lost),
     (Ask(1, FRED), Refused(1)),
     (Tick(1), Done),
@@ -236,8 +236,8 @@ const RENEWED: [[Row; 4]; 3] = [
     ],
 ];
 
-/// The last refresh is of 150,000, and a hold lasts 60 seconds.
-const ALMOST_OVER: [Row; 2] = [(Tick(59_999), Done), (Poll(2), Nothing)];
+/// The last refresh is of 150,000, and a hold for 60 seconds lasts 59,878 ms.
+const ALMOST_OVER: [Row; 2] = [(Tick(59_877), Done), (Poll(2), Nothing)];
 
 const OVER: [Row; 1] = [(Tick(1), Done)];
 
@@ -345,7 +345,7 @@ fn a_lookup_is_open_until_its_answer_and_a_status_request_finds_its_end_down(
     play_all(&rt, &[(&LOOKUPS, &[])])
 }
 
-const SILENT: [Row; 16] = [
+const SILENT: [Row; 14] = [
     (Start(0), Done),
     (Start(1), Done),
     (Start(2), Done),
@@ -359,18 +359,32 @@ const SILENT: [Row; 16] = [
     (Deliver(0), Down),
     (Start(0), Done),
     (Start(0), Nothing),
-    (Tick(59_998), Done),
-    (Ask(2, FRED), Sent(2)),
-    (Deliver(2), Taken),
+    (Tick(59_876), Done),
 ];
 
-const ENDED: [Row; 2] = [(Tick(1), Done), (Deliver(2), Taken)];
+const ENDED: [Row; 1] = [(Tick(1), Done)];
+
+const STILL_SILENT: [Row; 5] = [
+    (Tick(121), Done),
+    (Ask(2, FRED), Sent(2)),
+    (Deliver(2), Taken),
+    (Tick(1), Done),
+    (Deliver(2), Taken),
+];
 
 const HEARD: [Row; 3] = [(Tick(1), Done), (Deliver(2), Sent(3)), (Deliver(3), Taken)];
 
 #[test]
 fn a_server_that_starts_again_is_silent_and_holds_end_first(rt: HostRuntime) -> Result<(), Fail> {
-    play_all(&rt, &[(&SILENT, &[1]), (&ENDED, &[]), (&HEARD, &[2])])
+    play_all(
+        &rt,
+        &[
+            (&SILENT, &[1]),
+            (&ENDED, &[]),
+            (&STILL_SILENT, &[]),
+            (&HEARD, &[2]),
+        ],
+    )
 }
 
 const NO_SUCH_NODES: [Row; 7] = [
