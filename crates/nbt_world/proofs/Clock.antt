@@ -1,10 +1,18 @@
--- What a world keeps when its clock goes on.
-use Rattle.std.proofs.Common.{ℕ, ◌≤◌, refl, arith}
+-- What a world keeps when its clocks go on.
+use Rattle.std.proofs.Common.{◌≡◌, ℕ, ◌+◌, ◌^◌, ◌≤◌, Bool, List, Some, refl, sym, subst, arith}
+use Rattle.std.specs.Prelude.{IsTrue, Contains, min}
+use Rattle.nbt_name.specs.declared.addr.Addr.{Addr}
 use Rattle.nbt_lease.specs.Config.{ConfigValue}
 use Rattle.nbt_lease.specs.Lease.{Rows, leases_at, IsSound}
-use Rattle.nbt_world.specs.World.{WorldValue, node_of}
-use Rattle.nbt_world.specs.Kept.{Asked, Replied, known, IsKept}
+use Rattle.nbt_world.specs.declared.clocks.Clocks.{Clocks}
+use Rattle.nbt_world.specs.declared.clocks.Least.{Least}
+use Rattle.nbt_world.specs.declared.network.Datagram.{Datagram}
+use Rattle.nbt_world.specs.Drift.{reading, later, ahead, behind, least_of, numbers_of, lesser}
+use Rattle.nbt_world.specs.World.{WorldValue, IsEnd, addr_of, node_of}
+use Rattle.nbt_world.specs.Step.{Advances}
+use Rattle.nbt_world.specs.Kept.{Asked, Replied, known, IsSeen, AreRead, IsSent, IsKept}
 use Rattle.nbt_world.proofs.Knowing.{ended-frame, fresh-frame}
+use Rattle.nbt_world.proofs.Drifting.{HoldLaw}
 use Rattle.nbt_world.proofs.Keeping.{sent_frame}
 use Rattle.nbt_world.proofs.Covering.{LaterLive, clock_claims}
 
@@ -12,22 +20,73 @@ use Rattle.nbt_world.proofs.Covering.{LaterLive, clock_claims}
 abbrev pub StaySound : Type 0
 StaySound = (config : ConfigValue) (early late : ℕ) (rows : Rows) → early ≤ late → IsSound config early (leases_at early rows) → IsSound config late (leases_at late rows)
 
-pub clock_changes : StaySound → LaterLive → (w : WorldValue) (later : ℕ) → w.now ≤ later → IsKept w → IsKept (record w { now = later })
-clock_changes law live w later le kept = record {
+pub goes_up : (moment ms : ℕ) → moment ≤ 2 ^ 60 → moment ≤ later moment ms
+goes_up moment ms le = omega arith
+
+stops : (moment ms : ℕ) → later moment ms ≤ 2 ^ 60
+stops moment ms = omega arith
+
+-- a moment that was seen is seen still, and the present is
+pub sees : (w v : WorldValue) (ms : ℕ) (moves : ℕ → ℕ) → Advances w ms moves v → AreRead w → (n : ℕ) → IsEnd w.ends n → (moment : Clocks) → IsSeen w.least w.now moment n → IsSeen v.least v.now moment n
+sees w v ms moves adv read n e moment seen =
+    let past = seen.read in
+    let up = goes_up (reading w.now n) (moves n) (read.readings n e) in
+    let a = seen.least_ahead in
+    let b = seen.least_behind in
+    record {
+      read = rw (adv.readings n e) (omega arith);
+      least_ahead = rw (adv.least n e) (omega arith);
+      least_behind = rw (adv.least n e) (omega arith);
+    }
+
+pub sees_now : (w v : WorldValue) (ms : ℕ) (moves : ℕ → ℕ) → Advances w ms moves v → (n : ℕ) → IsEnd w.ends n → IsSeen v.least v.now v.now n
+sees_now w v ms moves adv n e = record {
+  read = omega arith;
+  least_ahead = rw (adv.least n e) (omega arith);
+  least_behind = rw (adv.least n e) (omega arith);
+}
+
+pub read_on : (w v : WorldValue) (ms : ℕ) (moves : ℕ → ℕ) → Advances w ms moves v → AreRead w → AreRead (record w { now = v.now; least = v.least; kept = v.kept })
+read_on w v ms moves adv read = record {
+  now = rw adv.now (stops w.now.clock ms);
+  readings = λ n e. rw (adv.readings n e) (stops (reading w.now n) (moves n));
+  seen = λ n e. sees_now w v ms moves adv n e;
+  allowed = λ on n e. ((adv.kept).0 on).1 n e;
+}
+
+pub clock_changes : StaySound → LaterLive → HoldLaw → (w v : WorldValue) (ms : ℕ) (moves : ℕ → ℕ) → Advances w ms moves v → IsKept w → IsKept (record w { now = v.now; least = v.least; kept = v.kept })
+clock_changes law live holds w v ms moves adv kept = record {
   ends = record { some = kept.ends.some; few = kept.ends.few; apart = kept.ends.apart };
+  clocks = read_on w v ms moves adv kept.clocks;
   nodes = λ n a node p up.
       let k = kept.nodes n a node p up in
       let past = k.past in
+      let on = reads n (a, p) in
       record { addr_is = k.addr_is; server_is = k.server_is; config_is = k.config_is; past = omega arith };
   server = λ server up.
       let k = kept.server server up in
       let past = k.past in
-      record { config_is = k.config_is; past = omega arith; sound = law w.config w.now later server.table.rows le k.sound };
-  sent = λ d c. sent_frame w.ends w.ends w.now later d (λ n. refl) le (kept.sent d c);
-  requests = λ n a name p.
-      ended-frame w.config.life w.now later (Asked w.sent a.ip name) (Asked w.sent a.ip name) (known (node_of w.ends n) name) le (λ moment message asked. asked) (kept.requests n a name p);
-  replies = λ n a name p.
-      fresh-frame w.config.life w.now later (Asked w.sent a.ip name) (Asked w.sent a.ip name) (Replied w.sent w.ends.server_addr a name) (Replied w.sent w.ends.server_addr a name) (known (node_of w.ends n) name) le
-      (λ moment message asked. asked) (λ moment message asked. asked) (λ moment message replied. replied) (kept.replies n a name p);
-  claims = clock_claims live w later le kept.claims;
+      let on = reads 0 (w.ends.server_addr, refl) in
+      record { config_is = k.config_is; past = omega arith; sound = law w.config (reading w.now 0) (reading v.now 0) server.table.rows on k.sound };
+  sent = sent;
+  requests = λ on n a name p.
+      ended-frame w.config.life n w.now.clock (reading w.now n) v.now.clock (reading v.now n) (Asked w.sent a.ip name) (Asked w.sent a.ip name) (known (node_of w.ends n) name) goes (reads n (a, p)) (λ moment message asked. asked)
+      (kept.requests (before on) n a name p);
+  replies = λ on n a name p.
+      fresh-frame w.config.life n w.now.clock (reading w.now n) v.now.clock (reading v.now n) (Asked w.sent a.ip name) (Asked w.sent a.ip name) (Replied w.sent w.ends.server_addr a name) (Replied w.sent w.ends.server_addr a name)
+      (known (node_of w.ends n) name) goes (reads n (a, p))
+      (λ moment message asked. asked) (λ moment message asked. asked) (λ moment message replied. replied) (kept.replies (before on) n a name p);
+  claims = λ on. clock_claims live holds w v.now v.least v.kept goes reads (read_on w v ms moves adv kept.clocks) sent on (kept.claims (before on));
 }
+  where
+    goes : w.now.clock ≤ v.now.clock
+    goes = rw adv.now (goes_up w.now.clock ms kept.clocks.now)
+
+    reads : (n : ℕ) → IsEnd w.ends n → reading w.now n ≤ reading v.now n
+    reads n e = rw (adv.readings n e) (goes_up (reading w.now n) (moves n) (kept.clocks.readings n e))
+
+    before : IsTrue v.kept → IsTrue w.kept
+    before on = ((adv.kept).0 on).0
+
+    sent : (d : Datagram) → Contains w.sent d → IsSent w.ends v.now v.least d
+    sent d c = sent_frame w.ends w.ends w.now v.now w.least v.least d (λ n. refl) goes (λ n e seen. sees w v ms moves adv kept.clocks n e d.moment seen) (kept.sent d c)

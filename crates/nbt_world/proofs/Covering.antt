@@ -1,7 +1,7 @@
 -- Claims stay covered, and beside one another, where no claim is new and what covers them stays: when the clock goes on,
 -- when one node changes, and when the server starts or crashes.
 use Rattle.std.proofs.Common.{◌≡◌, ℕ, suc, ◌+◌, ◌*◌, ◌<◌, ◌≤◌, Bool, true, false, cond, List, [], ◌∷◌, Option, Some, None, refl, sym, ap, subst, ◌∙◌, arith, inl, inr}
-use Rattle.std.specs.Prelude.{Contains, ◌⊎◌, filter}
+use Rattle.std.specs.Prelude.{Contains, IsTrue, ◌⊎◌, filter}
 use Rattle.std.proofs.lemmas.Bool.{lt-ltb, cases_eq}
 use Rattle.std.proofs.lemmas.List.Elements.{Contains-push_cases, Contains-append_cases, Contains-append_right}
 use Rattle.nbt_name.specs.declared.addr.Addr.{Addr}
@@ -10,42 +10,50 @@ use Rattle.nbt_name.specs.Wire.{NameValue}
 use Rattle.nbt_packet.specs.Message.{MessageValue}
 use Rattle.nbt_lease.specs.declared.lease.Lease.{Lease}
 use Rattle.nbt_lease.specs.Config.{ConfigValue}
+use Rattle.nbt_lease.specs.Drift.{hold}
 use Rattle.nbt_lease.specs.Lease.{Rows, is_live, leases_at}
 use Rattle.nbt_server.specs.Serving.{ServerValue}
 use Rattle.nbt_node.specs.declared.state.State.TheVariants.{Idle}
 use Rattle.nbt_node.specs.Node.{NodeValue}
+use Rattle.nbt_world.specs.declared.clocks.Clocks.{Clocks}
+use Rattle.nbt_world.specs.declared.clocks.Least.{Least}
 use Rattle.nbt_world.specs.declared.network.Datagram.{Datagram}
-use Rattle.nbt_world.specs.World.{WorldValue, addr_of, node_of, with_server, with_node}
+use Rattle.nbt_world.specs.Drift.{reading}
+use Rattle.nbt_world.specs.World.{WorldValue, addr_of, IsEnd, node_of, with_server, with_node}
 use Rattle.nbt_world.specs.Step.{IsNew as IsNewServer}
-use Rattle.nbt_world.specs.Kept.{Replied, known, Claims, has, may_get, Backs, ClaimsIn, IsCoveredIn, IsKept, ClaimsKept}
+use Rattle.nbt_world.specs.Kept.{Replied, known, Claims, has, may_get, Backs, ClaimsIn, IsCoveredIn, AreRead, IsSent, IsKept, ClaimsKept}
 use Rattle.nbt_world.proofs.Knowing.{knows}
+use Rattle.nbt_world.proofs.Drifting.{HoldLaw, hold_over}
 use Rattle.nbt_world.proofs.Claiming.{NoNewClaim, claims_fewer}
 use Rattle.nbt_world.proofs.Keeping.{IsNew, Grows, from_new, addr_with, node_with_other, node_with_here, node_not_server, replied_before, server_addr_with, server_node_with}
 
 -- ---- what is no claim
 
-pub down_claims : (longest life now : ℕ) (replied : ℕ → MessageValue → Type 0) (kind : Kind) (end : ℕ) → Claims longest life now replied None kind end → ⊥
+pub down_claims : (longest life now : ℕ) (replied : Clocks → MessageValue → Type 0) (kind : Kind) (end : ℕ) → Claims longest life now replied None kind end → ⊥
 down_claims longest life now replied kind end (has j e w) = w
 down_claims longest life now replied kind end (may_get j first moment r w a d) = w
 
-pub idle_claims : (longest life now start : ℕ) (replied : ℕ → MessageValue → Type 0) (kind : Kind) (end : ℕ) → Claims longest life now replied (knows start Idle) kind end → ⊥
+pub idle_claims : (longest life now start : ℕ) (replied : Clocks → MessageValue → Type 0) (kind : Kind) (end : ℕ) → Claims longest life now replied (knows start Idle) kind end → ⊥
 idle_claims longest life now start replied kind end (has j e w) = w
 idle_claims longest life now start replied kind end (may_get j first moment r w a d) = w
 
 -- ---- no claim is new, and what covers them stays
 
-pub claims_frame : (w v : WorldValue) → w.now ≤ v.now → ((n : ℕ) → addr_of v.ends n ≡ addr_of w.ends n)
-    → ((n : ℕ) (a : Addr) (name : NameValue) (kind : Kind) (end : ℕ) → addr_of w.ends n ≡ Some a → ClaimsIn v n a name kind end → v.now < end → ClaimsIn w n a name kind end)
-    → ((n : ℕ) (a : Addr) (name : NameValue) (kind : Kind) (end : ℕ) → addr_of w.ends n ≡ Some a → ClaimsIn w n a name kind end → v.now < end → IsCoveredIn w a name kind end → IsCoveredIn v a name kind end)
+pub claims_frame : (w v : WorldValue) → ((n : ℕ) (a : Addr) → addr_of w.ends n ≡ Some a → reading w.now n ≤ reading v.now n) → ((n : ℕ) → addr_of v.ends n ≡ addr_of w.ends n)
+    → ((n : ℕ) (a : Addr) (name : NameValue) (kind : Kind) (end : ℕ) → addr_of w.ends n ≡ Some a → ClaimsIn v n a name kind end → reading v.now n < end → ClaimsIn w n a name kind end)
+    → ((n : ℕ) (a : Addr) (name : NameValue) (kind : Kind) (end : ℕ) → addr_of w.ends n ≡ Some a → ClaimsIn w n a name kind end → reading v.now n < end → IsCoveredIn w n a name kind end → IsCoveredIn v n a name kind end)
     → ClaimsKept w → ClaimsKept v
 claims_frame w v le same old still kept = record {
   covered = λ n a name kind end p c lt.
       let q = sym (same n) ∙ p in
       let was = old n a name kind end q c lt in
+      let before = le n a q in
       still n a name kind end q was lt (kept.covered n a name kind end q was (omega arith));
   beside = λ i j a b name k l d e ne p q c x f y.
       let at = sym (same i) ∙ p in
       let by = sym (same j) ∙ q in
+      let before = le i a at in
+      let beyond = le j b by in
       kept.beside i j a b name k l d e ne at by (old i a name k d at c x) (omega arith) (old j b name l e by f y) (omega arith);
 }
 
@@ -87,14 +95,17 @@ later_backs law now later (Some server) ip name kind till le lt (inl l) =
     })
 later_backs law now later (Some server) ip name kind till le lt (inr s) = inr s
 
-pub clock_claims : LaterLive → (w : WorldValue) (later : ℕ) → w.now ≤ later → ClaimsKept w → ClaimsKept (record w { now = later })
-clock_claims law w later le = claims_frame w (record w { now = later }) le (λ n. refl) old still
+pub clock_claims : LaterLive → HoldLaw → (w : WorldValue) (later : Clocks) (lower : List Least) (still_kept : Bool) → w.now.clock ≤ later.clock → ((n : ℕ) → IsEnd w.ends n → reading w.now n ≤ reading later n)
+    → AreRead (record w { now = later; least = lower; kept = still_kept }) → ((d : Datagram) → Contains w.sent d → IsSent w.ends later lower d) → IsTrue still_kept
+    → ClaimsKept w → ClaimsKept (record w { now = later; least = lower; kept = still_kept })
+clock_claims law holds w later lower still_kept on_time le read all on = claims_frame w (record w { now = later; least = lower; kept = still_kept }) (λ n a p. le n (a, p)) (λ n. refl) old still
   where
-    old : (n : ℕ) (a : Addr) (name : NameValue) (kind : Kind) (end : ℕ) → addr_of w.ends n ≡ Some a → ClaimsIn (record w { now = later }) n a name kind end → later < end → ClaimsIn w n a name kind end
+    old : (n : ℕ) (a : Addr) (name : NameValue) (kind : Kind) (end : ℕ) → addr_of w.ends n ≡ Some a → ClaimsIn (record w { now = later; least = lower; kept = still_kept }) n a name kind end → reading later n < end → ClaimsIn w n a name kind end
     old n a name kind end p c lt =
-        claims_fewer w.config.longest w.config.life w.now later (Replied w.sent w.ends.server_addr a name) (Replied w.sent w.ends.server_addr a name) (known (node_of w.ends n) name) kind end le (λ moment message r. r) c
+        claims_fewer w.config.longest w.config.life w.now.clock later.clock (Replied w.sent w.ends.server_addr a name) (Replied w.sent w.ends.server_addr a name) (known (node_of w.ends n) name) kind end on_time (λ moment message r. r) c
 
-    still : (n : ℕ) (a : Addr) (name : NameValue) (kind : Kind) (end : ℕ) → addr_of w.ends n ≡ Some a → ClaimsIn w n a name kind end → later < end → IsCoveredIn w a name kind end → IsCoveredIn (record w { now = later }) a name kind end
+    still : (n : ℕ) (a : Addr) (name : NameValue) (kind : Kind) (end : ℕ) → addr_of w.ends n ≡ Some a → ClaimsIn w n a name kind end → reading later n < end → IsCoveredIn w n a name kind end
+        → IsCoveredIn (record w { now = later; least = lower; kept = still_kept }) n a name kind end
     still n a name kind end p c lt is =
         let counted = is.counted in
         record {
@@ -104,21 +115,22 @@ clock_claims law w later le = claims_frame w (record w { now = later }) le (λ n
           seconds = is.seconds;
           within = is.within;
           counted = is.counted;
-          backed = later_backs law w.now later w.ends.server a.ip name kind (is.moment + 1000 * is.seconds) le (omega arith) is.backed;
+          backed = later_backs law (reading w.now 0) (reading later 0) w.ends.server a.ip name kind (reading is.moment 0 + 1000 * is.seconds) (le 0 (w.ends.server_addr, refl))
+              (hold_over holds (record w { now = later; least = lower; kept = still_kept }) read on all n a p w.ends.server_addr a refl name is.moment is.message is.seconds is.replied_is (omega arith)) is.backed;
         }
 
 -- ---- a node changes: what it claims, it claimed before
 
-pub replied_still : (old new : List Datagram) (server to : Addr) (name : NameValue) → Grows old new → (moment : ℕ) (message : MessageValue) → Replied old server to name moment message → Replied new server to name moment message
+pub replied_still : (old new : List Datagram) (server to : Addr) (name : NameValue) → Grows old new → (moment : Clocks) (message : MessageValue) → Replied old server to name moment message → Replied new server to name moment message
 replied_still old new server to name grows moment message r =
     record { datagram = r.datagram; among = grows r.datagram r.among; sender = r.sender; receiver = r.receiver; moment_is = r.moment_is; spelled = r.spelled; reply = r.reply }
 
 pub node_claims : (w : WorldValue) (i : ℕ) (addr : Addr) (x : Option NodeValue) (sent : List Datagram) → IsKept w → addr_of w.ends (suc i) ≡ Some addr → IsNew w addr sent → Grows w.sent sent
-    → ((name : NameValue) → NoNewClaim w.config.longest w.config.life w.now (Replied w.sent w.ends.server_addr addr name) (known (node_of w.ends (suc i)) name) (known x name))
+    → IsTrue w.kept → ((name : NameValue) → NoNewClaim w.config.longest w.config.life w.now.clock (Replied w.sent w.ends.server_addr addr name) (known (node_of w.ends (suc i)) name) (known x name))
     → ClaimsKept (record w { ends = with_node w.ends (suc i) x; sent = sent })
-node_claims w i addr x sent kept at new grows own = claims_frame w (record w { ends = with_node w.ends (suc i) x; sent = sent }) (omega arith) (addr_with w.ends i x) old still kept.claims
+node_claims w i addr x sent kept at new grows on own = claims_frame w (record w { ends = with_node w.ends (suc i) x; sent = sent }) (λ n a p. omega arith) (addr_with w.ends i x) old still (kept.claims on)
   where
-    fewer : (a : Addr) (name : NameValue) (moment : ℕ) (message : MessageValue) → Replied sent w.ends.server_addr a name moment message → Replied w.sent w.ends.server_addr a name moment message
+    fewer : (a : Addr) (name : NameValue) (moment : Clocks) (message : MessageValue) → Replied sent w.ends.server_addr a name moment message → Replied w.sent w.ends.server_addr a name moment message
     fewer a name = replied_before w.sent sent addr w.ends.server_addr a name (node_not_server w i addr kept at) (from_new w addr sent new)
 
     value_at : (n : ℕ) → n ≡ suc i → node_of (with_node w.ends (suc i) x) n ≡ x
@@ -128,25 +140,25 @@ node_claims w i addr x sent kept at new grows own = claims_frame w (record w { e
     same_addr n a p e = sym p ∙ ap (addr_of w.ends) e ∙ at
 
     by : (n : ℕ) (a : Addr) (name : NameValue) (kind : Kind) (end : ℕ) → addr_of w.ends n ≡ Some a → (n ≡ suc i) ⊎ (n ≡ suc i → ⊥)
-        → Claims w.config.longest w.config.life w.now (Replied w.sent w.ends.server_addr a name) (known (node_of (with_node w.ends (suc i) x) n) name) kind end → ClaimsIn w n a name kind end
+        → Claims w.config.longest w.config.life w.now.clock (Replied w.sent w.ends.server_addr a name) (known (node_of (with_node w.ends (suc i) x) n) name) kind end → ClaimsIn w n a name kind end
     by n a name kind end p (inl e) c =
-        subst (λ (y : Addr). Claims w.config.longest w.config.life w.now (Replied w.sent w.ends.server_addr y name) (known (node_of w.ends n) name) kind end) (same_value (sym (same_addr n a p e)))
-        (subst (λ (m : ℕ). Claims w.config.longest w.config.life w.now (Replied w.sent w.ends.server_addr addr name) (known (node_of w.ends m) name) kind end) (sym e)
+        subst (λ (y : Addr). Claims w.config.longest w.config.life w.now.clock (Replied w.sent w.ends.server_addr y name) (known (node_of w.ends n) name) kind end) (same_value (sym (same_addr n a p e)))
+        (subst (λ (m : ℕ). Claims w.config.longest w.config.life w.now.clock (Replied w.sent w.ends.server_addr addr name) (known (node_of w.ends m) name) kind end) (sym e)
         (own name kind end
-        (subst (λ (z : Option NodeValue). Claims w.config.longest w.config.life w.now (Replied w.sent w.ends.server_addr addr name) (known z name) kind end) (value_at n e)
-        (subst (λ (y : Addr). Claims w.config.longest w.config.life w.now (Replied w.sent w.ends.server_addr y name) (known (node_of (with_node w.ends (suc i) x) n) name) kind end) (same_value (same_addr n a p e)) c))))
+        (subst (λ (z : Option NodeValue). Claims w.config.longest w.config.life w.now.clock (Replied w.sent w.ends.server_addr addr name) (known z name) kind end) (value_at n e)
+        (subst (λ (y : Addr). Claims w.config.longest w.config.life w.now.clock (Replied w.sent w.ends.server_addr y name) (known (node_of (with_node w.ends (suc i) x) n) name) kind end) (same_value (same_addr n a p e)) c))))
       where
         same_value : {a b : Addr} → Some a ≡ Some b → a ≡ b
         same_value e = cc
-    by n a name kind end p (inr ne) c = subst (λ (z : Option NodeValue). Claims w.config.longest w.config.life w.now (Replied w.sent w.ends.server_addr a name) (known z name) kind end) (node_with_other w.ends i x n ne) c
+    by n a name kind end p (inr ne) c = subst (λ (z : Option NodeValue). Claims w.config.longest w.config.life w.now.clock (Replied w.sent w.ends.server_addr a name) (known z name) kind end) (node_with_other w.ends i x n ne) c
 
-    old : (n : ℕ) (a : Addr) (name : NameValue) (kind : Kind) (end : ℕ) → addr_of w.ends n ≡ Some a → ClaimsIn (record w { ends = with_node w.ends (suc i) x; sent = sent }) n a name kind end → w.now < end → ClaimsIn w n a name kind end
+    old : (n : ℕ) (a : Addr) (name : NameValue) (kind : Kind) (end : ℕ) → addr_of w.ends n ≡ Some a → ClaimsIn (record w { ends = with_node w.ends (suc i) x; sent = sent }) n a name kind end → reading w.now n < end → ClaimsIn w n a name kind end
     old n a name kind end p c lt =
         by n a name kind end p (cases_eq n (suc i))
-        (claims_fewer w.config.longest w.config.life w.now w.now (Replied w.sent w.ends.server_addr a name) (Replied sent w.ends.server_addr a name) (known (node_of (with_node w.ends (suc i) x) n) name) kind end (omega arith) (fewer a name) c)
+        (claims_fewer w.config.longest w.config.life w.now.clock w.now.clock (Replied w.sent w.ends.server_addr a name) (Replied sent w.ends.server_addr a name) (known (node_of (with_node w.ends (suc i) x) n) name) kind end (omega arith) (fewer a name) c)
 
-    still : (n : ℕ) (a : Addr) (name : NameValue) (kind : Kind) (end : ℕ) → addr_of w.ends n ≡ Some a → ClaimsIn w n a name kind end → w.now < end → IsCoveredIn w a name kind end
-        → IsCoveredIn (record w { ends = with_node w.ends (suc i) x; sent = sent }) a name kind end
+    still : (n : ℕ) (a : Addr) (name : NameValue) (kind : Kind) (end : ℕ) → addr_of w.ends n ≡ Some a → ClaimsIn w n a name kind end → reading w.now n < end → IsCoveredIn w n a name kind end
+        → IsCoveredIn (record w { ends = with_node w.ends (suc i) x; sent = sent }) n a name kind end
     still n a name kind end p c lt is = record {
       moment = is.moment;
       message = is.message;
@@ -160,27 +172,27 @@ node_claims w i addr x sent kept at new grows own = claims_frame w (record w { e
 -- ---- the server starts, and crashes: the silence lasts as long as any claim
 
 -- the server is another, and nothing was sent
-pub server_claims : (w : WorldValue) (x : Option ServerValue) → IsKept w
-    → ((n : ℕ) (a : Addr) (name : NameValue) (kind : Kind) (end : ℕ) → addr_of w.ends n ≡ Some a → ClaimsIn w n a name kind end → w.now < end → (is : IsCoveredIn w a name kind end) → Backs w.now x a.ip name kind (is.moment + 1000 * is.seconds))
+pub server_claims : (w : WorldValue) (x : Option ServerValue) → IsKept w → IsTrue w.kept
+    → ((n : ℕ) (a : Addr) (name : NameValue) (kind : Kind) (end : ℕ) → addr_of w.ends n ≡ Some a → ClaimsIn w n a name kind end → reading w.now n < end → (is : IsCoveredIn w n a name kind end) → Backs (reading w.now 0) x a.ip name kind (reading is.moment 0 + 1000 * is.seconds))
     → ClaimsKept (record w { ends = with_server w.ends x; sent = w.sent })
-server_claims w x kept backs =
-    claims_frame w (record w { ends = with_server w.ends x; sent = w.sent }) (omega arith) (server_addr_with w.ends x)
-    (λ n a name kind end p c lt. subst (λ (z : Option NodeValue). Claims w.config.longest w.config.life w.now (Replied w.sent w.ends.server_addr a name) (known z name) kind end) (server_node_with w.ends x n) c)
+server_claims w x kept on backs =
+    claims_frame w (record w { ends = with_server w.ends x; sent = w.sent }) (λ n a p. omega arith) (server_addr_with w.ends x)
+    (λ n a name kind end p c lt. subst (λ (z : Option NodeValue). Claims w.config.longest w.config.life w.now.clock (Replied w.sent w.ends.server_addr a name) (known z name) kind end) (server_node_with w.ends x n) c)
     (λ n a name kind end p c lt is.
     record { moment = is.moment; message = is.message; replied_is = is.replied_is; seconds = is.seconds; within = is.within; counted = is.counted; backed = backs n a name kind end p c lt is })
-    kept.claims
+    (kept.claims on)
 
-pub crashed_claims : (w : WorldValue) → IsKept w → ClaimsKept (record w { ends = with_server w.ends None; sent = w.sent })
-crashed_claims w kept = server_claims w None kept (λ n a name kind end p c lt is. tt)
+pub crashed_claims : (w : WorldValue) → IsKept w → IsTrue w.kept → ClaimsKept (record w { ends = with_server w.ends None; sent = w.sent })
+crashed_claims w kept on = server_claims w None kept on (λ n a name kind end p c lt is. tt)
 
-pub started_claims : (w : WorldValue) (server : ServerValue) → IsKept w → IsNewServer w.config w.now server → ClaimsKept (record w { ends = with_server w.ends (Some server); sent = w.sent })
-started_claims w server kept new = server_claims w (Some server) kept backs
+pub started_claims : (w : WorldValue) (server : ServerValue) → IsKept w → IsTrue w.kept → IsNewServer w.config (reading w.now 0) server → ClaimsKept (record w { ends = with_server w.ends (Some server); sent = w.sent })
+started_claims w server kept on new = server_claims w (Some server) kept on backs
   where
-    backs : (n : ℕ) (a : Addr) (name : NameValue) (kind : Kind) (end : ℕ) → addr_of w.ends n ≡ Some a → ClaimsIn w n a name kind end → w.now < end → (is : IsCoveredIn w a name kind end)
-        → Backs w.now (Some server) a.ip name kind (is.moment + 1000 * is.seconds)
+    backs : (n : ℕ) (a : Addr) (name : NameValue) (kind : Kind) (end : ℕ) → addr_of w.ends n ≡ Some a → ClaimsIn w n a name kind end → reading w.now n < end → (is : IsCoveredIn w n a name kind end)
+        → Backs (reading w.now 0) (Some server) a.ip name kind (reading is.moment 0 + 1000 * is.seconds)
     backs n a name kind end p c lt is =
-        let past = (kept.sent (is.replied_is).datagram (is.replied_is).among).past in
-        let at = (is.replied_is).moment_is in
+        let past : reading is.moment 0 ≤ reading w.now 0 =
+        subst (λ (m : Clocks). reading m 0 ≤ reading w.now 0) (is.replied_is).moment_is ((kept.sent (is.replied_is).datagram (is.replied_is).among).seen 0 (w.ends.server_addr, refl)).read in
         let within = is.within in
         let begun = new.start in
         let longest : server.table.config.longest ≡ w.config.longest = ap (λ (c : ConfigValue). c.longest) new.config_is in

@@ -1,6 +1,6 @@
 -- What a world keeps when an end takes a datagram, and when an end starts or crashes.
 use Rattle.std.proofs.Common.{◌≡◌, ◌≢◌, ℕ, zero, suc, List, [], ◌∷◌, ◌++◌, true, eqb, Option, Some, None, refl, sym, ap, subst, ◌∙◌, arith, inl, inr}
-use Rattle.std.specs.Prelude.{◌⊎◌, Result, Ok, Err, Contains}
+use Rattle.std.specs.Prelude.{IsTrue, ◌⊎◌, Result, Ok, Err, Contains}
 use Rattle.std.proofs.lemmas.Bool.{and_parts, eqb-true}
 use Rattle.std.proofs.lemmas.Option.{none-some, same_Some}
 use Rattle.nbt_name.specs.declared.addr.Addr.{Addr}
@@ -22,8 +22,10 @@ use Rattle.nbt_lease.specs.declared.lease.Released.{Released}
 use Rattle.nbt_lease.specs.Rules.{Asked as Asking, Grants, Releases}
 use Rattle.nbt_server.specs.Serving.{ServerValue, AsksFor, grant_reply, refusal, refused_error, release_rcode, name_error, found_reply, Serves, ServesOctets}
 use Rattle.nbt_server.specs.Serving as serving
+use Rattle.nbt_world.specs.declared.clocks.Clocks.{Clocks}
 use Rattle.nbt_world.specs.declared.ends.Ends.{Ends}
 use Rattle.nbt_world.specs.declared.network.Datagram.{Datagram}
+use Rattle.nbt_world.specs.Drift.{reading}
 use Rattle.nbt_world.specs.World.{WorldValue, IsDeliverable, addr_of, node_of, with_server, with_node, datagram}
 use Rattle.nbt_world.specs.Step.{NodeHears, TakenValue, takes, after_taking, ServerDoes, server_takes, server_forgets, Takes, finds_down, by_server, by_node}
 use Rattle.nbt_world.specs.Kept.{IsRequest, IsReply, Asked, Replied, known, IsOpen, RequestsEnded, RepliesFresh, IsServerOf, IsKept}
@@ -31,7 +33,7 @@ use Rattle.std.proofs.lemmas.List.Elements.{Contains-push_cases}
 use Rattle.nbt_world.proofs.Knowing.{Draws, fresh-reply}
 use Rattle.nbt_world.proofs.Claiming.{NoNewClaim, IsListed, claims_by_time, claims_hears}
 use Rattle.nbt_world.proofs.Keeping.{Grows, asked_still, asked_before, server_changes}
-use Rattle.nbt_world.proofs.Naming.{OneMessage, Origin, listed, strange, names_apart, Stays, stays_by_moves, is_new, nothing_new, name_by_time, name_hears, fresh_by_time, fresh_hears, grows_by, UpAt, up_at, node_moves}
+use Rattle.nbt_world.proofs.Naming.{OneMessage, Laws, Origin, listed, strange, names_apart, Stays, stays_by_moves, is_new, nothing_new, name_by_time, name_hears, fresh_by_time, fresh_hears, grows_by, UpAt, up_at, node_moves}
 use Rattle.nbt_world.proofs.Granting.{LeaseLaws}
 use Rattle.nbt_world.proofs.Served.{Took, served_claims, forgotten_claims}
 use Rattle.nbt_world.proofs.Events.{stays_by_lookup, stays_by_time, time_kept, other_kept}
@@ -40,46 +42,46 @@ use Rattle.nbt_world.proofs.Events.{stays_by_lookup, stays_by_time, time_kept, o
 
 -- what is heard from the server, where it is a positive reply, is one of the list
 abbrev pub ListedTo : WorldValue → Addr → NameValue → MessageValue → Type 0
-ListedTo w addr name m = IsListed w.config.life w.now (Replied w.sent w.ends.server_addr addr name) m
+ListedTo w addr name m = IsListed w.config.life w.now.clock (Replied w.sent w.ends.server_addr addr name) m
 
-hears_kept : (w : WorldValue) (i : ℕ) (node new : NodeValue) (name : NameValue) (m : MessageValue) (told : Told) → IsKept w → node_of w.ends (suc i) ≡ Some node → NameMoves node w.now name (hear m) new None told
+hears_kept : Laws → (w : WorldValue) (i : ℕ) (node new : NodeValue) (name : NameValue) (m : MessageValue) (told : Told) → IsKept w → node_of w.ends (suc i) ≡ Some node → NameMoves node (reading w.now (suc i)) name (hear m) new None told
     → ((addr : Addr) → addr_of w.ends (suc i) ≡ Some addr → ListedTo w addr name m)
     → IsKept (record w { ends = with_node w.ends (suc i) (Some new) })
-hears_kept w i node new name m told kept up moves is_listed =
-    let at = up_at w i node kept up in
-    let stays = stays_by_moves w.now node new name _ _ _ moves in
-    node_moves w i node new w.sent kept at stays (nothing_new w at.addr) (λ d c. c) (λ q. names at stays q (names_apart q name)) (λ q. replies at stays q (names_apart q name)) (λ q. claims at stays q (names_apart q name))
+hears_kept law w i node new name m told kept up moves is_listed =
+    let at = up_at law.rests w i node kept up in
+    let stays = stays_by_moves (reading w.now (suc i)) node new name _ _ _ moves in
+    node_moves w i node new w.sent kept at stays (nothing_new w at.addr) (λ d c. c) (λ on q. names at stays on q (names_apart q name)) (λ on q. replies at stays on q (names_apart q name)) (λ on q. claims at stays on q (names_apart q name))
   where
-    claims : (at : UpAt w i node) → Stays node w.now new → (q : NameValue) → (q ≡ name) ⊎ (q ≢ name)
-        → NoNewClaim node.config.longest node.config.life w.now (Replied w.sent w.ends.server_addr at.addr q) (known (Some node) q) (known (Some new) q)
-    claims at stays q (inl e) =
-        subst (λ (n : NameValue). NoNewClaim node.config.longest node.config.life w.now (Replied w.sent w.ends.server_addr at.addr n) (known (Some node) n) (known (Some new) n)) (sym e)
-        (claims_hears w.now node new name m told (Replied w.sent w.ends.server_addr at.addr name) stays.start_is moves
-        (subst (λ (c : ConfigValue). IsListed c.life w.now (Replied w.sent w.ends.server_addr at.addr name) m) (sym (at.is).config_is) (is_listed at.addr at.at)))
-    claims at stays q (inr ne) = claims_by_time w.now node new q node.config.longest (Replied w.sent w.ends.server_addr at.addr q) stays.start_is (moves.others q ne)
+    claims : (at : UpAt w i node) → Stays node (reading w.now (suc i)) new → IsTrue w.kept → (q : NameValue) → (q ≡ name) ⊎ (q ≢ name)
+        → NoNewClaim node.config.longest node.config.life w.now.clock (Replied w.sent w.ends.server_addr at.addr q) (known (Some node) q) (known (Some new) q)
+    claims at stays on q (inl e) =
+        subst (λ (n : NameValue). NoNewClaim node.config.longest node.config.life w.now.clock (Replied w.sent w.ends.server_addr at.addr n) (known (Some node) n) (known (Some new) n)) (sym e)
+        (claims_hears w.now.clock (reading w.now (suc i)) node new name m told (Replied w.sent w.ends.server_addr at.addr name) stays.start_is moves
+        (subst (λ (c : ConfigValue). IsListed c.life w.now.clock (Replied w.sent w.ends.server_addr at.addr name) m) (sym (at.is).config_is) (is_listed at.addr at.at)))
+    claims at stays on q (inr ne) = claims_by_time w.now.clock (reading w.now (suc i)) node new q node.config.longest (Replied w.sent w.ends.server_addr at.addr q) stays.start_is (moves.others q ne)
 
-    replies : (at : UpAt w i node) → Stays node w.now new → (q : NameValue) → (q ≡ name) ⊎ (q ≢ name)
-        → RepliesFresh node.config.life w.now (Asked w.sent (at.addr).ip q) (Replied w.sent w.ends.server_addr at.addr q) (known (Some new) q)
-    replies at stays q (inl e) =
-        subst (λ (n : NameValue). RepliesFresh node.config.life w.now (Asked w.sent (at.addr).ip n) (Replied w.sent w.ends.server_addr at.addr n) (known (Some new) n)) (sym e)
-        (fresh_hears w.now node new name m told (Asked w.sent (at.addr).ip name) (Replied w.sent w.ends.server_addr at.addr name) stays.start_is moves (at.replies name))
-    replies at stays q (inr ne) =
-        fresh_by_time w.now node new q (Asked w.sent (at.addr).ip q) (Asked w.sent (at.addr).ip q) (Replied w.sent w.ends.server_addr at.addr q) (Replied w.sent w.ends.server_addr at.addr q) stays.start_is (moves.others q ne)
-        (λ moment message a. a) (λ moment message a. a) (λ moment message r. r) (at.replies q)
+    replies : (at : UpAt w i node) → Stays node (reading w.now (suc i)) new → IsTrue w.kept → (q : NameValue) → (q ≡ name) ⊎ (q ≢ name)
+        → RepliesFresh node.config.life (suc i) w.now.clock (reading w.now (suc i)) (Asked w.sent (at.addr).ip q) (Replied w.sent w.ends.server_addr at.addr q) (known (Some new) q)
+    replies at stays on q (inl e) =
+        subst (λ (n : NameValue). RepliesFresh node.config.life (suc i) w.now.clock (reading w.now (suc i)) (Asked w.sent (at.addr).ip n) (Replied w.sent w.ends.server_addr at.addr n) (known (Some new) n)) (sym e)
+        (fresh_hears (suc i) w.now.clock (reading w.now (suc i)) node new name m told (Asked w.sent (at.addr).ip name) (Replied w.sent w.ends.server_addr at.addr name) stays.start_is moves (at.past on name) (at.replies on name))
+    replies at stays on q (inr ne) =
+        fresh_by_time (suc i) w.now.clock (reading w.now (suc i)) node new q (Asked w.sent (at.addr).ip q) (Asked w.sent (at.addr).ip q) (Replied w.sent w.ends.server_addr at.addr q) (Replied w.sent w.ends.server_addr at.addr q) stays.start_is (moves.others q ne) (at.past on q)
+        (λ moment message a. a) (λ moment message a. a) (λ moment message r. r) (at.replies on q)
 
-    names : (at : UpAt w i node) → Stays node w.now new → (q : NameValue) → (q ≡ name) ⊎ (q ≢ name) → RequestsEnded node.config.life w.now (Asked w.sent (at.addr).ip q) (known (Some new) q)
-    names at stays q (inl e) =
-        subst (λ (n : NameValue). RequestsEnded node.config.life w.now (Asked w.sent (at.addr).ip n) (known (Some new) n)) (sym e)
-        (name_hears w.now node new name m told (Asked w.sent (at.addr).ip name) stays.start_is moves (at.requests name))
-    names at stays q (inr ne) = name_by_time w.now node new q (Asked w.sent (at.addr).ip q) (Asked w.sent (at.addr).ip q) stays.start_is (moves.others q ne) (λ moment message a. a) (at.requests q)
+    names : (at : UpAt w i node) → Stays node (reading w.now (suc i)) new → IsTrue w.kept → (q : NameValue) → (q ≡ name) ⊎ (q ≢ name) → RequestsEnded node.config.life (suc i) w.now.clock (reading w.now (suc i)) (Asked w.sent (at.addr).ip q) (known (Some new) q)
+    names at stays on q (inl e) =
+        subst (λ (n : NameValue). RequestsEnded node.config.life (suc i) w.now.clock (reading w.now (suc i)) (Asked w.sent (at.addr).ip n) (known (Some new) n)) (sym e)
+        (name_hears (suc i) w.now.clock (reading w.now (suc i)) node new name m told (Asked w.sent (at.addr).ip name) stays.start_is moves (at.past on name) (at.requests on name))
+    names at stays on q (inr ne) = name_by_time (suc i) w.now.clock (reading w.now (suc i)) node new q (Asked w.sent (at.addr).ip q) (Asked w.sent (at.addr).ip q) stays.start_is (moves.others q ne) (at.past on q) (λ moment message a. a) (at.requests on q)
 
 -- the world after a node took a datagram, and its reply was sent
 abbrev pub replied_world : WorldValue → (i : ℕ) → NodeValue → Addr → Option MessageValue → WorldValue
 replied_world w i new to None = record w { ends = with_node w.ends (suc i) (Some new) }
 replied_world w i new to (Some m) = record w { ends = with_node w.ends (suc i) (Some new); sent = w.sent ++ datagram new.addr to w.now (text m) ∷ [] }
 
-passes_kept : (w : WorldValue) (i : ℕ) (node new : NodeValue) → IsKept w → node_of w.ends (suc i) ≡ Some node → Passes node w.now new → IsKept (record w { ends = with_node w.ends (suc i) (Some new) })
-passes_kept w i node new kept up passes = time_kept w i node new kept up (stays_by_time w.now node new passes) passes.names
+passes_kept : Laws → (w : WorldValue) (i : ℕ) (node new : NodeValue) → IsKept w → node_of w.ends (suc i) ≡ Some node → Passes node (reading w.now (suc i)) new → IsKept (record w { ends = with_node w.ends (suc i) (Some new) })
+passes_kept law w i node new kept up passes = time_kept law w i node new kept up (stays_by_time (reading w.now (suc i)) node new passes) passes.names
 
 -- where octets from this end come from, and what they spell
 pub record IsHeard (w : WorldValue) (i : ℕ) (from : Addr) (m : MessageValue) : Type 0 where
@@ -94,7 +96,7 @@ heard_listed : (w : WorldValue) (i : ℕ) (from : Addr) (name : NameValue) (m : 
     → (addr : Addr) → addr_of w.ends (suc i) ≡ Some addr → ListedTo w addr name m
 heard_listed w i from name m heard same named addr at r e = go heard.origin
   where
-    go : Origin w from heard.addr heard.octets → (moment : ℕ) × Replied w.sent w.ends.server_addr addr name moment (registered 0 r) × IsDeliverable w.config.life w.now moment
+    go : Origin w from heard.addr heard.octets → (moment : Clocks) × Replied w.sent w.ends.server_addr addr name moment (registered 0 r) × IsDeliverable w.config.life w.now.clock moment.clock
     go (strange off) = absurd (off (0, w.ends.server_addr, refl, ap (λ (a : Addr). a.ip) (sym same)))
     go (listed d c f t o delivered) = (
       d.moment,
@@ -115,26 +117,26 @@ same_addr a b e =
     let parts = and_parts (eqb a.ip b.ip) (eqb a.port b.port) e in
     λ i. record { ip = eqb-true a.ip b.ip parts.0 i; port = eqb-true a.port b.port parts.1 i }
 
-heard_kept : (w : WorldValue) (i : ℕ) (node new : NodeValue) (from to : Addr) (name : NameValue) (m : MessageValue) (sent : Option MessageValue) (told : Told) → IsKept w → node_of w.ends (suc i) ≡ Some node
-    → Hears node w.now from name m new sent told → IsHeard w i from m → ((r : Registration) → m ≡ registered 0 r → r.name ≡ name) → IsKept (replied_world w i new to sent)
-heard_kept w i node new from to name m sent told kept up (from_server n t same moves) heard named =
-    hears_kept w i node new name m told kept up moves (heard_listed w i from name m heard (same_addr from node.server same ∙ ((up_at w i node kept up).is).server_is) named)
-heard_kept w i node new from to name m sent told kept up (from_stranger n other passes) heard named = passes_kept w i node new kept up passes
+heard_kept : Laws → (w : WorldValue) (i : ℕ) (node new : NodeValue) (from to : Addr) (name : NameValue) (m : MessageValue) (sent : Option MessageValue) (told : Told) → IsKept w → node_of w.ends (suc i) ≡ Some node
+    → Hears node (reading w.now (suc i)) from name m new sent told → IsHeard w i from m → ((r : Registration) → m ≡ registered 0 r → r.name ≡ name) → IsKept (replied_world w i new to sent)
+heard_kept law w i node new from to name m sent told kept up (from_server n t same moves) heard named =
+    hears_kept law w i node new name m told kept up moves (heard_listed w i from name m heard (same_addr from node.server same ∙ ((up_at law.rests w i node kept up).is).server_is) named)
+heard_kept law w i node new from to name m sent told kept up (from_stranger n other passes) heard named = passes_kept law w i node new kept up passes
 
-lists_kept : OneMessage → (w : WorldValue) (i : ℕ) (node new : NodeValue) (to : Addr) (id : ℕ) (name : NameValue) (sent : Option MessageValue) (told : Told) (out : List ℕ) → IsKept w → node_of w.ends (suc i) ≡ Some node
-    → Lists node w.now id name new sent told → AreWritten sent out → IsKept (replied_world w i new to sent)
+lists_kept : Laws → (w : WorldValue) (i : ℕ) (node new : NodeValue) (to : Addr) (id : ℕ) (name : NameValue) (sent : Option MessageValue) (told : Told) (out : List ℕ) → IsKept w → node_of w.ends (suc i) ≡ Some node
+    → Lists node (reading w.now (suc i)) id name new sent told → AreWritten sent out → IsKept (replied_world w i new to sent)
 lists_kept law w i node new to id name sent told out kept up (lists_names n is passes) written =
-    other_kept law w i node new to _ (status id name (names_listed node w.now name)) kept up (stays_by_time w.now node new passes) passes.names (refl, subst (λ (xs : List ℕ). Spells xs (status id name (names_listed node w.now name))) written.0 written.1) (λ q r. r) (λ r e. cc)
-lists_kept law w i node new to id name sent told out kept up (lists_nothing n is passes) written = passes_kept w i node new kept up passes
+    other_kept law w i node new to _ (status id name (names_listed node (reading w.now (suc i)) name)) kept up (stays_by_time (reading w.now (suc i)) node new passes) passes.names (refl, subst (λ (xs : List ℕ). Spells xs (status id name (names_listed node (reading w.now (suc i)) name))) written.0 written.1) (λ q r. r) (λ r e. cc)
+lists_kept law w i node new to id name sent told out kept up (lists_nothing n is passes) written = passes_kept law w i node new kept up passes
 
-ended_kept : (w : WorldValue) (i : ℕ) (node new : NodeValue) (from to : Addr) (m : MessageValue) (sent : Option MessageValue) (t told : Told) → IsKept w → node_of w.ends (suc i) ≡ Some node
-    → LookupEnds node w.now from m t new sent told → IsKept (replied_world w i new to sent)
-ended_kept w i node new from to m sent t told kept up (is_answered n is looks) = time_kept w i node new kept up (stays_by_lookup w.now node new _ _ looks) looks.names
-ended_kept w i node new from to m sent t told kept up (is_unanswered n is passes) = passes_kept w i node new kept up passes
+ended_kept : Laws → (w : WorldValue) (i : ℕ) (node new : NodeValue) (from to : Addr) (m : MessageValue) (sent : Option MessageValue) (t told : Told) → IsKept w → node_of w.ends (suc i) ≡ Some node
+    → LookupEnds node (reading w.now (suc i)) from m t new sent told → IsKept (replied_world w i new to sent)
+ended_kept law w i node new from to m sent t told kept up (is_answered n is looks) = time_kept law w i node new kept up (stays_by_lookup (reading w.now (suc i)) node new _ _ looks) looks.names
+ended_kept law w i node new from to m sent t told kept up (is_unanswered n is passes) = passes_kept law w i node new kept up passes
 
-idles_kept : (w : WorldValue) (i : ℕ) (node new : NodeValue) (to : Addr) (sent : Option MessageValue) (told : Told) → IsKept w → node_of w.ends (suc i) ≡ Some node
-    → Idles node w.now new sent told → IsKept (replied_world w i new to sent)
-idles_kept w i node new to sent told kept up (idles n passes) = passes_kept w i node new kept up passes
+idles_kept : Laws → (w : WorldValue) (i : ℕ) (node new : NodeValue) (to : Addr) (sent : Option MessageValue) (told : Told) → IsKept w → node_of w.ends (suc i) ≡ Some node
+    → Idles node (reading w.now (suc i)) new sent told → IsKept (replied_world w i new to sent)
+idles_kept law w i node new to sent told kept up (idles n passes) = passes_kept law w i node new kept up passes
 
 -- a positive reply is about its own name
 named_registered : (rcode : ℕ) (r x : Registration) → registered rcode r ≡ registered 0 x → x.name ≡ r.name
@@ -143,26 +145,26 @@ named_registered rcode r x e = ap (λ (y : Registration). y.name) (sym (same r x
     same : (a b : Registration) → registered rcode a ≡ registered 0 b → a ≡ b
     same a b e = cc
 
-takes_kept : OneMessage → (w : WorldValue) (i : ℕ) (node new : NodeValue) (from to : Addr) (m : MessageValue) (sent : Option MessageValue) (told : Told) (out : List ℕ) → IsKept w → node_of w.ends (suc i) ≡ Some node
-    → NodeTakes node w.now from m new sent told → AreWritten sent out → IsHeard w i from m → IsKept (replied_world w i new to sent)
-takes_kept law w i node new from to (registration r) sent told out kept up t written heard = idles_kept w i node new to sent told kept up t
-takes_kept law w i node new from to (overwrite r) sent told out kept up t written heard = idles_kept w i node new to sent told kept up t
-takes_kept law w i node new from to (refresh r) sent told out kept up t written heard = idles_kept w i node new to sent told kept up t
-takes_kept law w i node new from to (release id name kind addr) sent told out kept up t written heard = idles_kept w i node new to sent told kept up t
-takes_kept law w i node new from to (query id name) sent told out kept up t written heard = idles_kept w i node new to sent told kept up t
+takes_kept : Laws → (w : WorldValue) (i : ℕ) (node new : NodeValue) (from to : Addr) (m : MessageValue) (sent : Option MessageValue) (told : Told) (out : List ℕ) → IsKept w → node_of w.ends (suc i) ≡ Some node
+    → NodeTakes node (reading w.now (suc i)) from m new sent told → AreWritten sent out → IsHeard w i from m → IsKept (replied_world w i new to sent)
+takes_kept law w i node new from to (registration r) sent told out kept up t written heard = idles_kept law w i node new to sent told kept up t
+takes_kept law w i node new from to (overwrite r) sent told out kept up t written heard = idles_kept law w i node new to sent told kept up t
+takes_kept law w i node new from to (refresh r) sent told out kept up t written heard = idles_kept law w i node new to sent told kept up t
+takes_kept law w i node new from to (release id name kind addr) sent told out kept up t written heard = idles_kept law w i node new to sent told kept up t
+takes_kept law w i node new from to (query id name) sent told out kept up t written heard = idles_kept law w i node new to sent told kept up t
 takes_kept law w i node new from to (status_request id name) sent told out kept up t written heard = lists_kept law w i node new to id name sent told out kept up t written
-takes_kept law w i node new from to (registered rcode r) sent told out kept up t written heard = heard_kept w i node new from to _ _ sent told kept up t heard (λ x e. named_registered rcode r x e)
-takes_kept law w i node new from to (released id rcode name kind addr) sent told out kept up t written heard = heard_kept w i node new from to _ _ sent told kept up t heard (λ x e. cc)
-takes_kept law w i node new from to (found id name ttl entries cut) sent told out kept up t written heard = ended_kept w i node new from to _ sent _ told kept up t
-takes_kept law w i node new from to (not_found id rcode name) sent told out kept up t written heard = ended_kept w i node new from to _ sent _ told kept up t
-takes_kept law w i node new from to (status id name names) sent told out kept up t written heard = ended_kept w i node new from to _ sent _ told kept up t
-takes_kept law w i node new from to (wait id name ttl) sent told out kept up t written heard = heard_kept w i node new from to _ _ sent told kept up t heard (λ x e. cc)
+takes_kept law w i node new from to (registered rcode r) sent told out kept up t written heard = heard_kept law w i node new from to _ _ sent told kept up t heard (λ x e. named_registered rcode r x e)
+takes_kept law w i node new from to (released id rcode name kind addr) sent told out kept up t written heard = heard_kept law w i node new from to _ _ sent told kept up t heard (λ x e. cc)
+takes_kept law w i node new from to (found id name ttl entries cut) sent told out kept up t written heard = ended_kept law w i node new from to _ sent _ told kept up t
+takes_kept law w i node new from to (not_found id rcode name) sent told out kept up t written heard = ended_kept law w i node new from to _ sent _ told kept up t
+takes_kept law w i node new from to (status id name names) sent told out kept up t written heard = ended_kept law w i node new from to _ sent _ told kept up t
+takes_kept law w i node new from to (wait id name ttl) sent told out kept up t written heard = heard_kept law w i node new from to _ _ sent told kept up t heard (λ x e. cc)
 
-octets_kept : OneMessage → (w : WorldValue) (i : ℕ) (node new : NodeValue) (from to : Addr) (octets : List ℕ) (sent : Option MessageValue) (told : Told) (out : List ℕ) → IsKept w → node_of w.ends (suc i) ≡ Some node
-    → (addr : Addr) → addr_of w.ends (suc i) ≡ Some addr → Origin w from addr octets → TakesOctets node w.now from octets new sent told → AreWritten sent out → IsKept (replied_world w i new to sent)
+octets_kept : Laws → (w : WorldValue) (i : ℕ) (node new : NodeValue) (from to : Addr) (octets : List ℕ) (sent : Option MessageValue) (told : Told) (out : List ℕ) → IsKept w → node_of w.ends (suc i) ≡ Some node
+    → (addr : Addr) → addr_of w.ends (suc i) ≡ Some addr → Origin w from addr octets → TakesOctets node (reading w.now (suc i)) from octets new sent told → AreWritten sent out → IsKept (replied_world w i new to sent)
 octets_kept law w i node new from to octets sent told out kept up addr at origin (spelled m n s t is does) written =
     takes_kept law w i node new from to m sent told out kept up does written (record { addr = addr; at = at; octets = octets; origin = origin; spells = is })
-octets_kept law w i node new from to octets sent told out kept up addr at origin (unspelled n no_message passes) written = passes_kept w i node new kept up passes
+octets_kept law w i node new from to octets sent told out kept up addr at origin (unspelled n no_message passes) written = passes_kept law w i node new kept up passes
 
 heard_addr : (now : ℕ) (node new : NodeValue) (from : Addr) (name : NameValue) (m : MessageValue) (sent : Option MessageValue) (told : Told) → Hears node now from name m new sent told → new.addr ≡ node.addr
 heard_addr now node new from name m sent told (from_server n t same moves) = (stays_by_moves now node new name _ _ _ moves).addr_is
@@ -197,8 +199,8 @@ stays_by_octets : (now : ℕ) (node new : NodeValue) (from : Addr) (octets : Lis
 stays_by_octets now node new from octets sent told (spelled m n s t is does) = taken_addr now node new from m sent told does
 stays_by_octets now node new from octets sent told (unspelled n no_message passes) = (stays_by_time now node new passes).addr_is
 
-node_hears_kept : OneMessage → (w : WorldValue) (i : ℕ) (node new : NodeValue) (from addr : Addr) (octets : List ℕ) (reply : Option MessageValue) → IsKept w → addr_of w.ends (suc i) ≡ Some addr → node_of w.ends (suc i) ≡ Some node
-    → Origin w from addr octets → NodeHears w.now node from octets reply new → IsKept (after_taking w (with_node w.ends (suc i) (Some new)) addr from (takes reply))
+node_hears_kept : Laws → (w : WorldValue) (i : ℕ) (node new : NodeValue) (from addr : Addr) (octets : List ℕ) (reply : Option MessageValue) → IsKept w → addr_of w.ends (suc i) ≡ Some addr → node_of w.ends (suc i) ≡ Some node
+    → Origin w from addr octets → NodeHears (reading w.now (suc i)) node from octets reply new → IsKept (after_taking w (with_node w.ends (suc i) (Some new)) addr from (takes reply))
 node_hears_kept law w i node new from addr octets reply kept at up origin hears = as_taken reply same (subst (λ (r : Option MessageValue). IsKept (replied_world w i new from r)) hears.sent_is left)
   where
     left : IsKept (replied_world w i new from (hears.handles).sent)
@@ -206,8 +208,8 @@ node_hears_kept law w i node new from addr octets reply kept at up origin hears 
 
     same : new.addr ≡ addr
     same =
-        let here = up_at w i node kept up in
-        stays_by_octets w.now node new from octets _ _ (hears.handles).takes ∙ (here.is).addr_is ∙ same_Some here.addr addr (sym here.at ∙ at)
+        let here = up_at law.rests w i node kept up in
+        stays_by_octets (reading w.now (suc i)) node new from octets _ _ (hears.handles).takes ∙ (here.is).addr_is ∙ same_Some here.addr addr (sym here.at ∙ at)
 
     as_taken : (r : Option MessageValue) → new.addr ≡ addr → IsKept (replied_world w i new from r) → IsKept (after_taking w (with_node w.ends (suc i) (Some new)) addr from (takes r))
     as_taken None e kept = kept
@@ -297,39 +299,40 @@ octets_no_overwrite server now ip octets reply after (serving.is_no_message none
 octets_no_overwrite server now ip octets reply after (serving.serves k p l speaks spells does) m e r f = serves_no_overwrite server.table now ip k reply after does m e r f
 
 -- what is new among the replies to an end was drawn by its request
-replies_drawn : OneMessage → (w : WorldValue) (server : ServerValue) (from to_addr : Addr) (octets : List ℕ) (reply : Option MessageValue) (after : Leases) (m : MessageValue) → IsKept w → Origin w from to_addr octets
-    → ServesOctets server w.now from.ip octets reply after → reply ≡ Some m → (d : Datagram) → d.to ≡ from → d.moment ≡ w.now → Spells d.octets.items m
+replies_drawn : Laws → (w : WorldValue) (server : ServerValue) (from to_addr : Addr) (octets : List ℕ) (reply : Option MessageValue) (after : Leases) (m : MessageValue) → IsKept w → Origin w from to_addr octets
+    → ServesOctets server (reading w.now 0) from.ip octets reply after → reply ≡ Some m → (d : Datagram) → d.to ≡ from → d.moment ≡ w.now → Spells d.octets.items m
     → (n : ℕ) (a : Addr) (name : NameValue) → addr_of w.ends n ≡ Some a
-    → (moment : ℕ) (message : MessageValue) → Replied (w.sent ++ d ∷ []) w.ends.server_addr a name moment message
-    → Replied w.sent w.ends.server_addr a name moment message ⊎ Draws w.config.life w.now (Asked w.sent a.ip name) moment
+    → (moment : Clocks) (message : MessageValue) → Replied (w.sent ++ d ∷ []) w.ends.server_addr a name moment message
+    → Replied w.sent w.ends.server_addr a name moment message ⊎ Draws w.config.life n w.now.clock (reading w.now n) (Asked w.sent a.ip name) moment
 replies_drawn law w server from to_addr octets reply after m kept origin serves is d to now spells n a name p moment message r = go (Contains-push_cases w.sent d r.datagram r.among)
   where
-    drawn : d ≡ r.datagram → from ≡ a → Draw octets name → Origin w from to_addr octets → Draws w.config.life w.now (Asked w.sent a.ip name) moment
+    drawn : d ≡ r.datagram → from ≡ a → Draw octets name → Origin w from to_addr octets → Draws w.config.life n w.now.clock (reading w.now n) (Asked w.sent a.ip name) moment
     drawn e same draw (strange off) = absurd (off (n, a, p, ap (λ (x : Addr). x.ip) (sym same)))
     drawn e same draw (listed x c f t o delivered) = by draw.asks
       where
         spelled_in : Spells x.octets.items draw.message
         spelled_in = subst (λ (xs : List ℕ). Spells xs draw.message) (sym o) draw.spells
 
-        by : Asks name draw.message → Draws w.config.life w.now (Asked w.sent a.ip name) moment
+        by : Asks name draw.message → Draws w.config.life n w.now.clock (reading w.now n) (Asked w.sent a.ip name) moment
         by (by_overwrite q f2) = absurd ((kept.sent x c).no_overwrite q (sym ((kept.sent x c).only draw.message spelled_in) ∙ f2))
         by (by_request q) = record {
           sent = x.moment;
           request = draw.message;
-          now_is = sym r.moment_is ∙ ap (λ (y : Datagram). y.moment) (sym e) ∙ now;
+          clock_is = ap (λ (c : Clocks). c.clock) (sym r.moment_is ∙ ap (λ (y : Datagram). y.moment) (sym e) ∙ now);
+          now_is = ap (λ (c : Clocks). reading c n) (sym r.moment_is ∙ ap (λ (y : Datagram). y.moment) (sym e) ∙ now);
           asked_is = record { datagram = x; among = c; sender = ap (λ (y : Addr). y.ip) (f ∙ same); moment_is = refl; spelled = spelled_in; request = q };
           delivered = delivered;
         }
 
-    go : Contains w.sent r.datagram ⊎ (d ≡ r.datagram) → Replied w.sent w.ends.server_addr a name moment message ⊎ Draws w.config.life w.now (Asked w.sent a.ip name) moment
+    go : Contains w.sent r.datagram ⊎ (d ≡ r.datagram) → Replied w.sent w.ends.server_addr a name moment message ⊎ Draws w.config.life n w.now.clock (reading w.now n) (Asked w.sent a.ip name) moment
     go (inl c) = inl (record { datagram = r.datagram; among = c; sender = r.sender; receiver = r.receiver; moment_is = r.moment_is; spelled = r.spelled; reply = r.reply })
     go (inr e) =
-        let one : message ≡ m = law d.octets.items message m (subst (λ (y : Datagram). Spells y.octets.items message) (sym e) r.spelled) spells in
+        let one : message ≡ m = law.one_message d.octets.items message m (subst (λ (y : Datagram). Spells y.octets.items message) (sym e) r.spelled) spells in
         let same : from ≡ a = sym to ∙ ap (λ (y : Datagram). y.to) e ∙ r.receiver in
-        inr (drawn e same (octets_asked server w.now from.ip octets reply after serves m is name (subst (λ (k : MessageValue). IsReply name k) one r.reply)) origin)
+        inr (drawn e same (octets_asked server (reading w.now 0) from.ip octets reply after serves m is name (subst (λ (k : MessageValue). IsReply name k) one r.reply)) origin)
 
-server_takes_kept : OneMessage → GrantsSound → ReleasesSound → LeaseLaws → (w : WorldValue) (server new : ServerValue) (from addr : Addr) (octets : List ℕ) (taken : TakenValue) → IsKept w → w.ends.server ≡ Some server → addr_of w.ends 0 ≡ Some addr
-    → Origin w from addr octets → ServerDoes w.now server from.ip octets taken new → ((m : MessageValue) → taken ≡ takes (Some m) → Spells (text m) m)
+server_takes_kept : Laws → GrantsSound → ReleasesSound → LeaseLaws → (w : WorldValue) (server new : ServerValue) (from addr : Addr) (octets : List ℕ) (taken : TakenValue) → IsKept w → w.ends.server ≡ Some server → addr_of w.ends 0 ≡ Some addr
+    → Origin w from addr octets → ServerDoes (reading w.now 0) server from.ip octets taken new → ((m : MessageValue) → taken ≡ takes (Some m) → Spells (text m) m)
     → IsKept (after_taking w (with_server w.ends (Some new)) addr from taken)
 server_takes_kept law g r laws w server new from addr octets taken kept up at origin (server_takes reply n t) spells = go reply refl (λ m e. spells m (ap takes e))
   where
@@ -339,20 +342,21 @@ server_takes_kept law g r laws w server new from addr octets taken kept up at or
         record {
           config_is = t.config ∙ k.config_is;
           past = let e = t.last in omega arith;
-          sound = subst (λ (c : ConfigValue). IsSound c w.now (leases_at w.now new.table.rows)) k.config_is
-              (serves_octets_sound g r server w.now from.ip octets reply _ (subst (λ (c : ConfigValue). IsSound c w.now (leases_at w.now server.table.rows)) (sym k.config_is) k.sound) t.serves);
+          sound = subst (λ (c : ConfigValue). IsSound c (reading w.now 0) (leases_at (reading w.now 0) new.table.rows)) k.config_is
+              (serves_octets_sound g r server (reading w.now 0) from.ip octets reply _ (subst (λ (c : ConfigValue). IsSound c (reading w.now 0) (leases_at (reading w.now 0) server.table.rows)) (sym k.config_is) k.sound) t.serves);
         }
 
-    took : (sent : List Datagram) → Grows w.sent sent
-        → ((a : Addr) (q : NameValue) (moment : ℕ) (message : MessageValue) → Replied sent w.ends.server_addr a q moment message → Replied w.sent w.ends.server_addr a q moment message ⊎ ((moment ≡ w.now) × (from ≡ a) × (reply ≡ Some message)))
+    took : (sent : List Datagram) → IsTrue w.kept → Grows w.sent sent
+        → ((a : Addr) (q : NameValue) (moment : Clocks) (message : MessageValue) → Replied sent w.ends.server_addr a q moment message → Replied w.sent w.ends.server_addr a q moment message ⊎ ((moment ≡ w.now) × (from ≡ a) × (reply ≡ Some message)))
         → Took w server new from addr octets reply sent
-    took sent grows more =
+    took sent on grows more =
         let k = kept.server server up in
         record {
           kept = kept;
+          on = on;
           up = up;
           config_is = k.config_is;
-          sound = subst (λ (c : ConfigValue). IsSound c w.now (leases_at w.now server.table.rows)) (sym k.config_is) k.sound;
+          sound = subst (λ (c : ConfigValue). IsSound c (reading w.now 0) (leases_at (reading w.now 0) server.table.rows)) (sym k.config_is) k.sound;
           origin = origin;
           takes = t;
           grows = grows;
@@ -365,24 +369,24 @@ server_takes_kept law g r laws w server new from addr octets taken kept up at or
     go : (p : Option MessageValue) → reply ≡ p → ((m : MessageValue) → p ≡ Some m → Spells (text m) m) → IsKept (after_taking w (with_server w.ends (Some new)) addr from (takes p))
     go None same spelling =
         server_changes w (Some new) w.sent kept is_its (nothing_new w w.ends.server_addr) kept.replies
-        (served_claims laws w server new from addr octets reply w.sent (took w.sent (λ d c. c) (λ a q moment message replied. inl replied)))
+        (λ on. served_claims laws w server new from addr octets reply w.sent (took w.sent on (λ d c. c) (λ a q moment message replied. inl replied)))
     go (Some m) same spelling =
         server_changes w (Some new) (w.sent ++ datagram addr from w.now (text m) ∷ []) kept is_its
-        (is_new law w 0 w.ends.server_addr (datagram addr from w.now (text m)) m refl
-        (record { from_is = sym (same_Some w.ends.server_addr addr at); now_is = refl; written = refl; spelled = spelling m refl; no_overwrite = octets_no_overwrite server w.now from.ip octets reply _ t.serves m same }))
-        (λ n a name p.
-        fresh-reply w.config.life w.now (Asked w.sent a.ip name) (Asked (w.sent ++ datagram addr from w.now (text m) ∷ []) a.ip name) (Replied w.sent w.ends.server_addr a name)
-        (Replied (w.sent ++ datagram addr from w.now (text m) ∷ []) w.ends.server_addr a name) (known (node_of w.ends n) name) (kept.requests n a name p)
+        (is_new law.one_message w kept 0 w.ends.server_addr (datagram addr from w.now (text m)) m refl
+        (record { from_is = sym (same_Some w.ends.server_addr addr at); now_is = refl; written = refl; spelled = spelling m refl; no_overwrite = octets_no_overwrite server (reading w.now 0) from.ip octets reply _ t.serves m same }))
+        (λ on n a name p.
+        fresh-reply w.config.life n w.now.clock (reading w.now n) (Asked w.sent a.ip name) (Asked (w.sent ++ datagram addr from w.now (text m) ∷ []) a.ip name) (Replied w.sent w.ends.server_addr a name)
+        (Replied (w.sent ++ datagram addr from w.now (text m) ∷ []) w.ends.server_addr a name) (known (node_of w.ends n) name) (kept.requests on n a name p)
         (asked_still w.sent (w.sent ++ datagram addr from w.now (text m) ∷ []) a.ip name (grows_by w.sent (datagram addr from w.now (text m))))
         (no_request n a name p)
         (replies_drawn law w server from addr octets reply _ m kept origin t.serves same (datagram addr from w.now (text m)) refl refl (spelling m refl) n a name p)
-        (kept.replies n a name p))
-        (served_claims laws w server new from addr octets reply (w.sent ++ datagram addr from w.now (text m) ∷ [])
-        (took (w.sent ++ datagram addr from w.now (text m) ∷ []) (grows_by w.sent (datagram addr from w.now (text m)))
+        (kept.replies on n a name p))
+        (λ on. served_claims laws w server new from addr octets reply (w.sent ++ datagram addr from w.now (text m) ∷ [])
+        (took (w.sent ++ datagram addr from w.now (text m) ∷ []) on (grows_by w.sent (datagram addr from w.now (text m)))
         (λ a q moment message replied. one_more a q moment message replied (Contains-push_cases w.sent (datagram addr from w.now (text m)) replied.datagram replied.among))))
       where
         -- what the server sends is no request of a node
-        no_request : (n : ℕ) (a : Addr) (name : NameValue) → addr_of w.ends n ≡ Some a → (kind : Kind) (first moment : ℕ) (message : MessageValue) → IsOpen (known (node_of w.ends n) name) kind first
+        no_request : (n : ℕ) (a : Addr) (name : NameValue) → addr_of w.ends n ≡ Some a → (kind : Kind) (first : ℕ) (moment : Clocks) (message : MessageValue) → IsOpen (known (node_of w.ends n) name) kind first
             → Asked (w.sent ++ datagram addr from w.now (text m) ∷ []) a.ip name moment message → Asked w.sent a.ip name moment message
         no_request zero a name p kind first moment message w x = elim w [ ]
         no_request (suc j) a name p kind first moment message o x =
@@ -397,7 +401,7 @@ server_takes_kept law g r laws w server new from addr octets taken kept up at or
             from_it d (inl c) = inl c
             from_it d (inr e) = inr (ap (λ (y : Datagram). y.from) (sym e))
 
-        one_more : (a : Addr) (q : NameValue) (moment : ℕ) (message : MessageValue) (replied : Replied (w.sent ++ datagram addr from w.now (text m) ∷ []) w.ends.server_addr a q moment message)
+        one_more : (a : Addr) (q : NameValue) (moment : Clocks) (message : MessageValue) (replied : Replied (w.sent ++ datagram addr from w.now (text m) ∷ []) w.ends.server_addr a q moment message)
             → Contains w.sent replied.datagram ⊎ (datagram addr from w.now (text m) ≡ replied.datagram)
             → Replied w.sent w.ends.server_addr a q moment message ⊎ ((moment ≡ w.now) × (from ≡ a) × (reply ≡ Some message))
         one_more a q moment message replied (inl c) =
@@ -406,11 +410,11 @@ server_takes_kept law g r laws w server new from addr octets taken kept up at or
             inr (
               sym replied.moment_is ∙ ap (λ (y : Datagram). y.moment) (sym e),
               ap (λ (y : Datagram). y.to) e ∙ replied.receiver,
-              same ∙ ap Some (law (text m) m message (spelling m refl) (subst (λ (y : Datagram). Spells y.octets.items message) (sym e) replied.spelled)),
+              same ∙ ap Some (law.one_message (text m) m message (spelling m refl) (subst (λ (y : Datagram). Spells y.octets.items message) (sym e) replied.spelled)),
             )
 server_takes_kept law g r laws w server new from addr octets taken kept up at origin (server_forgets n t) spells =
     server_changes w (Some new) w.sent kept (λ s e. subst (λ (x : ServerValue). IsServerOf w x) (same_Some new s e) is) (nothing_new w w.ends.server_addr) kept.replies
-    (forgotten_claims w server new from octets kept up t)
+    (λ on. forgotten_claims w server new from octets kept on up t)
   where
     is : IsServerOf w new
     is =
@@ -418,13 +422,13 @@ server_takes_kept law g r laws w server new from addr octets taken kept up at or
         record {
           config_is = t.config ∙ k.config_is;
           past = let e = t.last in omega arith;
-          sound = subst (λ (l : Leases). IsSound w.config w.now l) (sym t.leases) k.sound;
+          sound = subst (λ (l : Leases). IsSound w.config (reading w.now 0) l) (sym t.leases) k.sound;
         }
 
 -- ---- an end takes a datagram
 
-pub taking_kept : OneMessage → GrantsSound → ReleasesSound → LeaseLaws → (w : WorldValue) (from addr : Addr) (octets : List ℕ) (number : ℕ) (taken : TakenValue) (ends : Ends) → IsKept w → addr_of w.ends number ≡ Some addr
-    → Origin w from addr octets → Takes w.now w.ends from octets number taken ends → ((m : MessageValue) → taken ≡ takes (Some m) → Spells (text m) m)
+pub taking_kept : Laws → GrantsSound → ReleasesSound → LeaseLaws → (w : WorldValue) (from addr : Addr) (octets : List ℕ) (number : ℕ) (taken : TakenValue) (ends : Ends) → IsKept w → addr_of w.ends number ≡ Some addr
+    → Origin w from addr octets → Takes (reading w.now number) w.ends from octets number taken ends → ((m : MessageValue) → taken ≡ takes (Some m) → Spells (text m) m)
     → IsKept (after_taking w ends addr from taken)
 taking_kept law g r laws w from addr octets number taken ends kept at origin (finds_down n down) spells = kept
 taking_kept law g r laws w from addr octets number taken ends kept at origin (by_server server new t up does) spells = server_takes_kept law g r laws w server new from addr octets taken kept up at origin does spells

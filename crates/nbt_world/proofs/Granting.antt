@@ -20,6 +20,7 @@ use Rattle.nbt_lease.specs.Rules.{Asked as Asking, Grants, GrantCase, active, re
 use Rattle.nbt_server.specs.Serving.{ServerValue, asked_in, AsksFor, by_registration, by_refresh, speaks_from, Serves, ServesOctets}
 use Rattle.nbt_server.specs.Serving as serving
 use Rattle.nbt_world.specs.Kept.{IsRequest, AsksAs, IsLeased}
+use Rattle.nbt_world.proofs.Drifting.{HoldLaw}
 use Rattle.nbt_world.proofs.Naming.{names_apart}
 
 -- the laws of leases that this rests on
@@ -32,6 +33,7 @@ pub record LeaseLaws : Type 0 where
       → Contains (leases_at now table.rows name) lease ↔ Contains (after name) lease
   pub stands : (table : TableValue) (now : ℕ) (name : NameValue) (a : Asking) (grant : Grant) (after : Leases) → IsSound table.config now (leases_at now table.rows) → Grants table now name a (Ok grant) after
       → (lease : Lease) × IsGranted table now name a grant (after name) lease
+  pub holds : HoldLaw
   pub beside : (table : TableValue) (now : ℕ) (name : NameValue) (a : Asking) (grant : Grant) (after : Leases) (other : Lease) → Grants table now name a (Ok grant) after
       → Contains (leases_at now table.rows name) other → other.addr ≢ a.addr → (other.kind ≡ Group) × (a.kind ≡ Group)
 

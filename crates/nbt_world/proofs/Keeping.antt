@@ -1,7 +1,7 @@
 -- What a world keeps when its clock goes on, when one node changes, and when the server does: what holds of all the
 -- other ends and names stays, and so only what is new has to be shown.
-use Rattle.std.proofs.Common.{◌≡◌, ◌≢◌, ℕ, zero, suc, ◌≤◌, List, [], ◌∷◌, length, Option, Some, None, refl, sym, ap, ◌∙◌, arith, inl, inr}
-use Rattle.std.specs.Prelude.{slice_get, Contains, ◌⊎◌}
+use Rattle.std.proofs.Common.{◌≡◌, ◌≢◌, ℕ, zero, suc, ◌≤◌, List, [], ◌∷◌, length, Option, Some, None, refl, sym, ap, subst, ◌∙◌, arith, inl, inr}
+use Rattle.std.specs.Prelude.{slice_get, Contains, IsTrue, ◌⊎◌}
 use Rattle.std.proofs.lemmas.Bool.{cases_eq}
 use Rattle.std.proofs.lemmas.Option.{none-some, same_Some}
 use Rattle.nbt_name.specs.declared.addr.Addr.{Addr}
@@ -9,11 +9,14 @@ use Rattle.nbt_name.specs.Wire.{NameValue}
 use Rattle.nbt_packet.specs.Message.{MessageValue}
 use Rattle.nbt_server.specs.Serving.{ServerValue}
 use Rattle.nbt_node.specs.Node.{NodeValue}
+use Rattle.nbt_world.specs.declared.clocks.Clocks.{Clocks}
+use Rattle.nbt_world.specs.declared.clocks.Least.{Least}
 use Rattle.nbt_world.specs.declared.ends.End.{End}
 use Rattle.nbt_world.specs.declared.ends.Ends.{Ends}
 use Rattle.nbt_world.specs.declared.network.Datagram.{Datagram}
-use Rattle.nbt_world.specs.World.{WorldValue, addr_at, addr_of, node_in, node_of, put_node, with_server, with_node}
-use Rattle.nbt_world.specs.Kept.{Asked, Replied, known, RequestsEnded, RepliesFresh, IsNodeOf, IsServerOf, IsSent, ClaimsKept, IsKept}
+use Rattle.nbt_world.specs.Drift.{reading}
+use Rattle.nbt_world.specs.World.{WorldValue, addr_at, addr_of, IsEnd, node_in, node_of, put_node, with_server, with_node}
+use Rattle.nbt_world.specs.Kept.{Asked, Replied, known, RequestsEnded, RepliesFresh, IsNodeOf, IsServerOf, IsSeen, AreRead, IsSent, ClaimsKept, IsKept}
 use Rattle.nbt_world.proofs.Knowing.{ended-frame, ended-down, fresh-frame}
 
 -- ---- one node is another
@@ -61,14 +64,28 @@ addr_there ends (suc i) node is = go (slice_get ends.nodes.items i) refl is
     go None e up = absurd (none-some node up)
     go (Some end) e up = (end.addr, rw e refl)
 
+-- an end that is there was there
+pub end_before : (old new : Ends) → ((n : ℕ) → addr_of new n ≡ addr_of old n) → (n : ℕ) → IsEnd new n → IsEnd old n
+end_before old new same n e = (e.0, sym (same n) ∙ e.1)
+
+pub read_with : (w : WorldValue) (ends : Ends) (sent : List Datagram) → ((n : ℕ) → addr_of ends n ≡ addr_of w.ends n) → AreRead w → AreRead (record w { ends = ends; sent = sent })
+read_with w ends sent same read = record {
+  now = read.now;
+  readings = λ n e. read.readings n (end_before w.ends ends same n e);
+  seen = λ n e. read.seen n (end_before w.ends ends same n e);
+  allowed = λ on n e. read.allowed on n (end_before w.ends ends same n e);
+}
+
 -- ---- what was sent
 
--- the same datagram, where each end is where it was and the clock has not gone back
-pub sent_frame : (old new : Ends) (now later : ℕ) (d : Datagram) → ((n : ℕ) → addr_of new n ≡ addr_of old n) → now ≤ later → IsSent old now d → IsSent new later d
-sent_frame old new now later d same le is = record {
+-- the same datagram, where each end is where it was, the true clock has not gone back, and each reading is seen still
+pub sent_frame : (old new : Ends) (now later : Clocks) (least lower : List Least) (d : Datagram) → ((n : ℕ) → addr_of new n ≡ addr_of old n) → now.clock ≤ later.clock
+    → ((n : ℕ) → IsEnd old n → IsSeen least now d.moment n → IsSeen lower later d.moment n) → IsSent old now least d → IsSent new later lower d
+sent_frame old new now later least lower d same le still is = record {
   number = is.number;
   message = is.message;
   past = let past = is.past in omega arith;
+  seen = λ n e. let was = end_before old new same n e in still n was (is.seen n was);
   sender = same is.number ∙ is.sender;
   written = is.written;
   spelled = is.spelled;
@@ -76,13 +93,14 @@ sent_frame old new now later d same le is = record {
   no_overwrite = is.no_overwrite;
 }
 
--- a request was sent by now
-pub asked_past : (w : WorldValue) (ip : ℕ) (name : NameValue) (sent : List Datagram) → ((d : Datagram) → Contains sent d → IsSent w.ends w.now d) → (moment : ℕ) (message : MessageValue) → Asked sent ip name moment message → moment ≤ w.now
-asked_past w ip name sent all moment message a = let past = (all a.datagram a.among).past in let at = a.moment_is in omega arith
+-- a request was sent by now, as this end reads it
+pub asked_read : (w : WorldValue) (n : ℕ) (a : Addr) → addr_of w.ends n ≡ Some a → (ip : ℕ) (name : NameValue) (sent : List Datagram) → ((d : Datagram) → Contains sent d → IsSent w.ends w.now w.least d)
+    → (moment : Clocks) (message : MessageValue) → Asked sent ip name moment message → reading moment n ≤ reading w.now n
+asked_read w n a p ip name sent all moment message x = subst (λ (m : Clocks). reading m n ≤ reading w.now n) x.moment_is ((all x.datagram x.among).seen n (a, p)).read
 
 -- what is new in the list isn't from this address
 pub asked_before : (old new : List Datagram) (from : Addr) (ip : ℕ) (name : NameValue) → from.ip ≢ ip → ((d : Datagram) → Contains new d → Contains old d ⊎ (d.from ≡ from))
-    → (moment : ℕ) (message : MessageValue) → Asked new ip name moment message → Asked old ip name moment message
+    → (moment : Clocks) (message : MessageValue) → Asked new ip name moment message → Asked old ip name moment message
 asked_before old new from ip name ne from_new moment message a = go (from_new a.datagram a.among)
   where
     go : Contains old a.datagram ⊎ (a.datagram.from ≡ from) → Asked old ip name moment message
@@ -93,13 +111,13 @@ asked_before old new from ip name ne from_new moment message a = go (from_new a.
 abbrev pub Grows : List Datagram → List Datagram → Type 0
 Grows old new = (d : Datagram) → Contains old d → Contains new d
 
-pub asked_still : (old new : List Datagram) (ip : ℕ) (name : NameValue) → Grows old new → (moment : ℕ) (message : MessageValue) → Asked old ip name moment message → Asked new ip name moment message
+pub asked_still : (old new : List Datagram) (ip : ℕ) (name : NameValue) → Grows old new → (moment : Clocks) (message : MessageValue) → Asked old ip name moment message → Asked new ip name moment message
 asked_still old new ip name grows moment message a =
     record { datagram = a.datagram; among = grows a.datagram a.among; sender = a.sender; moment_is = a.moment_is; spelled = a.spelled; request = a.request }
 
 -- what is new in the list isn't from the server
 pub replied_before : (old new : List Datagram) (from server to : Addr) (name : NameValue) → from ≢ server → ((d : Datagram) → Contains new d → Contains old d ⊎ (d.from ≡ from))
-    → (moment : ℕ) (message : MessageValue) → Replied new server to name moment message → Replied old server to name moment message
+    → (moment : Clocks) (message : MessageValue) → Replied new server to name moment message → Replied old server to name moment message
 replied_before old new from server to name ne from_new moment message a = go (from_new a.datagram a.among)
   where
     go : Contains old a.datagram ⊎ (a.datagram.from ≡ from) → Replied old server to name moment message
@@ -117,28 +135,28 @@ node_not_server w i addr kept at e = suc_zero i (kept.ends.apart (suc i) zero ad
 
 -- what is new in the list was sent by this end
 abbrev pub IsNew : WorldValue → Addr → List Datagram → Type 0
-IsNew w addr sent = (d : Datagram) → Contains sent d → Contains w.sent d ⊎ ((d.from ≡ addr) × IsSent w.ends w.now d)
+IsNew w addr sent = (d : Datagram) → Contains sent d → Contains w.sent d ⊎ ((d.from ≡ addr) × IsSent w.ends w.now w.least d)
 
-all_sent : (w : WorldValue) (addr : Addr) (sent : List Datagram) → IsKept w → IsNew w addr sent → (d : Datagram) → Contains sent d → IsSent w.ends w.now d
+all_sent : (w : WorldValue) (addr : Addr) (sent : List Datagram) → IsKept w → IsNew w addr sent → (d : Datagram) → Contains sent d → IsSent w.ends w.now w.least d
 all_sent w addr sent kept new d c = go (new d c)
   where
-    go : Contains w.sent d ⊎ ((d.from ≡ addr) × IsSent w.ends w.now d) → IsSent w.ends w.now d
+    go : Contains w.sent d ⊎ ((d.from ≡ addr) × IsSent w.ends w.now w.least d) → IsSent w.ends w.now w.least d
     go (inl old) = kept.sent d old
     go (inr is) = is.1
 
 pub from_new : (w : WorldValue) (addr : Addr) (sent : List Datagram) → IsNew w addr sent → (d : Datagram) → Contains sent d → Contains w.sent d ⊎ (d.from ≡ addr)
 from_new w addr sent new d c = go (new d c)
   where
-    go : Contains w.sent d ⊎ ((d.from ≡ addr) × IsSent w.ends w.now d) → Contains w.sent d ⊎ (d.from ≡ addr)
+    go : Contains w.sent d ⊎ ((d.from ≡ addr) × IsSent w.ends w.now w.least d) → Contains w.sent d ⊎ (d.from ≡ addr)
     go (inl old) = inl old
     go (inr is) = inr is.0
 
 pub node_changes : (w : WorldValue) (i : ℕ) (addr : Addr) (x : Option NodeValue) (sent : List Datagram) → IsKept w → addr_of w.ends (suc i) ≡ Some addr
-    → ((node : NodeValue) → x ≡ Some node → IsNodeOf w addr node) → IsNew w addr sent
+    → ((node : NodeValue) → x ≡ Some node → IsNodeOf w (suc i) addr node) → IsNew w addr sent
     → Grows w.sent sent
-    → ((name : NameValue) → RequestsEnded w.config.life w.now (Asked sent addr.ip name) (known x name))
-    → ((name : NameValue) → RepliesFresh w.config.life w.now (Asked sent addr.ip name) (Replied sent w.ends.server_addr addr name) (known x name))
-    → ClaimsKept (record w { ends = with_node w.ends (suc i) x; sent = sent })
+    → (IsTrue w.kept → (name : NameValue) → RequestsEnded w.config.life (suc i) w.now.clock (reading w.now (suc i)) (Asked sent addr.ip name) (known x name))
+    → (IsTrue w.kept → (name : NameValue) → RepliesFresh w.config.life (suc i) w.now.clock (reading w.now (suc i)) (Asked sent addr.ip name) (Replied sent w.ends.server_addr addr name) (known x name))
+    → (IsTrue w.kept → ClaimsKept (record w { ends = with_node w.ends (suc i) x; sent = sent }))
     → IsKept (record w { ends = with_node w.ends (suc i) x; sent = sent })
 node_changes w i addr x sent kept at is new grows names replies claims = record {
   ends = record {
@@ -146,11 +164,12 @@ node_changes w i addr x sent kept at is new grows names replies claims = record 
     few = let e = put_length w.ends.nodes.items i x in let few = kept.ends.few in omega arith;
     apart = λ j k a b p q same. kept.ends.apart j k a b (sym (addr_with w.ends i x j) ∙ p) (sym (addr_with w.ends i x k) ∙ q) same;
   };
+  clocks = read_with w (with_node w.ends (suc i) x) sent (addr_with w.ends i x) kept.clocks;
   nodes = λ n a node p up. node_at n a node (sym (addr_with w.ends i x n) ∙ p) up (cases_eq n (suc i));
   server = λ server up. let k = kept.server server up in record { config_is = k.config_is; past = k.past; sound = k.sound };
-  sent = λ d c. sent_frame w.ends (with_node w.ends (suc i) x) w.now w.now d (addr_with w.ends i x) (omega arith) (all_sent w addr sent kept new d c);
-  requests = λ n a name p. requests_at n a name (sym (addr_with w.ends i x n) ∙ p) (cases_eq n (suc i));
-  replies = λ n a name p. replies_at n a name (sym (addr_with w.ends i x n) ∙ p) (cases_eq n (suc i));
+  sent = λ d c. sent_frame w.ends (with_node w.ends (suc i) x) w.now w.now w.least w.least d (addr_with w.ends i x) (omega arith) (λ n e seen. seen) (all_sent w addr sent kept new d c);
+  requests = λ on n a name p. requests_at on n a name (sym (addr_with w.ends i x n) ∙ p) (cases_eq n (suc i));
+  replies = λ on n a name p. replies_at on n a name (sym (addr_with w.ends i x n) ∙ p) (cases_eq n (suc i));
   claims = claims;
 }
   where
@@ -161,33 +180,33 @@ node_changes w i addr x sent kept at is new grows names replies claims = record 
     value_at n e = ap (node_of (with_node w.ends (suc i) x)) e ∙ node_with_here w.ends i x addr at
 
     node_at : (n : ℕ) (a : Addr) (node : NodeValue) → addr_of w.ends n ≡ Some a → node_of (with_node w.ends (suc i) x) n ≡ Some node → (n ≡ suc i) ⊎ (n ≡ suc i → ⊥)
-        → IsNodeOf (record w { ends = with_node w.ends (suc i) x; sent = sent }) a node
+        → IsNodeOf (record w { ends = with_node w.ends (suc i) x; sent = sent }) n a node
     node_at n a node p up (inl e) =
         let k = is node (sym (value_at n e) ∙ up) in
-        record { addr_is = k.addr_is ∙ same_addr n a p e; server_is = k.server_is; config_is = k.config_is; past = k.past }
+        record { addr_is = k.addr_is ∙ same_addr n a p e; server_is = k.server_is; config_is = k.config_is; past = subst (λ (m : ℕ). node.last ≤ reading w.now m) (sym e) k.past }
     node_at n a node p up (inr ne) =
         let k = kept.nodes n a node p (sym (node_with_other w.ends i x n ne) ∙ up) in
         record { addr_is = k.addr_is; server_is = k.server_is; config_is = k.config_is; past = k.past }
 
-    requests_at : (n : ℕ) (a : Addr) (name : NameValue) → addr_of w.ends n ≡ Some a → (n ≡ suc i) ⊎ (n ≡ suc i → ⊥)
-        → RequestsEnded w.config.life w.now (Asked sent a.ip name) (known (node_of (with_node w.ends (suc i) x) n) name)
-    requests_at n a name p (inl e) = rw (value_at n e, ← same_addr n a p e) (names name)
-    requests_at n a name p (inr ne) =
+    requests_at : IsTrue w.kept → (n : ℕ) (a : Addr) (name : NameValue) → addr_of w.ends n ≡ Some a → (n ≡ suc i) ⊎ (n ≡ suc i → ⊥)
+        → RequestsEnded w.config.life n w.now.clock (reading w.now n) (Asked sent a.ip name) (known (node_of (with_node w.ends (suc i) x) n) name)
+    requests_at on n a name p (inl e) = rw (value_at n e, ← same_addr n a p e, e) (names on name)
+    requests_at on n a name p (inr ne) =
         rw (node_with_other w.ends i x n ne)
-        (ended-frame w.config.life w.now w.now (Asked w.sent a.ip name) (Asked sent a.ip name) (known (node_of w.ends n) name) (omega arith)
+        (ended-frame w.config.life n w.now.clock (reading w.now n) w.now.clock (reading w.now n) (Asked w.sent a.ip name) (Asked sent a.ip name) (known (node_of w.ends n) name) (omega arith) (omega arith)
         (asked_before w.sent sent addr a.ip name (λ same. ne (kept.ends.apart n (suc i) a addr p at (sym same))) (from_new w addr sent new))
-        (kept.requests n a name p))
+        (kept.requests on n a name p))
 
-    replies_at : (n : ℕ) (a : Addr) (name : NameValue) → addr_of w.ends n ≡ Some a → (n ≡ suc i) ⊎ (n ≡ suc i → ⊥)
-        → RepliesFresh w.config.life w.now (Asked sent a.ip name) (Replied sent w.ends.server_addr a name) (known (node_of (with_node w.ends (suc i) x) n) name)
-    replies_at n a name p (inl e) = rw (value_at n e, ← same_addr n a p e) (replies name)
-    replies_at n a name p (inr ne) =
+    replies_at : IsTrue w.kept → (n : ℕ) (a : Addr) (name : NameValue) → addr_of w.ends n ≡ Some a → (n ≡ suc i) ⊎ (n ≡ suc i → ⊥)
+        → RepliesFresh w.config.life n w.now.clock (reading w.now n) (Asked sent a.ip name) (Replied sent w.ends.server_addr a name) (known (node_of (with_node w.ends (suc i) x) n) name)
+    replies_at on n a name p (inl e) = rw (value_at n e, ← same_addr n a p e, e) (replies on name)
+    replies_at on n a name p (inr ne) =
         rw (node_with_other w.ends i x n ne)
-        (fresh-frame w.config.life w.now w.now (Asked w.sent a.ip name) (Asked sent a.ip name) (Replied w.sent w.ends.server_addr a name) (Replied sent w.ends.server_addr a name) (known (node_of w.ends n) name) (omega arith)
+        (fresh-frame w.config.life n w.now.clock (reading w.now n) w.now.clock (reading w.now n) (Asked w.sent a.ip name) (Asked sent a.ip name) (Replied w.sent w.ends.server_addr a name) (Replied sent w.ends.server_addr a name) (known (node_of w.ends n) name) (omega arith) (omega arith)
         (asked_still w.sent sent a.ip name grows)
         (asked_before w.sent sent addr a.ip name (λ same. ne (kept.ends.apart n (suc i) a addr p at (sym same))) (from_new w addr sent new))
         (replied_before w.sent sent addr w.ends.server_addr a name (node_not_server w i addr kept at) (from_new w addr sent new))
-        (kept.replies n a name p))
+        (kept.replies on n a name p))
 
 -- ---- the server changes
 
@@ -201,8 +220,9 @@ server_node_with ends x (suc j) = refl
 
 pub server_changes : (w : WorldValue) (x : Option ServerValue) (sent : List Datagram) → IsKept w
     → ((server : ServerValue) → x ≡ Some server → IsServerOf w server) → IsNew w w.ends.server_addr sent
-    → ((n : ℕ) (a : Addr) (name : NameValue) → addr_of w.ends n ≡ Some a → RepliesFresh w.config.life w.now (Asked sent a.ip name) (Replied sent w.ends.server_addr a name) (known (node_of w.ends n) name))
-    → ClaimsKept (record w { ends = with_server w.ends x; sent = sent })
+    → (IsTrue w.kept → (n : ℕ) (a : Addr) (name : NameValue) → addr_of w.ends n ≡ Some a
+    → RepliesFresh w.config.life n w.now.clock (reading w.now n) (Asked sent a.ip name) (Replied sent w.ends.server_addr a name) (known (node_of w.ends n) name))
+    → (IsTrue w.kept → ClaimsKept (record w { ends = with_server w.ends x; sent = sent }))
     → IsKept (record w { ends = with_server w.ends x; sent = sent })
 server_changes w x sent kept is new replies claims = record {
   ends = record {
@@ -210,22 +230,25 @@ server_changes w x sent kept is new replies claims = record {
     few = kept.ends.few;
     apart = λ j k a b p q same. kept.ends.apart j k a b (sym (server_addr_with w.ends x j) ∙ p) (sym (server_addr_with w.ends x k) ∙ q) same;
   };
+  clocks = read_with w (with_server w.ends x) sent (server_addr_with w.ends x) kept.clocks;
   nodes = λ n a node p up.
       let k = kept.nodes n a node (sym (server_addr_with w.ends x n) ∙ p) (sym (server_node_with w.ends x n) ∙ up) in
       record { addr_is = k.addr_is; server_is = k.server_is; config_is = k.config_is; past = k.past };
   server = λ server up. let k = is server up in record { config_is = k.config_is; past = k.past; sound = k.sound };
-  sent = λ d c. sent_frame w.ends (with_server w.ends x) w.now w.now d (server_addr_with w.ends x) (omega arith) (all_sent w w.ends.server_addr sent kept new d c);
-  requests = λ n a name p. requests_at n a name (sym (server_addr_with w.ends x n) ∙ p);
-  replies = λ n a name p. rw (server_node_with w.ends x n) (replies n a name (sym (server_addr_with w.ends x n) ∙ p));
+  sent = λ d c. sent_frame w.ends (with_server w.ends x) w.now w.now w.least w.least d (server_addr_with w.ends x) (omega arith) (λ n e seen. seen) (all_sent w w.ends.server_addr sent kept new d c);
+  requests = λ on n a name p. requests_at on n a name (sym (server_addr_with w.ends x n) ∙ p);
+  replies = λ on n a name p. rw (server_node_with w.ends x n) (replies on n a name (sym (server_addr_with w.ends x n) ∙ p));
   claims = claims;
 }
   where
-    requests_at : (n : ℕ) (a : Addr) (name : NameValue) → addr_of w.ends n ≡ Some a → RequestsEnded w.config.life w.now (Asked sent a.ip name) (known (node_of (with_server w.ends x) n) name)
-    requests_at zero a name p = ended-down w.config.life w.now (Asked sent a.ip name) (asked_past w a.ip name sent (all_sent w w.ends.server_addr sent kept new))
-    requests_at (suc j) a name p =
-        ended-frame w.config.life w.now w.now (Asked w.sent a.ip name) (Asked sent a.ip name) (known (node_of w.ends (suc j)) name) (omega arith)
+    requests_at : IsTrue w.kept → (n : ℕ) (a : Addr) (name : NameValue) → addr_of w.ends n ≡ Some a
+        → RequestsEnded w.config.life n w.now.clock (reading w.now n) (Asked sent a.ip name) (known (node_of (with_server w.ends x) n) name)
+    requests_at on zero a name p =
+        ended-down w.config.life zero w.now.clock (reading w.now zero) (Asked sent a.ip name) (asked_read w zero a p a.ip name sent (all_sent w w.ends.server_addr sent kept new))
+    requests_at on (suc j) a name p =
+        ended-frame w.config.life (suc j) w.now.clock (reading w.now (suc j)) w.now.clock (reading w.now (suc j)) (Asked w.sent a.ip name) (Asked sent a.ip name) (known (node_of w.ends (suc j)) name) (omega arith) (omega arith)
         (asked_before w.sent sent w.ends.server_addr a.ip name (λ same. zero_suc j (kept.ends.apart zero (suc j) w.ends.server_addr a refl p same)) (from_new w w.ends.server_addr sent new))
-        (kept.requests (suc j) a name p)
+        (kept.requests on (suc j) a name p)
       where
         zero_suc : (k : ℕ) → zero ≡ suc k → ⊥
         zero_suc k e = cc

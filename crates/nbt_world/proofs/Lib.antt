@@ -1,10 +1,14 @@
 pub mod Knowing
+pub mod Drifting
 pub mod Claiming
 pub mod Places
 pub mod Replies
 pub mod Keeping
 pub mod Covering
+pub mod Watching
 pub mod Clock
+pub mod Advancing
+pub mod Exact
 pub mod Naming
 pub mod Granting
 pub mod Served
@@ -15,5 +19,6 @@ pub mod Worlds
 pub mod Safe
 pub mod Following
 pub mod Running
+pub mod Going
 pub mod Holding
 pub mod Apart

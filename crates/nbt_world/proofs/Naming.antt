@@ -1,6 +1,6 @@
 -- What a world keeps when one node has moved: each name by time alone, but one that asks, sends again or hears.
 use Rattle.std.proofs.Common.{◌≡◌, ◌≢◌, ℕ, suc, ◌≤◌, Bool, true, false, List, [], ◌∷◌, ◌++◌, Option, Some, None, sym, ap, subst, ◌∙◌, arith, inl, inr}
-use Rattle.std.specs.Prelude.{Contains, ◌⊎◌}
+use Rattle.std.specs.Prelude.{Contains, IsTrue, ◌⊎◌}
 use Rattle.std.specs.Str.{bytes_eq}
 use Rattle.std.proofs.lemmas.Bool.{cases_Bool}
 use Rattle.std.proofs.lemmas.Slice.Eq.{bytes_eq-Decides}
@@ -17,11 +17,14 @@ use Rattle.nbt_node.specs.declared.state.State.{State}
 use Rattle.nbt_node.specs.Settling.{settled}
 use Rattle.nbt_node.specs.Node.{NodeValue, state_of, state_at}
 use Rattle.nbt_node.specs.Moves.{NameEvent, hear, Told, NameMoves}
+use Rattle.nbt_world.specs.declared.clocks.Clocks.{Clocks}
 use Rattle.nbt_world.specs.declared.network.Datagram.{Datagram}
+use Rattle.nbt_world.specs.Drift.{reading}
 use Rattle.nbt_world.specs.World.{WorldValue, IsDeliverable, IsOfEnd, addr_of, node_of, with_node}
-use Rattle.nbt_world.specs.Kept.{IsRequest, Asked, Replied, known, RequestsEnded, RepliesFresh, IsNodeOf, IsSent, IsKept}
-use Rattle.nbt_world.proofs.Knowing.{fades, fades-heard, knows, ended-fades, ended-frame, ended-sent, is_sent, fresh-fades, fresh-frame, fresh-sent}
+use Rattle.nbt_world.specs.Kept.{IsRequest, Asked, Replied, known, RequestsEnded, RepliesFresh, IsNodeOf, IsSeen, IsSent, IsKept}
+use Rattle.nbt_world.proofs.Knowing.{ArePast, past-more, fades, fades-heard, knows, ended-fades, ended-frame, ended-sent, is_sent, fresh-fades, fresh-frame, fresh-sent}
 use Rattle.nbt_world.proofs.Claiming.{NoNewClaim}
+use Rattle.nbt_world.proofs.Drifting.{RestLaw, asked_are_past}
 use Rattle.nbt_world.proofs.Keeping.{IsNew, Grows, node_not_server, node_changes, addr_there}
 use Rattle.nbt_world.proofs.Covering.{node_claims}
 
@@ -29,9 +32,14 @@ use Rattle.nbt_world.proofs.Covering.{node_claims}
 abbrev pub OneMessage : Type 0
 OneMessage = (octets : List ℕ) (m n : MessageValue) → Spells octets m → Spells octets n → m ≡ n
 
+-- and with it the law of rests
+pub record Laws : Type 0 where
+  pub one_message : OneMessage
+  pub rests : RestLaw
+
 -- where a datagram comes from: it is one of the list that may still be delivered, or a stranger's
 pub data Origin (w : WorldValue) (from to : Addr) (octets : List ℕ) : Type 0 where
-  listed : (d : Datagram) → Contains w.sent d → d.from ≡ from → d.to ≡ to → d.octets.items ≡ octets → IsDeliverable w.config.life w.now d.moment → Origin w from to octets
+  listed : (d : Datagram) → Contains w.sent d → d.from ≡ from → d.to ≡ to → d.octets.items ≡ octets → IsDeliverable w.config.life w.now.clock d.moment.clock → Origin w from to octets
   strange : (IsOfEnd w.ends from.ip → ⊥) → Origin w from to octets
 
 -- ---- names
@@ -79,14 +87,15 @@ pub record Sending (w : WorldValue) (addr : Addr) (d : Datagram) (m : MessageVal
   pub spelled : Spells d.octets.items m
   pub no_overwrite : (r : Registration) → m ≡ overwrite r → ⊥
 
-pub is_new : OneMessage → (w : WorldValue) (n : ℕ) (addr : Addr) (d : Datagram) (m : MessageValue) → addr_of w.ends n ≡ Some addr → Sending w addr d m → IsNew w addr (w.sent ++ d ∷ [])
-is_new law w n addr d m at s x c = go (Contains-push_cases w.sent d x c)
+pub is_new : OneMessage → (w : WorldValue) → IsKept w → (n : ℕ) (addr : Addr) (d : Datagram) (m : MessageValue) → addr_of w.ends n ≡ Some addr → Sending w addr d m → IsNew w addr (w.sent ++ d ∷ [])
+is_new law w kept n addr d m at s x c = go (Contains-push_cases w.sent d x c)
   where
-    is : IsSent w.ends w.now d
+    is : IsSent w.ends w.now w.least d
     is = record {
       number = n;
       message = m;
-      past = let e = s.now_is in omega arith;
+      past = rw s.now_is (omega arith);
+      seen = λ k e. rw s.now_is (kept.clocks.seen k e);
       sender = at ∙ ap Some (sym s.from_is);
       written = s.written;
       spelled = s.spelled;
@@ -94,16 +103,16 @@ is_new law w n addr d m at s x c = go (Contains-push_cases w.sent d x c)
       no_overwrite = s.no_overwrite;
     }
 
-    go : Contains w.sent x ⊎ (d ≡ x) → Contains w.sent x ⊎ ((x.from ≡ addr) × IsSent w.ends w.now x)
+    go : Contains w.sent x ⊎ (d ≡ x) → Contains w.sent x ⊎ ((x.from ≡ addr) × IsSent w.ends w.now w.least x)
     go (inl c) = inl c
-    go (inr e) = inr (subst (λ (y : Datagram). (y.from ≡ addr) × IsSent w.ends w.now y) e (s.from_is, is))
+    go (inr e) = inr (subst (λ (y : Datagram). (y.from ≡ addr) × IsSent w.ends w.now w.least y) e (s.from_is, is))
 
 pub nothing_new : (w : WorldValue) (addr : Addr) → IsNew w addr w.sent
 nothing_new w addr d c = inl c
 
 -- what the network then has of requests: what it had, and this message where it is one
 pub asks_more : OneMessage → (w : WorldValue) (addr : Addr) (d : Datagram) (m : MessageValue) (ip : ℕ) (q : NameValue) → Sending w addr d m
-    → (moment : ℕ) (message : MessageValue) → Asked (w.sent ++ d ∷ []) ip q moment message → Asked w.sent ip q moment message ⊎ ((moment ≡ w.now) × (message ≡ m) × IsRequest q m)
+    → (moment : Clocks) (message : MessageValue) → Asked (w.sent ++ d ∷ []) ip q moment message → Asked w.sent ip q moment message ⊎ ((moment ≡ w.now) × (message ≡ m) × IsRequest q m)
 asks_more law w addr d m ip q s moment message a = go (Contains-push_cases w.sent d a.datagram a.among)
   where
     go : Contains w.sent a.datagram ⊎ (d ≡ a.datagram) → Asked w.sent ip q moment message ⊎ ((moment ≡ w.now) × (message ≡ m) × IsRequest q m)
@@ -122,88 +131,88 @@ pub record Stays (old : NodeValue) (now : ℕ) (new : NodeValue) : Type 0 where
   pub start_is : new.start ≡ old.start
   pub last_is : new.last ≡ now
 
-pub node_stays : (w : WorldValue) (addr : Addr) (old new : NodeValue) → Stays old w.now new → IsNodeOf w addr old → IsNodeOf w addr new
-node_stays w addr old new stays is = record {
+pub node_stays : (w : WorldValue) (n : ℕ) (addr : Addr) (old new : NodeValue) → Stays old (reading w.now n) new → IsNodeOf w n addr old → IsNodeOf w n addr new
+node_stays w n addr old new stays is = record {
   addr_is = stays.addr_is ∙ is.addr_is;
   server_is = stays.server_is ∙ is.server_is;
   config_is = stays.config_is ∙ is.config_is;
   past = let e = stays.last_is in omega arith;
 }
 
-known_as : (life now : ℕ) (asked : ℕ → MessageValue → Type 0) (new : NodeValue) (q : NameValue) (start : ℕ) (s : State) → new.start ≡ start → state_of new q ≡ s
-    → RequestsEnded life now asked (knows start s) → RequestsEnded life now asked (known (Some new) q)
-known_as life now asked new q start s e f kept = rw (e, f) kept
+known_as : (life number clock now : ℕ) (asked : Clocks → MessageValue → Type 0) (new : NodeValue) (q : NameValue) (start : ℕ) (s : State) → new.start ≡ start → state_of new q ≡ s
+    → RequestsEnded life number clock now asked (knows start s) → RequestsEnded life number clock now asked (known (Some new) q)
+known_as life number clock now asked new q start s e f kept = rw (e, f) kept
 
 -- by time alone, and no more requests
-pub name_by_time : (now : ℕ) (old new : NodeValue) (q : NameValue) (asked more : ℕ → MessageValue → Type 0) → new.start ≡ old.start → state_of new q ≡ state_at old now q
-    → ((moment : ℕ) (message : MessageValue) → more moment message → asked moment message)
-    → RequestsEnded old.config.life now asked (known (Some old) q) → RequestsEnded old.config.life now more (known (Some new) q)
-name_by_time now old new q asked more start state fewer kept =
-    known_as old.config.life now more new q old.start (state_at old now q) start state
-    (ended-frame old.config.life now now asked more (knows old.start (state_at old now q)) (omega arith) fewer
-    (ended-fades old.config.life now old.start asked (state_of old q) (state_at old now q) (fades old.config.life now old.start (state_of old q)) kept))
+pub name_by_time : (number clock now : ℕ) (old new : NodeValue) (q : NameValue) (asked more : Clocks → MessageValue → Type 0) → new.start ≡ old.start → state_of new q ≡ state_at old now q → ArePast old.config.life number clock now asked
+    → ((moment : Clocks) (message : MessageValue) → more moment message → asked moment message)
+    → RequestsEnded old.config.life number clock now asked (known (Some old) q) → RequestsEnded old.config.life number clock now more (known (Some new) q)
+name_by_time number clock now old new q asked more start state past fewer kept =
+    known_as old.config.life number clock now more new q old.start (state_at old now q) start state
+    (ended-frame old.config.life number clock now clock now asked more (knows old.start (state_at old now q)) (omega arith) (omega arith) fewer
+    (ended-fades old.config.life number clock now old.start asked (state_of old q) (state_at old now q) past (fades old.config.life now old.start (state_of old q)) kept))
 
 -- the name about which a request was sent
-pub name_sends : (now : ℕ) (old new : NodeValue) (name : NameValue) (event : NameEvent) (m : MessageValue) (told : Told) (asked more : ℕ → MessageValue → Type 0) → new.start ≡ old.start
+pub name_sends : (number clock now : ℕ) (old new : NodeValue) (name : NameValue) (event : NameEvent) (m : MessageValue) (told : Told) (asked more : Clocks → MessageValue → Type 0) → new.start ≡ old.start
     → NameMoves old now name event new (Some m) told
-    → ((moment : ℕ) (message : MessageValue) → asked moment message → moment ≤ now)
-    → ((moment : ℕ) (message : MessageValue) → more moment message → asked moment message ⊎ ((moment ≡ now) × (message ≡ m)))
-    → RequestsEnded old.config.life now asked (known (Some old) name) → RequestsEnded old.config.life now more (known (Some new) name)
-name_sends now old new name event m told asked more start moves past grows kept =
-    known_as old.config.life now more new name old.start (settled old.config.life now moves.after) start moves.named
-    (ended-fades old.config.life now old.start more moves.after (settled old.config.life now moves.after) (fades old.config.life now old.start moves.after)
-    (ended-sent old.config.life now old.start name asked more (state_at old now name) moves.after m (is_sent moves.move) past grows
-    (ended-fades old.config.life now old.start asked (state_of old name) (state_at old now name) (fades old.config.life now old.start (state_of old name)) kept)))
+    → ArePast old.config.life number clock now asked
+    → ((moment : Clocks) (message : MessageValue) → more moment message → asked moment message ⊎ ((reading moment number ≡ now) × (message ≡ m)))
+    → RequestsEnded old.config.life number clock now asked (known (Some old) name) → RequestsEnded old.config.life number clock now more (known (Some new) name)
+name_sends number clock now old new name event m told asked more start moves past grows kept =
+    known_as old.config.life number clock now more new name old.start (settled old.config.life now moves.after) start moves.named
+    (ended-fades old.config.life number clock now old.start more moves.after (settled old.config.life now moves.after) (past-more old.config.life number clock now asked more m past grows) (fades old.config.life now old.start moves.after)
+    (ended-sent old.config.life number clock now old.start name asked more (state_at old now name) moves.after m (is_sent moves.move) past grows
+    (ended-fades old.config.life number clock now old.start asked (state_of old name) (state_at old now name) past (fades old.config.life now old.start (state_of old name)) kept)))
 
 -- the name about which something was heard
-pub name_hears : (now : ℕ) (old new : NodeValue) (name : NameValue) (m : MessageValue) (told : Told) (asked : ℕ → MessageValue → Type 0) → new.start ≡ old.start
-    → NameMoves old now name (hear m) new None told
-    → RequestsEnded old.config.life now asked (known (Some old) name) → RequestsEnded old.config.life now asked (known (Some new) name)
-name_hears now old new name m told asked start moves kept =
-    known_as old.config.life now asked new name old.start (settled old.config.life now moves.after) start moves.named
-    (ended-fades old.config.life now old.start asked moves.after (settled old.config.life now moves.after) (fades old.config.life now old.start moves.after)
-    (ended-fades old.config.life now old.start asked (state_at old now name) moves.after (fades-heard old.config.life old.start moves.move)
-    (ended-fades old.config.life now old.start asked (state_of old name) (state_at old now name) (fades old.config.life now old.start (state_of old name)) kept)))
+pub name_hears : (number clock now : ℕ) (old new : NodeValue) (name : NameValue) (m : MessageValue) (told : Told) (asked : Clocks → MessageValue → Type 0) → new.start ≡ old.start
+    → NameMoves old now name (hear m) new None told → ArePast old.config.life number clock now asked
+    → RequestsEnded old.config.life number clock now asked (known (Some old) name) → RequestsEnded old.config.life number clock now asked (known (Some new) name)
+name_hears number clock now old new name m told asked start moves past kept =
+    known_as old.config.life number clock now asked new name old.start (settled old.config.life now moves.after) start moves.named
+    (ended-fades old.config.life number clock now old.start asked moves.after (settled old.config.life now moves.after) past (fades old.config.life now old.start moves.after)
+    (ended-fades old.config.life number clock now old.start asked (state_at old now name) moves.after past (fades-heard old.config.life old.start moves.move)
+    (ended-fades old.config.life number clock now old.start asked (state_of old name) (state_at old now name) past (fades old.config.life now old.start (state_of old name)) kept)))
 
 -- ---- and the replies about it
 
-fresh_as : (life now : ℕ) (asked replied : ℕ → MessageValue → Type 0) (new : NodeValue) (q : NameValue) (start : ℕ) (s : State) → new.start ≡ start → state_of new q ≡ s
-    → RepliesFresh life now asked replied (knows start s) → RepliesFresh life now asked replied (known (Some new) q)
-fresh_as life now asked replied new q start s e f kept = rw (e, f) kept
+fresh_as : (life number clock now : ℕ) (asked replied : Clocks → MessageValue → Type 0) (new : NodeValue) (q : NameValue) (start : ℕ) (s : State) → new.start ≡ start → state_of new q ≡ s
+    → RepliesFresh life number clock now asked replied (knows start s) → RepliesFresh life number clock now asked replied (known (Some new) q)
+fresh_as life number clock now asked replied new q start s e f kept = rw (e, f) kept
 
-pub fresh_by_time : (now : ℕ) (old new : NodeValue) (q : NameValue) (asked more replied fewer : ℕ → MessageValue → Type 0) → new.start ≡ old.start → state_of new q ≡ state_at old now q
-    → ((moment : ℕ) (message : MessageValue) → asked moment message → more moment message) → ((moment : ℕ) (message : MessageValue) → more moment message → asked moment message)
-    → ((moment : ℕ) (message : MessageValue) → fewer moment message → replied moment message)
-    → RepliesFresh old.config.life now asked replied (known (Some old) q) → RepliesFresh old.config.life now more fewer (known (Some new) q)
-fresh_by_time now old new q asked more replied fewer start state grows back shrinks kept =
-    fresh_as old.config.life now more fewer new q old.start (state_at old now q) start state
-    (fresh-frame old.config.life now now asked more replied fewer (knows old.start (state_at old now q)) (omega arith) grows back shrinks
-    (fresh-fades old.config.life now old.start asked replied (state_of old q) (state_at old now q) (fades old.config.life now old.start (state_of old q)) kept))
+pub fresh_by_time : (number clock now : ℕ) (old new : NodeValue) (q : NameValue) (asked more replied fewer : Clocks → MessageValue → Type 0) → new.start ≡ old.start → state_of new q ≡ state_at old now q → ArePast old.config.life number clock now asked
+    → ((moment : Clocks) (message : MessageValue) → asked moment message → more moment message) → ((moment : Clocks) (message : MessageValue) → more moment message → asked moment message)
+    → ((moment : Clocks) (message : MessageValue) → fewer moment message → replied moment message)
+    → RepliesFresh old.config.life number clock now asked replied (known (Some old) q) → RepliesFresh old.config.life number clock now more fewer (known (Some new) q)
+fresh_by_time number clock now old new q asked more replied fewer start state past grows back shrinks kept =
+    fresh_as old.config.life number clock now more fewer new q old.start (state_at old now q) start state
+    (fresh-frame old.config.life number clock now clock now asked more replied fewer (knows old.start (state_at old now q)) (omega arith) (omega arith) grows back shrinks
+    (fresh-fades old.config.life number clock now old.start asked replied (state_of old q) (state_at old now q) past (fades old.config.life now old.start (state_of old q)) kept))
 
-pub fresh_sends : (now : ℕ) (old new : NodeValue) (name : NameValue) (event : NameEvent) (m : MessageValue) (told : Told) (asked more replied fewer : ℕ → MessageValue → Type 0) → new.start ≡ old.start
+pub fresh_sends : (number clock now : ℕ) (old new : NodeValue) (name : NameValue) (event : NameEvent) (m : MessageValue) (told : Told) (asked more replied fewer : Clocks → MessageValue → Type 0) → new.start ≡ old.start
     → NameMoves old now name event new (Some m) told
-    → ((moment : ℕ) (message : MessageValue) → asked moment message → moment ≤ now)
-    → ((moment : ℕ) (message : MessageValue) → asked moment message → more moment message)
-    → ((moment : ℕ) (message : MessageValue) → more moment message → asked moment message ⊎ ((moment ≡ now) × (message ≡ m)))
-    → ((moment : ℕ) (message : MessageValue) → fewer moment message → replied moment message)
-    → RequestsEnded old.config.life now asked (known (Some old) name) → RepliesFresh old.config.life now asked replied (known (Some old) name)
-    → RepliesFresh old.config.life now more fewer (known (Some new) name)
-fresh_sends now old new name event m told asked more replied fewer start moves past grows back shrinks ended kept =
-    fresh_as old.config.life now more fewer new name old.start (settled old.config.life now moves.after) start moves.named
-    (fresh-frame old.config.life now now more more replied fewer (knows old.start (settled old.config.life now moves.after)) (omega arith) (λ moment message a. a) (λ moment message a. a) shrinks
-    (fresh-fades old.config.life now old.start more replied moves.after (settled old.config.life now moves.after) (fades old.config.life now old.start moves.after)
-    (fresh-sent old.config.life now old.start name asked more replied (state_at old now name) moves.after m (is_sent moves.move) past grows back
-    (ended-fades old.config.life now old.start asked (state_of old name) (state_at old now name) (fades old.config.life now old.start (state_of old name)) ended)
-    (fresh-fades old.config.life now old.start asked replied (state_of old name) (state_at old now name) (fades old.config.life now old.start (state_of old name)) kept))))
+    → ArePast old.config.life number clock now asked
+    → ((moment : Clocks) (message : MessageValue) → asked moment message → more moment message)
+    → ((moment : Clocks) (message : MessageValue) → more moment message → asked moment message ⊎ ((reading moment number ≡ now) × (message ≡ m)))
+    → ((moment : Clocks) (message : MessageValue) → fewer moment message → replied moment message)
+    → RequestsEnded old.config.life number clock now asked (known (Some old) name) → RepliesFresh old.config.life number clock now asked replied (known (Some old) name)
+    → RepliesFresh old.config.life number clock now more fewer (known (Some new) name)
+fresh_sends number clock now old new name event m told asked more replied fewer start moves past grows back shrinks ended kept =
+    fresh_as old.config.life number clock now more fewer new name old.start (settled old.config.life now moves.after) start moves.named
+    (fresh-frame old.config.life number clock now clock now more more replied fewer (knows old.start (settled old.config.life now moves.after)) (omega arith) (omega arith) (λ moment message a. a) (λ moment message a. a) shrinks
+    (fresh-fades old.config.life number clock now old.start more replied moves.after (settled old.config.life now moves.after) (past-more old.config.life number clock now asked more m past back) (fades old.config.life now old.start moves.after)
+    (fresh-sent old.config.life number clock now old.start name asked more replied (state_at old now name) moves.after m (is_sent moves.move) past grows back
+    (ended-fades old.config.life number clock now old.start asked (state_of old name) (state_at old now name) past (fades old.config.life now old.start (state_of old name)) ended)
+    (fresh-fades old.config.life number clock now old.start asked replied (state_of old name) (state_at old now name) past (fades old.config.life now old.start (state_of old name)) kept))))
 
-pub fresh_hears : (now : ℕ) (old new : NodeValue) (name : NameValue) (m : MessageValue) (told : Told) (asked replied : ℕ → MessageValue → Type 0) → new.start ≡ old.start
-    → NameMoves old now name (hear m) new None told
-    → RepliesFresh old.config.life now asked replied (known (Some old) name) → RepliesFresh old.config.life now asked replied (known (Some new) name)
-fresh_hears now old new name m told asked replied start moves kept =
-    fresh_as old.config.life now asked replied new name old.start (settled old.config.life now moves.after) start moves.named
-    (fresh-fades old.config.life now old.start asked replied moves.after (settled old.config.life now moves.after) (fades old.config.life now old.start moves.after)
-    (fresh-fades old.config.life now old.start asked replied (state_at old now name) moves.after (fades-heard old.config.life old.start moves.move)
-    (fresh-fades old.config.life now old.start asked replied (state_of old name) (state_at old now name) (fades old.config.life now old.start (state_of old name)) kept)))
+pub fresh_hears : (number clock now : ℕ) (old new : NodeValue) (name : NameValue) (m : MessageValue) (told : Told) (asked replied : Clocks → MessageValue → Type 0) → new.start ≡ old.start
+    → NameMoves old now name (hear m) new None told → ArePast old.config.life number clock now asked
+    → RepliesFresh old.config.life number clock now asked replied (known (Some old) name) → RepliesFresh old.config.life number clock now asked replied (known (Some new) name)
+fresh_hears number clock now old new name m told asked replied start moves past kept =
+    fresh_as old.config.life number clock now asked replied new name old.start (settled old.config.life now moves.after) start moves.named
+    (fresh-fades old.config.life number clock now old.start asked replied moves.after (settled old.config.life now moves.after) past (fades old.config.life now old.start moves.after)
+    (fresh-fades old.config.life number clock now old.start asked replied (state_at old now name) moves.after past (fades-heard old.config.life old.start moves.move)
+    (fresh-fades old.config.life number clock now old.start asked replied (state_of old name) (state_at old now name) past (fades old.config.life now old.start (state_of old name)) kept)))
 
 -- ---- one node has moved
 
@@ -216,13 +225,14 @@ pub record UpAt (w : WorldValue) (i : ℕ) (node : NodeValue) : Type 0 where
   pub addr : Addr
   pub at : addr_of w.ends (suc i) ≡ Some addr
   pub up : node_of w.ends (suc i) ≡ Some node
-  pub is : IsNodeOf w addr node
-  pub requests : (q : NameValue) → RequestsEnded node.config.life w.now (Asked w.sent addr.ip q) (known (Some node) q)
-  pub replies : (q : NameValue) → RepliesFresh node.config.life w.now (Asked w.sent addr.ip q) (Replied w.sent w.ends.server_addr addr q) (known (Some node) q)
+  pub is : IsNodeOf w (suc i) addr node
+  pub past : IsTrue w.kept → (q : NameValue) → ArePast node.config.life (suc i) w.now.clock (reading w.now (suc i)) (Asked w.sent addr.ip q)
+  pub requests : IsTrue w.kept → (q : NameValue) → RequestsEnded node.config.life (suc i) w.now.clock (reading w.now (suc i)) (Asked w.sent addr.ip q) (known (Some node) q)
+  pub replies : IsTrue w.kept → (q : NameValue) → RepliesFresh node.config.life (suc i) w.now.clock (reading w.now (suc i)) (Asked w.sent addr.ip q) (Replied w.sent w.ends.server_addr addr q) (known (Some node) q)
   pub no_server : addr ≢ w.ends.server_addr
 
-pub up_at : (w : WorldValue) (i : ℕ) (node : NodeValue) → IsKept w → node_of w.ends (suc i) ≡ Some node → UpAt w i node
-up_at w i node kept up =
+pub up_at : RestLaw → (w : WorldValue) (i : ℕ) (node : NodeValue) → IsKept w → node_of w.ends (suc i) ≡ Some node → UpAt w i node
+up_at law w i node kept up =
     let there = addr_there w.ends (suc i) node up in
     let is = kept.nodes (suc i) there.0 node there.1 up in
     record {
@@ -230,32 +240,36 @@ up_at w i node kept up =
       at = there.1;
       up = up;
       is = is;
-      requests = λ q.
-          subst (λ (c : ConfigValue). RequestsEnded c.life w.now (Asked w.sent (there.0).ip q) (known (Some node) q)) (sym is.config_is)
-          (subst (λ (x : Option NodeValue). RequestsEnded w.config.life w.now (Asked w.sent (there.0).ip q) (known x q)) up (kept.requests (suc i) there.0 q there.1));
-      replies = λ q.
-          subst (λ (c : ConfigValue). RepliesFresh c.life w.now (Asked w.sent (there.0).ip q) (Replied w.sent w.ends.server_addr there.0 q) (known (Some node) q)) (sym is.config_is)
-          (subst (λ (x : Option NodeValue). RepliesFresh w.config.life w.now (Asked w.sent (there.0).ip q) (Replied w.sent w.ends.server_addr there.0 q) (known x q)) up (kept.replies (suc i) there.0 q there.1));
+      past = λ on q.
+          subst (λ (c : ConfigValue). ArePast c.life (suc i) w.now.clock (reading w.now (suc i)) (Asked w.sent (there.0).ip q)) (sym is.config_is)
+          (asked_are_past law w kept.clocks on (suc i) there.0 there.1 (there.0).ip q w.sent kept.sent);
+      requests = λ on q.
+          subst (λ (c : ConfigValue). RequestsEnded c.life (suc i) w.now.clock (reading w.now (suc i)) (Asked w.sent (there.0).ip q) (known (Some node) q)) (sym is.config_is)
+          (subst (λ (x : Option NodeValue). RequestsEnded w.config.life (suc i) w.now.clock (reading w.now (suc i)) (Asked w.sent (there.0).ip q) (known x q)) up (kept.requests on (suc i) there.0 q there.1));
+      replies = λ on q.
+          subst (λ (c : ConfigValue). RepliesFresh c.life (suc i) w.now.clock (reading w.now (suc i)) (Asked w.sent (there.0).ip q) (Replied w.sent w.ends.server_addr there.0 q) (known (Some node) q)) (sym is.config_is)
+          (subst (λ (x : Option NodeValue). RepliesFresh w.config.life (suc i) w.now.clock (reading w.now (suc i)) (Asked w.sent (there.0).ip q) (Replied w.sent w.ends.server_addr there.0 q) (known x q)) up
+          (kept.replies on (suc i) there.0 q there.1));
       no_server = node_not_server w i there.0 kept there.1;
     }
 
 -- The world after the node is another, with what is new in the list.
-pub node_moves : (w : WorldValue) (i : ℕ) (node new : NodeValue) (sent : List Datagram) → IsKept w → (at : UpAt w i node) → Stays node w.now new → IsNew w at.addr sent → Grows w.sent sent
-    → ((q : NameValue) → RequestsEnded node.config.life w.now (Asked sent (at.addr).ip q) (known (Some new) q))
-    → ((q : NameValue) → RepliesFresh node.config.life w.now (Asked sent (at.addr).ip q) (Replied sent w.ends.server_addr at.addr q) (known (Some new) q))
-    → ((q : NameValue) → NoNewClaim node.config.longest node.config.life w.now (Replied w.sent w.ends.server_addr at.addr q) (known (Some node) q) (known (Some new) q))
+pub node_moves : (w : WorldValue) (i : ℕ) (node new : NodeValue) (sent : List Datagram) → IsKept w → (at : UpAt w i node) → Stays node (reading w.now (suc i)) new → IsNew w at.addr sent → Grows w.sent sent
+    → (IsTrue w.kept → (q : NameValue) → RequestsEnded node.config.life (suc i) w.now.clock (reading w.now (suc i)) (Asked sent (at.addr).ip q) (known (Some new) q))
+    → (IsTrue w.kept → (q : NameValue) → RepliesFresh node.config.life (suc i) w.now.clock (reading w.now (suc i)) (Asked sent (at.addr).ip q) (Replied sent w.ends.server_addr at.addr q) (known (Some new) q))
+    → (IsTrue w.kept → (q : NameValue) → NoNewClaim node.config.longest node.config.life w.now.clock (Replied w.sent w.ends.server_addr at.addr q) (known (Some node) q) (known (Some new) q))
     → IsKept (record w { ends = with_node w.ends (suc i) (Some new); sent = sent })
 node_moves w i node new sent kept at stays fresh grows names replies claims =
     node_changes w i at.addr (Some new) sent kept at.at
-    (λ x e. subst (λ (y : NodeValue). IsNodeOf w at.addr y) (same_Some new x e) (node_stays w at.addr node new stays at.is)) fresh grows
-    (λ q. subst (λ (c : ConfigValue). RequestsEnded c.life w.now (Asked sent (at.addr).ip q) (known (Some new) q)) (at.is).config_is (names q))
-    (λ q. subst (λ (c : ConfigValue). RepliesFresh c.life w.now (Asked sent (at.addr).ip q) (Replied sent w.ends.server_addr at.addr q) (known (Some new) q)) (at.is).config_is (replies q))
-    (node_claims w i at.addr (Some new) sent kept at.at fresh grows own)
+    (λ x e. subst (λ (y : NodeValue). IsNodeOf w (suc i) at.addr y) (same_Some new x e) (node_stays w (suc i) at.addr node new stays at.is)) fresh grows
+    (λ on q. subst (λ (c : ConfigValue). RequestsEnded c.life (suc i) w.now.clock (reading w.now (suc i)) (Asked sent (at.addr).ip q) (known (Some new) q)) (at.is).config_is (names on q))
+    (λ on q. subst (λ (c : ConfigValue). RepliesFresh c.life (suc i) w.now.clock (reading w.now (suc i)) (Asked sent (at.addr).ip q) (Replied sent w.ends.server_addr at.addr q) (known (Some new) q)) (at.is).config_is (replies on q))
+    (λ on. node_claims w i at.addr (Some new) sent kept at.at fresh grows on (own on))
   where
-    own : (q : NameValue) → NoNewClaim w.config.longest w.config.life w.now (Replied w.sent w.ends.server_addr at.addr q) (known (node_of w.ends (suc i)) q) (known (Some new) q)
-    own q =
-        subst (λ (x : Option NodeValue). NoNewClaim w.config.longest w.config.life w.now (Replied w.sent w.ends.server_addr at.addr q) (known x q) (known (Some new) q)) (sym at.up)
-        (subst (λ (c : ConfigValue). NoNewClaim c.longest c.life w.now (Replied w.sent w.ends.server_addr at.addr q) (known (Some node) q) (known (Some new) q)) (at.is).config_is (claims q))
+    own : IsTrue w.kept → (q : NameValue) → NoNewClaim w.config.longest w.config.life w.now.clock (Replied w.sent w.ends.server_addr at.addr q) (known (node_of w.ends (suc i)) q) (known (Some new) q)
+    own on q =
+        subst (λ (x : Option NodeValue). NoNewClaim w.config.longest w.config.life w.now.clock (Replied w.sent w.ends.server_addr at.addr q) (known x q) (known (Some new) q)) (sym at.up)
+        (subst (λ (c : ConfigValue). NoNewClaim c.longest c.life w.now.clock (Replied w.sent w.ends.server_addr at.addr q) (known (Some node) q) (known (Some new) q)) (at.is).config_is (claims on q))
 
 pub stays_by_moves : (now : ℕ) (old new : NodeValue) (name : NameValue) (event : NameEvent) (sent : Option MessageValue) (told : Told) → NameMoves old now name event new sent told → Stays old now new
 stays_by_moves now old new name event sent told moves = record {
@@ -268,17 +282,17 @@ stays_by_moves now old new name event sent told moves = record {
 
 -- the others, of which nothing was said
 pub others_fewer : OneMessage → (w : WorldValue) (addr : Addr) (d : Datagram) (m : MessageValue) (ip : ℕ) (q : NameValue) → Sending w addr d m → (IsRequest q m → ⊥)
-    → (moment : ℕ) (message : MessageValue) → Asked (w.sent ++ d ∷ []) ip q moment message → Asked w.sent ip q moment message
+    → (moment : Clocks) (message : MessageValue) → Asked (w.sent ++ d ∷ []) ip q moment message → Asked w.sent ip q moment message
 others_fewer law w addr d m ip q s off moment message a = go (asks_more law w addr d m ip q s moment message a)
   where
     go : Asked w.sent ip q moment message ⊎ ((moment ≡ w.now) × (message ≡ m) × IsRequest q m) → Asked w.sent ip q moment message
     go (inl old) = old
     go (inr is) = absurd (off is.2)
 
-pub own_more : OneMessage → (w : WorldValue) (addr : Addr) (d : Datagram) (m : MessageValue) (ip : ℕ) (q : NameValue) → Sending w addr d m
-    → (moment : ℕ) (message : MessageValue) → Asked (w.sent ++ d ∷ []) ip q moment message → Asked w.sent ip q moment message ⊎ ((moment ≡ w.now) × (message ≡ m))
-own_more law w addr d m ip q s moment message a = go (asks_more law w addr d m ip q s moment message a)
+pub own_more : OneMessage → (w : WorldValue) (n : ℕ) (addr : Addr) (d : Datagram) (m : MessageValue) (ip : ℕ) (q : NameValue) → Sending w addr d m
+    → (moment : Clocks) (message : MessageValue) → Asked (w.sent ++ d ∷ []) ip q moment message → Asked w.sent ip q moment message ⊎ ((reading moment n ≡ reading w.now n) × (message ≡ m))
+own_more law w n addr d m ip q s moment message a = go (asks_more law w addr d m ip q s moment message a)
   where
-    go : Asked w.sent ip q moment message ⊎ ((moment ≡ w.now) × (message ≡ m) × IsRequest q m) → Asked w.sent ip q moment message ⊎ ((moment ≡ w.now) × (message ≡ m))
+    go : Asked w.sent ip q moment message ⊎ ((moment ≡ w.now) × (message ≡ m) × IsRequest q m) → Asked w.sent ip q moment message ⊎ ((reading moment n ≡ reading w.now n) × (message ≡ m))
     go (inl old) = inl old
-    go (inr is) = inr (is.0, is.1)
+    go (inr is) = inr (ap (λ (c : Clocks). reading c n) is.0, is.1)

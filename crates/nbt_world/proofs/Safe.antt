@@ -1,4 +1,4 @@
--- A world that keeps its facts is safe: what a node holds it claims, and claims stand beside one another only as a group's.
+-- A world that keeps its facts is safe where the readings kept the drift bound: what a node holds it claims, and claims stand beside one another only as a group's.
 use Rattle.std.proofs.Common.{◌≡◌, ℕ, ◌<◌, Bool, true, false, cond, ltb, Option, Some, None, refl}
 use Rattle.std.proofs.lemmas.Bool.{ltb-true}
 use Rattle.std.proofs.lemmas.Option.{none-some, same_Some}
@@ -7,6 +7,8 @@ use Rattle.nbt_name.specs.Wire.{NameValue}
 use Rattle.nbt_node.specs.declared.state.State.{State}
 use Rattle.nbt_node.specs.declared.state.State.TheVariants.{Idle, Asking, Held, Releasing, Resting}
 use Rattle.nbt_node.specs.Node.{NodeValue, state_of, held_at}
+use Rattle.std.specs.Prelude.{IsTrue}
+use Rattle.nbt_world.specs.Drift.{reading}
 use Rattle.nbt_world.specs.World.{WorldValue, node_of}
 use Rattle.nbt_world.specs.Safety.{held_by, holding, IsSafe}
 use Rattle.nbt_world.specs.Kept.{HoldsIn, known, has, Holds, IsKept}
@@ -35,16 +37,16 @@ held_claim now (Some node) name kind e = go (ltb now node.last) e
 holder_up : (w : WorldValue) (i : ℕ) (name : NameValue) (kind : Kind) → holding w i name ≡ Some kind → (node : NodeValue) × (node_of w.ends i ≡ Some node)
 holder_up w i name kind e = go (node_of w.ends i) refl e
   where
-    go : (o : Option NodeValue) → node_of w.ends i ≡ o → held_by o name w.now ≡ Some kind → (node : NodeValue) × (node_of w.ends i ≡ Some node)
+    go : (o : Option NodeValue) → node_of w.ends i ≡ o → held_by o name (reading w.now i) ≡ Some kind → (node : NodeValue) × (node_of w.ends i ≡ Some node)
     go None p e = absurd (none-some kind e)
     go (Some node) p e = (node, p)
 
-pub is_safe : (w : WorldValue) → IsKept w → IsSafe w
-is_safe w kept name i j k l ne p q =
+pub is_safe : (w : WorldValue) → IsKept w → IsTrue w.kept → IsSafe w
+is_safe w kept on name i j k l ne p q =
     let a = holder_up w i name k p in
     let b = holder_up w j name l q in
     let x = addr_there w.ends i a.0 a.1 in
     let y = addr_there w.ends j b.0 b.1 in
-    let c = held_claim w.now (node_of w.ends i) name k p in
-    let d = held_claim w.now (node_of w.ends j) name l q in
-    (kept.claims).beside i j x.0 y.0 name k l c.0 d.0 ne x.1 y.1 (has k c.0 c.1) c.2 (has l d.0 d.1) d.2
+    let c = held_claim (reading w.now i) (node_of w.ends i) name k p in
+    let d = held_claim (reading w.now j) (node_of w.ends j) name l q in
+    (kept.claims on).beside i j x.0 y.0 name k l c.0 d.0 ne x.1 y.1 (has k c.0 c.1) c.2 (has l d.0 d.1) d.2

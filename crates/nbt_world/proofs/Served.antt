@@ -1,7 +1,7 @@
 -- Claims stay covered, and beside one another, when the server takes a datagram: a claim is an old one, or the grant of
 -- this reply covers it.
 use Rattle.std.proofs.Common.{◌≡◌, ◌≢◌, ℕ, ◌+◌, ◌*◌, ◌<◌, ◌≤◌, List, Option, Some, refl, sym, ap, subst, ◌∙◌, arith, inl, inr}
-use Rattle.std.specs.Prelude.{◌⊎◌}
+use Rattle.std.specs.Prelude.{IsTrue, ◌⊎◌}
 use Rattle.nbt_name.specs.declared.addr.Addr.{Addr}
 use Rattle.nbt_name.specs.declared.addr.Kind.{Kind}
 use Rattle.nbt_name.specs.declared.addr.Kind.TheVariants.{Group}
@@ -11,75 +11,80 @@ use Rattle.nbt_packet.specs.Message.{MessageValue, registered}
 use Rattle.nbt_packet.specs.Spelling.{Spells}
 use Rattle.nbt_lease.specs.declared.lease.Lease.{Lease}
 use Rattle.nbt_lease.specs.Config.{ConfigValue, granted}
+use Rattle.nbt_lease.specs.Drift.{hold}
 use Rattle.nbt_lease.specs.Lease.{leases_at, IsSound}
 use Rattle.nbt_server.specs.Serving.{ServerValue, speaks_from}
 use Rattle.nbt_node.specs.Node.{NodeValue}
+use Rattle.nbt_world.specs.declared.clocks.Clocks.{Clocks}
 use Rattle.nbt_world.specs.declared.network.Datagram.{Datagram}
+use Rattle.nbt_world.specs.Drift.{reading}
 use Rattle.nbt_world.specs.World.{WorldValue, addr_of, node_of, with_server}
 use Rattle.nbt_world.specs.Step.{ServerTakes, ServerForgets}
 use Rattle.nbt_world.specs.Kept.{IsRequest, AsksAs, Replied, known, Wants, Claims, has, may_get, IsLeased, Backs, ClaimsIn, IsCoveredIn, ClaimsKept, IsKept}
 use Rattle.nbt_world.proofs.Claiming.{claims_want}
+use Rattle.nbt_world.proofs.Drifting.{hold_over}
 use Rattle.nbt_world.proofs.Keeping.{Grows, server_addr_with, server_node_with}
 use Rattle.nbt_world.proofs.Covering.{replied_still, server_claims}
 use Rattle.nbt_world.proofs.Naming.{Origin, listed, strange}
 use Rattle.nbt_world.proofs.Granting.{LeaseLaws, Gives, granted_most, octets_keep, octets_give}
 
 -- what an end has asked with these octets, if it wants the name: the name, as its kind
-asked_kind : (w : WorldValue) (from to : Addr) (octets : List ℕ) (n : ℕ) (a : Addr) (q : NameValue) (kind : Kind) → IsKept w → Origin w from to octets → addr_of w.ends n ≡ Some a → Wants (known (node_of w.ends n) q) kind
+asked_kind : (w : WorldValue) (from to : Addr) (octets : List ℕ) (n : ℕ) (a : Addr) (q : NameValue) (kind : Kind) → IsKept w → IsTrue w.kept → Origin w from to octets → addr_of w.ends n ≡ Some a → Wants (known (node_of w.ends n) q) kind
     → (m : MessageValue) → Spells octets m → a.ip ≡ from.ip → IsRequest q m → AsksAs kind m
-asked_kind w from to octets n a q kind kept (strange off) p wants m spells same is = absurd (off (n, a, p, same))
-asked_kind w from to octets n a q kind kept (listed d c f t o delivered) p wants m spells same is =
-    (kept.requests n a q p).one_kind kind d.moment m wants
+asked_kind w from to octets n a q kind kept on (strange off) p wants m spells same is = absurd (off (n, a, p, same))
+asked_kind w from to octets n a q kind kept on (listed d c f t o delivered) p wants m spells same is =
+    (kept.requests on n a q p).one_kind kind d.moment m wants
     (record { datagram = d; among = c; sender = ap (λ (x : Addr). x.ip) f ∙ sym same; moment_is = refl; spelled = subst (λ (xs : List ℕ). Spells xs m) (sym o) spells; request = is }) delivered
 
 -- The server took a datagram, and sent its reply, if any.
 pub record Took (w : WorldValue) (server new : ServerValue) (from to : Addr) (octets : List ℕ) (reply : Option MessageValue) (sent : List Datagram) : Type 0 where
   pub kept : IsKept w
+  pub on : IsTrue w.kept
   pub up : w.ends.server ≡ Some server
   pub config_is : server.table.config ≡ w.config
-  pub sound : IsSound server.table.config w.now (leases_at w.now server.table.rows)
+  pub sound : IsSound server.table.config (reading w.now 0) (leases_at (reading w.now 0) server.table.rows)
   pub origin : Origin w from to octets
-  pub takes : ServerTakes w.now server from.ip octets reply new
+  pub takes : ServerTakes (reading w.now 0) server from.ip octets reply new
   pub grows : Grows w.sent sent
-  pub more : (a : Addr) (q : NameValue) (moment : ℕ) (message : MessageValue) → Replied sent w.ends.server_addr a q moment message
+  pub more : (a : Addr) (q : NameValue) (moment : Clocks) (message : MessageValue) → Replied sent w.ends.server_addr a q moment message
       → Replied w.sent w.ends.server_addr a q moment message ⊎ ((moment ≡ w.now) × (from ≡ a) × (reply ≡ Some message))
 
 -- a claim afterwards: an old one, or what this reply gives
 data Claimed (w : WorldValue) (from : Addr) (reply : Option MessageValue) (sent : List Datagram) (n : ℕ) (a : Addr) (q : NameValue) (kind : Kind) (end : ℕ) : Type 0 where
   before : ClaimsIn w n a q kind end → Claimed w from reply sent n a q kind end
-  given : (moment : ℕ) (r : Registration) → moment ≡ w.now → from ≡ a → reply ≡ Some (registered 0 r) → Replied sent w.ends.server_addr a q moment (registered 0 r) → Wants (known (node_of w.ends n) q) kind
-      → end ≤ moment + 1000 * granted w.config.longest r.ttl → Claimed w from reply sent n a q kind end
+  given : (moment : Clocks) (r : Registration) → moment ≡ w.now → from ≡ a → reply ≡ Some (registered 0 r) → Replied sent w.ends.server_addr a q moment (registered 0 r) → Wants (known (node_of w.ends n) q) kind
+      → end ≤ reading moment n + hold (granted w.config.longest r.ttl) → Claimed w from reply sent n a q kind end
 
 claimed : (w : WorldValue) (server new : ServerValue) (from to : Addr) (octets : List ℕ) (reply : Option MessageValue) (sent : List Datagram) → Took w server new from to octets reply sent
-    → (n : ℕ) (a : Addr) (q : NameValue) (kind : Kind) (end : ℕ) → addr_of w.ends n ≡ Some a → Claims w.config.longest w.config.life w.now (Replied sent w.ends.server_addr a q) (known (node_of w.ends n) q) kind end
+    → (n : ℕ) (a : Addr) (q : NameValue) (kind : Kind) (end : ℕ) → addr_of w.ends n ≡ Some a → Claims w.config.longest w.config.life w.now.clock (Replied sent w.ends.server_addr a q) (known (node_of w.ends n) q) kind end
     → Claimed w from reply sent n a q kind end
 claimed w server new from to octets reply sent took n a q kind end p (has j e h) = before (has j e h)
 claimed w server new from to octets reply sent took n a q kind end p (may_get j first moment r o replied d) = go (took.more a q moment (registered 0 r) replied)
   where
     go : Replied w.sent w.ends.server_addr a q moment (registered 0 r) ⊎ ((moment ≡ w.now) × (from ≡ a) × (reply ≡ Some (registered 0 r)))
-        → Claimed w from reply sent n a q j (first + 1000 * granted w.config.longest r.ttl)
+        → Claimed w from reply sent n a q j (first + hold (granted w.config.longest r.ttl))
     go (inl old) = before (may_get j first moment r o old d)
     go (inr e) =
-        let at = e.0 in
-        let begun = ((took.kept).replies n a q p).begun j first o in
-        given moment r e.0 e.1 e.2 replied (claims_want w.config.longest w.config.life w.now (Replied sent w.ends.server_addr a q) (known (node_of w.ends n) q) j _ (may_get j first moment r o replied d)) (omega arith)
+        let at : reading moment n ≡ reading w.now n = ap (λ (c : Clocks). reading c n) e.0 in
+        let begun = ((took.kept).replies took.on n a q p).begun j first o in
+        given moment r e.0 e.1 e.2 replied (claims_want w.config.longest w.config.life w.now.clock (Replied sent w.ends.server_addr a q) (known (node_of w.ends n) q) j _ (may_get j first moment r o replied d)) (omega arith)
 
 -- what the reply gives, to whoever claims it
 gives : LeaseLaws → (w : WorldValue) (server new : ServerValue) (from to : Addr) (octets : List ℕ) (reply : Option MessageValue) (sent : List Datagram) (took : Took w server new from to octets reply sent)
-    → (n : ℕ) (a : Addr) (q : NameValue) (kind : Kind) (moment : ℕ) (r : Registration) → addr_of w.ends n ≡ Some a → from ≡ a → reply ≡ Some (registered 0 r) → Replied sent w.ends.server_addr a q moment (registered 0 r)
+    → (n : ℕ) (a : Addr) (q : NameValue) (kind : Kind) (moment : Clocks) (r : Registration) → addr_of w.ends n ≡ Some a → from ≡ a → reply ≡ Some (registered 0 r) → Replied sent w.ends.server_addr a q moment (registered 0 r)
     → Wants (known (node_of w.ends n) q) kind
-    → (speaks_from server ≤ w.now) × Gives w.now w.config.longest a.ip r.ttl (leases_at w.now server.table.rows q) (leases_at w.now new.table.rows q) kind
+    → (speaks_from server ≤ reading w.now 0) × Gives (reading w.now 0) w.config.longest a.ip r.ttl (leases_at (reading w.now 0) server.table.rows q) (leases_at (reading w.now 0) new.table.rows q) kind
 gives laws w server new from to octets reply sent took n a q kind moment r p same e replied wants =
-    subst (λ (c : ConfigValue). (speaks_from server ≤ w.now) × Gives w.now c.longest a.ip r.ttl (leases_at w.now server.table.rows q) (leases_at w.now new.table.rows q) kind) took.config_is
-    (subst (λ (x : Addr). (speaks_from server ≤ w.now) × Gives w.now server.table.config.longest x.ip r.ttl (leases_at w.now server.table.rows q) (leases_at w.now new.table.rows q) kind) same
-    (octets_give laws server w.now from.ip octets reply _ took.sound (took.takes).serves r q kind e replied.reply
-    (λ m spells is. asked_kind w from to octets n a q kind took.kept took.origin p wants m spells (ap (λ (x : Addr). x.ip) (sym same)) is)))
+    subst (λ (c : ConfigValue). (speaks_from server ≤ reading w.now 0) × Gives (reading w.now 0) c.longest a.ip r.ttl (leases_at (reading w.now 0) server.table.rows q) (leases_at (reading w.now 0) new.table.rows q) kind) took.config_is
+    (subst (λ (x : Addr). (speaks_from server ≤ reading w.now 0) × Gives (reading w.now 0) server.table.config.longest x.ip r.ttl (leases_at (reading w.now 0) server.table.rows q) (leases_at (reading w.now 0) new.table.rows q) kind) same
+    (octets_give laws server (reading w.now 0) from.ip octets reply _ took.sound (took.takes).serves r q kind e replied.reply
+    (λ m spells is. asked_kind w from to octets n a q kind took.kept took.on took.origin p wants m spells (ap (λ (x : Addr). x.ip) (sym same)) is)))
 
 -- what backs an old claim backs it still
 backs_still : LeaseLaws → (w : WorldValue) (server new : ServerValue) (from to : Addr) (octets : List ℕ) (reply : Option MessageValue) (sent : List Datagram) (took : Took w server new from to octets reply sent)
-    → (n : ℕ) (a : Addr) (q : NameValue) (kind : Kind) (till : ℕ) → addr_of w.ends n ≡ Some a → Wants (known (node_of w.ends n) q) kind → Backs w.now (Some server) a.ip q kind till → Backs w.now (Some new) a.ip q kind till
+    → (n : ℕ) (a : Addr) (q : NameValue) (kind : Kind) (till : ℕ) → addr_of w.ends n ≡ Some a → Wants (known (node_of w.ends n) q) kind → Backs (reading w.now 0) (Some server) a.ip q kind till → Backs (reading w.now 0) (Some new) a.ip q kind till
 backs_still laws w server new from to octets reply sent took n a q kind till p wants (inl leased) =
-    inl (octets_keep laws server w.now from.ip octets reply _ took.sound (took.takes).serves q a.ip kind till (asked_kind w from to octets n a q kind took.kept took.origin p wants) leased)
+    inl (octets_keep laws server (reading w.now 0) from.ip octets reply _ took.sound (took.takes).serves q a.ip kind till (asked_kind w from to octets n a q kind took.kept took.on took.origin p wants) leased)
 backs_still laws w server new from to octets reply sent took n a q kind till p wants (inr silent) =
     let start = (took.takes).start in
     let longest : new.table.config.longest ≡ server.table.config.longest = ap (λ (c : ConfigValue). c.longest) (took.takes).config in
@@ -99,18 +104,18 @@ served_claims laws w server new from to octets reply sent took = record {
         → Claimed w from reply sent n a q kind end
     is_claimed n a q kind end p c =
         claimed w server new from to octets reply sent took n a q kind end p
-        (subst (λ (z : Option NodeValue). Claims w.config.longest w.config.life w.now (Replied sent w.ends.server_addr a q) (known z q) kind end) (server_node_with w.ends (Some new) n) c)
+        (subst (λ (z : Option NodeValue). Claims w.config.longest w.config.life w.now.clock (Replied sent w.ends.server_addr a q) (known z q) kind end) (server_node_with w.ends (Some new) n) c)
 
     wanted : (n : ℕ) (a : Addr) (q : NameValue) (kind : Kind) (end : ℕ) → ClaimsIn w n a q kind end → Wants (known (node_of w.ends n) q) kind
-    wanted n a q kind end c = claims_want w.config.longest w.config.life w.now (Replied w.sent w.ends.server_addr a q) (known (node_of w.ends n) q) kind end c
+    wanted n a q kind end c = claims_want w.config.longest w.config.life w.now.clock (Replied w.sent w.ends.server_addr a q) (known (node_of w.ends n) q) kind end c
 
-    backed : (a : Addr) (q : NameValue) (kind : Kind) (till : ℕ) → Backs w.now w.ends.server a.ip q kind till → Backs w.now (Some server) a.ip q kind till
-    backed a q kind till b = subst (λ (s : Option ServerValue). Backs w.now s a.ip q kind till) took.up b
+    backed : (a : Addr) (q : NameValue) (kind : Kind) (till : ℕ) → Backs (reading w.now 0) w.ends.server a.ip q kind till → Backs (reading w.now 0) (Some server) a.ip q kind till
+    backed a q kind till b = subst (λ (s : Option ServerValue). Backs (reading w.now 0) s a.ip q kind till) took.up b
 
-    covered : (n : ℕ) (a : Addr) (q : NameValue) (kind : Kind) (end : ℕ) → addr_of w.ends n ≡ Some a → w.now < end → Claimed w from reply sent n a q kind end
-        → IsCoveredIn (record w { ends = with_server w.ends (Some new); sent = sent }) a q kind end
+    covered : (n : ℕ) (a : Addr) (q : NameValue) (kind : Kind) (end : ℕ) → addr_of w.ends n ≡ Some a → reading w.now n < end → Claimed w from reply sent n a q kind end
+        → IsCoveredIn (record w { ends = with_server w.ends (Some new); sent = sent }) n a q kind end
     covered n a q kind end p lt (before c) =
-        let is = (took.kept).claims.covered n a q kind end p c lt in
+        let is = ((took.kept).claims took.on).covered n a q kind end p c lt in
         record {
           moment = is.moment;
           message = is.message;
@@ -118,7 +123,7 @@ served_claims laws w server new from to octets reply sent took = record {
           seconds = is.seconds;
           within = is.within;
           counted = is.counted;
-          backed = backs_still laws w server new from to octets reply sent took n a q kind (is.moment + 1000 * is.seconds) p (wanted n a q kind end c) (backed a q kind (is.moment + 1000 * is.seconds) is.backed);
+          backed = backs_still laws w server new from to octets reply sent took n a q kind (reading is.moment 0 + 1000 * is.seconds) p (wanted n a q kind end c) (backed a q kind (reading is.moment 0 + 1000 * is.seconds) is.backed);
         }
     covered n a q kind end p lt (given moment r at same e replied wants ends) =
         let g = (gives laws w server new from to octets reply sent took n a q kind moment r p same e replied wants).1 in
@@ -129,25 +134,28 @@ served_claims laws w server new from to octets reply sent took = record {
           seconds = granted w.config.longest r.ttl;
           within = granted_most w.config.longest r.ttl;
           counted = ends;
-          backed = inl (record { end = (g.leased).end; among = (g.leased).among; lasts = let lasts = (g.leased).lasts in omega arith });
+          backed = inl (record { end = (g.leased).end; among = (g.leased).among; lasts = let lasts = (g.leased).lasts in let now : reading moment 0 ≡ reading w.now 0 = ap (λ (c : Clocks). reading c 0) at in omega arith });
         }
 
     -- a grant, and an old claim of another node
-    grant_beside : (i j : ℕ) (a b : Addr) (q : NameValue) (k l : Kind) (e : ℕ) → i ≢ j → addr_of w.ends i ≡ Some a → addr_of w.ends j ≡ Some b → w.now < e → (moment : ℕ) (r : Registration) → from ≡ a
+    grant_beside : (i j : ℕ) (a b : Addr) (q : NameValue) (k l : Kind) (e : ℕ) → i ≢ j → addr_of w.ends i ≡ Some a → addr_of w.ends j ≡ Some b → reading w.now j < e → (moment : Clocks) (r : Registration) → from ≡ a
         → reply ≡ Some (registered 0 r) → Replied sent w.ends.server_addr a q moment (registered 0 r) → Wants (known (node_of w.ends i) q) k → ClaimsIn w j b q l e → (l ≡ Group) × (k ≡ Group)
     grant_beside i j a b q k l e ne p s y moment r same is replied wants c =
         let g = gives laws w server new from to octets reply sent took i a q k moment r p same is replied wants in
-        let cover = (took.kept).claims.covered j b q l e s c y in
-        go g.0 g.1 cover.moment cover.seconds cover.counted (backed b q l (cover.moment + 1000 * cover.seconds) cover.backed)
+        let cover = ((took.kept).claims took.on).covered j b q l e s c y in
+        let counted = cover.counted in
+        go g.0 g.1 (reading cover.moment 0 + 1000 * cover.seconds)
+        (hold_over laws.holds w took.kept.clocks took.on took.kept.sent j b s w.ends.server_addr b refl q cover.moment cover.message cover.seconds cover.replied_is (omega arith))
+        (backed b q l (reading cover.moment 0 + 1000 * cover.seconds) cover.backed)
       where
-        go : speaks_from server ≤ w.now → Gives w.now w.config.longest a.ip r.ttl (leases_at w.now server.table.rows q) (leases_at w.now new.table.rows q) k → (m seconds : ℕ) → e ≤ m + 1000 * seconds
-            → Backs w.now (Some server) b.ip q l (m + 1000 * seconds) → (l ≡ Group) × (k ≡ Group)
-        go speaks g m seconds counted (inl leased) = g.beside _ leased.among (λ ip. ne ((took.kept).ends.apart i j a b p s (sym ip)))
-        go speaks g m seconds counted (inr silent) = absurd (omega arith)
+        go : speaks_from server ≤ reading w.now 0 → Gives (reading w.now 0) w.config.longest a.ip r.ttl (leases_at (reading w.now 0) server.table.rows q) (leases_at (reading w.now 0) new.table.rows q) k → (till : ℕ) → reading w.now 0 < till
+            → Backs (reading w.now 0) (Some server) b.ip q l till → (l ≡ Group) × (k ≡ Group)
+        go speaks g till over (inl leased) = g.beside _ leased.among (λ ip. ne ((took.kept).ends.apart i j a b p s (sym ip)))
+        go speaks g till over (inr silent) = absurd (omega arith)
 
-    beside : (i j : ℕ) (a b : Addr) (q : NameValue) (k l : Kind) (d e : ℕ) → i ≢ j → addr_of w.ends i ≡ Some a → addr_of w.ends j ≡ Some b → w.now < d → w.now < e
+    beside : (i j : ℕ) (a b : Addr) (q : NameValue) (k l : Kind) (d e : ℕ) → i ≢ j → addr_of w.ends i ≡ Some a → addr_of w.ends j ≡ Some b → reading w.now i < d → reading w.now j < e
         → Claimed w from reply sent i a q k d → Claimed w from reply sent j b q l e → (k ≡ Group) × (l ≡ Group)
-    beside i j a b q k l d e ne p s x y (before c) (before f) = (took.kept).claims.beside i j a b q k l d e ne p s c x f y
+    beside i j a b q k l d e ne p s x y (before c) (before f) = ((took.kept).claims took.on).beside i j a b q k l d e ne p s c x f y
     beside i j a b q k l d e ne p s x y (given moment r at same is replied wants ends) (before f) =
         let both = grant_beside i j a b q k l e ne p s y moment r same is replied wants f in (both.1, both.0)
     beside i j a b q k l d e ne p s x y (before c) (given moment r at same is replied wants ends) =
@@ -156,12 +164,12 @@ served_claims laws w server new from to octets reply sent took = record {
         absurd (ne ((took.kept).ends.apart i j a b p s (ap (λ (z : Addr). z.ip) (sym same ∙ other))))
 
 -- memory was refused: the leases are as they were
-pub forgotten_claims : (w : WorldValue) (server new : ServerValue) (from : Addr) (octets : List ℕ) → IsKept w → w.ends.server ≡ Some server → ServerForgets w.now server from.ip octets new
+pub forgotten_claims : (w : WorldValue) (server new : ServerValue) (from : Addr) (octets : List ℕ) → IsKept w → IsTrue w.kept → w.ends.server ≡ Some server → ServerForgets (reading w.now 0) server from.ip octets new
     → ClaimsKept (record w { ends = with_server w.ends (Some new); sent = w.sent })
-forgotten_claims w server new from octets kept up forgets =
-    server_claims w (Some new) kept (λ n a q kind end p c lt is. still a q kind (is.moment + 1000 * is.seconds) (subst (λ (s : Option ServerValue). Backs w.now s a.ip q kind (is.moment + 1000 * is.seconds)) up is.backed))
+forgotten_claims w server new from octets kept on up forgets =
+    server_claims w (Some new) kept on (λ n a q kind end p c lt is. still a q kind (reading is.moment 0 + 1000 * is.seconds) (subst (λ (s : Option ServerValue). Backs (reading w.now 0) s a.ip q kind (reading is.moment 0 + 1000 * is.seconds)) up is.backed))
   where
-    still : (a : Addr) (q : NameValue) (kind : Kind) (till : ℕ) → Backs w.now (Some server) a.ip q kind till → Backs w.now (Some new) a.ip q kind till
+    still : (a : Addr) (q : NameValue) (kind : Kind) (till : ℕ) → Backs (reading w.now 0) (Some server) a.ip q kind till → Backs (reading w.now 0) (Some new) a.ip q kind till
     still a q kind till (inl leased) = inl (subst (λ (ls : List Lease). IsLeased ls a.ip kind till) (ap (λ (f : NameValue → List Lease). f q) (sym forgets.leases)) leased)
     still a q kind till (inr silent) =
         let start = forgets.start in

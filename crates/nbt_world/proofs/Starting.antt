@@ -10,11 +10,12 @@ use Rattle.nbt_node.specs.declared.state.State.TheVariants.{Idle}
 use Rattle.nbt_node.specs.Node.{NodeValue, state_in}
 use Rattle.nbt_node.specs.Calls.{started}
 use Rattle.nbt_world.specs.declared.ends.Ends.{Ends}
+use Rattle.nbt_world.specs.Drift.{reading}
 use Rattle.nbt_world.specs.World.{WorldValue, node_of}
 use Rattle.nbt_world.specs.Step.{Starts, server_starts, node_starts, Crashes, server_crashes, node_crashes}
 use Rattle.nbt_world.specs.Kept.{Asked, Replied, known, RequestsEnded, RepliesFresh, IsNodeOf, IsServerOf, IsKept}
 use Rattle.nbt_world.proofs.Knowing.{ended-start, ended-down, fresh-start, fresh-down}
-use Rattle.nbt_world.proofs.Keeping.{addr_there, asked_past, node_changes, server_changes}
+use Rattle.nbt_world.proofs.Keeping.{addr_there, asked_read, node_changes, server_changes}
 use Rattle.nbt_world.proofs.Naming.{nothing_new}
 use Rattle.nbt_world.proofs.Covering.{down_claims, idle_claims, node_claims, crashed_claims, started_claims}
 
@@ -29,35 +30,35 @@ idle_in : (count : ℕ) (q : NameValue) → state_in (replicate count None) q �
 idle_in zero q = refl
 idle_in (suc n) q = idle_in n q
 
-pub starts_kept : (w : WorldValue) (number : ℕ) (ends : Ends) → IsKept w → Starts w.config w.now w.ends number ends → IsKept (record w { ends = ends })
+pub starts_kept : (w : WorldValue) (number : ℕ) (ends : Ends) → IsKept w → Starts w.config (reading w.now number) w.ends number ends → IsKept (record w { ends = ends })
 starts_kept w number ends kept (server_starts server down new) =
-    server_changes w (Some server) w.sent kept (λ s e. subst (λ (x : ServerValue). IsServerOf w x) (same_Some server s e) is) (nothing_new w w.ends.server_addr) kept.replies (started_claims w server kept new)
+    server_changes w (Some server) w.sent kept (λ s e. subst (λ (x : ServerValue). IsServerOf w x) (same_Some server s e) is) (nothing_new w w.ends.server_addr) kept.replies (λ on. started_claims w server kept on new)
   where
     is : IsServerOf w server
-    is = record { config_is = new.config_is; past = let e = new.last in omega arith; sound = new_is_sound w.config w.now server.table.rows new.empty }
+    is = record { config_is = new.config_is; past = let e = new.last in omega arith; sound = new_is_sound w.config (reading w.now 0) server.table.rows new.empty }
 starts_kept w number ends kept (node_starts i addr at down) =
-    node_changes w i addr (Some (started 14 addr w.ends.server_addr w.config w.now)) w.sent kept at
-    (λ s e. subst (λ (x : NodeValue). IsNodeOf w addr x) (same_Some (started 14 addr w.ends.server_addr w.config w.now) s e)
+    node_changes w i addr (Some (started 14 addr w.ends.server_addr w.config (reading w.now (suc i)))) w.sent kept at
+    (λ s e. subst (λ (x : NodeValue). IsNodeOf w (suc i) addr x) (same_Some (started 14 addr w.ends.server_addr w.config (reading w.now (suc i))) s e)
     (record { addr_is = refl; server_is = refl; config_is = refl; past = omega arith }))
     (nothing_new w addr)
     (λ d c. c)
-    (λ q.
+    (λ on q.
     rw (idle_in 14 q)
-    (ended-start w.config.life w.now (Asked w.sent addr.ip q)
-    (subst (λ (x : Option NodeValue). RequestsEnded w.config.life w.now (Asked w.sent addr.ip q) (known x q)) down (kept.requests (suc i) addr q at))))
-    (λ q.
+    (ended-start w.config.life (suc i) w.now.clock (reading w.now (suc i)) (Asked w.sent addr.ip q)
+    (subst (λ (x : Option NodeValue). RequestsEnded w.config.life (suc i) w.now.clock (reading w.now (suc i)) (Asked w.sent addr.ip q) (known x q)) down (kept.requests on (suc i) addr q at))))
+    (λ on q.
     rw (idle_in 14 q)
-    (fresh-start w.config.life w.now (Asked w.sent addr.ip q) (Replied w.sent w.ends.server_addr addr q)
-    (subst (λ (x : Option NodeValue). RepliesFresh w.config.life w.now (Asked w.sent addr.ip q) (Replied w.sent w.ends.server_addr addr q) (known x q)) down (kept.replies (suc i) addr q at))))
-    (node_claims w i addr (Some (started 14 addr w.ends.server_addr w.config w.now)) w.sent kept at (nothing_new w addr) (λ d c. c)
-    (λ q kind end c. absurd (idle_claims w.config.longest w.config.life w.now w.now (Replied w.sent w.ends.server_addr addr q) kind end (rw (idle_in 14 q) at c))))
+    (fresh-start w.config.life (suc i) w.now.clock (reading w.now (suc i)) (Asked w.sent addr.ip q) (Replied w.sent w.ends.server_addr addr q)
+    (subst (λ (x : Option NodeValue). RepliesFresh w.config.life (suc i) w.now.clock (reading w.now (suc i)) (Asked w.sent addr.ip q) (Replied w.sent w.ends.server_addr addr q) (known x q)) down (kept.replies on (suc i) addr q at))))
+    (λ on. node_claims w i addr (Some (started 14 addr w.ends.server_addr w.config (reading w.now (suc i)))) w.sent kept at (nothing_new w addr) (λ d c. c) on
+    (λ q kind end c. absurd (idle_claims w.config.longest w.config.life w.now.clock (reading w.now (suc i)) (Replied w.sent w.ends.server_addr addr q) kind end (rw (idle_in 14 q) at c))))
 
 pub crashes_kept : (w : WorldValue) (number : ℕ) (ends : Ends) → IsKept w → Crashes w.ends number ends → IsKept (record w { ends = ends })
-crashes_kept w number ends kept (server_crashes server up) = server_changes w None w.sent kept (λ s e. absurd (none-some s e)) (nothing_new w w.ends.server_addr) kept.replies (crashed_claims w kept)
+crashes_kept w number ends kept (server_crashes server up) = server_changes w None w.sent kept (λ s e. absurd (none-some s e)) (nothing_new w w.ends.server_addr) kept.replies (λ on. crashed_claims w kept on)
 crashes_kept w number ends kept (node_crashes i node up) =
     let there = addr_there w.ends (suc i) node up in
     node_changes w i there.0 None w.sent kept there.1 (λ s e. absurd (none-some s e)) (nothing_new w there.0) (λ d c. c)
-    (λ q. ended-down w.config.life w.now (Asked w.sent (there.0).ip q) (asked_past w (there.0).ip q w.sent kept.sent))
-    (λ q. fresh-down w.config.life w.now (Asked w.sent (there.0).ip q) (Replied w.sent w.ends.server_addr there.0 q) (known (node_of w.ends (suc i)) q) (asked_past w (there.0).ip q w.sent kept.sent) (kept.replies (suc i) there.0 q there.1))
-    (node_claims w i there.0 None w.sent kept there.1 (nothing_new w there.0) (λ d c. c)
-    (λ q kind end c. absurd (down_claims w.config.longest w.config.life w.now (Replied w.sent w.ends.server_addr there.0 q) kind end c)))
+    (λ on q. ended-down w.config.life (suc i) w.now.clock (reading w.now (suc i)) (Asked w.sent (there.0).ip q) (asked_read w (suc i) there.0 there.1 (there.0).ip q w.sent kept.sent))
+    (λ on q. fresh-down w.config.life (suc i) w.now.clock (reading w.now (suc i)) (Asked w.sent (there.0).ip q) (Replied w.sent w.ends.server_addr there.0 q) (known (node_of w.ends (suc i)) q) (asked_read w (suc i) there.0 there.1 (there.0).ip q w.sent kept.sent) (kept.replies on (suc i) there.0 q there.1))
+    (λ on. node_claims w i there.0 None w.sent kept there.1 (nothing_new w there.0) (λ d c. c) on
+    (λ q kind end c. absurd (down_claims w.config.longest w.config.life w.now.clock (Replied w.sent w.ends.server_addr there.0 q) kind end c)))

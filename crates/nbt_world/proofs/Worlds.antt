@@ -1,6 +1,6 @@
 -- What each event makes of a world, as the code has found it: a line of the step, and a world that keeps what it kept.
 use Rattle.std.proofs.Common.{◌≡◌, ℕ, zero, suc, ◌+◌, ◌^◌, Bool, true, false, List, length, ltb, get_or, Some, None, refl, sym, ap, subst, ◌∙◌}
-use Rattle.std.specs.Prelude.{slice_get, Contains, MatchBool, min}
+use Rattle.std.specs.Prelude.{slice_get, Contains, MatchBool}
 use Rattle.std.proofs.lemmas.Bool.{ltb-true, ltb-false}
 use Rattle.std.proofs.lemmas.Option.{slice_get_read, slice_get_past, slice_get_within, get_or_from_slice_get, none-some}
 use Rattle.nbt_name.specs.declared.addr.Addr.{Addr}
@@ -16,11 +16,12 @@ use Rattle.nbt_world.specs.declared.event.Event.{Event}
 use Rattle.nbt_world.specs.declared.event.Event.TheVariants as e
 use Rattle.nbt_world.specs.declared.event.Outcome.{Outcome}
 use Rattle.nbt_world.specs.declared.event.Outcome.TheVariants as o
+use Rattle.nbt_world.specs.Drift.{reading}
 use Rattle.nbt_world.specs.World.{WorldValue, addr_of, node_of, with_node}
-use Rattle.nbt_world.specs.Step.{number_in, GivenValue, Does, after, outcome_of, IsDown, IsUp, Starts, Crashes, TakenValue, takes, Takes, IsTaken, after_taking, outcome_of_taking, Step, ticks, starts, starts_nothing, crashes, crashes_nothing, node_does, node_is_down}
+use Rattle.nbt_world.specs.Step.{number_in, GivenValue, Does, after, outcome_of, IsDown, IsUp, Starts, Crashes, TakenValue, takes, Takes, IsTaken, after_taking, outcome_of_taking, Step, starts, starts_nothing, crashes, crashes_nothing, node_does, node_is_down}
 use Rattle.nbt_world.specs.Kept.{IsNodeOf, IsKept}
 use Rattle.nbt_world.proofs.Keeping.{addr_there}
-use Rattle.nbt_world.proofs.Naming.{OneMessage, Origin}
+use Rattle.nbt_world.proofs.Naming.{Laws, Origin}
 use Rattle.nbt_world.proofs.Events.{does_kept}
 use Rattle.nbt_world.proofs.Deliveries.{GrantsSound, ReleasesSound, taking_kept}
 use Rattle.nbt_world.proofs.Granting.{LeaseLaws}
@@ -30,26 +31,21 @@ use Rattle.nbt_world.proofs.Starting.{starts_kept, crashes_kept}
 pub same_world : (w : WorldValue) (ends : Ends) (sent : List Datagram) → ends ≡ w.ends → sent ≡ w.sent → w ≡ record w { ends = ends; sent = sent }
 same_world w ends sent p q = λ i. record w { ends = sym p i; sent = sym q i }
 
-pub node_is_of : (w : WorldValue) (n : ℕ) (node : NodeValue) → IsKept w → node_of w.ends n ≡ Some node → (addr : Addr) × IsNodeOf w addr node
+pub node_is_of : (w : WorldValue) (n : ℕ) (node : NodeValue) → IsKept w → node_of w.ends n ≡ Some node → (addr : Addr) × IsNodeOf w n addr node
 node_is_of w n node kept up = let there = addr_there w.ends n node up in (there.0, kept.nodes n there.0 node there.1 up)
-
--- ---- the clock
-
-pub ticked : (w : WorldValue) (ms later : ℕ) → later ≡ min (w.now + ms) (2 ^ 60) → Step w (e.Tick ms) o.Done (record w { now = later })
-ticked w ms later is = subst (λ (n : ℕ). Step w (e.Tick ms) o.Done (record w { now = n })) (sym is) (ticks ms)
 
 -- ---- an end starts, or crashes
 
-pub started_kept : (w : WorldValue) (number : ℕ) (ends : Ends) (b : Bool) → IsKept w → MatchBool b (Starts w.config w.now w.ends number ends) ((¬ IsDown w.ends number) × (ends ≡ w.ends)) → IsKept (record w { ends = ends })
+pub started_kept : (w : WorldValue) (number : ℕ) (ends : Ends) (b : Bool) → IsKept w → MatchBool b (Starts w.config (reading w.now number) w.ends number ends) ((¬ IsDown w.ends number) × (ends ≡ w.ends)) → IsKept (record w { ends = ends })
 started_kept w number ends true kept is = starts_kept w number ends kept is
 started_kept w number ends false kept is = subst (λ (x : Ends). IsKept (record w { ends = x })) (sym is.1) kept
 
-pub has_started : (w : WorldValue) (number : ℕ) (ends : Ends) (b : Bool) → b ≡ true → MatchBool b (Starts w.config w.now w.ends number ends) ((¬ IsDown w.ends number) × (ends ≡ w.ends))
+pub has_started : (w : WorldValue) (number : ℕ) (ends : Ends) (b : Bool) → b ≡ true → MatchBool b (Starts w.config (reading w.now number) w.ends number ends) ((¬ IsDown w.ends number) × (ends ≡ w.ends))
     → Step w (e.Start number) o.Done (record w { ends = ends })
 has_started w number ends true p is = starts number ends is
 has_started w number ends false p is = absurd cc
 
-pub has_not_started : (w : WorldValue) (number : ℕ) (ends : Ends) (b : Bool) → b ≡ false → MatchBool b (Starts w.config w.now w.ends number ends) ((¬ IsDown w.ends number) × (ends ≡ w.ends))
+pub has_not_started : (w : WorldValue) (number : ℕ) (ends : Ends) (b : Bool) → b ≡ false → MatchBool b (Starts w.config (reading w.now number) w.ends number ends) ((¬ IsDown w.ends number) × (ends ≡ w.ends))
     → Step w (e.Start number) o.Nothing (record w { ends = ends })
 has_not_started w number ends true p is = absurd cc
 has_not_started w number ends false p is = subst (λ (x : Ends). Step w (e.Start number) o.Nothing (record w { ends = x })) (sym is.1) (starts_nothing number is.0)
@@ -81,7 +77,7 @@ pub record Gave (w : WorldValue) (event : Event) (number : ℕ) (ends : Ends) (s
   pub given : GivenValue
   pub own : number_in event ≡ Some number
   pub up : node_of w.ends number ≡ Some node
-  pub does : Does node w.now event new given
+  pub does : Does node (reading w.now number) event new given
   pub ends_is : ends ≡ with_node w.ends number (Some new)
   pub outcome_is : outcome ≡ outcome_of w given
   pub left : after w number new given ≡ record w { ends = with_node w.ends number (Some new); sent = sent }
@@ -89,12 +85,12 @@ pub record Gave (w : WorldValue) (event : Event) (number : ℕ) (ends : Ends) (s
 gave_world : (w : WorldValue) (event : Event) (number : ℕ) (ends : Ends) (sent : List Datagram) (outcome : Outcome) (g : Gave w event number ends sent outcome) → after w number g.new g.given ≡ record w { ends = ends; sent = sent }
 gave_world w event number ends sent outcome g = g.left ∙ ap (λ (x : Ends). record w { ends = x; sent = sent }) (sym g.ends_is)
 
-pub gave_kept : OneMessage → (w : WorldValue) (event : Event) (number : ℕ) (ends : Ends) (sent : List Datagram) (outcome : Outcome) → IsKept w → Gave w event number ends sent outcome → IsKept (record w { ends = ends; sent = sent })
-gave_kept law w event number ends sent outcome kept g = subst IsKept (gave_world w event number ends sent outcome g) (at number g.up)
+pub gave_kept : Laws → (w : WorldValue) (event : Event) (number : ℕ) (ends : Ends) (sent : List Datagram) (outcome : Outcome) → IsKept w → Gave w event number ends sent outcome → IsKept (record w { ends = ends; sent = sent })
+gave_kept law w event number ends sent outcome kept g = subst IsKept (gave_world w event number ends sent outcome g) (at number g.up g.does)
   where
-    at : (n : ℕ) → node_of w.ends n ≡ Some g.node → IsKept (after w n g.new g.given)
-    at zero up = absurd (none-some g.node up)
-    at (suc i) up = does_kept law w i g.node g.new event g.given kept up g.does
+    at : (n : ℕ) → node_of w.ends n ≡ Some g.node → Does g.node (reading w.now n) event g.new g.given → IsKept (after w n g.new g.given)
+    at zero up does = absurd (none-some g.node up)
+    at (suc i) up does = does_kept law w i g.node g.new event g.given kept up does
 
 pub gave_step : (w : WorldValue) (event : Event) (number : ℕ) (ends : Ends) (sent : List Datagram) (outcome : Outcome) → Gave w event number ends sent outcome → Step w event outcome (record w { ends = ends; sent = sent })
 gave_step w event number ends sent outcome g =
@@ -109,7 +105,7 @@ pub record Took (w : WorldValue) (from to : Addr) (octets : List ℕ) (number : 
   pub out : List ℕ
   pub taken : TakenValue
   pub at : addr_of w.ends number ≡ Some to
-  pub does : Takes w.now w.ends from octets number taken ends
+  pub does : Takes (reading w.now number) w.ends from octets number taken ends
   pub is : IsTaken code out taken
   pub origin : Origin w from to octets
   pub outcome_is : outcome ≡ outcome_of_taking w taken
@@ -123,7 +119,7 @@ spells t.Replies out taken m is same =
     let one : is.0 ≡ m = cc in
     subst (λ (k : MessageValue). Spells (text k) k) one (subst (λ (xs : List ℕ). Spells xs is.0) is.2 is.3)
 
-pub took_kept : OneMessage → GrantsSound → ReleasesSound → LeaseLaws → (w : WorldValue) (from to : Addr) (octets : List ℕ) (number : ℕ) (ends : Ends) (sent : List Datagram) (outcome : Outcome) → IsKept w
+pub took_kept : Laws → GrantsSound → ReleasesSound → LeaseLaws → (w : WorldValue) (from to : Addr) (octets : List ℕ) (number : ℕ) (ends : Ends) (sent : List Datagram) (outcome : Outcome) → IsKept w
     → Took w from to octets number ends sent outcome → IsKept (record w { ends = ends; sent = sent })
 took_kept law g r laws w from to octets number ends sent outcome kept k =
     subst IsKept k.left (taking_kept law g r laws w from to octets number k.taken ends kept k.at k.origin k.does (λ m same. spells k.code k.out k.taken m k.is same))

@@ -1,3 +1,4 @@
+pub mod Drift
 pub mod World
 pub mod Step
 pub mod Safety

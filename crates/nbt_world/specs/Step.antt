@@ -1,5 +1,5 @@
 -- One step of the world: what an event makes of it, a line for each outcome (our profile).
-use Rattle.std.specs.Prelude.{◌≡◌, ◌≢◌, ℕ, ◌+◌, ◌^◌, min, zero, suc, List, [], ◌∷◌, ◌++◌, length, slice_get, Option, Some, None}
+use Rattle.std.specs.Prelude.{◌≡◌, ◌≢◌, ℕ, ◌↔◌, IsTrue, zero, suc, List, [], ◌∷◌, ◌++◌, length, slice_get, slice_index, Option, Some, None}
 use Rattle.std.specs.Global.{Vec}
 use Rattle.nbt_name.specs.declared.addr.Addr.{Addr}
 use Rattle.nbt_name.specs.declared.addr.Kind.{Kind}
@@ -26,10 +26,11 @@ use Rattle.nbt_world.specs.declared.ends.Taken.{Taken}
 use Rattle.nbt_world.specs.declared.ends.Taken.TheVariants as t
 use Rattle.nbt_world.specs.declared.network.Datagram.{Datagram}
 use Rattle.nbt_world.specs.declared.event.Event.{Event}
-use Rattle.nbt_world.specs.declared.event.Event.TheVariants.{Tick, Start, Crash, Ask, Release, Resolve, NameStatus, Poll, Deliver, Stranger}
+use Rattle.nbt_world.specs.declared.event.Event.TheVariants.{Tick, Advance, Start, Crash, Ask, Release, Resolve, NameStatus, Poll, Deliver, Stranger}
 use Rattle.nbt_world.specs.declared.event.Outcome.{Outcome}
 use Rattle.nbt_world.specs.declared.event.Outcome.TheVariants as o
-use Rattle.nbt_world.specs.World.{WorldValue, addr_of, node_of, IsOfEnd, with_server, with_node, datagram, IsDeliverable}
+use Rattle.nbt_world.specs.Drift.{reading, later, least_of, numbers_of, lesser, IsAllowed}
+use Rattle.nbt_world.specs.World.{WorldValue, addr_of, IsEnd, node_of, IsOfEnd, with_server, with_node, datagram, IsDeliverable}
 
 -- ---- what a node does at an event of its own
 
@@ -176,34 +177,45 @@ outcome_of_taking world (takes (Some reply)) = o.Sent (length world.sent)
 
 -- ---- a step
 
+-- The true clock goes on, and each end's reading by its own milliseconds, also while the end is down. The bound is kept
+-- still where no end's numbers are more than the bound allows above the least so far.
+pub record Advances (old : WorldValue) (ms : ℕ) (moves : ℕ → ℕ) (new : WorldValue) : Type 0 where
+  pub now : new.now.clock ≡ later old.now.clock ms
+  pub readings : (number : ℕ) → IsEnd old.ends number → reading new.now number ≡ later (reading old.now number) (moves number)
+  pub least : (number : ℕ) → IsEnd old.ends number → least_of new.least number ≡ lesser (least_of old.least number) (numbers_of new.now number)
+  pub kept : IsTrue new.kept ↔ (IsTrue old.kept × ((number : ℕ) → IsEnd old.ends number → IsAllowed (least_of new.least number) new.now number))
+  pub others : new ≡ record old { now = new.now; least = new.least; kept = new.kept }
+
 pub data Step (old : WorldValue) : Event → Outcome → WorldValue → Type 0 where
-  ticks : (ms : ℕ) → Step old (Tick ms) o.Done (record old { now = min (old.now + ms) (2 ^ 60) })
-  starts : (number : ℕ) (ends : Ends) → Starts old.config old.now old.ends number ends → Step old (Start number) o.Done (record old { ends = ends })
+  ticks : (ms : ℕ) (new : WorldValue) → Advances old ms (λ number. ms) new → Step old (Tick ms) o.Done new
+  advances : (ms : ℕ) (readings : List ℕ) (new : WorldValue) → Advances old ms (slice_index readings) new → Step old (Advance ms readings) o.Done new
+  starts : (number : ℕ) (ends : Ends) → Starts old.config (reading old.now number) old.ends number ends → Step old (Start number) o.Done (record old { ends = ends })
   starts_nothing : (number : ℕ) → ¬ IsDown old.ends number → Step old (Start number) o.Nothing old
   crashes : (number : ℕ) (ends : Ends) → Crashes old.ends number ends → Step old (Crash number) o.Done (record old { ends = ends })
   crashes_nothing : (number : ℕ) → ¬ IsUp old.ends number → Step old (Crash number) o.Nothing old
   -- a node does something of its own, or is down
-  node_does : (event : Event) (number : ℕ) (node new : NodeValue) (given : GivenValue) → number_in event ≡ Some number → node_of old.ends number ≡ Some node → Does node old.now event new given
+  node_does : (event : Event) (number : ℕ) (node new : NodeValue) (given : GivenValue) → number_in event ≡ Some number → node_of old.ends number ≡ Some node → Does node (reading old.now number) event new given
       → Step old event (outcome_of old given) (after old number new given)
   node_is_down : (event : Event) (number : ℕ) → number_in event ≡ Some number → node_of old.ends number ≡ None → Step old event o.Down old
   -- a datagram of the list is delivered: to nobody, too late, or to an end, whose reply goes back
   no_datagram : (k : ℕ) → slice_get old.sent k ≡ None → Step old (Deliver k) o.Nobody old
   no_end : (k : ℕ) (d : Datagram) → slice_get old.sent k ≡ Some d → ((number : ℕ) → addr_of old.ends number ≢ Some d.to) → Step old (Deliver k) o.Nobody old
-  too_late : (k : ℕ) (d : Datagram) (number : ℕ) → slice_get old.sent k ≡ Some d → addr_of old.ends number ≡ Some d.to → ¬ IsDeliverable old.config.life old.now d.moment
+  too_late : (k : ℕ) (d : Datagram) (number : ℕ) → slice_get old.sent k ≡ Some d → addr_of old.ends number ≡ Some d.to → ¬ IsDeliverable old.config.life old.now.clock d.moment.clock
       → Step old (Deliver k) o.Lost old
   delivered : (k : ℕ) (d : Datagram) (number : ℕ) (taken : TakenValue) (ends : Ends) → slice_get old.sent k ≡ Some d → addr_of old.ends number ≡ Some d.to
-      → IsDeliverable old.config.life old.now d.moment → Takes old.now old.ends d.from d.octets.items number taken ends
+      → IsDeliverable old.config.life old.now.clock d.moment.clock → Takes (reading old.now number) old.ends d.from d.octets.items number taken ends
       → Step old (Deliver k) (outcome_of_taking old taken) (after_taking old ends d.to d.from taken)
   -- a datagram comes from an address that is no end's
   from_an_end : (from : Addr) (number : ℕ) (octets : Vec ℕ) → IsOfEnd old.ends from.ip → Step old (Stranger from number octets) o.Nobody old
   to_no_end : (from : Addr) (number : ℕ) (octets : Vec ℕ) → addr_of old.ends number ≡ None → Step old (Stranger from number octets) o.Nobody old
   from_a_stranger : (from addr : Addr) (number : ℕ) (octets : Vec ℕ) (taken : TakenValue) (ends : Ends) → ¬ IsOfEnd old.ends from.ip → addr_of old.ends number ≡ Some addr
-      → Takes old.now old.ends from octets.items number taken ends
+      → Takes (reading old.now number) old.ends from octets.items number taken ends
       → Step old (Stranger from number octets) (outcome_of_taking old taken) (after_taking old ends addr from taken)
 
 -- room for a datagram is made for all other events
 abbrev pub TakesNoMemory : Event → Type 0
 TakesNoMemory (Tick ms) = Unit {0}
+TakesNoMemory (Advance ms readings) = Unit {0}
 TakesNoMemory (Start number) = Unit {0}
 TakesNoMemory (Crash number) = Unit {0}
 TakesNoMemory _ = ⊥

@@ -1,21 +1,26 @@
--- The world: all ends, the network between them, and one clock (our profile).
-use Rattle.std.specs.Prelude.{◌≡◌, ℕ, ◌+◌, ◌≤◌, zero, suc, List, [], ◌∷◌, length, map, slice_get, Option, Some, None}
+-- The world: all ends, the network between them, the true clock, and what each end reads (our profile).
+use Rattle.std.specs.Prelude.{◌≡◌, ℕ, ◌+◌, ◌≤◌, Bool, IsTrue, zero, suc, List, [], ◌∷◌, length, map, slice_get, Option, Some, None}
 use Rattle.std.specs.Option.{option_map}
 use Rattle.nbt_name.specs.declared.addr.Addr.{Addr}
 use Rattle.nbt_lease.specs.Config.{ConfigValue}
 use Rattle.nbt_server.specs.Serving.{ServerValue}
 use Rattle.nbt_node.specs.Node.{NodeValue}
+use Rattle.nbt_world.specs.declared.clocks.Clocks.{Clocks}
+use Rattle.nbt_world.specs.declared.clocks.Least.{Least}
 use Rattle.nbt_world.specs.declared.ends.End.{End}
 use Rattle.nbt_world.specs.declared.ends.Ends.{Ends}
 use Rattle.nbt_world.specs.declared.network.Datagram.{Datagram}
+use Rattle.nbt_world.specs.Drift.{reading, least_of, numbers_of}
 
--- The clock, the limits, the server and the nodes, each with its address and what it is while it is up, and every
--- datagram that was ever sent, in order.
+-- The clocks, the limits, the server and the nodes, each with its address and what it is while it is up, every datagram
+-- that was ever sent, in order, the least numbers of each end so far, and whether the readings kept the drift bound.
 pub record WorldValue : Type 0 where
-  pub now : ℕ
+  pub now : Clocks
   pub config : ConfigValue
   pub ends : Ends
   pub sent : List Datagram
+  pub least : List Least
+  pub kept : Bool
 
 -- ---- ends: 0 is the server, and the nodes are numbered from 1
 
@@ -29,6 +34,10 @@ addr_of ends (suc index) = addr_at ends.nodes.items index
 abbrev pub node_in : Option End → Option NodeValue
 node_in None = None
 node_in (Some end) = end.node
+
+-- there is an end of this number
+abbrev pub IsEnd : Ends → (number : ℕ) → Type 0
+IsEnd ends number = (addr : Addr) × (addr_of ends number ≡ Some addr)
 
 -- the node of this number, where there is one and it is up
 abbrev pub node_of : Ends → ℕ → Option NodeValue
@@ -56,10 +65,11 @@ with_node ends (suc index) value = record ends { nodes = record { items = put_no
 
 -- ---- the network
 
-abbrev pub datagram : (from to : Addr) → (moment : ℕ) → List ℕ → Datagram
+abbrev pub datagram : (from to : Addr) → (moment : Clocks) → List ℕ → Datagram
 datagram from to moment octets = record { from = from; to = to; moment = moment; octets = record { items = octets } }
 
--- A datagram may be delivered until the greatest life has passed since it was sent, any number of times.
+-- A datagram may be delivered until the greatest life has passed since it was sent, by the true clock, any number of
+-- times.
 abbrev pub IsDeliverable : (life now : ℕ) → (sent : ℕ) → Type 0
 IsDeliverable life now sent = now ≤ sent + life
 
@@ -82,9 +92,12 @@ pub record AreAddrs (addrs : List Addr) : Type 0 where
 abbrev pub ends_at : Addr → List Addr → Ends
 ends_at server others = record { server_addr = server; server = None; nodes = record { items = map (λ addr. record { addr = addr; node = None }) others } }
 
--- all ends are down, the clock is at 0, and no datagram was sent
+-- all ends are down, all clocks are at 0, and no datagram was sent
 pub record IsFresh (config : ConfigValue) (addrs : List Addr) (world : WorldValue) : Type 0 where
-  pub now : world.now ≡ 0
+  pub now : world.now.clock ≡ 0
+  pub readings : (number : ℕ) → reading world.now number ≡ 0
+  pub least : (number : ℕ) → IsEnd world.ends number → least_of world.least number ≡ numbers_of world.now number
+  pub kept : IsTrue world.kept
   pub config_is : world.config ≡ config
   pub addrs_are : (number : ℕ) → addr_of world.ends number ≡ slice_get addrs number
   pub no_server : world.ends.server ≡ None

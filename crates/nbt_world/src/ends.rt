@@ -212,7 +212,7 @@ impl Ends {
     ) -> Taken
         requires there { IsSome (addr_of self.old number) }
         requires node { (node : NodeValue) → node_of self.old number ≡ Some node → node.last ≤ now }
-        requires server { (server : ServerValue) → self.old.server ≡ Some server → server.last ≤ now }
+        requires server { (server : ServerValue) → number ≡ 0 → self.old.server ≡ Some server → server.last ≤ now }
         ensures { (taken : TakenValue) × Takes now self.old from octets.now number taken self.new × IsTaken result out.new.items taken }
     {
         if number == 0 {

@@ -7,8 +7,17 @@ use thiserror::Error;
 /// numbered from 0, in the order of their sending.
 #[derive(Debug, Drop)]
 pub enum Event {
-    /// The clock goes on by this number of milliseconds, at most to 2^60.
+    /// All clocks go on by this number of milliseconds, each at most to 2^60.
     Tick(u64),
+    /// The clocks go on, each by its own number of milliseconds, and each at most to 2^60; also those of ends that are
+    /// down.
+    Advance {
+        /// By how much the true clock goes on.
+        ms: u64,
+        /// By how much each end's reading goes on: the server's, and then the nodes'. Those of ends that the world hasn't
+        /// aren't looked at.
+        readings: [u64; 9],
+    },
     /// An end starts, and knows nothing of before.
     Start(usize),
     /// An end crashes, and nothing of it is kept.
@@ -65,7 +74,7 @@ pub enum Event {
 /// What came of an event.
 #[derive(Clone, Copy, Debug, PartialEq, Eq)]
 pub enum Outcome {
-    /// The clock went on, or the end started or crashed.
+    /// The clocks went on, or the end started or crashed.
     Done,
     /// The datagram of this number was sent.
     Sent(usize),

@@ -4,6 +4,7 @@
 //! cover. So in no world along a run do two nodes hold one name, unless both as a group.
 #![tactic(auto)]
 
+mod clocks;
 mod doing;
 mod ends;
 mod event;

@@ -7,11 +7,11 @@ ghost use Rattle.nbt_world.specs.declared.ends.Ends.{Ends as EndsValue};
 ghost use Rattle.nbt_world.specs.World.{WorldValue, with_node};
 ghost use Rattle.nbt_world.specs.Step.{given_of, after, outcome_of, TakenValue, IsTaken, after_taking, outcome_of_taking};
 
+use crate::clocks::Clocks;
 use crate::doing::Given;
 use crate::ends::Taken;
 use crate::event::Outcome;
 use arrayvec::ArrayVec;
-use nbt_lease::Moment;
 use nbt_name::Addr;
 
 /// A datagram that an end sent.
@@ -19,8 +19,8 @@ use nbt_name::Addr;
 pub struct Datagram {
     pub from: Addr,
     pub to: Addr,
-    /// When it was sent.
-    pub moment: Moment,
+    /// When it was sent: the true moment, and what each end read.
+    pub moment: Clocks,
     pub octets: ArrayVec<u8, 576>,
 }
 
@@ -41,7 +41,7 @@ pub fn give(
     sent: &mut Vec<Datagram>,
     given: Given,
     from: Addr,
-    moment: Moment,
+    moment: Clocks,
     octets: ArrayVec<u8, 576>,
 ) -> Outcome
     requires { vec_len sent.old < vec_capacity sent.old }
@@ -70,7 +70,7 @@ pub fn reply(
     taken: Taken,
     from: Addr,
     to: Addr,
-    moment: Moment,
+    moment: Clocks,
     octets: ArrayVec<u8, 576>,
 ) -> Outcome
     requires { vec_len sent.old < vec_capacity sent.old }

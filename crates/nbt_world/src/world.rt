@@ -1,41 +1,42 @@
 //! The world: its events, one at a time and in a row.
 
-ghost use Rattle.std.specs.Prelude.{◌≡◌, ◌≤◌, ◌<◌, ◌↔◌, ℕ, Some, None, List, length, take, slice_get, slice_index_or, IsOk, IsTrue, IfSome, IfOk, OnOk, IfErr, OnErr, MatchResult, Contains};
+ghost use Rattle.std.specs.Prelude.{◌≡◌, ◌≤◌, ◌<◌, ◌↔◌, ℕ, Some, None, List, length, take, slice_get, slice_index, slice_index_or, IsOk, IsTrue, IfSome, IfOk, OnOk, IfErr, OnErr, MatchResult, Contains};
 ghost use Rattle.nbt_name.specs.declared.addr.Kind.{Kind as KindValue};
 ghost use Rattle.nbt_world.specs.World.{WorldValue, AreAddrs, IsFresh};
-ghost use Rattle.nbt_world.specs.Step.{Step, number_in, TakesNoMemory};
-ghost use Rattle.nbt_world.specs.Safety.{Run, holding, MayHold, IsSafe, AreSafe};
+ghost use Rattle.nbt_world.specs.Step.{Advances, Step, number_in, TakesNoMemory};
+ghost use Rattle.nbt_world.specs.Safety.{Run, holding, MayHold, IsSafe, RunsSafely};
+ghost use Rattle.nbt_world.specs.Kept.{AreRead};
 ghost use Rattle.nbt_world.specs.declared.ends.Holder.{Holder as HolderValue};
 
+use crate::clocks::{Clocks, ENDS_MOST, Least, at_beginning, watch};
 use crate::ends::{Ends, Holder, are_apart};
 use crate::event::{Event, OutOfMemory, Outcome};
 use crate::network::{Datagram, give, reply};
 use arrayvec::ArrayVec;
-use nbt_lease::{Config, Moment};
+use nbt_lease::Config;
 use nbt_name::{Addr, Kind, Name};
 use std::alloc::Global;
 use std::marker::Model;
 use thiserror::Error;
 
-/// The last moment of the clock, in milliseconds (our profile).
-const LAST: u64 = 1 << 60;
-
 /// The most nodes of a world.
-const NODES_MOST: usize = 8;
+const NODES_MOST: usize = ENDS_MOST - 1;
 
 /// The addresses of a world's ends aren't 2 to 9, or two of them are equal in their 32 bits.
 #[derive(Clone, Copy, Debug, PartialEq, Eq, Error)]
 #[error("Addrs")]
 pub struct Addrs;
 
-/// All ends of a network, the datagrams between them, and one clock.
+/// All ends of a network, the datagrams between them, the true clock and what each end reads.
 #[derive(Drop)]
 pub struct World {
     alloc: Global,
-    clock: Moment,
+    clocks: Clocks,
     config: Config,
     ends: Ends,
     sent: Vec<Datagram>,
+    least: [Least; 9],
+    kept: bool,
 }
 
 impl Model for World {
@@ -44,14 +45,14 @@ impl Model for World {
 
     ghost Value = { WorldValue };
 
-    ghost view = { λ w. record { now = w.clock; config = w.config; ends = w.ends; sent = w.sent.items } };
+    ghost view = { λ w. record { now = w.clocks; config = w.config; ends = w.ends; sent = w.sent.items; least = w.least; kept = w.kept } };
 
-    ghost invariant = { λ w. IsKept (record { now = w.clock; config = w.config; ends = w.ends; sent = w.sent.items }) };
+    ghost invariant = { λ w. IsKept (record { now = w.clocks; config = w.config; ends = w.ends; sent = w.sent.items; least = w.least; kept = w.kept }) };
 }
 
 impl World {
     /// A world with a server at the first of the addresses and a node at each other one, numbered from 1, each of 14
-    /// slots. All ends are down, the clock is at 0, and no datagram was sent. Refused exactly where there aren't 2 to 9
+    /// slots. All ends are down, all clocks are at 0, and no datagram was sent. Refused exactly where there aren't 2 to 9
     /// addresses, or where two are equal in their 32 bits, whatever their ports. Takes no memory.
     pub fn new(alloc: Global, config: Config, addrs: &[Addr]) -> Result<World, Addrs>
         ensures found { IsOk result ↔ AreAddrs addrs.now }
@@ -65,25 +66,42 @@ impl World {
         }
         Ok(World {
             alloc,
-            clock: Moment::zero(),
+            clocks: Clocks::zero(),
             config,
             ends: Ends::new(*server_addr, others),
             sent: Vec::new(alloc),
+            least: at_beginning(),
+            kept: true,
         })
     }
 
-    /// The clock goes on.
-    fn tick(&mut self, ms: u64) -> Outcome
-        ensures { Step self.old (Event.Tick ms) result self.new }
+    /// The clocks go on, and with them whether the readings keep the drift bound.
+    fn go_on(&mut self, ms: u64, readings: &[u64; 9])
+        ensures step { Advances self.old ms (slice_index readings.now) self.new }
+        ensures few { length self.old.ends.nodes.items ≤ 8 }
     {
         nbt_lease::laws::leases_stay_sound();
         nbt_lease::laws::later_leases_live_now();
-        let later = self.clock.get().saturating_add(ms).min(LAST);
-        if let Some(now) = Moment::new(later) {
-            self.clock = now;
-        } else {
-            unreachable!();
-        }
+        nbt_lease::laws::hold_ends_first();
+        self.clocks.go_on(ms, readings);
+        let ends = self.ends.nodes.len() + 1;
+        let allowed = watch(&mut self.least, &self.clocks, ends);
+        self.kept = self.kept && allowed;
+    }
+
+    /// All clocks go on alike.
+    fn tick(&mut self, ms: u64) -> Outcome
+        ensures { Step self.old (Event.Tick ms) result self.new }
+    {
+        self.go_on(ms, &[ms; 9]);
+        Outcome::Done
+    }
+
+    /// The clocks go on, each by its own number of milliseconds.
+    fn advance(&mut self, ms: u64, readings: &[u64; 9]) -> Outcome
+        ensures { Step self.old (Event.Advance ms readings.now) result self.new }
+    {
+        self.go_on(ms, readings);
         Outcome::Done
     }
 
@@ -91,7 +109,8 @@ impl World {
     fn start(&mut self, number: usize) -> Outcome
         ensures { Step self.old (Event.Start number) result self.new }
     {
-        if self.ends.start(self.alloc, number, self.config, self.clock) {
+        let now = self.clocks.reading(number);
+        if self.ends.start(self.alloc, number, self.config, now) {
             Outcome::Done
         } else {
             Outcome::Nothing
@@ -116,15 +135,17 @@ impl World {
         ensures refused { OnErr result (self.new ≡ self.old) }
     {
         nbt_packet::laws::one_message_spelled();
+        nbt_lease::laws::rest_outlasts_datagrams();
         if self.sent.try_reserve(1).is_err() {
             return Err(OutOfMemory);
         }
+        let now = self.clocks.reading(number);
         let mut octets = ArrayVec::new();
-        let done = self.ends.node_event(number, self.clock, event, &mut octets);
+        let done = self.ends.node_event(number, now, event, &mut octets);
         let Some((from, given)) = done else {
             return Ok(Outcome::Down);
         };
-        Ok(give(&mut self.sent, given, from, self.clock, octets))
+        Ok(give(&mut self.sent, given, from, self.clocks, octets))
     }
 
     /// A datagram of the list is delivered.
@@ -137,6 +158,8 @@ impl World {
         nbt_lease::laws::one_name_changes();
         nbt_lease::laws::leases_of_others_stay();
         nbt_lease::laws::granted_lease_stands();
+        nbt_lease::laws::hold_ends_first();
+        nbt_lease::laws::rest_outlasts_datagrams();
         if self.sent.try_reserve(1).is_err() {
             return Err(OutOfMemory);
         }
@@ -148,18 +171,15 @@ impl World {
         let Some(number) = self.ends.find(to) else {
             return Ok(Outcome::Nobody);
         };
-        if datagram.moment.get() + self.config.life() < self.clock.get() {
+        if datagram.moment.clock.get() + self.config.life() < self.clocks.clock.get() {
             return Ok(Outcome::Lost);
         }
+        let now = self.clocks.reading(number);
         let mut octets = ArrayVec::new();
-        let taken = self.ends.take(
-            number,
-            self.clock,
-            from,
-            datagram.octets.as_slice(),
-            &mut octets,
-        );
-        Ok(reply(&mut self.sent, taken, to, from, self.clock, octets))
+        let taken = self
+            .ends
+            .take(number, now, from, datagram.octets.as_slice(), &mut octets);
+        Ok(reply(&mut self.sent, taken, to, from, self.clocks, octets))
     }
 
     /// A datagram comes from an address that is no end's.
@@ -177,6 +197,8 @@ impl World {
         nbt_lease::laws::one_name_changes();
         nbt_lease::laws::leases_of_others_stay();
         nbt_lease::laws::granted_lease_stands();
+        nbt_lease::laws::hold_ends_first();
+        nbt_lease::laws::rest_outlasts_datagrams();
         if self.sent.try_reserve(1).is_err() {
             return Err(OutOfMemory);
         }
@@ -186,25 +208,27 @@ impl World {
         let Some(addr) = self.ends.addr(number) else {
             return Ok(Outcome::Nobody);
         };
+        let now = self.clocks.reading(number);
         let mut out = ArrayVec::new();
         let taken = self
             .ends
-            .take(number, self.clock, from, octets.as_slice(), &mut out);
-        Ok(reply(&mut self.sent, taken, addr, from, self.clock, out))
+            .take(number, now, from, octets.as_slice(), &mut out);
+        Ok(reply(&mut self.sent, taken, addr, from, self.clocks, out))
     }
 
-    /// What happens next: the clock goes on, an end starts or crashes, a node does something of its own, a datagram of
+    /// What happens next: the clocks go on, an end starts or crashes, a node does something of its own, a datagram of
     /// the list is delivered, or one comes from a stranger. Returns what came of it. With `OutOfMemory`, where room for
-    /// one datagram more was refused, the world is as it was. A `Tick`, `Start` or `Crash` takes no memory. No two nodes
-    /// hold one name afterwards, unless both as a group.
+    /// one datagram more was refused, the world is as it was. A `Tick`, `Advance`, `Start` or `Crash` takes no memory. No
+    /// two nodes hold one name afterwards, unless both as a group, where `kept` answers true.
     pub fn step(&mut self, event: &Event) -> Result<Outcome, OutOfMemory>
         ensures step { IfOk result (λ outcome. Step self.old event.now outcome self.new) }
-        ensures safe { IsSafe self.new }
+        ensures safe { IsTrue self.new.kept → IsSafe self.new }
         ensures refused { OnErr result (self.new ≡ self.old) }
         ensures memory { TakesNoMemory event.now → IsOk result }
     {
         let outcome = match event {
             Event::Tick(ms) => Ok(self.tick(*ms)),
+            Event::Advance { ms, readings } => Ok(self.advance(*ms, readings)),
             Event::Start(number) => Ok(self.start(*number)),
             Event::Crash(number) => Ok(self.crash(*number)),
             Event::Ask { node, .. } => self.node_event(*node, event),
@@ -220,11 +244,11 @@ impl World {
     }
 
     /// The events in order, as far as memory is there. With `OutOfMemory`, the number of the event that it was refused
-    /// to, which is no `Tick`, `Start` or `Crash`: the world is then as after those before it. In no world along the run
-    /// do two nodes hold one name, unless both as a group.
+    /// to, which is no `Tick`, `Advance`, `Start` or `Crash`: the world is then as after those before it. In no world along
+    /// the run up to which the drift bound was kept do two nodes hold one name, unless both as a group.
     pub fn run(&mut self, events: &[Event]) -> Result<(), (usize, OutOfMemory)>
-        ensures ran { OnOk result ((worlds : List WorldValue) × Run events.now self.old worlds self.new × AreSafe worlds) }
-        ensures stopped { IfErr result (λ stop. (stop.0 < length events.now) × (worlds : List WorldValue) × Run (take stop.0 events.now) self.old worlds self.new × AreSafe worlds) }
+        ensures ran { OnOk result ((worlds : List WorldValue) × Run events.now self.old worlds self.new × RunsSafely events.now self.old worlds self.new) }
+        ensures stopped { IfErr result (λ stop. (stop.0 < length events.now) × (worlds : List WorldValue) × Run (take stop.0 events.now) self.old worlds self.new × RunsSafely (take stop.0 events.now) self.old worlds self.new) }
         ensures memory { IfErr result (λ stop. IfSome (slice_get events.now stop.0) (λ event. ¬ TakesNoMemory event)) }
     {
         self.is_safe();
@@ -237,9 +261,11 @@ impl World {
         Ok(())
     }
 
-    /// What the facts that every world keeps come to: no two nodes hold one name, unless both as a group.
+    /// What the facts that every world keeps come to: no two nodes hold one name, unless both as a group, where the drift
+    /// bound was kept so far.
     fn is_safe(&self)
-        ensures { IsSafe self.now }
+        ensures safe { IsTrue self.now.kept → IsSafe self.now }
+        ensures read { AreRead self.now }
     {
         let _facts = &self.sent;
     }
@@ -252,14 +278,14 @@ impl World {
         if number == 0 || number > self.ends.nodes.len() {
             return None;
         }
-        self.ends.nodes.as_slice()[number - 1].holding(self.clock, name)
+        self.ends.nodes.as_slice()[number - 1].holding(self.clocks.reading(number), name)
     }
 
-    /// Whether these two, if they are different nodes, don't both hold the name now, unless both as a group. It is always
-    /// true: what shows it is `step`, `run` and `holders`, and not this call's result.
+    /// Whether these two, if they are different nodes, don't both hold the name now, each by its own reading, unless both as
+    /// a group. It is true wherever `kept` is: what shows it is `step`, `run` and `holders`, and not this call's result.
     pub fn no_two_holders(&self, i: usize, j: usize, name: &Name) -> bool
         ensures exactly { IsTrue result ↔ MayHold self.now i j name.now }
-        ensures always { IsTrue result }
+        ensures always { IsTrue self.now.kept → IsTrue result }
     {
         self.is_safe();
         if i == j {
@@ -272,7 +298,17 @@ impl World {
         }
     }
 
-    /// The nodes that hold the name now, with their kinds, in order of their numbers. Takes no memory.
+    /// Whether the readings of all ends kept the drift bound so far: between any two worlds since the beginning, with d what
+    /// the true clock moved and c what a reading did, in milliseconds, 1000 |c - d| was at most d + 1000 (our profile). It
+    /// is true in a new world, and once it is false it stays so. Takes no memory.
+    pub fn kept(&self) -> bool
+        ensures { result ≡ self.now.kept }
+    {
+        self.kept
+    }
+
+    /// The nodes that hold the name now, each by its own reading, with their kinds, in order of their numbers. Takes no
+    /// memory.
     pub fn holders(&self, name: &Name) -> ArrayVec<Holder, 8>
         ensures exactly { (number : ℕ) (kind : KindValue) → Contains result.items (record { node = number; kind = kind }) ↔ (holding self.now number name.now ≡ Some kind) }
         ensures in_order { (i j : ℕ) (d : HolderValue) → i < j → j < length result.items → (slice_index_or result.items i d).node < (slice_index_or result.items j d).node }
@@ -280,7 +316,7 @@ impl World {
         let nodes = self.ends.nodes.as_slice();
         let mut holders = ArrayVec::new();
         for (index, end) in nodes.iter().enumerate() {
-            match end.holding(self.clock, name) {
+            match end.holding(self.clocks.reading(index + 1), name) {
                 Some(kind) => holders.push(Holder {
                     node: index + 1,
                     kind,

@@ -9,13 +9,13 @@ pub returns-clause-covered : goal.returns-clause-covered
 returns-clause-covered c = claims_covered
 
 pub returns-clause-beside : goal.returns-clause-beside
-returns-clause-beside c = λ world kept. kept.claims.beside
+returns-clause-beside c = λ world kept on. (kept.claims on).beside
 
 pub returns-clause-fresh : goal.returns-clause-fresh
-returns-clause-fresh c = open_fresh
+returns-clause-fresh c = open_fresh c.rest_outlasts_datagrams.ensures.between
 
 pub returns-clause-ended : goal.returns-clause-ended
-returns-clause-ended c = requests_ended
+returns-clause-ended c = requests_ended c.rest_outlasts_datagrams.ensures.between
 
 pub returns-clause-safe : goal.returns-clause-safe
 returns-clause-safe c = is_safe

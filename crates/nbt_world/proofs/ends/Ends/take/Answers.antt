@@ -3,6 +3,9 @@ use Rattle.nbt_world.specs.Step.{is_down, takes}
 use Rattle.nbt_world.proofs.Places.{Reads, node_read, within_from, server_took, server_is_down, node_took, node_is_down}
 use Rattle.nbt_world.proofs.ends.Ends.take.Goals as goal
 
+pub serve-requires : goal.serve-requires
+serve-requires c = c.requires.server _ c.if-number-eq0.true c.in-Some.is
+
 pub returns-in-Some : goal.returns-in-Some
 returns-in-Some c = (c.serve.ensures.0, server_took _ _ _ _ _ _ _ _ c.if-number-eq0.true c.in-Some.is c.serve.ensures.1, c.serve.ensures.2)
 

@@ -6,8 +6,8 @@ use Rattle.nbt_world.proofs.world.World.holders.Goals.{in-Some, in-None}
 
 pub loop-index-preserved : goal.loop-index-preserved
 loop-index-preserved c =
-    let held = reads_held c.as_slice-nodes.result.now c.loop-index.index c.index-nodes-index.result c.args.name.now c.args.self.now.now c.self.inside.clock c.holding.result
-    c.loop-index-test.true c.index-nodes-index.is (ap (λ (w : WorldValue). w.now) c.self.view_is) c.holding.ensures in
+    let held = reads_held c.as_slice-nodes.result.now c.loop-index.index c.index-nodes-index.result c.args.name.now c.args.self.now.now c.self.inside.clocks c.reading.result c.holding.result
+    c.loop-index-test.true c.index-nodes-index.is (ap (λ (w : WorldValue). w.now) c.self.view_is) c.reading.ensures c.holding.ensures in
     elim c.match-holding.branch [
       | in-Some w ↦ rw (w.holders-is, w.push.ensures.items) (takes_in _ _ _ _ _ w.in-Some.kind (held ∙ w.in-Some.is) c.loop-index.invariant)
       | in-None w ↦ rw w.holders-is (passes_over _ _ _ _ _ (held ∙ w.in-None.is) c.loop-index.invariant)

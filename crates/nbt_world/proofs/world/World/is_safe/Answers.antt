@@ -1,5 +1,8 @@
 use Rattle.nbt_world.proofs.Safe.{is_safe}
 use Rattle.nbt_world.proofs.world.World.is_safe.Goals as goal
 
-pub returns : goal.returns
-returns c = rw (← c.self.view_is) (is_safe _ c.self.invariant)
+pub returns-clause-safe : goal.returns-clause-safe
+returns-clause-safe c = rw (← c.self.view_is) (is_safe _ c.self.invariant)
+
+pub returns-clause-read : goal.returns-clause-read
+returns-clause-read c = rw (← c.self.view_is) (c.self.invariant.clocks)

@@ -14,9 +14,9 @@ invariant_of-result c =
       few = omega arith;
       apart = subst (λ (xs : List Addr). AreApart xs) whole (c.if-not-are_apart.ensures.0 refl);
     } in
-    rw (c.zero.ensures, c.new.ensures, c.new-2.ensures.items) (fresh_kept c.args.config c.in-Some.server_addr.now c.in-Some.others.now are)
+    rw (c.zero.ensures.clock, c.zero.ensures.readings, c.new.ensures, c.new-2.ensures.items, c.at_beginning.ensures) (fresh_kept c.args.config c.in-Some.server_addr.now c.in-Some.others.now are)
 
 pub returns-clause-world : goal.returns-clause-world
 returns-clause-world c =
     let whole : c.args.addrs.now ≡ c.in-Some.server_addr.now ∷ c.in-Some.others.now = c.in-Some.ensures.cases.0 in
-    rw (c.zero.ensures, c.new.ensures, c.new-2.ensures.items, whole) (is_fresh c.args.config c.in-Some.server_addr.now c.in-Some.others.now)
+    rw (c.zero.ensures.clock, c.zero.ensures.readings, c.new.ensures, c.new-2.ensures.items, c.at_beginning.ensures, whole) (is_fresh c.args.config c.in-Some.server_addr.now c.in-Some.others.now (omega arith))

@@ -1,11 +1,11 @@
 use Rattle.std.proofs.Common.{[], ◌∷◌}
-use Rattle.std.proofs.lemmas.List.Elements.{All-nil, All-cons, All-push}
-use Rattle.nbt_world.specs.Safety.{IsSafe, ends}
+use Rattle.nbt_world.specs.Safety.{ends}
 use Rattle.nbt_world.proofs.Running.{run_next, run_whole, stopped_at}
+use Rattle.nbt_world.proofs.Going.{along_first, along_next, runs_safely, runs_whole}
 use Rattle.nbt_world.proofs.world.World.run.Goals as goal
 
 pub loop-number-init : goal.loop-number-init
-loop-number-init c = (c.args.self.now ∷ [], ends c.args.self.now, All-cons IsSafe c.args.self.now [] c.is_safe.ensures (All-nil IsSafe))
+loop-number-init c = (c.args.self.now ∷ [], ends c.args.self.now, along_first c.args.self.now c.is_safe.ensures.read c.is_safe.ensures.safe)
 
 pub loop-number-preserved : goal.loop-number-preserved
 loop-number-preserved c =
@@ -13,11 +13,13 @@ loop-number-preserved c =
       _,
       run_next c.args.events.now c.loop-number.number c.args.self.now c.loop-number.self c.step.new.self before.0 c.index-events-number.result c.in-Ok.field-0
           c.loop-number-test.true c.index-events-number.is before.1 c.in-Ok.ensures.step,
-      All-push IsSafe before.0 c.step.new.self before.2 c.step.ensures.safe,
+      along_next c.args.events.now c.loop-number.number c.args.self.now c.loop-number.self c.step.new.self before.0 c.index-events-number.result c.in-Ok.field-0
+          c.loop-number-test.true c.index-events-number.is c.in-Ok.ensures.step c.step.ensures.safe before.2,
     )
 
 pub returns-in-Err-clause-stopped : goal.returns-in-Err-clause-stopped
-returns-in-Err-clause-stopped c = let before = c.loop-number.invariant in (c.loop-number-test.true, before.0, rw (c.in-Err.ensures.refused) before.1, before.2)
+returns-in-Err-clause-stopped c =
+    let before = c.loop-number.invariant in (c.loop-number-test.true, before.0, rw (c.in-Err.ensures.refused) before.1, rw (c.in-Err.ensures.refused) (runs_safely _ _ _ _ before.2))
 
 pub returns-in-Err-clause-memory : goal.returns-in-Err-clause-memory
 returns-in-Err-clause-memory c =
@@ -25,4 +27,9 @@ returns-in-Err-clause-memory c =
     stopped_at c.args.events.now c.loop-number.number c.index-events-number.result c.loop-number-test.true c.index-events-number.is (λ t. let done = none t in absurd cc)
 
 pub returns-clause-ran : goal.returns-clause-ran
-returns-clause-ran c = let before = c.loop-number.invariant in (before.0, run_whole c.args.events.now c.loop-number.number c.args.self.now c.loop-number.self before.0 c.loop-number-test.false before.1, before.2)
+returns-clause-ran c =
+    let before = c.loop-number.invariant in (
+      before.0,
+      run_whole c.args.events.now c.loop-number.number c.args.self.now c.loop-number.self before.0 c.loop-number-test.false before.1,
+      runs_whole c.args.events.now c.loop-number.number c.args.self.now before.0 c.loop-number.self c.loop-number-test.false before.2,
+    )

@@ -12,12 +12,12 @@ returns-then-has_ip-clause-step c = rw (← c.self.view_is) (unchanged _ _ _ _ c
 pub returns-in_default-clause-step : goal.returns-in_default-clause-step
 returns-in_default-clause-step c = rw (← c.self.view_is) (unchanged _ _ _ _ c.try_reserve.ensures.items (to_no_end c.args.from c.args.number c.args.octets.now (sym c.in_default.ensures)))
 
-took : (c : goal.After-reply) → Took (record { now = c.self.inside.clock; config = c.self.inside.config; ends = c.self.inside.ends; sent = c.self.inside.sent.items }) c.args.from c.in-Some.addr
+took : (c : goal.After-reply) → Took (record { now = c.self.inside.clocks; config = c.self.inside.config; ends = c.self.inside.ends; sent = c.self.inside.sent.items; least = c.self.inside.least; kept = c.self.inside.kept }) c.args.from c.in-Some.addr
     c.args.octets.now.items c.args.number c.take-taken.new.self c.reply.new.sent.items c.reply.result
 took c =
     let t = rw c.as_slice.ensures.value at c.take-taken.ensures in
-    let r = c.reply.ensures (record { now = c.self.inside.clock; config = c.self.inside.config; ends = c.self.inside.ends; sent = c.self.inside.sent.items }) c.take-taken.new.self t.0 (sym c.try_reserve.ensures.items) refl t.2 in
-    record { code = c.take-taken.result; out = _; taken = t.0; at = sym c.in-Some.ensures; does = t.1; is = t.2; origin = strange (λ is. false≢true (c.if-has_ip.ensures.1 is)); outcome_is = r.0; left = r.1 }
+    let r = c.reply.ensures (record { now = c.self.inside.clocks; config = c.self.inside.config; ends = c.self.inside.ends; sent = c.self.inside.sent.items; least = c.self.inside.least; kept = c.self.inside.kept }) c.take-taken.new.self t.0 (sym c.try_reserve.ensures.items) refl t.2 in
+    record { code = c.take-taken.result; out = _; taken = t.0; at = sym c.in-Some.ensures; does = rw c.reading-now.ensures at t.1; is = t.2; origin = strange (λ is. false≢true (c.if-has_ip.ensures.1 is)); outcome_is = r.0; left = r.1 }
 
 laws : (c : goal.After-reply) → LeaseLaws
 laws c = record {
@@ -26,11 +26,15 @@ laws c = record {
   others_granted = c.leases_of_others_stay.ensures.granted;
   others_released = c.leases_of_others_stay.ensures.released;
   stands = c.granted_lease_stands.ensures.lease;
+  holds = c.hold_ends_first.ensures.between;
   beside = c.granted_lease_stands.ensures.beside;
 }
 
+pub take-taken-requires-clause-server : goal.take-taken-requires-clause-server
+take-taken-requires-clause-server c = λ server zero up. rw (c.reading-now.ensures, zero) ((c.self.invariant.server server up).past)
+
 pub invariant_of-self-2 : goal.invariant_of-self-2
-invariant_of-self-2 c = took_kept c.one_message_spelled.ensures c.leases_stay_sound.ensures.granted c.leases_stay_sound.ensures.released (laws c) _ _ _ _ _ _ _ _ c.self.invariant (took c)
+invariant_of-self-2 c = took_kept (record { one_message = c.one_message_spelled.ensures; rests = c.rest_outlasts_datagrams.ensures.between }) c.leases_stay_sound.ensures.granted c.leases_stay_sound.ensures.released (laws c) _ _ _ _ _ _ _ _ c.self.invariant (took c)
 
 pub returns-clause-step : goal.returns-clause-step
 returns-clause-step c =

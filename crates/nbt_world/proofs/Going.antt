@@ -1,0 +1,220 @@
+-- What each step makes of the clocks, and so what a run does: told where the bound is kept, and in step where no event lets
+-- the clocks drift apart.
+use Rattle.std.proofs.Common.{◌≡◌, ℕ, zero, suc, ◌+◌, ◌-◌, ◌*◌, ◌^◌, ◌<◌, ◌≤◌, Bool, List, [], ◌∷◌, ◌++◌, length, take, get_or, Some, refl, sym, ap, subst, ◌∙◌, arith}
+use Rattle.std.specs.Prelude.{IsTrue, ◌↔◌, All, min}
+use Rattle.std.proofs.lemmas.List.{take_more, take_all}
+use Rattle.std.proofs.lemmas.List.Elements.{All-push, All-nil, All-cons, All-head, All-tail}
+use Rattle.nbt_name.specs.declared.addr.Addr.{Addr}
+use Rattle.nbt_packet.specs.Message.{MessageValue}
+use Rattle.nbt_lease.specs.Config.{ConfigValue}
+use Rattle.nbt_server.specs.Serving.{ServerValue}
+use Rattle.nbt_node.specs.Node.{NodeValue}
+use Rattle.std.specs.Prelude.{Option, None}
+use Rattle.nbt_world.specs.declared.clocks.Clocks.{Clocks}
+use Rattle.nbt_world.specs.declared.clocks.Least.{Least}
+use Rattle.nbt_world.specs.declared.ends.Ends.{Ends}
+use Rattle.nbt_packet.specs.Text.{text}
+use Rattle.nbt_world.specs.declared.network.Datagram.{Datagram}
+use Rattle.nbt_world.specs.declared.event.Event.{Event}
+use Rattle.nbt_world.specs.declared.event.Outcome.{Outcome}
+use Rattle.nbt_world.specs.Drift.{reading, later, ahead, behind, least_of, numbers_of, lesser, IsAllowed}
+use Rattle.nbt_world.specs.World.{WorldValue, IsEnd, addr_of, with_node, datagram, IsFresh}
+use Rattle.nbt_world.specs.Step.{Advances, Step, ticks, advances, starts, starts_nothing, crashes, crashes_nothing, node_does, node_is_down, no_datagram, no_end, too_late, delivered, from_an_end, to_no_end, from_a_stranger, GivenValue, nothing, refusal, octets_to, after, TakenValue, is_down, is_lost, takes, Takes, finds_down, by_server, by_node, after_taking, Starts, server_starts, node_starts, Crashes, server_crashes, node_crashes}
+use Rattle.nbt_world.specs.Kept.{IsSeen, AreRead}
+use Rattle.nbt_world.specs.Safety.{IsSafe, AreSafe, AreSafeWhileKept, IsInStep, LetsClocksDrift, KeepOneClock, RunsSafely}
+use Rattle.nbt_world.proofs.Keeping.{addr_with, server_addr_with, read_with}
+use Rattle.nbt_world.proofs.Clock.{sees, sees_now, read_on, goes_up}
+use Rattle.nbt_world.proofs.Exact.{Goes, Traced, traced_more, traced_first}
+
+-- ---- the clocks go on
+
+goes_on : (w v : WorldValue) (ms : ℕ) (moves : ℕ → ℕ) → Advances w ms moves v → AreRead w → Goes w v
+goes_on w v ms moves adv read = subst (λ (x : WorldValue). Goes w x) (sym adv.others) (record {
+  clock = rw adv.now (goes_up w.now.clock ms read.now);
+  read = read_on w v ms moves adv read;
+  seen = λ n e moment seen. sees w v ms moves adv read n e moment seen;
+  least = adv.least;
+  kept = adv.kept;
+  same = λ n. refl;
+})
+
+-- ---- they stay
+
+no_lesser : (a b : Least) → a.ahead ≤ b.ahead → a.behind ≤ b.behind → a ≡ lesser a b
+no_lesser a b x y =
+    let p : a.ahead ≡ min a.ahead b.ahead = omega arith in
+    let q : a.behind ≡ min a.behind b.behind = omega arith in
+    λ i. record { ahead = p i; behind = q i }
+
+-- only ends and datagrams are others
+goes_with : (w : WorldValue) (ends : Ends) (sent : List Datagram) → ((n : ℕ) → addr_of ends n ≡ addr_of w.ends n) → AreRead w → Goes w (record w { ends = ends; sent = sent })
+goes_with w ends sent same read = record {
+  clock = omega arith;
+  read = read_with w ends sent same read;
+  seen = λ n e moment seen. seen;
+  least = λ n e. let s = read.seen n e in no_lesser (least_of w.least n) (numbers_of w.now n) s.least_ahead s.least_behind;
+  kept = (λ on. (on, read.allowed on), λ on. on.0);
+  same = same;
+}
+
+goes_nowhere : (w : WorldValue) → AreRead w → Goes w w
+goes_nowhere w read = goes_with w w.ends w.sent (λ n. refl) read
+
+with_same : (ends : Ends) (n : ℕ) (x : Option NodeValue) (k : ℕ) → addr_of (with_node ends n x) k ≡ addr_of ends k
+with_same ends zero x k = refl
+with_same ends (suc i) x k = addr_with ends i x k
+
+starts_same : (config : ConfigValue) (now : ℕ) (old : Ends) (number : ℕ) (new : Ends) → Starts config now old number new → (n : ℕ) → addr_of new n ≡ addr_of old n
+starts_same config now old number new (server_starts server down is) n = server_addr_with old (Some server) n
+starts_same config now old number new (node_starts index addr at down) n = addr_with old index _ n
+
+crashes_same : (old : Ends) (number : ℕ) (new : Ends) → Crashes old number new → (n : ℕ) → addr_of new n ≡ addr_of old n
+crashes_same old number new (server_crashes server up) n = server_addr_with old None n
+crashes_same old number new (node_crashes index node up) n = addr_with old index None n
+
+takes_same : (now : ℕ) (old : Ends) (from : Addr) (octets : List ℕ) (number : ℕ) (taken : TakenValue) (new : Ends) → Takes now old from octets number taken new → (n : ℕ) → addr_of new n ≡ addr_of old n
+takes_same now old from octets number taken new (finds_down k down) n = refl
+takes_same now old from octets number taken new (by_server server s t up does) n = server_addr_with old (Some s) n
+takes_same now old from octets number taken new (by_node index node s reply up hears) n = addr_with old index (Some s) n
+
+goes_after : (w : WorldValue) (number : ℕ) (new : NodeValue) (given : GivenValue) → AreRead w → Goes w (after w number new given)
+goes_after w number new nothing read = goes_with w (with_node w.ends number (Some new)) w.sent (with_same w.ends number (Some new)) read
+goes_after w number new (refusal fault) read = goes_with w (with_node w.ends number (Some new)) w.sent (with_same w.ends number (Some new)) read
+goes_after w number new (octets_to to octets) read = goes_with w (with_node w.ends number (Some new)) (w.sent ++ datagram new.addr to w.now octets ∷ []) (with_same w.ends number (Some new)) read
+
+goes_taking : (w : WorldValue) (ends : Ends) (from to : Addr) (taken : TakenValue) → ((n : ℕ) → addr_of ends n ≡ addr_of w.ends n) → AreRead w → Goes w (after_taking w ends from to taken)
+goes_taking w ends from to is_down same read = goes_with w ends w.sent same read
+goes_taking w ends from to is_lost same read = goes_with w ends w.sent same read
+goes_taking w ends from to (takes None) same read = goes_with w ends w.sent same read
+goes_taking w ends from to (takes (Some reply)) same read = goes_with w ends (w.sent ++ datagram from to w.now (text reply) ∷ []) same read
+
+pub step_goes : (w v : WorldValue) (event : Event) (outcome : Outcome) → Step w event outcome v → AreRead w → Goes w v
+step_goes w v event outcome (ticks ms new adv) read = goes_on w v ms _ adv read
+step_goes w v event outcome (advances ms readings new adv) read = goes_on w v ms _ adv read
+step_goes w v event outcome (starts number ends s) read = goes_with w ends w.sent (starts_same w.config _ w.ends number ends s) read
+step_goes w v event outcome (starts_nothing number off) read = goes_nowhere w read
+step_goes w v event outcome (crashes number ends s) read = goes_with w ends w.sent (crashes_same w.ends number ends s) read
+step_goes w v event outcome (crashes_nothing number off) read = goes_nowhere w read
+step_goes w v event outcome (node_does e number node new given own up does) read = goes_after w number new given read
+step_goes w v event outcome (node_is_down e number own down) read = goes_nowhere w read
+step_goes w v event outcome (no_datagram k none) read = goes_nowhere w read
+step_goes w v event outcome (no_end k d is off) read = goes_nowhere w read
+step_goes w v event outcome (too_late k d number is at late) read = goes_nowhere w read
+step_goes w v event outcome (delivered k d number taken ends is at in_time t) read = goes_taking w ends d.to d.from taken (takes_same _ w.ends d.from d.octets.items number taken ends t) read
+step_goes w v event outcome (from_an_end from number octets is) read = goes_nowhere w read
+step_goes w v event outcome (to_no_end from number octets none) read = goes_nowhere w read
+step_goes w v event outcome (from_a_stranger from addr number octets taken ends off at t) read = goes_taking w ends addr from taken (takes_same _ w.ends from octets.items number taken ends t) read
+
+-- ---- in step
+
+-- where the reading is the clock, both numbers fall as it goes on
+ticks_in_step : (w v : WorldValue) (ms : ℕ) → Advances w ms (λ n. ms) v → AreRead w → IsTrue w.kept → IsInStep w → IsTrue v.kept × ((n : ℕ) → IsEnd w.ends n → reading v.now n ≡ v.now.clock)
+ticks_in_step w v ms adv read on same = ((adv.kept).1 (on, allowed), reads)
+  where
+    reads : (n : ℕ) → IsEnd w.ends n → reading v.now n ≡ v.now.clock
+    reads n e = adv.readings n e ∙ (λ i. later (same n e i) ms) ∙ sym adv.now
+
+    falls_ahead : (t u c d last least : ℕ) → t ≤ u → u ≤ last → c ≡ t → d ≡ u → 1000 * c + 1001 * (last - t) ≤ least + 1000 → 1000 * d + 1001 * (last - u) ≤ min least (1000 * d + 1001 * (last - u)) + 1000
+    falls_ahead t u c d last least a b p q e = omega arith
+
+    falls_behind : (t u c d last least : ℕ) → t ≤ u → u ≤ last → c ≡ t → d ≡ u → 999 * t + 1000 * (last - c) ≤ least + 1000 → 999 * u + 1000 * (last - d) ≤ min least (999 * u + 1000 * (last - d)) + 1000
+    falls_behind t u c d last least a b p q e = omega arith
+
+    goes : w.now.clock ≤ v.now.clock
+    goes = rw adv.now (goes_up w.now.clock ms read.now)
+
+    allowed : (n : ℕ) → IsEnd w.ends n → IsAllowed (least_of v.least n) v.now n
+    allowed n e =
+        let was = read.allowed on n e in
+        let last = (read_on w v ms (λ n. ms) adv read).now in
+        record {
+          not_ahead = rw (adv.least n e) (falls_ahead w.now.clock v.now.clock (reading w.now n) (reading v.now n) (2 ^ 60) (least_of w.least n).ahead goes last (same n e) (reads n e) was.not_ahead);
+          not_behind = rw (adv.least n e) (falls_behind w.now.clock v.now.clock (reading w.now n) (reading v.now n) (2 ^ 60) (least_of w.least n).behind goes last (same n e) (reads n e) was.not_behind);
+        }
+
+abbrev pub AreInStep : WorldValue → Type 0
+AreInStep w = IsTrue w.kept × IsInStep w
+
+-- the ends may be others, where they were
+stays_in_step : (w : WorldValue) (ends : Ends) (sent : List Datagram) → ((n : ℕ) → addr_of ends n ≡ addr_of w.ends n) → AreInStep w → AreInStep (record w { ends = ends; sent = sent })
+stays_in_step w ends sent same is = (is.0, λ n e. is.1 n (e.0, sym (same n) ∙ e.1))
+
+after_in_step : (w : WorldValue) (number : ℕ) (new : NodeValue) (given : GivenValue) → AreInStep w → AreInStep (after w number new given)
+after_in_step w number new nothing is = stays_in_step w (with_node w.ends number (Some new)) w.sent (with_same w.ends number (Some new)) is
+after_in_step w number new (refusal fault) is = stays_in_step w (with_node w.ends number (Some new)) w.sent (with_same w.ends number (Some new)) is
+after_in_step w number new (octets_to to octets) is = stays_in_step w (with_node w.ends number (Some new)) (w.sent ++ datagram new.addr to w.now octets ∷ []) (with_same w.ends number (Some new)) is
+
+taking_in_step : (w : WorldValue) (ends : Ends) (from to : Addr) (taken : TakenValue) → ((n : ℕ) → addr_of ends n ≡ addr_of w.ends n) → AreInStep w → AreInStep (after_taking w ends from to taken)
+taking_in_step w ends from to is_down same is = stays_in_step w ends w.sent same is
+taking_in_step w ends from to is_lost same is = stays_in_step w ends w.sent same is
+taking_in_step w ends from to (takes None) same is = stays_in_step w ends w.sent same is
+taking_in_step w ends from to (takes (Some reply)) same is = stays_in_step w ends (w.sent ++ datagram from to w.now (text reply) ∷ []) same is
+
+pub step_in_step : (w v : WorldValue) (event : Event) (outcome : Outcome) → Step w event outcome v → AreRead w → (LetsClocksDrift event → ⊥) → AreInStep w → AreInStep v
+step_in_step w v event outcome (ticks ms new adv) read one is =
+    let t = ticks_in_step w v ms adv read is.0 is.1 in
+    (t.0, λ n e. t.1 n (subst (λ (x : WorldValue). IsEnd x.ends n) adv.others e))
+step_in_step w v event outcome (advances ms readings new adv) read one is = absurd (one tt)
+step_in_step w v event outcome (starts number ends s) read one is = stays_in_step w ends w.sent (starts_same w.config _ w.ends number ends s) is
+step_in_step w v event outcome (starts_nothing number off) read one is = is
+step_in_step w v event outcome (crashes number ends s) read one is = stays_in_step w ends w.sent (crashes_same w.ends number ends s) is
+step_in_step w v event outcome (crashes_nothing number off) read one is = is
+step_in_step w v event outcome (node_does e number node new given own up does) read one is = after_in_step w number new given is
+step_in_step w v event outcome (node_is_down e number own down) read one is = is
+step_in_step w v event outcome (no_datagram k none) read one is = is
+step_in_step w v event outcome (no_end k d at off) read one is = is
+step_in_step w v event outcome (too_late k d number at to late) read one is = is
+step_in_step w v event outcome (delivered k d number taken ends at to in_time t) read one is = taking_in_step w ends d.to d.from taken (takes_same _ w.ends d.from d.octets.items number taken ends t) is
+step_in_step w v event outcome (from_an_end from number octets of) read one is = is
+step_in_step w v event outcome (to_no_end from number octets none) read one is = is
+step_in_step w v event outcome (from_a_stranger from addr number octets taken ends off at t) read one is = taking_in_step w ends addr from taken (takes_same _ w.ends from octets.items number taken ends t) is
+
+-- ---- a run
+
+-- what holds after some of its events
+pub record Along (events : List Event) (old : WorldValue) (worlds : List WorldValue) (last : WorldValue) : Type 0 where
+  pub read : AreRead last
+  pub safe : AreSafeWhileKept worlds
+  pub traced : (config : ConfigValue) (addrs : List Addr) → IsFresh config addrs old → Traced worlds last
+  pub in_step : IsTrue old.kept → IsInStep old → KeepOneClock events → AreSafe worlds × AreInStep last
+
+pub along_first : (w : WorldValue) → AreRead w → (IsTrue w.kept → IsSafe w) → Along [] w (w ∷ []) w
+along_first w read safe = record {
+  read = read;
+  safe = All-cons (λ x. IsTrue x.kept → IsSafe x) w [] safe (All-nil (λ x. IsTrue x.kept → IsSafe x));
+  traced = λ config addrs fresh. traced_first config addrs w fresh read;
+  in_step = λ on same one. (All-cons IsSafe w [] (safe on) (All-nil IsSafe), (on, same));
+}
+
+all_parts : (P : Event → Type 0) (xs : List Event) (x : Event) → All P (xs ++ x ∷ []) → All P xs × P x
+all_parts P [] x all = (All-nil P, All-head P x [] all)
+all_parts P (y ∷ xs) x all = let rest = all_parts P xs x (All-tail P y (xs ++ x ∷ []) all) in (All-cons P y xs (All-head P y (xs ++ x ∷ []) all) rest.0, rest.1)
+
+along_more : (events : List Event) (old w v : WorldValue) (worlds : List WorldValue) (event : Event) (outcome : Outcome) → Step w event outcome v → (IsTrue v.kept → IsSafe v) → Along events old worlds w
+    → Along (events ++ event ∷ []) old (worlds ++ v ∷ []) v
+along_more events old w v worlds event outcome step safe is = record {
+  read = goes.read;
+  safe = All-push (λ x. IsTrue x.kept → IsSafe x) worlds v is.safe safe;
+  traced = λ config addrs fresh. traced_more worlds w v goes (is.traced config addrs fresh);
+  in_step = λ on same one.
+      let parts = all_parts (λ e. LetsClocksDrift e → ⊥) events event one in
+      let was = is.in_step on same parts.0 in
+      let stands = step_in_step w v event outcome step is.read parts.1 was.1 in
+      (All-push IsSafe worlds v was.0 (safe stands.0), stands);
+}
+  where
+    goes : Goes w v
+    goes = step_goes w v event outcome step is.read
+
+pub along_next : (events : List Event) (k : ℕ) (old w v : WorldValue) (worlds : List WorldValue) (event : Event) (outcome : Outcome) → k < length events → event ≡ get_or events k event → Step w event outcome v
+    → (IsTrue v.kept → IsSafe v) → Along (take k events) old worlds w → Along (take (k + 1) events) old (worlds ++ v ∷ []) v
+along_next events k old w v worlds event outcome within at step safe is =
+    subst (λ (es : List Event). Along es old (worlds ++ v ∷ []) v) (sym (take_more events k event within))
+    (subst (λ (x : Event). Along (take k events ++ x ∷ []) old (worlds ++ v ∷ []) v) at (along_more (take k events) old w v worlds event outcome step safe is))
+
+pub runs_safely : (events : List Event) (old : WorldValue) (worlds : List WorldValue) (last : WorldValue) → Along events old worlds last → RunsSafely events old worlds last
+runs_safely events old worlds last is =
+    record { safe = is.safe; told = λ config addrs fresh. (is.traced config addrs fresh).told; one_clock = λ on same one. (is.in_step on same one).0 }
+
+pub runs_whole : (events : List Event) (k : ℕ) (old : WorldValue) (worlds : List WorldValue) (last : WorldValue) → length events ≤ k → Along (take k events) old worlds last → RunsSafely events old worlds last
+runs_whole events k old worlds last le is = runs_safely events old worlds last (subst (λ (es : List Event). Along es old worlds last) (take_all k events le) is)

@@ -1,0 +1,32 @@
+use Rattle.std.proofs.Common.{◌≡◌, Bool, ◌&&◌, refl, sym, ap, ◌∙◌, arith}
+use Rattle.std.specs.Prelude.{slice_index}
+use Rattle.nbt_world.specs.Step.{Advances}
+use Rattle.nbt_world.proofs.Clock.{clock_changes}
+use Rattle.nbt_world.proofs.Advancing.{advanced}
+use Rattle.nbt_world.proofs.world.World.go_on.Goals as goal
+use Rattle.nbt_world.proofs.world.World.go_on.Goals.{then-self, else-self}
+
+still : (c : goal.After-self-1) → c.if-self.self ≡ (c.self.inside.kept && c.watch-allowed.result)
+still c =
+    elim c.if-self.branch [
+      | then-self w ↦ w.self-is ∙ ap (λ (b : Bool). b && c.watch-allowed.result) (sym w.if-self.true)
+      | else-self w ↦ w.self-is ∙ w.if-self.false ∙ ap (λ (b : Bool). b && c.watch-allowed.result) (sym w.if-self.false)
+    ]
+
+goes : (c : goal.After-self-1) → Advances (record { now = c.self.inside.clocks; config = c.self.inside.config; ends = c.self.inside.ends; sent = c.self.inside.sent.items; least = c.self.inside.least; kept = c.self.inside.kept }) c.args.ms (slice_index c.args.readings.now)
+    (record { now = c.go_on.new.self; config = c.self.inside.config; ends = c.self.inside.ends; sent = c.self.inside.sent.items; least = c.watch-allowed.new.least; kept = c.if-self.self })
+goes c =
+    let few = c.self.invariant.ends.few in
+    let ends = c.len-ends.ensures.value in
+    advanced (record { now = c.self.inside.clocks; config = c.self.inside.config; ends = c.self.inside.ends; sent = c.self.inside.sent.items; least = c.self.inside.least; kept = c.self.inside.kept }) c.go_on.new.self c.watch-allowed.new.least
+    c.watch-allowed.result c.if-self.self c.args.ms (slice_index c.args.readings.now) few c.go_on.ensures.clock c.go_on.ensures.readings (rw c.len-ends.ensures.value at c.watch-allowed.ensures.least) (rw c.len-ends.ensures.value at c.watch-allowed.ensures.allowed)
+    (still c)
+
+pub invariant_of-self : goal.invariant_of-self
+invariant_of-self c = clock_changes c.leases_stay_sound.ensures.later c.later_leases_live_now.ensures c.hold_ends_first.ensures.between _ _ c.args.ms (slice_index c.args.readings.now) (goes c) c.self.invariant
+
+pub returns-clause-step : goal.returns-clause-step
+returns-clause-step c = rw (← c.self.view_is) (goes c)
+
+pub returns-clause-few : goal.returns-clause-few
+returns-clause-few c = rw (← c.self.view_is) (c.self.invariant.ends.few)
