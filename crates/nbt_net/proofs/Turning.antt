@@ -11,7 +11,7 @@ use Rattle.nbt_engine.specs.Udp.{MachineTells}
 use Rattle.nbt_net.specs.Node.{Turns, TakesTurns, seen_text}
 use Rattle.nbt_net.proofs.Printing.{appends_nothing, appends_both}
 
-chain_on : {S X : Type 0} (step : S → X → S → Type 0) (old mid new : S) (xs : List X) (x : X) → Chain step old xs mid → step mid x new → Chain step old (xs ++ x ∷ []) new
+pub chain_on : {S X : Type 0} (step : S → X → S → Type 0) (old mid new : S) (xs : List X) (x : X) → Chain step old xs mid → step mid x new → Chain step old (xs ++ x ∷ []) new
 chain_on step old mid new [] x before last = (new, subst (λ s. step s x new) before last, refl)
 chain_on step old mid new (y ∷ ys) x before last = (before.0, before.1, chain_on step before.0 mid new ys x before.2 last)
 

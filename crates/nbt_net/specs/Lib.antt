@@ -1,4 +1,5 @@
 pub mod Line
 pub mod Node
 pub mod Serve
+pub mod Staying
 pub mod Turns

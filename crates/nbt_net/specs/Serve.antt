@@ -5,7 +5,7 @@ use Rattle.std.specs.Io.KnownBytes.{Appends}
 use Rattle.nbt_lease.specs.Config.{ConfigValue}
 use Rattle.nbt_server.specs.Serving.{ServerValue}
 use Rattle.nbt_engine.specs.Acts.{Act}
-use Rattle.nbt_engine.specs.Serving.{Runs}
+use Rattle.nbt_engine.specs.Serving.{Runs, Breaks}
 use Rattle.nbt_engine.specs.Udp.{UdpValue, UdpDoes, MachineTells}
 use Rattle.nbt_engine.specs.declared.serving.Counts.{Counts}
 use Rattle.nbt_net.specs.Line.{one_line}
@@ -22,6 +22,20 @@ pub record IsNew (config : ConfigValue) (now : ℕ) (server : ServerValue) : Typ
   pub last : server.last ≡ now
   pub config_is : server.table.config ≡ config
   pub empty : server.table.rows ≡ []
+
+-- a port, a clock and a server
+pub record Serving (P C : Type 0) : Type 0 where
+  pub port : P
+  pub clock : C
+  pub server : ServerValue
+
+-- one turn of a server, with what it did in it
+abbrev pub ServesTurn : {P C : Type 0} → (P → Act → P → Type 0) → (C → ℕ → C → Type 0) → Serving P C → Counts → Serving P C → Type 0
+ServesTurn does tells old counts new = Runs does tells 1 counts old.port old.clock old.server new.port new.clock new.server
+
+-- one turn of a server in which the device fails
+abbrev pub BreaksServing : {P C : Type 0} → (P → Act → P → Type 0) → (C → ℕ → C → Type 0) → Serving P C → Serving P C → Type 0
+BreaksServing does tells old new = Breaks does tells 1 old.port old.clock old.server new.port new.clock new.server
 
 -- A clock is read, a server starts at that moment, and the three go through the turns from there; with no end these are
 -- 2^64 - 1. With a number of turns the text grows by the line of the counts.

@@ -7,6 +7,7 @@ mod fault;
 mod node;
 mod port;
 mod serve;
+mod staying;
 
 pub use fault::Fault;
 pub use node::{NodeArguments, run_node};
