@@ -10,12 +10,13 @@ use nbt_name::{Addr, Name};
 use nbt_node::Node;
 use nbt_session::{Entry, Event, Listener, ListenerAnswer};
 use std::alloc::Global;
+use std::io;
 use std::net::{Ipv4Addr, Net, OpenListener, SocketAddr, TcpListener};
 
 /// The listener's one slot.
 const SLOT: usize = 0;
 
-/// How many connections are accepted for one call, of which those of other programs of this machine are closed.
+/// How many accepts are made for one call. The connections of other programs of this machine are closed.
 const CONNECTIONS: u32 = 8;
 
 /// A TCP socket that listens, the calls that are taken, and the one connection that there may be.
@@ -76,10 +77,15 @@ impl<R: Net> Desk<R> {
         Ok(())
     }
 
-    /// Accepts connections up to the one that `peer` made. Those of other programs are closed.
+    /// Accepts connections up to the one that `peer` made. Those of other programs are closed. An accept that was
+    /// interrupted is made again, and counts as one of the eight.
     fn accept_from(&self, peer: SocketAddr) -> Result<Option<R::Stream>, Fault> {
         for _ in 0..CONNECTIONS {
-            let (socket, from) = self.socket.accept()?;
+            let (socket, from) = match self.socket.accept() {
+                Ok(accepted) => accepted,
+                Err(error) if error.kind() == io::ErrorKind::Interrupted => continue,
+                Err(error) => return Err(Fault::from(error)),
+            };
             if from == peer {
                 return Ok(Some(socket));
             }
