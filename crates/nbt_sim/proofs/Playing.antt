@@ -54,6 +54,24 @@ of_no_tick _ _ _ ms (holders a m p) e = cc
 pub no_tick : (ws : List (List ℕ)) (i : Instruction) (ms : ℕ) → Says ws i → i ≢ instruction.Happens (event.Tick ms)
 no_tick _ _ ms (says v rest i p) = of_no_tick v rest i ms p
 
+-- nor the clocks apart
+of_no_advance : (v : Verb) (rest : List (List ℕ)) (i : Instruction) (ms : ℕ) (readings : List ℕ) → SaysOf v rest i → i ≢ instruction.Happens (event.Advance ms readings)
+of_no_advance _ _ _ ms readings (config a b c d l g r n p q s t u) e = cc
+of_no_advance _ _ _ ms readings (at a n p) e = cc
+of_no_advance _ _ _ ms readings (start a n p) e = cc
+of_no_advance _ _ _ ms readings (crash a n p) e = cc
+of_no_advance _ _ _ ms readings (ask a b c d n m k t p q r s) e = cc
+of_no_advance _ _ _ ms readings (release a b n m p q) e = cc
+of_no_advance _ _ _ ms readings (resolve a b n m p q) e = cc
+of_no_advance _ _ _ ms readings (status a b c n t m p q r) e = cc
+of_no_advance _ _ _ ms readings (poll a n p) e = cc
+of_no_advance _ _ _ ms readings (deliver a k p) e = cc
+of_no_advance _ _ _ ms readings (stranger a b c f t o p q r) e = cc
+of_no_advance _ _ _ ms readings (holders a m p) e = cc
+
+pub no_advance : (ws : List (List ℕ)) (i : Instruction) (ms : ℕ) (readings : List ℕ) → Says ws i → i ≢ instruction.Happens (event.Advance ms readings)
+no_advance _ _ ms readings (says v rest i p) = of_no_advance v rest i ms readings p
+
 -- ---- the lines so far
 
 -- what the lines that are left print completes what all print

@@ -8,6 +8,7 @@ use Rattle.nbt_world.specs.World.{WorldValue}
 use Rattle.nbt_world.specs.Step.{
   Step,
   ticks,
+  advances,
   starts,
   starts_nothing,
   crashes,
@@ -47,7 +48,7 @@ use Rattle.nbt_world.specs.Step.{
 }
 use Rattle.nbt_world.specs.declared.ends.Ends.{Ends}
 use Rattle.nbt_world.specs.declared.event.Event.{Event}
-use Rattle.nbt_world.specs.declared.event.Event.TheVariants.{Tick}
+use Rattle.nbt_world.specs.declared.event.Event.TheVariants.{Tick, Advance}
 use Rattle.nbt_world.specs.declared.event.Outcome.{Outcome}
 use Rattle.nbt_world.specs.declared.event.Outcome.TheVariants.{Done, Refused}
 use Rattle.nbt_sim.specs.Words.{ask_fault_word, release_fault_word, lookup_fault_word}
@@ -66,29 +67,31 @@ taking_now w ends from to is_lost = refl
 taking_now w ends from to (takes None) = refl
 taking_now w ends from to (takes (Some reply)) = refl
 
-pub same_moment : (old new : WorldValue) (event : Event) (outcome : Outcome) → Step old event outcome new → ((ms : ℕ) → event ≢ Tick ms) → new.now ≡ old.now
-same_moment old _ _ _ (ticks ms) other = absurd (other ms refl)
-same_moment old _ _ _ (starts number ends s) other = refl
-same_moment old _ _ _ (starts_nothing number s) other = refl
-same_moment old _ _ _ (crashes number ends s) other = refl
-same_moment old _ _ _ (crashes_nothing number s) other = refl
-same_moment old _ _ _ (node_does event number node new given p q d) other = after_now old number new given
-same_moment old _ _ _ (node_is_down event number p q) other = refl
-same_moment old _ _ _ (no_datagram k p) other = refl
-same_moment old _ _ _ (no_end k d p q) other = refl
-same_moment old _ _ _ (too_late k d number p q r) other = refl
-same_moment old _ _ _ (delivered k d number taken ends p q r s) other = taking_now old ends d.to d.from taken
-same_moment old _ _ _ (from_an_end from number octets p) other = refl
-same_moment old _ _ _ (to_no_end from number octets p) other = refl
-same_moment old _ _ _ (from_a_stranger from addr number octets taken ends p q r) other = taking_now old ends addr from taken
+pub same_moment : (old new : WorldValue) (event : Event) (outcome : Outcome) → Step old event outcome new → ((ms : ℕ) → event ≢ Tick ms) → ((ms : ℕ) (readings : List ℕ) → event ≢ Advance ms readings) → new.now ≡ old.now
+same_moment old _ _ _ (ticks ms v adv) other more = absurd (other ms refl)
+same_moment old _ _ _ (advances ms readings v adv) other more = absurd (more ms readings refl)
+same_moment old _ _ _ (starts number ends s) other more = refl
+same_moment old _ _ _ (starts_nothing number s) other more = refl
+same_moment old _ _ _ (crashes number ends s) other more = refl
+same_moment old _ _ _ (crashes_nothing number s) other more = refl
+same_moment old _ _ _ (node_does event number node new given p q d) other more = after_now old number new given
+same_moment old _ _ _ (node_is_down event number p q) other more = refl
+same_moment old _ _ _ (no_datagram k p) other more = refl
+same_moment old _ _ _ (no_end k d p q) other more = refl
+same_moment old _ _ _ (too_late k d number p q r) other more = refl
+same_moment old _ _ _ (delivered k d number taken ends p q r s) other more = taking_now old ends d.to d.from taken
+same_moment old _ _ _ (from_an_end from number octets p) other more = refl
+same_moment old _ _ _ (to_no_end from number octets p) other more = refl
+same_moment old _ _ _ (from_a_stranger from addr number octets taken ends p q r) other more = taking_now old ends addr from taken
 
 -- whatever a call of the world returned
-pub moment_kept : {E : Type 0} (r : Result Outcome E) (old new : WorldValue) (event : Event) → IfOk r (λ outcome. Step old event outcome new) → OnErr r (new ≡ old) → ((ms : ℕ) → event ≢ Tick ms) → new.now ≡ old.now
-moment_kept (Ok outcome) old new event s same other = same_moment old new event outcome s other
-moment_kept (Err e) old new event s same other = ap (λ (w : WorldValue). w.now) same
+pub moment_kept : {E : Type 0} (r : Result Outcome E) (old new : WorldValue) (event : Event) → IfOk r (λ outcome. Step old event outcome new) → OnErr r (new ≡ old) → ((ms : ℕ) → event ≢ Tick ms) → ((ms : ℕ) (readings : List ℕ) → event ≢ Advance ms readings) → new.now ≡ old.now
+moment_kept (Ok outcome) old new event s same other more = same_moment old new event outcome s other more
+moment_kept (Err e) old new event s same other more = ap (λ (w : WorldValue). w.now) same
 
-ticked_to : (old new : WorldValue) (event : Event) (outcome : Outcome) (ms : ℕ) → Step old event outcome new → event ≡ Tick ms → (outcome ≡ Done) × (new.now ≡ min (old.now + ms) (2 ^ 60))
-ticked_to old _ _ _ ms (ticks n) e = let same : n ≡ ms = cc in (refl, ap (λ (x : ℕ). min (old.now + x) (2 ^ 60)) same)
+ticked_to : (old new : WorldValue) (event : Event) (outcome : Outcome) (ms : ℕ) → Step old event outcome new → event ≡ Tick ms → (outcome ≡ Done) × (new.now.clock ≡ min (old.now.clock + ms) (2 ^ 60))
+ticked_to old _ _ _ ms (ticks n v adv) e = let same : n ≡ ms = cc in (refl, adv.now ∙ ap (λ (x : ℕ). min (old.now.clock + x) (2 ^ 60)) same)
+ticked_to old _ _ _ ms (advances n readings v adv) e = absurd cc
 ticked_to old _ _ _ ms (starts number ends s) e = absurd cc
 ticked_to old _ _ _ ms (starts_nothing number s) e = absurd cc
 ticked_to old _ _ _ ms (crashes number ends s) e = absurd cc
@@ -104,11 +107,11 @@ ticked_to old _ _ _ ms (to_no_end from number octets p) e = absurd cc
 ticked_to old _ _ _ ms (from_a_stranger from addr number octets taken ends p q r) e = absurd cc
 
 -- the clock goes on to a moment
-pub goes_to : (old new : WorldValue) (outcome : Outcome) (moment : ℕ) → Step old (Tick (moment - old.now)) outcome new → old.now ≤ moment → moment ≤ 2 ^ 60
-    → Step old (Tick (moment - old.now)) Done new × (new.now ≡ moment)
+pub goes_to : (old new : WorldValue) (outcome : Outcome) (moment : ℕ) → Step old (Tick (moment - old.now.clock)) outcome new → old.now.clock ≤ moment → moment ≤ 2 ^ 60
+    → Step old (Tick (moment - old.now.clock)) Done new × (new.now.clock ≡ moment)
 goes_to old new outcome moment s later fits =
-    let t = ticked_to old new (Tick (moment - old.now)) outcome (moment - old.now) s refl in
-    (subst (λ (x : Outcome). Step old (Tick (moment - old.now)) x new) t.0 s, t.1 ∙ omega arith)
+    let t = ticked_to old new (Tick (moment - old.now.clock)) outcome (moment - old.now.clock) s refl in
+    (subst (λ (x : Outcome). Step old (Tick (moment - old.now.clock)) x new) t.0 s, t.1 ∙ omega arith)
 
 -- ---- refusals
 
@@ -136,12 +139,13 @@ does_named old _ now _ _ n (polls number to new octets p) e = absurd cc
 does_named old _ now _ _ n (polls_nothing number new octets p) e = absurd cc
 
 pub refusal_named : (old new : WorldValue) (event : Event) (outcome : Outcome) (n : ℕ) → Step old event outcome new → outcome ≡ Refused n → (word : List ℕ) × NamesRefusal event n word
-refusal_named old _ _ _ n (ticks ms) e = absurd cc
+refusal_named old _ _ _ n (ticks ms v adv) e = absurd cc
+refusal_named old _ _ _ n (advances ms readings v adv) e = absurd cc
 refusal_named old _ _ _ n (starts number ends s) e = absurd cc
 refusal_named old _ _ _ n (starts_nothing number s) e = absurd cc
 refusal_named old _ _ _ n (crashes number ends s) e = absurd cc
 refusal_named old _ _ _ n (crashes_nothing number s) e = absurd cc
-refusal_named old _ _ _ n (node_does event number node new given p q d) e = does_named node new old.now event given n d (outcome_refused old given n e)
+refusal_named old _ _ _ n (node_does event number node new given p q d) e = does_named node new _ event given n d (outcome_refused old given n e)
 refusal_named old _ _ _ n (node_is_down event number p q) e = absurd cc
 refusal_named old _ _ _ n (no_datagram k p) e = absurd cc
 refusal_named old _ _ _ n (no_end k d p q) e = absurd cc

@@ -47,7 +47,7 @@ abbrev pub Fits : Option WorldValue → Instruction → Type 0
 Fits None (instruction.Config config nodes) = AreFew nodes
 Fits None _ = ⊥
 Fits (Some world) (instruction.Config config nodes) = ⊥
-Fits (Some world) (instruction.At moment) = world.now ≤ moment
+Fits (Some world) (instruction.At moment) = world.now.clock ≤ moment
 Fits (Some world) (instruction.Happens event) = Unit {0}
 Fits (Some world) (instruction.Holders name) = Unit {0}
 
@@ -99,7 +99,7 @@ pub record PrintsHolders (world : WorldValue) (name : NameValue) (text : List �
 pub data Does : Option WorldValue → Instruction → Option WorldValue → List ℕ → Type 0 where
   begins : (config : ConfigValue) (nodes : ℕ) (addrs : List Addr) (world : WorldValue) → AreFew nodes → ArePlaces addrs nodes → IsFresh config addrs world
       → Does None (instruction.Config config nodes) (Some world) []
-  goes_on : (moment : ℕ) (world next : WorldValue) → world.now ≤ moment → Step world (Tick (moment - world.now)) o.Done next → next.now ≡ moment
+  goes_on : (moment : ℕ) (world next : WorldValue) → world.now.clock ≤ moment → Step world (Tick (moment - world.now.clock)) o.Done next → next.now.clock ≡ moment
       → Does (Some world) (instruction.At moment) (Some next) []
   happens : (event : Event) (outcome : Outcome) (world next : WorldValue) (text : List ℕ) → Step world event outcome next → PrintsOutcome event outcome text
       → Does (Some world) (instruction.Happens event) (Some next) (text ++ newline)

@@ -64,7 +64,8 @@ fn does(
     instruction: &Instruction,
     out: &mut String,
 ) -> Result<bool, AllocError>
-    requires { (ms : ℕ) → instruction.now ≢ Instruction.Happens (Event.Tick ms) }
+    requires ticks { (ms : ℕ) → instruction.now ≢ Instruction.Happens (Event.Tick ms) }
+    requires advances { (ms : ℕ) (readings : List ℕ) → instruction.now ≢ Instruction.Happens (Event.Advance ms readings) }
     ensures { IfOk result (λ done. MatchBool done
         ((text : List ℕ) × (string_bytes out.new ≡ string_bytes out.old ++ text)
         × Does (world_of stage.old) instruction.now (world_of stage.new) text)

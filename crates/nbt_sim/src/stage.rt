@@ -22,12 +22,12 @@ const SERVER: u32 = 0x7F00_0001;
 /// The port of the name service (RFC 1002 section 6).
 const PORT: u16 = 137;
 
-/// A world and its clock.
+/// A world and its true clock.
 #[derive(Drop)]
 pub struct Stage {
     world: World,
     clock: Moment,
-    ghost same: { clock ≡ world.now },
+    ghost same: { clock ≡ world.now.clock },
 }
 
 impl Stage {
@@ -52,7 +52,7 @@ impl Stage {
     /// The clock goes on to a moment. Returns whether it isn't before now.
     pub fn go_on(&mut self, moment: Moment) -> bool
         ensures { MatchBool result (Does (Some self.old.world) (instruction.At moment) (Some self.new.world) [])
-            (¬ (self.old.world.now ≤ moment)) }
+            (¬ (self.old.world.now.clock ≤ moment)) }
     {
         if moment < self.clock {
             return false;
@@ -63,9 +63,10 @@ impl Stage {
         true
     }
 
-    /// Something happens, but for the clock, and the line of what came of it is appended.
+    /// Something happens, but for the clocks, and the line of what came of it is appended.
     pub fn happen(&mut self, event: &Event, out: &mut String) -> Result<(), AllocError>
-        requires { (ms : ℕ) → event.now ≢ Event.Tick ms }
+        requires ticks { (ms : ℕ) → event.now ≢ Event.Tick ms }
+        requires advances { (ms : ℕ) (readings : List ℕ) → event.now ≢ Event.Advance ms readings }
         ensures { OnOk result ((text : List ℕ) × (string_bytes out.new ≡ string_bytes out.old ++ text)
             × Does (Some self.old.world) (instruction.Happens event.now) (Some self.new.world) text) }
     {
