@@ -207,12 +207,7 @@ fn after_a_failed_send_the_lease_is_there(rt: HostRuntime) -> Result<(), Fail> {
         Err(Device)
     );
     assert_eq!(&rt; port.failures(), 1);
-    expect_reply(
-        &rt,
-        &mut server,
-        QUERY,
-        "0008 8580 reply FRED NB 60s unique 127.0.0.2",
-    )?;
+    expect_reply(&rt, &mut server, QUERY, FOUND_FOR_60S)?;
     let counts = serve(&rt, &mut port, &mut clock, &mut server, 1)?;
     assert_eq!(&rt; counts.replies, 1);
     expect_sent(&rt, &port, &[(SECOND, REFUSED)])
@@ -238,13 +233,55 @@ fn after_a_failed_receive_nothing_has_changed(rt: HostRuntime) -> Result<(), Fai
     expect_sent(&rt, &port, &[(FIRST, GRANTED), (SECOND, REFUSED)])
 }
 
-/// The call that fails, and the replies of two turns more: one that was not sent is lost, and what has come is not handed
-/// out again.
-const FAILURES: [(u64, u64); 4] = [(0, 2), (1, 1), (2, 1), (3, 0)];
+/// The reply to a query at 60,000, where FRED was leased then.
+const FOUND_FOR_60S: &str = "0008 8580 reply FRED NB 60s unique 127.0.0.2";
+
+/// A call of a server's port that fails, in two turns; the reply to a query after it; the replies of two turns more; and
+/// all that is sent.
+#[derive(Clone, Copy)]
+struct Failure {
+    call: u64,
+    query: &'static str,
+    replies: u64,
+    sent: &'static [Row],
+}
+
+/// A reply that was not sent is lost, and what has come is not handed out again: it was handled, and its lease stays.
+const FAILURES: [Failure; 4] = [
+    Failure {
+        call: 0,
+        query: NOT_FOUND,
+        replies: 2,
+        sent: &[(FIRST, GRANTED), (SECOND, REFUSED)],
+    },
+    Failure {
+        call: 1,
+        query: FOUND_FOR_60S,
+        replies: 1,
+        sent: &[(SECOND, REFUSED)],
+    },
+    Failure {
+        call: 2,
+        query: FOUND_FOR_60S,
+        replies: 1,
+        sent: &[(FIRST, GRANTED), (SECOND, REFUSED)],
+    },
+    Failure {
+        call: 3,
+        query: FOUND_FOR_60S,
+        replies: 0,
+        sent: &[(FIRST, GRANTED)],
+    },
+];
 
 #[test]
 fn a_failure_at_any_call_is_told_once(rt: HostRuntime) -> Result<(), Fail> {
-    for (call, replies) in FAILURES {
+    for Failure {
+        call,
+        query,
+        replies,
+        sent,
+    } in FAILURES {
         let mut port = port(&rt, RIVALS)?;
         port.fail_after(call);
         let mut clock = clock(&rt, &[60_000])?;
@@ -255,9 +292,13 @@ fn a_failure_at_any_call_is_told_once(rt: HostRuntime) -> Result<(), Fail> {
             "{call}"
         );
         assert_eq!(&rt; port.failures(), 1, "{call}");
+        expect_reply(&rt, &mut server, QUERY, query)?;
         let counts = serve(&rt, &mut port, &mut clock, &mut server, 2)?;
         assert_eq!(&rt; counts.replies, replies, "{call}");
+        assert_eq!(&rt; counts.receives, 2, "{call}");
+        assert_eq!(&rt; counts.lost, 0, "{call}");
         assert_eq!(&rt; port.failures(), 1, "{call}");
+        expect_sent(&rt, &port, sent)?;
     }
     Ok(())
 }
@@ -317,6 +358,19 @@ const TO_A_NODE: [Row; 4] = [
     (SERVER, GRANTED_AGAIN),
 ];
 
+/// The request for FRED, the reply to the status request, and the refresh.
+const REQUEST: Row = (SERVER, REGISTRATION);
+
+const STATUS_REPLY: Row = (
+    SECOND,
+    "0009 8400 reply STAR NBSTAT 0s 0041 01 46524544202020202020202020202020 2400 statistics",
+);
+
+const REFRESHING: Row = (
+    SERVER,
+    "0002 4000 two-parts FRED NB again NB 60s unique 127.0.0.2",
+);
+
 const SEEN: [Seen; 4] = [
     Seen::Nothing,
     Seen::Granted(60),
@@ -338,15 +392,7 @@ fn a_name_is_asked_for_granted_and_renewed(rt: HostRuntime) -> Result<(), Fail> 
             expect_sent(&rt, &port, &[(SERVER, REGISTRATION)])?;
         }
     }
-    // The request, the reply to the status request, and the refresh.
-    let status =
-        "0009 8400 reply STAR NBSTAT 0s 0041 01 46524544202020202020202020202020 2400 statistics";
-    let refresh = "0002 4000 two-parts FRED NB again NB 60s unique 127.0.0.2";
-    expect_sent(
-        &rt,
-        &port,
-        &[(SERVER, REGISTRATION), (SECOND, status), (SERVER, refresh)],
-    )?;
+    expect_sent(&rt, &port, &[REQUEST, STATUS_REPLY, REFRESHING])?;
     assert_eq!(&rt;
         node.holds(moment(149_877)?, &want.name),
         Some(Kind::Unique)
@@ -389,6 +435,20 @@ const WITH_A_FAILURE: [Row; 4] = [
     (SERVER, GRANTED_AGAIN),
 ];
 
+/// What a node sends in its turns, by the call of its port that fails, from the first on: the ask and the receive of the
+/// grant; that of the status request and the reply to it; a receive of nothing; the refresh and the receive of the reply to
+/// it. A request that was lost, or whose reply was, is sent again 5,000 ms after it with the same octets; the lost reply to
+/// a status request is not.
+const SENT_WITH_A_FAILURE: [&[Row]; 7] = [
+    &[REQUEST, STATUS_REPLY, REFRESHING],
+    &[REQUEST, REQUEST, STATUS_REPLY, REFRESHING],
+    &[REQUEST, STATUS_REPLY, REFRESHING],
+    &[REQUEST, REFRESHING],
+    &[REQUEST, STATUS_REPLY, REFRESHING],
+    &[REQUEST, STATUS_REPLY, REFRESHING],
+    &[REQUEST, STATUS_REPLY, REFRESHING, REFRESHING],
+];
+
 /// Four turns of a node.
 fn four_turns<R: Abort>(
     rt: &R,
@@ -409,8 +469,7 @@ fn a_node_goes_on_after_a_failure_at_any_call(rt: HostRuntime) -> Result<(), Fai
         60_000, 65_000, 70_000, 75_000, 80_000, 85_000, 90_000, 95_000, 100_000,
     ];
     let want = fred()?;
-    // The ask and the grant; the status request and the reply to it; nothing; the refresh and the reply to it.
-    for call in 0..7 {
+    for (call, sent) in (0..).zip(SENT_WITH_A_FAILURE) {
         let mut port = port(&rt, &WITH_A_FAILURE)?;
         port.fail_after(call);
         let mut clock = clock(&rt, &moments)?;
@@ -421,8 +480,12 @@ fn a_node_goes_on_after_a_failure_at_any_call(rt: HostRuntime) -> Result<(), Fai
             "{call}"
         );
         assert_eq!(&rt; port.failures(), 1, "{call}");
+        // Before the grant has come it doesn't hold the name, and after it no failure loses it.
+        let holds = node.holds(moment(100_000)?, &want.name);
+        assert_eq!(&rt; holds.is_some(), call >= 2, "{call}");
         four_turns(&rt, &mut port, &mut clock, &mut node, &want)?;
         assert_eq!(&rt; port.failures(), 1, "{call}");
+        expect_sent(&rt, &port, sent)?;
         let held = node.holds(moment(149_877)?, &want.name);
         assert_eq!(&rt; held, Some(Kind::Unique), "{call}");
     }
