@@ -130,7 +130,7 @@ const WITH_MEMORY: [(&[&str], &[u8], u8, &[&[u8]]); 9] = [
     ),
 ];
 
-/// Where an allocation is refused, as under `rt try --test --fail-alloc 1..`, nothing but that is told. With all the
+/// Where an allocation is refused, as under `rt try --test --fail-alloc N`, nothing but that is told. With all the
 /// memory there is, the answer is the right one.
 #[test]
 fn memory_that_is_refused(rt: HostRuntime) {

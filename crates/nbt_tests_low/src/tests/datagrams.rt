@@ -429,19 +429,36 @@ fn faults_have_their_places(rt: HostRuntime) -> Result<(), Fail> {
 const QUERY: &[u8] =
     b"\x14\x06\x00\x01\x7F\x00\x00\x02\x00\x8A FEEFEBENCACACACACACACACACACACACA\x00";
 
+/// A later fragment, without names.
+const LATER: &[u8] = b"\x11\x04\x00\x01\x7F\x00\x00\x02\x00\x8A\x00\x05\x00\x09hello";
+
+/// A datagram of each type, as octets with others at some places.
+const WHOLE: &[(&[u8], &[(usize, u8)])] = &[
+    (HELLO, &[(0, 0x10)]),
+    (HELLO, &[]),
+    (HELLO, &[(0, 0x12)]),
+    (LATER, &[]),
+    (NOT_PRESENT, &[]),
+    (QUERY, &[]),
+    (QUERY, &[(0, 0x15)]),
+    (QUERY, &[(0, 0x16)]),
+];
+
 /// Each datagram that is cut short has its fault at its end.
 #[test]
-fn datagrams_cut_at_every_length(rt: HostRuntime) {
-    for octets in [HELLO, QUERY, NOT_PRESENT] {
+fn datagrams_cut_at_every_length(rt: HostRuntime) -> Result<(), Fail> {
+    for (octets, patches) in WHOLE {
+        let octets = patched(&rt, octets, patches)?;
         for place in 0..octets.len() {
             let short = DgramFault {
                 kind: DgramFaultKind::Short,
                 place,
             };
-            assert_eq!(rt; decode(&octets[..place]).err(), Some(short), "{place}");
+            assert_eq!(rt; decode(&octets[..place]).err(), Some(short), "{octets:?}");
         }
-        assert!(rt; decode(octets).is_ok());
+        assert!(rt; decode(&octets).is_ok(), "{octets:?}");
     }
+    Ok(())
 }
 
 #[test]

@@ -130,6 +130,26 @@ fn a_stream_cut_anywhere(rt: HostRuntime) -> Result<(), Fail> {
     Ok(())
 }
 
+/// A packet of each kind that is cut short is no packet yet, and all that came of it is held: with the rest it is the packet.
+#[test]
+fn session_packets_cut_at_every_length(rt: HostRuntime) -> Result<(), Fail> {
+    for (said, text) in &TEXTS {
+        for place in 0..text.len() {
+            let mut stream = Stream::new(rt.alloc());
+            let (cut, rest) = text.split_at(place);
+            assert!(rt;
+                stream.take(cut) == Ok((place, None)),
+                "{said:?} at {place}"
+            );
+            assert!(rt;
+                stream.take(rest) == Ok((rest.len(), Some(packet(&rt, *said)?))),
+                "{said:?} at {place}"
+            );
+        }
+    }
+    Ok(())
+}
+
 /// Octets, what stands at some of their places instead, and the fault that their last octet shows.
 type Fails = (&'static [u8], &'static [(usize, u8)], FaultKind, usize);
 

@@ -65,7 +65,7 @@ fn a_script_of_2_000_events(rt: HostRuntime) -> Result<(), Fail> {
     Ok(())
 }
 
-/// `rt try --test --fail-alloc 1..` refuses each allocation in turn: the script ends there, or the server loses a datagram,
+/// `rt try --test --fail-alloc N` refuses the Nth allocation: the script ends there, or the server loses a datagram,
 /// and what was printed before is as with all the memory there is.
 #[test]
 fn refused_memory_ends_a_script_or_loses_a_datagram(rt: HostRuntime) {

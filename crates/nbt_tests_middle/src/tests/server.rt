@@ -491,7 +491,7 @@ const QUERY_OCTETS: &[u8] =
 const NOT_FOUND_OCTETS: &[u8] =
     b"\x00\x08\x85\x83\x00\x00\x00\x01\x00\x00\x00\x00 EGFCEFEECACACACACACACACACACACACA\x00\x00\x0A\x00\x01\x00\x00\x00\x00\x00\x00";
 
-/// With memory it is granted. `rt try --test --fail-alloc 1..` refuses each allocation in turn: then the server says so,
+/// With memory it is granted. `rt try --test --fail-alloc N` refuses the Nth allocation: where it is the server's, it says so,
 /// has no lease, and grants the same request when it comes again.
 #[test]
 fn refused_memory_is_told_and_the_same_request_is_granted_later(

@@ -491,7 +491,7 @@ fn a_run_of_hundreds_of_events_ends_where_they_do_one_by_one(rt: HostRuntime) ->
     expect_same(&rt, &mut run, &mut stepped)
 }
 
-/// With memory all events are taken. `rt try --test --fail-alloc 1..` refuses each allocation in turn: one that the world
+/// With memory all events are taken. `rt try --test --fail-alloc N` refuses the Nth allocation: one that the world
 /// needed stops the run before its event, which is then taken once more; one that the server needed loses a datagram,
 /// which comes again.
 #[test]
