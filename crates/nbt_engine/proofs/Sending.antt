@@ -32,7 +32,7 @@ other_event (e.Refused rcode) other = λ is. absurd cc
 other_event e.Lost other = λ is. absurd cc
 other_event (e.Freed rcode) other = λ is. absurd cc
 other_event e.Wait other = λ is. absurd cc
-other_event (e.Found entries) other = λ is. absurd cc
+other_event (e.Found entries cut) other = λ is. absurd cc
 other_event e.NotFound other = λ is. absurd cc
 other_event (e.Status names) other = λ is. absurd cc
 
