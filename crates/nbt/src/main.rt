@@ -1,4 +1,4 @@
-//! Runs one command of `nbt`, on the program's words and over its standard input and output.
+//! Runs one command of `nbt`, on the program's words and over its standard input, output and error.
 #![tactic(auto)]
 
 use std::env::Env;
@@ -14,7 +14,15 @@ fn main(rt: HostRuntime) -> ExitCode {
     ExitCode::from(match words(&rt) {
         Ok(words) => {
             let words = words.as_slice();
-            nbt_prog::command_on(&rt, rt.alloc(), words, &mut rt.reader(), &mut writer)
+            let mut errors = rt.stderr();
+            nbt_prog::command_telling(
+                &rt,
+                rt.alloc(),
+                words,
+                &mut rt.reader(),
+                &mut writer,
+                &mut errors,
+            )
         }
         Err(error) => nbt_prog::command_without_words(rt.alloc(), error, &mut writer),
     })

@@ -1,12 +1,13 @@
 //! A name server over UDP and the machine's clock.
 
-ghost use Rattle.std.specs.Prelude.{◌<◌, ◌^◌, OnOk};
+ghost use Rattle.std.specs.Prelude.{◌≤◌, ◌^◌, OnOk};
 ghost use Rattle.std.specs.Io.KnownBytes.{Appends};
 ghost use Rattle.nbt_net.specs.Serve.{Serves, ServesHere, counts_text};
 
 use crate::clock::readable_clock;
 use crate::fault::Fault;
 use crate::port::bound_port;
+use crate::staying::{FOREVER, serve_on};
 use nbt_engine::{Clock, Counts, Port, serve_turns};
 use nbt_lease::Config;
 use nbt_name::Addr;
@@ -27,31 +28,39 @@ pub struct ServeArguments {
     pub turns: Option<u64>,
 }
 
-/// Runs a name server on a UDP port of this machine, over its clock. Where there is no end, it first prints a line that
-/// says that it has begun, and then goes through 2^64 - 1 turns; else it prints what was done, after the last turn. Refused:
-/// `Device` where the port can't be bound, the clock can't be read at first, or a socket fails; `Output` where `writer` fails.
-pub fn run_server<M: Net + time::Clock, W: Write>(
+/// Runs a name server on a UDP port of this machine, over its clock. With a number of turns it goes through them, and prints
+/// what was done, after the last. Where there is no end, it first prints a line that says that it has begun, and then stays
+/// up for 2^61 turns, also where the socket fails: it says so in `errors`, waits 100 ms after each turn that failed, and goes on
+/// with the leases that it has. Refused: `Device` where the port can't be bound, the clock can't be read at first, or the socket
+/// fails, where there is no end 100 turns in a row; `Output` where `writer` fails. What can't be written to `errors` is passed
+/// over.
+pub fn run_server<M: Net + time::Clock, W: Write, E: Write>(
     machine: &M,
     alloc: Global,
     arguments: &ServeArguments,
     writer: &mut W,
+    errors: &mut E,
 ) -> Result<(), Fault>
     ensures { OnOk result (ServesHere arguments.now (W.contents writer.old) (W.contents writer.new)) }
 {
     let mut port = bound_port(machine, arguments.bind)?;
     let mut clock = readable_clock(machine)?;
-    serve(alloc, &mut port, &mut clock, arguments, writer)
+    serve(
+        alloc, &mut port, &mut clock, arguments, writer, machine, errors,
+    )
 }
 
-/// Serves over a port and a clock, and prints what was done; with no end, that it has begun.
-pub fn serve<P: Port, C: Clock, W: Write>(
+/// Serves over a port and a clock, and prints what was done; with no end, that it has begun, and then it stays up.
+pub fn serve<P: Port, C: Clock, W: Write, M: time::Clock, E: Write>(
     alloc: Global,
     port: &mut P,
     clock: &mut C,
     arguments: &ServeArguments,
     writer: &mut W,
+    machine: &M,
+    errors: &mut E,
 ) -> Result<(), Fault>
-    requires few { P.failures port.old < 2 ^ 62 }
+    requires few { P.failures port.old ≤ 2 ^ 61 }
     ensures { OnOk result (Serves P.does C.tells arguments.now
         port.old clock.old (W.contents writer.old) port.new clock.new (W.contents writer.new)) }
 {
@@ -65,7 +74,7 @@ pub fn serve<P: Port, C: Clock, W: Write>(
         }
         None => {
             print_begin(arguments, writer).map_err(|_| Fault::Output)?;
-            serve_turns(port, clock, &mut server, u64::MAX)?;
+            serve_on(port, clock, &mut server, FOREVER, machine, errors)?;
             Ok(())
         }
     }

@@ -20,10 +20,10 @@ pub const FOREVER: u64 = 1 << 61;
 /// profile).
 const WAIT: u64 = 100;
 
-/// The server goes through `turns` turns, as [`serve_turns`] does, and stays up when the port fails: after a turn that
-/// failed it says so in `errors`, the first time of a row, waits 100 ms by the machine's clock, and goes on from where the failure left
-/// it; when the row is over, it says how many they were. Refused with `Device` at the hundredth failure in a row, at once. What
-/// can't be written to `errors` is passed over.
+/// The server goes through `turns` turns, as [`serve_turns`] does, and stays up when the port fails. After a turn that failed
+/// it says so in `errors`, the first time of a row, waits 100 ms by the machine's clock, and goes on from where the failure
+/// left it; when the row is over, it says how many failed. Refused with `Device` at the hundredth failure in a row, at once.
+/// What can't be written to `errors` is passed over.
 pub fn serve_on<P: Port, C: Clock, M: time::Clock, E: Write>(
     port: &mut P,
     clock: &mut C,

@@ -53,9 +53,7 @@ pub fn command<S: AsStr, R: Read, W: Write>(
     conclude(run(alloc, words, reader), writer)
 }
 
-/// Runs the command that `words` name, as [`command`] does, and on this machine those that open sockets too: `serve`,
-/// `node` and `loop`. They write to `writer` as they go on. Status 3 is also that of a port that can't be bound, of a
-/// clock that can't be read at the start of `serve` or `node`, and of a socket that failed.
+/// Runs the command that `words` name, as [`command_telling`] does, and tells nobody which call of the machine failed.
 pub fn command_on<M: Net + time::Clock, S: AsStr, R: Read, W: Write>(
     machine: &M,
     alloc: Global,
@@ -65,8 +63,26 @@ pub fn command_on<M: Net + time::Clock, S: AsStr, R: Read, W: Write>(
 ) -> u8
     ensures bound { result ≤ 4 }
 {
+    command_telling(machine, alloc, words, reader, writer, &mut io::sink())
+}
+
+/// Runs the command that `words` name, as [`command`] does, and on this machine those that open sockets too: `serve`,
+/// `node` and `loop`. They write to `writer` as they go on. Status 3 is also that of a port that can't be bound, of a
+/// clock that can't be read at the start of `serve` or `node`, and of a socket that failed; of `serve --forever` a socket that
+/// fails is said in `errors`, and only the hundredth turn in a row that fails ends the command. What can't be written to
+/// `errors` is passed over.
+pub fn command_telling<M: Net + time::Clock, S: AsStr, R: Read, W: Write, E: Write>(
+    machine: &M,
+    alloc: Global,
+    words: &[S],
+    reader: &mut R,
+    writer: &mut W,
+    errors: &mut E,
+) -> u8
+    ensures bound { result ≤ 4 }
+{
     match arguments::parse_words(alloc, words) {
-        Ok(Request::Serve(arguments)) => serve_on(machine, alloc, &arguments, writer),
+        Ok(Request::Serve(arguments)) => serve_on(machine, alloc, &arguments, writer, errors),
         Ok(Request::Node(arguments)) => node_on(machine, &arguments, writer),
         Ok(Request::Loop(ports)) => {
             let outcome = nbt_loop::run(machine, alloc, ports, writer);
@@ -78,16 +94,17 @@ pub fn command_on<M: Net + time::Clock, S: AsStr, R: Read, W: Write>(
 }
 
 /// Runs a server. With status 0 it went through its turns, and printed what it has to.
-fn serve_on<M: Net + time::Clock, W: Write>(
+fn serve_on<M: Net + time::Clock, W: Write, E: Write>(
     machine: &M,
     alloc: Global,
     arguments: &ServeArguments,
     writer: &mut W,
+    errors: &mut E,
 ) -> u8
     ensures bound { result ≤ 4 }
     ensures done { result ≡ 0 → ServesHere arguments.now (W.contents writer.old) (W.contents writer.new) }
 {
-    match nbt_net::run_server(machine, alloc, arguments, writer) {
+    match nbt_net::run_server(machine, alloc, arguments, writer, errors) {
         Ok(()) => 0,
         Err(fault) => conclude_fault(fault, writer),
     }

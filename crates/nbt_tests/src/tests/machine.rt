@@ -8,9 +8,13 @@ use std::time::{Clock, Duration};
 /// A UDP port of this machine that nobody has: what is sent there comes back as an error.
 const NOBODY: &str = "127.42.22.9:9";
 
+/// When the port is well again, in place of a reading.
+pub const WELL: usize = usize::MAX;
+
 /// Its clock tells these moments, in milliseconds, one a reading, and then the last again; where there are none, it can't
 /// be read. At its `n`th reading the other end sends to `port` what is to be sent then. At the reading `breaks_at` the port
-/// breaks: its next call fails. Where `port` is, whoever binds a UDP port is given that one.
+/// breaks: its next call fails, and the first one after each sleep. After `well_after` sleeps it is well again, for the other
+/// end alone, which sends then what is to be sent at [`WELL`]; and it breaks again at the reading `breaks_again_at`. Where `port` is, whoever binds a UDP port is given that one.
 #[derive(Drop)]
 pub struct Machine<'a, N> {
     pub host: &'a N,
@@ -20,6 +24,9 @@ pub struct Machine<'a, N> {
     pub sends: Vec<(usize, Vec<u8>)>,
     pub breaks_at: usize,
     pub readings: Cell<usize>,
+    pub sleeps: Cell<usize>,
+    pub well_after: usize,
+    pub breaks_again_at: usize,
 }
 
 impl<'a, N: Net<Stream = TcpStream, Listener = TcpListener>> Machine<'a, N> {
@@ -31,10 +38,22 @@ impl<'a, N: Net<Stream = TcpStream, Listener = TcpListener>> Machine<'a, N> {
                     .send_to(octets.as_slice(), self.port.local_addr()?)?;
             }
         }
-        if reading == self.breaks_at {
-            self.port.connect(NOBODY)?;
-            self.port.send(b"x")?;
+        if reading == self.breaks_at || reading == self.breaks_again_at {
+            self.breaks()?;
         }
+        Ok(())
+    }
+
+    /// The port is well again.
+    fn is_well(&self) -> io::Result<()> {
+        self.port.connect(self.other.local_addr()?)?;
+        self.happens(WELL)
+    }
+
+    /// The next call of the port fails.
+    fn breaks(&self) -> io::Result<()> {
+        self.port.connect(NOBODY)?;
+        self.port.send(b"x")?;
         Ok(())
     }
 }
@@ -53,6 +72,17 @@ impl<'a, N: Net<Stream = TcpStream, Listener = TcpListener>> Clock for Machine<'
             Some(ms) => Ok(Duration::from_millis(*ms)),
             None => Err(io::Error::from(io::ErrorKind::Unsupported)),
         }
+    }
+
+    fn sleep(&self, duration: Duration) {
+        if duration == Duration::from_millis(100) {
+            self.sleeps.set(self.sleeps.get().saturating_add(1));
+        }
+        let _ = if self.sleeps.get() == self.well_after {
+            self.is_well()
+        } else {
+            self.breaks()
+        };
     }
 }
 

@@ -1,9 +1,9 @@
 //! The commands `serve` and `node` with another end, over UDP and a clock that is set: what they print and send.
 
 use super::Paper;
-use super::machine::Machine;
+use super::machine::{Machine, WELL};
 use super::terminal::{word_of, words_of};
-use nbt_prog::command_on;
+use nbt_prog::{command_on, command_telling};
 use std::cell::Cell;
 use std::io;
 use std::net::{Net, TcpListener, TcpStream, UdpSocket};
@@ -133,7 +133,7 @@ const SERVERS: [Row; 9] = [
         sent: &[],
     },
     Row {
-        about: "with no end it says that it has begun, and goes on until its port fails",
+        about: "with no end it says that it has begun, and goes on until its port fails 100 times in a row",
         words: "nbt serve 127.42.22.2:20138 1000 60 --forever",
         moments: &[1_000_000, 1_000_000, 1_060_000, 1_060_000],
         sends: &[(1, FIRST), (1, "00")],
@@ -279,8 +279,14 @@ where
         sends,
         breaks_at: row.breaks_at,
         readings: Cell::new(0),
+        sleeps: Cell::new(0),
+        well_after: 0,
+        breaks_again_at: 0,
     })
 }
+
+/// What is said of a server's port that fails, where there is no end.
+const FAILED: &str = "nbt: the port failed; going on\n";
 
 /// Runs a row's command, while the other end sends.
 fn expect_row<R>(rt: &R, row: &Row) -> Result<(), Fail>
@@ -290,18 +296,27 @@ where
     let machine = machine_of(rt, row)?;
     let words = words_of(rt, row.words);
     let mut paper = Paper::new();
-    let status = command_on(
+    let mut errors = Paper::new();
+    let status = command_telling(
         &machine,
         rt.alloc(),
         words.as_slice(),
         &mut io::empty(),
         &mut paper,
+        &mut errors,
     );
     let about = row.about;
     assert_eq!(rt; paper.text.as_slice(), row.text.as_bytes(), "{about}");
     assert_eq!(rt; status, row.status, "{about}");
     assert!(rt; paper.is_line_by_line(), "{about}");
     assert_eq!(rt; machine.readings.get(), row.readings, "{about}");
+    let (text, sleeps) = if row.words.starts_with("nbt serve") && row.words.ends_with("--forever") {
+        (FAILED, 99)
+    } else {
+        ("", 0)
+    };
+    assert_eq!(rt; errors.text.as_slice(), text.as_bytes(), "{about}");
+    assert_eq!(rt; machine.sleeps.get(), sleeps, "{about}");
     expect_sent(rt, row, &machine.other)
 }
 
@@ -334,6 +349,56 @@ fn nodes(rt: HostRuntime) -> Result<(), Fail> {
         expect_row(&rt, row)?;
     }
     Ok(())
+}
+
+/// A query for FRED of the other end, and the reply to it.
+const ASKS_FOR_FRED: &str = "0004_0100_0001_0000_0000_0000_{FRED}_0020_0001";
+
+const HAS_FRED: &str = "0004_8580_0000_0001_0000_0000_{FRED}_0020_0001_0000003c_0006_2000_7f2a1603";
+
+/// A server whose port fails three times in a row, is well again, and then fails for good.
+const OUTLASTS: Row = Row {
+    about: "after three failures it goes on with the leases that it has",
+    words: "nbt serve 127.42.22.2:20138 1000 60 --forever",
+    moments: &[1_000_000, 1_000_000, 1_060_000],
+    sends: &[(1, FIRST), (1, "00"), (WELL, ASKS_FOR_FRED), (WELL, "00")],
+    breaks_at: 4,
+    status: 3,
+    readings: 6,
+    text: "serving 127.42.22.2:20138, silent for 60 s\ndevice\n",
+    sent: &[FIRST_GRANTED, HAS_FRED],
+};
+
+/// What is said of it.
+const OUTLASTED: &str = "nbt: the port failed; going on
+nbt: the port is well again after 3 failures in a row
+nbt: the port failed; going on
+";
+
+#[test]
+fn a_server_stays_up(rt: HostRuntime) -> Result<(), Fail> {
+    let row = &OUTLASTS;
+    let mut machine = machine_of(&rt, row)?;
+    machine.well_after = 3;
+    machine.breaks_again_at = 6;
+    let words = words_of(&rt, row.words);
+    let mut paper = Paper::new();
+    let mut errors = Paper::new();
+    let status = command_telling(
+        &machine,
+        rt.alloc(),
+        words.as_slice(),
+        &mut io::empty(),
+        &mut paper,
+        &mut errors,
+    );
+    assert_eq!(&rt; paper.text.as_slice(), row.text.as_bytes());
+    assert_eq!(&rt; status, row.status);
+    assert_eq!(&rt; errors.text.as_slice(), OUTLASTED.as_bytes());
+    assert_eq!(&rt; machine.readings.get(), row.readings);
+    // One wait after each failure but the last: three, and 99.
+    assert_eq!(&rt; machine.sleeps.get(), 102);
+    expect_sent(&rt, row, &machine.other)
 }
 
 /// The first line of each row of a node.

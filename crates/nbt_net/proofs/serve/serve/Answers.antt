@@ -7,11 +7,13 @@ returns-in-Some g c = record {
   started_clock = c.now-start.new.self;
   first = c.start-server.result;
   last = c.serve_turns.new.server;
-  counts = c.in_ok-counts-in-Some.counts;
   clock_told = c.now-start.ensures;
   is_new = record { start = c.start-server.ensures.start.0; last = c.start-server.ensures.start.1; config_is = c.start-server.ensures.config; empty = c.start-server.ensures.empty };
-  runs = rw c.in-Some.is c.in_ok-counts-in-Some.ensures.ok;
-  printed = rw c.in-Some.is (ok_before c.print_counts.result c.map_err.result c.map_err.ensures.variant _ c.in_ok-map_err-in-Some.was c.print_counts.ensures);
+  serves = rw c.in-Some.is (
+    c.in_ok-counts-in-Some.counts,
+    c.in_ok-counts-in-Some.ensures.ok,
+    ok_before c.print_counts.result c.map_err.result c.map_err.ensures.variant _ c.in_ok-map_err-in-Some.was c.print_counts.ensures,
+  );
 }
 
 pub returns : goal.returns
@@ -19,10 +21,8 @@ returns g c = record {
   start = c.now-start.result;
   started_clock = c.now-start.new.self;
   first = c.start-server.result;
-  last = c.serve_turns-in-None.new.server;
-  counts = c.in_ok-serve_turns-in-None.field-0;
+  last = c.serve_on.new.server;
   clock_told = c.now-start.ensures;
   is_new = record { start = c.start-server.ensures.start.0; last = c.start-server.ensures.start.1; config_is = c.start-server.ensures.config; empty = c.start-server.ensures.empty };
-  runs = rw c.in-None.is c.in_ok-serve_turns-in-None.ensures.ok;
-  printed = rw c.in-None.is tt;
+  serves = rw c.in-None.is c.in_ok-serve_on-in-None.ensures.ok;
 }
