@@ -10,6 +10,7 @@ use crate::both::{begin_in, take_out};
 use crate::ends::Ends;
 use crate::lease::Lease;
 use crate::looks::Looks;
+use crate::members::Members;
 use crate::named::Named;
 use indexmap::IndexMap;
 use nbt_name::Name;
@@ -58,6 +59,16 @@ impl Index {
         match self.members.get(name) {
             Some(named) => named.as_slice(),
             None => &[],
+        }
+    }
+
+    /// Those members of a name that live at `now`, with their least end. One look-up; takes no memory.
+    pub fn live(&self, name: &Name, now: u64) -> Members<'_>
+        ensures { result ≡ filter (is_live now) (members_of self.now name.now) }
+    {
+        match self.members.get(name) {
+            Some(named) => named.live(now),
+            None => Members::new(&[], None, now),
         }
     }
 

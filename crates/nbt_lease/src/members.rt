@@ -1,6 +1,7 @@
 //! The live leases of one name.
 
 ghost use Rattle.std.specs.Prelude.{◌≡◌, filter};
+ghost use Rattle.nbt_lease.specs.Rules.{IsLeastEnd};
 
 use crate::lease::Lease;
 use std::marker::Model;
@@ -9,26 +10,54 @@ use std::marker::Model;
 #[derive(Drop)]
 pub struct Members<'a> {
     leases: &'a [Lease],
+    /// The least end among those that live, where it is known: none is over, and none was read yet.
+    least: Option<u64>,
     now: u64,
 }
 
 impl<'a> Model for Members<'a> {
-    ghost use Rattle.std.specs.Prelude.{List, filter};
+    ghost use Rattle.std.specs.Prelude.{List, filter, Some, IfSome};
     ghost use Rattle.nbt_lease.specs.declared.lease.Lease.{Lease};
     ghost use Rattle.nbt_lease.specs.Lease.{is_live};
+    ghost use Rattle.nbt_lease.specs.Rules.{IsLeastEnd};
 
     ghost Value = { List Lease };
 
     ghost view = { λ m. filter (is_live m.now) m.leases.now };
+
+    ghost invariant = { λ m. IfSome m.least (λ end. IsLeastEnd (filter (is_live m.now) m.leases.now) (Some end)) };
 }
 
 impl<'a> Members<'a> {
     ghost use Rattle.nbt_lease.specs.Lease.{is_live};
 
-    pub(crate) fn new(leases: &'a [Lease], now: u64) -> Members<'a>
+    /// Those of these leases that live at `now`; `least` is the least end of all of them.
+    pub(crate) fn new(leases: &'a [Lease], least: Option<u64>, now: u64) -> Members<'a>
+        requires { IsLeastEnd leases.now least }
         ensures { result ≡ filter (is_live now) leases.now }
     {
-        Members { leases, now }
+        let least = match least {
+            Some(end) if now < end => Some(end),
+            _ => None,
+        };
+        Members { leases, least, now }
+    }
+
+    /// The least end among those that are left, in milliseconds; none where none is left. Takes no memory. The table
+    /// keeps it beside each name, so it is a look-up after a sweep at this moment, while none of them was read; else it
+    /// takes a pass over those that are left.
+    pub fn least_end(&self) -> Option<u64>
+        ensures { IsLeastEnd self.now result }
+    {
+        if self.least.is_some() {
+            return self.least;
+        }
+        let left = Members {
+            leases: self.leases,
+            least: None,
+            now: self.now,
+        };
+        left.map(|lease| lease.end).min()
     }
 }
 
@@ -42,6 +71,7 @@ impl Iterator for Members<'_> {
     ghost remaining = { item_count (λ s. s) };
 
     fn next(&mut self) -> Option<Lease> {
+        self.least = None;
         while let Some((lease, others)) = self.leases.split_first() {
             self.leases = others;
             if self.now < lease.end {

@@ -1,27 +1,34 @@
 //! The members of one name.
 
-ghost use Rattle.std.specs.Prelude.{◌≡◌, ◌+◌, ◌<◌, List, [], ◌∷◌, ◌++◌, length, IfSome, IfNone, OnOk, OnErr, MatchOption};
+ghost use Rattle.std.specs.Prelude.{◌≡◌, ◌≢◌, ◌+◌, ◌<◌, List, [], ◌∷◌, ◌++◌, length, filter, min, unwrap_or, Some, IfSome, IfNone, OnOk, OnErr, MatchOption};
 ghost use Rattle.nbt_lease.specs.declared.lease.Lease.{Lease};
-ghost use Rattle.nbt_lease.specs.Lease.{HasNone};
+ghost use Rattle.nbt_lease.specs.Lease.{HasNone, is_live};
+ghost use Rattle.nbt_lease.specs.Rules.{IsLeastEnd};
 ghost use Rattle.nbt_lease.specs.Index.{IsMember};
 
 use crate::lease::Lease;
+use crate::members::Members;
 use std::alloc::{AllocError, Global};
 use std::marker::Model;
 
-/// The members of one name, in order of their beginnings.
+/// The members of one name, in order of their beginnings, and beside them the least of their ends.
 #[derive(Drop)]
 pub(crate) struct Named {
     leases: Vec<Lease>,
+    /// None where there is no member.
+    least: Option<u64>,
 }
 
 impl Model for Named {
     ghost use Rattle.std.specs.Prelude.{List};
     ghost use Rattle.nbt_lease.specs.declared.lease.Lease.{Lease};
+    ghost use Rattle.nbt_lease.specs.Rules.{IsLeastEnd};
 
     ghost Value = { List Lease };
 
     ghost view = { λ n. n.leases.items };
+
+    ghost invariant = { λ n. IsLeastEnd n.leases.items n.least };
 }
 
 impl Named {
@@ -31,6 +38,7 @@ impl Named {
     {
         Named {
             leases: Vec::new(alloc),
+            least: None,
         }
     }
 
@@ -41,12 +49,20 @@ impl Named {
         self.leases.as_slice()
     }
 
+    /// Those members that live at `now`, with their least end.
+    pub fn live(&self, now: u64) -> Members<'_>
+        ensures { result ≡ filter (is_live now) self.now }
+    {
+        Members::new(self.leases.as_slice(), self.least, now)
+    }
+
     /// Adds a member, which goes last. Where memory is refused, all is as before.
     pub fn push(&mut self, lease: Lease) -> Result<(), AllocError>
         ensures added { OnOk result (self.new ≡ self.old ++ lease ∷ []) }
         ensures unchanged { OnErr result (self.new ≡ self.old) }
     {
         self.leases.push(lease)?;
+        self.least = Some(least_with(self.least, lease.end));
         Ok(())
     }
 
@@ -54,7 +70,10 @@ impl Named {
     pub fn pop(&mut self)
         ensures { (leases : List Lease) (lease : Lease) → self.old ≡ leases ++ lease ∷ [] → self.new ≡ leases }
     {
-        self.leases.pop();
+        let Some(last) = self.leases.pop() else {
+            return;
+        };
+        self.least = least_without(self.leases.as_slice(), self.least, last.end);
     }
 
     /// Takes out the member of this address, if there is one. Takes no memory.
@@ -64,7 +83,9 @@ impl Named {
         ensures unchanged { IfNone result (self.new ≡ self.old) }
     {
         let place = self.place_of(addr)?;
-        Some(self.leases.remove(place))
+        let taken = self.leases.remove(place);
+        self.least = least_without(self.leases.as_slice(), self.least, taken.end);
+        Some(taken)
     }
 
     /// The place of the member of this address, if there is one.
@@ -92,6 +113,28 @@ impl Named {
         requires { place < length self.old }
         ensures { (before : List Lease) (lease : Lease) (behind : List Lease) → self.old ≡ before ++ lease ∷ behind → length before ≡ place → self.new ≡ before ++ record lease { end = end } ∷ behind }
     {
+        let gone = self.leases[place].end;
         self.leases[place].end = end;
+        let least = Some(least_with(self.least, end));
+        self.least = least_without(self.leases.as_slice(), least, gone);
     }
+}
+
+/// The smaller of an end and the least of others, where there are others.
+fn least_with(least: Option<u64>, end: u64) -> u64
+    ensures { result ≡ min (unwrap_or least end) end }
+{
+    least.unwrap_or(end).min(end)
+}
+
+/// The least end of these leases, where it was `least` while one more ended at `gone`. Only where that one had it, it is
+/// found anew, in one pass.
+fn least_without(leases: &[Lease], least: Option<u64>, gone: u64) -> Option<u64>
+    requires { least ≢ Some gone → IsLeastEnd leases.now least }
+    ensures { IsLeastEnd leases.now result }
+{
+    if least != Some(gone) {
+        return least;
+    }
+    leases.iter().map(|lease| lease.end).min()
 }

@@ -144,7 +144,7 @@ impl Table {
         ensures members { result ≡ leases_at now self.now.rows name.now }
         ensures sound { IsSound self.now.config now (leases_at now self.now.rows) }
     {
-        Members::new(self.index.members(name), now.get())
+        self.index.live(name, now.get())
     }
 
     /// The least end among the live leases of the name at `now`, in milliseconds; none where it has no live lease.
@@ -154,7 +154,7 @@ impl Table {
         ensures end { IsLeastEnd (leases_at now self.now.rows name.now) result }
         ensures sound { IsSound self.now.config now (leases_at now self.now.rows) }
     {
-        self.members(now, name).map(|lease| lease.end).min()
+        self.members(now, name).least_end()
     }
 
     /// Takes out the leases that are over at `now`, and no others. The live leases are as before. Takes no memory. `now` is at least

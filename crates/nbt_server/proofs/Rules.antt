@@ -1,5 +1,5 @@
 -- What the code has found, as a line of the server's rules; and that replies have a written form, which is short.
-use Rattle.std.proofs.Common.{◌≡◌, ◌≢◌, Bool, true, false, ℕ, zero, suc, ◌+◌, ◌-◌, ◌++◌, ◌*◌, ◌%◌, ◌<◌, ◌≤◌, List, [], ◌∷◌, take, length, length-append, append_assoc, ◌∙◌, Option, Some, None, Result, Ok, Err, sym, subst, refl, arith}
+use Rattle.std.proofs.Common.{◌≡◌, ◌≢◌, Bool, true, false, ℕ, zero, suc, ◌+◌, ◌-◌, ◌++◌, ◌*◌, ◌%◌, ◌<◌, ◌≤◌, List, [], ◌∷◌, take, length, length-append, append_assoc, append-nil, ap, ◌∙◌, Option, Some, None, Result, Ok, Err, sym, subst, refl, arith}
 use Rattle.std.proofs.lemmas.Bool.{lt-ltb, le-ltb}
 use Rattle.std.proofs.lemmas.List.{length-take}
 use Rattle.std.proofs.lemmas.List.Elements.{All-contains, All-from_recursion}
@@ -148,24 +148,23 @@ lists_next (suc k) written lease rest all some is =
     let left : suc k - 1 ≡ k = omega arith in
     rw left (append_assoc written (entry lease.kind lease.addr) (entries (take k rest)) ∙ is)
 
--- and passed over where there is none
-pub lists_no_more : (room : ℕ) (written : List ℕ) (lease : Lease) (rest : List Lease) (all : List ℕ) → room ≡ 0 → written ++ entries (take room (lease ∷ rest)) ≡ all
-    → written ++ entries (take room rest) ≡ all
-lists_no_more zero written lease rest all none is = is
-lists_no_more (suc k) written lease rest all none is = absurd (omega arith)
+-- where there is none, all that have room are listed
+pub lists_no_more : (written : List ℕ) (room : ℕ) (rest : List Lease) (all : List ℕ) → room ≡ 0 → written ++ entries (take room rest) ≡ all → written ≡ all
+lists_no_more written zero rest all none is = sym (append-nil written) ∙ is
+lists_no_more written (suc k) rest all none is = absurd (omega arith)
 
--- whether there are more leases than have room, found by counting down
-pub record Counts (most room : ℕ) (cut : Bool) (rest all : ℕ) : Type 0 where
-  pub more : cut ≡ true → most < all
-  pub left : cut ≡ false → most + rest ≡ all + room
+no_entries : (room : ℕ) → entries (take room []) ≡ []
+no_entries zero = refl
+no_entries (suc k) = refl
 
-pub counts_next : (most room rest all : ℕ) (cut : Bool) → 0 < room → Counts most room cut (suc rest) all → Counts most (room - 1) cut rest all
-counts_next most room rest all cut some counts = record { more = counts.more; left = λ e. omega (arith, some, counts.left e) }
+-- and so they are where no lease is left
+pub lists_all : (written : List ℕ) (room : ℕ) (rest : List Lease) (all : List ℕ) → rest ≡ [] → written ++ entries (take room rest) ≡ all → written ≡ all
+lists_all written room rest all none is =
+    sym (append-nil written) ∙ (ap (λ (es : List ℕ). written ++ es) (sym (no_entries room)) ∙ (ap (λ (ls : List Lease). written ++ entries (take room ls)) (sym none) ∙ is))
 
-pub counts_no_more : (most room rest all : ℕ) (cut : Bool) → room ≡ 0 → Counts most room cut (suc rest) all → Counts most room true rest all
-counts_no_more most room rest all true none counts = record { more = counts.more; left = λ e. absurd cc }
-counts_no_more most room rest all false none counts = record { more = λ e. omega (arith, none, counts.left refl); left = λ e. absurd cc }
+-- a list is cut where it is longer than what has room
+pub is_longer : (most : ℕ) (leases : List Lease) → most < length leases → nat_lt (length (take most leases)) (length leases) ≡ true
+is_longer most leases more = lt-ltb (length (take most leases)) (length leases) (omega (arith, length-take most leases))
 
-pub cut_is : (most room : ℕ) (cut : Bool) (leases : List Lease) → Counts most room cut 0 (length leases) → cut ≡ nat_lt (length (take most leases)) (length leases)
-cut_is most room true leases counts = sym (lt-ltb (length (take most leases)) (length leases) (omega (arith, counts.more refl, length-take most leases)))
-cut_is most room false leases counts = sym (le-ltb (length (take most leases)) (length leases) (omega (arith, counts.left refl, length-take most leases)))
+pub is_no_longer : (most : ℕ) (leases : List Lease) → length leases ≤ most → nat_lt (length (take most leases)) (length leases) ≡ false
+is_no_longer most leases all = le-ltb (length (take most leases)) (length leases) (omega (arith, length-take most leases))

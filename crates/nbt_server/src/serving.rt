@@ -195,14 +195,18 @@ fn released_rcode(outcome: Released) -> u8
 }
 
 /// Leaves in `out` the response to a query: the first leases of the name, as many as have room, with the seconds until the
-/// first of all its leases ends; or that the name isn't there (RFC 1002 sections 4.2.13 and 4.2.14).
-fn find(table: &Table, now: Moment, id: u16, name: Name, out: &mut ArrayVec<u8, 576>)
-    requires limits { IsConfig table.now.config }
-    requires time { table.now.last ≤ now }
-    ensures { (reply : MessageValue)
-        × ((ip : ℕ) → Serves table.now now ip (query id name) (Some reply) (leases_at now table.now.rows))
+/// first of all its leases ends; or that the name isn't there (RFC 1002 sections 4.2.13 and 4.2.14). Leases that are over
+/// go first, so that the least end is looked up.
+fn find(table: &mut Table, now: Moment, id: u16, name: Name, out: &mut ArrayVec<u8, 576>)
+    requires limits { IsConfig table.old.config }
+    requires time { table.old.last ≤ now }
+    ensures served { (reply : MessageValue)
+        × ((ip : ℕ) → Serves table.old now ip (query id name) (Some reply) (leases_at now table.new.rows))
         × (out.new.items ≡ text reply) × Spells out.new.items reply }
+    ensures config { table.new.config ≡ table.old.config }
+    ensures last { table.new.last ≤ now }
 {
+    table.sweep(now);
     let listed = list(table, now, &name);
     let Some(end) = listed.end else {
         let missing = Message::NotFound {
@@ -242,7 +246,7 @@ struct Listed {
     end: Option<u64>,
 }
 
-/// What there is to say of a name's live leases, by one look-up.
+/// What there is to say of a name's live leases, by one look-up. It reads those that have room, and one more at most.
 fn list(table: &Table, now: Moment, name: &Name) -> Listed
     requires { table.now.last ≤ now }
     ensures entries { result.entries.items ≡ entries (listed name.now (leases_at now table.now.rows name.now)) }
@@ -253,19 +257,25 @@ fn list(table: &Table, now: Moment, name: &Name) -> Listed
 {
     let mut entries = ArrayVec::new();
     let mut room = entries_most(name);
-    let mut cut = false;
-    let mut end: Option<u64> = None;
-    for lease in table.members(now, name) {
-        if room > 0 {
-            let entry = entry_octets(lease.kind, lease.addr);
-            entries.try_extend_from_slice(&entry).unwrap();
-            room -= 1;
-        } else {
-            cut = true;
+    let members = table.members(now, name);
+    let end = members.least_end();
+    for lease in members {
+        if room == 0 {
+            return Listed {
+                entries,
+                cut: true,
+                end,
+            };
         }
-        end = Some(end.unwrap_or(lease.end).min(lease.end));
+        let entry = entry_octets(lease.kind, lease.addr);
+        entries.try_extend_from_slice(&entry).unwrap();
+        room -= 1;
     }
-    Listed { entries, cut, end }
+    Listed {
+        entries,
+        cut: false,
+        end,
+    }
 }
 
 /// Leaves in `out` the written form of a reply, which has no more entries than have room in 576 octets.

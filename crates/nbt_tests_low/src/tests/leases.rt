@@ -27,6 +27,8 @@ enum Step<'a> {
     JoinGrowing(u64, u32, Result<(u32, u64), GrantFault>),
     /// FRED is released by an address.
     Release(u64, u32, Released),
+    /// TEAM is released by an address.
+    Leave(u64, u32, Released),
     /// What is over is taken out.
     Sweep(u64),
     /// The least end of a name's leases.
@@ -36,7 +38,7 @@ enum Step<'a> {
 }
 
 /// The addresses and ends of a name's leases.
-type Leases = ArrayVec<(u32, u64), 40>;
+type Leases = ArrayVec<(u32, u64), 41>;
 
 /// A table of leases, at 0.
 fn table(rt: &HostRuntime, rows: usize) -> Result<Table, Fail> {
@@ -84,6 +86,11 @@ fn ask(rt: &impl Abort, table: &mut Table, step: &Step<'_>) -> Result<(), Fail> 
             let released = table.release(now, &name_of(FRED)?, addr);
             assert_eq!(rt; released, expected, "{step:?}");
         }
+        Step::Leave(ms, addr, expected) => {
+            let now = later(rt, table, ms)?;
+            let released = table.release(now, &name_of(TEAM)?, addr);
+            assert_eq!(rt; released, expected, "{step:?}");
+        }
         Step::Sweep(ms) => {
             let now = later(rt, table, ms)?;
             table.sweep(now);
@@ -112,7 +119,7 @@ fn leases(table: &Table, now: Moment, name: &Name) -> Result<Leases, Fail>
         leases
             .try_push((lease.addr, lease.end))
             .ok()
-            .ok_or("more than 40")?;
+            .ok_or("more than 41")?;
     }
     Ok(leases)
 }
@@ -159,6 +166,7 @@ fn grow(
 ) -> Result<Result<(u32, u64), GrantFault>, Fail> {
     let now = later(rt, table, ms)?;
     let before = leases(table, now, name)?;
+    let least = table.least_end(now, name);
     let answer = grant(rt, table, ms, name, addr, kind, ttl)?;
     if answer != Err(GrantFault::OutOfMemory) {
         return Ok(answer);
@@ -166,6 +174,7 @@ fn grow(
     let now = later(rt, table, ms)?;
     let after = leases(table, now, name)?;
     assert_eq!(rt; after.as_slice(), before.as_slice());
+    assert_eq!(rt; table.least_end(now, name), least);
     grant(rt, table, ms, name, addr, kind, ttl)
 }
 
@@ -325,6 +334,73 @@ fn members_in_order_of_their_beginnings(rt: HostRuntime) -> Result<(), Fail> {
     play(&rt, table(&rt, 4096)?, MEMBERS_IN_ORDER_OF_THEIR_BEGINNINGS)
 }
 
+/// The member with the least end is renewed, then released, then its lease ends; and one that has a later end is.
+const THE_LEAST_END_OF_A_GROUP: &[Step<'static>] = &[
+    Step::Grant(60_000, TEAM, 1, Kind::Group, 10, Ok((10, 70_000))),
+    Step::Grant(60_000, TEAM, 2, Kind::Group, 20, Ok((20, 80_000))),
+    Step::Grant(60_000, TEAM, 3, Kind::Group, 15, Ok((15, 75_000))),
+    Step::Grant(60_000, TEAM, 4, Kind::Group, 40, Ok((40, 100_000))),
+    Step::LeastEnd(60_000, TEAM, Some(70_000)),
+    // A renewal of it, and of one that ends later.
+    Step::Grant(61_000, TEAM, 1, Kind::Group, 60, Ok((60, 121_000))),
+    Step::LeastEnd(61_000, TEAM, Some(75_000)),
+    Step::Grant(61_000, TEAM, 2, Kind::Group, 30, Ok((30, 91_000))),
+    Step::LeastEnd(61_000, TEAM, Some(75_000)),
+    // A release of another, which is none of the group, and of it.
+    Step::Leave(62_000, 5, Released::OfOthers),
+    Step::LeastEnd(62_000, TEAM, Some(75_000)),
+    Step::Leave(62_000, 3, Released::Gone),
+    Step::LeastEnd(62_000, TEAM, Some(91_000)),
+    // Two end at once; one is released.
+    Step::Grant(71_000, TEAM, 6, Kind::Group, 20, Ok((20, 91_000))),
+    Step::Leave(71_000, 2, Released::Gone),
+    Step::LeastEnd(71_000, TEAM, Some(91_000)),
+    // It is over: not yet taken out, and taken out.
+    Step::LeastEnd(91_000, TEAM, Some(100_000)),
+    Step::Sweep(91_000),
+    Step::LeastEnd(91_000, TEAM, Some(100_000)),
+    Step::Members(91_000, TEAM, &[(1, 121_000), (4, 100_000)]),
+    // The last ones go.
+    Step::Leave(92_000, 4, Released::Gone),
+    Step::LeastEnd(92_000, TEAM, Some(121_000)),
+    Step::Leave(92_000, 1, Released::Gone),
+    Step::LeastEnd(92_000, TEAM, None),
+];
+
+#[test]
+fn the_least_end_of_a_group(rt: HostRuntime) -> Result<(), Fail> {
+    play(&rt, table(&rt, 4096)?, THE_LEAST_END_OF_A_GROUP)
+}
+
+/// The 1,000th member's end is the least; it is renewed, the 999th's is it then, and all the others' once that is released.
+const THE_LEAST_END_OF_1_000: &[Step<'static>] = &[
+    Step::Join(60_000, 998, Ok((60, 120_000))),
+    Step::Grant(60_000, TEAM, 999, Kind::Group, 30, Ok((30, 90_000))),
+    Step::Grant(60_000, TEAM, 1_000, Kind::Group, 20, Ok((20, 80_000))),
+    Step::Grant(
+        60_000,
+        TEAM,
+        1_001,
+        Kind::Group,
+        10,
+        Err(GrantFault::GroupFull),
+    ),
+    Step::LeastEnd(60_000, TEAM, Some(80_000)),
+    Step::Grant(61_000, TEAM, 1_000, Kind::Group, 60, Ok((60, 121_000))),
+    Step::LeastEnd(61_000, TEAM, Some(90_000)),
+    Step::Leave(61_000, 999, Released::Gone),
+    Step::LeastEnd(61_000, TEAM, Some(120_000)),
+    Step::Join(62_000, 998, Ok((60, 122_000))),
+    Step::LeastEnd(62_000, TEAM, Some(121_000)),
+    Step::Sweep(121_000),
+    Step::LeastEnd(121_000, TEAM, Some(122_000)),
+];
+
+#[test]
+fn the_least_end_of_1_000(rt: HostRuntime) -> Result<(), Fail> {
+    play(&rt, table(&rt, 4096)?, THE_LEAST_END_OF_1_000)
+}
+
 const A_GROUP_OF_1_000_IS_FULL_BEFORE_A_TABLE_OF_1_000: &[Step<'static>] = &[
     Step::Join(60_000, 1_000, Ok((60, 120_000))),
     Step::Grant(
@@ -442,6 +518,10 @@ const EACH_GROWTH: &[Step<'static>] = &[
     Step::Grant(61_000, FRED, FIRST, Kind::Unique, 10, Ok((10, 90_000))),
     Step::Grow(61_000, FRED, FIRST, Kind::Unique, 60, Ok((60, 121_000))),
     Step::Members(61_000, FRED, &[(FIRST, 121_000)]),
+    // A further member's end is the least; then it is renewed.
+    Step::Grow(61_000, TEAM, 0, Kind::Group, 10, Ok((10, 71_000))),
+    Step::LeastEnd(61_000, TEAM, Some(71_000)),
+    Step::Grow(61_000, TEAM, 0, Kind::Group, 60, Ok((60, 121_000))),
     Step::LeastEnd(120_999, TEAM, Some(121_000)),
     Step::LeastEnd(121_000, TEAM, None),
 ];

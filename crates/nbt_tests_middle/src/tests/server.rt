@@ -221,6 +221,87 @@ fn the_ttl_is_that_of_a_member_that_is_not_listed(rt: HostRuntime) -> Result<(),
     expect(&rt, &mut server, 70_500, FIRST, &query, &all)
 }
 
+const THIRD: u32 = 0x7F000004;
+
+/// The member with the least end renews its lease, the next releases its own, and that of the third ends.
+const LEAST_END_MOVES: [Row; 9] = [
+    (
+        60_000,
+        FIRST,
+        "0001 2900 two-parts TEAM NB again NB 10s group 127.0.0.2",
+        "0001 ad80 reply TEAM NB 10s group 127.0.0.2",
+    ),
+    (
+        60_000,
+        SECOND,
+        "0001 2900 two-parts TEAM NB again NB 00000014 group 127.0.0.3",
+        "0001 ad80 reply TEAM NB 00000014 group 127.0.0.3",
+    ),
+    (
+        60_000,
+        THIRD,
+        "0001 2900 two-parts TEAM NB again NB 30s group 7f000004",
+        "0001 ad80 reply TEAM NB 30s group 7f000004",
+    ),
+    (
+        60_500,
+        FIRST,
+        "0007 0100 one-name TEAM NB",
+        "0007 8580 reply TEAM NB 10s 0012 a000 127.0.0.2 a000 127.0.0.3 a000 7f000004",
+    ),
+    (
+        61_000,
+        FIRST,
+        "0001 4000 two-parts TEAM NB again NB 60s group 127.0.0.2",
+        "0001 ad80 reply TEAM NB 60s group 127.0.0.2",
+    ),
+    (
+        61_000,
+        FIRST,
+        "0007 0100 one-name TEAM NB",
+        "0007 8580 reply TEAM NB 00000013 0012 a000 127.0.0.2 a000 127.0.0.3 a000 7f000004",
+    ),
+    (
+        62_000,
+        SECOND,
+        "0002 3000 two-parts TEAM NB again NB 0s group 127.0.0.3",
+        "0002 b400 reply TEAM NB 0s group 127.0.0.3",
+    ),
+    (
+        62_000,
+        FIRST,
+        "0007 0100 one-name TEAM NB",
+        "0007 8580 reply TEAM NB 0000001c 000c a000 127.0.0.2 a000 7f000004",
+    ),
+    (
+        90_000,
+        FIRST,
+        "0007 0100 one-name TEAM NB",
+        "0007 8580 reply TEAM NB 0000001f group 127.0.0.2",
+    ),
+];
+
+#[test]
+fn the_ttl_is_that_of_the_next_when_the_least_end_moves(rt: HostRuntime) -> Result<(), Fail> {
+    play_each(&rt, &[&LEAST_END_MOVES])
+}
+
+/// The 1,000th member's lease lasts 10 s, and the others' 60 s; then it is renewed.
+#[test]
+fn of_1_000_members_the_last_ends_first(rt: HostRuntime) -> Result<(), Fail> {
+    let mut server = started(&rt, 4096, 0)?;
+    let team = octets(&rt, "TEAM")?;
+    let query = octets(&rt, "0007 0100 one-name TEAM NB")?;
+    for (first, last, seconds) in [(1, 999, "60s"), (1_000, 1_000, "10s"), (1_000, 1_000, "60s")] {
+        let (asks, gives) = joining(&rt, &team, seconds)?;
+        join(&rt, &mut server, first..last + 1, &asks, &gives)?;
+        let ttl = format!(in rt.alloc(); "NB {seconds} 0204")?;
+        let found = spelled(&rt, "0007 8780 reply TEAM", b"", &ttl, 1..87)?;
+        expect(&rt, &mut server, 60_500, FIRST, &query, &found)?;
+    }
+    Ok(())
+}
+
 /// TEAM in the longest scope, three labels of 63 octets and one of 28: its wire form has 255.
 fn team_in_the_longest_scope<R: AllocGlobal>(rt: &R) -> Result<Vec<u8>, Fail> {
     let mut wire = octets(rt, "TEAM")?;

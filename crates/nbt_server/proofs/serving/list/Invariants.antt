@@ -2,8 +2,6 @@ use Rattle.std.proofs.Common.{◌≡◌, ◌++◌, ◌+◌, ◌*◌, length, tak
 use Rattle.nbt_packet.specs.Text.{entries_most}
 use Rattle.nbt_lease.specs.Lease.{leases_at}
 use Rattle.nbt_server.specs.Serving.{entries, listed}
-use Rattle.nbt_server.proofs.Least.{earlier, least_of}
-use Rattle.nbt_server.proofs.Rules.{Counts}
 use Rattle.nbt_server.proofs.serving.list.Given as goal
 
 abbrev pub invariant-loop-lease : goal.invariant-loop-lease
@@ -11,6 +9,5 @@ invariant-loop-lease l =
     (goal.iterator-loop-lease).can_next l.lease-iterator
     × (goal.iterator-loop-lease).is_finite l.lease-iterator
     × (l.entries.items ++ entries (take l.room l.lease-iterator) ≡ entries (listed l.fn.name (leases_at l.fn.now l.fn.table.rows l.fn.name)))
-    × (earlier l.end (least_of l.lease-iterator) ≡ least_of (leases_at l.fn.now l.fn.table.rows l.fn.name))
     × (length l.entries.items + 6 * l.room ≡ 6 * entries_most l.fn.name)
-    × Counts (entries_most l.fn.name) l.room l.cut (length l.lease-iterator) (length (leases_at l.fn.now l.fn.table.rows l.fn.name))
+    × (entries_most l.fn.name + length l.lease-iterator ≡ length (leases_at l.fn.now l.fn.table.rows l.fn.name) + l.room)
