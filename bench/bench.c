@@ -1,7 +1,8 @@
 /* How fast `nbt serve` is, beside a loop in C that only echoes: all in one run, each number the median of five rounds.
  *
- * bench PROGRAM [PORT]: starts PROGRAM as a name server on PORT of 127.0.0.1, and the echo on PORT + 1. Leases last 2 s, so
- * each round registers its names anew. Each reply's id is checked, and of a lookup the address too. */
+ * bench PROGRAM [PORT]: starts PROGRAM as a name server on PORT of 127.0.0.1, and the echo on PORT + 1. Leases last 60 s, are
+ * renewed before each measure that needs them, and are released after it, so that each round registers its names anew. Each
+ * reply's id and flags are checked, and of a lookup the address too. */
 #define _GNU_SOURCE
 #include <arpa/inet.h>
 #include <signal.h>
@@ -16,13 +17,13 @@
 #include <time.h>
 #include <unistd.h>
 
-enum { ROUNDS = 5, NAMES = 4096, GROUP = 1000, SMALL_GROUP = 80, FEW = 10, OUTSTANDING = 32, QUERIES = 40000, NAME_AT = 12, NAME_LENGTH = 34, POINTERS = 990, DATA_AT = 56 };
-enum measure { FEW_NAMES, ALL_NAMES, NOT_THERE, CHAINS, OF_SMALL_GROUP, OF_GROUP, JOINING_SMALL, JOINING, REJOINING, REGISTER, RENEW, ECHO, MEASURES };
+enum { ROUNDS = 5, NAMES = 4096, GROUP = 1000, SMALL_GROUP = 80, FEW = 10, OUTSTANDING = 32, QUERIES = 40000, NAME_AT = 12, NAME_LENGTH = 34, POINTERS = 990, DATA_AT = 56, LEASE = 60 };
+enum measure { FEW_NAMES, ALL_NAMES, NOT_THERE, CHAINS, OF_SMALL_GROUP, OF_GROUP, JOINING_SMALL, JOINING, REJOINING, REJOINING_BACK, REGISTER, RENEW, ECHO, MEASURES };
 
 static const char *const LABELS[MEASURES] = {
     "queries over 10 names", "queries over 4,096 names", "queries for names that aren't there",
     "queries, each after a chain of pointers", "queries of a group of 80", "queries of a group of 1,000",
-    "registrations of 80 members", "registrations of 1,000 members", "renewals of 1,000 members", "registrations of 4,096 names", "renewals of 4,096 names", "the same queries, echoed",
+    "registrations of 80 members", "registrations of 1,000 members", "renewals of 1,000, the first first", "renewals of 1,000, the last first", "registrations of 4,096 names", "renewals of 4,096 names", "the same queries, echoed",
 };
 
 static struct sockaddr_in server, echo_end;
@@ -71,12 +72,13 @@ static size_t put_query(unsigned char *out, uint16_t id, char letter, unsigned n
     return 50;
 }
 
-/* A registration for 2 s of the name with this number, by 127.0.0.1 (RFC 1002 section 4.2.2). */
+/* A registration for LEASE seconds of the name with this number, by 127.0.0.1 (RFC 1002 section 4.2.2). */
 static size_t put_registration(unsigned char *out, uint16_t id, unsigned number) {
     put_query(out, id, 'N', number);
     out[2] = 0x29;
     out[11] = 1;
-    memcpy(out + 50, "\xc0\x0c\0\x20\0\1\0\0\0\2\0\6\x20\0\x7f\0\0\1", 18);
+    memcpy(out + 50, "\xc0\x0c\0\x20\0\1\0\0\0\0\0\6\x20\0\x7f\0\0\1", 18);
+    out[59] = LEASE;
     return 68;
 }
 
@@ -85,7 +87,7 @@ static uint32_t member_ip(unsigned k) {
     return 0x7f010000 + k;
 }
 
-/* The registration for 2 s of a group by a member. */
+/* The same of a group by a member. */
 static size_t put_membership(unsigned char *out, uint16_t id, char letter, unsigned member) {
     size_t length = put_registration(out, id, 0);
     put_name(out + NAME_AT, letter, 0);
@@ -148,42 +150,44 @@ static double queries(const struct sockaddr_in *to, char letter, unsigned names,
     return QUERIES / (seconds() - begun);
 }
 
-/* Registrations a second, of each name from a port of its own, OUTSTANDING at a time. */
-static double registrations(void) {
+/* What is asked for, from a socket each: 4,096 names by one owner, or a group by so many members. */
+struct asked {
+    const int *sockets;
+    unsigned count;
+    char letter;
+};
+
+static const struct asked THE_NAMES = {owner_sockets, NAMES, 'N'}, THE_SMALL_GROUP = {member_sockets, SMALL_GROUP, 'S'}, THE_GROUP = {member_sockets, GROUP, 'T'};
+
+/* The first flags of a registration's reply and of a release's (RFC 1002 sections 4.2.5 and 4.2.10). */
+enum { GRANTED = 0xad80, RELEASED = 0xb400 };
+
+/* Requests a second, from one socket after the other, or from the last one on, OUTSTANDING at a time: registrations, which renew
+ * what is there, or releases. */
+static double ask(const struct asked *asked, int reply, int backwards) {
     unsigned char out[80], in[600];
     double begun = seconds();
-    for (unsigned k = 0; k < NAMES + OUTSTANDING; k++) {
-        if (k < NAMES) {
-            size_t length = put_registration(out, (uint16_t)k, k);
-            if (sendto(owner_sockets[k], out, length, 0, (struct sockaddr *)&server, sizeof server) < 0) fail("sendto");
+    for (unsigned k = 0; k < asked->count + OUTSTANDING; k++) {
+        if (k < asked->count) {
+            unsigned who = backwards ? asked->count - 1 - k : k;
+            size_t length = asked->letter == 'N' ? put_registration(out, (uint16_t)k, who) : put_membership(out, (uint16_t)k, asked->letter, who);
+            if (reply == RELEASED) out[2] = 0x30, out[3] = 0, out[59] = 0;
+            if (sendto(asked->sockets[who], out, length, 0, (struct sockaddr *)&server, sizeof server) < 0) fail("sendto");
         }
         if (k >= OUTSTANDING) {
-            unsigned asked = k - OUTSTANDING;
-            ssize_t length = recv(owner_sockets[asked], in, sizeof in, 0);
+            unsigned id = k - OUTSTANDING, who = backwards ? asked->count - 1 - id : id;
+            ssize_t length = recv(asked->sockets[who], in, sizeof in, 0);
             if (length < 0) lost++;
-            else if (length != 62 || id_of(in) != (uint16_t)asked || in[2] != 0xad || in[3] != 0x80) wrong++;
+            else if (length != 62 || id_of(in) != (uint16_t)id || (in[2] << 8 | in[3]) != reply) wrong++;
         }
     }
-    return NAMES / (seconds() - begun);
+    return asked->count / (seconds() - begun);
 }
 
-/* Registrations a second of a group by so many members, each from its own address, OUTSTANDING at a time. */
-static double memberships(char letter, unsigned members) {
-    unsigned char out[80], in[600];
-    double begun = seconds();
-    for (unsigned k = 0; k < members + OUTSTANDING; k++) {
-        if (k < members) {
-            size_t length = put_membership(out, (uint16_t)k, letter, k);
-            if (sendto(member_sockets[k], out, length, 0, (struct sockaddr *)&server, sizeof server) < 0) fail("sendto");
-        }
-        if (k >= OUTSTANDING) {
-            unsigned asked = k - OUTSTANDING;
-            ssize_t length = recv(member_sockets[asked], in, sizeof in, 0);
-            if (length < 0) lost++;
-            else if (length != 62 || id_of(in) != (uint16_t)asked || in[2] != 0xad || in[3] != 0x80) wrong++;
-        }
-    }
-    return members / (seconds() - begun);
+/* Queries a second, with the leases renewed before. */
+static double queries_of(const struct asked *asked, unsigned names, int flags, const unsigned char *before, size_t before_length) {
+    ask(asked, GRANTED, 0);
+    return queries(&server, asked->letter, names, flags, before, before_length);
 }
 
 /* The resident memory of a process, in kB. */
@@ -198,12 +202,13 @@ static long resident(pid_t pid) {
 }
 
 static pid_t start_server(const char *program, uint16_t port) {
-    char bind_to[32];
+    char bind_to[32], longest[8];
     snprintf(bind_to, sizeof bind_to, "127.0.0.1:%u", port);
+    snprintf(longest, sizeof longest, "%d", LEASE);
     pid_t pid = fork();
     if (pid == 0) {
         freopen("/dev/null", "w", stdout);
-        execl(program, "nbt", "serve", bind_to, "1000", "2", "--forever", (char *)NULL);
+        execl(program, "nbt", "serve", bind_to, "1000", longest, "--forever", (char *)NULL);
         fail(program);
     }
     return pid;
@@ -246,24 +251,26 @@ int main(int count, char **words) {
     lookup_socket = udp_socket(INADDR_LOOPBACK, 0);
     for (unsigned k = 0; k < NAMES; k++) owner_sockets[k] = udp_socket(INADDR_LOOPBACK, 0);
     for (unsigned k = 0; k < GROUP; k++) member_sockets[k] = udp_socket(member_ip(k), 0);
-    sleep(3); /* the server is silent for the longest lease, 2 s */
+    sleep(LEASE + 1); /* the server is silent for the longest lease */
     long before = resident(served), after = 0;
     for (int round = 0; round < ROUNDS; round++) {
-        sleep(3); /* the leases of the last round are over */
-        taken[REGISTER][round] = registrations();
-        taken[RENEW][round] = registrations();
+        taken[REGISTER][round] = ask(&THE_NAMES, GRANTED, 0);
+        taken[RENEW][round] = ask(&THE_NAMES, GRANTED, 0);
         after = resident(served);
-        taken[FEW_NAMES][round] = queries(&server, 'N', FEW, 0x8580, NULL, 0);
-        taken[ALL_NAMES][round] = queries(&server, 'N', NAMES, 0x8580, NULL, 0);
+        taken[FEW_NAMES][round] = queries_of(&THE_NAMES, FEW, 0x8580, NULL, 0);
+        taken[ALL_NAMES][round] = queries_of(&THE_NAMES, NAMES, 0x8580, NULL, 0);
+        taken[CHAINS][round] = queries_of(&THE_NAMES, FEW, 0x8580, chain, chain_length);
+        ask(&THE_NAMES, GRANTED, 0);
         taken[NOT_THERE][round] = queries(&server, 'X', NAMES, 0x8583, NULL, 0);
-        taken[CHAINS][round] = queries(&server, 'N', FEW, 0x8580, chain, chain_length);
-        sleep(3); /* so are the names of this one */
-        taken[JOINING_SMALL][round] = memberships('S', SMALL_GROUP);
-        taken[OF_SMALL_GROUP][round] = queries(&server, 'S', 1, 0x8580, NULL, 0);
-        sleep(3);
-        taken[JOINING][round] = memberships('T', GROUP);
-        taken[REJOINING][round] = memberships('T', GROUP);
-        taken[OF_GROUP][round] = queries(&server, 'T', 1, 0x8780, NULL, 0);
+        ask(&THE_NAMES, RELEASED, 0);
+        taken[JOINING_SMALL][round] = ask(&THE_SMALL_GROUP, GRANTED, 0);
+        taken[OF_SMALL_GROUP][round] = queries_of(&THE_SMALL_GROUP, 1, 0x8580, NULL, 0);
+        ask(&THE_SMALL_GROUP, RELEASED, 0);
+        taken[JOINING][round] = ask(&THE_GROUP, GRANTED, 0);
+        taken[REJOINING][round] = ask(&THE_GROUP, GRANTED, 0);
+        taken[REJOINING_BACK][round] = ask(&THE_GROUP, GRANTED, 1);
+        taken[OF_GROUP][round] = queries_of(&THE_GROUP, 1, 0x8780, NULL, 0);
+        ask(&THE_GROUP, RELEASED, 0);
         taken[ECHO][round] = queries(&echo_end, 'N', NAMES, 0, NULL, 0);
     }
     for (int m = 0; m < MEASURES; m++) {
@@ -280,6 +287,7 @@ int main(int count, char **words) {
     printf("a chain : a query        %.1f    (less than 40)\n", median[FEW_NAMES] / median[CHAINS] - 1);
     printf("80 members : 1,000       %.2f   (less than 3)\n", median[OF_SMALL_GROUP] / median[OF_GROUP]);
     printf("joining 80 : 1,000       %.2f\n", median[JOINING_SMALL] / median[JOINING]);
+    printf("last first : first first %.2f   (what a renewal of the least end takes)\n", median[REJOINING_BACK] / median[REJOINING]);
     kill(served, SIGTERM);
     kill(echo, SIGTERM);
     return 0;

@@ -1,7 +1,9 @@
 -- The least end of leases: found of a list, and kept as members come, go and move.
-use Rattle.std.proofs.Common.{◌≡◌, ◌≢◌, ℕ, suc, ◌<◌, ◌≤◌, List, [], ◌∷◌, ◌++◌, Option, Some, None, unwrap_or, refl, sym, ap, ◌∙◌, subst, length, ⊎_elim, absurd, arith}
+use Rattle.std.proofs.Common.{◌≡◌, ◌≢◌, ℕ, suc, ◌<◌, ◌≤◌, ◌+◌, List, [], ◌∷◌, ◌++◌, Option, Some, None, unwrap_or, refl, sym, ap, ◌∙◌, subst, length, get_or, set, take, drop, ⊎_elim, arith}
 use Rattle.std.proofs.lemmas.Bool.{cases_lt}
+use Rattle.std.proofs.lemmas.List.{take-append-drop, drop_more, take_more, length-take-le}
 use Rattle.std.proofs.lemmas.List.Elements.{All-cons, All-nil, All-head, All-tail, All-weaker}
+use Rattle.std.proofs.Math.Seq.{set-append_seam}
 use Rattle.std.specs.Prelude.{Any, All, min, filter}
 use Rattle.nbt_lease.specs.declared.lease.Lease.{Lease}
 use Rattle.nbt_lease.specs.Lease.{is_live}
@@ -113,6 +115,36 @@ one_moved before behind lease end least is other =
     ∙ (moved (least_of before) lease.end end (least_of behind) (subst (λ (o : Option ℕ). Some (min (unwrap_or o end) end) ≢ Some lease.end) found other)
     ∙ ap (λ (o : Option ℕ). Some (min (unwrap_or o end) end)) (sym found)))
     (least_of_is (before ++ record lease { end = end } ∷ behind))
+
+-- ---- the same of the lease at a place
+
+parted : (leases : List Lease) (i : ℕ) (lease : Lease) → i < length leases → lease ≡ get_or leases i lease → leases ≡ take i leases ++ lease ∷ drop (i + 1) leases
+parted leases i lease within at =
+    sym (take-append-drop i leases) ∙ (ap (λ (ls : List Lease). take i leases ++ ls) (drop_more leases i lease within) ∙ ap (λ (l : Lease). take i leases ++ l ∷ drop (i + 1) leases) (sym at))
+
+pub one_taken : (leases : List Lease) (i : ℕ) (lease : Lease) (least : Option ℕ) → i < length leases → lease ≡ get_or leases i lease → IsLeastEnd leases least → least ≢ Some lease.end
+    → IsLeastEnd (take i leases ++ drop (i + 1) leases) least
+one_taken leases i lease least within at is other =
+    one_fewer (take i leases) (drop (i + 1) leases) lease least (subst (λ (ls : List Lease). IsLeastEnd ls least) (parted leases i lease within at) is) other
+
+set_at : (leases : List Lease) (i : ℕ) (lease new : Lease) → i < length leases → lease ≡ get_or leases i lease → set leases i new ≡ take i leases ++ new ∷ drop (i + 1) leases
+set_at leases i lease new within at =
+    ap (λ (ls : List Lease). set ls i new) (parted leases i lease within at)
+    ∙ (ap (λ (n : ℕ). set (take i leases ++ lease ∷ drop (i + 1) leases) n new) (sym (length-take-le i leases (omega (arith, within))))
+    ∙ set-append_seam (take i leases) lease (drop (i + 1) leases) new)
+
+pub one_set : (leases : List Lease) (i : ℕ) (lease : Lease) (end : ℕ) (least : Option ℕ) → i < length leases → lease ≡ get_or leases i lease → IsLeastEnd leases least → Some (min (unwrap_or least end) end) ≢ Some lease.end
+    → IsLeastEnd (set leases i (record lease { end = end })) (Some (min (unwrap_or least end) end))
+one_set leases i lease end least within at is other =
+    subst (λ (ls : List Lease). IsLeastEnd ls (Some (min (unwrap_or least end) end))) (sym (set_at leases i lease (record lease { end = end }) within at))
+    (one_moved (take i leases) (drop (i + 1) leases) lease end least (subst (λ (ls : List Lease). IsLeastEnd ls least) (parted leases i lease within at) is) other)
+
+-- the leases before a place, and one more
+pub one_on : (leases : List Lease) (i : ℕ) (d : Lease) (least : Option ℕ) → i < length leases → IsLeastEnd (take i leases) least
+    → IsLeastEnd (take (i + 1) leases) (Some (min (unwrap_or least (get_or leases i d).end) (get_or leases i d).end))
+one_on leases i d least within is =
+    subst (λ (ls : List Lease). IsLeastEnd ls (Some (min (unwrap_or least (get_or leases i d).end) (get_or leases i d).end))) (sym (take_more leases i d within))
+    (one_more (take i leases) (get_or leases i d) least is)
 
 -- ---- where none is over
 

@@ -12,7 +12,7 @@ pub struct Members<'a> {
     leases: &'a [Lease],
     /// The least end among those that live, where it is known: none is over, and none was read yet.
     least: Option<u64>,
-    now: u64,
+    moment: u64,
 }
 
 impl<'a> Model for Members<'a> {
@@ -23,9 +23,9 @@ impl<'a> Model for Members<'a> {
 
     ghost Value = { List Lease };
 
-    ghost view = { λ m. filter (is_live m.now) m.leases.now };
+    ghost view = { λ m. filter (is_live m.moment) m.leases.now };
 
-    ghost invariant = { λ m. IfSome m.least (λ end. IsLeastEnd (filter (is_live m.now) m.leases.now) (Some end)) };
+    ghost invariant = { λ m. IfSome m.least (λ end. IsLeastEnd (filter (is_live m.moment) m.leases.now) (Some end)) };
 }
 
 impl<'a> Members<'a> {
@@ -40,7 +40,11 @@ impl<'a> Members<'a> {
             Some(end) if now < end => Some(end),
             _ => None,
         };
-        Members { leases, least, now }
+        Members {
+            leases,
+            least,
+            moment: now,
+        }
     }
 
     /// The least end among those that are left, in milliseconds; none where none is left. Takes no memory. The table
@@ -55,7 +59,7 @@ impl<'a> Members<'a> {
         let left = Members {
             leases: self.leases,
             least: None,
-            now: self.now,
+            moment: self.moment,
         };
         left.map(|lease| lease.end).min()
     }
@@ -74,7 +78,7 @@ impl Iterator for Members<'_> {
         self.least = None;
         while let Some((lease, others)) = self.leases.split_first() {
             self.leases = others;
-            if self.now < lease.end {
+            if self.moment < lease.end {
                 return Some(*lease);
             }
         }

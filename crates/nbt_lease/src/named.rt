@@ -113,8 +113,9 @@ impl Named {
         requires { place < length self.old }
         ensures { (before : List Lease) (lease : Lease) (behind : List Lease) → self.old ≡ before ++ lease ∷ behind → length before ≡ place → self.new ≡ before ++ record lease { end = end } ∷ behind }
     {
-        let gone = self.leases[place].end;
-        self.leases[place].end = end;
+        let lease = &mut self.leases[place];
+        let gone = lease.end;
+        lease.end = end;
         let least = Some(least_with(self.least, end));
         self.least = least_without(self.leases.as_slice(), least, gone);
     }
@@ -136,5 +137,16 @@ fn least_without(leases: &[Lease], least: Option<u64>, gone: u64) -> Option<u64>
     if least != Some(gone) {
         return least;
     }
-    leases.iter().map(|lease| lease.end).min()
+    least_of(leases)
+}
+
+/// The least end of these leases, in one pass.
+fn least_of(leases: &[Lease]) -> Option<u64>
+    ensures { IsLeastEnd leases.now result }
+{
+    let mut least = None;
+    for lease in leases {
+        least = Some(least_with(least, lease.end));
+    }
+    least
 }

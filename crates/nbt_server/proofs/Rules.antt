@@ -10,7 +10,7 @@ use Rattle.nbt_name.specs.Wire.{NameValue}
 use Rattle.nbt_packet.specs.declared.message.Message.{Message}
 use Rattle.nbt_packet.specs.declared.message.Message.TheVariants as code
 use Rattle.nbt_packet.specs.declared.message.Registration.{Registration}
-use Rattle.nbt_packet.specs.Message.{MessageValue, message_of, Fits, query, released}
+use Rattle.nbt_packet.specs.Message.{MessageValue, message_of, Fits, query, released, not_found}
 use Rattle.nbt_packet.specs.Spelling.{HasFewRows}
 use Rattle.nbt_packet.specs.Text.{entry}
 use Rattle.nbt_lease.specs.declared.fault.GrantFault.{GrantFault}
@@ -21,7 +21,7 @@ use Rattle.nbt_lease.specs.declared.lease.Released.{Released}
 use Rattle.nbt_lease.specs.declared.lease.Released.TheVariants as outcomes
 use Rattle.nbt_lease.specs.Lease.{Leases, TableValue, members_most, AreSound, leases_at}
 use Rattle.nbt_lease.specs.Rules.{Grants, IsLeastEnd}
-use Rattle.nbt_server.specs.Serving.{AsksFor, IsOwn, IsForNodes, asked_in, refused_error, refusal, grant_reply, release_rcode, entries, Serves, registers, refuses, refuses_overwrite, releases, refuses_release, finds, finds_none, passes_over}
+use Rattle.nbt_server.specs.Serving.{AsksFor, IsOwn, IsForNodes, asked_in, refused_error, name_error, refusal, found_reply, grant_reply, release_rcode, entries, Serves, registers, refuses, refuses_overwrite, releases, refuses_release, finds, finds_none, passes_over}
 
 -- a reply to a registration or refresh of the sender's own
 pub is_leased : (table : TableValue) (now ip : ℕ) (r : Registration) (result : Result Grant GrantFault) (after : Leases) (reply : MessageValue) → IsOwn ip r.name r.addr
@@ -130,6 +130,19 @@ is_no_query (code.Wait i n ttl) other id name e = absurd cc
 pub is_error : {A E : Type 0} (r : Result A E) → is_ok r ≡ false → IsErr r
 is_error (Ok a) e = absurd cc
 is_error (Err e) is = refl
+
+-- a query leaves the leases as they were, after a sweep too
+pub finds_after : (table : TableValue) (now ip id end : ℕ) (name : NameValue) (after : Leases) → after ≡ leases_at now table.rows → IsLeastEnd (after name) (Some end)
+    → Serves table now ip (query id name) (Some (found_reply id name now end (after name))) after
+finds_after table now ip id end name after same least =
+    subst (λ (ls : Leases). Serves table now ip (query id name) (Some (found_reply id name now end (ls name))) ls) (sym same)
+    (finds id name end (subst (λ (ls : Leases). IsLeastEnd (ls name) (Some end)) same least))
+
+pub finds_none_after : (table : TableValue) (now ip id : ℕ) (name : NameValue) (after : Leases) → after ≡ leases_at now table.rows → after name ≡ []
+    → Serves table now ip (query id name) (Some (not_found id name_error (Some name))) after
+finds_none_after table now ip id name after same none =
+    subst (λ (ls : Leases). Serves table now ip (query id name) (Some (not_found id name_error (Some name))) ls) (sym same)
+    (finds_none id name (subst (λ (ls : Leases). ls name ≡ []) same none))
 
 -- the least end is a lease's, and none ends too late
 pub ends_in_time : (ls : List Lease) (latest end : ℕ) → IsLeastEnd ls (Some end) → AreSound latest ls → end ≤ latest

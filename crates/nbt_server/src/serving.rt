@@ -257,9 +257,9 @@ fn list(table: &Table, now: Moment, name: &Name) -> Listed
 {
     let mut entries = ArrayVec::new();
     let mut room = entries_most(name);
-    let members = table.members(now, name);
-    let end = members.least_end();
-    for lease in members {
+    let leases = table.members(now, name);
+    let end = leases.least_end();
+    for lease in leases {
         if room == 0 {
             return Listed {
                 entries,

@@ -1,6 +1,5 @@
-use Rattle.std.proofs.Common.{List, sym, ap, subst, ◌∙◌}
+use Rattle.std.proofs.Common.{ℕ, sym, ap, subst, ◌∙◌}
 use Rattle.std.specs.List.{filter}
-use Rattle.nbt_lease.specs.declared.lease.Lease.{Lease}
 use Rattle.nbt_lease.specs.Lease.{TableValue, is_live, leases_at, IsSound}
 use Rattle.nbt_lease.specs.Index.{members_of}
 use Rattle.nbt_lease.proofs.Sound.{sound_later}
@@ -9,8 +8,8 @@ use Rattle.nbt_lease.proofs.table.Table.members.Goals as goal
 
 pub returns-clause-members : goal.returns-clause-members
 returns-clause-members c =
-    c.new.ensures
-    ∙ ((λ i. filter (is_live (c.get.ensures.value i)) (c.members.ensures i))
+    c.live.ensures
+    ∙ (ap (λ (n : ℕ). filter (is_live n) (members_of c.self.inside.index c.args.name.now)) c.get.ensures.value
     ∙ (sym (leases_are c.args.now c.self.inside.index c.args.name.now c.self.invariant.0) ∙ ap (λ (v : TableValue). leases_at c.args.now v.rows c.args.name.now) c.self.view_is))
 
 pub returns-clause-sound : goal.returns-clause-sound
