@@ -1,13 +1,13 @@
 -- What the table's changes make of the leases at a moment.
-use Rattle.std.proofs.Common.{◌≡◌, ℕ, ◌≤◌, [], length, refl, sym, ap, ◌∙◌, subst, ⊎_elim, arith}
+use Rattle.std.proofs.Common.{◌≡◌, ℕ, ◌<◌, ◌≤◌, true, false, List, [], ◌∷◌, ◌++◌, length, refl, sym, ap, ◌∙◌, subst, ⊎_elim, arith}
 use Rattle.std.specs.List.{filter}
-use Rattle.std.proofs.lemmas.Bool.{cases_Bool, cond-true, cond-false}
+use Rattle.std.proofs.lemmas.Bool.{cases_Bool, cond-true, cond-false, lt-ltb, le-ltb}
 use Rattle.std.proofs.lemmas.List.Sums.{length-filter, count_by-le-length}
 use Rattle.nbt_name.specs.Wire.{NameValue}
 use Rattle.nbt_lease.specs.declared.lease.Lease.{Lease}
 use Rattle.nbt_lease.specs.Config.{ConfigValue}
 use Rattle.nbt_lease.specs.Lease.{Rows, Leases, is_live, is_name, leases_at, live_count, at_name, latest_end, AreSound, IsSound, group}
-use Rattle.nbt_lease.proofs.Rows.{name_is, none_live, same_leases}
+use Rattle.nbt_lease.proofs.Rows.{name_is, name_again, turned, row_lives, row_of_other, row_over, none_live, leases_at-append, same_leases}
 
 -- ---- rows that are over are taken out
 

@@ -5,7 +5,7 @@ use Rattle.std.specs.Map.{lookup, keys_of}
 use Rattle.nbt_name.specs.Wire.{NameValue}
 use Rattle.nbt_lease.specs.declared.lease.Lease.{Lease}
 use Rattle.nbt_lease.specs.declared.ends.Due.{Due}
-use Rattle.nbt_lease.specs.Lease.{Leases, Rows, is_name, at_name, AreApart}
+use Rattle.nbt_lease.specs.Lease.{Leases, Rows, is_name, at_name, HasNone, AreApart}
 
 -- each name with its members, in order of their beginnings
 abbrev pub Entries : Type 0

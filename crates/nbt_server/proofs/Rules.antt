@@ -1,5 +1,5 @@
 -- What the code has found, as a line of the server's rules; and that replies have a written form, which is short.
-use Rattle.std.proofs.Common.{◌≡◌, ◌≢◌, Bool, true, false, ℕ, zero, suc, ◌+◌, ◌-◌, ◌++◌, ◌*◌, ◌%◌, ◌<◌, ◌≤◌, List, [], ◌∷◌, take, length, length-append, append_assoc, append-nil, ap, ◌∙◌, Option, Some, None, Result, Ok, Err, sym, subst, refl, arith}
+use Rattle.std.proofs.Common.{◌≡◌, ◌≢◌, true, false, ℕ, zero, suc, ◌-◌, ◌++◌, ◌*◌, ◌%◌, ◌<◌, ◌≤◌, List, [], ◌∷◌, take, length, length-append, append_assoc, append-nil, ap, ◌∙◌, Option, Some, None, Result, Ok, Err, sym, subst, refl, arith}
 use Rattle.std.proofs.lemmas.Bool.{lt-ltb, le-ltb}
 use Rattle.std.proofs.lemmas.List.{length-take}
 use Rattle.std.proofs.lemmas.List.Elements.{All-contains, All-from_recursion}

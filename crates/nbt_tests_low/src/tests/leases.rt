@@ -33,6 +33,8 @@ enum Step<'a> {
     Sweep(u64),
     /// The least end of a name's leases.
     LeastEnd(u64, &'a [u8; 16], Option<u64>),
+    /// The least end of those of TEAM's leases that are left after so many.
+    LeastEndAfter(u64, usize, Option<u64>),
     /// The addresses and ends of a name's leases.
     Members(u64, &'a [u8; 16], &'a [(u32, u64)]),
 }
@@ -100,6 +102,15 @@ fn ask(rt: &impl Abort, table: &mut Table, step: &Step<'_>) -> Result<(), Fail> 
             let now = later(rt, table, ms)?;
             let end = table.least_end(now, &name_of(octets)?);
             assert_eq!(rt; end, expected, "{step:?}");
+        }
+        Step::LeastEndAfter(ms, count, expected) => {
+            let now = later(rt, table, ms)?;
+            let team = name_of(TEAM)?;
+            let mut members = table.members(now, &team);
+            for _ in 0..count {
+                members.next();
+            }
+            assert_eq!(rt; members.least_end(), expected, "{step:?}");
         }
         Step::Members(ms, octets, expected) => {
             let now = later(rt, table, ms)?;
@@ -341,6 +352,10 @@ const THE_LEAST_END_OF_A_GROUP: &[Step<'static>] = &[
     Step::Grant(60_000, TEAM, 3, Kind::Group, 15, Ok((15, 75_000))),
     Step::Grant(60_000, TEAM, 4, Kind::Group, 40, Ok((40, 100_000))),
     Step::LeastEnd(60_000, TEAM, Some(70_000)),
+    Step::LeastEndAfter(60_000, 0, Some(70_000)),
+    Step::LeastEndAfter(60_000, 1, Some(75_000)),
+    Step::LeastEndAfter(60_000, 3, Some(100_000)),
+    Step::LeastEndAfter(60_000, 4, None),
     // A renewal of it, and of one that ends later.
     Step::Grant(61_000, TEAM, 1, Kind::Group, 60, Ok((60, 121_000))),
     Step::LeastEnd(61_000, TEAM, Some(75_000)),
@@ -357,6 +372,7 @@ const THE_LEAST_END_OF_A_GROUP: &[Step<'static>] = &[
     Step::LeastEnd(71_000, TEAM, Some(91_000)),
     // It is over: not yet taken out, and taken out.
     Step::LeastEnd(91_000, TEAM, Some(100_000)),
+    Step::LeastEndAfter(91_000, 1, Some(100_000)),
     Step::Sweep(91_000),
     Step::LeastEnd(91_000, TEAM, Some(100_000)),
     Step::Members(91_000, TEAM, &[(1, 121_000), (4, 100_000)]),

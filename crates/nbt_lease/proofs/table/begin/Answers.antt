@@ -1,8 +1,8 @@
-use Rattle.std.proofs.Common.{ℕ, [], ◌∷◌, ◌++◌, Ok, sym, ap, subst, ◌∙◌, arith}
+use Rattle.std.proofs.Common.{◌≡◌, ◌+◌, ℕ, ◌<◌, ◌≤◌, [], ◌∷◌, ◌++◌, length, Err, Ok, sym, ap, subst, ◌∙◌, arith}
 use Rattle.nbt_lease.specs.declared.lease.Lease.{Lease}
-use Rattle.nbt_lease.specs.declared.fault.GrantFault.TheVariants.{TableFull}
+use Rattle.nbt_lease.specs.declared.fault.GrantFault.TheVariants.{TableFull, OutOfMemory}
 use Rattle.nbt_lease.specs.Lease.{at_name}
-use Rattle.nbt_lease.specs.Rules.{table_full}
+use Rattle.nbt_lease.specs.Rules.{begun, end_of, table_full}
 use Rattle.nbt_lease.specs.Index.{members_of}
 use Rattle.nbt_lease.specs.Placing.{Places}
 use Rattle.nbt_lease.proofs.Placing.{refuses, runs_out, begins_lease}

@@ -1,11 +1,12 @@
-use Rattle.std.proofs.Common.{ℕ, length, Option, sym, ap, subst, ◌∙◌, arith}
-use Rattle.std.specs.Option.{IfSome}
+use Rattle.std.proofs.Common.{◌≡◌, ℕ, ◌<◌, ◌≤◌, length, Bool, true, false, Option, Some, Err, Ok, IfOk, refl, sym, ap, subst, ◌∙◌, arith}
+use Rattle.std.specs.Option.{IfSome, IfNone}
 use Rattle.std.proofs.lemmas.Bool.{both_ways}
 use Rattle.nbt_lease.specs.declared.lease.Lease.{Lease}
-use Rattle.nbt_lease.specs.declared.fault.GrantFault.TheVariants.{Active, GroupFull}
+use Rattle.nbt_lease.specs.declared.fault.GrantFault.TheVariants.{Active, GroupFull, OutOfMemory}
 use Rattle.nbt_lease.specs.Lease.{Leases, leases_at, HasNone}
 use Rattle.nbt_lease.specs.Rules.{active, group_full}
 use Rattle.nbt_lease.specs.Index.{members_of, Renewed, Moves}
+use Rattle.nbt_lease.specs.Placing.{Places}
 use Rattle.nbt_lease.proofs.Placing.{ok_is, err_is, none_is, room_left, holds_on, stands_so, none_so, refuses, renews_lease, runs_out_moving}
 use Rattle.nbt_lease.proofs.table.place.Goals as goal
 

@@ -1,8 +1,9 @@
-use Rattle.std.proofs.Common.{◌≡◌, [], length, refl, sym, ap, ◌∙◌}
+use Rattle.std.proofs.Common.{◌≡◌, List, [], length, refl, sym, ap, subst, ◌∙◌, arith}
 use Rattle.std.proofs.lemmas.Bool.{both_ways, eq-eqb}
 use Rattle.std.proofs.lemmas.List.{nil_from_length}
+use Rattle.nbt_lease.specs.declared.lease.Lease.{Lease}
 use Rattle.nbt_lease.specs.declared.lease.Released.TheVariants.{NoLease, OfOthers}
-use Rattle.nbt_lease.specs.Lease.{Leases}
+use Rattle.nbt_lease.specs.Lease.{Leases, leases_at}
 use Rattle.nbt_lease.specs.Rules.{no_lease, of_others}
 use Rattle.nbt_lease.specs.Index.{members_of}
 use Rattle.nbt_lease.proofs.Dues.{same_number}

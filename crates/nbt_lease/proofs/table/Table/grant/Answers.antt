@@ -1,12 +1,12 @@
-use Rattle.std.proofs.Common.{◌≡◌, ◌+◌, ◌*◌, ℕ, Result, Ok, Err, MatchResult, OnErr, sym, ap, subst, ◌∙◌, arith, rules}
+use Rattle.std.proofs.Common.{◌≡◌, ◌+◌, ◌*◌, ◌<◌, ℕ, Result, Ok, Err, MatchResult, OnErr, sym, ap, subst, ◌∙◌, arith, rules}
 use Rattle.std.specs.List.{filter}
 use Rattle.nbt_name.specs.Wire.{NameValue}
 use Rattle.nbt_lease.specs.declared.lease.Grant.{Grant}
 use Rattle.nbt_lease.specs.declared.fault.GrantFault.{GrantFault}
 use Rattle.nbt_lease.specs.declared.fault.GrantFault.TheVariants.{OutOfMemory}
 use Rattle.nbt_lease.specs.Config.{granted}
-use Rattle.nbt_lease.specs.Lease.{TableValue, Leases, is_live, leases_at, IsSound}
-use Rattle.nbt_lease.specs.Rules.{asked, Grants}
+use Rattle.nbt_lease.specs.Lease.{TableValue, Leases, is_live, leases_at, live_count, IsSound}
+use Rattle.nbt_lease.specs.Rules.{asked, end_of, Grants}
 use Rattle.nbt_lease.specs.Index.{members_of, rows_of, AreLive}
 use Rattle.nbt_lease.specs.Placing.{Places, granted_until}
 use Rattle.nbt_lease.proofs.Sound.{sound_later}
