@@ -76,6 +76,25 @@ const FOUND: &str = "0008 8580 reply FRED NB 1s unique 127.0.0.2";
 
 const NOT_FOUND: &str = "0008 8583 reply FRED NULL 0s 0000";
 
+const RELEASE: &str = "0002 3000 two-parts FRED NB again NB 0s unique 127.0.0.2";
+
+/// The worked examples of every kind: registration, refresh, release, query and status request; their replies; and a wait
+/// of 5 s.
+const EVERY_KIND: [&str; 12] = [
+    REGISTRATION,
+    REFRESH,
+    RELEASE,
+    QUERY,
+    "0009 0000 one-name STAR NBSTAT",
+    GRANTED,
+    "0002 b400 reply FRED NB 0s unique 127.0.0.2",
+    "0007 8580 reply TEAM NB 60s 000c a000 127.0.0.2 a000 127.0.0.3",
+    NOT_FOUND,
+    "0008 8583 00000000 00000000",
+    "0009 8400 reply STAR NBSTAT 0s 0041 01 46524544202020202020202020202020 2400 statistics",
+    "0009 bc00 reply FRED NB 00000005 0002 2900",
+];
+
 /// The octets that words say: pieces by their names, and all else in hexadecimal.
 fn octets<R: AllocGlobal>(rt: &R, text: &str) -> Result<Vec<u8>, Fail> {
     let mut octets = Vec::new(rt.alloc());

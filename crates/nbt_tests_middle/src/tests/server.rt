@@ -1,8 +1,8 @@
 //! The server's replies to datagrams: the life of a datagram 1,000 ms, the longest lease 60 s.
 
 use super::{
-    FIRST, FOUND, GRANTED, NOT_FOUND, QUERY, REFRESH, REFUSED, REGISTRATION, RIVAL, SECOND, moment,
-    octets, one_of_many, started,
+    EVERY_KIND, FIRST, FOUND, GRANTED, NOT_FOUND, QUERY, REFRESH, REFUSED, REGISTRATION, RELEASE,
+    RIVAL, SECOND, moment, octets, one_of_many, started,
 };
 use arrayvec::ArrayVec;
 use nbt_name::Addr;
@@ -274,7 +274,7 @@ const RELEASES: [Row; 6] = [
     (
         60_000,
         SECOND,
-        "0002 3000 two-parts FRED NB again NB 0s unique 127.0.0.2",
+        RELEASE,
         "0002 b405 reply FRED NB 0s unique 127.0.0.2",
     ),
     (
@@ -286,7 +286,7 @@ const RELEASES: [Row; 6] = [
     (
         60_000,
         FIRST,
-        "0002 3000 two-parts FRED NB again NB 0s unique 127.0.0.2",
+        RELEASE,
         "0002 b400 reply FRED NB 0s unique 127.0.0.2",
     ),
     (60_000, SECOND, QUERY, NOT_FOUND),
@@ -428,6 +428,39 @@ const NOT_FOR_A_SERVER: [Row; 7] = [
 #[test]
 fn an_overwrite_is_refused_and_what_is_for_nodes_has_no_reply(rt: HostRuntime) -> Result<(), Fail> {
     play_each(&rt, &[&NOT_FOR_A_SERVER])
+}
+
+/// The packets of every kind come from 127.0.0.2 at this moment, cut to each shorter length, and none has a reply.
+fn cut<R: Abort + AllocGlobal>(rt: &R, server: &mut Server, at: u64) -> Result<(), Fail> {
+    for words in EVERY_KIND {
+        let whole = octets(rt, words)?;
+        for length in 0..whole.len() {
+            expect(rt, server, at, FIRST, &whole[..length], b"")?;
+        }
+    }
+    Ok(())
+}
+
+const FREE: [Row; 2] = [
+    (60_000, SECOND, QUERY, NOT_FOUND),
+    (60_000, FIRST, REGISTRATION, GRANTED),
+];
+
+/// FRED's lease is neither longer nor gone.
+const LEASED: [Row; 2] = [
+    (119_999, SECOND, QUERY, FOUND),
+    (120_000, SECOND, QUERY, NOT_FOUND),
+];
+
+#[test]
+fn packets_cut_at_every_length_have_no_reply_and_change_no_lease(
+    rt: HostRuntime,
+) -> Result<(), Fail> {
+    let mut server = started(&rt, 4096, 0)?;
+    cut(&rt, &mut server, 60_000)?;
+    play(&rt, &mut server, &FREE)?;
+    cut(&rt, &mut server, 90_000)?;
+    play(&rt, &mut server, &LEASED)
 }
 
 #[test]

@@ -1,7 +1,7 @@
 //! Worlds, event by event, with what comes of each: a server at 127.0.0.1, nodes at 127.0.0.2 and 127.0.0.3, the life of a
 //! datagram 1,000 ms, the longest lease 60 s.
 
-use super::{REGISTRATION, config, octets};
+use super::{EVERY_KIND, REGISTRATION, config, octets};
 use Does::{Ask, Crash, Deliver, Join, NameStatus, Poll, Release, Resolve, Start, Stranger, Tick};
 use nbt_name::{Addr, Kind, Name};
 use nbt_world::Outcome::{self, Done, Down, Lost, Nobody, Nothing, Refused, Sent, Taken};
@@ -300,6 +300,62 @@ fn strangers_are_heard_and_answered_and_their_datagrams_have_no_number(
     rt: HostRuntime,
 ) -> Result<(), Fail> {
     play_all(&rt, &[(&STRANGERS, &[])])
+}
+
+/// The packets of every kind come from a stranger to an end, cut to each shorter length: they are taken, and none is
+/// replied to.
+fn cut<R: Abort + AllocGlobal>(
+    rt: &R,
+    world: &mut World,
+    from: Addr,
+    to: usize,
+) -> Result<(), Fail> {
+    for words in EVERY_KIND {
+        let whole = octets(rt, words)?;
+        for length in 0..whole.len() {
+            let mut octets = Vec::new(rt.alloc());
+            octets.extend_from_slice(&whole[..length])?;
+            let got = world.step(&Event::Stranger { from, to, octets })?;
+            assert_eq!(rt; got, Taken, "{length} of {words}");
+        }
+    }
+    Ok(())
+}
+
+/// Of a server and the node at 127.0.0.3.
+const UP: [Row; 3] = [
+    (Start(0), Done),
+    (Start(1), Done),
+    (Tick(60_000), Done),
+];
+
+const FREE: [Row; 3] = [
+    (Ask(1, FRED), Sent(0)),
+    (Deliver(0), Sent(1)),
+    (Deliver(1), Taken),
+];
+
+const HELD: [Row; 3] = [
+    (Tick(59_877), Done),
+    (Stranger(FIRST, 0, REGISTRATION), Sent(2)),
+    (Stranger(FIRST, 1, STATUS_REQUEST), Sent(3)),
+];
+
+const STATUS_REQUEST: &str = "0009 0000 one-name STAR NBSTAT";
+
+/// The stranger is 127.0.0.2, whose own names the packets are about.
+#[test]
+fn packets_of_a_stranger_cut_at_every_length_change_no_table(rt: HostRuntime) -> Result<(), Fail> {
+    let mut world = World::new(rt.alloc(), config(4096)?, &[SERVER, SECOND])?;
+    play(&rt, &mut world, &UP)?;
+    cut(&rt, &mut world, FIRST, 0)?;
+    cut(&rt, &mut world, FIRST, 1)?;
+    play(&rt, &mut world, &FREE)?;
+    holders(&rt, &world, FRED, &[1])?;
+    cut(&rt, &mut world, FIRST, 0)?;
+    cut(&rt, &mut world, FIRST, 1)?;
+    play(&rt, &mut world, &HELD)?;
+    holders(&rt, &world, FRED, &[1])
 }
 
 const GROUP: [Row; 10] = [
