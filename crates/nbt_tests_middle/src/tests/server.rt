@@ -304,9 +304,57 @@ const RENEWAL: [Row; 4] = [
     (150_000, SECOND, QUERY, NOT_FOUND),
 ];
 
+/// Each member of a group renews its own.
+const RENEWAL_OF_MEMBERS: [Row; 6] = [
+    (
+        60_000,
+        FIRST,
+        "0001 2900 two-parts TEAM NB again NB 60s group 127.0.0.2",
+        "0001 ad80 reply TEAM NB 60s group 127.0.0.2",
+    ),
+    (
+        60_000,
+        SECOND,
+        "0001 2900 two-parts TEAM NB again NB 60s group 127.0.0.3",
+        "0001 ad80 reply TEAM NB 60s group 127.0.0.3",
+    ),
+    (
+        90_000,
+        FIRST,
+        "0001 4000 two-parts TEAM NB again NB 60s group 127.0.0.2",
+        "0001 ad80 reply TEAM NB 60s group 127.0.0.2",
+    ),
+    (
+        90_500,
+        SECOND,
+        "0001 4000 two-parts TEAM NB again NB 60s group 127.0.0.3",
+        "0001 ad80 reply TEAM NB 60s group 127.0.0.3",
+    ),
+    (
+        149_999,
+        FIRST,
+        "0007 0100 one-name TEAM NB",
+        "0007 8580 reply TEAM NB 1s 000c a000 127.0.0.2 a000 127.0.0.3",
+    ),
+    (
+        150_000,
+        FIRST,
+        "0007 0100 one-name TEAM NB",
+        "0007 8580 reply TEAM NB 1s 0006 a000 127.0.0.3",
+    ),
+];
+
+/// So does a registration that comes again.
+const REGISTERED_AGAIN: [Row; 4] = [
+    (60_000, FIRST, REGISTRATION, GRANTED),
+    (90_000, FIRST, REGISTRATION, GRANTED),
+    (149_999, SECOND, QUERY, FOUND),
+    (150_000, SECOND, QUERY, NOT_FOUND),
+];
+
 #[test]
 fn a_refresh_extends_its_senders_own_lease(rt: HostRuntime) -> Result<(), Fail> {
-    play_each(&rt, &[&RENEWAL])
+    play_each(&rt, &[&RENEWAL, &RENEWAL_OF_MEMBERS, &REGISTERED_AGAIN])
 }
 
 const SHORTER_RENEWAL: [Row; 4] = [

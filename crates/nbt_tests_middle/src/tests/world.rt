@@ -1,7 +1,7 @@
 //! Worlds, event by event, with what comes of each: a server at 127.0.0.1, nodes at 127.0.0.2 and 127.0.0.3, the life of a
 //! datagram 1,000 ms, the longest lease 60 s.
 
-use super::{EVERY_KIND, REGISTRATION, config, octets};
+use super::{EVERY_KIND, REGISTRATION, config, octets, one_of_many};
 use Does::{Ask, Crash, Deliver, Join, NameStatus, Poll, Release, Resolve, Start, Stranger, Tick};
 use nbt_name::{Addr, Kind, Name};
 use nbt_world::Outcome::{self, Done, Down, Lost, Nobody, Nothing, Refused, Sent, Taken};
@@ -343,11 +343,17 @@ const HELD: [Row; 3] = [
 
 const STATUS_REQUEST: &str = "0009 0000 one-name STAR NBSTAT";
 
+/// A world without a node at 127.0.0.2, where a stranger is: its server and its node are up, and the silence is over.
+fn with_a_stranger<R: Abort + AllocGlobal>(rt: &R) -> Result<World, Fail> {
+    let mut world = World::new(rt.alloc(), config(4096)?, &[SERVER, SECOND])?;
+    play(rt, &mut world, &UP)?;
+    Ok(world)
+}
+
 /// The stranger is 127.0.0.2, whose own names the packets are about.
 #[test]
 fn packets_of_a_stranger_cut_at_every_length_change_no_table(rt: HostRuntime) -> Result<(), Fail> {
-    let mut world = World::new(rt.alloc(), config(4096)?, &[SERVER, SECOND])?;
-    play(&rt, &mut world, &UP)?;
+    let mut world = with_a_stranger(&rt)?;
     cut(&rt, &mut world, FIRST, 0)?;
     cut(&rt, &mut world, FIRST, 1)?;
     play(&rt, &mut world, &FREE)?;
@@ -545,6 +551,40 @@ fn a_run_of_hundreds_of_events_ends_where_they_do_one_by_one(rt: HostRuntime) ->
     let mut run = world(&rt)?;
     assert_eq!(&rt; run.run(list.as_slice()), Ok(()));
     expect_same(&rt, &mut run, &mut stepped)
+}
+
+/// The registrations of 4,096 names by the stranger at 127.0.0.2.
+fn registrations<R: AllocGlobal>(rt: &R) -> Result<Vec<Event>, Fail> {
+    let head = octets(rt, "2900 two-parts")?;
+    let tail = octets(rt, "00 NB again NB 60s unique 127.0.0.2")?;
+    let mut events = Vec::new(rt.alloc());
+    for number in 0..4096 {
+        events.push(Event::Stranger {
+            from: FIRST,
+            to: 0,
+            octets: one_of_many(rt, number, head.as_slice(), tail.as_slice())?,
+        })?;
+    }
+    Ok(events)
+}
+
+/// One by one each of these is replied to.
+fn expect_replies<R: Abort + AllocGlobal>(rt: &R, events: &[Event]) -> Result<(), Fail> {
+    let mut world = with_a_stranger(rt)?;
+    for (number, event) in events.iter().enumerate() {
+        assert_eq!(rt; world.step(event)?, Sent(number));
+    }
+    Ok(())
+}
+
+#[test]
+fn nothing_lost_in_a_world(rt: HostRuntime) -> Result<(), Fail> {
+    let events = registrations(&rt)?;
+    expect_replies(&rt, events.as_slice())?;
+    // In a run they are too: the next datagram has the number of as many.
+    let mut world = with_a_stranger(&rt)?;
+    assert_eq!(&rt; world.run(events.as_slice()), Ok(()));
+    play(&rt, &mut world, &[(Resolve(1, FRED), Sent(4096))])
 }
 
 /// With memory all events are taken. `rt try --test --fail-alloc N` refuses the Nth allocation: one that the world
