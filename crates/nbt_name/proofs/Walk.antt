@@ -12,7 +12,7 @@ Path-push u (here s) step = onward s u u step (here u)
 Path-push u (onward s t v first others) step = onward s t u first (Path-push u others step)
 
 pub steps-push : {form : Form} {octets : List ℕ} {s t : Spot} (u : Spot) (p : Path form octets s t) (step : Step form octets t u) → steps_on (Path-push u p step) ≡ suc (steps_on p)
-unfolding Path-push, steps_on
+unfolding Path-push steps_on
 steps-push u (here s) step = refl
 steps-push u (onward s t v first others) step = ap suc (steps-push u others step)
 

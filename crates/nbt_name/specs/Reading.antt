@@ -68,7 +68,7 @@ pub data Path (form : Form) (octets : List ℕ) : Spot → Spot → Type 0 where
   onward : (s t u : Spot) → Step form octets s t → Path form octets t u → Path form octets s u
 
 -- how many they are: labels passed and pointers followed
-pub steps_on : {form : Form} {octets : List ℕ} {s t : Spot} → Path form octets s t → ℕ
+unfoldable pub steps_on : {form : Form} {octets : List ℕ} {s t : Spot} → Path form octets s t → ℕ
 steps_on (here s) = 0
 steps_on (onward s t u step others) = suc (steps_on others)
 

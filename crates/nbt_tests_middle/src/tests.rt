@@ -18,10 +18,10 @@ const FIRST: u32 = 0x7F000002;
 const SECOND: u32 = 0x7F000003;
 
 /// Pieces of packets by their names (RFC 1002 section 4.2). `FRED`, `TEAM` and `STAR` are names on the wire, and `again`
-/// is a pointer to the question's; `NB`, `NULL` and `NBSTAT` are a type and the class; `one-name` and `two-parts` are the
+/// is a pointer to the question's; the longest scope is three labels of 63 octets and one of 28, so that the name has 255; `NB`, `NULL` and `NBSTAT` are a type and the class; `one-name` and `two-parts` are the
 /// counts of a request, `reply` those of a response; `unique` and `group` are the length of an address entry and its
 /// NB_FLAGS, and `statistics` those of a status response; `-` is nothing.
-const PIECES: [(&str, &str); 22] = [
+const PIECES: [(&str, &str); 23] = [
     ("-", ""),
     (
         "FRED",
@@ -34,6 +34,10 @@ const PIECES: [(&str, &str); 22] = [
     (
         "STAR",
         "20434b41414141414141414141414141414141414141414141414141414141414100",
+    ),
+    (
+        "TEAM-in-the-longest-scope",
+        "20464545464542454e4341434143414341434143414341434143414341434143413f6161616161616161616161616161616161616161616161616161616161616161616161616161616161616161616161616161616161616161616161616161613f6161616161616161616161616161616161616161616161616161616161616161616161616161616161616161616161616161616161616161616161616161613f6161616161616161616161616161616161616161616161616161616161616161616161616161616161616161616161616161616161616161616161616161611c6161616161616161616161616161616161616161616161616161616100",
     ),
     ("again", "c00c"),
     ("NB", "00200001"),
@@ -136,6 +140,18 @@ fn one_of_many<R: AllocGlobal>(
     octets.extend_from_slice(&letters)?;
     octets.extend_from_slice(tail)?;
     Ok(octets)
+}
+
+/// The same, where the head and the tail are words.
+fn one_of_many_in_words<R: AllocGlobal>(
+    rt: &R,
+    number: u16,
+    head: &str,
+    tail: &str,
+) -> Result<Vec<u8>, Fail> {
+    let head = octets(rt, head)?;
+    let tail = octets(rt, tail)?;
+    one_of_many(rt, number, head.as_slice(), tail.as_slice())
 }
 
 fn moment(at: u64) -> Result<Moment, Fail> {

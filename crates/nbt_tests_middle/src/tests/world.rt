@@ -323,11 +323,7 @@ fn cut<R: Abort + AllocGlobal>(
 }
 
 /// Of a server and the node at 127.0.0.3.
-const UP: [Row; 3] = [
-    (Start(0), Done),
-    (Start(1), Done),
-    (Tick(60_000), Done),
-];
+const UP: [Row; 3] = [(Start(0), Done), (Start(1), Done), (Tick(60_000), Done)];
 
 const FREE: [Row; 3] = [
     (Ask(1, FRED), Sent(0)),

@@ -1,4 +1,5 @@
 use Rattle.std.proofs.Common.{refl, sym, ap, subst, arith, ℕ, ◌+◌}
+use Rattle.std.proofs.lemmas.Result.{err_from_is_err_and}
 use Rattle.nbt_name.specs.declared.reader.Reader.{Reader}
 use Rattle.nbt_name.specs.Wire.{IsName, AreOctets, name_of}
 use Rattle.nbt_name.specs.Reading.{Spot}
@@ -38,7 +39,9 @@ from_parts-requires g c =
     subst (λ (r : Reader). IsName (name_of c.in-Closed.sixteen r.scope.items)) (sym turned.0) name
 
 pub returns-in_err-progress-clause-refused : goal.returns-in_err-progress-clause-refused
-returns-in_err-progress-clause-refused g c = refused_in_steps c.steps.invariant.on_path c.in_err-progress.ensures
+returns-in_err-progress-clause-refused g c =
+    let p = err_from_is_err_and c.from_residual.result c.from_residual.ensures.1 in
+    rw (p.1, p.2) (refused_in_steps c.steps.invariant.on_path c.in_err-progress.ensures)
 
 pub returns-in_err-progress-clause-most : goal.returns-in_err-progress-clause-most
 returns-in_err-progress-clause-most g c = omega (arith, turns_bounded c.args.octets.now c.args.steps.now c.args.place c.steps.steps (spot_of c.steps.reader) c.requires c.steps.invariant.counted)
