@@ -169,7 +169,8 @@ Shows what the octets...
 ";
 
 /// A registration of FRED.
-const REGISTRATION: &str = "0001_2900_0001_0000_0000_0001_{FRED}_0020_0001_c00c_0020_0001_0000003c_0006_2000_7f000002";
+const REGISTRATION: &str =
+    "0001_2900_0001_0000_0000_0001_{FRED}_0020_0001_c00c_0020_0001_0000003c_0006_2000_7f000002";
 
 /// Of each shorter length: the octets end where one is missing.
 #[test]

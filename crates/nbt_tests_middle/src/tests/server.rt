@@ -212,11 +212,15 @@ const A_THOUSAND: [Step; 3] = [
     Step::Join(998, 998, JOINING, JOINED),
 ];
 
+/// Two members join and are found, and then as many as there may be.
+fn grow_to_a_thousand<R: Abort + AllocGlobal>(rt: &R, server: &mut Server) -> Result<(), Fail> {
+    play(rt, server, &TWO_MEMBERS)?;
+    play_group(rt, server, &A_THOUSAND)
+}
+
 #[test]
 fn a_group_has_1_000_members_and_is_found_in_their_order(rt: HostRuntime) -> Result<(), Fail> {
-    let mut server = started(&rt, 4096, 0)?;
-    play(&rt, &mut server, &TWO_MEMBERS)?;
-    play_group(&rt, &mut server, &A_THOUSAND)
+    grow_to_a_thousand(&rt, &mut started(&rt, 4096, 0)?)
 }
 
 /// 86 entries, of 0x0204 octets, have room beside a name without a scope: (576 - 22 - 34) / 6.
@@ -571,15 +575,19 @@ const LEASED: [Row; 2] = [
     (120_000, SECOND, QUERY, NOT_FOUND),
 ];
 
+/// They come before a lease and while it lives.
+fn cut_before_and_after<R: Abort + AllocGlobal>(rt: &R, server: &mut Server) -> Result<(), Fail> {
+    cut(rt, server, 60_000)?;
+    play(rt, server, &FREE)?;
+    cut(rt, server, 90_000)?;
+    play(rt, server, &LEASED)
+}
+
 #[test]
 fn packets_cut_at_every_length_have_no_reply_and_change_no_lease(
     rt: HostRuntime,
 ) -> Result<(), Fail> {
-    let mut server = started(&rt, 4096, 0)?;
-    cut(&rt, &mut server, 60_000)?;
-    play(&rt, &mut server, &FREE)?;
-    cut(&rt, &mut server, 90_000)?;
-    play(&rt, &mut server, &LEASED)
+    cut_before_and_after(&rt, &mut started(&rt, 4096, 0)?)
 }
 
 /// A datagram at a moment before the last one is refused, and has no reply.
@@ -595,16 +603,20 @@ fn expect_back<R: Abort>(rt: &R, server: &mut Server, at: u64) -> Result<(), Fai
     Ok(())
 }
 
+/// Moments go back in the silence and after it.
+fn go_back<R: Abort + AllocGlobal>(rt: &R, server: &mut Server) -> Result<(), Fail> {
+    expect(rt, server, 10_000, FIRST, REGISTRATION_OCTETS, b"")?;
+    expect_back(rt, server, 9_999)?;
+    play(rt, server, &AFTER_THE_SILENCE)?;
+    expect_back(rt, server, 59_000)?;
+    assert!(rt; server.last() == moment(60_000)?);
+    Ok(())
+}
+
 #[test]
 fn a_moment_that_goes_back_is_refused_in_the_silence_too(rt: HostRuntime) -> Result<(), Fail> {
-    let mut server = started(&rt, 4096, 0)?;
-    expect(&rt, &mut server, 10_000, FIRST, REGISTRATION_OCTETS, b"")?;
-    expect_back(&rt, &mut server, 9_999)?;
-    play(&rt, &mut server, &AFTER_THE_SILENCE)?;
-    expect_back(&rt, &mut server, 59_000)?;
     assert_eq!(&rt; ServerFault::ClockBack.number(), 1);
-    assert!(&rt; server.last() == moment(60_000)?);
-    Ok(())
+    go_back(&rt, &mut started(&rt, 4096, 0)?)
 }
 
 /// A name of many registers, and gets its reply: the flags and counts of the reply, and what comes after its name.

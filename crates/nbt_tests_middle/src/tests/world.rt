@@ -339,25 +339,28 @@ const HELD: [Row; 3] = [
 
 const STATUS_REQUEST: &str = "0009 0000 one-name STAR NBSTAT";
 
-/// A world without a node at 127.0.0.2, where a stranger is: its server and its node are up, and the silence is over.
-fn with_a_stranger<R: Abort + AllocGlobal>(rt: &R) -> Result<World, Fail> {
-    let mut world = World::new(rt.alloc(), config(4096)?, &[SERVER, SECOND])?;
-    play(rt, &mut world, &UP)?;
-    Ok(world)
+/// A world without a node at 127.0.0.2, where a stranger is.
+fn with_a_stranger<R: AllocGlobal>(rt: &R) -> Result<World, Fail> {
+    Ok(World::new(rt.alloc(), config(4096)?, &[SERVER, SECOND])?)
+}
+
+/// They come before the node asks for a name and while it holds it.
+fn cut_before_and_after<R: Abort + AllocGlobal>(rt: &R, world: &mut World) -> Result<(), Fail> {
+    play(rt, world, &UP)?;
+    cut(rt, world, FIRST, 0)?;
+    cut(rt, world, FIRST, 1)?;
+    play(rt, world, &FREE)?;
+    holders(rt, world, FRED, &[1])?;
+    cut(rt, world, FIRST, 0)?;
+    cut(rt, world, FIRST, 1)?;
+    play(rt, world, &HELD)?;
+    holders(rt, world, FRED, &[1])
 }
 
 /// The stranger is 127.0.0.2, whose own names the packets are about.
 #[test]
 fn packets_of_a_stranger_cut_at_every_length_change_no_table(rt: HostRuntime) -> Result<(), Fail> {
-    let mut world = with_a_stranger(&rt)?;
-    cut(&rt, &mut world, FIRST, 0)?;
-    cut(&rt, &mut world, FIRST, 1)?;
-    play(&rt, &mut world, &FREE)?;
-    holders(&rt, &world, FRED, &[1])?;
-    cut(&rt, &mut world, FIRST, 0)?;
-    cut(&rt, &mut world, FIRST, 1)?;
-    play(&rt, &mut world, &HELD)?;
-    holders(&rt, &world, FRED, &[1])
+    cut_before_and_after(&rt, &mut with_a_stranger(&rt)?)
 }
 
 const GROUP: [Row; 10] = [
@@ -565,22 +568,34 @@ fn registrations<R: AllocGlobal>(rt: &R) -> Result<Vec<Event>, Fail> {
 }
 
 /// One by one each of these is replied to.
-fn expect_replies<R: Abort + AllocGlobal>(rt: &R, events: &[Event]) -> Result<(), Fail> {
-    let mut world = with_a_stranger(rt)?;
+fn expect_replies<R: Abort + AllocGlobal>(
+    rt: &R,
+    world: &mut World,
+    events: &[Event],
+) -> Result<(), Fail> {
+    play(rt, world, &UP)?;
     for (number, event) in events.iter().enumerate() {
         assert_eq!(rt; world.step(event)?, Sent(number));
     }
     Ok(())
 }
 
+/// In a run they are too: the next datagram has the number of as many.
+fn expect_as_many<R: Abort + AllocGlobal>(
+    rt: &R,
+    world: &mut World,
+    events: &[Event],
+) -> Result<(), Fail> {
+    play(rt, world, &UP)?;
+    assert_eq!(rt; world.run(events), Ok(()));
+    play(rt, world, &[(Resolve(1, FRED), Sent(4096))])
+}
+
 #[test]
 fn nothing_lost_in_a_world(rt: HostRuntime) -> Result<(), Fail> {
     let events = registrations(&rt)?;
-    expect_replies(&rt, events.as_slice())?;
-    // In a run they are too: the next datagram has the number of as many.
-    let mut world = with_a_stranger(&rt)?;
-    assert_eq!(&rt; world.run(events.as_slice()), Ok(()));
-    play(&rt, &mut world, &[(Resolve(1, FRED), Sent(4096))])
+    expect_replies(&rt, &mut with_a_stranger(&rt)?, events.as_slice())?;
+    expect_as_many(&rt, &mut with_a_stranger(&rt)?, events.as_slice())
 }
 
 /// With memory all events are taken. `rt try --test --fail-alloc N` refuses the Nth allocation: one that the world
