@@ -1,11 +1,36 @@
--- How many steps a reader makes: fewer than 112 labels fit into a name, and between two labels each pointer leads to a smaller place.
-use Rattle.std.proofs.Common.{◌≡◌, ℕ, suc, ◌+◌, ◌*◌, ◌≤◌, List, [], ◌∷◌, length, ap, arith}
+-- How many steps a reader makes: those of its path. Fewer than 112 labels fit into a name, and between two labels each pointer leads to a
+-- smaller place.
+use Rattle.std.proofs.Common.{◌≡◌, ℕ, suc, ◌+◌, ◌*◌, ◌≤◌, List, [], ◌∷◌, length, sym, ap, subst, arith}
 use Rattle.std.specs.Prelude.{slice_range}
 use Rattle.std.proofs.Math.Nat.{mul-le-mul_right}
 use Rattle.std.proofs.lemmas.List.{length-append}
+use Rattle.nbt_name.specs.declared.fault.NameFault.{NameFault}
 use Rattle.nbt_name.specs.declared.form.Form.{Form}
+use Rattle.nbt_name.specs.Wire.{NameValue}
+use Rattle.nbt_name.proofs.Walk.{Path-push, steps-push, end_in_steps, fault_in_steps}
 use Rattle.nbt_name.proofs.WireForms.{length-range}
-use Rattle.nbt_name.specs.Reading.{Spot, Step, letters_pass, label_passes, pointer_leads}
+use Rattle.nbt_name.specs.Reading.{Spot, Finds, IsLater, Step, letters_pass, label_passes, pointer_leads, Path, here, start, steps_on, Stands, Stuck, Fails}
+
+-- a reader on its path, that began with `base` and has counted each step
+pub record OnPath (form : Form) (octets : List ℕ) (place base : ℕ) (at : Spot) (count : ℕ) : Type 0 where
+  pub path : Path form octets (start place) at
+  pub exact : count ≡ base + steps_on path
+
+pub path_begins : (form : Form) (octets : List ℕ) (place base : ℕ) (at : Spot) → at ≡ start place → OnPath form octets place base at base
+unfolding steps_on
+path_begins form octets place base at e = subst (λ (s : Spot). OnPath form octets place base s base) (sym e) (record { path = here (start place); exact = omega arith })
+
+pub path_goes_on : {form : Form} {octets : List ℕ} {place base : ℕ} (count : ℕ) {s : Spot} (t : Spot) → Step form octets s t → OnPath form octets place base s count → OnPath form octets place base t (count + 1)
+path_goes_on count t step on_path = record { path = Path-push t on_path.path step; exact = omega (arith, on_path.exact, steps-push t on_path.path step) }
+
+-- every way to the name has as many steps, and the closing zero is one more
+pub name_in_steps : {form : Form} {octets : List ℕ} {place base count next : ℕ} {at : Spot} {name : NameValue} → OnPath form octets place base at count → IsLater at → Finds octets at 0
+    → (stands : Stands form octets place name next) → count + 1 ≡ base + steps_on stands.path + 1
+name_in_steps on_path later finds stands = omega (arith, on_path.exact, end_in_steps on_path.path later finds stands.path stands.closes.later stands.closes.zero)
+
+pub refused_in_steps : {form : Form} {octets : List ℕ} {place base count : ℕ} {at : Spot} {fault : NameFault} → OnPath form octets place base at count → Stuck form octets at fault
+    → (fails : Fails form octets place fault) → count ≡ base + steps_on fails.path
+refused_in_steps {fault = fault} on_path stuck fails = omega (arith, on_path.exact, fault_in_steps fault fault on_path.path stuck fails.path fails.stuck)
 
 -- how many labels were passed, by the octets that they take
 pub data AreLabels (passed : List ℕ) : ℕ → Type 0 where

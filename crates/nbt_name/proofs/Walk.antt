@@ -1,15 +1,20 @@
--- Paths: one from each place to one end.
-use Rattle.std.proofs.Common.{◌≡◌, ℕ, List, refl, sym, ap, subst, ◌∙◌}
+-- Paths: one from each place to one end, and its steps.
+use Rattle.std.proofs.Common.{◌≡◌, ℕ, suc, List, refl, sym, ap, subst, ◌∙◌}
 use Rattle.nbt_name.specs.declared.fault.NameFault.{NameFault}
 use Rattle.nbt_name.specs.declared.form.Form.{Form}
 use Rattle.nbt_name.specs.declared.form.Form.TheVariants.{Plain, Compressed}
-use Rattle.nbt_name.specs.Reading.{Spot, Finds, IsLater, Step, letters_pass, label_passes, pointer_leads, Path, here, onward, Stuck}
+use Rattle.nbt_name.specs.Reading.{Spot, Finds, IsLater, Step, letters_pass, label_passes, pointer_leads, Path, here, onward, steps_on, Stuck}
 use Rattle.nbt_name.proofs.Seen.{moves, faults, ends, sight, step_seen, fault_seen, end_seen}
 
 -- a path and one more step
 pub Path-push : {form : Form} {octets : List ℕ} {s t : Spot} (u : Spot) → Path form octets s t → Step form octets t u → Path form octets s u
 Path-push u (here s) step = onward s u u step (here u)
 Path-push u (onward s t v first others) step = onward s t u first (Path-push u others step)
+
+pub steps-push : {form : Form} {octets : List ℕ} {s t : Spot} (u : Spot) (p : Path form octets s t) (step : Step form octets t u) → steps_on (Path-push u p step) ≡ suc (steps_on p)
+unfolding Path-push steps_on
+steps-push u (here s) step = refl
+steps-push u (onward s t v first others) step = ap suc (steps-push u others step)
 
 -- where nothing moves on from, a path ends
 record IsFinal (form : Form) (octets : List ℕ) (s : Spot) : Type 0 where
@@ -48,6 +53,22 @@ no_end_and_fault {form} {octets} {s} {t} {u} f p a b q stuck =
     let e : t ≡ u = same_end (final_at_end form octets t a b) (final_at_fault form octets u f stuck) p q in
     let clash : ends ≡ faults f = sym (end_seen form octets t a b) ∙ ap (sight form octets) e ∙ fault_seen form octets u f stuck in
     absurd cc
+
+same_steps : {form : Form} {octets : List ℕ} {s r t u : Spot} → IsFinal form octets t → IsFinal form octets u → s ≡ r → (p : Path form octets s t) → (q : Path form octets r u) → steps_on p ≡ steps_on q
+unfolding steps_on
+same_steps ft fu e (here s) (here r) = refl
+same_steps {form} {octets} ft fu e (here s) (onward r v w step others) = absurd (ft.stays v (subst (λ (x : Spot). Step form octets x v) (sym e) step))
+same_steps {form} {octets} ft fu e (onward s v t step others) (here r) = absurd (fu.stays v (subst (λ (x : Spot). Step form octets x v) e step))
+same_steps {form} {octets} ft fu e (onward s v t step others) (onward r w u step2 others2) =
+    let next : v ≡ w = moves_is v w (sym (step_seen form octets s v step) ∙ ap (sight form octets) e ∙ step_seen form octets r w step2) in
+    ap suc (same_steps ft fu next others others2)
+
+-- a name or a fault is reached in one number of steps
+pub end_in_steps : {form : Form} {octets : List ℕ} {s t u : Spot} (p : Path form octets s t) → IsLater t → Finds octets t 0 → (q : Path form octets s u) → IsLater u → Finds octets u 0 → steps_on p ≡ steps_on q
+end_in_steps {form} {octets} {s} {t} {u} p a b q c d = same_steps (final_at_end form octets t a b) (final_at_end form octets u c d) refl p q
+
+pub fault_in_steps : {form : Form} {octets : List ℕ} {s t u : Spot} (f g : NameFault) (p : Path form octets s t) → Stuck form octets t f → (q : Path form octets s u) → Stuck form octets u g → steps_on p ≡ steps_on q
+fault_in_steps {form} {octets} {s} {t} {u} f g p a q b = same_steps (final_at_fault form octets t f a) (final_at_fault form octets u g b) refl p q
 
 -- a plain path is a path
 Step-compressed : {octets : List ℕ} {s t : Spot} → Step Plain octets s t → Step Compressed octets s t

@@ -1,5 +1,5 @@
 -- Names that stand in octets, and faults that stand in a name's place: RFC 1002 section 4.1.
-use Rattle.std.specs.Prelude.{◌≡◌, ◌≢◌, ℕ, ◌+◌, ◌-◌, ◌*◌, ◌<◌, ◌≤◌, List, [], ◌∷◌, ◌++◌, length, slice_get, slice_index, slice_range, Option, Some, None, unwrap_or}
+use Rattle.std.specs.Prelude.{◌≡◌, ◌≢◌, ℕ, suc, ◌+◌, ◌-◌, ◌*◌, ◌<◌, ◌≤◌, List, [], ◌∷◌, ◌++◌, length, slice_get, slice_index, slice_range, Option, Some, None, unwrap_or}
 use Rattle.nbt_name.specs.declared.fault.NameFault.{NameFault}
 use Rattle.nbt_name.specs.declared.fault.NameFaultKind.TheVariants.{Short, BadLabel, BadHalf, BadPointer, Long}
 use Rattle.nbt_name.specs.declared.form.Form.{Form}
@@ -66,6 +66,11 @@ pub data Step (form : Form) (octets : List ℕ) (from : Spot) : Spot → Type 0 
 pub data Path (form : Form) (octets : List ℕ) : Spot → Spot → Type 0 where
   here : (s : Spot) → Path form octets s s
   onward : (s t u : Spot) → Step form octets s t → Path form octets t u → Path form octets s u
+
+-- how many they are: labels passed and pointers followed
+unfoldable pub steps_on : {form : Form} {octets : List ℕ} {s t : Spot} → Path form octets s t → ℕ
+steps_on (here s) = 0
+steps_on (onward s t u step others) = suc (steps_on others)
 
 -- A name stands at a place, and `next` is the place after it: a path leads to the closing zero, the labels passed
 -- spell the name, and `next` is the place after the first pointer, or after the zero where there is none.

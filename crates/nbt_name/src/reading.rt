@@ -3,7 +3,7 @@
 ghost use Rattle.std.specs.Prelude.{◌≡◌, ℕ, ◌+◌, ◌*◌, ◌<◌, ◌≤◌, ◌↔◌, Ok, Err, IfOk, IfErr, length};
 ghost use Rattle.nbt_name.specs.declared.fault.NameFault.{NameFault};
 ghost use Rattle.nbt_name.specs.Wire.{NameValue};
-ghost use Rattle.nbt_name.specs.Reading.{Stands, Fails, NameAt, PlainNameAt, FaultAt, PlainFaultAt};
+ghost use Rattle.nbt_name.specs.Reading.{steps_on, Stands, Fails, NameAt, PlainNameAt, FaultAt, PlainFaultAt};
 
 use crate::fault::NameFault;
 use crate::form::Form;
@@ -38,8 +38,8 @@ pub fn read_in(octets: &[u8], place: usize) -> Result<(Name, usize), NameFault>
 }
 
 /// What `read_in` does, in at most 112 steps for each octet and 112 more, whatever the octets are (our profile). A step
-/// is a label passed, a pointer followed, or the closing zero; each turn of the reader's one loop adds one to `steps`. That
-/// no step is left out is read there: the clause on `steps` says only that no more were counted.
+/// is a label passed, a pointer followed, or the closing zero. `steps` grows by exactly their number: by those on the way
+/// to the closing zero and by one for it, or, where the reading is refused, by those on the way to the fault.
 pub fn read_in_counted<L: Ledger>(
     octets: &[u8],
     place: usize,
@@ -49,7 +49,9 @@ pub fn read_in_counted<L: Ledger>(
     ensures name { (name : NameValue) (next : ℕ) → (result ≡ Ok (name, next)) ↔ NameAt octets.now place name next }
     ensures fault { (fault : NameFault) → (result ≡ Err fault) ↔ FaultAt octets.now place fault }
     ensures within { IfOk result (λ read. read.1 ≤ length octets.now) }
-    ensures steps { steps.new ≤ steps.old + 112 * (length octets.now + 1) }
+    ensures steps { IfOk result (λ read. (stands : NameAt octets.now place read.0 read.1) → steps.new ≡ steps.old + steps_on stands.path + 1) }
+    ensures refused { IfErr result (λ fault. (fails : FaultAt octets.now place fault) → steps.new ≡ steps.old + steps_on fails.path) }
+    ensures most { steps.new ≤ steps.old + 112 * (length octets.now + 1) }
 {
     read(Form::Compressed, octets, place, steps)
 }
@@ -82,12 +84,15 @@ fn read<L: Ledger>(
     requires { place ≤ length octets.now }
     ensures name { IfOk result (λ read. Stands form octets.now place read.0 read.1) }
     ensures fault { IfErr result (Fails form octets.now place) }
-    ensures steps { steps.new ≤ steps.old + 112 * (length octets.now + 1) }
+    ensures steps { IfOk result (λ read. (stands : Stands form octets.now place read.0 read.1) → steps.new ≡ steps.old + steps_on stands.path + 1) }
+    ensures refused { IfErr result (λ fault. (fails : Fails form octets.now place fault) → steps.new ≡ steps.old + steps_on fails.path) }
+    ensures most { steps.new ≤ steps.old + 112 * (length octets.now + 1) }
 {
     let mut reader = Reader::new(place);
     'steps: loop {
+        let progress = reader.turn(form, octets)?;
         steps.add_one();
-        match reader.turn(form, octets)? {
+        match progress {
             Progress::Moved => {}
             Progress::Closed(sixteen) => {
                 let next = reader.resume.unwrap_or(reader.place + 1);

@@ -18,10 +18,10 @@ const FIRST: u32 = 0x7F000002;
 const SECOND: u32 = 0x7F000003;
 
 /// Pieces of packets by their names (RFC 1002 section 4.2). `FRED`, `TEAM` and `STAR` are names on the wire, and `again`
-/// is a pointer to the question's; `NB`, `NULL` and `NBSTAT` are a type and the class; `one-name` and `two-parts` are the
+/// is a pointer to the question's; the longest scope is three labels of 63 octets and one of 28, so that the name has 255; `NB`, `NULL` and `NBSTAT` are a type and the class; `one-name` and `two-parts` are the
 /// counts of a request, `reply` those of a response; `unique` and `group` are the length of an address entry and its
 /// NB_FLAGS, and `statistics` those of a status response; `-` is nothing.
-const PIECES: [(&str, &str); 22] = [
+const PIECES: [(&str, &str); 23] = [
     ("-", ""),
     (
         "FRED",
@@ -34,6 +34,10 @@ const PIECES: [(&str, &str); 22] = [
     (
         "STAR",
         "20434b41414141414141414141414141414141414141414141414141414141414100",
+    ),
+    (
+        "TEAM-in-the-longest-scope",
+        "20464545464542454e4341434143414341434143414341434143414341434143413f6161616161616161616161616161616161616161616161616161616161616161616161616161616161616161616161616161616161616161616161616161613f6161616161616161616161616161616161616161616161616161616161616161616161616161616161616161616161616161616161616161616161616161613f6161616161616161616161616161616161616161616161616161616161616161616161616161616161616161616161616161616161616161616161616161611c6161616161616161616161616161616161616161616161616161616100",
     ),
     ("again", "c00c"),
     ("NB", "00200001"),
@@ -76,6 +80,25 @@ const FOUND: &str = "0008 8580 reply FRED NB 1s unique 127.0.0.2";
 
 const NOT_FOUND: &str = "0008 8583 reply FRED NULL 0s 0000";
 
+const RELEASE: &str = "0002 3000 two-parts FRED NB again NB 0s unique 127.0.0.2";
+
+/// The worked examples of every kind: registration, refresh, release, query and status request; their replies; and a wait
+/// of 5 s.
+const EVERY_KIND: [&str; 12] = [
+    REGISTRATION,
+    REFRESH,
+    RELEASE,
+    QUERY,
+    "0009 0000 one-name STAR NBSTAT",
+    GRANTED,
+    "0002 b400 reply FRED NB 0s unique 127.0.0.2",
+    "0007 8580 reply TEAM NB 60s 000c a000 127.0.0.2 a000 127.0.0.3",
+    NOT_FOUND,
+    "0008 8583 00000000 00000000",
+    "0009 8400 reply STAR NBSTAT 0s 0041 01 46524544202020202020202020202020 2400 statistics",
+    "0009 bc00 reply FRED NB 00000005 0002 2900",
+];
+
 /// The octets that words say: pieces by their names, and all else in hexadecimal.
 fn octets<R: AllocGlobal>(rt: &R, text: &str) -> Result<Vec<u8>, Fail> {
     let mut octets = Vec::new(rt.alloc());
@@ -117,6 +140,18 @@ fn one_of_many<R: AllocGlobal>(
     octets.extend_from_slice(&letters)?;
     octets.extend_from_slice(tail)?;
     Ok(octets)
+}
+
+/// The same, where the head and the tail are words.
+fn one_of_many_in_words<R: AllocGlobal>(
+    rt: &R,
+    number: u16,
+    head: &str,
+    tail: &str,
+) -> Result<Vec<u8>, Fail> {
+    let head = octets(rt, head)?;
+    let tail = octets(rt, tail)?;
+    one_of_many(rt, number, head.as_slice(), tail.as_slice())
 }
 
 fn moment(at: u64) -> Result<Moment, Fail> {

@@ -126,6 +126,10 @@ enum Step<'a> {
     Respond(u64, Addr, Response, Event<'a>),
     /// A datagram of an end, and what it tells.
     Hear(u64, Addr, &'a [u8], Event<'a>),
+    /// A datagram of an end that is cut to each shorter length, which is nothing each time.
+    Cut(u64, Addr, &'a [u8]),
+    /// So is a response of an end.
+    CutResponse(u64, Addr, Response),
     /// A datagram of an end, and what is replied.
     Reply(u64, Addr, &'a [u8], &'a [u8]),
     /// Whether FRED is held.
@@ -196,6 +200,10 @@ fn hear(
             assert!(rt; event == expected, "{step:?}");
             assert!(rt; out.is_empty(), "{step:?}");
         }
+        Step::Cut(ms, from, octets) => hear_cut(rt, node, ms, from, octets, out)?,
+        Step::CutResponse(ms, from, response) => {
+            hear_cut(rt, node, ms, from, &response.octets(), out)?;
+        }
         Step::Reply(ms, from, octets, expected) => {
             let event = node.on_datagram(at(ms)?, from, octets, out)?;
             assert!(rt; event == Event::Reply, "{step:?}");
@@ -208,6 +216,23 @@ fn hear(
             assert_eq!(rt; node.lookup_open(at(ms)?), expected, "{step:?}");
         }
         _ => return Err("a step of the node's own")?,
+    }
+    Ok(())
+}
+
+/// The octets come, cut to each shorter length: nothing is told, and nothing replied.
+fn hear_cut(
+    rt: &impl Abort,
+    node: &mut Node<1>,
+    ms: u64,
+    from: Addr,
+    octets: &[u8],
+    out: &mut ArrayVec<u8, 576>,
+) -> Result<(), Fail> {
+    for length in 0..octets.len() {
+        let event = node.on_datagram(at(ms)?, from, &octets[..length], out)?;
+        assert!(rt; event == Event::Nothing, "{length} of {octets:?}");
+        assert!(rt; out.is_empty(), "{length} of {octets:?}");
     }
     Ok(())
 }
@@ -600,6 +625,59 @@ const THE_NAMES_OF_ANOTHER_END: &[Step<'static>] = &[
 #[test]
 fn the_names_of_another_end(rt: HostRuntime) -> Result<(), Fail> {
     play(&rt, THE_NAMES_OF_ANOTHER_END)
+}
+
+/// A node that asks, and one that holds a name. With the last octet each of these would tell something, or be replied to.
+const WHAT_IS_CUT_CHANGES_NO_NAME: &[Step<'static>] = &[
+    Step::Ask(60_000, FRED, Kind::Unique, Ok(REGISTRATION)),
+    Step::Cut(60_500, SERVER, WACK),
+    Step::CutResponse(60_500, SERVER, Response(1, [0xAD, 0x80], 60)),
+    Step::CutResponse(60_500, SERVER, Response(1, [0xAD, 0x86], 0)),
+    Step::Holds(60_500, None),
+    Step::Poll(65_000, Some(REGISTRATION)),
+    Step::Respond(
+        65_900,
+        SERVER,
+        Response(1, [0xAD, 0x80], 60),
+        Event::Granted(60),
+    ),
+    Step::CutResponse(66_000, SERVER, Response(5, [0xAD, 0x87], 0)),
+    Step::Cut(66_000, ANYBODY, STATUS_REQUEST),
+    Step::Cut(66_000, STRANGER, REGISTRATION),
+    Step::Cut(66_000, STRANGER, REFRESH),
+    Step::Cut(66_000, STRANGER, RELEASE),
+    Step::Cut(66_000, STRANGER, QUERY),
+    Step::Cut(66_000, STRANGER, STATUS),
+    Step::Holds(119_877, Some(Kind::Unique)),
+    Step::Poll(90_000, Some(REFRESH)),
+    Step::CutResponse(90_500, SERVER, Response(2, [0xAD, 0x80], 60)),
+    Step::Holds(119_878, None),
+];
+
+const WHAT_IS_CUT_ENDS_NO_LOOKUP: &[Step<'static>] = &[
+    Step::Resolve(60_000, Ok(QUERY)),
+    Step::CutResponse(60_001, SERVER, Response(1, [0x85, 0x80], 60)),
+    Step::Cut(60_001, SERVER, NOT_FOUND),
+    Step::LookupOpen(60_001, true),
+    Step::Hear(60_001, SERVER, NOT_FOUND, Event::NotFound),
+];
+
+const WHAT_IS_CUT_TELLS_NO_NAMES: &[Step<'static>] = &[
+    Step::AskNames(60_000, NAMES_REQUEST),
+    Step::Cut(60_001, OWN, NAMES),
+    Step::LookupOpen(60_001, true),
+];
+
+#[test]
+fn packets_cut_at_every_length_are_nothing_to_a_node(rt: HostRuntime) -> Result<(), Fail> {
+    for steps in [
+        WHAT_IS_CUT_CHANGES_NO_NAME,
+        WHAT_IS_CUT_ENDS_NO_LOOKUP,
+        WHAT_IS_CUT_TELLS_NO_NAMES,
+    ] {
+        play(&rt, steps)?;
+    }
+    Ok(())
 }
 
 #[test]

@@ -488,7 +488,7 @@ fn refused_memory_leaves_the_stream(rt: HostRuntime) -> Result<(), Fail> {
 #[test]
 fn refused_memory_leaves_the_octets(rt: HostRuntime) -> Result<(), Fail> {
     let mut octets: Vec<u8> = Vec::new(rt.alloc());
-    for count in 0..40 {
+    for count in 0..200 {
         let mut written = encode(&Packet::Retarget(SECOND), &mut octets);
         if written == Err(EncodeFault::OutOfMemory) {
             assert_eq!(rt; octets.len(), 10 * count);

@@ -2,7 +2,7 @@
 
 use super::{
     FOUND, GRANTED, NOT_FOUND, QUERY, REFRESH, REFUSED, REGISTRATION, RIVAL, config, moment,
-    octets, one_of_many, started,
+    octets, one_of_many_in_words, started,
 };
 use arrayvec::ArrayVec;
 use nbt_engine::{
@@ -196,141 +196,148 @@ fn expect_reply<R: Abort + AllocGlobal>(
     Ok(())
 }
 
-#[test]
-fn after_a_failed_send_the_lease_is_there(rt: HostRuntime) -> Result<(), Fail> {
-    let mut port = port(&rt, RIVALS)?;
-    port.fail_after(1);
-    let mut clock = clock(&rt, &[60_000])?;
-    let mut server = started(&rt, 4096, 0)?;
-    assert_eq!(&rt;
-        serve(&rt, &mut port, &mut clock, &mut server, 2),
-        Err(Device)
-    );
-    assert_eq!(&rt; port.failures(), 1);
-    expect_reply(&rt, &mut server, QUERY, FOUND_FOR_60S)?;
-    let counts = serve(&rt, &mut port, &mut clock, &mut server, 1)?;
-    assert_eq!(&rt; counts.replies, 1);
-    expect_sent(&rt, &port, &[(SECOND, REFUSED)])
-}
-
-#[test]
-fn after_a_failed_receive_nothing_has_changed(rt: HostRuntime) -> Result<(), Fail> {
-    let mut port = port(&rt, RIVALS)?;
-    port.fail_after(0);
-    let mut clock = clock(&rt, &[60_000])?;
-    let mut server = started(&rt, 4096, 0)?;
-    assert_eq!(&rt;
-        serve(&rt, &mut port, &mut clock, &mut server, 2),
-        Err(Device)
-    );
-    assert_eq!(&rt; port.failures(), 1);
-    assert_eq!(&rt; server.last(), Moment::zero());
-    expect_reply(&rt, &mut server, QUERY, NOT_FOUND)?;
-    assert_eq!(&rt;
-        serve(&rt, &mut port, &mut clock, &mut server, 2)?.replies,
-        2
-    );
-    expect_sent(&rt, &port, &[(FIRST, GRANTED), (SECOND, REFUSED)])
-}
-
 /// The reply to a query at 60,000, where FRED was leased then.
 const FOUND_FOR_60S: &str = "0008 8580 reply FRED NB 60s unique 127.0.0.2";
 
-/// A call of a server's port that fails, in two turns; the reply to a query after it; the replies of two turns more; and
-/// all that is sent.
+/// A call of a server's port that fails, in two turns; the server's last moment after it, and its reply to a query; some
+/// turns more, and their replies; and all that is sent.
 #[derive(Clone, Copy)]
 struct Failure {
     call: u64,
+    last: u64,
     query: &'static str,
+    turns: u64,
     replies: u64,
     sent: &'static [Row],
 }
 
+/// Nothing has changed.
+const FAILED_RECEIVE: Failure = Failure {
+    call: 0,
+    last: 0,
+    query: NOT_FOUND,
+    turns: 2,
+    replies: 2,
+    sent: &[(FIRST, GRANTED), (SECOND, REFUSED)],
+};
+
+/// The lease is there.
+const FAILED_SEND: Failure = Failure {
+    call: 1,
+    last: 60_000,
+    query: FOUND_FOR_60S,
+    turns: 1,
+    replies: 1,
+    sent: &[(SECOND, REFUSED)],
+};
+
 /// A reply that was not sent is lost, and what has come is not handed out again: it was handled, and its lease stays.
-const FAILURES: [Failure; 4] = [
+const FAILURES: [Failure; 5] = [
+    FAILED_RECEIVE,
+    FAILED_SEND,
     Failure {
-        call: 0,
-        query: NOT_FOUND,
-        replies: 2,
-        sent: &[(FIRST, GRANTED), (SECOND, REFUSED)],
-    },
-    Failure {
-        call: 1,
-        query: FOUND_FOR_60S,
-        replies: 1,
-        sent: &[(SECOND, REFUSED)],
+        turns: 2,
+        ..FAILED_SEND
     },
     Failure {
         call: 2,
+        last: 60_000,
         query: FOUND_FOR_60S,
+        turns: 2,
         replies: 1,
         sent: &[(FIRST, GRANTED), (SECOND, REFUSED)],
     },
     Failure {
         call: 3,
+        last: 60_000,
         query: FOUND_FOR_60S,
+        turns: 2,
         replies: 0,
         sent: &[(FIRST, GRANTED)],
     },
 ];
 
+/// Turns of a server, of which one fails, and turns after it.
+fn go_on<R: Abort + AllocGlobal>(
+    rt: &R,
+    port: &mut MemoryPort,
+    clock: &mut MemoryClock,
+    server: &mut Server,
+    failure: &Failure,
+) -> Result<(), Fail> {
+    let call = failure.call;
+    assert_eq!(rt; serve(rt, port, clock, server, 2), Err(Device), "{call}");
+    assert_eq!(rt; port.failures(), 1, "{call}");
+    assert_eq!(rt; server.last(), moment(failure.last)?, "{call}");
+    expect_reply(rt, server, QUERY, failure.query)?;
+    let wanted = Counts {
+        receives: failure.turns,
+        replies: failure.replies,
+        lost: 0,
+    };
+    assert_eq!(rt;
+        serve(rt, port, clock, server, failure.turns)?,
+        wanted,
+        "{call}"
+    );
+    assert_eq!(rt; port.failures(), 1, "{call}");
+    expect_sent(rt, port, failure.sent)
+}
+
+fn play_failure<R: Abort + AllocGlobal>(rt: &R, failure: &Failure) -> Result<(), Fail> {
+    let mut port = port(rt, RIVALS)?;
+    port.fail_after(failure.call);
+    let mut clock = clock(rt, &[60_000])?;
+    go_on(
+        rt,
+        &mut port,
+        &mut clock,
+        &mut started(rt, 4096, 0)?,
+        failure,
+    )
+}
+
 #[test]
 fn a_failure_at_any_call_is_told_once(rt: HostRuntime) -> Result<(), Fail> {
-    for Failure {
-        call,
-        query,
-        replies,
-        sent,
-    } in FAILURES {
-        let mut port = port(&rt, RIVALS)?;
-        port.fail_after(call);
-        let mut clock = clock(&rt, &[60_000])?;
-        let mut server = started(&rt, 4096, 0)?;
-        assert_eq!(&rt;
-            serve(&rt, &mut port, &mut clock, &mut server, 2),
-            Err(Device),
-            "{call}"
-        );
-        assert_eq!(&rt; port.failures(), 1, "{call}");
-        expect_reply(&rt, &mut server, QUERY, query)?;
-        let counts = serve(&rt, &mut port, &mut clock, &mut server, 2)?;
-        assert_eq!(&rt; counts.replies, replies, "{call}");
-        assert_eq!(&rt; counts.receives, 2, "{call}");
-        assert_eq!(&rt; counts.lost, 0, "{call}");
-        assert_eq!(&rt; port.failures(), 1, "{call}");
-        expect_sent(&rt, &port, sent)?;
+    for failure in &FAILURES {
+        play_failure(&rt, failure)?;
     }
     Ok(())
 }
 
-#[test]
-fn nothing_lost(rt: HostRuntime) -> Result<(), Fail> {
+/// A port that hands out the registrations of 4,096 names.
+fn port_of_many<R: AllocGlobal>(rt: &R) -> Result<MemoryPort, Fail> {
     let mut incoming = VecDeque::new(rt.alloc());
-    let head = octets(&rt, "2900 two-parts")?;
-    let tail = octets(&rt, "00 NB again NB 60s unique 127.0.0.2")?;
     for number in 0..4096 {
-        let octets = one_of_many(&rt, number, head.as_slice(), tail.as_slice())?;
+        let octets = one_of_many_in_words(
+            rt,
+            number,
+            "2900 two-parts",
+            "00 NB again NB 60s unique 127.0.0.2",
+        )?;
         let datagram = Datagram {
             addr: FIRST,
             octets,
         };
         incoming.push_back(Some(datagram))?;
     }
-    let mut port = MemoryPort::new(rt.alloc(), incoming);
+    Ok(MemoryPort::new(rt.alloc(), incoming))
+}
+
+#[test]
+fn nothing_lost(rt: HostRuntime) -> Result<(), Fail> {
+    let mut port = port_of_many(&rt)?;
     let mut clock = clock(&rt, &[60_000])?;
-    let counts = serve(
-        &rt,
-        &mut port,
-        &mut clock,
-        &mut started(&rt, 4096, 0)?,
-        4096,
-    )?;
+    let mut server = started(&rt, 4096, 0)?;
     let wanted = Counts {
         receives: 4096,
         replies: 4096,
         lost: 0,
     };
-    assert_eq!(&rt; counts, wanted);
+    assert_eq!(&rt;
+        serve(&rt, &mut port, &mut clock, &mut server, 4096),
+        Ok(wanted)
+    );
     assert_eq!(&rt; port.sent().len(), 4096);
     for datagram in port.sent() {
         assert!(&rt; matches!(datagram.octets.as_slice(), [_, _, 0xAD, 0x80, ..]));
@@ -463,31 +470,47 @@ fn four_turns<R: Abort>(
     Ok(())
 }
 
+/// Turns of a node, of which one fails at this call, and turns after it; and all that is sent.
+fn node_goes_on<R: Abort + AllocGlobal>(
+    rt: &R,
+    port: &mut MemoryPort,
+    clock: &mut MemoryClock,
+    call: u64,
+    sent: &[Row],
+) -> Result<(), Fail> {
+    let mut node = node()?;
+    let want = fred()?;
+    assert_eq!(rt;
+        four_turns(rt, port, clock, &mut node, &want),
+        Err(Device),
+        "{call}"
+    );
+    assert_eq!(rt; port.failures(), 1, "{call}");
+    // Before the grant has come it doesn't hold the name, and after it no failure loses it.
+    let holds = node.holds(moment(100_000)?, &want.name);
+    assert_eq!(rt; holds.is_some(), call >= 2, "{call}");
+    assert_eq!(rt;
+        four_turns(rt, port, clock, &mut node, &want),
+        Ok(()),
+        "{call}"
+    );
+    assert_eq!(rt; port.failures(), 1, "{call}");
+    let held = node.holds(moment(149_877)?, &want.name);
+    assert_eq!(rt; held, Some(Kind::Unique), "{call}");
+    expect_sent(rt, port, sent)
+}
+
+const MOMENTS_WITH_A_FAILURE: [u64; 9] = [
+    60_000, 65_000, 70_000, 75_000, 80_000, 85_000, 90_000, 95_000, 100_000,
+];
+
 #[test]
 fn a_node_goes_on_after_a_failure_at_any_call(rt: HostRuntime) -> Result<(), Fail> {
-    let moments = [
-        60_000, 65_000, 70_000, 75_000, 80_000, 85_000, 90_000, 95_000, 100_000,
-    ];
-    let want = fred()?;
     for (call, sent) in (0..).zip(SENT_WITH_A_FAILURE) {
         let mut port = port(&rt, &WITH_A_FAILURE)?;
         port.fail_after(call);
-        let mut clock = clock(&rt, &moments)?;
-        let mut node = node()?;
-        assert_eq!(&rt;
-            four_turns(&rt, &mut port, &mut clock, &mut node, &want),
-            Err(Device),
-            "{call}"
-        );
-        assert_eq!(&rt; port.failures(), 1, "{call}");
-        // Before the grant has come it doesn't hold the name, and after it no failure loses it.
-        let holds = node.holds(moment(100_000)?, &want.name);
-        assert_eq!(&rt; holds.is_some(), call >= 2, "{call}");
-        four_turns(&rt, &mut port, &mut clock, &mut node, &want)?;
-        assert_eq!(&rt; port.failures(), 1, "{call}");
-        expect_sent(&rt, &port, sent)?;
-        let held = node.holds(moment(149_877)?, &want.name);
-        assert_eq!(&rt; held, Some(Kind::Unique), "{call}");
+        let mut clock = clock(&rt, &MOMENTS_WITH_A_FAILURE)?;
+        node_goes_on(&rt, &mut port, &mut clock, call, sent)?;
     }
     Ok(())
 }

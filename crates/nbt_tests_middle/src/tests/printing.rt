@@ -1,7 +1,7 @@
 //! Addresses, numbers, octets, packets, datagrams, sessions and vectors as text. What `show` and `check` print is tested
 //! with the commands.
 
-use super::octets;
+use super::{EVERY_KIND, octets};
 use nbt_name::Addr;
 use nbt_show::{write_dgram, write_packet, write_session, write_verdicts};
 use nbt_text::{octets_of, parse_address, parse_number, words_of, write_hexadecimal};
@@ -115,6 +115,21 @@ fn play<R: Abort + AllocGlobal>(rt: &R, rows: &[Row]) -> Result<(), Fail> {
 #[test]
 fn octets_packets_datagrams_sessions_and_vectors(rt: HostRuntime) -> Result<(), Fail> {
     play(&rt, &ROWS)
+}
+
+/// The packets of every kind, cut to each shorter length: the octets end where one is missing.
+#[test]
+fn packets_cut_at_every_length(rt: HostRuntime) -> Result<(), Fail> {
+    for words in EVERY_KIND {
+        let whole = octets(&rt, words)?;
+        for length in 0..whole.len() {
+            let mut text = String::new(rt.alloc());
+            assert!(&rt; !write_packet(&whole[..length], &mut text)?);
+            let wanted = format!(in rt.alloc(); "fault Short at {length}\n")?;
+            assert!(&rt; text == wanted, "{text}");
+        }
+    }
+    Ok(())
 }
 
 /// How many octets a long input has.

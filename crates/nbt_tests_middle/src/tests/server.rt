@@ -1,13 +1,12 @@
 //! The server's replies to datagrams: the life of a datagram 1,000 ms, the longest lease 60 s.
 
 use super::{
-    FIRST, FOUND, GRANTED, NOT_FOUND, QUERY, REFRESH, REFUSED, REGISTRATION, RIVAL, SECOND, moment,
-    octets, one_of_many, started,
+    EVERY_KIND, FIRST, FOUND, GRANTED, NOT_FOUND, QUERY, REFRESH, REFUSED, REGISTRATION, RELEASE,
+    RIVAL, SECOND, moment, octets, one_of_many_in_words, started,
 };
 use arrayvec::ArrayVec;
 use nbt_name::Addr;
 use nbt_server::{Server, ServerFault};
-use std::ops::Range;
 use std::process::Abort;
 use std::test::Fail;
 
@@ -130,95 +129,166 @@ const TWO_MEMBERS: [Row; 3] = [
     ),
 ];
 
-/// Each of these addresses registers at 60,500, and gets this reply; its address ends both.
+/// What comes of a group: addresses join it at 60,500, or it is queried.
+#[derive(Clone, Copy)]
+enum Step {
+    /// From one address to another: the request of each and its reply, but for the address that ends both.
+    Join(u32, u32, &'static str, &'static str),
+    /// At a moment: the reply, but for the entries that end it, of the addresses from 1 to this one; and its octets.
+    Query(u64, &'static str, &'static str, u32, usize),
+}
+
+/// Words, and then an address.
+fn ended<R: AllocGlobal>(rt: &R, words: &str, addr: u32) -> Result<Vec<u8>, Fail> {
+    let mut octets = octets(rt, words)?;
+    octets.extend_from_slice(&addr.to_be_bytes())?;
+    Ok(octets)
+}
+
+/// Each of these addresses registers, and gets its reply.
 fn join<R: Abort + AllocGlobal>(
     rt: &R,
     server: &mut Server,
-    addresses: Range<u32>,
-    asks: &[u8],
-    gives: &[u8],
+    addresses: (u32, u32),
+    asks: &str,
+    gives: &str,
 ) -> Result<(), Fail> {
-    for addr in addresses {
-        let mut request = Vec::new(rt.alloc());
-        request.extend_from_slice(asks)?;
-        request.extend_from_slice(&addr.to_be_bytes())?;
-        let mut reply = Vec::new(rt.alloc());
-        reply.extend_from_slice(gives)?;
-        reply.extend_from_slice(&addr.to_be_bytes())?;
-        expect(rt, server, 60_500, addr, &request, &reply)?;
+    for addr in addresses.0..=addresses.1 {
+        let asks = ended(rt, asks, addr)?;
+        let gives = ended(rt, gives, addr)?;
+        expect(rt, server, 60_500, addr, asks.as_slice(), gives.as_slice())?;
     }
     Ok(())
 }
 
-/// What stands before a name, the name, what stands after it, and the entries of a group's members at these addresses.
-fn spelled<R: AllocGlobal>(
-    rt: &R,
-    before: &str,
-    name: &[u8],
-    after: &str,
-    members: Range<u32>,
-) -> Result<Vec<u8>, Fail> {
-    let mut spelled = octets(rt, before)?;
-    spelled.extend_from_slice(name)?;
-    spelled.extend_from_slice(&octets(rt, after)?)?;
-    for addr in members {
-        spelled.extend_from_slice(b"\xA0\x00")?;
-        spelled.extend_from_slice(&addr.to_be_bytes())?;
+/// The entries of a group's members at the addresses from 1 to this one.
+fn push_entries(octets: &mut Vec<u8>, last: u32) -> Result<(), Fail> {
+    for addr in 1..=last {
+        octets.extend_from_slice(b"\xA0\x00")?;
+        octets.extend_from_slice(&addr.to_be_bytes())?;
     }
-    Ok(spelled)
+    Ok(())
 }
 
-/// The registration of a group for these seconds, and its positive reply, but for the address.
-fn joining<R: AllocGlobal>(rt: &R, name: &[u8], seconds: &str) -> Result<(Vec<u8>, Vec<u8>), Fail> {
-    let group = format!(in rt.alloc(); "NB {seconds} group")?;
-    let again = format!(in rt.alloc(); "NB again {group}")?;
-    let asks = spelled(rt, "0001 2900 two-parts", name, &again, 0..0)?;
-    let gives = spelled(rt, "0001 ad80 reply", name, &group, 0..0)?;
-    Ok((asks, gives))
+/// Words, and then these entries.
+fn listed<R: AllocGlobal>(rt: &R, words: &str, last: u32) -> Result<Vec<u8>, Fail> {
+    let mut octets = octets(rt, words)?;
+    push_entries(&mut octets, last)?;
+    Ok(octets)
+}
+
+/// So goes a group at a server.
+fn play_group<R: Abort + AllocGlobal>(
+    rt: &R,
+    server: &mut Server,
+    steps: &[Step],
+) -> Result<(), Fail> {
+    for step in steps {
+        match *step {
+            Step::Join(first, last, asks, gives) => join(rt, server, (first, last), asks, gives)?,
+            Step::Query(at, asks, gives, last, length) => {
+                let asks = octets(rt, asks)?;
+                let gives = listed(rt, gives, last)?;
+                assert_eq!(rt; gives.len(), length);
+                expect(rt, server, at, FIRST, asks.as_slice(), gives.as_slice())?;
+            }
+        }
+    }
+    Ok(())
+}
+
+/// The registration of the group TEAM and its positive reply, but for the address.
+const JOINING: &str = "0001 2900 two-parts TEAM NB again NB 60s group";
+
+const JOINED: &str = "0001 ad80 reply TEAM NB 60s group";
+
+const GROUP_IS_FULL: &str = "0001 ad82 reply TEAM NB 0s group";
+
+const TEAM_QUERY: &str = "0007 0100 one-name TEAM NB";
+
+const A_THOUSAND: [Step; 3] = [
+    Step::Join(1, 998, JOINING, JOINED),
+    Step::Join(999, 1_000, JOINING, GROUP_IS_FULL),
+    Step::Join(998, 998, JOINING, JOINED),
+];
+
+/// Two members join and are found, and then as many as there may be.
+fn grow_to_a_thousand<R: Abort + AllocGlobal>(rt: &R, server: &mut Server) -> Result<(), Fail> {
+    play(rt, server, &TWO_MEMBERS)?;
+    play_group(rt, server, &A_THOUSAND)
 }
 
 #[test]
 fn a_group_has_1_000_members_and_is_found_in_their_order(rt: HostRuntime) -> Result<(), Fail> {
-    let mut server = started(&rt, 4096, 0)?;
-    play(&rt, &mut server, &TWO_MEMBERS)?;
-    let (asks, gives) = joining(&rt, &octets(&rt, "TEAM")?, "60s")?;
-    let full = octets(&rt, "0001 ad82 reply TEAM NB 0s group")?;
-    join(&rt, &mut server, 1..999, &asks, &gives)?;
-    join(&rt, &mut server, 999..1001, &asks, &full)?;
-    join(&rt, &mut server, 998..999, &asks, &gives)
+    grow_to_a_thousand(&rt, &mut started(&rt, 4096, 0)?)
 }
 
 /// 86 entries, of 0x0204 octets, have room beside a name without a scope: (576 - 22 - 34) / 6.
+const OF_87: [Step; 4] = [
+    Step::Join(1, 86, JOINING, JOINED),
+    Step::Query(
+        60_500,
+        TEAM_QUERY,
+        "0007 8580 reply TEAM NB 60s 0204",
+        86,
+        572,
+    ),
+    Step::Join(87, 87, JOINING, JOINED),
+    Step::Query(
+        60_500,
+        TEAM_QUERY,
+        "0007 8780 reply TEAM NB 60s 0204",
+        86,
+        572,
+    ),
+];
+
 #[test]
 fn of_a_group_of_87_the_first_86_are_listed(rt: HostRuntime) -> Result<(), Fail> {
-    let mut server = started(&rt, 4096, 0)?;
-    let (asks, gives) = joining(&rt, &octets(&rt, "TEAM")?, "60s")?;
-    let query = octets(&rt, "0007 0100 one-name TEAM NB")?;
-    let all = spelled(&rt, "0007 8580 reply TEAM", b"", "NB 60s 0204", 1..87)?;
-    let cut = spelled(&rt, "0007 8780 reply TEAM", b"", "NB 60s 0204", 1..87)?;
-    assert_eq!(rt; all.len(), 572);
-    join(&rt, &mut server, 1..87, &asks, &gives)?;
-    expect(&rt, &mut server, 60_500, FIRST, &query, &all)?;
-    join(&rt, &mut server, 87..88, &asks, &gives)?;
-    expect(&rt, &mut server, 60_500, FIRST, &query, &cut)
+    play_group(&rt, &mut started(&rt, 4096, 0)?, &OF_87)
 }
 
 /// Of 87 members the first's lease lasts 30 s, and the last's, which isn't listed, 10 s. Once it is over, all are listed.
+const NOT_LISTED: [Step; 6] = [
+    Step::Join(
+        1,
+        1,
+        "0001 2900 two-parts TEAM NB again NB 30s group",
+        "0001 ad80 reply TEAM NB 30s group",
+    ),
+    Step::Join(2, 86, JOINING, JOINED),
+    Step::Join(
+        87,
+        87,
+        "0001 2900 two-parts TEAM NB again NB 10s group",
+        "0001 ad80 reply TEAM NB 10s group",
+    ),
+    Step::Query(
+        60_500,
+        TEAM_QUERY,
+        "0007 8780 reply TEAM NB 10s 0204",
+        86,
+        572,
+    ),
+    Step::Query(
+        70_499,
+        TEAM_QUERY,
+        "0007 8780 reply TEAM NB 1s 0204",
+        86,
+        572,
+    ),
+    Step::Query(
+        70_500,
+        TEAM_QUERY,
+        "0007 8580 reply TEAM NB 00000014 0204",
+        86,
+        572,
+    ),
+];
+
 #[test]
 fn the_ttl_is_that_of_a_member_that_is_not_listed(rt: HostRuntime) -> Result<(), Fail> {
-    let mut server = started(&rt, 4096, 0)?;
-    let team = octets(&rt, "TEAM")?;
-    for (first, last, seconds) in [(1, 1, "30s"), (2, 86, "60s"), (87, 87, "10s")] {
-        let (asks, gives) = joining(&rt, &team, seconds)?;
-        join(&rt, &mut server, first..last + 1, &asks, &gives)?;
-    }
-    let query = octets(&rt, "0007 0100 one-name TEAM NB")?;
-    let cut = spelled(&rt, "0007 8780 reply TEAM", b"", "NB 10s 0204", 1..87)?;
-    expect(&rt, &mut server, 60_500, FIRST, &query, &cut)?;
-    let last_second = spelled(&rt, "0007 8780 reply TEAM", b"", "NB 1s 0204", 1..87)?;
-    expect(&rt, &mut server, 70_499, FIRST, &query, &last_second)?;
-    let all = spelled(&rt, "0007 8580 reply TEAM", b"", "NB 00000014 0204", 1..87)?;
-    expect(&rt, &mut server, 70_500, FIRST, &query, &all)
+    play_group(&rt, &mut started(&rt, 4096, 0)?, &NOT_LISTED)
 }
 
 const THIRD: u32 = 0x7F000004;
@@ -287,49 +357,76 @@ fn the_ttl_is_that_of_the_next_when_the_least_end_moves(rt: HostRuntime) -> Resu
 }
 
 /// The 1,000th member's lease lasts 10 s, and the others' 60 s; then it is renewed.
+const LAST_ENDS_FIRST: [Step; 6] = [
+    Step::Join(1, 999, JOINING, JOINED),
+    Step::Query(
+        60_500,
+        TEAM_QUERY,
+        "0007 8780 reply TEAM NB 60s 0204",
+        86,
+        572,
+    ),
+    Step::Join(
+        1_000,
+        1_000,
+        "0001 2900 two-parts TEAM NB again NB 10s group",
+        "0001 ad80 reply TEAM NB 10s group",
+    ),
+    Step::Query(
+        60_500,
+        TEAM_QUERY,
+        "0007 8780 reply TEAM NB 10s 0204",
+        86,
+        572,
+    ),
+    Step::Join(1_000, 1_000, JOINING, JOINED),
+    Step::Query(
+        60_500,
+        TEAM_QUERY,
+        "0007 8780 reply TEAM NB 60s 0204",
+        86,
+        572,
+    ),
+];
+
 #[test]
 fn of_1_000_members_the_last_ends_first(rt: HostRuntime) -> Result<(), Fail> {
-    let mut server = started(&rt, 4096, 0)?;
-    let team = octets(&rt, "TEAM")?;
-    let query = octets(&rt, "0007 0100 one-name TEAM NB")?;
-    for (first, last, seconds) in [(1, 999, "60s"), (1_000, 1_000, "10s"), (1_000, 1_000, "60s")] {
-        let (asks, gives) = joining(&rt, &team, seconds)?;
-        join(&rt, &mut server, first..last + 1, &asks, &gives)?;
-        let ttl = format!(in rt.alloc(); "NB {seconds} 0204")?;
-        let found = spelled(&rt, "0007 8780 reply TEAM", b"", &ttl, 1..87)?;
-        expect(&rt, &mut server, 60_500, FIRST, &query, &found)?;
-    }
-    Ok(())
-}
-
-/// TEAM in the longest scope, three labels of 63 octets and one of 28: its wire form has 255.
-fn team_in_the_longest_scope<R: AllocGlobal>(rt: &R) -> Result<Vec<u8>, Fail> {
-    let mut wire = octets(rt, "TEAM")?;
-    wire.pop();
-    for length in [63_u8, 63, 63, 28] {
-        wire.push(length)?;
-        for _ in 0..length {
-            wire.push(b'a')?;
-        }
-    }
-    wire.push(0)?;
-    Ok(wire)
+    play_group(&rt, &mut started(&rt, 4096, 0)?, &LAST_ENDS_FIRST)
 }
 
 /// Beside the longest name 49 entries, of 0x0126 octets, have room: (576 - 22 - 255) / 6.
+const OF_50: [Step; 4] = [
+    Step::Join(
+        1,
+        49,
+        "0001 2900 two-parts TEAM-in-the-longest-scope NB again NB 60s group",
+        "0001 ad80 reply TEAM-in-the-longest-scope NB 60s group",
+    ),
+    Step::Query(
+        60_500,
+        "0007 0100 one-name TEAM-in-the-longest-scope NB",
+        "0007 8580 reply TEAM-in-the-longest-scope NB 60s 0126",
+        49,
+        571,
+    ),
+    Step::Join(
+        50,
+        50,
+        "0001 2900 two-parts TEAM-in-the-longest-scope NB again NB 60s group",
+        "0001 ad80 reply TEAM-in-the-longest-scope NB 60s group",
+    ),
+    Step::Query(
+        60_500,
+        "0007 0100 one-name TEAM-in-the-longest-scope NB",
+        "0007 8780 reply TEAM-in-the-longest-scope NB 60s 0126",
+        49,
+        571,
+    ),
+];
+
 #[test]
 fn of_a_group_of_50_with_the_longest_name_49_are_listed(rt: HostRuntime) -> Result<(), Fail> {
-    let mut server = started(&rt, 4096, 0)?;
-    let team = team_in_the_longest_scope(&rt)?;
-    assert_eq!(rt; team.len(), 255);
-    let (asks, gives) = joining(&rt, &team, "60s")?;
-    let query = spelled(&rt, "0007 0100 one-name", &team, "NB", 0..0)?;
-    let all = spelled(&rt, "0007 8580 reply", &team, "NB 60s 0126", 1..50)?;
-    let cut = spelled(&rt, "0007 8780 reply", &team, "NB 60s 0126", 1..50)?;
-    join(&rt, &mut server, 1..50, &asks, &gives)?;
-    expect(&rt, &mut server, 60_500, FIRST, &query, &all)?;
-    join(&rt, &mut server, 50..51, &asks, &gives)?;
-    expect(&rt, &mut server, 60_500, FIRST, &query, &cut)
+    play_group(&rt, &mut started(&rt, 4096, 0)?, &OF_50)
 }
 
 const ENDING: [Row; 4] = [
@@ -355,7 +452,7 @@ const RELEASES: [Row; 6] = [
     (
         60_000,
         SECOND,
-        "0002 3000 two-parts FRED NB again NB 0s unique 127.0.0.2",
+        RELEASE,
         "0002 b405 reply FRED NB 0s unique 127.0.0.2",
     ),
     (
@@ -367,7 +464,7 @@ const RELEASES: [Row; 6] = [
     (
         60_000,
         FIRST,
-        "0002 3000 two-parts FRED NB again NB 0s unique 127.0.0.2",
+        RELEASE,
         "0002 b400 reply FRED NB 0s unique 127.0.0.2",
     ),
     (60_000, SECOND, QUERY, NOT_FOUND),
@@ -385,9 +482,57 @@ const RENEWAL: [Row; 4] = [
     (150_000, SECOND, QUERY, NOT_FOUND),
 ];
 
+/// Each member of a group renews its own.
+const RENEWAL_OF_MEMBERS: [Row; 6] = [
+    (
+        60_000,
+        FIRST,
+        "0001 2900 two-parts TEAM NB again NB 60s group 127.0.0.2",
+        "0001 ad80 reply TEAM NB 60s group 127.0.0.2",
+    ),
+    (
+        60_000,
+        SECOND,
+        "0001 2900 two-parts TEAM NB again NB 60s group 127.0.0.3",
+        "0001 ad80 reply TEAM NB 60s group 127.0.0.3",
+    ),
+    (
+        90_000,
+        FIRST,
+        "0001 4000 two-parts TEAM NB again NB 60s group 127.0.0.2",
+        "0001 ad80 reply TEAM NB 60s group 127.0.0.2",
+    ),
+    (
+        90_500,
+        SECOND,
+        "0001 4000 two-parts TEAM NB again NB 60s group 127.0.0.3",
+        "0001 ad80 reply TEAM NB 60s group 127.0.0.3",
+    ),
+    (
+        149_999,
+        FIRST,
+        "0007 0100 one-name TEAM NB",
+        "0007 8580 reply TEAM NB 1s 000c a000 127.0.0.2 a000 127.0.0.3",
+    ),
+    (
+        150_000,
+        FIRST,
+        "0007 0100 one-name TEAM NB",
+        "0007 8580 reply TEAM NB 1s 0006 a000 127.0.0.3",
+    ),
+];
+
+/// So does a registration that comes again.
+const REGISTERED_AGAIN: [Row; 4] = [
+    (60_000, FIRST, REGISTRATION, GRANTED),
+    (90_000, FIRST, REGISTRATION, GRANTED),
+    (149_999, SECOND, QUERY, FOUND),
+    (150_000, SECOND, QUERY, NOT_FOUND),
+];
+
 #[test]
 fn a_refresh_extends_its_senders_own_lease(rt: HostRuntime) -> Result<(), Fail> {
-    play_each(&rt, &[&RENEWAL])
+    play_each(&rt, &[&RENEWAL, &RENEWAL_OF_MEMBERS, &REGISTERED_AGAIN])
 }
 
 const SHORTER_RENEWAL: [Row; 4] = [
@@ -511,52 +656,109 @@ fn an_overwrite_is_refused_and_what_is_for_nodes_has_no_reply(rt: HostRuntime) -
     play_each(&rt, &[&NOT_FOR_A_SERVER])
 }
 
+/// The packets of every kind come from 127.0.0.2 at this moment, cut to each shorter length, and none has a reply.
+fn cut<R: Abort + AllocGlobal>(rt: &R, server: &mut Server, at: u64) -> Result<(), Fail> {
+    for words in EVERY_KIND {
+        let whole = octets(rt, words)?;
+        for length in 0..whole.len() {
+            expect(rt, server, at, FIRST, &whole[..length], b"")?;
+        }
+    }
+    Ok(())
+}
+
+const FREE: [Row; 2] = [
+    (60_000, SECOND, QUERY, NOT_FOUND),
+    (60_000, FIRST, REGISTRATION, GRANTED),
+];
+
+/// FRED's lease is neither longer nor gone.
+const LEASED: [Row; 2] = [
+    (119_999, SECOND, QUERY, FOUND),
+    (120_000, SECOND, QUERY, NOT_FOUND),
+];
+
+/// They come before a lease and while it lives.
+fn cut_before_and_after<R: Abort + AllocGlobal>(rt: &R, server: &mut Server) -> Result<(), Fail> {
+    cut(rt, server, 60_000)?;
+    play(rt, server, &FREE)?;
+    cut(rt, server, 90_000)?;
+    play(rt, server, &LEASED)
+}
+
 #[test]
-fn a_moment_that_goes_back_is_refused_in_the_silence_too(rt: HostRuntime) -> Result<(), Fail> {
-    let mut server = started(&rt, 4096, 0)?;
-    let registration = octets(&rt, REGISTRATION)?;
+fn packets_cut_at_every_length_have_no_reply_and_change_no_lease(
+    rt: HostRuntime,
+) -> Result<(), Fail> {
+    cut_before_and_after(&rt, &mut started(&rt, 4096, 0)?)
+}
+
+/// A datagram at a moment before the last one is refused, and has no reply.
+fn expect_back<R: Abort>(rt: &R, server: &mut Server, at: u64) -> Result<(), Fail> {
     let from = Addr {
         ip: FIRST,
         port: 137,
     };
-    for (at, earlier) in [(10_000, 9_999), (60_000, 59_000)] {
-        let mut out = ArrayVec::new();
-        server.on_datagram(moment(at)?, from, registration.as_slice(), &mut out)?;
-        let got = server.on_datagram(moment(earlier)?, from, registration.as_slice(), &mut out);
-        assert_eq!(&rt; got.err(), Some(ServerFault::ClockBack), "{earlier}");
-        assert!(&rt; out.is_empty(), "{earlier}");
-    }
-    assert_eq!(&rt; ServerFault::ClockBack.number(), 1);
-    assert!(&rt; server.last() == moment(60_000)?);
+    let mut out = ArrayVec::new();
+    let got = server.on_datagram(moment(at)?, from, REGISTRATION_OCTETS, &mut out);
+    assert_eq!(rt; got.err(), Some(ServerFault::ClockBack), "{at}");
+    assert!(rt; out.is_empty(), "{at}");
     Ok(())
+}
+
+/// Moments go back in the silence and after it.
+fn go_back<R: Abort + AllocGlobal>(rt: &R, server: &mut Server) -> Result<(), Fail> {
+    expect(rt, server, 10_000, FIRST, REGISTRATION_OCTETS, b"")?;
+    expect_back(rt, server, 9_999)?;
+    play(rt, server, &AFTER_THE_SILENCE)?;
+    expect_back(rt, server, 59_000)?;
+    assert!(rt; server.last() == moment(60_000)?);
+    Ok(())
+}
+
+#[test]
+fn a_moment_that_goes_back_is_refused_in_the_silence_too(rt: HostRuntime) -> Result<(), Fail> {
+    assert_eq!(&rt; ServerFault::ClockBack.number(), 1);
+    go_back(&rt, &mut started(&rt, 4096, 0)?)
+}
+
+/// A name of many registers, and gets its reply: the flags and counts of the reply, and what comes after its name.
+fn expect_one_of_many<R: Abort + AllocGlobal>(
+    rt: &R,
+    server: &mut Server,
+    number: u16,
+    head: &str,
+    tail: &str,
+) -> Result<(), Fail> {
+    let asks = one_of_many_in_words(
+        rt,
+        number,
+        "2900 two-parts",
+        "00 NB again NB 60s unique 127.0.0.2",
+    )?;
+    let gives = one_of_many_in_words(rt, number, head, tail)?;
+    expect(rt, server, 60_000, FIRST, asks.as_slice(), gives.as_slice())
 }
 
 #[test]
 fn as_many_names_as_there_are_rows_are_granted(rt: HostRuntime) -> Result<(), Fail> {
     let mut server = started(&rt, 4096, 0)?;
-    let head = octets(&rt, "2900 two-parts")?;
-    let tail = octets(&rt, "00 NB again NB 60s unique 127.0.0.2")?;
-    let granted = octets(&rt, "ad80 reply")?;
-    let full = octets(&rt, "ad82 reply")?;
-    let for_60 = octets(&rt, "00 NB 60s unique 127.0.0.2")?;
-    let for_0 = octets(&rt, "00 NB 0s unique 127.0.0.2")?;
-    for number in 0..4097 {
-        let asks = one_of_many(&rt, number, head.as_slice(), tail.as_slice())?;
-        let gives = if number < 4096 {
-            one_of_many(&rt, number, granted.as_slice(), for_60.as_slice())?
-        } else {
-            one_of_many(&rt, number, full.as_slice(), for_0.as_slice())?
-        };
-        expect(
+    for number in 0..4096 {
+        expect_one_of_many(
             &rt,
             &mut server,
-            60_000,
-            FIRST,
-            asks.as_slice(),
-            gives.as_slice(),
+            number,
+            "ad80 reply",
+            "00 NB 60s unique 127.0.0.2",
         )?;
     }
-    Ok(())
+    expect_one_of_many(
+        &rt,
+        &mut server,
+        4096,
+        "ad82 reply",
+        "00 NB 0s unique 127.0.0.2",
+    )
 }
 
 /// `REGISTRATION`, `GRANTED`, `QUERY` and `NOT_FOUND` as octets, which take no memory.

@@ -1,7 +1,7 @@
 //! Worlds, event by event, with what comes of each: a server at 127.0.0.1, nodes at 127.0.0.2 and 127.0.0.3, the life of a
 //! datagram 1,000 ms, the longest lease 60 s.
 
-use super::{REGISTRATION, config, octets};
+use super::{EVERY_KIND, REGISTRATION, config, octets, one_of_many};
 use Does::{Ask, Crash, Deliver, Join, NameStatus, Poll, Release, Resolve, Start, Stranger, Tick};
 use nbt_name::{Addr, Kind, Name};
 use nbt_world::Outcome::{self, Done, Down, Lost, Nobody, Nothing, Refused, Sent, Taken};
@@ -302,6 +302,67 @@ fn strangers_are_heard_and_answered_and_their_datagrams_have_no_number(
     play_all(&rt, &[(&STRANGERS, &[])])
 }
 
+/// The packets of every kind come from a stranger to an end, cut to each shorter length: they are taken, and none is
+/// replied to.
+fn cut<R: Abort + AllocGlobal>(
+    rt: &R,
+    world: &mut World,
+    from: Addr,
+    to: usize,
+) -> Result<(), Fail> {
+    for words in EVERY_KIND {
+        let whole = octets(rt, words)?;
+        for length in 0..whole.len() {
+            let mut octets = Vec::new(rt.alloc());
+            octets.extend_from_slice(&whole[..length])?;
+            let got = world.step(&Event::Stranger { from, to, octets })?;
+            assert_eq!(rt; got, Taken, "{length} of {words}");
+        }
+    }
+    Ok(())
+}
+
+/// Of a server and the node at 127.0.0.3.
+const UP: [Row; 3] = [(Start(0), Done), (Start(1), Done), (Tick(60_000), Done)];
+
+const FREE: [Row; 3] = [
+    (Ask(1, FRED), Sent(0)),
+    (Deliver(0), Sent(1)),
+    (Deliver(1), Taken),
+];
+
+const HELD: [Row; 3] = [
+    (Tick(59_877), Done),
+    (Stranger(FIRST, 0, REGISTRATION), Sent(2)),
+    (Stranger(FIRST, 1, STATUS_REQUEST), Sent(3)),
+];
+
+const STATUS_REQUEST: &str = "0009 0000 one-name STAR NBSTAT";
+
+/// A world without a node at 127.0.0.2, where a stranger is.
+fn with_a_stranger<R: AllocGlobal>(rt: &R) -> Result<World, Fail> {
+    Ok(World::new(rt.alloc(), config(4096)?, &[SERVER, SECOND])?)
+}
+
+/// They come before the node asks for a name and while it holds it.
+fn cut_before_and_after<R: Abort + AllocGlobal>(rt: &R, world: &mut World) -> Result<(), Fail> {
+    play(rt, world, &UP)?;
+    cut(rt, world, FIRST, 0)?;
+    cut(rt, world, FIRST, 1)?;
+    play(rt, world, &FREE)?;
+    holders(rt, world, FRED, &[1])?;
+    cut(rt, world, FIRST, 0)?;
+    cut(rt, world, FIRST, 1)?;
+    play(rt, world, &HELD)?;
+    holders(rt, world, FRED, &[1])
+}
+
+/// The stranger is 127.0.0.2, whose own names the packets are about.
+#[test]
+fn packets_of_a_stranger_cut_at_every_length_change_no_table(rt: HostRuntime) -> Result<(), Fail> {
+    cut_before_and_after(&rt, &mut with_a_stranger(&rt)?)
+}
+
 const GROUP: [Row; 10] = [
     (Start(0), Done),
     (Start(1), Done),
@@ -489,6 +550,52 @@ fn a_run_of_hundreds_of_events_ends_where_they_do_one_by_one(rt: HostRuntime) ->
     let mut run = world(&rt)?;
     assert_eq!(&rt; run.run(list.as_slice()), Ok(()));
     expect_same(&rt, &mut run, &mut stepped)
+}
+
+/// The registrations of 4,096 names by the stranger at 127.0.0.2.
+fn registrations<R: AllocGlobal>(rt: &R) -> Result<Vec<Event>, Fail> {
+    let head = octets(rt, "2900 two-parts")?;
+    let tail = octets(rt, "00 NB again NB 60s unique 127.0.0.2")?;
+    let mut events = Vec::new(rt.alloc());
+    for number in 0..4096 {
+        events.push(Event::Stranger {
+            from: FIRST,
+            to: 0,
+            octets: one_of_many(rt, number, head.as_slice(), tail.as_slice())?,
+        })?;
+    }
+    Ok(events)
+}
+
+/// One by one each of these is replied to.
+fn expect_replies<R: Abort + AllocGlobal>(
+    rt: &R,
+    world: &mut World,
+    events: &[Event],
+) -> Result<(), Fail> {
+    play(rt, world, &UP)?;
+    for (number, event) in events.iter().enumerate() {
+        assert_eq!(rt; world.step(event)?, Sent(number));
+    }
+    Ok(())
+}
+
+/// In a run they are too: the next datagram has the number of as many.
+fn expect_as_many<R: Abort + AllocGlobal>(
+    rt: &R,
+    world: &mut World,
+    events: &[Event],
+) -> Result<(), Fail> {
+    play(rt, world, &UP)?;
+    assert_eq!(rt; world.run(events), Ok(()));
+    play(rt, world, &[(Resolve(1, FRED), Sent(4096))])
+}
+
+#[test]
+fn nothing_lost_in_a_world(rt: HostRuntime) -> Result<(), Fail> {
+    let events = registrations(&rt)?;
+    expect_replies(&rt, &mut with_a_stranger(&rt)?, events.as_slice())?;
+    expect_as_many(&rt, &mut with_a_stranger(&rt)?, events.as_slice())
 }
 
 /// With memory all events are taken. `rt try --test --fail-alloc N` refuses the Nth allocation: one that the world

@@ -1,40 +1,55 @@
 use Rattle.std.proofs.Common.{refl, sym, ap, subst, arith, ℕ, ◌+◌}
+use Rattle.std.proofs.lemmas.Result.{err_from_is_err_and}
 use Rattle.nbt_name.specs.declared.reader.Reader.{Reader}
 use Rattle.nbt_name.specs.Wire.{IsName, AreOctets, name_of}
-use Rattle.nbt_name.specs.Reading.{Spot, Path, here, start}
+use Rattle.nbt_name.specs.Reading.{Spot}
 use Rattle.nbt_name.specs.Inner.Reader.{passed_of, spot_of}
-use Rattle.nbt_name.proofs.Walk.{Path-push}
+use Rattle.nbt_name.proofs.Passing.{later_passed}
 use Rattle.nbt_name.proofs.WireForms.{IsPassed, nothing, path_passed, closed_name}
 use Rattle.nbt_name.proofs.Ends.{step_within, step_works}
-use Rattle.nbt_name.proofs.Counts.{IsCounted, no_label, step_counts, turns_bounded}
+use Rattle.nbt_name.proofs.Counts.{OnPath, path_begins, path_goes_on, name_in_steps, refused_in_steps, IsCounted, no_label, step_counts, turns_bounded}
 use Rattle.nbt_name.proofs.reading.read.Goals as goal
 
 pub steps-init : goal.steps-init
 steps-init g c = record {
-  path = subst (λ (s : Spot). Path c.args.form c.args.octets.now (start c.args.place) s) (sym c.new-reader.ensures) (here (start c.args.place));
+  on_path = path_begins c.args.form c.args.octets.now c.args.place c.args.steps.now _ c.new-reader.ensures;
   within = rw (ap (λ (s : Spot). s.place) c.new-reader.ensures) c.requires;
   counted = subst (λ (s : Spot). IsCounted c.args.octets.now (c.args.steps.now + c.args.place) s c.args.steps.now) (sym c.new-reader.ensures) (record { labels = 0; are_labels = no_label refl; bound = omega arith });
 }
 
 pub steps-smaller : goal.steps-smaller
-steps-smaller g c = step_works c.args.octets.now c.steps.invariant.within (rw c.in-Moved.is at c.in_ok-turn.ensures)
+steps-smaller g c = step_works c.args.octets.now c.steps.invariant.within (rw c.in-Moved.is at c.in_ok-progress.ensures)
 
 pub steps-preserved : goal.steps-preserved
 steps-preserved g c =
-    let step = rw c.in-Moved.is at c.in_ok-turn.ensures in
-    record { path = Path-push _ c.steps.invariant.path step; within = step_within c.args.octets.now c.steps.invariant.within step; counted = subst (λ (n : ℕ). IsCounted c.args.octets.now (c.args.steps.now + c.args.place) (spot_of c.turn.new.self) n) (sym c.add_one.ensures) (step_counts c.args.octets.now _ _ step c.steps.invariant.counted) }
+    let step = rw c.in-Moved.is at c.in_ok-progress.ensures in
+    record {
+      on_path = subst (λ (n : ℕ). OnPath c.args.form c.args.octets.now c.args.place c.args.steps.now (spot_of c.turn.new.self) n) (sym c.add_one.ensures) (path_goes_on _ _ step c.steps.invariant.on_path);
+      within = step_within c.args.octets.now c.steps.invariant.within step;
+      counted = subst (λ (n : ℕ). IsCounted c.args.octets.now (c.args.steps.now + c.args.place) (spot_of c.turn.new.self) n) (sym c.add_one.ensures) (step_counts c.args.octets.now _ _ step c.steps.invariant.counted);
+    }
 
 pub from_parts-requires : goal.from_parts-requires
 from_parts-requires g c =
-    let turned = rw c.in-Closed.is at c.in_ok-turn.ensures in
+    let turned = rw c.in-Closed.is at c.in_ok-progress.ensures in
     let fits : AreOctets c.args.octets.now = λ k. omega (arith, c.type_inv.octets k) in
-    let passed : IsPassed (passed_of c.steps.reader.first c.steps.reader.scope.items) = path_passed c.args.octets.now fits c.steps.invariant.path (nothing refl) in
+    let passed : IsPassed (passed_of c.steps.reader.first c.steps.reader.scope.items) = path_passed c.args.octets.now fits c.steps.invariant.on_path.path (nothing refl) in
     let count = c.steps.reader.whole c.in-Closed.sixteen turned.1 in
     let name = closed_name c.args.octets.now c.in-Closed.sixteen c.steps.reader.scope.items count (rw turned.1 at passed) in
     subst (λ (r : Reader). IsName (name_of c.in-Closed.sixteen r.scope.items)) (sym turned.0) name
 
-pub returns-in_err-turn-clause-steps : goal.returns-in_err-turn-clause-steps
-returns-in_err-turn-clause-steps g c = omega (arith, c.add_one.ensures, turns_bounded c.args.octets.now c.args.steps.now c.args.place c.steps.steps (spot_of c.steps.reader) c.requires c.steps.invariant.counted)
+pub returns-in_err-progress-clause-refused : goal.returns-in_err-progress-clause-refused
+returns-in_err-progress-clause-refused g c =
+    let p = err_from_is_err_and c.from_residual.result c.from_residual.ensures.1 in
+    rw (p.1, p.2) (refused_in_steps c.steps.invariant.on_path c.in_err-progress.ensures)
+
+pub returns-in_err-progress-clause-most : goal.returns-in_err-progress-clause-most
+returns-in_err-progress-clause-most g c = omega (arith, turns_bounded c.args.octets.now c.args.steps.now c.args.place c.steps.steps (spot_of c.steps.reader) c.requires c.steps.invariant.counted)
 
 pub returns-in-Closed-clause-steps : goal.returns-in-Closed-clause-steps
-returns-in-Closed-clause-steps g c = omega (arith, c.add_one.ensures, turns_bounded c.args.octets.now c.args.steps.now c.args.place c.steps.steps (spot_of c.steps.reader) c.requires c.steps.invariant.counted)
+returns-in-Closed-clause-steps g c =
+    let turned = rw c.in-Closed.is at c.in_ok-progress.ensures in
+    rw c.add_one.ensures (name_in_steps c.steps.invariant.on_path (later_passed _ _ _ turned.1) turned.2)
+
+pub returns-in-Closed-clause-most : goal.returns-in-Closed-clause-most
+returns-in-Closed-clause-most g c = omega (arith, c.add_one.ensures, turns_bounded c.args.octets.now c.args.steps.now c.args.place c.steps.steps (spot_of c.steps.reader) c.requires c.steps.invariant.counted)

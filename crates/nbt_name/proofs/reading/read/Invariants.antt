@@ -1,13 +1,12 @@
 use Rattle.std.proofs.Common.{◌+◌, ◌≤◌, length}
-use Rattle.nbt_name.specs.Reading.{Path, start}
 use Rattle.nbt_name.specs.Inner.Reader.{spot_of}
 use Rattle.nbt_name.proofs.Ends.{work}
-use Rattle.nbt_name.proofs.Counts.{IsCounted}
+use Rattle.nbt_name.proofs.Counts.{OnPath, IsCounted}
 use Rattle.nbt_name.proofs.reading.read.Given as goal
 
 abbrev pub invariant-steps : goal.invariant-steps
 invariant-steps g l = record {
-  path : Path l.form l.octets (start l.place) (spot_of l.reader);
+  on_path : OnPath l.form l.octets l.place l.initial.steps (spot_of l.reader) l.steps;
   within : l.reader.place ≤ length l.octets;
   counted : IsCounted l.octets (l.initial.steps + l.place) (spot_of l.reader) l.steps;
 }

@@ -8,4 +8,6 @@ returns g c = record {
   fault = fault_iff Compressed c.args.octets.now c.args.place c.read.result c.read.ensures.name c.read.ensures.fault;
   within = result_within Compressed c.args.octets.now c.args.place c.read.result c.read.ensures.name;
   steps = c.read.ensures.steps;
+  refused = c.read.ensures.refused;
+  most = c.read.ensures.most;
 }
