@@ -10,7 +10,7 @@ pub mod Reading
 pub mod Worlds
 -- lines that are written, and lists of holders
 pub mod Written
--- the addresses of the ends
+-- the addresses of the ends, and numbers for them
 pub mod Places
 -- what the lines have printed so far
 pub mod Playing

@@ -1,20 +1,14 @@
 -- A script line by line: what its lines have printed so far, and what is left.
-use Rattle.std.proofs.Common.{◌≡◌, ◌≢◌, ◌∙◌, ℕ, ◌+◌, ◌<◌, ◌≤◌, List, [], ◌∷◌, ◌++◌, length, get_or, drop, drop-cons, length-drop, Bool, true, false, Option, None, Result, Ok, Err, refl, sym, subst, append_assoc, add-one, arith, codes}
+use Rattle.std.proofs.Common.{◌≡◌, ◌∙◌, ℕ, ◌+◌, List, [], ◌∷◌, ◌++◌, Bool, true, false, Option, None, Result, Ok, Err, refl, sym, subst, append_assoc, codes}
 use Rattle.std.specs.Prelude.{IfOk, MatchBool}
 use Rattle.std.proofs.lemmas.List.{append-nil}
-use denote.Ref.{Bor}
-use Rattle.nbt_text.specs.Texts.{texts}
 use Rattle.nbt_text.specs.Lines.{IsPassedOver, words}
 use Rattle.nbt_text.specs.Lines.{verdict_line}
 use Rattle.nbt_world.specs.World.{WorldValue}
-use Rattle.nbt_world.specs.declared.event.Event.TheVariants as event
 use Rattle.nbt_sim.specs.declared.instruction.Instruction.{Instruction}
-use Rattle.nbt_sim.specs.declared.instruction.Instruction.TheVariants as instruction
 use Rattle.nbt_sim.specs.declared.instruction.Line.{Line}
 use Rattle.nbt_sim.specs.declared.instruction.Line.TheVariants as line
-use Rattle.nbt_sim.proofs.Texts.{no_texts}
-use Rattle.nbt_sim.specs.declared.verb.Verb.{Verb}
-use Rattle.nbt_sim.specs.Line.{SaysOf, Says, says, config, at, start, crash, ask, release, resolve, status, poll, deliver, stranger, holders}
+use Rattle.nbt_sim.specs.Line.{Says}
 use Rattle.nbt_sim.specs.Inner.Line.{LineIs, passed_over, said, unreadable}
 use Rattle.nbt_sim.specs.Inner.Stage.{PlaysLine, is_passed_over, is_done, is_unreadable}
 use Rattle.nbt_sim.specs.Script.{Does, Fits, says_what_does_not_fit, Plays, ends, passes_over, does, stops}
@@ -36,50 +30,11 @@ nothing_in text _ (passed_over blank) e = absurd cc
 nothing_in text _ (said i some p) e = absurd cc
 nothing_in text _ (unreadable some none) e = (some, none)
 
--- no line moves the clock as an event
-of_no_tick : (v : Verb) (rest : List (List ℕ)) (i : Instruction) (ms : ℕ) → SaysOf v rest i → i ≢ instruction.Happens (event.Tick ms)
-of_no_tick _ _ _ ms (config a b c d l g r n p q s t u) e = cc
-of_no_tick _ _ _ ms (at a n p) e = cc
-of_no_tick _ _ _ ms (start a n p) e = cc
-of_no_tick _ _ _ ms (crash a n p) e = cc
-of_no_tick _ _ _ ms (ask a b c d n m k t p q r s) e = cc
-of_no_tick _ _ _ ms (release a b n m p q) e = cc
-of_no_tick _ _ _ ms (resolve a b n m p q) e = cc
-of_no_tick _ _ _ ms (status a b c n t m p q r) e = cc
-of_no_tick _ _ _ ms (poll a n p) e = cc
-of_no_tick _ _ _ ms (deliver a k p) e = cc
-of_no_tick _ _ _ ms (stranger a b c f t o p q r) e = cc
-of_no_tick _ _ _ ms (holders a m p) e = cc
-
-pub no_tick : (ws : List (List ℕ)) (i : Instruction) (ms : ℕ) → Says ws i → i ≢ instruction.Happens (event.Tick ms)
-no_tick _ _ ms (says v rest i p) = of_no_tick v rest i ms p
-
--- nor the clocks apart
-of_no_advance : (v : Verb) (rest : List (List ℕ)) (i : Instruction) (ms : ℕ) (readings : List ℕ) → SaysOf v rest i → i ≢ instruction.Happens (event.Advance ms readings)
-of_no_advance _ _ _ ms readings (config a b c d l g r n p q s t u) e = cc
-of_no_advance _ _ _ ms readings (at a n p) e = cc
-of_no_advance _ _ _ ms readings (start a n p) e = cc
-of_no_advance _ _ _ ms readings (crash a n p) e = cc
-of_no_advance _ _ _ ms readings (ask a b c d n m k t p q r s) e = cc
-of_no_advance _ _ _ ms readings (release a b n m p q) e = cc
-of_no_advance _ _ _ ms readings (resolve a b n m p q) e = cc
-of_no_advance _ _ _ ms readings (status a b c n t m p q r) e = cc
-of_no_advance _ _ _ ms readings (poll a n p) e = cc
-of_no_advance _ _ _ ms readings (deliver a k p) e = cc
-of_no_advance _ _ _ ms readings (stranger a b c f t o p q r) e = cc
-of_no_advance _ _ _ ms readings (holders a m p) e = cc
-
-pub no_advance : (ws : List (List ℕ)) (i : Instruction) (ms : ℕ) (readings : List ℕ) → Says ws i → i ≢ instruction.Happens (event.Advance ms readings)
-no_advance _ _ ms readings (says v rest i p) = of_no_advance v rest i ms readings p
-
 -- ---- the lines so far
 
 -- what the lines that are left print completes what all print
 abbrev pub Continues : (number : ℕ) (world : Option WorldValue) (left all : List (List ℕ)) (text : List ℕ) → Type 0
 Continues number world left all text = (well : Bool) (more : List ℕ) → Plays number world left well more → Plays 1 None all well (text ++ more)
-
-pub lines_from : (lines : List (Bor (List ℕ))) (i : ℕ) (d : Bor (List ℕ)) → i < length lines → texts (drop i lines) ≡ (get_or lines i d).now ∷ texts (drop (i + 1) lines)
-lines_from lines i d h = rw (add-one, drop-cons lines i d) refl
 
 pub after_line : (number : ℕ) (world next : Option WorldValue) (first : List ℕ) (rest all : List (List ℕ)) (text told : List ℕ) → Continues number world (first ∷ rest) all text → PlaysLine world first true next told
     → Continues (number + 1) next rest all (text ++ told)
@@ -93,9 +48,6 @@ stopped number world _ first rest all text _ so_far (is_unreadable next some can
 pub at_the_end : (number : ℕ) (world : Option WorldValue) (left all : List (List ℕ)) (text : List ℕ) → Continues number world left all text → left ≡ [] → Plays 1 None all true text
 at_the_end number world left all text so_far none = subst (λ (x : List ℕ). Plays 1 None all true x) (append-nil text) (so_far true [] (rw none (ends number world)))
 
-pub no_lines_left : (lines : List (Bor (List ℕ))) (i : ℕ) → length lines ≤ i → texts (drop i lines) ≡ []
-no_lines_left lines i h = no_texts (drop i lines) (simp length-drop (omega arith))
-
 -- ---- one line
 
 pub played_said : {E : Type 0} (r : Result Bool E) (world next : Option WorldValue) (text old new : List ℕ) (l : Line) (i : Instruction) → LineIs text l → l ≡ line.Says i
@@ -103,3 +55,9 @@ pub played_said : {E : Type 0} (r : Result Bool E) (world next : Option WorldVal
 played_said (Err e) world next text old new l i stands there h = tt
 played_said (Ok true) world next text old new l i stands there h = let s = said_in text l i stands there in (h.0, h.1, is_done i next h.0 s.0 s.1 h.2)
 played_said (Ok false) world next text old new l i stands there h = let s = said_in text l i stands there in ([], h.0 ∙ sym (append-nil old), is_unreadable next s.0 (says_what_does_not_fit i s.1 h.1))
+
+-- the clocks moved, or there isn't a number for each
+pub moved : (done : Bool) (text : List ℕ) (world next : Option WorldValue) (i : Instruction) → MatchBool done (Does world i next []) (¬ Fits world i)
+    → MatchBool done ((x : List ℕ) × (text ≡ text ++ x) × Does world i next x) ((text ≡ text) × (¬ Fits world i))
+moved true text world next i h = ([], sym (append-nil text), h)
+moved false text world next i h = (refl, h)

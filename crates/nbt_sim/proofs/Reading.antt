@@ -2,6 +2,7 @@
 use Rattle.std.proofs.Common.{◌≡◌, ℕ, List, [], ◌∷◌, Option, Some, None, Result, Ok, Err, refl, subst}
 use Rattle.std.specs.Prelude.{◌↔◌, IfOk, MatchOption}
 use Rattle.std.specs.Global.{Vec}
+use Rattle.arrayvec.specs.ArrayVec.{ArrayVec}
 use Rattle.nbt_name.specs.declared.addr.Addr.{Addr}
 use Rattle.nbt_name.specs.declared.addr.Kind.{Kind}
 use Rattle.nbt_name.specs.Wire.{NameValue}
@@ -12,11 +13,11 @@ use Rattle.nbt_text.specs.Number.{SpellsNumber}
 use Rattle.nbt_text.specs.Lines.{SpellsOctets}
 use Rattle.nbt_world.specs.declared.event.Event.TheVariants.{Start, Crash, Ask, Release, Resolve, NameStatus, Poll, Deliver, Stranger}
 use Rattle.nbt_sim.specs.declared.instruction.Instruction.{Instruction}
-use Rattle.nbt_sim.specs.declared.instruction.Instruction.TheVariants.{Config, At, Happens, Holders}
+use Rattle.nbt_sim.specs.declared.instruction.Instruction.TheVariants.{Config, At, Advance, Happens, Holders, Kept}
 use Rattle.nbt_sim.specs.declared.verb.Verb.{Verb}
 use Rattle.nbt_sim.specs.declared.verb.Verb.TheVariants as verbs
-use Rattle.nbt_sim.specs.Line.{Says, says, SaysOf, config, at, start, crash, ask, release, resolve, status, poll, deliver, stranger, holders}
-use Rattle.nbt_sim.specs.Words.{SpellsNode, SpellsEnd, SpellsSeconds, SpellsMoment, kind_word, verb_word}
+use Rattle.nbt_sim.specs.Line.{Says, says, SaysOf, config, at, advance, start, crash, ask, release, resolve, status, poll, deliver, stranger, holders, kept}
+use Rattle.nbt_sim.specs.Words.{SpellsNode, SpellsEnd, SpellsSeconds, SpellsMoment, SpellsMoves, kind_word, verb_word}
 
 -- ---- the parts of a line
 
@@ -27,6 +28,9 @@ config_in a b c d _ (config _ _ _ _ life longest rows nodes p q r s t) = (life, 
 
 at_in : (a : List ℕ) (i : Instruction) → SaysOf verbs.At (a ∷ []) i → (n : ℕ) × SpellsMoment a n × (i ≡ At n)
 at_in a _ (at _ n p) = (n, p, refl)
+
+advance_in : (a : List ℕ) (rest : List (List ℕ)) (i : Instruction) → SaysOf verbs.Advance (a ∷ rest) i → (n : ℕ) × (m : ArrayVec ℕ) × SpellsNumber a n × SpellsMoves rest m.items × (i ≡ Advance n m)
+advance_in a rest _ (advance _ _ n m p q) = (n, m, p, q, refl)
 
 start_in : (a : List ℕ) (i : Instruction) → SaysOf verbs.Start (a ∷ []) i → (n : ℕ) × SpellsEnd a n × (i ≡ Happens (Start n))
 start_in a _ (start _ n p) = (n, p, refl)
@@ -61,6 +65,9 @@ stranger_in a b c _ (stranger _ _ _ from to octets p q r) = (from, to, octets, p
 holders_in : (a : List ℕ) (i : Instruction) → SaysOf verbs.Holders (a ∷ []) i → (m : NameValue) × SpellsName a m × (i ≡ Holders m)
 holders_in a _ (holders _ m p) = (m, p, refl)
 
+kept_in : (i : Instruction) → SaysOf verbs.Kept [] i → i ≡ Kept
+kept_in _ kept = refl
+
 -- ---- where a part is missing, the line says nothing
 
 pub nothing : (r : Option Instruction) (i : Instruction) (P : Type 0) → r ≡ None → ¬ P → (r ≡ Some i) ↔ P
@@ -83,6 +90,23 @@ at_read ws a ns n i whole r0 s0 = rw whole (
 
 pub no_at_moment : (ws : List (List ℕ)) (a : List ℕ) (ns : Option ℕ) (r : Option Instruction) (i : Instruction) → ws ≡ a ∷ [] → Reads ℕ ns (SpellsMoment a) → ns ≡ None → r ≡ None → (r ≡ Some i) ↔ SaysOf verbs.At ws i
 no_at_moment ws a ns r i whole reads none e = rw whole (nothing r i _ e (λ s. let p = at_in a i s in let bad = (reads p.0).1 p.1 in cc))
+
+pub advance_read : (ws : List (List ℕ)) (a : List ℕ) (rest : List (List ℕ)) (ns : Option ℕ) (n : ℕ) (ms : Option (ArrayVec ℕ)) (m : ArrayVec ℕ) (i : Instruction) → ws ≡ a ∷ rest → Reads ℕ ns (SpellsNumber a) → ns ≡ Some n → Reads (ArrayVec ℕ) ms (λ m. SpellsMoves rest m.items) → ms ≡ Some m
+    → (◌≡◌ {A = Option Instruction} (Some (Advance n m)) (Some i)) ↔ SaysOf verbs.Advance ws i
+advance_read ws a rest ns n ms m i whole r0 s0 r1 s1 = rw whole (
+  λ e. let same : Advance n m ≡ i = cc in rw (← same) (advance a rest n m ((r0 n).0 s0) ((r1 m).0 s1)),
+  λ s.
+      let p = advance_in a rest i s in
+      let x0 = (r0 p.0).1 p.2 in
+      let x1 = (r1 p.1).1 p.3 in
+      let last = p.4 in cc,
+)
+
+pub no_advance_ms : (ws : List (List ℕ)) (a : List ℕ) (rest : List (List ℕ)) (ns : Option ℕ) (r : Option Instruction) (i : Instruction) → ws ≡ a ∷ rest → Reads ℕ ns (SpellsNumber a) → ns ≡ None → r ≡ None → (r ≡ Some i) ↔ SaysOf verbs.Advance ws i
+no_advance_ms ws a rest ns r i whole reads none e = rw whole (nothing r i _ e (λ s. let p = advance_in a rest i s in let bad = (reads p.0).1 p.2 in cc))
+
+pub no_advance_moves : (ws : List (List ℕ)) (a : List ℕ) (rest : List (List ℕ)) (ms : Option (ArrayVec ℕ)) (r : Option Instruction) (i : Instruction) → ws ≡ a ∷ rest → Reads (ArrayVec ℕ) ms (λ m. SpellsMoves rest m.items) → ms ≡ None → r ≡ None → (r ≡ Some i) ↔ SaysOf verbs.Advance ws i
+no_advance_moves ws a rest ms r i whole reads none e = rw whole (nothing r i _ e (λ s. let p = advance_in a rest i s in let bad = (reads p.1).1 p.3 in cc))
 
 pub start_read : (ws : List (List ℕ)) (a : List ℕ) (ns : Option ℕ) (n : ℕ) (i : Instruction) → ws ≡ a ∷ [] → Reads ℕ ns (SpellsEnd a) → ns ≡ Some n
     → (◌≡◌ {A = Option Instruction} (Some (Happens (Start n))) (Some i)) ↔ SaysOf verbs.Start ws i
@@ -250,6 +274,9 @@ module _ (ws : List (List ℕ)) (a b c d : List ℕ) (life_read longest_read row
       let e2 : p.2 ≡ rows = cc in
       let fits : IsConfig (config_of life longest rows) = rw (← e0, ← e1, ← e2) p.8 in
       let there = (limits (config_of life longest rows)).1 (fits, refl) in cc))
+
+pub kept_read : (ws : List (List ℕ)) (i : Instruction) → ws ≡ [] → (◌≡◌ {A = Option Instruction} (Some Kept) (Some i)) ↔ SaysOf verbs.Kept ws i
+kept_read ws i whole = rw whole (λ e. let same : Kept ≡ i = cc in rw (← same) kept, λ s. let same = kept_in i s in cc)
 
 -- ---- datagrams of strangers
 

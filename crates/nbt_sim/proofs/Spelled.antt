@@ -1,14 +1,19 @@
 -- What words spell: nodes, ends, addresses, numbers.
-use Rattle.std.proofs.Common.{◌≡◌, ◌≢◌, ◌∙◌, rules, ℕ, ◌+◌, ◌^◌, ◌<◌, ◌≤◌, ◌/◌, ◌%◌, List, [], ◌∷◌, length, get_or, Option, Some, None, Result, Ok, Err, ap, sym, refl, arith, codes, lit<}
+use Rattle.std.proofs.Common.{◌≡◌, ◌≢◌, ◌∙◌, rules, ℕ, suc, ◌+◌, ◌^◌, ◌<◌, ◌≤◌, ◌/◌, ◌%◌, List, [], ◌∷◌, ◌++◌, length, get_or, Option, Some, None, Result, Ok, Err, ap, sym, subst, refl, append_assoc, arith, codes, lit<}
 use Rattle.std.specs.Prelude.{◌↔◌, MatchResult, IsSome, IfSome}
 use Rattle.std.specs.Result.{OkIff, result_ok}
 use Rattle.std.specs.Str.{IsAscii, IsUtf8}
 use Rattle.std.proofs.lemmas.Fmt.{decimal_digit, IsAscii-decimal}
+use Rattle.std.proofs.lemmas.List.{append-nil}
 use Rattle.std.proofs.lemmas.Str.{IsAscii-append, IsUtf8-from_ascii}
+use denote.Ref.{Bor}
+use Rattle.arrayvec.specs.ArrayVec.{ArrayVec}
 use Rattle.nbt_name.specs.declared.addr.Addr.{Addr}
 use Rattle.nbt_text.specs.Address.{SpellsAddress, address_text}
+use Rattle.nbt_text.specs.Texts.{texts}
 use Rattle.nbt_text.specs.Number.{SpellsNumber}
-use Rattle.nbt_sim.specs.Words.{SpellsNode, SpellsEnd, the_server, a_node, SpellsSeconds, SpellsMoment}
+use Rattle.nbt_sim.proofs.Texts.{count_texts}
+use Rattle.nbt_sim.specs.Words.{SpellsNode, SpellsEnd, the_server, a_node, SpellsSeconds, SpellsMoment, SpellsNumbers, no_more, one_more, SpellsMoves}
 
 -- ---- nodes and ends
 
@@ -101,4 +106,69 @@ one_number_of_seconds E word numbers x (Ok m) r n reads some h value = (
 one_number_of_seconds E word numbers x (Err m) r n reads some h value = (
   λ e. absurd cc,
   λ s. let there = (reads n).1 s.number in let same : x ≡ n = cc in let fits = s.fits in absurd (h (omega arith)),
+)
+
+-- ---- a number for each word
+
+-- these numbers were read, and what is left spells the others
+pub record AreSpelled (left all : List (List ℕ)) (numbers : List ℕ) : Type 0 where
+  pub back : (more : List ℕ) → SpellsNumbers left more → SpellsNumbers all (numbers ++ more)
+  pub parts : (whole : List ℕ) → SpellsNumbers all whole → (more : List ℕ) × (whole ≡ numbers ++ more) × SpellsNumbers left more
+
+pub none_spelled : (all : List (List ℕ)) → AreSpelled all all []
+none_spelled all = record { back = λ more s. s; parts = λ whole s. (whole, refl, s) }
+
+first_number : (word : List ℕ) (words : List (List ℕ)) (numbers : List ℕ) → SpellsNumbers (word ∷ words) numbers → (n : ℕ) × (ns : List ℕ) × (numbers ≡ n ∷ ns) × SpellsNumber word n × SpellsNumbers words ns
+first_number _ _ _ (one_more word words n ns s rest) = (n, ns, refl, s, rest)
+
+no_numbers : (numbers : List ℕ) → SpellsNumbers [] numbers → numbers ≡ []
+no_numbers _ no_more = refl
+
+pub one_spelled : (word : List ℕ) (left all : List (List ℕ)) (numbers : List ℕ) (read : Option ℕ) (n : ℕ) → AreSpelled (word ∷ left) all numbers → ReadsNumber word read → read ≡ Some n → AreSpelled left all (numbers ++ n ∷ [])
+one_spelled word left all numbers read n so_far reads there = record {
+  back = λ more s. subst (λ (x : List ℕ). SpellsNumbers all x) (sym (append_assoc numbers (n ∷ []) more)) (so_far.back (n ∷ more) (one_more word left n more ((reads n).0 there) s));
+  parts = λ whole s.
+      let p = so_far.parts whole s in
+      let f = first_number word left p.0 p.2 in
+      let also = (reads f.0).1 f.3 in
+      let same : f.0 ≡ n = cc in
+      (f.1, p.1 ∙ ap (λ (x : List ℕ). numbers ++ x) (f.2 ∙ ap (λ (x : ℕ). x ∷ f.1) same) ∙ sym (append_assoc numbers (n ∷ []) f.1), f.4);
+}
+
+pub no_number : (word : List ℕ) (left all : List (List ℕ)) (numbers : List ℕ) (read : Option ℕ) (r : Option (ArrayVec ℕ)) (m : ArrayVec ℕ) → AreSpelled (word ∷ left) all numbers → ReadsNumber word read → read ≡ None → r ≡ None
+    → (r ≡ Some m) ↔ SpellsMoves all m.items
+no_number word left all numbers read r m so_far reads none e = (
+  λ there. absurd cc,
+  λ s.
+      let p = so_far.parts m.items s.numbers in
+      let f = first_number word left p.0 p.2 in
+      let also = (reads f.0).1 f.3 in absurd cc,
+)
+
+as_many : (words : List (List ℕ)) (numbers : List ℕ) → SpellsNumbers words numbers → length words ≡ length numbers
+as_many _ _ no_more = refl
+as_many _ _ (one_more word words n ns s rest) = ap suc (as_many words ns rest)
+
+pub too_many : (words : List (Bor (List ℕ))) (m : ArrayVec ℕ) → 9 < length words → (◌≡◌ {A = Option (ArrayVec ℕ)} None (Some m)) ↔ SpellsMoves (texts words) m.items
+too_many words m many = (
+  λ e. absurd cc,
+  λ s.
+      let same : length (texts words) ≡ length m.items = as_many (texts words) m.items s.numbers in
+      let count : length (texts words) ≡ length words = count_texts words in
+      let few = s.few in
+      absurd (omega arith),
+)
+
+pub all_spelled : (left all : List (List ℕ)) (read m : ArrayVec ℕ) → AreSpelled left all read.items → left ≡ [] → length read.items ≤ 9
+    → (◌≡◌ {A = Option (ArrayVec ℕ)} (Some read) (Some m)) ↔ SpellsMoves all m.items
+all_spelled left all read m so_far none few = (
+  λ e.
+      let same : read ≡ m = cc in
+      let whole : SpellsNumbers all (read.items ++ []) = so_far.back [] (rw none no_more) in
+      rw (← same) (record { numbers = subst (λ (x : List ℕ). SpellsNumbers all x) (append-nil read.items) whole; few = few }),
+  λ s.
+      let p = so_far.parts m.items s.numbers in
+      let empty : p.0 ≡ [] = no_numbers p.0 (rw none at p.2) in
+      let same : m.items ≡ read.items = p.1 ∙ ap (λ (x : List ℕ). read.items ++ x) empty ∙ append-nil read.items in
+      ap (λ (x : List ℕ). Some (record { items = x })) (sym same),
 )

@@ -1,5 +1,5 @@
 -- The words of a line, one by one.
-use Rattle.std.proofs.Common.{◌≡◌, ℕ, List, [], ◌∷◌, length, get_or, refl, arith}
+use Rattle.std.proofs.Common.{◌≡◌, ℕ, suc, ◌+◌, ◌<◌, ◌≤◌, List, [], ◌∷◌, length, get_or, drop, drop-cons, length-drop, refl, ap, add-one, arith}
 use denote.Ref.{Bor}
 use Rattle.nbt_text.specs.Texts.{texts}
 
@@ -36,6 +36,17 @@ four_texts (a ∷ b ∷ []) h = absurd (omega arith)
 four_texts (a ∷ b ∷ c ∷ []) h = absurd (omega arith)
 four_texts (a ∷ b ∷ c ∷ d ∷ []) h = refl
 four_texts (a ∷ b ∷ c ∷ d ∷ e ∷ ws) h = absurd (omega arith)
+
+-- the first of those that are left, and none
+pub texts_from : (words : List (Bor (List ℕ))) (i : ℕ) (d : Bor (List ℕ)) → i < length words → texts (drop i words) ≡ (get_or words i d).now ∷ texts (drop (i + 1) words)
+texts_from words i d h = rw (add-one, drop-cons words i d) refl
+
+pub no_texts_left : (words : List (Bor (List ℕ))) (i : ℕ) → length words ≤ i → texts (drop i words) ≡ []
+no_texts_left words i h = no_texts (drop i words) (simp length-drop (omega arith))
+
+pub count_texts : (words : List (Bor (List ℕ))) → length (texts words) ≡ length words
+count_texts [] = refl
+count_texts (w ∷ ws) = ap suc (count_texts ws)
 
 -- two octets that were read
 pub two_octets : (octets : List ℕ) (a b : ℕ) → length octets ≡ 2 → get_or octets 0 0 ≡ a → get_or octets 1 0 ≡ b → octets ≡ a ∷ b ∷ []

@@ -1,7 +1,5 @@
--- What steps leave: the moment, but for the clock's own; and whose fault a refusal is.
-use Rattle.std.proofs.Common.{◌≡◌, ◌≢◌, ◌∙◌, ℕ, ◌+◌, ◌-◌, ◌^◌, ◌≤◌, List, Some, None, Result, Ok, Err, refl, ap, subst, arith, min}
-use Rattle.std.specs.Prelude.{IfOk, OnErr}
-use Rattle.nbt_name.specs.declared.addr.Addr.{Addr}
+-- Where a tick leads, and whose fault a refusal is.
+use Rattle.std.proofs.Common.{◌≡◌, ◌∙◌, ℕ, ◌+◌, ◌-◌, ◌^◌, ◌≤◌, List, Some, None, refl, ap, subst, arith, min}
 use Rattle.nbt_node.specs.Node.{NodeValue}
 use Rattle.nbt_node.specs.Numbers.{ask_fault_number, release_fault_number, lookup_fault_number}
 use Rattle.nbt_world.specs.World.{WorldValue}
@@ -22,8 +20,6 @@ use Rattle.nbt_world.specs.Step.{
   from_an_end,
   to_no_end,
   from_a_stranger,
-  after,
-  after_taking,
   outcome_of,
   outcome_of_taking,
   GivenValue,
@@ -46,7 +42,6 @@ use Rattle.nbt_world.specs.Step.{
   polls,
   polls_nothing,
 }
-use Rattle.nbt_world.specs.declared.ends.Ends.{Ends}
 use Rattle.nbt_world.specs.declared.event.Event.{Event}
 use Rattle.nbt_world.specs.declared.event.Event.TheVariants.{Tick, Advance}
 use Rattle.nbt_world.specs.declared.event.Outcome.{Outcome}
@@ -55,39 +50,6 @@ use Rattle.nbt_sim.specs.Words.{ask_fault_word, release_fault_word, lookup_fault
 use Rattle.nbt_sim.specs.Script.{NamesRefusal, of_ask, of_release, of_resolve, of_status}
 
 -- ---- the moment
-
-after_now : (w : WorldValue) (number : ℕ) (new : NodeValue) (given : GivenValue) → (after w number new given).now ≡ w.now
-after_now w number new nothing = refl
-after_now w number new (refusal n) = refl
-after_now w number new (octets_to to octets) = refl
-
-taking_now : (w : WorldValue) (ends : Ends) (from to : Addr) (taken : TakenValue) → (after_taking w ends from to taken).now ≡ w.now
-taking_now w ends from to is_down = refl
-taking_now w ends from to is_lost = refl
-taking_now w ends from to (takes None) = refl
-taking_now w ends from to (takes (Some reply)) = refl
-
-pub same_moment : (old new : WorldValue) (event : Event) (outcome : Outcome) → Step old event outcome new → ((ms : ℕ) → event ≢ Tick ms) → ((ms : ℕ) (readings : List ℕ) → event ≢ Advance ms readings) → new.now ≡ old.now
-same_moment old _ _ _ (ticks ms v adv) other more = absurd (other ms refl)
-same_moment old _ _ _ (advances ms readings v adv) other more = absurd (more ms readings refl)
-same_moment old _ _ _ (starts number ends s) other more = refl
-same_moment old _ _ _ (starts_nothing number s) other more = refl
-same_moment old _ _ _ (crashes number ends s) other more = refl
-same_moment old _ _ _ (crashes_nothing number s) other more = refl
-same_moment old _ _ _ (node_does event number node new given p q d) other more = after_now old number new given
-same_moment old _ _ _ (node_is_down event number p q) other more = refl
-same_moment old _ _ _ (no_datagram k p) other more = refl
-same_moment old _ _ _ (no_end k d p q) other more = refl
-same_moment old _ _ _ (too_late k d number p q r) other more = refl
-same_moment old _ _ _ (delivered k d number taken ends p q r s) other more = taking_now old ends d.to d.from taken
-same_moment old _ _ _ (from_an_end from number octets p) other more = refl
-same_moment old _ _ _ (to_no_end from number octets p) other more = refl
-same_moment old _ _ _ (from_a_stranger from addr number octets taken ends p q r) other more = taking_now old ends addr from taken
-
--- whatever a call of the world returned
-pub moment_kept : {E : Type 0} (r : Result Outcome E) (old new : WorldValue) (event : Event) → IfOk r (λ outcome. Step old event outcome new) → OnErr r (new ≡ old) → ((ms : ℕ) → event ≢ Tick ms) → ((ms : ℕ) (readings : List ℕ) → event ≢ Advance ms readings) → new.now ≡ old.now
-moment_kept (Ok outcome) old new event s same other more = same_moment old new event outcome s other more
-moment_kept (Err e) old new event s same other more = ap (λ (w : WorldValue). w.now) same
 
 ticked_to : (old new : WorldValue) (event : Event) (outcome : Outcome) (ms : ℕ) → Step old event outcome new → event ≡ Tick ms → (outcome ≡ Done) × (new.now.clock ≡ min (old.now.clock + ms) (2 ^ 60))
 ticked_to old _ _ _ ms (ticks n v adv) e = let same : n ≡ ms = cc in (refl, adv.now ∙ ap (λ (x : ℕ). min (old.now.clock + x) (2 ^ 60)) same)
@@ -105,6 +67,29 @@ ticked_to old _ _ _ ms (delivered k d number taken ends p q r s) e = absurd cc
 ticked_to old _ _ _ ms (from_an_end from number octets p) e = absurd cc
 ticked_to old _ _ _ ms (to_no_end from number octets p) e = absurd cc
 ticked_to old _ _ _ ms (from_a_stranger from addr number octets taken ends p q r) e = absurd cc
+
+drifts_done : (old new : WorldValue) (event : Event) (outcome : Outcome) (ms : ℕ) (readings : List ℕ) → Step old event outcome new → event ≡ Advance ms readings → outcome ≡ Done
+drifts_done old _ _ _ ms readings (ticks n v adv) e = absurd cc
+drifts_done old _ _ _ ms readings (advances n moves v adv) e = refl
+drifts_done old _ _ _ ms readings (starts number ends s) e = absurd cc
+drifts_done old _ _ _ ms readings (starts_nothing number s) e = absurd cc
+drifts_done old _ _ _ ms readings (crashes number ends s) e = absurd cc
+drifts_done old _ _ _ ms readings (crashes_nothing number s) e = absurd cc
+drifts_done old _ _ _ ms readings (node_does event number node new given p q d) e = let bad = rw e at p in absurd cc
+drifts_done old _ _ _ ms readings (node_is_down event number p q) e = let bad = rw e at p in absurd cc
+drifts_done old _ _ _ ms readings (no_datagram k p) e = absurd cc
+drifts_done old _ _ _ ms readings (no_end k d p q) e = absurd cc
+drifts_done old _ _ _ ms readings (too_late k d number p q r) e = absurd cc
+drifts_done old _ _ _ ms readings (delivered k d number taken ends p q r s) e = absurd cc
+drifts_done old _ _ _ ms readings (from_an_end from number octets p) e = absurd cc
+drifts_done old _ _ _ ms readings (to_no_end from number octets p) e = absurd cc
+drifts_done old _ _ _ ms readings (from_a_stranger from addr number octets taken ends p q r) e = absurd cc
+
+-- the clocks go on, each by its own number
+pub drifts_to : (old new : WorldValue) (outcome : Outcome) (ms : ℕ) (readings entries : List ℕ) → Step old (Advance ms readings) outcome new → readings ≡ entries → Step old (Advance ms entries) Done new
+drifts_to old new outcome ms readings entries s same =
+    let t = subst (λ (x : Outcome). Step old (Advance ms readings) x new) (drifts_done old new (Advance ms readings) outcome ms readings s refl) s in
+    subst (λ (x : List ℕ). Step old (Advance ms x) Done new) same t
 
 -- the clock goes on to a moment
 pub goes_to : (old new : WorldValue) (outcome : Outcome) (moment : ℕ) → Step old (Tick (moment - old.now.clock)) outcome new → old.now.clock ≤ moment → moment ≤ 2 ^ 60

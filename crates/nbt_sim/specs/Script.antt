@@ -1,6 +1,7 @@
 -- What a script prints: its lines, one after the other, each in the world that those before it made (our profile).
-use Rattle.std.specs.Prelude.{◌≡◌, ℕ, ◌+◌, ◌-◌, ◌<◌, ◌≤◌, ◌↔◌, List, [], ◌∷◌, ◌++◌, length, slice_get, slice_index_or, Contains, Option, Some, None, Bool, true, false, codes}
+use Rattle.std.specs.Prelude.{◌≡◌, ℕ, ◌+◌, ◌-◌, ◌<◌, ◌≤◌, ◌↔◌, List, [], ◌∷◌, ◌++◌, length, slice_get, slice_index_or, replicate, Contains, Option, Some, None, Bool, true, false, codes}
 use Rattle.std.specs.Fmt.{decimal}
+use Rattle.arrayvec.specs.ArrayVec.{ArrayVec}
 use Rattle.nbt_name.specs.declared.addr.Addr.{Addr}
 use Rattle.nbt_name.specs.declared.addr.Kind.{Kind}
 use Rattle.nbt_name.specs.Wire.{NameValue}
@@ -13,18 +14,18 @@ use Rattle.nbt_text.specs.NameText.{PrintsName}
 use Rattle.nbt_text.specs.Lines.{newline}
 use Rattle.nbt_text.specs.Lines.{IsPassedOver, words}
 use Rattle.nbt_text.specs.Lines.{verdict_line}
-use Rattle.nbt_world.specs.World.{WorldValue, IsFresh}
+use Rattle.nbt_world.specs.World.{WorldValue, IsEnd, IsFresh}
 use Rattle.nbt_world.specs.Step.{Step}
 use Rattle.nbt_world.specs.Safety.{holding}
 use Rattle.nbt_world.specs.declared.ends.Holder.{Holder}
 use Rattle.nbt_world.specs.declared.event.Event.{Event}
-use Rattle.nbt_world.specs.declared.event.Event.TheVariants.{Tick, Ask, Release, Resolve, NameStatus}
+use Rattle.nbt_world.specs.declared.event.Event.TheVariants.{Tick, Advance, Ask, Release, Resolve, NameStatus}
 use Rattle.nbt_world.specs.declared.event.Outcome.{Outcome}
 use Rattle.nbt_world.specs.declared.event.Outcome.TheVariants as o
 use Rattle.nbt_sim.specs.declared.instruction.Instruction.{Instruction}
 use Rattle.nbt_sim.specs.declared.instruction.Instruction.TheVariants as instruction
 use Rattle.nbt_sim.specs.Line.{Says}
-use Rattle.nbt_sim.specs.Words.{kind_word, ask_fault_word, release_fault_word, lookup_fault_word}
+use Rattle.nbt_sim.specs.Words.{kind_word, kept_word, ask_fault_word, release_fault_word, lookup_fault_word}
 
 -- ---- the world of a script
 
@@ -41,15 +42,21 @@ pub record ArePlaces (addrs : List Addr) (nodes : ℕ) : Type 0 where
 abbrev pub AreFew : (nodes : ℕ) → Type 0
 AreFew nodes = (1 ≤ nodes) × (nodes ≤ 8)
 
--- Which instruction can be done: `config` where there is no world, and each other one in a world; the clock doesn't go
--- back.
+-- There is one number for each end of the world.
+abbrev pub AreForEnds : WorldValue → (moves : List ℕ) → Type 0
+AreForEnds world moves = (number : ℕ) → (number < length moves) ↔ IsEnd world.ends number
+
+-- Which instruction can be done: `config` where there is no world, and each other one in a world; the true clock doesn't
+-- go back, and the clocks go on by one number for each end.
 abbrev pub Fits : Option WorldValue → Instruction → Type 0
 Fits None (instruction.Config config nodes) = AreFew nodes
 Fits None _ = ⊥
 Fits (Some world) (instruction.Config config nodes) = ⊥
 Fits (Some world) (instruction.At moment) = world.now.clock ≤ moment
+Fits (Some world) (instruction.Advance ms moves) = AreForEnds world moves.items
 Fits (Some world) (instruction.Happens event) = Unit {0}
 Fits (Some world) (instruction.Holders name) = Unit {0}
+Fits (Some world) instruction.Kept = Unit {0}
 
 -- ---- what is printed
 
@@ -95,15 +102,21 @@ pub record PrintsHolders (world : WorldValue) (name : NameValue) (text : List �
   pub holders_are : AreHolders world name holders
   pub text_is : text ≡ codes "holders " ++ printed ++ codes ": " ++ holders_text holders
 
+-- the nine entries of an event, of which those of ends that the world hasn't are 0
+abbrev pub entries : (moves : List ℕ) → List ℕ
+entries moves = moves ++ replicate (9 - length moves) 0
+
 -- What an instruction makes of a script's world, and what it prints.
 pub data Does : Option WorldValue → Instruction → Option WorldValue → List ℕ → Type 0 where
   begins : (config : ConfigValue) (nodes : ℕ) (addrs : List Addr) (world : WorldValue) → AreFew nodes → ArePlaces addrs nodes → IsFresh config addrs world
       → Does None (instruction.Config config nodes) (Some world) []
   goes_on : (moment : ℕ) (world next : WorldValue) → world.now.clock ≤ moment → Step world (Tick (moment - world.now.clock)) o.Done next → next.now.clock ≡ moment
       → Does (Some world) (instruction.At moment) (Some next) []
+  drifts : (ms : ℕ) (moves : ArrayVec ℕ) (world next : WorldValue) → AreForEnds world moves.items → Step world (Advance ms (entries moves.items)) o.Done next → Does (Some world) (instruction.Advance ms moves) (Some next) []
   happens : (event : Event) (outcome : Outcome) (world next : WorldValue) (text : List ℕ) → Step world event outcome next → PrintsOutcome event outcome text
       → Does (Some world) (instruction.Happens event) (Some next) (text ++ newline)
   tells : (name : NameValue) (world : WorldValue) (text : List ℕ) → PrintsHolders world name text → Does (Some world) (instruction.Holders name) (Some world) (text ++ newline)
+  tells_kept : (world : WorldValue) → Does (Some world) instruction.Kept (Some world) (kept_word world.kept ++ newline)
 
 -- The words say nothing, or what can't be done in this world.
 pub data IsUnreadable (world : Option WorldValue) (words : List (List ℕ)) : Type 0 where

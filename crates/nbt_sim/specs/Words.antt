@@ -1,5 +1,5 @@
 -- The words of a script (our profile).
-use Rattle.std.specs.Prelude.{◌≡◌, ℕ, ◌≤◌, ◌<◌, ◌^◌, List, ◌++◌, codes}
+use Rattle.std.specs.Prelude.{◌≡◌, ℕ, ◌≤◌, ◌<◌, ◌^◌, Bool, true, false, List, [], ◌∷◌, ◌++◌, length, codes}
 use Rattle.std.specs.Fmt.{decimal}
 use Rattle.nbt_name.specs.declared.addr.Kind.{Kind}
 use Rattle.nbt_name.specs.declared.addr.Kind.TheVariants.{Unique, Group}
@@ -11,7 +11,7 @@ use Rattle.nbt_node.specs.declared.fault.LookupFault.{LookupFault}
 use Rattle.nbt_node.specs.declared.fault.LookupFault.TheVariants as lookups
 use Rattle.nbt_text.specs.Number.{SpellsNumber}
 use Rattle.nbt_sim.specs.declared.verb.Verb.{Verb}
-use Rattle.nbt_sim.specs.declared.verb.Verb.TheVariants.{Config, At, Start, Crash, Ask, Release, Resolve, Status, Poll, Deliver, Stranger, Holders}
+use Rattle.nbt_sim.specs.declared.verb.Verb.TheVariants.{Config, At, Advance, Start, Crash, Ask, Release, Resolve, Status, Poll, Deliver, Stranger, Holders, Kept}
 
 -- ---- the words of a line
 
@@ -19,6 +19,7 @@ use Rattle.nbt_sim.specs.declared.verb.Verb.TheVariants.{Config, At, Start, Cras
 abbrev pub verb_word : Verb → List ℕ
 verb_word Config = codes "config"
 verb_word At = codes "at"
+verb_word Advance = codes "advance"
 verb_word Start = codes "start"
 verb_word Crash = codes "crash"
 verb_word Ask = codes "ask"
@@ -29,6 +30,7 @@ verb_word Poll = codes "poll"
 verb_word Deliver = codes "deliver"
 verb_word Stranger = codes "stranger"
 verb_word Holders = codes "holders"
+verb_word Kept = codes "kept"
 
 -- nodes are `n1` to `n8`
 pub record SpellsNode (word : List ℕ) (number : ℕ) : Type 0 where
@@ -55,6 +57,16 @@ pub record SpellsMoment (word : List ℕ) (moment : ℕ) : Type 0 where
   pub number : SpellsNumber word moment
   pub fits : moment ≤ 2 ^ 60
 
+-- each word a number
+pub data SpellsNumbers : List (List ℕ) → List ℕ → Type 0 where
+  no_more : SpellsNumbers [] []
+  one_more : (word : List ℕ) (words : List (List ℕ)) (number : ℕ) (numbers : List ℕ) → SpellsNumber word number → SpellsNumbers words numbers → SpellsNumbers (word ∷ words) (number ∷ numbers)
+
+-- by how many milliseconds the ends' clocks go on: no world has more than nine ends
+pub record SpellsMoves (words : List (List ℕ)) (moves : List ℕ) : Type 0 where
+  pub numbers : SpellsNumbers words moves
+  pub few : length moves ≤ 9
+
 -- ---- the words of what is printed
 
 abbrev pub ask_fault_word : AskFault → List ℕ
@@ -72,3 +84,7 @@ abbrev pub lookup_fault_word : LookupFault → List ℕ
 lookup_fault_word lookups.Busy = codes "Busy"
 lookup_fault_word lookups.ClockBack = codes "ClockBack"
 lookup_fault_word lookups.BadName = codes "BadName"
+
+abbrev pub kept_word : (kept : Bool) → List ℕ
+kept_word true = codes "kept"
+kept_word false = codes "broken"

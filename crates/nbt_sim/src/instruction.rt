@@ -1,15 +1,19 @@
 //! What a line of a script asks for.
 
-ghost use Rattle.std.specs.Prelude.{◌≡◌, ◌↔◌, Some, IfOk, MatchOption};
+ghost use Rattle.std.specs.Prelude.{◌≡◌, ◌↔◌, ℕ, Some, IfOk, MatchOption};
+ghost use Rattle.arrayvec.specs.ArrayVec.{ArrayVec as Moves};
 ghost use Rattle.nbt_lease.specs.Config.{ConfigValue, IsConfig, config_of as limits_of};
 ghost use Rattle.nbt_text.specs.Texts.{texts};
 ghost use Rattle.nbt_sim.specs.declared.instruction.Instruction.{Instruction};
 ghost use Rattle.nbt_sim.specs.declared.verb.Verb.TheVariants as verbs;
 ghost use Rattle.nbt_sim.specs.Line.{Says, SaysOf};
+ghost use Rattle.nbt_sim.specs.Words.{SpellsMoves};
 ghost use Rattle.nbt_sim.specs.Inner.Line.{LineIs};
 
+use crate::stage::ENDS_MOST;
 use crate::verb::{Verb, verb_of};
 use crate::words::{address_of, count_of, end_of, kind_of, moment_of, node_of, seconds_of};
+use arrayvec::ArrayVec;
 use nbt_lease::{Config, Moment};
 use nbt_name::Name;
 use nbt_text::{is_remark, octets_of, parse_name, parse_number, words_of};
@@ -21,12 +25,21 @@ use std::alloc::{AllocError, Global};
 pub enum Instruction {
     /// A world with these limits and this number of nodes.
     Config(Config, usize),
-    /// The clock goes on to a moment.
+    /// All clocks go on alike, and the true one to a moment.
     At(Moment),
+    /// The clocks go on, each by its own number of milliseconds.
+    Advance {
+        /// By how much the true clock goes on.
+        ms: u64,
+        /// By how much the ends' clocks do: the server's, and then the nodes'.
+        moves: ArrayVec<u64, 9>,
+    },
     /// Something happens in the world.
     Happens(Event),
     /// Who holds a name.
     Holders(Name),
+    /// Whether the clocks kept the drift bound so far.
+    Kept,
 }
 
 /// What stands in a line.
@@ -82,6 +95,7 @@ fn arguments_of(verb: Verb, words: &[&[u8]]) -> Option<Instruction>
     match verb {
         Verb::Config => config_of(words),
         Verb::At => at_of(words),
+        Verb::Advance => advance_of(words),
         Verb::Start => start_of(words),
         Verb::Crash => crash_of(words),
         Verb::Ask => ask_of(words),
@@ -92,6 +106,7 @@ fn arguments_of(verb: Verb, words: &[&[u8]]) -> Option<Instruction>
         Verb::Deliver => deliver_of(words),
         Verb::Stranger => unreachable!(),
         Verb::Holders => holders_of(words),
+        Verb::Kept => kept_of(words),
     }
 }
 
@@ -126,6 +141,32 @@ fn at_of(words: &[&[u8]]) -> Option<Instruction>
         return None;
     };
     Some(Instruction::At(moment_of(moment)?))
+}
+
+/// `MS S N1 ..`.
+fn advance_of(words: &[&[u8]]) -> Option<Instruction>
+    ensures { (i : Instruction) → (result ≡ Some i) ↔ SaysOf verbs.Advance (texts words.now) i }
+{
+    let Some((ms, moves)) = words.split_first() else {
+        return None;
+    };
+    let ms = parse_number(ms)?;
+    let moves = moves_of(moves)?;
+    Some(Instruction::Advance { ms, moves })
+}
+
+/// A number for each word, and nine at most.
+fn moves_of(words: &[&[u8]]) -> Option<ArrayVec<u64, 9>>
+    ensures { (moves : Moves ℕ) → (result ≡ Some moves) ↔ SpellsMoves (texts words.now) moves.items }
+{
+    if words.len() > ENDS_MOST {
+        return None;
+    }
+    let mut moves = ArrayVec::new();
+    for word in words {
+        moves.push(parse_number(word)?);
+    }
+    Some(moves)
 }
 
 /// `E`, which starts.
@@ -232,6 +273,17 @@ fn holders_of(words: &[&[u8]]) -> Option<Instruction>
         return None;
     };
     Some(Instruction::Holders(parse_name(name)?))
+}
+
+/// Nothing more.
+fn kept_of(words: &[&[u8]]) -> Option<Instruction>
+    ensures { (i : Instruction) → (result ≡ Some i) ↔ SaysOf verbs.Kept (texts words.now) i }
+{
+    if words.is_empty() {
+        Some(Instruction::Kept)
+    } else {
+        None
+    }
 }
 
 /// `ADDRESS E HEX`.

@@ -11,7 +11,7 @@ ghost use Rattle.nbt_text.specs.Lines.{newline};
 ghost use Rattle.nbt_world.specs.World.{WorldValue};
 ghost use Rattle.nbt_world.specs.Step.{Step};
 ghost use Rattle.nbt_sim.specs.Script.{NamesRefusal, PrintsHolders, PrintsOutcome, holder_text, holders_text};
-ghost use Rattle.nbt_sim.specs.Words.{ask_fault_word, kind_word, lookup_fault_word, release_fault_word};
+ghost use Rattle.nbt_sim.specs.Words.{ask_fault_word, kept_word, kind_word, lookup_fault_word, release_fault_word};
 
 use nbt_name::{Kind, Name};
 use nbt_text::write_name;
@@ -100,6 +100,17 @@ pub fn write_holders(world: &World, name: &Name, out: &mut String) -> Result<(),
     out.push_str(": ")?;
     write_list(world.holders(name).as_slice(), out)?;
     out.push_str("\n")
+}
+
+/// Appends the line of whether the clocks kept the drift bound so far.
+pub fn write_kept(world: &World, out: &mut String) -> Result<(), AllocError>
+    ensures { OnOk result (string_bytes out.new ≡ string_bytes out.old ++ kept_word world.now.kept ++ newline) }
+{
+    if world.kept() {
+        out.push_str("kept\n")
+    } else {
+        out.push_str("broken\n")
+    }
 }
 
 /// Appends holders, or `none` where there are none.

@@ -1,9 +1,7 @@
 //! Scripts, line by line.
 
-ghost use Rattle.std.specs.Prelude.{◌≡◌, ◌≢◌, ◌++◌, ℕ, List, [], None, MatchBool, IfOk};
+ghost use Rattle.std.specs.Prelude.{◌≡◌, ◌++◌, ℕ, List, [], None, MatchBool, IfOk};
 ghost use Rattle.std.specs.String.{string_bytes};
-ghost use Rattle.nbt_world.specs.declared.event.Event.TheVariants as Event;
-ghost use Rattle.nbt_sim.specs.declared.instruction.Instruction.TheVariants as Instruction;
 ghost use Rattle.nbt_text.specs.Texts.{texts};
 ghost use Rattle.nbt_text.specs.Lines.{lines};
 ghost use Rattle.nbt_sim.specs.Script.{Does, Fits, Plays};
@@ -64,8 +62,6 @@ fn does(
     instruction: &Instruction,
     out: &mut String,
 ) -> Result<bool, AllocError>
-    requires ticks { (ms : ℕ) → instruction.now ≢ Instruction.Happens (Event.Tick ms) }
-    requires advances { (ms : ℕ) (readings : List ℕ) → instruction.now ≢ Instruction.Happens (Event.Advance ms readings) }
     ensures { IfOk result (λ done. MatchBool done
         ((text : List ℕ) × (string_bytes out.new ≡ string_bytes out.old ++ text)
         × Does (world_of stage.old) instruction.now (world_of stage.new) text)
@@ -77,12 +73,17 @@ fn does(
     match instruction {
         Instruction::Config(..) => Ok(false),
         Instruction::At(moment) => Ok(stage.go_on(*moment)),
+        Instruction::Advance { ms, moves } => Ok(stage.drift(*ms, moves)),
         Instruction::Happens(event) => {
             stage.happen(event, out)?;
             Ok(true)
         }
         Instruction::Holders(name) => {
             stage.tell(name, out)?;
+            Ok(true)
+        }
+        Instruction::Kept => {
+            stage.tell_kept(out)?;
             Ok(true)
         }
     }

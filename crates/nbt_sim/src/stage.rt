@@ -1,10 +1,11 @@
 //! A script's world: what instructions make of it, and what they print.
 
-ghost use Rattle.std.specs.Prelude.{◌≡◌, ◌≢◌, ◌++◌, ℕ, ◌≤◌, List, [], Some, None, MatchBool, MatchOption, OnOk};
+ghost use Rattle.std.specs.Prelude.{◌≡◌, ◌++◌, ℕ, ◌≤◌, List, [], Some, None, MatchBool, MatchOption, OnOk};
 ghost use Rattle.std.specs.String.{string_bytes};
-ghost use Rattle.nbt_sim.specs.Script.{ArePlaces};
+ghost use Rattle.nbt_sim.specs.Script.{ArePlaces, entries};
 
-use crate::printing::{write_holders, write_outcome};
+use crate::printing::{write_holders, write_kept, write_outcome};
+use arrayvec::ArrayVec;
 use nbt_lease::{Config, Moment};
 use nbt_name::{Addr, Name};
 use nbt_world::{Event, World};
@@ -14,7 +15,7 @@ use std::alloc::{AllocError, Global};
 const NODES_MOST: usize = 8;
 
 /// The most ends of a world.
-const ENDS_MOST: usize = 9;
+pub const ENDS_MOST: usize = 9;
 
 /// The server's 32-bit address, 127.0.0.1.
 const SERVER: u32 = 0x7F00_0001;
@@ -22,16 +23,14 @@ const SERVER: u32 = 0x7F00_0001;
 /// The port of the name service (RFC 1002 section 6).
 const PORT: u16 = 137;
 
-/// A world and its true clock.
+/// A world.
 #[derive(Drop)]
 pub struct Stage {
     world: World,
-    clock: Moment,
-    ghost same: { clock ≡ world.now.clock },
 }
 
 impl Stage {
-    ghost use Rattle.nbt_sim.specs.Script.{AreFew, Does};
+    ghost use Rattle.nbt_sim.specs.Script.{AreFew, AreForEnds, Does};
     ghost use Rattle.nbt_sim.specs.declared.instruction.Instruction.TheVariants as instruction;
 
     /// A world of these limits with `nodes` nodes; `None` where there aren't 1 to 8.
@@ -43,30 +42,40 @@ impl Stage {
             return None;
         }
         let world = World::new(alloc, config, &places()[..=nodes]).unwrap();
-        Some(Stage {
-            world,
-            clock: Moment::zero(),
-        })
+        Some(Stage { world })
     }
 
-    /// The clock goes on to a moment. Returns whether it isn't before now.
+    /// All clocks go on alike, and the true one to a moment. Returns whether that isn't before now.
     pub fn go_on(&mut self, moment: Moment) -> bool
         ensures { MatchBool result (Does (Some self.old.world) (instruction.At moment) (Some self.new.world) [])
             (¬ (self.old.world.now.clock ≤ moment)) }
     {
-        if moment < self.clock {
+        let clock = self.world.clock();
+        if moment < clock {
             return false;
         }
-        let ms = moment.get() - self.clock.get();
+        let ms = moment.get() - clock.get();
         let _done = self.world.step(&Event::Tick(ms)).unwrap();
-        self.clock = moment;
         true
     }
 
-    /// Something happens, but for the clocks, and the line of what came of it is appended.
+    /// The clocks go on, each by its own number of milliseconds: the true one, and then the ends'. Returns whether there
+    /// is one for each end.
+    pub fn drift(&mut self, ms: u64, moves: &ArrayVec<u64, ENDS_MOST>) -> bool
+        ensures { MatchBool result (Does (Some self.old.world) (instruction.Advance ms moves.now) (Some self.new.world) [])
+            (¬ AreForEnds self.old.world moves.now.items) }
+    {
+        if moves.len() != self.world.end_count() {
+            return false;
+        }
+        let readings = entries_of(moves);
+        let event = Event::Advance { ms, readings };
+        let _done = self.world.step(&event).unwrap();
+        true
+    }
+
+    /// Something happens, and the line of what came of it is appended.
     pub fn happen(&mut self, event: &Event, out: &mut String) -> Result<(), AllocError>
-        requires ticks { (ms : ℕ) → event.now ≢ Event.Tick ms }
-        requires advances { (ms : ℕ) (readings : List ℕ) → event.now ≢ Event.Advance ms readings }
         ensures { OnOk result ((text : List ℕ) × (string_bytes out.new ≡ string_bytes out.old ++ text)
             × Does (Some self.old.world) (instruction.Happens event.now) (Some self.new.world) text) }
     {
@@ -83,6 +92,23 @@ impl Stage {
     {
         write_holders(&self.world, name, out)
     }
+
+    /// The line of whether the clocks kept the drift bound is appended.
+    pub fn tell_kept(&self, out: &mut String) -> Result<(), AllocError>
+        ensures { OnOk result ((text : List ℕ) × (string_bytes out.new ≡ string_bytes out.old ++ text)
+            × Does (Some self.now.world) instruction.Kept (Some self.now.world) text) }
+    {
+        write_kept(&self.world, out)
+    }
+}
+
+/// The entries of an event, of which those of ends that the world hasn't are 0.
+fn entries_of(moves: &ArrayVec<u64, ENDS_MOST>) -> [u64; ENDS_MOST]
+    ensures { result ≡ entries moves.now.items }
+{
+    let mut entries = [0; ENDS_MOST];
+    entries[..moves.len()].copy_from_slice(moves.as_slice());
+    entries
 }
 
 /// The addresses of a server and of the most nodes.

@@ -9,8 +9,10 @@ ghost use Rattle.nbt_sim.specs.Words.{verb_word};
 pub enum Verb {
     /// `config`: the world's limits, and how many nodes it has.
     Config,
-    /// `at`: the clock goes on.
+    /// `at`: all clocks go on alike.
     At,
+    /// `advance`: the clocks go on, each by its own number.
+    Advance,
     /// `start`: an end starts.
     Start,
     /// `crash`: an end crashes.
@@ -31,6 +33,8 @@ pub enum Verb {
     Stranger,
     /// `holders`: who holds a name.
     Holders,
+    /// `kept`: whether the clocks kept the drift bound.
+    Kept,
 }
 
 /// The verb that a word is.
@@ -40,6 +44,7 @@ pub fn verb_of(word: &[u8]) -> Option<Verb>
     match word {
         b"config" => Some(Verb::Config),
         b"at" => Some(Verb::At),
+        b"advance" => Some(Verb::Advance),
         b"start" => Some(Verb::Start),
         b"crash" => Some(Verb::Crash),
         b"ask" => Some(Verb::Ask),
@@ -50,6 +55,7 @@ pub fn verb_of(word: &[u8]) -> Option<Verb>
         b"deliver" => Some(Verb::Deliver),
         b"stranger" => Some(Verb::Stranger),
         b"holders" => Some(Verb::Holders),
+        b"kept" => Some(Verb::Kept),
         _ => None,
     }
 }

@@ -1,5 +1,5 @@
--- What each step makes of the clocks, and so what a run does: told where the bound is kept, and in step where no event lets
--- the clocks drift apart.
+-- What each step makes of the clocks, and so what a run does: told where the bound is kept, and where no event moves the
+-- clocks apart, in step, and kept until a clock stops.
 use Rattle.std.proofs.Common.{◌≡◌, ℕ, zero, suc, ◌+◌, ◌-◌, ◌*◌, ◌^◌, ◌<◌, ◌≤◌, Bool, List, [], ◌∷◌, ◌++◌, length, take, get_or, Some, refl, sym, ap, subst, ◌∙◌, arith}
 use Rattle.std.specs.Prelude.{IsTrue, ◌↔◌, All, min}
 use Rattle.std.proofs.lemmas.List.{take_more, take_all}
@@ -21,7 +21,7 @@ use Rattle.nbt_world.specs.Drift.{reading, later, ahead, behind, least_of, numbe
 use Rattle.nbt_world.specs.World.{WorldValue, IsEnd, addr_of, with_node, datagram, IsFresh}
 use Rattle.nbt_world.specs.Step.{Advances, Step, ticks, advances, starts, starts_nothing, crashes, crashes_nothing, node_does, node_is_down, no_datagram, no_end, too_late, delivered, from_an_end, to_no_end, from_a_stranger, GivenValue, nothing, refusal, octets_to, after, TakenValue, is_down, is_lost, takes, Takes, finds_down, by_server, by_node, after_taking, Starts, server_starts, node_starts, Crashes, server_crashes, node_crashes}
 use Rattle.nbt_world.specs.Kept.{IsSeen, AreRead}
-use Rattle.nbt_world.specs.Safety.{IsSafe, AreSafe, AreSafeWhileKept, IsInStep, LetsClocksDrift, KeepOneClock, RunsSafely}
+use Rattle.nbt_world.specs.Safety.{IsSafe, AreSafe, AreSafeWhileKept, IsInStep, LetsClocksDrift, MoveClocksAlike, NoClockStopped, AreKeptUntilClocksStop, RunsSafely}
 use Rattle.nbt_world.proofs.Keeping.{addr_with, server_addr_with, read_with}
 use Rattle.nbt_world.proofs.Clock.{sees, sees_now, read_on, goes_up}
 use Rattle.nbt_world.proofs.Exact.{Goes, Traced, traced_more, traced_first}
@@ -105,6 +105,48 @@ step_goes w v event outcome (from_an_end from number octets is) read = goes_nowh
 step_goes w v event outcome (to_no_end from number octets none) read = goes_nowhere w read
 step_goes w v event outcome (from_a_stranger from addr number octets taken ends off at t) read = goes_taking w ends addr from taken (takes_same _ w.ends from octets.items number taken ends t) read
 
+-- ---- clocks that move alike
+
+-- What stays so where all clocks move alike, and where only ends and datagrams are others.
+record StaysAlike (P : WorldValue → Type 0) : Type 0 where
+  ticks : (w v : WorldValue) (ms : ℕ) → Advances w ms (λ n. ms) v → AreRead w → P w → P v
+  others : (w : WorldValue) (ends : Ends) (sent : List Datagram) → ((n : ℕ) → addr_of ends n ≡ addr_of w.ends n) → P w → P (record w { ends = ends; sent = sent })
+
+after_alike : (P : WorldValue → Type 0) → StaysAlike P → (w : WorldValue) (number : ℕ) (new : NodeValue) (given : GivenValue) → P w → P (after w number new given)
+after_alike P stays w number new nothing is = stays.others w (with_node w.ends number (Some new)) w.sent (with_same w.ends number (Some new)) is
+after_alike P stays w number new (refusal fault) is = stays.others w (with_node w.ends number (Some new)) w.sent (with_same w.ends number (Some new)) is
+after_alike P stays w number new (octets_to to octets) is = stays.others w (with_node w.ends number (Some new)) (w.sent ++ datagram new.addr to w.now octets ∷ []) (with_same w.ends number (Some new)) is
+
+taking_alike : (P : WorldValue → Type 0) → StaysAlike P → (w : WorldValue) (ends : Ends) (from to : Addr) (taken : TakenValue) → ((n : ℕ) → addr_of ends n ≡ addr_of w.ends n) → P w → P (after_taking w ends from to taken)
+taking_alike P stays w ends from to is_down same is = stays.others w ends w.sent same is
+taking_alike P stays w ends from to is_lost same is = stays.others w ends w.sent same is
+taking_alike P stays w ends from to (takes None) same is = stays.others w ends w.sent same is
+taking_alike P stays w ends from to (takes (Some reply)) same is = stays.others w ends (w.sent ++ datagram from to w.now (text reply) ∷ []) same is
+
+step_alike : (P : WorldValue → Type 0) → StaysAlike P → (w v : WorldValue) (event : Event) (outcome : Outcome) → Step w event outcome v → AreRead w → (LetsClocksDrift event → ⊥) → P w → P v
+step_alike P stays w v event outcome (ticks ms new adv) read one is = stays.ticks w v ms adv read is
+step_alike P stays w v event outcome (advances ms readings new adv) read one is = absurd (one tt)
+step_alike P stays w v event outcome (starts number ends s) read one is = stays.others w ends w.sent (starts_same w.config _ w.ends number ends s) is
+step_alike P stays w v event outcome (starts_nothing number off) read one is = is
+step_alike P stays w v event outcome (crashes number ends s) read one is = stays.others w ends w.sent (crashes_same w.ends number ends s) is
+step_alike P stays w v event outcome (crashes_nothing number off) read one is = is
+step_alike P stays w v event outcome (node_does e number node new given own up does) read one is = after_alike P stays w number new given is
+step_alike P stays w v event outcome (node_is_down e number own down) read one is = is
+step_alike P stays w v event outcome (no_datagram k none) read one is = is
+step_alike P stays w v event outcome (no_end k d at off) read one is = is
+step_alike P stays w v event outcome (too_late k d number at to late) read one is = is
+step_alike P stays w v event outcome (delivered k d number taken ends at to in_time t) read one is = taking_alike P stays w ends d.to d.from taken (takes_same _ w.ends d.from d.octets.items number taken ends t) is
+step_alike P stays w v event outcome (from_an_end from number octets of) read one is = is
+step_alike P stays w v event outcome (to_no_end from number octets none) read one is = is
+step_alike P stays w v event outcome (from_a_stranger from addr number octets taken ends off at t) read one is = taking_alike P stays w ends addr from taken (takes_same _ w.ends from octets.items number taken ends t) is
+
+-- an end that is there afterwards was there before
+was_end : (w v : WorldValue) (ms : ℕ) (moves : ℕ → ℕ) → Advances w ms moves v → (n : ℕ) → IsEnd v.ends n → IsEnd w.ends n
+was_end w v ms moves adv n e = subst (λ (x : WorldValue). IsEnd x.ends n) adv.others e
+
+is_end : (w v : WorldValue) (ms : ℕ) (moves : ℕ → ℕ) → Advances w ms moves v → (n : ℕ) → IsEnd w.ends n → IsEnd v.ends n
+is_end w v ms moves adv n e = subst (λ (x : WorldValue). IsEnd x.ends n) (sym adv.others) e
+
 -- ---- in step
 
 -- where the reading is the clock, both numbers fall as it goes on
@@ -135,48 +177,61 @@ ticks_in_step w v ms adv read on same = ((adv.kept).1 (on, allowed), reads)
 abbrev pub AreInStep : WorldValue → Type 0
 AreInStep w = IsTrue w.kept × IsInStep w
 
--- the ends may be others, where they were
-stays_in_step : (w : WorldValue) (ends : Ends) (sent : List Datagram) → ((n : ℕ) → addr_of ends n ≡ addr_of w.ends n) → AreInStep w → AreInStep (record w { ends = ends; sent = sent })
-stays_in_step w ends sent same is = (is.0, λ n e. is.1 n (e.0, sym (same n) ∙ e.1))
+in_step_alike : StaysAlike AreInStep
+in_step_alike = record {
+  ticks = λ w v ms adv read is. let t = ticks_in_step w v ms adv read is.0 is.1 in (t.0, λ n e. t.1 n (was_end w v ms (λ n. ms) adv n e));
+  others = λ w ends sent same is. (is.0, λ n e. is.1 n (e.0, sym (same n) ∙ e.1));
+}
 
-after_in_step : (w : WorldValue) (number : ℕ) (new : NodeValue) (given : GivenValue) → AreInStep w → AreInStep (after w number new given)
-after_in_step w number new nothing is = stays_in_step w (with_node w.ends number (Some new)) w.sent (with_same w.ends number (Some new)) is
-after_in_step w number new (refusal fault) is = stays_in_step w (with_node w.ends number (Some new)) w.sent (with_same w.ends number (Some new)) is
-after_in_step w number new (octets_to to octets) is = stays_in_step w (with_node w.ends number (Some new)) (w.sent ++ datagram new.addr to w.now octets ∷ []) (with_same w.ends number (Some new)) is
+-- ---- until a clock stops
 
-taking_in_step : (w : WorldValue) (ends : Ends) (from to : Addr) (taken : TakenValue) → ((n : ℕ) → addr_of ends n ≡ addr_of w.ends n) → AreInStep w → AreInStep (after_taking w ends from to taken)
-taking_in_step w ends from to is_down same is = stays_in_step w ends w.sent same is
-taking_in_step w ends from to is_lost same is = stays_in_step w ends w.sent same is
-taking_in_step w ends from to (takes None) same is = stays_in_step w ends w.sent same is
-taking_in_step w ends from to (takes (Some reply)) same is = stays_in_step w ends (w.sent ++ datagram from to w.now (text reply) ∷ []) same is
+-- where no clock stops, both numbers fall
+ticks_kept : (w v : WorldValue) (ms : ℕ) → Advances w ms (λ n. ms) v → AreRead w → NoClockStopped v → IsTrue w.kept → IsTrue v.kept
+ticks_kept w v ms adv read going on = (adv.kept).1 (on, allowed)
+  where
+    falls_ahead : (t u c d ms last least : ℕ) → u ≡ min (t + ms) last → d ≡ min (c + ms) last → u < last → d < last → 1000 * c + 1001 * (last - t) ≤ least + 1000 → 1000 * d + 1001 * (last - u) ≤ min least (1000 * d + 1001 * (last - u)) + 1000
+    falls_ahead t u c d ms last least a b p q e = omega arith
 
-pub step_in_step : (w v : WorldValue) (event : Event) (outcome : Outcome) → Step w event outcome v → AreRead w → (LetsClocksDrift event → ⊥) → AreInStep w → AreInStep v
-step_in_step w v event outcome (ticks ms new adv) read one is =
-    let t = ticks_in_step w v ms adv read is.0 is.1 in
-    (t.0, λ n e. t.1 n (subst (λ (x : WorldValue). IsEnd x.ends n) adv.others e))
-step_in_step w v event outcome (advances ms readings new adv) read one is = absurd (one tt)
-step_in_step w v event outcome (starts number ends s) read one is = stays_in_step w ends w.sent (starts_same w.config _ w.ends number ends s) is
-step_in_step w v event outcome (starts_nothing number off) read one is = is
-step_in_step w v event outcome (crashes number ends s) read one is = stays_in_step w ends w.sent (crashes_same w.ends number ends s) is
-step_in_step w v event outcome (crashes_nothing number off) read one is = is
-step_in_step w v event outcome (node_does e number node new given own up does) read one is = after_in_step w number new given is
-step_in_step w v event outcome (node_is_down e number own down) read one is = is
-step_in_step w v event outcome (no_datagram k none) read one is = is
-step_in_step w v event outcome (no_end k d at off) read one is = is
-step_in_step w v event outcome (too_late k d number at to late) read one is = is
-step_in_step w v event outcome (delivered k d number taken ends at to in_time t) read one is = taking_in_step w ends d.to d.from taken (takes_same _ w.ends d.from d.octets.items number taken ends t) is
-step_in_step w v event outcome (from_an_end from number octets of) read one is = is
-step_in_step w v event outcome (to_no_end from number octets none) read one is = is
-step_in_step w v event outcome (from_a_stranger from addr number octets taken ends off at t) read one is = taking_in_step w ends addr from taken (takes_same _ w.ends from octets.items number taken ends t) is
+    falls_behind : (t u c d ms last least : ℕ) → u ≡ min (t + ms) last → d ≡ min (c + ms) last → u < last → d < last → 999 * t + 1000 * (last - c) ≤ least + 1000 → 999 * u + 1000 * (last - d) ≤ min least (999 * u + 1000 * (last - d)) + 1000
+    falls_behind t u c d ms last least a b p q e = omega arith
+
+    allowed : (n : ℕ) → IsEnd w.ends n → IsAllowed (least_of v.least n) v.now n
+    allowed n e =
+        let was = read.allowed on n e in
+        let goes = going.1 n (is_end w v ms (λ n. ms) adv n e) in
+        record {
+          not_ahead = rw (adv.least n e) (falls_ahead w.now.clock v.now.clock (reading w.now n) (reading v.now n) ms (2 ^ 60) (least_of w.least n).ahead adv.now (adv.readings n e) going.0 goes was.not_ahead);
+          not_behind = rw (adv.least n e) (falls_behind w.now.clock v.now.clock (reading w.now n) (reading v.now n) ms (2 ^ 60) (least_of w.least n).behind adv.now (adv.readings n e) going.0 goes was.not_behind);
+        }
+
+-- a clock that hasn't stopped hadn't stopped before
+went : (w v : WorldValue) (ms : ℕ) → Advances w ms (λ n. ms) v → NoClockStopped v → NoClockStopped w
+went w v ms adv going = (below w.now.clock v.now.clock ms (2 ^ 60) adv.now going.0, λ n e. below (reading w.now n) (reading v.now n) ms (2 ^ 60) (adv.readings n e) (going.1 n (is_end w v ms (λ n. ms) adv n e)))
+  where
+    below : (c d ms last : ℕ) → d ≡ min (c + ms) last → d < last → c < last
+    below c d ms last e lt = omega arith
+
+abbrev pub IsKeptUntilStopped : WorldValue → Type 0
+IsKeptUntilStopped w = NoClockStopped w → IsTrue w.kept
+
+kept_alike : StaysAlike IsKeptUntilStopped
+kept_alike = record {
+  ticks = λ w v ms adv read is going. ticks_kept w v ms adv read going (is (went w v ms adv going));
+  others = λ w ends sent same is going. is (going.0, λ n e. going.1 n (e.0, same n ∙ e.1));
+}
 
 -- ---- a run
+
+abbrev IsKeptWhileGoing : WorldValue → Type 0
+IsKeptWhileGoing w = NoClockStopped w → IsTrue w.kept × IsSafe w
 
 -- what holds after some of its events
 pub record Along (events : List Event) (old : WorldValue) (worlds : List WorldValue) (last : WorldValue) : Type 0 where
   pub read : AreRead last
   pub safe : AreSafeWhileKept worlds
   pub traced : (config : ConfigValue) (addrs : List Addr) → IsFresh config addrs old → Traced worlds last
-  pub in_step : IsTrue old.kept → IsInStep old → KeepOneClock events → AreSafe worlds × AreInStep last
+  pub in_step : IsTrue old.kept → IsInStep old → MoveClocksAlike events → AreSafe worlds × AreInStep last
+  pub alike : IsTrue old.kept → MoveClocksAlike events → AreKeptUntilClocksStop worlds × IsKeptUntilStopped last
 
 pub along_first : (w : WorldValue) → AreRead w → (IsTrue w.kept → IsSafe w) → Along [] w (w ∷ []) w
 along_first w read safe = record {
@@ -184,6 +239,7 @@ along_first w read safe = record {
   safe = All-cons (λ x. IsTrue x.kept → IsSafe x) w [] safe (All-nil (λ x. IsTrue x.kept → IsSafe x));
   traced = λ config addrs fresh. traced_first config addrs w fresh read;
   in_step = λ on same one. (All-cons IsSafe w [] (safe on) (All-nil IsSafe), (on, same));
+  alike = λ on one. (All-cons IsKeptWhileGoing w [] (λ going. (on, safe on)) (All-nil IsKeptWhileGoing), λ going. on);
 }
 
 all_parts : (P : Event → Type 0) (xs : List Event) (x : Event) → All P (xs ++ x ∷ []) → All P xs × P x
@@ -199,8 +255,13 @@ along_more events old w v worlds event outcome step safe is = record {
   in_step = λ on same one.
       let parts = all_parts (λ e. LetsClocksDrift e → ⊥) events event one in
       let was = is.in_step on same parts.0 in
-      let stands = step_in_step w v event outcome step is.read parts.1 was.1 in
+      let stands = step_alike AreInStep in_step_alike w v event outcome step is.read parts.1 was.1 in
       (All-push IsSafe worlds v was.0 (safe stands.0), stands);
+  alike = λ on one.
+      let parts = all_parts (λ e. LetsClocksDrift e → ⊥) events event one in
+      let was = is.alike on parts.0 in
+      let stands = step_alike IsKeptUntilStopped kept_alike w v event outcome step is.read parts.1 was.1 in
+      (All-push IsKeptWhileGoing worlds v was.0 (λ going. (stands going, safe (stands going))), stands);
 }
   where
     goes : Goes w v
@@ -214,7 +275,7 @@ along_next events k old w v worlds event outcome within at step safe is =
 
 pub runs_safely : (events : List Event) (old : WorldValue) (worlds : List WorldValue) (last : WorldValue) → Along events old worlds last → RunsSafely events old worlds last
 runs_safely events old worlds last is =
-    record { safe = is.safe; told = λ config addrs fresh. (is.traced config addrs fresh).told; one_clock = λ on same one. (is.in_step on same one).0 }
+    record { safe = is.safe; told = λ config addrs fresh. (is.traced config addrs fresh).told; one_clock = λ on same one. (is.in_step on same one).0; alike = λ on one. (is.alike on one).0 }
 
 pub runs_whole : (events : List Event) (k : ℕ) (old : WorldValue) (worlds : List WorldValue) (last : WorldValue) → length events ≤ k → Along (take k events) old worlds last → RunsSafely events old worlds last
 runs_whole events k old worlds last le is = runs_safely events old worlds last (subst (λ (es : List Event). Along es old worlds last) (take_all k events le) is)

@@ -1,6 +1,6 @@
 -- What the headline says: who holds a name in a world, when a world is safe, what a run is, and when its clocks keep the
 -- drift bound.
-use Rattle.std.specs.Prelude.{◌≡◌, ◌≢◌, ℕ, ◌≤◌, ◌↔◌, IsTrue, List, [], ◌∷◌, slice_get, Option, Some, None, All}
+use Rattle.std.specs.Prelude.{◌≡◌, ◌≢◌, ℕ, ◌^◌, ◌<◌, ◌≤◌, ◌↔◌, IsTrue, List, [], ◌∷◌, slice_get, Option, Some, None, All}
 use Rattle.nbt_name.specs.declared.addr.Addr.{Addr}
 use Rattle.nbt_name.specs.declared.addr.Kind.{Kind}
 use Rattle.nbt_name.specs.declared.addr.Kind.TheVariants.{Group}
@@ -54,17 +54,28 @@ KeepDriftBound worlds = (i j : ℕ) (early late : WorldValue) → i ≤ j → sl
 abbrev pub IsInStep : WorldValue → Type 0
 IsInStep world = (number : ℕ) → IsEnd world.ends number → reading world.now number ≡ world.now.clock
 
--- no event gives an end another clock than the true one
+-- the event may move the clocks apart
 abbrev pub LetsClocksDrift : Event → Type 0
 LetsClocksDrift (Advance ms readings) = Unit {0}
 LetsClocksDrift _ = ⊥
 
-abbrev pub KeepOneClock : List Event → Type 0
-KeepOneClock events = All (λ event. LetsClocksDrift event → ⊥) events
+-- no event does: each one that moves the clocks moves all of them by the same
+abbrev pub MoveClocksAlike : List Event → Type 0
+MoveClocksAlike events = All (λ event. LetsClocksDrift event → ⊥) events
+
+-- No clock has come to its last moment, at which it stops.
+abbrev pub NoClockStopped : WorldValue → Type 0
+NoClockStopped world = (world.now.clock < 2 ^ 60) × ((number : ℕ) → IsEnd world.ends number → reading world.now number < 2 ^ 60)
+
+-- each of them in which no clock has stopped kept the bound, and is safe
+abbrev pub AreKeptUntilClocksStop : List WorldValue → Type 0
+AreKeptUntilClocksStop worlds = All (λ world. NoClockStopped world → IsTrue world.kept × IsSafe world) worlds
 
 -- What is promised of the worlds along a run: each up to which the bound was kept is safe; from a new world, `kept` says
--- exactly where it was; and where no event lets the clocks drift apart, all of them are safe.
+-- exactly where it was. Where no event moves the clocks apart, all of them are safe if all ends read the true clock at
+-- first; and whatever they read, from a world that kept the bound all keep it, and are safe, until a clock stops.
 pub record RunsSafely (events : List Event) (old : WorldValue) (worlds : List WorldValue) (new : WorldValue) : Type 0 where
   pub safe : AreSafeWhileKept worlds
   pub told : (config : ConfigValue) (addrs : List Addr) → IsFresh config addrs old → IsTrue new.kept ↔ KeepDriftBound worlds
-  pub one_clock : IsTrue old.kept → IsInStep old → KeepOneClock events → AreSafe worlds
+  pub one_clock : IsTrue old.kept → IsInStep old → MoveClocksAlike events → AreSafe worlds
+  pub alike : IsTrue old.kept → MoveClocksAlike events → AreKeptUntilClocksStop worlds

@@ -2,7 +2,7 @@
 
 ghost use Rattle.std.specs.Prelude.{◌≡◌, ◌≤◌, ◌<◌, ◌↔◌, ℕ, Some, None, List, length, take, slice_get, slice_index, slice_index_or, IsOk, IsTrue, IfSome, IfOk, OnOk, IfErr, OnErr, MatchResult, Contains};
 ghost use Rattle.nbt_name.specs.declared.addr.Kind.{Kind as KindValue};
-ghost use Rattle.nbt_world.specs.World.{WorldValue, AreAddrs, IsFresh};
+ghost use Rattle.nbt_world.specs.World.{WorldValue, AreAddrs, IsEnd, IsFresh};
 ghost use Rattle.nbt_world.specs.Step.{Advances, Step, number_in, TakesNoMemory};
 ghost use Rattle.nbt_world.specs.Safety.{Run, holding, MayHold, IsSafe, RunsSafely};
 ghost use Rattle.nbt_world.specs.Kept.{AreRead};
@@ -13,7 +13,7 @@ use crate::ends::{Ends, Holder, are_apart};
 use crate::event::{Event, OutOfMemory, Outcome};
 use crate::network::{Datagram, give, reply};
 use arrayvec::ArrayVec;
-use nbt_lease::Config;
+use nbt_lease::{Config, Moment};
 use nbt_name::{Addr, Kind, Name};
 use std::alloc::Global;
 use std::marker::Model;
@@ -296,6 +296,21 @@ impl World {
             (Some(_), Some(_)) => false,
             _ => true,
         }
+    }
+
+    /// The true clock. Takes no memory.
+    pub fn clock(&self) -> Moment
+        ensures { result ≡ self.now.now.clock }
+    {
+        self.clocks.clock
+    }
+
+    /// How many ends the world has, the server among them: 2 to 9. Takes no memory.
+    pub fn end_count(&self) -> usize
+        ensures exactly { (number : ℕ) → (number < result) ↔ IsEnd self.now.ends number }
+        ensures within { (2 ≤ result) × (result ≤ 9) }
+    {
+        self.ends.nodes.len() + 1
     }
 
     /// Whether the readings of all ends kept the drift bound so far: between any two worlds since the beginning, with d what

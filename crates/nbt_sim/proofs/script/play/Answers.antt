@@ -1,15 +1,15 @@
 use Rattle.std.proofs.Common.{◌∙◌, ◌+◌, ◌++◌, List, ℕ, ap, append_assoc, arith, codes}
 use Rattle.std.proofs.lemmas.List.{append-nil}
 use Rattle.nbt_text.specs.Lines.{lines, verdict_line}
-use Rattle.nbt_sim.proofs.Texts.{lost}
-use Rattle.nbt_sim.proofs.Playing.{lines_from, after_line, stopped, at_the_end, no_lines_left}
+use Rattle.nbt_sim.proofs.Texts.{lost, texts_from, no_texts_left}
+use Rattle.nbt_sim.proofs.Playing.{after_line, stopped, at_the_end}
 use Rattle.nbt_sim.proofs.script.play.Goals as goal
 
 pub returns-then-not-branch : goal.returns-then-not-branch
 returns-then-not-branch c =
     let before = c.lines.invariant.printed in
     let line = rw c.if-not-branch.true at c.in_ok-play_line.ensures in
-    let left = lines_from c.deref-line-items.result.now c.lines.index lost (omega (arith, c.lines-test.true)) in
+    let left = texts_from c.deref-line-items.result.now c.lines.index lost (omega (arith, c.lines-test.true)) in
     let end = stopped (c.lines.index + 1) _ _ _ _ (lines c.args.script.now) before.0 line.0 (rw left at before.2) line.2 in
     (before.0 ++ verdict_line (c.lines.index + 1) (codes "unreadable"), rw (c.in_ok-writeln.ensures.bytes, line.1, end.0, before.1) (simp (append_assoc, append-nil)), end.1)
 
@@ -17,7 +17,7 @@ pub lines-preserved : goal.lines-preserved
 lines-preserved c =
     let before = c.lines.invariant.printed in
     let line = rw c.if-not-branch.false at c.in_ok-play_line.ensures in
-    let left = lines_from c.deref-line-items.result.now c.lines.index lost (omega (arith, c.lines-test.true)) in
+    let left = texts_from c.deref-line-items.result.now c.lines.index lost (omega (arith, c.lines-test.true)) in
     record {
       whole = c.lines.invariant.whole;
       printed = (
@@ -30,5 +30,5 @@ lines-preserved c =
 pub returns : goal.returns
 returns c =
     let before = c.lines.invariant.printed in
-    let none = no_lines_left c.deref-line-items.result.now c.lines.index (omega (arith, c.lines-test.false)) in
+    let none = no_texts_left c.deref-line-items.result.now c.lines.index (omega (arith, c.lines-test.false)) in
     (before.0, before.1, at_the_end _ _ _ (lines c.args.script.now) before.0 before.2 none)

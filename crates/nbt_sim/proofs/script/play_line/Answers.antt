@@ -2,14 +2,8 @@ use Rattle.std.proofs.Common.{[], sym}
 use Rattle.std.proofs.lemmas.List.{append-nil}
 use Rattle.nbt_sim.specs.Inner.Stage.{world_of, is_passed_over, is_unreadable}
 use Rattle.nbt_sim.specs.Script.{says_nothing}
-use Rattle.nbt_sim.proofs.Playing.{no_tick, no_advance, blank_in, said_in, nothing_in, played_said}
+use Rattle.nbt_sim.proofs.Playing.{blank_in, said_in, nothing_in, played_said}
 use Rattle.nbt_sim.proofs.script.play_line.Goals as goal
-
-pub does-requires-clause-ticks : goal.does-requires-clause-ticks
-does-requires-clause-ticks c = λ ms. no_tick _ c.in-Says.instruction ms (said_in _ c.in_ok-parse_line.field-0 c.in-Says.instruction c.in_ok-parse_line.ensures c.in-Says.is).1
-
-pub does-requires-clause-advances : goal.does-requires-clause-advances
-does-requires-clause-advances c = λ ms readings. no_advance _ c.in-Says.instruction ms readings (said_in _ c.in_ok-parse_line.field-0 c.in-Says.instruction c.in_ok-parse_line.ensures c.in-Says.is).1
 
 pub returns-in-Blank : goal.returns-in-Blank
 returns-in-Blank c = ([], sym (append-nil _), is_passed_over (blank_in c.args.line.now c.in_ok-parse_line.field-0 c.in_ok-parse_line.ensures c.in-Blank.is))
