@@ -4,7 +4,7 @@ use Rattle.std.specs.Prelude.{◌&&◌, is_some}
 use Rattle.std.proofs.lemmas.Bool.{lt-leb, le-leb}
 use Rattle.nbt_name.specs.declared.addr.Addr.{Addr}
 use Rattle.nbt_name.specs.declared.addr.Kind.{Kind}
-use Rattle.nbt_name.specs.Wire.{NameValue}
+use Rattle.nbt_name.specs.Wire.{NameValue, same_name}
 use Rattle.nbt_packet.specs.Message.{MessageValue}
 use Rattle.nbt_lease.specs.Drift.{quiet}
 use Rattle.nbt_node.specs.declared.state.State.{State}
@@ -13,7 +13,7 @@ use Rattle.nbt_node.specs.declared.state.Refresh.{Refresh}
 use Rattle.nbt_node.specs.declared.state.Slot.{Slot}
 use Rattle.nbt_node.specs.declared.lookup.Lookup.{Lookup}
 use Rattle.nbt_node.specs.Settling.{settled, is_over, rested}
-use Rattle.nbt_node.specs.Node.{NodeValue, same_name, is_in, state_in, slot_of, put, with_state, settled_slot, settled_lookup, state_at}
+use Rattle.nbt_node.specs.Node.{NodeValue, is_in, state_in, slot_of, put, with_state, settled_slot, settled_lookup, state_at}
 use Rattle.nbt_node.specs.Moves.{Move, poll, Told, is_due, is_next, next_due, asks_again, gives_back_again, refreshes_again, refreshes}
 use Rattle.nbt_node.specs.Calls.{Polls, polls_name, polls_lookup, due_lookup, lookup_due}
 use Rattle.nbt_engine.specs.Acts.{Act, nothing_came, came, receive_failed, sent, send_failed, Chain}

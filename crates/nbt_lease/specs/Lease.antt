@@ -1,8 +1,7 @@
 -- Leases, and what a table holds of them at a moment (our profile).
 use Rattle.std.specs.Prelude.{◌≡◌, ◌≢◌, ℕ, ◌+◌, ◌*◌, ◌≤◌, Bool, ◌&&◌, if◌then◌else◌, nat_lt, List, [], ◌∷◌, map, filter, length, ⊤}
 use Rattle.std.specs.List.{AllByRecursion}
-use Rattle.std.specs.Str.{bytes_eq}
-use Rattle.nbt_name.specs.Wire.{NameValue}
+use Rattle.nbt_name.specs.Wire.{NameValue, same_name as is_name}
 use Rattle.nbt_name.specs.declared.addr.Kind.TheVariants.{Unique, Group}
 use Rattle.nbt_lease.specs.declared.lease.Lease.{Lease}
 use Rattle.nbt_lease.specs.Config.{ConfigValue}
@@ -10,10 +9,6 @@ use Rattle.nbt_lease.specs.Config.{ConfigValue}
 -- a lease lives until its end, and no longer at its end
 abbrev pub is_live : ℕ → Lease → Bool
 is_live moment lease = nat_lt moment lease.end
-
--- whether two names are one
-abbrev pub is_name : NameValue → NameValue → Bool
-is_name a b = bytes_eq a.octets b.octets && bytes_eq a.scope b.scope
 
 -- The leases of each name, in order of their beginnings.
 abbrev pub Leases : Type 0

@@ -1,8 +1,8 @@
 -- What each call of a node does, on message values (our profile; RFC 1002 section 5.1).
-use Rattle.std.specs.Prelude.{◌≡◌, ℕ, ◌+◌, Bool, true, false, ◌||◌, nat_eq, nat_lt, nat_le, is_some, if◌then◌else◌, List, [], ◌∷◌, map, slice_index, replicate, Option, Some, None}
+use Rattle.std.specs.Prelude.{◌≡◌, ℕ, ◌+◌, Bool, true, false, ◌||◌, nat_lt, nat_le, is_some, if◌then◌else◌, List, [], ◌∷◌, map, replicate, Option, Some, None}
 use Rattle.nbt_name.specs.declared.addr.Addr.{Addr}
 use Rattle.nbt_name.specs.declared.addr.Kind.{Kind}
-use Rattle.nbt_name.specs.Wire.{NameValue}
+use Rattle.nbt_name.specs.Wire.{NameValue, is_star}
 use Rattle.nbt_packet.specs.Message.{MessageValue, query, status_request}
 use Rattle.nbt_packet.specs.Text.{text}
 use Rattle.nbt_packet.specs.Spelling.{Spells}
@@ -28,9 +28,6 @@ abbrev pub started : (slots : ℕ) → Addr → Addr → ConfigValue → ℕ →
 started slots addr server config now = record { addr = addr; server = server; config = config; start = now; last = now; next_id = 1; lookup = None; slots = replicate slots None }
 
 -- ---- why a call is refused: the first refusal that stands, judged by the settled node
-
-abbrev pub is_star : NameValue → Bool
-is_star name = nat_eq (slice_index name.octets 0) 0x2A
 
 abbrev pub is_busy : State → Bool
 is_busy (Asking kind ttl id first last tries due) = true

@@ -1,9 +1,8 @@
 -- A node as contracts see it: what it knows of each name, and its lookup (our profile; RFC 1001 section 15.2).
-use Rattle.std.specs.Prelude.{◌≡◌, ◌≢◌, ℕ, Bool, true, false, ◌&&◌, ◌||◌, nat_lt, is_some, if◌then◌else◌, ◌≤◌, List, [], ◌∷◌, length, map, Option, Some, None}
-use Rattle.std.specs.Str.{bytes_eq}
+use Rattle.std.specs.Prelude.{◌≡◌, ◌≢◌, ℕ, Bool, true, false, ◌||◌, nat_lt, is_some, if◌then◌else◌, ◌≤◌, List, [], ◌∷◌, length, map, Option, Some, None}
 use Rattle.nbt_name.specs.declared.addr.Addr.{Addr}
 use Rattle.nbt_name.specs.declared.addr.Kind.{Kind}
-use Rattle.nbt_name.specs.Wire.{NameValue}
+use Rattle.nbt_name.specs.Wire.{NameValue, same_name}
 use Rattle.nbt_lease.specs.Config.{ConfigValue}
 use Rattle.nbt_node.specs.declared.state.State.{State}
 use Rattle.nbt_node.specs.declared.state.State.TheVariants.{Idle, Held}
@@ -24,9 +23,6 @@ pub record NodeValue : Type 0 where
   pub slots : List (Option Slot)
 
 -- ---- slots
-
-abbrev pub same_name : NameValue → NameValue → Bool
-same_name a b = bytes_eq a.octets b.octets && bytes_eq a.scope b.scope
 
 abbrev pub is_named : Option Slot → NameValue → Bool
 is_named None name = false

@@ -6,7 +6,6 @@ ghost use Rattle.nbt_node.specs.Datagrams.{same_end};
 use crate::asking::next_due;
 use crate::polling::is_next;
 use crate::settling::is_over;
-use crate::slots::is_same_name;
 use crate::writing::write;
 use arrayvec::ArrayVec;
 use nbt_lease::Moment;
@@ -126,10 +125,10 @@ impl Lookup {
     {
         match message {
             Message::Found { id, name, .. } => {
-                self.wanted == Wanted::Entries && *id == self.id && is_same_name(name, &self.name)
+                self.wanted == Wanted::Entries && *id == self.id && *name == self.name
             }
             Message::Status { id, name, .. } => {
-                self.wanted == Wanted::Names && *id == self.id && is_same_name(name, &self.name)
+                self.wanted == Wanted::Names && *id == self.id && *name == self.name
             }
             Message::NotFound { id, name, .. } => *id == self.id && self.is_named(name),
             _ => false,
@@ -141,7 +140,7 @@ impl Lookup {
         ensures { result ≡ tells_name name.now self.now.name }
     {
         match name {
-            Some(name) => is_same_name(name, &self.name),
+            Some(name) => *name == self.name,
             None => true,
         }
     }

@@ -1,9 +1,9 @@
 -- What the name server does with a message, and with octets: RFC 1002 section 5.1.4. The silence after a start, the
 -- refusal of what is not the sender's own, and which refusal has which RCODE are our profile.
-use Rattle.std.specs.Prelude.{◌≡◌, ◌≢◌, ℕ, ◌+◌, ◌-◌, ◌*◌, ◌/◌, ◌<◌, ◌≤◌, Bool, nat_lt, List, [], take, length, slice_index, Option, Some, None, Result, Ok, Err}
+use Rattle.std.specs.Prelude.{◌≡◌, ℕ, ◌+◌, ◌-◌, ◌*◌, ◌/◌, ◌<◌, ◌≤◌, Bool, nat_lt, List, [], take, length, Option, Some, None, Result, Ok, Err}
 use Rattle.std.specs.List.{flat_map}
 use Rattle.nbt_name.specs.declared.addr.Kind.{Kind}
-use Rattle.nbt_name.specs.Wire.{NameValue}
+use Rattle.nbt_name.specs.Wire.{NameValue, IsStar}
 use Rattle.nbt_packet.specs.declared.message.Registration.{Registration}
 use Rattle.nbt_packet.specs.Message.{MessageValue, registration, overwrite, refresh, release, query, registered, released, found, not_found}
 use Rattle.nbt_packet.specs.Spelling.{Spells}
@@ -24,9 +24,9 @@ pub data AsksFor : MessageValue → Registration → Type 0 where
   by_registration : (r : Registration) → AsksFor (registration r) r
   by_refresh : (r : Registration) → AsksFor (refresh r) r
 
--- the address is the sender's, and the name isn't one that stands for all: it doesn't begin with `*`
+-- the address is the sender's, and the name doesn't begin with `*`
 abbrev pub IsOwn : (ip : ℕ) → NameValue → (addr : ℕ) → Type 0
-IsOwn ip name addr = (addr ≡ ip) × (slice_index name.octets 0 ≢ 0x2A)
+IsOwn ip name addr = (addr ≡ ip) × (¬ IsStar name)
 
 abbrev pub asked_in : Registration → Asked
 asked_in r = asked r.addr r.kind r.ttl
