@@ -17,7 +17,8 @@ use Rattle.nbt_node.specs.declared.state.Slot.{Slot}
 use Rattle.nbt_node.specs.Settling.{settled}
 use Rattle.nbt_node.specs.Node.{NodeValue, IsNode, is_in, has_room, AreDistinct, AreAwake, state_in, with_state, settled_slot, state_at, changed, Passes, settled_node}
 use Rattle.nbt_node.specs.Moves.{NameEvent, ask, poll, hear, next_due, nothing, Told, Move, NameMoves, asks, gives_back, asks_again, gives_back_again, refreshes_again, refreshes, granted_to, renewed_to, refused_to, loses_asked, loses_held, freed, asking_waits, giving_back_waits, refresh_waits, unmoved}
-use Rattle.nbt_node.specs.Calls.{is_busy, is_quiet, ask_refusal, AreWritten, question, LooksUp, slot_due, lookup_due, due_lookup, Polls, polls_name, polls_lookup, polls_nothing}
+use Rattle.nbt_packet.specs.Spelling.{AreWritten}
+use Rattle.nbt_node.specs.Calls.{is_busy, is_quiet, ask_refusal, question, LooksUp, slot_due, lookup_due, due_lookup, Polls, polls_name, polls_lookup, polls_nothing}
 use Rattle.nbt_node.specs.Datagrams.{same_end, Hears, from_server, from_stranger, ends, Ends, is_answered, is_unanswered}
 use Rattle.nbt_node.specs.Sending.{IsSending}
 use Rattle.nbt_node.proofs.Due.{known_due}

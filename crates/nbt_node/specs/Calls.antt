@@ -4,8 +4,7 @@ use Rattle.nbt_name.specs.declared.addr.Addr.{Addr}
 use Rattle.nbt_name.specs.declared.addr.Kind.{Kind}
 use Rattle.nbt_name.specs.Wire.{NameValue, is_star}
 use Rattle.nbt_packet.specs.Message.{MessageValue, query, status_request}
-use Rattle.nbt_packet.specs.Text.{text}
-use Rattle.nbt_packet.specs.Spelling.{Spells}
+use Rattle.nbt_packet.specs.Spelling.{AreWritten}
 use Rattle.nbt_lease.specs.Config.{ConfigValue}
 use Rattle.nbt_lease.specs.Drift.{quiet}
 use Rattle.nbt_node.specs.declared.fault.AskFault.{AskFault}
@@ -71,11 +70,6 @@ status_refusal node now =
     else (if is_open node now then Some lookups.Busy else None)
 
 -- ---- what is sent
-
--- the octets are the written form of a message, which they spell, or there are none
-abbrev pub AreWritten : Option MessageValue → List ℕ → Type 0
-AreWritten None octets = octets ≡ []
-AreWritten (Some message) octets = (octets ≡ text message) × Spells octets message
 
 -- A name moves by an event, and what is sent is written.
 pub record Sends (old : NodeValue) (now : ℕ) (name : NameValue) (event : NameEvent) (new : NodeValue) (octets : List ℕ) : Type 0 where

@@ -14,7 +14,6 @@ mod settling;
 mod slots;
 mod state;
 mod status;
-mod writing;
 
 pub use event::Event;
 pub use fault::{AskFault, ClockBack, LookupFault, ReleaseFault};

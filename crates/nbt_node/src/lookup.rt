@@ -6,11 +6,10 @@ ghost use Rattle.nbt_node.specs.Datagrams.{same_end};
 use crate::asking::next_due;
 use crate::polling::is_next;
 use crate::settling::is_over;
-use crate::writing::write;
 use arrayvec::ArrayVec;
 use nbt_lease::Moment;
 use nbt_name::{Addr, Name};
-use nbt_packet::Message;
+use nbt_packet::{Message, write};
 
 /// What a lookup asks for.
 #[derive(Clone, Copy, Debug, PartialEq, Eq)]
@@ -43,10 +42,10 @@ pub fn is_same_end(a: Addr, b: Addr) -> bool
 impl Lookup {
     ghost use Rattle.std.specs.Prelude.{◌≡◌, ◌+◌, [], None, Some, is_some, nat_eq, ◌&&◌, MatchOption};
     ghost use Rattle.nbt_packet.specs.Message.{message_of, HoldsNumbers};
-    ghost use Rattle.nbt_packet.specs.Spelling.{id_of, name_in};
+    ghost use Rattle.nbt_packet.specs.Spelling.{id_of, name_in, AreWritten};
     ghost use Rattle.nbt_node.specs.Node.{settled_lookup};
     ghost use Rattle.nbt_node.specs.Moves.{next_due};
-    ghost use Rattle.nbt_node.specs.Calls.{question, due_lookup, AreWritten};
+    ghost use Rattle.nbt_node.specs.Calls.{question, due_lookup};
     ghost use Rattle.nbt_node.specs.Datagrams.{wants, tells_name, ends};
 
     /// The request of a lookup.

@@ -12,11 +12,10 @@ use crate::replies::{on_registered, on_released, on_wait};
 use crate::slots;
 use crate::state::{Slot, State};
 use crate::status::{listed, write_names};
-use crate::writing::write;
 use arrayvec::ArrayVec;
 use nbt_lease::{Config, Moment};
 use nbt_name::{Addr, Kind, Name};
-use nbt_packet::{Message, Registration, read};
+use nbt_packet::{Message, Registration, read, write};
 use std::marker::Model;
 
 /// A node of `N` slots, 1 to 14 (RFC 1001 section 10.2): one for each name that isn't `Idle`.
@@ -47,7 +46,8 @@ impl<const N: usize> Node<N> {
     ghost use Rattle.nbt_packet.specs.Message.{MessageValue, message_of, registered, released, wait};
     ghost use Rattle.nbt_node.specs.Node.{holds, changed, settled_node, state_at, lookup_open, AreDistinct};
     ghost use Rattle.nbt_node.specs.Moves.{ask, give_back, told_of};
-    ghost use Rattle.nbt_node.specs.Calls.{started, ask_refusal, release_refusal, resolve_refusal, status_refusal, Sends, Opens, Polls, slot_due, AreWritten};
+    ghost use Rattle.nbt_packet.specs.Spelling.{AreWritten};
+    ghost use Rattle.nbt_node.specs.Calls.{started, ask_refusal, release_refusal, resolve_refusal, status_refusal, Sends, Opens, Polls, slot_due};
     ghost use Rattle.nbt_node.specs.Datagrams.{Hears, Lists, Ends, Takes, Handles, is_listed_for};
 
     /// A node at `addr` whose name server is at `server`. It knows nothing, and asks for nothing until more than

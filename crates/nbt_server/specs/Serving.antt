@@ -7,7 +7,7 @@ use Rattle.nbt_name.specs.Wire.{NameValue, IsStar}
 use Rattle.nbt_packet.specs.declared.message.Registration.{Registration}
 use Rattle.nbt_packet.specs.Message.{MessageValue, registration, overwrite, refresh, release, query, registered, released, found, not_found}
 use Rattle.nbt_packet.specs.Spelling.{Spells}
-use Rattle.nbt_packet.specs.Text.{text, entry, entries_most}
+use Rattle.nbt_packet.specs.Text.{entry, entries_most}
 use Rattle.nbt_lease.specs.declared.fault.GrantFault.{GrantFault}
 use Rattle.nbt_lease.specs.declared.fault.GrantFault.TheVariants.{Active, TableFull, GroupFull, OutOfMemory}
 use Rattle.nbt_lease.specs.declared.lease.Grant.{Grant}
@@ -148,13 +148,3 @@ pub record OctetsNeedMemory (server : ServerValue) (now ip : ℕ) (octets : List
   pub speaks : speaks_from server ≤ now
   pub spelled : Spells octets message
   pub needs : NeedsMemory server.table now ip message
-
--- the octets of a reply: none where there is none
-abbrev pub written : Option MessageValue → List ℕ
-written None = []
-written (Some reply) = text reply
-
--- they spell it
-abbrev pub Spelled : Option MessageValue → List ℕ → Type 0
-Spelled None octets = Unit {0}
-Spelled (Some reply) octets = Spells octets reply

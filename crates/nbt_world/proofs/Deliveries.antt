@@ -9,12 +9,11 @@ use Rattle.nbt_name.specs.Wire.{NameValue}
 use Rattle.nbt_packet.specs.Message.{MessageValue, registration, overwrite, refresh, release, query, status_request, registered, released, found, not_found, status, wait}
 use Rattle.nbt_packet.specs.declared.message.Registration.{Registration}
 use Rattle.nbt_packet.specs.Text.{text}
-use Rattle.nbt_packet.specs.Spelling.{Spells}
+use Rattle.nbt_packet.specs.Spelling.{Spells, AreWritten}
 use Rattle.nbt_lease.specs.Config.{ConfigValue}
 use Rattle.nbt_lease.specs.Lease.{Leases, TableValue, leases_at, IsSound}
 use Rattle.nbt_node.specs.Node.{NodeValue, Passes}
 use Rattle.nbt_node.specs.Moves.{hear, Told, NameMoves}
-use Rattle.nbt_node.specs.Calls.{AreWritten}
 use Rattle.nbt_node.specs.Datagrams.{same_end, Hears, from_server, from_stranger, Lists, lists_names, lists_nothing, names_listed, Ends as LookupEnds, is_answered, is_unanswered, Idles, idles, Takes as NodeTakes, TakesOctets, spelled, unspelled}
 use Rattle.nbt_lease.specs.declared.fault.GrantFault.{GrantFault}
 use Rattle.nbt_lease.specs.declared.lease.Grant.{Grant}

@@ -20,5 +20,5 @@ returns-clause-ok g c =
     record {
       message = sent;
       moves = moves_asked old c.change.new.self c.args.now c.args.name.now (ask c.args.kind c.args.ttl) asking (Some sent) nothing c.id_after.result move c.change.ensures.node c.change.ensures.apart may.room;
-      written = (c.write.ensures.written, c.write.ensures.spells);
+      written = c.write.ensures;
     }

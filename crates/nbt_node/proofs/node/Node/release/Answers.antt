@@ -22,5 +22,5 @@ returns-clause-ok g c =
     record {
       message = sent;
       moves = moves_known old c.change.new.self c.args.now c.args.name.now give_back releasing (Some sent) nothing c.id_after.result move c.change.ensures.node c.change.ensures.apart (λ kind ttl e. cc);
-      written = (c.write.ensures.written, c.write.ensures.spells);
+      written = c.write.ensures;
     }
