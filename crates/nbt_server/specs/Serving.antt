@@ -1,6 +1,6 @@
 -- What the name server does with a message, and with octets: RFC 1002 section 5.1.4. The silence after a start, the
 -- refusal of what is not the sender's own, and which refusal has which RCODE are our profile.
-use Rattle.std.specs.Prelude.{◌≡◌, ℕ, ◌+◌, ◌-◌, ◌*◌, ◌/◌, ◌<◌, ◌≤◌, Bool, nat_lt, List, [], take, length, Option, Some, None, Result, Ok, Err}
+use Rattle.std.specs.Prelude.{◌≡◌, ℕ, ◌+◌, ◌-◌, ◌/◌, ◌<◌, ◌≤◌, Bool, nat_lt, List, [], take, length, Option, Some, None, Result, Ok, Err}
 use Rattle.std.specs.List.{flat_map}
 use Rattle.nbt_name.specs.declared.addr.Kind.{Kind}
 use Rattle.nbt_name.specs.Wire.{NameValue, IsStar}
@@ -14,6 +14,7 @@ use Rattle.nbt_lease.specs.declared.lease.Grant.{Grant}
 use Rattle.nbt_lease.specs.declared.lease.Lease.{Lease}
 use Rattle.nbt_lease.specs.declared.lease.Released.{Released}
 use Rattle.nbt_lease.specs.declared.lease.Released.TheVariants.{Gone, NoLease, OfOthers}
+use Rattle.nbt_lease.specs.Config.{milliseconds}
 use Rattle.nbt_lease.specs.Lease.{Leases, TableValue, leases_at}
 use Rattle.nbt_lease.specs.Rules.{Asked, asked, Grants, ChangesLeases, Releases, IsLeastEnd}
 
@@ -133,7 +134,7 @@ pub record ServerValue : Type 0 where
 
 -- A lease that was given before the start may last until then.
 abbrev pub speaks_from : ServerValue → ℕ
-speaks_from server = server.start + 1000 * server.table.config.longest
+speaks_from server = server.start + milliseconds server.table.config.longest
 
 -- What the server does with a datagram: nothing before it speaks, nor with octets that spell no message; else what it
 -- does with the message that they spell.

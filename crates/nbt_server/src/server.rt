@@ -35,7 +35,7 @@ impl Model for Server {
 
 impl Server {
     ghost use Rattle.nbt_packet.specs.Spelling.{AreWritten};
-    ghost use Rattle.nbt_server.specs.Serving.{ServerValue};
+    ghost use Rattle.nbt_server.specs.Serving.{ServerValue, speaks_from};
     ghost use Rattle.nbt_server.specs.Calls.{ServerStarts, ServerTakes, ServerForgets};
 
     /// A server without leases, which starts at `now`. It takes no memory.
@@ -119,7 +119,7 @@ impl Server {
 
     /// Until when the server is silent, in milliseconds: leases that were given before its start may last so long.
     fn speaks_from(&self) -> u64
-        ensures value { result ≡ self.now.start + 1000 * self.now.table.config.longest }
+        ensures value { result ≡ speaks_from self.now }
         ensures limits { IsConfig self.now.table.config }
     {
         self.start.get() + 1000 * u64::from(self.table.config().longest())

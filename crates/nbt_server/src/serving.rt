@@ -6,7 +6,7 @@ ghost use Rattle.nbt_name.specs.Wire.{NameValue};
 ghost use Rattle.nbt_packet.specs.Message.{MessageValue, message_of, message_if, query, release, released};
 ghost use Rattle.nbt_packet.specs.Spelling.{AreWritten};
 ghost use Rattle.nbt_packet.specs.Text.{entries_most};
-ghost use Rattle.nbt_lease.specs.Config.{IsConfig};
+ghost use Rattle.nbt_lease.specs.Config.{IsConfig, milliseconds, longest_most};
 ghost use Rattle.nbt_lease.specs.Lease.{leases_at, latest_end, AreSound};
 ghost use Rattle.nbt_lease.specs.Rules.{IsLeastEnd};
 ghost use Rattle.nbt_server.specs.Serving.{AsksFor, IsOwn, fault_rcode, refusal, release_rcode, seconds_until, entries, listed, is_cut, Serves, NeedsMemory};
@@ -223,7 +223,7 @@ fn find(table: &Table, now: Moment, id: u16, name: Name, out: &mut ArrayVec<u8, 
 
 /// The seconds from a moment to an end, rounded up.
 fn seconds_left(now: Moment, end: u64) -> u32
-    requires { end ≤ now + 1000 * 1000000 }
+    requires { end ≤ now + milliseconds longest_most }
     ensures { result ≡ seconds_until now end }
 {
     let milliseconds = end.saturating_sub(now.get());

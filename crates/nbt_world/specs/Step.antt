@@ -15,7 +15,7 @@ use Rattle.nbt_node.specs.declared.fault.ReleaseFault.{ReleaseFault}
 use Rattle.nbt_node.specs.declared.fault.LookupFault.{LookupFault}
 use Rattle.nbt_node.specs.declared.lookup.Wanted.TheVariants.{Entries, Names}
 use Rattle.nbt_node.specs.Numbers.{ask_fault_number, release_fault_number, lookup_fault_number}
-use Rattle.nbt_node.specs.Node.{NodeValue}
+use Rattle.nbt_node.specs.Node.{NodeValue, slots_most}
 use Rattle.nbt_node.specs.Moves.{ask, give_back, Told}
 use Rattle.nbt_node.specs.Calls.{started, ask_refusal, release_refusal, resolve_refusal, status_refusal, Sends, Opens, Polls}
 use Rattle.nbt_node.specs.Datagrams.{Handles}
@@ -89,7 +89,7 @@ IsUp ends (suc index) = (node : NodeValue) × (node_of ends (suc index) ≡ Some
 pub data Starts (config : ConfigValue) (now : ℕ) (old : Ends) : ℕ → Ends → Type 0 where
   server_starts : (server : ServerValue) → old.server ≡ None → ServerStarts config now server → Starts config now old 0 (with_server old (Some server))
   node_starts : (index : ℕ) (addr : Addr) → addr_of old (suc index) ≡ Some addr → node_of old (suc index) ≡ None
-      → Starts config now old (suc index) (with_node old (suc index) (Some (started 14 addr old.server_addr config now)))
+      → Starts config now old (suc index) (with_node old (suc index) (Some (started slots_most addr old.server_addr config now)))
 
 -- an end that was up is down, and nothing of it is kept
 pub data Crashes (old : Ends) : ℕ → Ends → Type 0 where
