@@ -10,9 +10,9 @@ use Rattle.nbt_node.specs.Node.{is_in, AreAwake, slot_of, put, take_slot, with_s
 
 awake_step : (n : NameValue) (state : State) (rest : List (Option Slot)) → AreAwake rest → AreAwake (slot_of n state ∷ rest)
 awake_step n Idle rest awake = awake
-awake_step n (Asking kind ttl id first last tries due) rest awake = ((λ e. absurd cc), awake)
+awake_step n (Asking kind ttl last p) rest awake = ((λ e. absurd cc), awake)
 awake_step n (Held kind ttl until renew last pending) rest awake = ((λ e. absurd cc), awake)
-awake_step n (Releasing kind id last tries due) rest awake = ((λ e. absurd cc), awake)
+awake_step n (Releasing kind last p) rest awake = ((λ e. absurd cc), awake)
 awake_step n (Resting last) rest awake = ((λ e. absurd cc), awake)
 
 pub awake-settled : (life now : ℕ) (xs : List (Option Slot)) → AreAwake (map (settled_slot life now) xs)

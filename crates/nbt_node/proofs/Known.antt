@@ -14,9 +14,9 @@ use Rattle.nbt_node.specs.Node.{is_named, is_in, has_room, AreDistinct, state_in
 
 pub slot_tells : (n : NameValue) (state : State) → ((state ≡ Idle) × (slot_of n state ≡ None)) ⊎ ((state ≢ Idle) × (slot_of n state ≡ Some (record { name = n; state = state })))
 slot_tells n Idle = inl (refl, refl)
-slot_tells n (Asking kind ttl id first last tries due) = inr (λ e. cc, refl)
+slot_tells n (Asking kind ttl last p) = inr (λ e. cc, refl)
 slot_tells n (Held kind ttl until renew last pending) = inr (λ e. cc, refl)
-slot_tells n (Releasing kind id last tries due) = inr (λ e. cc, refl)
+slot_tells n (Releasing kind last p) = inr (λ e. cc, refl)
 slot_tells n (Resting last) = inr (λ e. cc, refl)
 
 or_false : (a b : Bool) → (a || b) ≡ false → (a ≡ false) × (b ≡ false)
@@ -46,9 +46,9 @@ absent (Some s ∷ rest) q out = let parts = or_false (same_name s.name q) (is_i
 -- a slot before slots that don't have its name
 distinct_step : (n : NameValue) (state : State) (rest : List (Option Slot)) → is_in rest n ≡ false → AreDistinct rest → AreDistinct (slot_of n state ∷ rest)
 distinct_step n Idle rest out apart = apart
-distinct_step n (Asking kind ttl id first last tries due) rest out apart = (out, apart)
+distinct_step n (Asking kind ttl last p) rest out apart = (out, apart)
 distinct_step n (Held kind ttl until renew last pending) rest out apart = (out, apart)
-distinct_step n (Releasing kind id last tries due) rest out apart = (out, apart)
+distinct_step n (Releasing kind last p) rest out apart = (out, apart)
 distinct_step n (Resting last) rest out apart = (out, apart)
 
 -- ---- time

@@ -9,7 +9,8 @@ use Rattle.nbt_node.specs.declared.lookup.Lookup.{Lookup}
 use Rattle.nbt_node.specs.declared.lookup.Wanted.{Wanted}
 use Rattle.nbt_node.specs.declared.state.Slot.{Slot}
 use Rattle.nbt_node.specs.Node.{NodeValue, state_at, changed}
-use Rattle.nbt_node.specs.Moves.{NameEvent, poll, hear, Told, nothing, finds, finds_none, lists, NameMoves, next_due}
+use Rattle.nbt_node.specs.Transaction.{next_due}
+use Rattle.nbt_node.specs.Moves.{NameEvent, poll, hear, Told, nothing, finds, finds_none, lists, NameMoves}
 use Rattle.nbt_node.specs.Calls.{Sends, question, with_lookup, Opens, Polls, polls_name, polls_lookup, polls_nothing}
 use Rattle.nbt_node.specs.Datagrams.{Hears, from_server, from_stranger, Lists, lists_names, lists_nothing, Ends, is_answered, is_unanswered, Idles, idles, Takes, TakesOctets, spelled, unspelled, Handles}
 use Rattle.nbt_node.proofs.OneMove.{one_outcome}

@@ -20,7 +20,8 @@ use Rattle.nbt_node.specs.declared.state.State.{State}
 use Rattle.nbt_node.specs.declared.state.State.TheVariants.{Asking, Held, Releasing, Resting}
 use Rattle.nbt_node.specs.declared.state.Slot.{Slot}
 use Rattle.nbt_node.specs.Node.{NodeValue, has_room, settled_slot, settled_lookup, settled_node, state_at, ByTimeAlone, Passes}
-use Rattle.nbt_node.specs.Moves.{NameEvent, poll, NameMoves, nothing, id_after, next_due, is_next, is_due}
+use Rattle.nbt_node.specs.Transaction.{next_due, is_next}
+use Rattle.nbt_node.specs.Moves.{NameEvent, poll, NameMoves, nothing, id_after, is_due}
 
 -- a node that knows nothing
 abbrev pub started : (slots : ℕ) → Addr → Addr → ConfigValue → ℕ → NodeValue
@@ -29,12 +30,12 @@ started slots addr server config now = record { addr = addr; server = server; co
 -- ---- why a call is refused: the first refusal that stands, judged by the settled node
 
 abbrev pub is_busy : State → Bool
-is_busy (Asking kind ttl id first last tries due) = true
+is_busy (Asking kind ttl last p) = true
 is_busy (Held kind ttl until renew last pending) = true
 is_busy state = false
 
 abbrev pub is_quiet : State → Bool
-is_quiet (Releasing kind id last tries due) = true
+is_quiet (Releasing kind last p) = true
 is_quiet (Resting last) = true
 is_quiet state = false
 

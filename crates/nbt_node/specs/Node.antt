@@ -8,7 +8,8 @@ use Rattle.nbt_node.specs.declared.state.State.{State}
 use Rattle.nbt_node.specs.declared.state.State.TheVariants.{Idle, Held}
 use Rattle.nbt_node.specs.declared.state.Slot.{Slot}
 use Rattle.nbt_node.specs.declared.lookup.Lookup.{Lookup}
-use Rattle.nbt_node.specs.Settling.{is_over, settled}
+use Rattle.nbt_node.specs.Transaction.{is_over}
+use Rattle.nbt_node.specs.Settling.{settled}
 
 -- Its own address and its server's, the limits, its start, the moment of the last call that wasn't refused (its start,
 -- before the first), the id that comes next, the lookup that is open, and the slots: each is free or has a name.
@@ -76,10 +77,14 @@ take_slot (Some slot ∷ rest) name state = Some slot ∷ take_slot rest name st
 abbrev pub with_state : List (Option Slot) → NameValue → State → List (Option Slot)
 with_state slots name state = if is_in slots name then put slots name state else take_slot slots name state
 
+-- the most slots of a node
+abbrev pub slots_most : ℕ
+slots_most = 14
+
 -- What a node of `count` slots keeps. The last two: no name that has a slot is Idle, and the node's start isn't after its
 -- last moment.
 pub record IsNode (count : ℕ) (node : NodeValue) : Type 0 where
-  pub few : count ≤ 14
+  pub few : count ≤ slots_most
   pub some : 1 ≤ count
   pub count_is : length node.slots ≡ count
   pub apart : AreDistinct node.slots

@@ -3,9 +3,7 @@
 ghost use Rattle.std.specs.Prelude.{◌≡◌};
 ghost use Rattle.nbt_node.specs.Datagrams.{same_end};
 
-use crate::asking::next_due;
-use crate::polling::is_next;
-use crate::settling::is_over;
+use crate::transaction::{is_next, is_over, next_due};
 use arrayvec::ArrayVec;
 use nbt_lease::Moment;
 use nbt_name::{Addr, Name};
@@ -44,7 +42,7 @@ impl Lookup {
     ghost use Rattle.nbt_packet.specs.Message.{message_of, HoldsNumbers};
     ghost use Rattle.nbt_packet.specs.Spelling.{id_of, name_in, AreWritten};
     ghost use Rattle.nbt_node.specs.Node.{settled_lookup};
-    ghost use Rattle.nbt_node.specs.Moves.{next_due};
+    ghost use Rattle.nbt_node.specs.Transaction.{next_due};
     ghost use Rattle.nbt_node.specs.Calls.{question, due_lookup};
     ghost use Rattle.nbt_node.specs.Datagrams.{wants, tells_name, ends};
 

@@ -10,7 +10,8 @@ use Rattle.nbt_node.specs.declared.lookup.Lookup.{Lookup}
 use Rattle.nbt_node.specs.declared.lookup.Wanted.{Wanted}
 use Rattle.nbt_node.specs.declared.lookup.Wanted.TheVariants.{Entries, Names}
 use Rattle.nbt_node.specs.Node.{NodeValue, ByTimeAlone, Passes}
-use Rattle.nbt_node.specs.Moves.{NameEvent, next_due}
+use Rattle.nbt_node.specs.Transaction.{next_due}
+use Rattle.nbt_node.specs.Moves.{NameEvent}
 use Rattle.nbt_packet.specs.Spelling.{AreWritten}
 use Rattle.nbt_node.specs.Calls.{Sends, LooksUp, question, Opens, Polls, polls_name, polls_lookup, polls_nothing as nothing_due}
 use Rattle.nbt_world.specs.declared.event.Event.{Event}

@@ -79,9 +79,9 @@ known (Some node) name = Some (record { start = node.start; state = state_of nod
 -- the last sending about the name that it knows of, or its start
 abbrev pub last_of : State → (start : ℕ) → ℕ
 last_of Idle start = start
-last_of (Asking kind ttl id first last tries due) start = last
+last_of (Asking kind ttl last p) start = last
 last_of (Held kind ttl until renew last pending) start = last
-last_of (Releasing kind id last tries due) start = last
+last_of (Releasing kind last p) start = last
 last_of (Resting last) start = last
 
 -- while it is down: what it reads now
@@ -91,7 +91,7 @@ bound now (Some k) = last_of k.state k.start
 
 -- the kind as which the node asks for the name or holds it
 abbrev pub WantsIn : State → Kind → Type 0
-WantsIn (Asking k ttl id first last tries due) kind = k ≡ kind
+WantsIn (Asking k ttl last p) kind = k ≡ kind
 WantsIn (Held k ttl until renew last pending) kind = k ≡ kind
 WantsIn _ kind = ⊥
 
@@ -101,7 +101,7 @@ Wants (Some k) kind = WantsIn k.state kind
 
 -- a registration or a refresh is open, of this kind and first sent at this moment
 abbrev pub IsOpenIn : State → Kind → (first : ℕ) → Type 0
-IsOpenIn (Asking k ttl id f last tries due) kind first = (k ≡ kind) × (f ≡ first)
+IsOpenIn (Asking k ttl last p) kind first = (k ≡ kind) × (p.first ≡ first)
 IsOpenIn (Held k ttl until renew last (Some p)) kind first = (k ≡ kind) × (p.first ≡ first)
 IsOpenIn _ kind first = ⊥
 

@@ -3,7 +3,8 @@ use Rattle.nbt_packet.specs.Message.{MessageValue, message_of}
 use Rattle.nbt_packet.specs.Spelling.{AreWritten}
 use Rattle.nbt_node.specs.declared.lookup.Lookup.{Lookup}
 use Rattle.nbt_node.specs.Node.{NodeValue}
-use Rattle.nbt_node.specs.Moves.{next_due, id_after}
+use Rattle.nbt_node.specs.Transaction.{next_due}
+use Rattle.nbt_node.specs.Moves.{id_after}
 use Rattle.nbt_node.specs.Calls.{question}
 use Rattle.nbt_node.proofs.Moving.{looks_up}
 use Rattle.nbt_node.proofs.node.Node.look_up.Goals as goal
