@@ -5,11 +5,12 @@ ghost use Rattle.nbt_name.specs.declared.addr.Kind.{Kind};
 ghost use Rattle.nbt_name.specs.Wire.{NameValue};
 ghost use Rattle.nbt_packet.specs.Message.{MessageValue, message_of, message_if, query, release, released};
 ghost use Rattle.nbt_packet.specs.Spelling.{AreWritten};
-ghost use Rattle.nbt_packet.specs.Text.{entries_most};
+ghost use Rattle.nbt_packet.specs.Text.{text, entries_most};
 ghost use Rattle.nbt_lease.specs.Config.{IsConfig, milliseconds, longest_most};
 ghost use Rattle.nbt_lease.specs.Lease.{leases_at, latest_end, AreSound};
 ghost use Rattle.nbt_lease.specs.Rules.{IsLeastEnd};
 ghost use Rattle.nbt_server.specs.Serving.{AsksFor, IsOwn, fault_rcode, refusal, release_rcode, seconds_until, entries, listed, is_cut, Serves, NeedsMemory};
+ghost use Rattle.nbt_packet.specs.Spelling.{Spells};
 
 use arrayvec::ArrayVec;
 use nbt_lease::{GrantFault, Moment, Released, Table};
@@ -200,7 +201,7 @@ fn find(table: &Table, now: Moment, id: u16, name: Name, out: &mut ArrayVec<u8, 
     requires time { table.now.last ≤ now }
     ensures { (reply : MessageValue)
         × ((ip : ℕ) → Serves table.now now ip (query id name) (Some reply) (leases_at now table.now.rows))
-        × AreWritten (Some reply) out.new.items }
+        × (out.new.items ≡ text reply) × Spells out.new.items reply }
 {
     let listed = list(table, now, &name);
     let Some(end) = listed.end else {
