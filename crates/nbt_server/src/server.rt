@@ -90,7 +90,7 @@ impl Server {
         ensures config { self.new.table.config ≡ self.old.table.config }
     {
         out.clear();
-        if now < self.last {
+        if now.get() < self.last.get() {
             return Err(ServerFault::ClockBack);
         }
         self.last = now;

@@ -9,11 +9,11 @@ use Rattle.nbt_packet.specs.Spelling.{Spells, AreWritten}
 use Rattle.nbt_world.specs.Step.{takes}
 
 abbrev pub Replied : Option MessageValue → List ℕ → Type 0
-Replied reply octets = (m : MessageValue) × (takes reply ≡ takes (Some m)) × AreWritten (Some m) octets
+Replied reply octets = (m : MessageValue) × (takes reply ≡ takes (Some m)) × (octets ≡ text m) × Spells octets m
 
 pub replied : (reply : Option MessageValue) (octets : List ℕ) → is_some reply ≡ true → AreWritten reply octets → Replied reply octets
 replied None octets is w = absurd cc
-replied (Some m) octets is w = (m, refl, w)
+replied (Some m) octets is w = (m, refl, w.0, w.1)
 
 pub is_silent : (reply : Option MessageValue) → is_some reply ≡ false → takes reply ≡ takes None
 is_silent None is = refl
@@ -42,7 +42,7 @@ heard_silent (Some m) octets w e = absurd (text_some m (sym w.0 ∙ nil_from_len
 
 pub heard_reply : (sent : Option MessageValue) (octets : List ℕ) → AreWritten sent octets → eqb (length octets) 0 ≡ false → Replied sent octets
 heard_reply None octets w e = absurd (eqb-false (length octets) 0 e (ap length w))
-heard_reply (Some m) octets w e = (m, refl, w)
+heard_reply (Some m) octets w e = (m, refl, w.0, w.1)
 
 pub handled : {T F : Type 0} (r : Result T F) (P : T → Type 0) → is_err r ≡ false → IfOk r P → (x : T) × P x
 handled (Ok x) P e p = (x, p)

@@ -6,7 +6,7 @@ use Rattle.nbt_name.specs.declared.addr.Kind.{Kind}
 use Rattle.nbt_name.specs.Wire.{NameValue}
 use Rattle.nbt_packet.specs.Message.{MessageValue}
 use Rattle.nbt_packet.specs.Text.{text}
-use Rattle.nbt_packet.specs.Spelling.{AreWritten}
+use Rattle.nbt_packet.specs.Spelling.{Spells}
 use Rattle.nbt_lease.specs.Config.{ConfigValue}
 use Rattle.nbt_server.specs.Serving.{ServerValue}
 use Rattle.nbt_server.specs.Calls.{ServerStarts, ServerTakes, ServerForgets}
@@ -124,7 +124,7 @@ abbrev pub IsTaken : Taken → List ℕ → TakenValue → Type 0
 IsTaken t.Down octets taken = taken ≡ is_down
 IsTaken t.Lost octets taken = taken ≡ is_lost
 IsTaken t.Silent octets taken = taken ≡ takes None
-IsTaken t.Replies octets taken = (reply : MessageValue) × (taken ≡ takes (Some reply)) × AreWritten (Some reply) octets
+IsTaken t.Replies octets taken = (reply : MessageValue) × (taken ≡ takes (Some reply)) × (octets ≡ text reply) × Spells octets reply
 
 -- ---- what comes of it
 

@@ -8,7 +8,7 @@ use Rattle.nbt_server.proofs.Rules.{entries_fit, entries_short, ends_in_time}
 use Rattle.nbt_server.proofs.serving.find.Goals as goal
 
 pub returns-in_default : goal.returns-in_default
-returns-in_default c = (not_found c.args.id 3 (Some c.args.name), λ ip. finds_none _ _ (subst (IsLeastEnd (leases_at c.args.now c.args.table.now.rows c.args.name)) c.in_default.is c.list-listed.ensures.end), c.write.ensures)
+returns-in_default c = (not_found c.args.id 3 (Some c.args.name), λ ip. finds_none _ _ (subst (IsLeastEnd (leases_at c.args.now c.args.table.now.rows c.args.name)) c.in_default.is c.list-listed.ensures.end), c.write.ensures.0, c.write.ensures.1)
 
 pub seconds_left-requires : goal.seconds_left-requires
 seconds_left-requires c =
@@ -30,5 +30,6 @@ pub returns : goal.returns
 returns c = (
   found c.args.id c.args.name c.seconds_left.result c.as_slice.result.now c.list-listed.result.cut,
   λ ip. rw (c.seconds_left.ensures, c.as_slice.ensures.value, c.list-listed.ensures.entries, c.list-listed.ensures.cut) (finds c.args.id c.args.name c.in-Some.end (subst (IsLeastEnd (leases_at c.args.now c.args.table.now.rows c.args.name)) c.in-Some.is c.list-listed.ensures.end)),
-  c.write-2.ensures,
+  c.write-2.ensures.0,
+  c.write-2.ensures.1,
 )

@@ -3,7 +3,7 @@ use Rattle.nbt_server.proofs.Rules.{is_short, is_no_query}
 use Rattle.nbt_server.proofs.serving.serve.Goals as goal
 
 pub returns-in-Query-clause-served : goal.returns-in-Query-clause-served
-returns-in-Query-clause-served c = (Some c.find.ensures.0, rw c.in-Query.is (c.find.ensures.1 c.args.ip), refl, c.find.ensures.2)
+returns-in-Query-clause-served c = (Some c.find.ensures.0, rw c.in-Query.is (c.find.ensures.1 c.args.ip), refl, (c.find.ensures.2, c.find.ensures.3))
 
 pub write-requires-clause-fits : goal.write-requires-clause-fits
 write-requires-clause-fits c =
