@@ -11,4 +11,4 @@ returns-else-pending-id-2-clause-moved c = λ node now t name n later.
 
 pub returns-else-refresh-id-clause-moved : goal.returns-else-refresh-id-clause-moved
 returns-else-refresh-id-clause-moved c = λ node now t name n later.
-    rw (c.in-Held.is, c.in-Some.is, ← c.if-refresh-id.false, c.put_off-in-Some.ensures, ← later) (refresh_waits c.in-Held.kind c.in-Held.ttl c.in-Held.until c.in-Held.renew c.in-Held.last c.in-Some.refresh n t)
+    rw (c.in-Held.is, c.in-Some.is, ← c.if-refresh-id.false, c.put_off-in-Held.ensures, ← later) (refresh_waits c.in-Held.kind c.in-Held.ttl c.in-Held.until c.in-Held.renew c.in-Held.last c.in-Some.refresh n t)
