@@ -4,17 +4,18 @@ use Rattle.std.specs.Prelude.{◌&&◌, is_some}
 use Rattle.std.proofs.lemmas.Bool.{lt-leb, le-leb}
 use Rattle.nbt_name.specs.declared.addr.Addr.{Addr}
 use Rattle.nbt_name.specs.declared.addr.Kind.{Kind}
-use Rattle.nbt_name.specs.Wire.{NameValue}
+use Rattle.nbt_name.specs.Wire.{NameValue, same_name}
 use Rattle.nbt_packet.specs.Message.{MessageValue}
 use Rattle.nbt_lease.specs.Drift.{quiet}
 use Rattle.nbt_node.specs.declared.state.State.{State}
 use Rattle.nbt_node.specs.declared.state.State.TheVariants.{Idle, Asking, Held, Releasing, Resting}
-use Rattle.nbt_node.specs.declared.state.Refresh.{Refresh}
+use Rattle.nbt_node.specs.declared.transaction.Transaction.{Transaction}
 use Rattle.nbt_node.specs.declared.state.Slot.{Slot}
 use Rattle.nbt_node.specs.declared.lookup.Lookup.{Lookup}
-use Rattle.nbt_node.specs.Settling.{settled, is_over, rested}
-use Rattle.nbt_node.specs.Node.{NodeValue, same_name, is_in, state_in, slot_of, put, with_state, settled_slot, settled_lookup, state_at}
-use Rattle.nbt_node.specs.Moves.{Move, poll, Told, is_due, is_next, next_due, asks_again, gives_back_again, refreshes_again, refreshes}
+use Rattle.nbt_node.specs.Transaction.{opened, is_over, is_next, next_due}
+use Rattle.nbt_node.specs.Settling.{settled, rested}
+use Rattle.nbt_node.specs.Node.{NodeValue, is_in, state_in, slot_of, put, with_state, settled_slot, settled_lookup, state_at}
+use Rattle.nbt_node.specs.Moves.{Move, poll, Told, is_due, asks_again, gives_back_again, refreshes_again, refreshes}
 use Rattle.nbt_node.specs.Calls.{Polls, polls_name, polls_lookup, due_lookup, lookup_due}
 use Rattle.nbt_engine.specs.Acts.{Act, nothing_came, came, receive_failed, sent, send_failed, Chain}
 use Rattle.nbt_engine.specs.Turning.{PollsTo}
@@ -68,7 +69,7 @@ rested_not_due life now last = go (ltb (last + quiet life) now) refl
 
 -- ---- a move by a poll: what was due is due no more
 
-held_not_due : (life now : ℕ) (kind : Kind) (ttl until renew : ℕ) (p : Refresh) (tries : ℕ)
+held_not_due : (life now : ℕ) (kind : Kind) (ttl until renew : ℕ) (p : Transaction) (tries : ℕ)
     → is_due life now (settled life now (Held kind ttl until renew now (Some (record p { tries = tries; due = next_due now })))) ≡ false
 held_not_due life now kind ttl until renew p tries = go (leb until now) refl
   where
@@ -78,19 +79,19 @@ held_not_due life now kind ttl until renew p tries = go (leb until now) refl
 
 pub polled : (node : NodeValue) (now : ℕ) (name : NameValue) (before after : State) (message : Option MessageValue) (told : Told) (id : ℕ) → Move node now name before poll after message told id
     → (is_due node.config.life now before ≡ true) × (is_due node.config.life now (settled node.config.life now after) ≡ false)
-polled node now name before after message told id (asks_again kind ttl i first last tries due is) = (is, rw (not_over now (tries + 1)) (not_next now (tries + 1)))
-polled node now name before after message told id (gives_back_again kind i last tries due is) = (is, rw (not_over now (tries + 1)) (not_next now (tries + 1)))
+polled node now name before after message told id (asks_again kind ttl last p is) = (is, rw (not_over now (p.tries + 1)) (not_next now (p.tries + 1)))
+polled node now name before after message told id (gives_back_again kind last p is) = (is, rw (not_over now (p.tries + 1)) (not_next now (p.tries + 1)))
 polled node now name before after message told id (refreshes_again kind ttl until renew last p is) = (is, held_not_due node.config.life now kind ttl until renew p (p.tries + 1))
 polled node now name before after message told id (refreshes kind ttl until renew last half rest) =
-    (and_both (leb renew now) (ltb (last + quiet node.config.life) now) (le-leb renew now half) (le-leb _ _ rest), held_not_due node.config.life now kind ttl until renew (record { id = node.next_id; first = now; tries = 1; due = next_due now }) 1)
+    (and_both (leb renew now) (ltb (last + quiet node.config.life) now) (le-leb renew now half) (le-leb _ _ rest), held_not_due node.config.life now kind ttl until renew (opened node.next_id now) 1)
 
 -- ---- one slot more or less
 
 slot_dues_of : (life now : ℕ) (name : NameValue) (state : State) → slot_dues life now (slot_of name state) ≡ one_if (is_due life now state)
 slot_dues_of life now name Idle = refl
-slot_dues_of life now name (Asking kind ttl id first last tries due) = refl
+slot_dues_of life now name (Asking kind ttl last p) = refl
 slot_dues_of life now name (Held kind ttl until renew last pending) = refl
-slot_dues_of life now name (Releasing kind id last tries due) = refl
+slot_dues_of life now name (Releasing kind last p) = refl
 slot_dues_of life now name (Resting last) = refl
 
 module _ (ends : SettlingEnds) (life now : ℕ) where
@@ -99,9 +100,9 @@ module _ (ends : SettlingEnds) (life now : ℕ) where
     where
       go : (s : State) → settled life now s ≡ s → settled_slot life now (slot_of name s) ≡ slot_of name s
       go Idle e = refl
-      go (Asking kind ttl id first last tries due) e = ap (slot_of name) e
+      go (Asking kind ttl last p) e = ap (slot_of name) e
       go (Held kind ttl until renew last pending) e = ap (slot_of name) e
-      go (Releasing kind id last tries due) e = ap (slot_of name) e
+      go (Releasing kind last p) e = ap (slot_of name) e
       go (Resting last) e = ap (slot_of name) e
 
   settled_twice : (slot : Option Slot) → settled_slot life now (settled_slot life now slot) ≡ settled_slot life now slot
@@ -118,24 +119,24 @@ module _ (ends : SettlingEnds) (life now : ℕ) where
     where
       go : (s : State) → is_due life now s ≡ true → slot_of slot.name s ≡ Some (record { name = slot.name; state = s })
       go Idle e = absurd cc
-      go (Asking kind ttl id first last tries due) e = refl
+      go (Asking kind ttl last p) e = refl
       go (Held kind ttl until renew last pending) e = refl
-      go (Releasing kind id last tries due) e = refl
+      go (Releasing kind last p) e = refl
       go (Resting last) e = refl
 
   -- the slot of another name
   in_behind : (name other : NameValue) (s : State) (rest : List (Option Slot)) → same_name other name ≡ false → is_in (slot_of other s ∷ rest) name ≡ is_in rest name
   in_behind name other Idle rest e = refl
-  in_behind name other (Asking kind ttl id first last tries due) rest e = rw e refl
+  in_behind name other (Asking kind ttl last p) rest e = rw e refl
   in_behind name other (Held kind ttl until renew last pending) rest e = rw e refl
-  in_behind name other (Releasing kind id last tries due) rest e = rw e refl
+  in_behind name other (Releasing kind last p) rest e = rw e refl
   in_behind name other (Resting last) rest e = rw e refl
 
   put_behind : (name other : NameValue) (s after : State) (rest : List (Option Slot)) → same_name other name ≡ false → put (slot_of other s ∷ rest) name after ≡ slot_of other s ∷ put rest name after
   put_behind name other Idle after rest e = refl
-  put_behind name other (Asking kind ttl id first last tries due) after rest e = rw e refl
+  put_behind name other (Asking kind ttl last p) after rest e = rw e refl
   put_behind name other (Held kind ttl until renew last pending) after rest e = rw e refl
-  put_behind name other (Releasing kind id last tries due) after rest e = rw e refl
+  put_behind name other (Releasing kind last p) after rest e = rw e refl
   put_behind name other (Resting last) after rest e = rw e refl
 
   module _ (name : NameValue) (after : State) where

@@ -7,7 +7,7 @@ use Rattle.nbt_packet.specs.Message.{MessageValue}
 use Rattle.nbt_packet.specs.Message as m
 use Rattle.nbt_node.specs.Node.{NodeValue}
 use Rattle.nbt_node.specs.Moves.{Told, replied, finds, finds_none, lists}
-use Rattle.nbt_node.specs.Calls.{AreWritten}
+use Rattle.nbt_packet.specs.Spelling.{AreWritten}
 use Rattle.nbt_node.specs.Datagrams.{Hears, from_server, from_stranger, Lists, lists_names, lists_nothing, Ends, is_answered, is_unanswered, Idles, idles, Takes, TakesOctets, spelled, unspelled, Handles}
 
 heard_none : (old : NodeValue) (now : ℕ) (from : Addr) (name : NameValue) (message : MessageValue) (new : NodeValue) (sent : Option MessageValue) (told : Told) → Hears old now from name message new sent told → sent ≡ None

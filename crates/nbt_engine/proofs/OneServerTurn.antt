@@ -5,10 +5,11 @@ use Rattle.nbt_packet.specs.Message.{MessageValue}
 use Rattle.nbt_lease.specs.Lease.{leases_at}
 use Rattle.nbt_server.specs.OneAnswer.{OneReply}
 use Rattle.nbt_server.specs.Serving.{ServerValue}
-use Rattle.nbt_engine.specs.Serving.{is_taken, Takes, Turns, takes}
+use Rattle.nbt_server.specs.Calls.{ServerTakes}
+use Rattle.nbt_engine.specs.Serving.{is_taken, Turns, takes}
 use Rattle.nbt_engine.specs.OneAnswer.{OneServerTurn}
 
-taken : (old new : ServerValue) (now : ℕ) (from : Addr) (octets : List ℕ) (reply : Option MessageValue) → Turns old (is_taken now from octets reply) new → Takes old now from octets reply new
+taken : (old new : ServerValue) (now : ℕ) (from : Addr) (octets : List ℕ) (reply : Option MessageValue) → Turns old (is_taken now from octets reply) new → ServerTakes old now from.ip octets reply new
 taken old _ now from octets reply (takes _ _ _ _ new does) = does
 
 pub one_server_turn : OneReply → OneServerTurn

@@ -5,12 +5,13 @@ use Rattle.nbt_server.specs.declared.fault.ServerFault.{ServerFault}
 use Rattle.nbt_server.specs.declared.fault.ServerFault.TheVariants.{ClockBack, OutOfMemory}
 use Rattle.nbt_name.specs.declared.addr.Addr.{Addr}
 use Rattle.nbt_packet.specs.Message.{MessageValue}
+use Rattle.nbt_packet.specs.Spelling.{AreWritten}
 use Rattle.nbt_packet.specs.Text.{text}
-use Rattle.nbt_lease.specs.Lease.{leases_at}
-use Rattle.nbt_server.specs.Serving.{ServerValue, ServesOctets, OctetsNeedMemory, written, Spelled}
+use Rattle.nbt_server.specs.Serving.{ServerValue}
+use Rattle.nbt_server.specs.Calls.{ServerTakes, ServerForgets}
 use Rattle.nbt_engine.specs.declared.serving.Counts.{Counts}
 use Rattle.nbt_engine.specs.Acts.{Act, nothing_came, came, sent, send_failed, receiving}
-use Rattle.nbt_engine.specs.Serving.{is_empty, is_taken, is_lost, Turns, passes, takes, goes_back, has_no_memory, Takes, of_send, Runs, Breaks}
+use Rattle.nbt_engine.specs.Serving.{is_empty, is_taken, is_lost, Turns, passes, takes, goes_back, has_no_memory, of_send, Runs, Breaks}
 use Rattle.nbt_engine.proofs.Chains.{chain_one}
 use Rattle.nbt_engine.proofs.Running.{runs_one, breaks_one}
 
@@ -19,34 +20,16 @@ Zero counts = counts ≡ record { receives = 0; replies = 0; lost = 0 }
 
 -- what a server says of a datagram that it took
 abbrev pub Served : (s t : ServerValue) (now : ℕ) (from : Addr) (octets out : List ℕ) → Bool → Type 0
-Served s t now from octets out is_reply = (reply : Option MessageValue) × ServesOctets s now from.ip octets reply (leases_at now t.table.rows) × (is_reply ≡ is_some reply) × (out ≡ written reply) × Spelled reply out
-
--- and what it says of each that is no ClockBack
-pub record WentOn (s t : ServerValue) (now : ℕ) : Type 0 where
-  pub goes_on : s.last ≤ now
-  pub start : t.start ≡ s.start
-  pub last : t.last ≡ now
-  pub config : t.table.config ≡ s.table.config
-
-took : (s t : ServerValue) (now : ℕ) (from : Addr) (octets : List ℕ) (reply : Option MessageValue) (out : List ℕ) → WentOn s t now → ServesOctets s now from.ip octets reply (leases_at now t.table.rows) → out ≡ written reply → Spelled reply out
-    → Takes s now from octets reply t
-took s t now from octets reply out w does_serve is spelled = record {
-  goes_on = w.goes_on;
-  serves = does_serve;
-  spelled = subst (Spelled reply) is spelled;
-  start = w.start;
-  last = w.last;
-  config = w.config;
-}
+Served s t now from octets out is_reply = (reply : Option MessageValue) × ServerTakes s now from.ip octets reply t × (is_reply ≡ is_some reply) × AreWritten reply out
 
 -- a reply is a message, and its octets are that message's
-replied : (s t : ServerValue) (now : ℕ) (from : Addr) (octets out : List ℕ) → WentOn s t now → Served s t now from octets out true → (reply : MessageValue) × Takes s now from octets (Some reply) t × (out ≡ text reply)
-replied s t now from octets out w (None, does_serve, is_reply, is, spelled) = absurd cc
-replied s t now from octets out w (Some reply, does_serve, is_reply, is, spelled) = (reply, took s t now from octets (Some reply) out w does_serve is spelled, is)
+replied : (s t : ServerValue) (now : ℕ) (from : Addr) (octets out : List ℕ) → Served s t now from octets out true → (reply : MessageValue) × ServerTakes s now from.ip octets (Some reply) t × (out ≡ text reply)
+replied s t now from octets out (None, did, is_reply, written) = absurd cc
+replied s t now from octets out (Some reply, did, is_reply, written) = (reply, did, written.0)
 
-silent : (s t : ServerValue) (now : ℕ) (from : Addr) (octets out : List ℕ) → WentOn s t now → Served s t now from octets out false → Takes s now from octets None t
-silent s t now from octets out w (None, does_serve, is_reply, is, spelled) = took s t now from octets None out w does_serve is spelled
-silent s t now from octets out w (Some reply, does_serve, is_reply, is, spelled) = absurd cc
+silent : (s t : ServerValue) (now : ℕ) (from : Addr) (octets out : List ℕ) → Served s t now from octets out false → ServerTakes s now from.ip octets None t
+silent s t now from octets out (None, did, is_reply, written) = did
+silent s t now from octets out (Some reply, did, is_reply, written) = absurd cc
 
 pub turn_empty : {P C : Type 0} (does : P → Act → P → Type 0) (tells : C → ℕ → C → Type 0) (p q : P) (c : C) (s : ServerValue) (zero : Counts) (found : Option Addr) (octets : List ℕ)
     → Zero zero → found ≡ None → does p (receiving (Ok found) octets) q → Runs does tells 1 (record zero { receives = 1 }) p c s q c s
@@ -54,25 +37,25 @@ turn_empty does tells p q c s zero found octets z none did =
     runs_one does tells is_empty _ p q c c s s (rw z refl) passes (chain_one does p nothing_came q (subst (λ o. does p (receiving (Ok o) octets) q) none did)) refl
 
 pub turn_silent : {P C : Type 0} (does : P → Act → P → Type 0) (tells : C → ℕ → C → Type 0) (p q : P) (c d : C) (s t : ServerValue) (zero : Counts) (found : Option Addr) (from : Addr) (octets out : List ℕ) (now : ℕ)
-    → Zero zero → found ≡ Some from → does p (receiving (Ok found) octets) q → tells c now d → WentOn s t now → Served s t now from octets out false
+    → Zero zero → found ≡ Some from → does p (receiving (Ok found) octets) q → tells c now d → Served s t now from octets out false
     → Runs does tells 1 (record zero { receives = 1 }) p c s q d t
-turn_silent does tells p q c d s t zero found from octets out now z some did told went served =
-    runs_one does tells (is_taken now from octets None) _ p q c d s t (rw z refl) (takes now from octets None t (silent s t now from octets out went served))
+turn_silent does tells p q c d s t zero found from octets out now z some did told served =
+    runs_one does tells (is_taken now from octets None) _ p q c d s t (rw z refl) (takes now from octets None t (silent s t now from octets out served))
     (chain_one does p (came from octets) q (subst (λ o. does p (receiving (Ok o) octets) q) some did)) (chain_one tells c now d told)
 
 pub turn_replied : {P C : Type 0} (does : P → Act → P → Type 0) (tells : C → ℕ → C → Type 0) (p q r : P) (c d : C) (s t : ServerValue) (zero : Counts) (found : Option Addr) (from : Addr) (octets out : List ℕ) (now : ℕ)
-    → Zero zero → found ≡ Some from → does p (receiving (Ok found) octets) q → tells c now d → WentOn s t now → Served s t now from octets out true → does q (sent from out) r
+    → Zero zero → found ≡ Some from → does p (receiving (Ok found) octets) q → tells c now d → Served s t now from octets out true → does q (sent from out) r
     → Runs does tells 1 (record zero { receives = 1; replies = 1 }) p c s r d t
-turn_replied does tells p q r c d s t zero found from octets out now z some did told went served sends =
-    let k = replied s t now from octets out went served in
+turn_replied does tells p q r c d s t zero found from octets out now z some did told served sends =
+    let k = replied s t now from octets out served in
     runs_one does tells (is_taken now from octets (Some k.0)) _ p r c d s t (rw z refl) (takes now from octets (Some k.0) t k.1)
     (q, subst (λ o. does p (receiving (Ok o) octets) q) some did, (r, subst (λ xs. does q (sent from xs) r) k.2 sends, refl)) (chain_one tells c now d told)
 
 pub turn_unsent : {P C : Type 0} (does : P → Act → P → Type 0) (tells : C → ℕ → C → Type 0) (p q r : P) (c d : C) (s t : ServerValue) (found : Option Addr) (from : Addr) (octets out : List ℕ) (now : ℕ)
-    → found ≡ Some from → does p (receiving (Ok found) octets) q → tells c now d → WentOn s t now → Served s t now from octets out true → does q (send_failed from out) r
+    → found ≡ Some from → does p (receiving (Ok found) octets) q → tells c now d → Served s t now from octets out true → does q (send_failed from out) r
     → Breaks does tells 1 p c s r d t
-turn_unsent does tells p q r c d s t found from octets out now some did told went served fails =
-    let k = replied s t now from octets out went served in
+turn_unsent does tells p q r c d s t found from octets out now some did told served fails =
+    let k = replied s t now from octets out served in
     breaks_one does tells (of_send now from octets k.0) p r c d s t k.1
     (q, subst (λ o. does p (receiving (Ok o) octets) q) some did, (r, subst (λ xs. does q (send_failed from xs) r) k.2 fails, refl)) (chain_one tells c now d told)
 
@@ -87,13 +70,9 @@ turn_lost does tells p q c d s t zero found from octets now z some did told lost
 pub refused : (s t : ServerValue) (now : ℕ) (from : Addr) (seen octets : List ℕ) (fault : ServerFault) → seen ≡ octets
     → IsErrOf {T = Bool} (Err fault) ClockBack ↔ (now < s.last)
     → (IsErrOf {T = Bool} (Err fault) ClockBack → t ≡ s)
-    → (IsErrOf {T = Bool} (Err fault) OutOfMemory → OctetsNeedMemory s now from.ip seen × (leases_at now t.table.rows ≡ leases_at now s.table.rows))
-    → (s.last ≤ now → t.last ≡ now) → t.start ≡ s.start → t.table.config ≡ s.table.config
+    → (IsErrOf {T = Bool} (Err fault) OutOfMemory → ServerForgets s now from.ip seen t)
     → Turns s (is_lost now from octets) t
-refused s t now from seen octets ClockBack same back unchanged memory last start config =
+refused s t now from seen octets ClockBack same back unchanged memory =
     subst (λ x. Turns s (is_lost now from octets) x) (sym (unchanged refl)) (goes_back now from octets (back.0 refl))
-refused s t now from seen octets OutOfMemory same back unchanged memory last start config =
-    let b = back.1 in
-    let on : s.last ≤ now = grind (arith, b) in
-    let m = memory refl in
-    has_no_memory now from octets t on (subst (OctetsNeedMemory s now from.ip) same m.0) (record { start = start; last = last on; config = config; leases = m.1 })
+refused s t now from seen octets OutOfMemory same back unchanged memory =
+    has_no_memory now from octets t (subst (λ xs. ServerForgets s now from.ip xs t) same (memory refl))

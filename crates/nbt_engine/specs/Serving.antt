@@ -4,8 +4,8 @@ use Rattle.std.specs.List.{flat_map, sum_by}
 use Rattle.nbt_name.specs.declared.addr.Addr.{Addr}
 use Rattle.nbt_packet.specs.Message.{MessageValue}
 use Rattle.nbt_packet.specs.Text.{text}
-use Rattle.nbt_lease.specs.Lease.{leases_at}
-use Rattle.nbt_server.specs.Serving.{ServerValue, ServesOctets, OctetsNeedMemory, written, Spelled}
+use Rattle.nbt_server.specs.Serving.{ServerValue}
+use Rattle.nbt_server.specs.Calls.{ServerTakes, ServerForgets}
 use Rattle.nbt_engine.specs.declared.serving.Counts.{Counts}
 use Rattle.nbt_engine.specs.Acts.{Act, nothing_came, came, receive_failed, sent, send_failed, Chain}
 
@@ -31,30 +31,13 @@ moments_in is_empty = []
 moments_in (is_taken now from octets reply) = now ∷ []
 moments_in (is_lost now from octets) = now ∷ []
 
--- only the moment of the last datagram is another
-pub record KeepsLeases (old : ServerValue) (now : ℕ) (new : ServerValue) : Type 0 where
-  pub start : new.start ≡ old.start
-  pub last : new.last ≡ now
-  pub config : new.table.config ≡ old.table.config
-  pub leases : leases_at now new.table.rows ≡ leases_at now old.table.rows
-
--- a server takes a datagram, which came at a moment that doesn't go back
-pub record Takes (old : ServerValue) (now : ℕ) (from : Addr) (octets : List ℕ) (reply : Option MessageValue) (new : ServerValue) : Type 0 where
-  pub goes_on : old.last ≤ now
-  pub serves : ServesOctets old now from.ip octets reply (leases_at now new.table.rows)
-  pub spelled : Spelled reply (written reply)
-  pub start : new.start ≡ old.start
-  pub last : new.last ≡ now
-  pub config : new.table.config ≡ old.table.config
-
 -- What a turn makes of a server. A datagram is lost only where its moment goes back, or it changes the leases and memory
 -- was refused.
 pub data Turns (old : ServerValue) : Turn → ServerValue → Type 0 where
   passes : Turns old is_empty old
-  takes : (now : ℕ) (from : Addr) (octets : List ℕ) (reply : Option MessageValue) (new : ServerValue) → Takes old now from octets reply new → Turns old (is_taken now from octets reply) new
+  takes : (now : ℕ) (from : Addr) (octets : List ℕ) (reply : Option MessageValue) (new : ServerValue) → ServerTakes old now from.ip octets reply new → Turns old (is_taken now from octets reply) new
   goes_back : (now : ℕ) (from : Addr) (octets : List ℕ) → now < old.last → Turns old (is_lost now from octets) old
-  has_no_memory : (now : ℕ) (from : Addr) (octets : List ℕ) (new : ServerValue) → old.last ≤ now → OctetsNeedMemory old now from.ip octets → KeepsLeases old now new
-      → Turns old (is_lost now from octets) new
+  has_no_memory : (now : ℕ) (from : Addr) (octets : List ℕ) (new : ServerValue) → ServerForgets old now from.ip octets new → Turns old (is_lost now from octets) new
 
 -- ---- the turn in which the device fails
 
@@ -74,7 +57,7 @@ moments_of (of_send now from octets reply) = now ∷ []
 -- the server is as after what was read
 abbrev pub Fails : ServerValue → Failure → ServerValue → Type 0
 Fails old of_receive new = new ≡ old
-Fails old (of_send now from octets reply) new = Takes old now from octets (Some reply) new
+Fails old (of_send now from octets reply) new = ServerTakes old now from.ip octets (Some reply) new
 
 -- ---- all turns
 

@@ -1,6 +1,7 @@
 -- A port over UDP, and the machine's clock: as much as can be said of them (our profile).
-use Rattle.std.specs.Prelude.{◌≡◌, ℕ, ◌≤◌, ◌^◌, length}
+use Rattle.std.specs.Prelude.{◌≡◌, ℕ, ◌≤◌, length}
 use Rattle.nbt_name.specs.declared.addr.Addr.{Addr}
+use Rattle.nbt_lease.specs.Config.{last_moment}
 use Rattle.nbt_engine.specs.Acts.{Act, came}
 
 -- the address that a port was bound to, as it was asked for, and how many of its calls have failed
@@ -19,4 +20,4 @@ UdpDoes old act new = (new.addr ≡ old.addr) × FitsReceive act
 
 -- The clock keeps the moment that it told. Which one it tells, no contract can say.
 abbrev pub MachineTells : (old moment new : ℕ) → Type 0
-MachineTells old moment new = (new ≡ moment) × (moment ≤ 2 ^ 60)
+MachineTells old moment new = (new ≡ moment) × (moment ≤ last_moment)

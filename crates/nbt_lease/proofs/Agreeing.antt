@@ -5,12 +5,13 @@ use Rattle.std.specs.Map.{lookup, keys_of, set_value}
 use Rattle.std.proofs.lemmas.Map.Steps.{set_value_same}
 use Rattle.std.specs.Option.{IfSome, IfNone}
 use Rattle.std.proofs.lemmas.Bool.{cases_Bool, cond-true, cond-false, both_ways, and_parts}
-use Rattle.nbt_name.specs.Wire.{NameValue}
+use Rattle.nbt_name.specs.Wire.{NameValue, same_name as is_name}
 use Rattle.nbt_lease.specs.declared.lease.Lease.{Lease}
 use Rattle.nbt_lease.specs.declared.ends.Due.{Due}
-use Rattle.nbt_lease.specs.Lease.{is_live, is_name, at_name, HasNone, AreApart}
+use Rattle.nbt_lease.specs.Lease.{is_live, at_name, HasNone, AreApart}
 use Rattle.nbt_lease.specs.Index.{Entries, members_of, due, is_due, in_set, has_end, Agrees, IsMember, if_any, TakenFrom}
-use Rattle.nbt_lease.proofs.Rows.{name_is, name_again, turned, same_leases}
+use Rattle.nbt_name.proofs.Same.{same_name-true as name_is, same_name-same as name_again, same_name-turned as turned}
+use Rattle.nbt_lease.proofs.Rows.{same_leases}
 use Rattle.nbt_lease.proofs.Sound.{apart_push, apart_replaced, apart_without}
 use Rattle.nbt_lease.proofs.Others.{some_there}
 use Rattle.nbt_lease.proofs.Dues.{number_again, same_number}

@@ -3,11 +3,12 @@ use Rattle.std.proofs.Common.{◌≡◌, ℕ, ◌<◌, ◌≤◌, true, false, L
 use Rattle.std.specs.List.{filter}
 use Rattle.std.proofs.lemmas.Bool.{cases_Bool, cond-true, cond-false, lt-ltb, le-ltb}
 use Rattle.std.proofs.lemmas.List.Sums.{length-filter, count_by-le-length}
-use Rattle.nbt_name.specs.Wire.{NameValue}
+use Rattle.nbt_name.specs.Wire.{NameValue, same_name as is_name}
 use Rattle.nbt_lease.specs.declared.lease.Lease.{Lease}
 use Rattle.nbt_lease.specs.Config.{ConfigValue}
-use Rattle.nbt_lease.specs.Lease.{Rows, Leases, is_live, is_name, leases_at, live_count, at_name, latest_end, AreSound, IsSound, group}
-use Rattle.nbt_lease.proofs.Rows.{name_is, name_again, turned, row_lives, row_of_other, row_over, none_live, leases_at-append, same_leases}
+use Rattle.nbt_lease.specs.Lease.{Rows, Leases, is_live, leases_at, live_count, at_name, latest_end, AreSound, IsSound, group}
+use Rattle.nbt_name.proofs.Same.{same_name-true as name_is, same_name-same as name_again, same_name-turned as turned}
+use Rattle.nbt_lease.proofs.Rows.{row_lives, row_of_other, row_over, none_live, leases_at-append, same_leases}
 
 -- ---- rows that are over are taken out
 

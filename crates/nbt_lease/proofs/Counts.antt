@@ -2,10 +2,11 @@
 use Rattle.std.proofs.Common.{◌≡◌, ℕ, suc, ◌+◌, ◌<◌, true, false, List, [], ◌∷◌, ◌++◌, sym, ap, ◌∙◌, subst, ⊎_elim}
 use Rattle.std.proofs.lemmas.Bool.{cases_Bool, cond-true, cond-false, lt-ltb}
 use Rattle.std.proofs.lemmas.List.{append-nil}
-use Rattle.nbt_name.specs.Wire.{NameValue}
+use Rattle.nbt_name.specs.Wire.{NameValue, same_name as is_name}
 use Rattle.nbt_lease.specs.declared.lease.Lease.{Lease}
-use Rattle.nbt_lease.specs.Lease.{Rows, Leases, is_live, is_name, leases_at, live_count, at_name}
-use Rattle.nbt_lease.proofs.Rows.{name_is, name_again, turned, row_lives, row_of_other, row_over, count_lives, count_over, none_live, none_count, leases_at-append, live_count-append, same_leases}
+use Rattle.nbt_lease.specs.Lease.{Rows, Leases, is_live, leases_at, live_count, at_name}
+use Rattle.nbt_name.proofs.Same.{same_name-true as name_is, same_name-same as name_again, same_name-turned as turned}
+use Rattle.nbt_lease.proofs.Rows.{row_lives, row_of_other, row_over, count_lives, count_over, none_live, none_count, leases_at-append, live_count-append, same_leases}
 
 -- The rows without the first live one of a name.
 record Without (m : ℕ) (rows : Rows) (name : NameValue) (rest : List Lease) : Type 0 where

@@ -12,11 +12,10 @@ use Rattle.std.specs.Str.{bytes_eq}
 use Rattle.std.proofs.lemmas.Bool.{cases_Bool, both_ways, false_from_ne_true, and_parts, and_from}
 use Rattle.std.proofs.lemmas.Map.Text.{is_eq-slice_cmp}
 use Rattle.std.proofs.lemmas.Map.Keys.{IsDistinct-from_sorted, le_from_not_gt}
-use Rattle.nbt_name.specs.Wire.{NameValue}
+use Rattle.nbt_name.specs.Wire.{NameValue, same_name as is_name}
 use Rattle.nbt_lease.specs.declared.ends.Due.{Due}
-use Rattle.nbt_lease.specs.Lease.{is_name}
 use Rattle.nbt_lease.specs.Index.{is_due, in_set}
-use Rattle.nbt_lease.proofs.Rows.{name_is, name_again}
+use Rattle.nbt_name.proofs.Same.{same_name-true as name_is, same_name-same as name_again}
 
 pub some_weaker : (r : Option Due) (P Q : Due → Type 0) → ((d : Due) → P d → Q d) → IfSome r P → IfSome r Q
 some_weaker None P Q weaker h = h

@@ -7,12 +7,13 @@ use Rattle.std.proofs.lemmas.List.{map-append, length-append, length-map}
 use Rattle.std.proofs.lemmas.List.Folds.{list_any-append}
 use Rattle.std.proofs.lemmas.Map.Keys.{IsDistinct-head, IsDistinct-tail, IsDistinct-cons}
 use Rattle.std.proofs.lemmas.Map.Made.{length-from_same_keys}
-use Rattle.nbt_name.specs.Wire.{NameValue}
+use Rattle.nbt_name.specs.Wire.{NameValue, same_name as is_name}
 use Rattle.nbt_lease.specs.declared.lease.Lease.{Lease}
 use Rattle.nbt_lease.specs.declared.ends.Due.{Due}
-use Rattle.nbt_lease.specs.Lease.{Rows, Leases, is_live, is_name, leases_at, live_count, at_name, HasNone, AreApart}
+use Rattle.nbt_lease.specs.Lease.{Rows, Leases, is_live, leases_at, live_count, at_name, HasNone, AreApart}
 use Rattle.nbt_lease.specs.Index.{Entries, members_of, rows_of, due, is_due, in_set, has_end, Agrees, AreLive}
-use Rattle.nbt_lease.proofs.Rows.{name_is, name_again, turned, row_lives, row_of_other, row_over, count_lives, none_live, none_count, leases_at-append, live_count-append, same_leases}
+use Rattle.nbt_name.proofs.Same.{same_name-true as name_is, same_name-same as name_again, same_name-turned as turned}
+use Rattle.nbt_lease.proofs.Rows.{row_lives, row_of_other, row_over, count_lives, none_live, none_count, leases_at-append, live_count-append, same_leases}
 use Rattle.nbt_lease.proofs.Dues.{due_equiv, member_is}
 use Rattle.nbt_lease.proofs.Ending.{ends_so, no_end}
 

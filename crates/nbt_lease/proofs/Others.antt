@@ -3,16 +3,16 @@ use Rattle.std.proofs.Common.{◌≡◌, ◌≢◌, ℕ, ◌≤◌, ◌⊎◌, �
 use Rattle.std.specs.List.{AllByRecursion, Contains}
 use Rattle.std.proofs.lemmas.Bool.{cond-true, cases_lt}
 use Rattle.std.proofs.lemmas.List.Elements.{Contains-append_left, Contains-append_right, Contains-append_cases, Contains-push, Contains-push_cases}
-use Rattle.nbt_name.specs.Wire.{NameValue}
+use Rattle.nbt_name.specs.Wire.{NameValue, same_name as is_name}
 use Rattle.nbt_name.specs.declared.addr.Kind.TheVariants.{Group}
 use Rattle.nbt_lease.specs.declared.lease.Lease.{Lease}
 use Rattle.nbt_lease.specs.declared.lease.Grant.{Grant}
 use Rattle.nbt_lease.specs.declared.lease.Released.{Released}
 use Rattle.nbt_lease.specs.declared.fault.GrantFault.{GrantFault}
 use Rattle.nbt_lease.specs.Config.{ConfigValue}
-use Rattle.nbt_lease.specs.Lease.{Leases, TableValue, is_name, leases_at, live_count, at_name, AreGroup, AreApart, IsSound}
+use Rattle.nbt_lease.specs.Lease.{Leases, TableValue, leases_at, live_count, at_name, AreGroup, AreApart, IsSound}
 use Rattle.nbt_lease.specs.Rules.{Asked, IsAllowed, free, member, owner, end_of, GrantCase, active, renews, group_full, table_full, begins, Grants, renewed, begun, IsGranted, ReleaseCase, gone, no_lease, of_others, Releases}
-use Rattle.nbt_lease.proofs.Rows.{name_again}
+use Rattle.nbt_name.proofs.Same.{same_name-same as name_again}
 use Rattle.nbt_lease.proofs.Sound.{all_behind, alone, sound_after_grant}
 use Rattle.nbt_lease.proofs.Cases.{one_own}
 

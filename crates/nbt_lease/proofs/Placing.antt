@@ -6,14 +6,14 @@ use Rattle.std.specs.Bool.{OnFalse}
 use Rattle.std.specs.Option.{IfNone}
 use Rattle.std.proofs.lemmas.Bool.{cond_both, both_ways, cases_lt, false≢true}
 use Rattle.std.proofs.lemmas.List.{length-append}
-use Rattle.nbt_name.specs.Wire.{NameValue}
+use Rattle.nbt_name.specs.Wire.{NameValue, same_name as is_name}
 use Rattle.nbt_lease.specs.declared.lease.Lease.{Lease}
 use Rattle.nbt_lease.specs.declared.lease.Grant.{Grant}
 use Rattle.nbt_lease.specs.declared.lease.Released.{Released}
 use Rattle.nbt_lease.specs.declared.lease.Released.TheVariants.{Gone}
 use Rattle.nbt_lease.specs.declared.fault.GrantFault.{GrantFault}
 use Rattle.nbt_lease.specs.declared.fault.GrantFault.TheVariants.{OutOfMemory}
-use Rattle.nbt_lease.specs.Lease.{Rows, Leases, TableValue, is_live, is_name, leases_at, live_count, members_most, at_name, HasNone, IsSound}
+use Rattle.nbt_lease.specs.Lease.{Rows, Leases, TableValue, is_live, leases_at, live_count, members_most, at_name, HasNone, IsSound}
 use Rattle.nbt_lease.specs.Rules.{Asked, IsAllowed, end_of, grant_until, begun, renewed, GrantCase, active, renews, group_full, table_full, begins, Grants, ReleaseCase, gone, no_lease, of_others, Releases}
 use Rattle.nbt_lease.specs.Config.{ConfigValue, granted}
 use Rattle.nbt_lease.specs.Index.{Entries, members_of, rows_of, AreLive, IsMember, Renewed, Moves, Ended}

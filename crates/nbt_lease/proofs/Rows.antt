@@ -1,32 +1,12 @@
 -- Rows, and the leases that they hold of each name at a moment.
 use Rattle.std.proofs.Common.{◌≡◌, ◌≢◌, ℕ, suc, ◌+◌, ◌<◌, ◌≤◌, Bool, true, false, [], ◌∷◌, ◌++◌, map, length, refl, sym, ap, ◌∙◌, ⊎_elim, arith}
 use Rattle.std.specs.List.{filter}
-use Rattle.std.specs.Str.{bytes_eq}
 use Rattle.std.proofs.lemmas.Bool.{cases_Bool, both_ways, false_from_ne_true, and_parts, and_from, and_right, ltb-false, lt-ltb, le-ltb}
 use Rattle.std.proofs.lemmas.List.{map-append, length-append}
 use Rattle.std.proofs.lemmas.List.Elements.{filter-append}
-use Rattle.std.proofs.lemmas.Slice.Eq.{bytes_eq-Decides}
-use Rattle.nbt_name.specs.Wire.{NameValue}
+use Rattle.nbt_name.specs.Wire.{NameValue, same_name as is_name}
 use Rattle.nbt_lease.specs.declared.lease.Lease.{Lease}
-use Rattle.nbt_lease.specs.Lease.{Rows, Leases, is_live, is_name, is_row_of, leases_at, live_count}
-
--- ---- names
-
-pub name_is : (a b : NameValue) → is_name a b ≡ true → a ≡ b
-name_is a b h =
-    let parts = and_parts (bytes_eq a.octets b.octets) (bytes_eq a.scope b.scope) h in
-    let octets : a.octets ≡ b.octets = (bytes_eq-Decides a.octets b.octets).0 parts.0 in
-    let scope : a.scope ≡ b.scope = (bytes_eq-Decides a.scope b.scope).0 parts.1 in
-    λ i. record { octets = octets i; scope = scope i }
-
-pub name_again : (a : NameValue) → is_name a a ≡ true
-name_again a = and_from (bytes_eq a.octets a.octets) (bytes_eq a.scope a.scope) ((bytes_eq-Decides a.octets a.octets).1 refl) ((bytes_eq-Decides a.scope a.scope).1 refl)
-
-pub other_name : (a b : NameValue) → a ≢ b → is_name a b ≡ false
-other_name a b h = false_from_ne_true (is_name a b) (λ e. h (name_is a b e))
-
-pub turned : (a b : NameValue) → is_name a b ≡ false → is_name b a ≡ false
-turned a b h = other_name b a (λ e. both_ways (is_name a b) h (ap (λ (n : NameValue). is_name a n) e ∙ name_again a))
+use Rattle.nbt_lease.specs.Lease.{Rows, Leases, is_live, is_row_of, leases_at, live_count}
 
 -- ---- one row more, in front
 

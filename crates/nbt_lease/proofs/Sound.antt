@@ -4,7 +4,7 @@ use Rattle.std.specs.List.{AllByRecursion, filter}
 use Rattle.std.proofs.lemmas.Bool.{cases_Bool, cond_both}
 use Rattle.std.proofs.lemmas.List.Sums.{length-filter, count_by-le-length}
 use Rattle.std.proofs.lemmas.List.{length-append}
-use Rattle.nbt_name.specs.Wire.{NameValue}
+use Rattle.nbt_name.specs.Wire.{NameValue, same_name as is_name}
 use Rattle.nbt_name.specs.declared.addr.Kind.{Kind}
 use Rattle.nbt_name.specs.declared.addr.Kind.TheVariants.{Unique, Group}
 use Rattle.nbt_lease.specs.declared.lease.Lease.{Lease}
@@ -12,7 +12,7 @@ use Rattle.nbt_lease.specs.declared.lease.Grant.{Grant}
 use Rattle.nbt_lease.specs.declared.lease.Released.{Released}
 use Rattle.nbt_lease.specs.declared.fault.GrantFault.{GrantFault}
 use Rattle.nbt_lease.specs.Config.{ConfigValue, granted}
-use Rattle.nbt_lease.specs.Lease.{Rows, Leases, TableValue, is_live, is_name, leases_at, live_count, at_name, HasNone, AreApart, AreOneKind, latest_end, AreSound, IsSound, group, unique}
+use Rattle.nbt_lease.specs.Lease.{Rows, Leases, TableValue, is_live, leases_at, live_count, at_name, HasNone, AreApart, AreOneKind, latest_end, AreSound, IsSound, group, unique}
 use Rattle.nbt_lease.specs.Rules.{Asked, IsAllowed, free, member, owner, GrantCase, active, renews, group_full, table_full, begins, Grants, end_of, renewed, begun, ReleaseCase, gone, no_lease, of_others, Releases}
 use Rattle.nbt_lease.proofs.Rows.{later_is}
 

@@ -1,5 +1,6 @@
 -- Clocks that drift, and what a node allows for it (our profile).
 use Rattle.std.specs.Prelude.{ℕ, ◌+◌, ◌-◌, ◌*◌, ◌/◌, ◌≤◌}
+use Rattle.nbt_lease.specs.Config.{milliseconds}
 
 -- The drift bound: while the true clock moved by `passed` ms, another moved by as many, but for a thousandth of them
 -- and one millisecond. Any clock of a server or a node keeps it between any two moments.
@@ -15,7 +16,7 @@ pub record KeepsDriftBound (true_then read_then true_now read_now : ℕ) : Type 
 -- How many milliseconds of its own clock a node holds a name for that was granted for these seconds: so few that the
 -- server's clock has not gone through all of them, if the node's is as slow and the server's as fast as may be.
 unfoldable pub hold : (seconds : ℕ) → ℕ
-hold seconds = (1000 * seconds - 1) * 999 / 1001 - 1
+hold seconds = (milliseconds seconds - 1) * 999 / 1001 - 1
 
 -- How many milliseconds of its own clock a name rests for: more than two lives, if the clock is as fast as may be.
 unfoldable pub quiet : (life : ℕ) → ℕ

@@ -2,10 +2,10 @@
 use Rattle.std.specs.Prelude.{◌≡◌, ◌≢◌, ℕ, ◌<◌, max, Bool, ◌&&◌, nat_eq, List, [], ◌∷◌, ◌++◌, map, Option, Some, None, if◌then◌else◌, unwrap_or}
 use Rattle.std.specs.List.{list_any, IsDistinct, AllByRecursion}
 use Rattle.std.specs.Map.{lookup, keys_of}
-use Rattle.nbt_name.specs.Wire.{NameValue}
+use Rattle.nbt_name.specs.Wire.{NameValue, same_name as is_name}
 use Rattle.nbt_lease.specs.declared.lease.Lease.{Lease}
 use Rattle.nbt_lease.specs.declared.ends.Due.{Due}
-use Rattle.nbt_lease.specs.Lease.{Leases, Rows, is_name, at_name, HasNone, AreApart}
+use Rattle.nbt_lease.specs.Lease.{Leases, Rows, at_name, HasNone, AreApart}
 
 -- each name with its members, in order of their beginnings
 abbrev pub Entries : Type 0

@@ -1,19 +1,14 @@
 -- Leases, and what a table holds of them at a moment (our profile).
-use Rattle.std.specs.Prelude.{◌≡◌, ◌≢◌, ℕ, ◌+◌, ◌*◌, ◌≤◌, Bool, ◌&&◌, if◌then◌else◌, nat_lt, List, [], ◌∷◌, map, filter, length, ⊤}
+use Rattle.std.specs.Prelude.{◌≡◌, ◌≢◌, ℕ, ◌+◌, ◌≤◌, Bool, ◌&&◌, if◌then◌else◌, nat_lt, List, [], ◌∷◌, map, filter, length, ⊤}
 use Rattle.std.specs.List.{AllByRecursion}
-use Rattle.std.specs.Str.{bytes_eq}
-use Rattle.nbt_name.specs.Wire.{NameValue}
+use Rattle.nbt_name.specs.Wire.{NameValue, same_name as is_name}
 use Rattle.nbt_name.specs.declared.addr.Kind.TheVariants.{Unique, Group}
 use Rattle.nbt_lease.specs.declared.lease.Lease.{Lease}
-use Rattle.nbt_lease.specs.Config.{ConfigValue}
+use Rattle.nbt_lease.specs.Config.{ConfigValue, milliseconds}
 
 -- a lease lives until its end, and no longer at its end
 abbrev pub is_live : ℕ → Lease → Bool
 is_live moment lease = nat_lt moment lease.end
-
--- whether two names are one
-abbrev pub is_name : NameValue → NameValue → Bool
-is_name a b = bytes_eq a.octets b.octets && bytes_eq a.scope b.scope
 
 -- The leases of each name, in order of their beginnings.
 abbrev pub Leases : Type 0
@@ -64,7 +59,7 @@ pub data AreOneKind (leases : List Lease) : Type 0 where
 
 -- a lease that is granted by a moment ends by then at the latest
 abbrev pub latest_end : ConfigValue → ℕ → ℕ
-latest_end config moment = moment + 1000 * config.longest
+latest_end config moment = moment + milliseconds config.longest
 
 -- the most live members of a group
 abbrev pub members_most : ℕ

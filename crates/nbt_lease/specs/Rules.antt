@@ -1,5 +1,5 @@
 -- What a grant and a release make of the live leases (our profile).
-use Rattle.std.specs.Prelude.{◌≡◌, ◌≢◌, ℕ, ◌+◌, ◌*◌, ◌<◌, ◌≤◌, ◌⊎◌, max, List, [], ◌∷◌, ◌++◌, length, Option, Some, None, Result, Ok, Err, Any, All, Contains}
+use Rattle.std.specs.Prelude.{◌≡◌, ◌≢◌, ℕ, ◌+◌, ◌<◌, ◌≤◌, ◌⊎◌, max, List, [], ◌∷◌, ◌++◌, length, Option, Some, None, Result, Ok, Err, Any, All, Contains}
 use Rattle.nbt_name.specs.declared.addr.Kind.{Kind}
 use Rattle.nbt_name.specs.declared.addr.Kind.TheVariants.{Unique, Group}
 use Rattle.nbt_name.specs.Wire.{NameValue}
@@ -9,7 +9,7 @@ use Rattle.nbt_lease.specs.declared.lease.Released.{Released}
 use Rattle.nbt_lease.specs.declared.lease.Released.TheVariants.{Gone, NoLease, OfOthers}
 use Rattle.nbt_lease.specs.declared.fault.GrantFault.{GrantFault}
 use Rattle.nbt_lease.specs.declared.fault.GrantFault.TheVariants.{Active, TableFull, GroupFull}
-use Rattle.nbt_lease.specs.Config.{ConfigValue, granted}
+use Rattle.nbt_lease.specs.Config.{ConfigValue, granted, milliseconds}
 use Rattle.nbt_lease.specs.Lease.{Leases, TableValue, leases_at, live_count, members_most, at_name, HasNone, AreGroup}
 
 -- What is asked for: by which address, as which kind, and for how many seconds.
@@ -29,7 +29,7 @@ pub data IsAllowed (a : Asked) (leases : List Lease) : Type 0 where
 
 -- the end of a lease that is granted now
 abbrev pub end_of : ConfigValue → ℕ → Asked → ℕ
-end_of config now a = now + 1000 * granted config.longest a.ttl
+end_of config now a = now + milliseconds (granted config.longest a.ttl)
 
 abbrev pub grant_until : ConfigValue → Asked → ℕ → Grant
 grant_until config a end = record { seconds = granted config.longest a.ttl; end = end }

@@ -3,9 +3,9 @@
 ghost use Rattle.std.specs.Prelude.{◌≡◌, ◌+◌, None, Some, true, false, [], ◌∷◌, ◌++◌, length, if◌then◌else◌, IfSome, IfNone, OnOk, OnErr};
 ghost use Rattle.std.specs.List.{IsDistinct};
 ghost use Rattle.std.specs.Map.{lookup, keys_of};
-ghost use Rattle.nbt_name.specs.Wire.{NameValue};
+ghost use Rattle.nbt_name.specs.Wire.{NameValue, same_name as is_name};
 ghost use Rattle.nbt_lease.specs.declared.ends.Due.{Due};
-ghost use Rattle.nbt_lease.specs.Lease.{is_name, HasNone};
+ghost use Rattle.nbt_lease.specs.Lease.{HasNone};
 ghost use Rattle.nbt_lease.specs.Index.{members_of, due, is_due, in_set, TakenFrom};
 
 use crate::ends::Ends;

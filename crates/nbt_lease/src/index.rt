@@ -38,7 +38,8 @@ impl Model for Index {
 }
 
 impl Index {
-    ghost use Rattle.nbt_lease.specs.Lease.{is_live, is_name, at_name, HasNone};
+    ghost use Rattle.nbt_name.specs.Wire.{same_name as is_name};
+    ghost use Rattle.nbt_lease.specs.Lease.{is_live, at_name, HasNone};
     ghost use Rattle.nbt_lease.specs.Index.{members_of, rows_of, AreLive, Renewed, Moves, Ended};
 
     /// No leases. Takes no memory.

@@ -1,6 +1,7 @@
 //! Moments of one clock.
 
-ghost use Rattle.std.specs.Prelude.{◌≡◌, ◌<◌, ◌≤◌, ◌^◌, ◌↔◌, IsSome, IfSome};
+ghost use Rattle.std.specs.Prelude.{◌≡◌, ◌<◌, ◌≤◌, ◌↔◌, IsSome, IfSome};
+ghost use Rattle.nbt_lease.specs.Config.{last_moment};
 
 use std::marker::Model;
 
@@ -12,13 +13,14 @@ pub struct Moment {
 }
 
 impl Model for Moment {
-    ghost use Rattle.std.specs.Prelude.{ℕ, ◌≤◌, ◌^◌};
+    ghost use Rattle.std.specs.Prelude.{ℕ, ◌≤◌};
+    ghost use Rattle.nbt_lease.specs.Config.{last_moment};
 
     ghost Value = { ℕ };
 
     ghost view = { λ m. m.ms };
 
-    ghost invariant = { λ m. m.ms ≤ 2 ^ 60 };
+    ghost invariant = { λ m. m.ms ≤ last_moment };
 
     ghost inverse = { λ ms. record { ms = ms } };
 }
@@ -36,7 +38,7 @@ impl Moment {
 
     /// The moment of this many milliseconds; none above 2^60.
     pub fn new(ms: u64) -> Option<Moment>
-        ensures found { IsSome result ↔ (ms ≤ 2 ^ 60) }
+        ensures found { IsSome result ↔ (ms ≤ last_moment) }
         ensures value { IfSome result (λ moment. moment ≡ ms) }
     {
         if ms > LAST {
@@ -48,7 +50,7 @@ impl Moment {
     /// The milliseconds, 0 to 2^60.
     pub fn get(self) -> u64
         ensures value { result ≡ self }
-        ensures bound { result ≤ 2 ^ 60 }
+        ensures bound { result ≤ last_moment }
     {
         self.ms
     }

@@ -3,8 +3,8 @@
 ghost use Rattle.std.specs.Prelude.{◌≡◌, ◌≢◌, ℕ, ◌+◌, ◌<◌, ◌≤◌, [], length, filter, OnErr};
 ghost use Rattle.std.specs.List.{IsDistinct};
 ghost use Rattle.std.specs.Map.{keys_of};
-ghost use Rattle.nbt_name.specs.Wire.{NameValue};
-ghost use Rattle.nbt_lease.specs.Lease.{TableValue, is_live, is_name, leases_at, HasNone};
+ghost use Rattle.nbt_name.specs.Wire.{NameValue, same_name as is_name};
+ghost use Rattle.nbt_lease.specs.Lease.{TableValue, is_live, leases_at, HasNone};
 ghost use Rattle.nbt_lease.specs.Rules.{Asked, begun, Releases};
 ghost use Rattle.nbt_lease.specs.Placing.{HoldsLive, MayBegin, Places};
 ghost use Rattle.nbt_lease.specs.Index.{members_of, rows_of};
@@ -37,7 +37,8 @@ impl Model for Table {
     ghost use Rattle.std.specs.Prelude.{◌≤◌, length};
     ghost use Rattle.std.specs.List.{IsDistinct};
     ghost use Rattle.std.specs.Map.{keys_of};
-    ghost use Rattle.nbt_lease.specs.Lease.{TableValue, is_name, leases_at, IsSound};
+    ghost use Rattle.nbt_name.specs.Wire.{same_name as is_name};
+    ghost use Rattle.nbt_lease.specs.Lease.{TableValue, leases_at, IsSound};
     ghost use Rattle.nbt_lease.specs.Index.{rows_of};
 
     ghost Value = { TableValue };

@@ -24,3 +24,5 @@ pub mod Looking
 pub mod ReadBack
 -- where a plain name stands, its octets are its wire form
 pub mod PlainForms
+-- two names are one, or they are told apart
+pub mod Same

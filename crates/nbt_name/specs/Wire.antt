@@ -1,6 +1,7 @@
 -- Names as octets: RFC 1001 section 14.1, RFC 1002 section 4.1.
-use Rattle.std.specs.Prelude.{◌≡◌, ℕ, ◌+◌, ◌/◌, ◌%◌, ◌<◌, ◌≤◌, List, [], ◌∷◌, ◌++◌, length, slice_index}
+use Rattle.std.specs.Prelude.{◌≡◌, ℕ, ◌+◌, ◌/◌, ◌%◌, ◌<◌, ◌≤◌, Bool, ◌&&◌, nat_eq, List, [], ◌∷◌, ◌++◌, length, slice_index}
 use Rattle.std.specs.List.{flat_map}
+use Rattle.std.specs.Str.{bytes_eq}
 use Rattle.nbt_name.specs.Scope.{IsScope}
 
 -- A name as contracts see it: its sixteen octets, and its scope.
@@ -22,6 +23,17 @@ pub record IsName (name : NameValue) : Type 0 where
   pub labels : IsScope name.scope
   pub octets_fit : AreOctets name.octets
   pub scope_fits : AreOctets name.scope
+
+-- two names are one where their octets are the same, and their scopes' octets
+abbrev pub same_name : NameValue → NameValue → Bool
+same_name a b = bytes_eq a.octets b.octets && bytes_eq a.scope b.scope
+
+-- The name begins with `*`, as no machine's does (RFC 1001 section 5.2); and the same as a test.
+abbrev pub IsStar : NameValue → Type 0
+IsStar name = slice_index name.octets 0 ≡ 0x2A
+
+abbrev pub is_star : NameValue → Bool
+is_star name = nat_eq (slice_index name.octets 0) 0x2A
 
 -- Half-ASCII: each octet is two letters, its high half and its low half above `A`.
 abbrev pub letters : List ℕ → List ℕ

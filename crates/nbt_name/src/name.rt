@@ -2,7 +2,7 @@
 
 ghost use Rattle.std.specs.Prelude.{◌≡◌, ◌≢◌, ◌+◌, ◌<◌, ◌≤◌, ◌↔◌, List, [], ◌∷◌, ◌++◌, length, slice_index, replicate, IsTrue, IsOk, IfOk, IsErrOf};
 ghost use Rattle.nbt_name.specs.Scope.{IsScope};
-ghost use Rattle.nbt_name.specs.Wire.{IsName, name_of, wire};
+ghost use Rattle.nbt_name.specs.Wire.{IsName, IsStar, name_of, wire};
 
 use crate::fault::NameRefusal;
 use crate::wire::{LABEL_MOST, LETTERS, SCOPE_MOST};
@@ -112,7 +112,7 @@ impl Name {
 
     /// Whether the first octet is `*` (0x2A).
     pub fn is_star(&self) -> bool
-        ensures { IsTrue result ↔ (slice_index self.now.octets 0 ≡ 0x2A) }
+        ensures { IsTrue result ↔ IsStar self.now }
     {
         self.octets[0] == Name::STAR
     }

@@ -6,7 +6,7 @@ use Rattle.std.specs.Io.KnownBytes.{Appends}
 use Rattle.nbt_name.specs.declared.addr.Addr.{Addr}
 use Rattle.nbt_name.specs.declared.addr.Kind.{Kind}
 use Rattle.nbt_node.specs.Calls.{started}
-use Rattle.nbt_node.specs.Node.{NodeValue, holds}
+use Rattle.nbt_node.specs.Node.{NodeValue, holds, slots_most}
 use Rattle.nbt_engine.specs.Acts.{Act, Chain}
 use Rattle.nbt_engine.specs.Turning.{TakesTurn}
 use Rattle.nbt_engine.specs.declared.turning.Seen.{Seen}
@@ -57,7 +57,7 @@ pub record RunsNode {P : Type 0} (does : P → Act → P → Type 0) (a : NodeAr
   pub node : NodeValue
   pub turns_text : Option (List ℕ)
   pub clock_told : MachineTells old_clock start start
-  pub turns : TakesTurns does MachineTells a.server a.want (turns_of a.turns) old_port start (started 14 a.bind a.server a.config start) old_text port clock node turns_text
+  pub turns : TakesTurns does MachineTells a.server a.want (turns_of a.turns) old_port start (started slots_most a.bind a.server a.config start) old_text port clock node turns_text
   pub ended : Appends turns_text text (held_text (holds node a.want.name clock))
 
 -- The same on a UDP port of this machine that was bound to the node's address, and over the machine's clock, which has told

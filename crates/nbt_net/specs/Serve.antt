@@ -2,8 +2,8 @@
 use Rattle.std.specs.Prelude.{◌≡◌, ◌≢◌, ℕ, List, [], ◌++◌, Option, Some, None, codes}
 use Rattle.std.specs.Fmt.{decimal}
 use Rattle.std.specs.Io.KnownBytes.{Appends}
-use Rattle.nbt_lease.specs.Config.{ConfigValue}
 use Rattle.nbt_server.specs.Serving.{ServerValue}
+use Rattle.nbt_server.specs.Calls.{ServerStarts}
 use Rattle.nbt_engine.specs.Acts.{Act}
 use Rattle.nbt_engine.specs.Serving.{Runs, Breaks}
 use Rattle.nbt_engine.specs.Udp.{UdpValue, UdpDoes, MachineTells}
@@ -16,13 +16,6 @@ use Rattle.nbt_net.specs.declared.serve.ServeArguments.{ServeArguments}
 -- the line of the counts; each turn is one receive
 abbrev pub counts_text : Counts → List ℕ
 counts_text counts = one_line (codes "turns " ++ decimal counts.receives ++ codes " replies " ++ decimal counts.replies ++ codes " lost " ++ decimal counts.lost)
-
--- a server that starts at a moment: it has no lease
-pub record IsNew (config : ConfigValue) (now : ℕ) (server : ServerValue) : Type 0 where
-  pub start : server.start ≡ now
-  pub last : server.last ≡ now
-  pub config_is : server.table.config ≡ config
-  pub empty : server.table.rows ≡ []
 
 -- a port, a clock and a server
 pub record Serving (P C : Type 0) : Type 0 where
@@ -52,7 +45,7 @@ pub record Serves {P C : Type 0} (does : P → Act → P → Type 0) (tells : C 
   pub first : ServerValue
   pub last : ServerValue
   pub clock_told : tells old_clock start started_clock
-  pub is_new : IsNew a.config start first
+  pub starts : ServerStarts a.config start first
   pub serves : ServesFor does tells a.turns (record { port = old_port; clock = started_clock; server = first }) old_text (record { port = port; clock = clock; server = last }) text
 
 -- The same on a UDP port of this machine that was bound to the server's address, and over the machine's clock, which has

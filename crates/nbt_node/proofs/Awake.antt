@@ -1,18 +1,18 @@
 -- No slot has a name that is Idle.
 use Rattle.std.proofs.Common.{◌≡◌, ℕ, zero, suc, Bool, true, false, cond, List, [], ◌∷◌, map, Option, Some, None, sym, subst}
 use Rattle.std.specs.Prelude.{replicate}
-use Rattle.nbt_name.specs.Wire.{NameValue}
+use Rattle.nbt_name.specs.Wire.{NameValue, same_name}
 use Rattle.nbt_node.specs.declared.state.State.{State}
 use Rattle.nbt_node.specs.declared.state.State.TheVariants.{Idle, Asking, Held, Releasing, Resting}
 use Rattle.nbt_node.specs.declared.state.Slot.{Slot}
 use Rattle.nbt_node.specs.Settling.{settled}
-use Rattle.nbt_node.specs.Node.{same_name, is_in, AreAwake, slot_of, put, take_slot, with_state, settled_slot}
+use Rattle.nbt_node.specs.Node.{is_in, AreAwake, slot_of, put, take_slot, with_state, settled_slot}
 
 awake_step : (n : NameValue) (state : State) (rest : List (Option Slot)) → AreAwake rest → AreAwake (slot_of n state ∷ rest)
 awake_step n Idle rest awake = awake
-awake_step n (Asking kind ttl id first last tries due) rest awake = ((λ e. absurd cc), awake)
+awake_step n (Asking kind ttl last p) rest awake = ((λ e. absurd cc), awake)
 awake_step n (Held kind ttl until renew last pending) rest awake = ((λ e. absurd cc), awake)
-awake_step n (Releasing kind id last tries due) rest awake = ((λ e. absurd cc), awake)
+awake_step n (Releasing kind last p) rest awake = ((λ e. absurd cc), awake)
 awake_step n (Resting last) rest awake = ((λ e. absurd cc), awake)
 
 pub awake-settled : (life now : ℕ) (xs : List (Option Slot)) → AreAwake (map (settled_slot life now) xs)

@@ -10,7 +10,8 @@ use Rattle.nbt_node.specs.Node.{is_in, AreDistinct, state_in, slot_of}
 use Rattle.nbt_node.specs.Moves.{is_due}
 use Rattle.nbt_node.specs.Calls.{first_due}
 use Rattle.nbt_node.specs.Sending.{IsSending}
-use Rattle.nbt_node.proofs.Known.{slot_tells, same_name-same, name_tells}
+use Rattle.nbt_name.proofs.Same.{same_name-same, name_tells}
+use Rattle.nbt_node.proofs.Known.{slot_tells}
 
 module _ (life now own id : ℕ) where
   first_here : (name : NameValue) (state : State) → is_due life now state ≡ true → (rest : List (Option Slot)) → first_due life now (slot_of name state ∷ rest) ≡ Some (record { name = name; state = state })

@@ -1,50 +1,22 @@
 -- What is known of each name after a change of the slots.
 use Rattle.std.proofs.Common.{◌≡◌, ◌≢◌, ℕ, zero, ◌<◌, Bool, true, false, cond, List, [], ◌∷◌, length, map, suc, get_or, Option, Some, None, refl, sym, ap, subst, ◌∙◌, arith, inl, inr}
 use Rattle.std.specs.Prelude.{◌⊎◌, ◌||◌, replicate}
-use Rattle.std.specs.Str.{bytes_eq}
 use Rattle.std.proofs.lemmas.Bool.{and_parts, and_from, false_from_ne_true}
-use Rattle.std.proofs.lemmas.Slice.Eq.{bytes_eq-Decides}
-use Rattle.nbt_name.specs.Wire.{NameValue}
+use Rattle.nbt_name.specs.Wire.{NameValue, same_name}
+use Rattle.nbt_name.proofs.Same.{same_name-true, same_name-same, same_name-other, name_tells}
 use Rattle.nbt_node.specs.declared.state.State.{State}
 use Rattle.nbt_node.specs.declared.state.State.TheVariants.{Idle, Asking, Held, Releasing, Resting}
 use Rattle.nbt_node.specs.declared.state.Slot.{Slot}
 use Rattle.nbt_node.specs.Settling.{settled}
-use Rattle.nbt_node.specs.Node.{same_name, is_named, is_in, has_room, AreDistinct, state_in, slot_of, put, take_slot, with_state, settled_slot}
-
--- ---- names
-
-pub same_name-true : (a b : NameValue) → same_name a b ≡ true → a ≡ b
-same_name-true a b e =
-    let parts = and_parts (bytes_eq a.octets b.octets) (bytes_eq a.scope b.scope) e in
-    equal a b ((bytes_eq-Decides a.octets b.octets).0 parts.0) ((bytes_eq-Decides a.scope b.scope).0 parts.1)
-  where
-    equal : (m n : NameValue) → m.octets ≡ n.octets → m.scope ≡ n.scope → m ≡ n
-    equal m n p q = λ i. record { octets = p i; scope = q i }
-
-pub same_name-same : (a : NameValue) → same_name a a ≡ true
-same_name-same a = and_from (bytes_eq a.octets a.octets) (bytes_eq a.scope a.scope) ((bytes_eq-Decides a.octets a.octets).1 refl) ((bytes_eq-Decides a.scope a.scope).1 refl)
-
-pub same_name-other : (a b : NameValue) → a ≢ b → same_name a b ≡ false
-same_name-other a b ne = false_from_ne_true (same_name a b) (λ e. ne (same_name-true a b e))
-
--- either names are one, or they are told apart
-pub name_tells : (a b : NameValue) → ((same_name a b ≡ true) × (a ≡ b)) ⊎ ((same_name a b ≡ false) × (a ≢ b))
-name_tells a b = go (same_name a b) refl
-  where
-    absurd_of : false ≡ true → ⊥
-    absurd_of e = cc
-
-    go : (t : Bool) → same_name a b ≡ t → ((same_name a b ≡ true) × (a ≡ b)) ⊎ ((same_name a b ≡ false) × (a ≢ b))
-    go true e = inl (e, same_name-true a b e)
-    go false e = inr (e, λ same. absurd_of (sym e ∙ ap (λ (n : NameValue). same_name a n) (sym same) ∙ same_name-same a))
+use Rattle.nbt_node.specs.Node.{is_named, is_in, has_room, AreDistinct, state_in, slot_of, put, take_slot, with_state, settled_slot}
 
 -- ---- slots
 
 pub slot_tells : (n : NameValue) (state : State) → ((state ≡ Idle) × (slot_of n state ≡ None)) ⊎ ((state ≢ Idle) × (slot_of n state ≡ Some (record { name = n; state = state })))
 slot_tells n Idle = inl (refl, refl)
-slot_tells n (Asking kind ttl id first last tries due) = inr (λ e. cc, refl)
+slot_tells n (Asking kind ttl last p) = inr (λ e. cc, refl)
 slot_tells n (Held kind ttl until renew last pending) = inr (λ e. cc, refl)
-slot_tells n (Releasing kind id last tries due) = inr (λ e. cc, refl)
+slot_tells n (Releasing kind last p) = inr (λ e. cc, refl)
 slot_tells n (Resting last) = inr (λ e. cc, refl)
 
 or_false : (a b : Bool) → (a || b) ≡ false → (a ≡ false) × (b ≡ false)
@@ -74,9 +46,9 @@ absent (Some s ∷ rest) q out = let parts = or_false (same_name s.name q) (is_i
 -- a slot before slots that don't have its name
 distinct_step : (n : NameValue) (state : State) (rest : List (Option Slot)) → is_in rest n ≡ false → AreDistinct rest → AreDistinct (slot_of n state ∷ rest)
 distinct_step n Idle rest out apart = apart
-distinct_step n (Asking kind ttl id first last tries due) rest out apart = (out, apart)
+distinct_step n (Asking kind ttl last p) rest out apart = (out, apart)
 distinct_step n (Held kind ttl until renew last pending) rest out apart = (out, apart)
-distinct_step n (Releasing kind id last tries due) rest out apart = (out, apart)
+distinct_step n (Releasing kind last p) rest out apart = (out, apart)
 distinct_step n (Resting last) rest out apart = (out, apart)
 
 -- ---- time

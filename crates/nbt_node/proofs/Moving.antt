@@ -16,8 +16,10 @@ use Rattle.nbt_node.specs.declared.state.State.TheVariants.{Idle, Asking, Held, 
 use Rattle.nbt_node.specs.declared.state.Slot.{Slot}
 use Rattle.nbt_node.specs.Settling.{settled}
 use Rattle.nbt_node.specs.Node.{NodeValue, IsNode, is_in, has_room, AreDistinct, AreAwake, state_in, with_state, settled_slot, state_at, changed, Passes, settled_node}
-use Rattle.nbt_node.specs.Moves.{NameEvent, ask, poll, hear, next_due, nothing, Told, Move, NameMoves, asks, gives_back, asks_again, gives_back_again, refreshes_again, refreshes, granted_to, renewed_to, refused_to, loses_asked, loses_held, freed, asking_waits, giving_back_waits, refresh_waits, unmoved}
-use Rattle.nbt_node.specs.Calls.{is_busy, is_quiet, ask_refusal, AreWritten, question, LooksUp, slot_due, lookup_due, due_lookup, Polls, polls_name, polls_lookup, polls_nothing}
+use Rattle.nbt_node.specs.Transaction.{next_due}
+use Rattle.nbt_node.specs.Moves.{NameEvent, ask, poll, hear, nothing, Told, Move, NameMoves, asks, gives_back, asks_again, gives_back_again, refreshes_again, refreshes, granted_to, renewed_to, refused_to, loses_asked, loses_held, freed, asking_waits, giving_back_waits, refresh_waits, unmoved}
+use Rattle.nbt_packet.specs.Spelling.{AreWritten}
+use Rattle.nbt_node.specs.Calls.{is_busy, is_quiet, ask_refusal, question, LooksUp, slot_due, lookup_due, due_lookup, Polls, polls_name, polls_lookup, polls_nothing}
 use Rattle.nbt_node.specs.Datagrams.{same_end, Hears, from_server, from_stranger, ends, Ends, is_answered, is_unanswered}
 use Rattle.nbt_node.specs.Sending.{IsSending}
 use Rattle.nbt_node.proofs.Due.{known_due}
@@ -44,18 +46,18 @@ from_idle : (node : NodeValue) (now : ℕ) (name : NameValue) (before : State) (
     → before ≡ Idle → ((kind : Kind) (ttl : ℕ) → event ≢ ask kind ttl) → after ≡ Idle
 from_idle node now name _ _ _ _ _ _ (asks kind ttl rested) idle other = absurd (other kind ttl refl)
 from_idle node now name _ _ _ _ _ _ (gives_back kind ttl until renew last pending) idle other = absurd cc
-from_idle node now name _ _ _ _ _ _ (asks_again kind ttl id first last tries due ready) idle other = absurd cc
-from_idle node now name _ _ _ _ _ _ (gives_back_again kind id last tries due ready) idle other = absurd cc
+from_idle node now name _ _ _ _ _ _ (asks_again kind ttl last p ready) idle other = absurd cc
+from_idle node now name _ _ _ _ _ _ (gives_back_again kind last p ready) idle other = absurd cc
 from_idle node now name _ _ _ _ _ _ (refreshes_again kind ttl until renew last p ready) idle other = absurd cc
 from_idle node now name _ _ _ _ _ _ (refreshes kind ttl until renew last ready rested) idle other = absurd cc
-from_idle node now name _ _ _ _ _ _ (granted_to kind ttl id first last tries due r same) idle other = absurd cc
+from_idle node now name _ _ _ _ _ _ (granted_to kind ttl last p r same) idle other = absurd cc
 from_idle node now name _ _ _ _ _ _ (renewed_to kind ttl until renew last p r same) idle other = absurd cc
-from_idle node now name _ _ _ _ _ _ (refused_to kind ttl id first last tries due rcode r same bad) idle other = absurd cc
-from_idle node now name _ _ _ _ _ _ (loses_asked kind ttl id first last tries due r differs) idle other = absurd cc
+from_idle node now name _ _ _ _ _ _ (refused_to kind ttl last rcode p r same bad) idle other = absurd cc
+from_idle node now name _ _ _ _ _ _ (loses_asked kind ttl last p r differs) idle other = absurd cc
 from_idle node now name _ _ _ _ _ _ (loses_held kind ttl until renew last rcode pending r bad why) idle other = absurd cc
-from_idle node now name _ _ _ _ _ _ (freed kind id last tries due rcode n k a) idle other = absurd cc
-from_idle node now name _ _ _ _ _ _ (asking_waits kind ttl id first last tries due n t) idle other = absurd cc
-from_idle node now name _ _ _ _ _ _ (giving_back_waits kind id last tries due n t) idle other = absurd cc
+from_idle node now name _ _ _ _ _ _ (freed kind last rcode p n k a) idle other = absurd cc
+from_idle node now name _ _ _ _ _ _ (asking_waits kind ttl last p n t) idle other = absurd cc
+from_idle node now name _ _ _ _ _ _ (giving_back_waits kind last p n t) idle other = absurd cc
 from_idle node now name _ _ _ _ _ _ (refresh_waits kind ttl until renew last p n t) idle other = absurd cc
 from_idle node now name _ _ _ _ _ _ (unmoved state message out) idle other = idle
 
@@ -112,9 +114,9 @@ or_false false b e = (refl, e)
 
 neither_is_idle : (state : State) → is_busy state ≡ false → is_quiet state ≡ false → state ≡ Idle
 neither_is_idle Idle busy rests = refl
-neither_is_idle (Asking kind ttl id first last tries due) busy rests = absurd cc
+neither_is_idle (Asking kind ttl last p) busy rests = absurd cc
 neither_is_idle (Held kind ttl until renew last pending) busy rests = absurd cc
-neither_is_idle (Releasing kind id last tries due) busy rests = absurd cc
+neither_is_idle (Releasing kind last p) busy rests = absurd cc
 neither_is_idle (Resting last) busy rests = absurd cc
 
 pub may_ask : (node : NodeValue) (now : ℕ) (name : NameValue) → None ≡ ask_refusal node now name → MayAsk node now name

@@ -4,13 +4,14 @@ use Rattle.nbt_name.specs.declared.addr.Addr.{Addr}
 use Rattle.nbt_name.specs.Wire.{NameValue}
 use Rattle.nbt_packet.specs.Message.{MessageValue, registration, overwrite, refresh, release, query, status_request, registered, released, found, not_found, status, wait}
 use Rattle.nbt_packet.specs.Text.{text}
-use Rattle.nbt_packet.specs.Spelling.{Spells}
+use Rattle.nbt_packet.specs.Spelling.{Spells, AreWritten}
 use Rattle.nbt_node.specs.declared.lookup.Lookup.{Lookup}
 use Rattle.nbt_node.specs.declared.lookup.Wanted.{Wanted}
 use Rattle.nbt_node.specs.declared.state.Slot.{Slot}
 use Rattle.nbt_node.specs.Node.{NodeValue, state_at, changed}
-use Rattle.nbt_node.specs.Moves.{NameEvent, poll, hear, Told, nothing, finds, finds_none, lists, NameMoves, next_due}
-use Rattle.nbt_node.specs.Calls.{AreWritten, Sends, question, with_lookup, Opens, Polls, polls_name, polls_lookup, polls_nothing}
+use Rattle.nbt_node.specs.Transaction.{next_due}
+use Rattle.nbt_node.specs.Moves.{NameEvent, poll, hear, Told, nothing, finds, finds_none, lists, NameMoves}
+use Rattle.nbt_node.specs.Calls.{Sends, question, with_lookup, Opens, Polls, polls_name, polls_lookup, polls_nothing}
 use Rattle.nbt_node.specs.Datagrams.{Hears, from_server, from_stranger, Lists, lists_names, lists_nothing, Ends, is_answered, is_unanswered, Idles, idles, Takes, TakesOctets, spelled, unspelled, Handles}
 use Rattle.nbt_node.proofs.OneMove.{one_outcome}
 

@@ -9,9 +9,10 @@ use Rattle.nbt_node.specs.declared.lookup.Lookup.{Lookup}
 use Rattle.nbt_node.specs.declared.state.Slot.{Slot}
 use Rattle.nbt_node.specs.declared.state.State.{State}
 use Rattle.nbt_node.specs.declared.state.State.TheVariants.{Idle, Asking, Held, Releasing, Resting}
-use Rattle.nbt_node.specs.declared.state.Refresh.{Refresh}
+use Rattle.nbt_node.specs.declared.transaction.Transaction.{Transaction}
 use Rattle.nbt_node.specs.Node.{NodeValue, slot_of, settled_slot, settled_lookup, settled_node}
-use Rattle.nbt_node.specs.Settling.{is_over, rested, pending_at, settled}
+use Rattle.nbt_node.specs.Transaction.{is_over}
+use Rattle.nbt_node.specs.Settling.{rested, pending_at, settled}
 
 module _ (life a b : ℕ) (later : a ≤ b) where
   settled-rested : (last : ℕ) → settled life b (rested life a last) ≡ rested life b last
@@ -29,7 +30,7 @@ module _ (life a b : ℕ) (later : a ≤ b) where
   or_else true = inl refl
   or_else false = inr refl
 
-  pending_at-pending_at : (pending : Option Refresh) → pending_at b (pending_at a pending) ≡ pending_at b pending
+  pending_at-pending_at : (pending : Option Transaction) → pending_at b (pending_at a pending) ≡ pending_at b pending
   pending_at-pending_at None = refl
   pending_at-pending_at (Some r) = elim (or_else (is_over a r.tries r.due)) [
     | inl over ↦ rw (over, over_later r.tries r.due over) refl
@@ -39,12 +40,12 @@ module _ (life a b : ℕ) (later : a ≤ b) where
   pub settled-settled : (state : State) → settled life b (settled life a state) ≡ settled life b state
   settled-settled Idle = refl
   settled-settled (Resting last) = settled-rested last
-  settled-settled (Asking kind ttl id first last tries due) = elim (or_else (is_over a tries due)) [
-    | inl over ↦ rw (over, over_later tries due over) (settled-rested last)
+  settled-settled (Asking kind ttl last p) = elim (or_else (is_over a p.tries p.due)) [
+    | inl over ↦ rw (over, over_later p.tries p.due over) (settled-rested last)
     | inr open_yet ↦ rw open_yet refl
   ]
-  settled-settled (Releasing kind id last tries due) = elim (or_else (is_over a tries due)) [
-    | inl over ↦ rw (over, over_later tries due over) (settled-rested last)
+  settled-settled (Releasing kind last p) = elim (or_else (is_over a p.tries p.due)) [
+    | inl over ↦ rw (over, over_later p.tries p.due over) (settled-rested last)
     | inr open_yet ↦ rw open_yet refl
   ]
   settled-settled (Held kind ttl until renew last pending) = elim (leb_tells until a) [
@@ -56,9 +57,9 @@ module _ (life a b : ℕ) (later : a ≤ b) where
 
   slot_of_settled : (name : NameValue) (state : State) → settled_slot life b (slot_of name state) ≡ slot_of name (settled life b state)
   slot_of_settled name Idle = refl
-  slot_of_settled name (Asking kind ttl id first last tries due) = refl
+  slot_of_settled name (Asking kind ttl last p) = refl
   slot_of_settled name (Held kind ttl until renew last pending) = refl
-  slot_of_settled name (Releasing kind id last tries due) = refl
+  slot_of_settled name (Releasing kind last p) = refl
   slot_of_settled name (Resting last) = refl
 
   slots_steps : (slots : List (Option Slot)) → map (settled_slot life b) (map (settled_slot life a) slots) ≡ map (settled_slot life b) slots

@@ -1,11 +1,10 @@
 -- What each call of a node does, on message values (our profile; RFC 1002 section 5.1).
-use Rattle.std.specs.Prelude.{◌≡◌, ℕ, ◌+◌, Bool, true, false, ◌||◌, nat_eq, nat_lt, nat_le, is_some, if◌then◌else◌, List, [], ◌∷◌, map, slice_index, replicate, Option, Some, None}
+use Rattle.std.specs.Prelude.{◌≡◌, ℕ, ◌+◌, Bool, true, false, ◌||◌, nat_lt, nat_le, is_some, if◌then◌else◌, List, [], ◌∷◌, map, replicate, Option, Some, None}
 use Rattle.nbt_name.specs.declared.addr.Addr.{Addr}
 use Rattle.nbt_name.specs.declared.addr.Kind.{Kind}
-use Rattle.nbt_name.specs.Wire.{NameValue}
+use Rattle.nbt_name.specs.Wire.{NameValue, is_star}
 use Rattle.nbt_packet.specs.Message.{MessageValue, query, status_request}
-use Rattle.nbt_packet.specs.Text.{text}
-use Rattle.nbt_packet.specs.Spelling.{Spells}
+use Rattle.nbt_packet.specs.Spelling.{AreWritten}
 use Rattle.nbt_lease.specs.Config.{ConfigValue}
 use Rattle.nbt_lease.specs.Drift.{quiet}
 use Rattle.nbt_node.specs.declared.fault.AskFault.{AskFault}
@@ -21,7 +20,8 @@ use Rattle.nbt_node.specs.declared.state.State.{State}
 use Rattle.nbt_node.specs.declared.state.State.TheVariants.{Asking, Held, Releasing, Resting}
 use Rattle.nbt_node.specs.declared.state.Slot.{Slot}
 use Rattle.nbt_node.specs.Node.{NodeValue, has_room, settled_slot, settled_lookup, settled_node, state_at, ByTimeAlone, Passes}
-use Rattle.nbt_node.specs.Moves.{NameEvent, poll, NameMoves, nothing, id_after, next_due, is_next, is_due}
+use Rattle.nbt_node.specs.Transaction.{next_due, is_next}
+use Rattle.nbt_node.specs.Moves.{NameEvent, poll, NameMoves, nothing, id_after, is_due}
 
 -- a node that knows nothing
 abbrev pub started : (slots : ℕ) → Addr → Addr → ConfigValue → ℕ → NodeValue
@@ -29,16 +29,13 @@ started slots addr server config now = record { addr = addr; server = server; co
 
 -- ---- why a call is refused: the first refusal that stands, judged by the settled node
 
-abbrev pub is_star : NameValue → Bool
-is_star name = nat_eq (slice_index name.octets 0) 0x2A
-
 abbrev pub is_busy : State → Bool
-is_busy (Asking kind ttl id first last tries due) = true
+is_busy (Asking kind ttl last p) = true
 is_busy (Held kind ttl until renew last pending) = true
 is_busy state = false
 
 abbrev pub is_quiet : State → Bool
-is_quiet (Releasing kind id last tries due) = true
+is_quiet (Releasing kind last p) = true
 is_quiet (Resting last) = true
 is_quiet state = false
 
@@ -74,11 +71,6 @@ status_refusal node now =
     else (if is_open node now then Some lookups.Busy else None)
 
 -- ---- what is sent
-
--- the octets are the written form of a message, which they spell, or there are none
-abbrev pub AreWritten : Option MessageValue → List ℕ → Type 0
-AreWritten None octets = octets ≡ []
-AreWritten (Some message) octets = (octets ≡ text message) × Spells octets message
 
 -- A name moves by an event, and what is sent is written.
 pub record Sends (old : NodeValue) (now : ℕ) (name : NameValue) (event : NameEvent) (new : NodeValue) (octets : List ℕ) : Type 0 where

@@ -4,17 +4,17 @@ use Rattle.std.specs.List.{flat_map}
 use Rattle.std.specs.Str.{bytes_eq}
 use Rattle.nbt_name.specs.declared.addr.Addr.{Addr}
 use Rattle.nbt_name.specs.declared.addr.Kind.{Kind}
-use Rattle.nbt_name.specs.Wire.{NameValue}
+use Rattle.nbt_name.specs.Wire.{NameValue, same_name, is_star}
 use Rattle.nbt_packet.specs.Message.{MessageValue, registered, released, found, not_found, status_request, status, wait}
 use Rattle.nbt_packet.specs.Text.{status_name}
-use Rattle.nbt_packet.specs.Spelling.{Spells, id_of, name_in}
+use Rattle.nbt_packet.specs.Spelling.{Spells, id_of, name_in, AreWritten}
 use Rattle.nbt_node.specs.declared.lookup.Lookup.{Lookup}
 use Rattle.nbt_node.specs.declared.lookup.Wanted.{Wanted}
 use Rattle.nbt_node.specs.declared.lookup.Wanted.TheVariants.{Entries, Names}
 use Rattle.nbt_node.specs.declared.state.Slot.{Slot}
-use Rattle.nbt_node.specs.Node.{NodeValue, same_name, settled_slot, settled_lookup, state_at, Passes}
+use Rattle.nbt_node.specs.Node.{NodeValue, settled_slot, settled_lookup, state_at, Passes}
 use Rattle.nbt_node.specs.Moves.{hear, NameMoves, Told, nothing, replied, finds, finds_none, lists}
-use Rattle.nbt_node.specs.Calls.{is_star, held_kind, LooksUp, AreWritten}
+use Rattle.nbt_node.specs.Calls.{held_kind, LooksUp}
 
 abbrev pub same_end : Addr → Addr → Bool
 same_end a b = nat_eq a.ip b.ip && nat_eq a.port b.port

@@ -1,4 +1,5 @@
 pub mod Numbers
+pub mod Transaction
 pub mod Settling
 pub mod Node
 pub mod Moves

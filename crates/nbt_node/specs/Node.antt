@@ -1,15 +1,15 @@
 -- A node as contracts see it: what it knows of each name, and its lookup (our profile; RFC 1001 section 15.2).
-use Rattle.std.specs.Prelude.{◌≡◌, ◌≢◌, ℕ, Bool, true, false, ◌&&◌, ◌||◌, nat_lt, is_some, if◌then◌else◌, ◌≤◌, List, [], ◌∷◌, length, map, Option, Some, None}
-use Rattle.std.specs.Str.{bytes_eq}
+use Rattle.std.specs.Prelude.{◌≡◌, ◌≢◌, ℕ, Bool, true, false, ◌||◌, nat_lt, is_some, if◌then◌else◌, ◌≤◌, List, [], ◌∷◌, length, map, Option, Some, None}
 use Rattle.nbt_name.specs.declared.addr.Addr.{Addr}
 use Rattle.nbt_name.specs.declared.addr.Kind.{Kind}
-use Rattle.nbt_name.specs.Wire.{NameValue}
+use Rattle.nbt_name.specs.Wire.{NameValue, same_name}
 use Rattle.nbt_lease.specs.Config.{ConfigValue}
 use Rattle.nbt_node.specs.declared.state.State.{State}
 use Rattle.nbt_node.specs.declared.state.State.TheVariants.{Idle, Held}
 use Rattle.nbt_node.specs.declared.state.Slot.{Slot}
 use Rattle.nbt_node.specs.declared.lookup.Lookup.{Lookup}
-use Rattle.nbt_node.specs.Settling.{is_over, settled}
+use Rattle.nbt_node.specs.Transaction.{is_over}
+use Rattle.nbt_node.specs.Settling.{settled}
 
 -- Its own address and its server's, the limits, its start, the moment of the last call that wasn't refused (its start,
 -- before the first), the id that comes next, the lookup that is open, and the slots: each is free or has a name.
@@ -24,9 +24,6 @@ pub record NodeValue : Type 0 where
   pub slots : List (Option Slot)
 
 -- ---- slots
-
-abbrev pub same_name : NameValue → NameValue → Bool
-same_name a b = bytes_eq a.octets b.octets && bytes_eq a.scope b.scope
 
 abbrev pub is_named : Option Slot → NameValue → Bool
 is_named None name = false
@@ -80,10 +77,14 @@ take_slot (Some slot ∷ rest) name state = Some slot ∷ take_slot rest name st
 abbrev pub with_state : List (Option Slot) → NameValue → State → List (Option Slot)
 with_state slots name state = if is_in slots name then put slots name state else take_slot slots name state
 
+-- the most slots of a node
+abbrev pub slots_most : ℕ
+slots_most = 14
+
 -- What a node of `count` slots keeps. The last two: no name that has a slot is Idle, and the node's start isn't after its
 -- last moment.
 pub record IsNode (count : ℕ) (node : NodeValue) : Type 0 where
-  pub few : count ≤ 14
+  pub few : count ≤ slots_most
   pub some : 1 ≤ count
   pub count_is : length node.slots ≡ count
   pub apart : AreDistinct node.slots

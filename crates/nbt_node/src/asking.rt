@@ -3,21 +3,10 @@
 ghost use Rattle.std.specs.Prelude.{◌≡◌, ◌+◌, Some};
 ghost use Rattle.nbt_packet.specs.Message.{message_of, IsRegistration, HoldsNumbers, Fits, release};
 ghost use Rattle.nbt_packet.specs.Spelling.{HasFewRows};
-ghost use Rattle.nbt_node.specs.Moves.{id_after, next_due};
+ghost use Rattle.nbt_node.specs.Moves.{id_after};
 
-use nbt_lease::Moment;
 use nbt_name::{Kind, Name};
 use nbt_packet::{Message, Registration};
-
-/// After how many milliseconds a request is sent again (RFC 1002 section 6).
-const RETRY: u64 = 5_000;
-
-/// When a request that is sent at `now` is due again.
-pub fn next_due(now: Moment) -> u64
-    ensures { result ≡ next_due now }
-{
-    now.get() + RETRY
-}
 
 /// The id after this one; 0 follows 65,535.
 pub fn id_after(id: u16) -> u16

@@ -14,7 +14,7 @@ mod settling;
 mod slots;
 mod state;
 mod status;
-mod writing;
+mod transaction;
 
 pub use event::Event;
 pub use fault::{AskFault, ClockBack, LookupFault, ReleaseFault};

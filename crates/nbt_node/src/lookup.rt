@@ -3,15 +3,11 @@
 ghost use Rattle.std.specs.Prelude.{◌≡◌};
 ghost use Rattle.nbt_node.specs.Datagrams.{same_end};
 
-use crate::asking::next_due;
-use crate::polling::is_next;
-use crate::settling::is_over;
-use crate::slots::is_same_name;
-use crate::writing::write;
+use crate::transaction::{is_next, is_over, next_due};
 use arrayvec::ArrayVec;
 use nbt_lease::Moment;
 use nbt_name::{Addr, Name};
-use nbt_packet::Message;
+use nbt_packet::{Message, write};
 
 /// What a lookup asks for.
 #[derive(Clone, Copy, Debug, PartialEq, Eq)]
@@ -44,10 +40,10 @@ pub fn is_same_end(a: Addr, b: Addr) -> bool
 impl Lookup {
     ghost use Rattle.std.specs.Prelude.{◌≡◌, ◌+◌, [], None, Some, is_some, nat_eq, ◌&&◌, MatchOption};
     ghost use Rattle.nbt_packet.specs.Message.{message_of, HoldsNumbers};
-    ghost use Rattle.nbt_packet.specs.Spelling.{id_of, name_in};
+    ghost use Rattle.nbt_packet.specs.Spelling.{id_of, name_in, AreWritten};
     ghost use Rattle.nbt_node.specs.Node.{settled_lookup};
-    ghost use Rattle.nbt_node.specs.Moves.{next_due};
-    ghost use Rattle.nbt_node.specs.Calls.{question, due_lookup, AreWritten};
+    ghost use Rattle.nbt_node.specs.Transaction.{next_due};
+    ghost use Rattle.nbt_node.specs.Calls.{question, due_lookup};
     ghost use Rattle.nbt_node.specs.Datagrams.{wants, tells_name, ends};
 
     /// The request of a lookup.
@@ -126,10 +122,10 @@ impl Lookup {
     {
         match message {
             Message::Found { id, name, .. } => {
-                self.wanted == Wanted::Entries && *id == self.id && is_same_name(name, &self.name)
+                self.wanted == Wanted::Entries && *id == self.id && *name == self.name
             }
             Message::Status { id, name, .. } => {
-                self.wanted == Wanted::Names && *id == self.id && is_same_name(name, &self.name)
+                self.wanted == Wanted::Names && *id == self.id && *name == self.name
             }
             Message::NotFound { id, name, .. } => *id == self.id && self.is_named(name),
             _ => false,
@@ -141,7 +137,7 @@ impl Lookup {
         ensures { result ≡ tells_name name.now self.now.name }
     {
         match name {
-            Some(name) => is_same_name(name, &self.name),
+            Some(name) => *name == self.name,
             None => true,
         }
     }

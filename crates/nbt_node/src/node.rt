@@ -3,7 +3,7 @@
 ghost use Rattle.std.specs.Prelude.{◌≡◌, ℕ, ◌≤◌, ◌<◌, ◌↔◌, [], Option, None, IsNone, OnOk, OnErr, IfOk, IsErr};
 ghost use Rattle.std.specs.Result.{result_err};
 
-use crate::asking::{claim, id_after, next_due, release};
+use crate::asking::{claim, id_after, release};
 use crate::event::Event;
 use crate::fault::{AskFault, ClockBack, LookupFault, ReleaseFault};
 use crate::lookup::{Lookup, Wanted, is_same_end};
@@ -12,11 +12,11 @@ use crate::replies::{on_registered, on_released, on_wait};
 use crate::slots;
 use crate::state::{Slot, State};
 use crate::status::{listed, write_names};
-use crate::writing::write;
+use crate::transaction::{Transaction, next_due};
 use arrayvec::ArrayVec;
 use nbt_lease::{Config, Moment};
 use nbt_name::{Addr, Kind, Name};
-use nbt_packet::{Message, Registration, read};
+use nbt_packet::{Message, Registration, read, write};
 use std::marker::Model;
 
 /// A node of `N` slots, 1 to 14 (RFC 1001 section 10.2): one for each name that isn't `Idle`.
@@ -45,9 +45,10 @@ impl<const N: usize> Model for Node<N> {
 impl<const N: usize> Node<N> {
     ghost use Rattle.nbt_name.specs.declared.addr.Kind.{Kind as NameKind};
     ghost use Rattle.nbt_packet.specs.Message.{MessageValue, message_of, registered, released, wait};
-    ghost use Rattle.nbt_node.specs.Node.{holds, changed, settled_node, state_at, lookup_open, AreDistinct};
+    ghost use Rattle.nbt_node.specs.Node.{slots_most, holds, changed, settled_node, state_at, lookup_open, AreDistinct};
     ghost use Rattle.nbt_node.specs.Moves.{ask, give_back, told_of};
-    ghost use Rattle.nbt_node.specs.Calls.{started, ask_refusal, release_refusal, resolve_refusal, status_refusal, Sends, Opens, Polls, slot_due, AreWritten};
+    ghost use Rattle.nbt_packet.specs.Spelling.{AreWritten};
+    ghost use Rattle.nbt_node.specs.Calls.{started, ask_refusal, release_refusal, resolve_refusal, status_refusal, Sends, Opens, Polls, slot_due};
     ghost use Rattle.nbt_node.specs.Datagrams.{Hears, Lists, Ends, Takes, Handles, is_listed_for};
 
     /// A node at `addr` whose name server is at `server`. It knows nothing, and asks for nothing until more than
@@ -55,7 +56,7 @@ impl<const N: usize> Node<N> {
     /// that a node is given are of its own clock. That `N` is 1 to 14 is the caller's.
     pub fn start(addr: Addr, server: Addr, config: Config, now: Moment) -> Node<N>
         requires some { 1 ≤ N }
-        requires few { N ≤ 14 }
+        requires few { N ≤ slots_most }
         ensures { result ≡ started N addr server config now }
     {
         let free = |_: usize| -> Option<Slot>
@@ -159,11 +160,8 @@ impl<const N: usize> Node<N> {
         let asking = State::Asking {
             kind,
             ttl,
-            id,
-            first: now,
             last: now,
-            tries: 1,
-            due: next_due(now),
+            pending: Transaction::open(id, now),
         };
         self.change(now, name, &asking, id_after(id));
         write(&message, out);
@@ -197,10 +195,8 @@ impl<const N: usize> Node<N> {
         let message = release(self.addr.ip, id, name, kind);
         let releasing = State::Releasing {
             kind,
-            id,
             last: now,
-            tries: 1,
-            due: next_due(now),
+            pending: Transaction::open(id, now),
         };
         self.change(now, name, &releasing, id_after(id));
         write(&message, out);

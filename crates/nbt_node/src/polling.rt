@@ -7,13 +7,13 @@ ghost use Rattle.nbt_name.specs.Wire.{NameValue};
 ghost use Rattle.nbt_packet.specs.Message.{refresh};
 ghost use Rattle.nbt_node.specs.Node.{NodeValue, settled_slot};
 ghost use Rattle.nbt_node.specs.Moves as spec;
-ghost use Rattle.nbt_node.specs.Moves.{Move, poll, nothing, is_next, is_due};
+ghost use Rattle.nbt_node.specs.Moves.{Move, poll, nothing, is_due};
 ghost use Rattle.nbt_node.specs.Calls.{first_due};
 ghost use Rattle.nbt_node.specs.Sending.{IsSending};
 
-use crate::asking::{claim, id_after, next_due, release};
-use crate::settling::SENDINGS;
-use crate::state::{Refresh, Slot, State};
+use crate::asking::{claim, id_after, release};
+use crate::state::{Slot, State};
+use crate::transaction::{Transaction, is_next};
 use nbt_lease::{Config, Moment};
 use nbt_name::Name;
 use nbt_packet::Message;
@@ -25,13 +25,6 @@ pub struct Sending<'a> {
     pub state: State,
     pub message: Message<'a>,
     pub next_id: u16,
-}
-
-/// Whether a request is to be sent once more.
-pub fn is_next(tries: u8, due: u64, now: Moment) -> bool
-    ensures { result ≡ is_next now tries due }
-{
-    tries < SENDINGS && due <= now.get()
 }
 
 /// What is to be sent about a name, if anything: by a node with this address and next id.
@@ -50,13 +43,10 @@ fn polled<'a>(
         State::Asking {
             kind,
             ttl,
-            id: asked,
-            first,
-            tries,
-            due,
+            pending,
             ..
         } => {
-            if !is_next(*tries, *due, now) {
+            if !is_next(pending.tries, pending.due, now) {
                 return None;
             }
             Some(Sending {
@@ -64,36 +54,25 @@ fn polled<'a>(
                 state: State::Asking {
                     kind: *kind,
                     ttl: *ttl,
-                    id: *asked,
-                    first: *first,
                     last: now,
-                    tries: *tries + 1,
-                    due: next_due(now),
+                    pending: pending.again(now),
                 },
-                message: Message::Registration(claim(own, *asked, name, *kind, *ttl)),
+                message: Message::Registration(claim(own, pending.id, name, *kind, *ttl)),
                 next_id: id,
             })
         }
-        State::Releasing {
-            kind,
-            id: asked,
-            tries,
-            due,
-            ..
-        } => {
-            if !is_next(*tries, *due, now) {
+        State::Releasing { kind, pending, .. } => {
+            if !is_next(pending.tries, pending.due, now) {
                 return None;
             }
             Some(Sending {
                 name: name.copy(),
                 state: State::Releasing {
                     kind: *kind,
-                    id: *asked,
                     last: now,
-                    tries: *tries + 1,
-                    due: next_due(now),
+                    pending: pending.again(now),
                 },
-                message: release(own, *asked, name, *kind),
+                message: release(own, pending.id, name, *kind),
                 next_id: id,
             })
         }
@@ -131,13 +110,13 @@ fn polled<'a>(
 /// The refresh that is open once one was sent at `now`, and then the next id: the open one's once more, where it is due,
 /// or else a new one.
 fn next_refresh(
-    pending: &Option<Refresh>,
+    pending: &Option<Transaction>,
     renew: u64,
     last: Moment,
     id: u16,
     config: Config,
     now: Moment,
-) -> Option<(Refresh, u16)>
+) -> Option<(Transaction, u16)>
     ensures due { (kind : NameKind) (ttl until : ℕ) → is_some result ≡ is_due config.life now (State.Held kind ttl until renew last pending.now) }
     ensures moves { IfSome result (λ r. (node : NodeValue) (name : NameValue) (kind : NameKind) (ttl until : ℕ) → node.next_id ≡ id → node.config.life ≡ config.life
         → Move node now name (State.Held kind ttl until renew last pending.now) poll (State.Held kind ttl until renew now (Some r.0)) (Some (refresh (spec.claim node r.0.id name kind ttl))) nothing r.1) }
@@ -147,25 +126,13 @@ fn next_refresh(
             if !is_next(refresh.tries, refresh.due, now) {
                 return None;
             }
-            let again = Refresh {
-                id: refresh.id,
-                first: refresh.first,
-                tries: refresh.tries + 1,
-                due: next_due(now),
-            };
-            Some((again, id))
+            Some((refresh.again(now), id))
         }
         None => {
             if now.get() < renew || now.get() <= last.get() + config.quiet() {
                 return None;
             }
-            let opened = Refresh {
-                id,
-                first: now,
-                tries: 1,
-                due: next_due(now),
-            };
-            Some((opened, id_after(id)))
+            Some((Transaction::open(id, now), id_after(id)))
         }
     }
 }

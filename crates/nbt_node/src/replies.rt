@@ -1,17 +1,17 @@
 //! What a reply of the server makes of a name's state (RFC 1002 section 5.1.2).
 
-ghost use Rattle.std.specs.Prelude.{◌≡◌, ◌≢◌, ℕ, ◌+◌, ◌*◌, ◌≤◌, false, IfSome, IsNone};
+ghost use Rattle.std.specs.Prelude.{◌≡◌, ◌≢◌, ℕ, ◌≤◌, false, IfSome, IsNone};
 ghost use Rattle.nbt_name.specs.Wire.{NameValue};
 ghost use Rattle.nbt_name.specs.declared.addr.Kind.{Kind as NameKind};
 ghost use Rattle.nbt_packet.specs.declared.message.Registration.{Registration as Claim};
 ghost use Rattle.nbt_packet.specs.Message.{registered, released, wait};
-ghost use Rattle.nbt_lease.specs.Config.{granted};
-ghost use Rattle.nbt_lease.specs.Drift.{hold};
+ghost use Rattle.nbt_lease.specs.Config.{granted, longest_most};
 ghost use Rattle.nbt_node.specs.Node.{NodeValue};
-ghost use Rattle.nbt_node.specs.Moves.{Move, hear, told_of, nothing, is_lost, waits, matters, put_off};
+ghost use Rattle.nbt_node.specs.Transaction.{wait_until};
+ghost use Rattle.nbt_node.specs.Moves.{Move, hear, told_of, nothing, is_lost, waits, conflict, matters, held_for};
 
 use crate::event::Event;
-use crate::state::{Refresh, State};
+use crate::state::State;
 use nbt_lease::{Config, Moment};
 use nbt_name::Kind;
 
@@ -53,8 +53,8 @@ fn rests<'a>(last: Moment, event: Event<'a>) -> Outcome<'a>
 /// A hold for what was granted, counted from the transaction's first sending: it ends before the lease, also where the
 /// node's clock is slow. It is refreshed after half of the seconds.
 fn hold(kind: Kind, ttl: u32, first: Moment, last: Moment, seconds: u32) -> State
-    requires { seconds ≤ 1000000 }
-    ensures { result ≡ State.Held kind ttl (first + hold seconds) (first + 500 * seconds) last None }
+    requires { seconds ≤ longest_most }
+    ensures { result ≡ held_for kind ttl first seconds last }
 {
     State::Held {
         kind,
@@ -68,8 +68,8 @@ fn hold(kind: Kind, ttl: u32, first: Moment, last: Moment, seconds: u32) -> Stat
 
 /// A registration's reply that isn't about what is open. A conflict demand drops the name (our profile).
 fn demanded<'a>(state: &State, last: Moment, rcode: u8) -> Outcome<'a>
-    ensures lost { rcode ≡ 7 → (result.state ≡ State.Resting last) × (told_of result.event ≡ is_lost) }
-    ensures unmoved { rcode ≢ 7 → (result.state ≡ state.now) × (told_of result.event ≡ nothing) }
+    ensures lost { rcode ≡ conflict → (result.state ≡ State.Resting last) × (told_of result.event ≡ is_lost) }
+    ensures unmoved { rcode ≢ conflict → (result.state ≡ state.now) × (told_of result.event ≡ nothing) }
 {
     if rcode != CONFLICT {
         return unmoved(state);
@@ -81,7 +81,7 @@ fn demanded<'a>(state: &State, last: Moment, rcode: u8) -> Outcome<'a>
 /// transaction's first sending, and is `Config::hold` of the seconds that the reply's TTL grants. A conflict demand (RCODE 7) drops a name
 /// that is asked for or held, whatever its id (our profile).
 pub fn on_registered<'a>(state: &State, rcode: u8, id: u16, seconds: u32) -> Outcome<'a>
-    requires { seconds ≤ 1000000 }
+    requires { seconds ≤ longest_most }
     ensures { (node : NodeValue) (now : ℕ) (name : NameValue) (r : Claim) → r.id ≡ id → granted node.config.longest r.ttl ≡ seconds
         → Move node now name state.now (hear (registered rcode r)) result.state None (told_of result.event) node.next_id }
 {
@@ -89,19 +89,17 @@ pub fn on_registered<'a>(state: &State, rcode: u8, id: u16, seconds: u32) -> Out
         State::Asking {
             kind,
             ttl,
-            id: asked,
-            first,
             last,
-            ..
+            pending: asked,
         } => {
-            if *asked != id {
+            if asked.id != id {
                 return demanded(state, *last, rcode);
             }
             if rcode != 0 {
                 return rests(*last, Event::Refused(rcode));
             }
             Outcome {
-                state: hold(*kind, *ttl, *first, *last, seconds),
+                state: hold(*kind, *ttl, asked.first, *last, seconds),
                 event: Event::Granted(seconds),
             }
         }
@@ -141,11 +139,11 @@ pub fn on_released<'a>(state: &State, rcode: u8, id: u16) -> Outcome<'a>
 {
     match state {
         State::Releasing {
-            id: given_back,
             last,
+            pending: given_back,
             ..
         } => {
-            if *given_back != id {
+            if given_back.id != id {
                 return unmoved(state);
             }
             rests(*last, Event::Freed(rcode))
@@ -174,48 +172,38 @@ pub fn on_wait<'a>(state: &State, id: u16, ttl: u32, now: Moment) -> Outcome<'a>
 /// The state whose open transaction has this id, its next sending put off to `due`. `None` where nothing with this id
 /// is open.
 fn put_off(state: &State, id: u16, due: u64) -> Option<State>
-    ensures moved { IfSome result (λ after. (node : NodeValue) (now t : ℕ) (name n : NameValue) → put_off now t ≡ due → Move node now name state.now (hear (wait id n t)) after None waits node.next_id) }
+    ensures moved { IfSome result (λ after. (node : NodeValue) (now t : ℕ) (name n : NameValue) → wait_until now t ≡ due → Move node now name state.now (hear (wait id n t)) after None waits node.next_id) }
     ensures unmoved { IsNone result → (n : NameValue) (t : ℕ) → matters state.now (wait id n t) ≡ false }
 {
     match state {
         State::Asking {
             kind,
             ttl,
-            id: opened,
-            first,
             last,
-            tries,
-            ..
+            pending,
         } => {
-            if *opened != id {
+            if pending.id != id {
                 return None;
             }
             Some(State::Asking {
                 kind: *kind,
                 ttl: *ttl,
-                id,
-                first: *first,
                 last: *last,
-                tries: *tries,
-                due,
+                pending: pending.put_off(due),
             })
         }
         State::Releasing {
             kind,
-            id: opened,
             last,
-            tries,
-            ..
+            pending,
         } => {
-            if *opened != id {
+            if pending.id != id {
                 return None;
             }
             Some(State::Releasing {
                 kind: *kind,
-                id,
                 last: *last,
-                tries: *tries,
-                due,
+                pending: pending.put_off(due),
             })
         }
         State::Held {
@@ -238,7 +226,7 @@ fn put_off(state: &State, id: u16, due: u64) -> Option<State>
                 until: *until,
                 renew: *renew,
                 last: *last,
-                pending: Some(Refresh { due, ..*refresh }),
+                pending: Some(refresh.put_off(due)),
             })
         }
         State::Idle => None,

@@ -1,21 +1,12 @@
 //! What time alone makes of a name's state (our profile).
 
 ghost use Rattle.std.specs.Prelude.{◌≡◌};
-ghost use Rattle.nbt_node.specs.Settling.{is_over, rested, pending_at, settled};
+ghost use Rattle.nbt_node.specs.Settling.{rested, pending_at, settled};
 
-use crate::state::{Refresh, State};
+use crate::state::State;
+use crate::transaction::{Transaction, is_over};
 use nbt_lease::{Config, Moment};
 use nbt_name::Kind;
-
-/// How often a request is sent in all (RFC 1002 section 6).
-pub const SENDINGS: u8 = 3;
-
-/// A transaction is over where its request was sent three times and the next sending would be due.
-pub fn is_over(tries: u8, due: u64, now: Moment) -> bool
-    ensures { result ≡ is_over now tries due }
-{
-    tries >= SENDINGS && due <= now.get()
-}
 
 /// A name rests until more than `Config::quiet()` has passed since the last sending about it: an old request may live
 /// one life, its reply one more, and the node's clock may be fast.
@@ -30,7 +21,7 @@ pub fn rested(last: Moment, config: Config, now: Moment) -> State
 }
 
 /// The refresh that is still open.
-pub fn pending_at(pending: Option<Refresh>, now: Moment) -> Option<Refresh>
+pub fn pending_at(pending: Option<Transaction>, now: Moment) -> Option<Transaction>
     ensures { result ≡ pending_at now pending }
 {
     pending.filter(|refresh| !is_over(refresh.tries, refresh.due, now))
@@ -45,18 +36,8 @@ impl State {
         ensures { result ≡ settled config.life now self.now }
     {
         match self {
-            State::Asking {
-                last,
-                tries,
-                due,
-                ..
-            }
-            | State::Releasing {
-                last,
-                tries,
-                due,
-                ..
-            } if is_over(*tries, *due, now) => rested(*last, config, now),
+            State::Asking { last, pending, .. } | State::Releasing { last, pending, .. }
+                if is_over(pending.tries, pending.due, now) => rested(*last, config, now),
             State::Held { until, last, .. } if *until <= now.get() => rested(*last, config, now),
             State::Held {
                 kind,

@@ -1,19 +1,12 @@
 //! The slots of a node: each is free, or has a name that isn't `Idle`.
 
 ghost use Rattle.std.specs.Prelude.{◌≡◌, ◌≤◌, ◌↔◌, map, is_none, if◌then◌else◌};
-ghost use Rattle.nbt_node.specs.Node.{same_name, state_in, slot_of, settled_slot, is_named, is_in, has_room, put, take_slot, with_state};
+ghost use Rattle.nbt_node.specs.Node.{state_in, slot_of, settled_slot, is_named, is_in, has_room, put, take_slot, with_state};
 ghost use Rattle.nbt_node.specs.Settling.{settled};
 
 use crate::state::{Slot, State};
 use nbt_lease::{Config, Moment};
 use nbt_name::Name;
-
-/// Whether two names are one.
-pub fn is_same_name(a: &Name, b: &Name) -> bool
-    ensures { result ≡ same_name a.now b.now }
-{
-    a == b
-}
 
 /// The state of a name: `Idle` where it has no slot.
 pub fn state_in(slots: &[Option<Slot>], name: &Name) -> State
@@ -21,7 +14,7 @@ pub fn state_in(slots: &[Option<Slot>], name: &Name) -> State
 {
     for slot in slots {
         if let Some(slot) = slot {
-            if is_same_name(&slot.name, name) {
+            if slot.name == *name {
                 return slot.state;
             }
         }
@@ -80,7 +73,7 @@ fn put_into(slot: &mut Option<Slot>, name: &Name, state: &State) -> bool
     ensures slot { slot.new ≡ (if is_named slot.old name.now then slot_of name.now state.now else slot.old) }
 {
     match slot {
-        Some(kept) if is_same_name(&kept.name, name) => {
+        Some(kept) if kept.name == *name => {
             if *state == State::Idle {
                 *slot = None;
             } else {

@@ -1,5 +1,6 @@
 //! What a node knows of one name (RFC 1002 section 5.1.2; the states are our profile's).
 
+use crate::transaction::Transaction;
 use nbt_lease::Moment;
 use nbt_name::{Kind, Name};
 
@@ -8,20 +9,14 @@ use nbt_name::{Kind, Name};
 pub enum State {
     /// Nothing is known of the name, and it may be asked for.
     Idle,
-    /// The name was asked for, and no reply has ended the transaction.
+    /// The name was asked for, and no reply has ended the registration.
     Asking {
         kind: Kind,
         /// The TTL asked for, in seconds.
         ttl: u32,
-        /// The transaction's id.
-        id: u16,
-        /// The moment of the transaction's first sending, and of its last.
-        first: Moment,
+        /// The moment of the last sending about the name.
         last: Moment,
-        /// How often the request was sent.
-        tries: u8,
-        /// When it is sent again, or given up.
-        due: u64,
+        pending: Transaction,
     },
     /// The name is held up to `until`.
     Held {
@@ -30,32 +25,20 @@ pub enum State {
         until: u64,
         /// When the hold is refreshed.
         renew: u64,
-        /// The moment of the last sending about the name.
         last: Moment,
         /// The refresh that no reply has ended.
-        pending: Option<Refresh>,
+        pending: Option<Transaction>,
     },
-    /// The name was given back, and no reply has ended the transaction.
+    /// The name was given back, and no reply has ended the release.
     Releasing {
         kind: Kind,
-        id: u16,
         last: Moment,
-        tries: u8,
-        due: u64,
+        pending: Transaction,
     },
     /// The name may not be asked for until more than `Config::quiet()` has passed since the last sending.
     Resting {
         last: Moment,
     },
-}
-
-/// A refresh that no reply has ended (RFC 1002 section 5.1.2.6).
-#[derive(Clone, Copy, Debug, PartialEq, Eq)]
-pub struct Refresh {
-    pub id: u16,
-    pub first: Moment,
-    pub tries: u8,
-    pub due: u64,
 }
 
 /// A name that isn't `Idle`, and its state.

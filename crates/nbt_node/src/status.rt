@@ -3,18 +3,18 @@
 ghost use Rattle.std.specs.Prelude.{◌≡◌, ◌+◌, ◌*◌, ◌%◌, ◌≤◌, ◌++◌, length, Some};
 ghost use Rattle.std.specs.List.{flat_map};
 ghost use Rattle.nbt_packet.specs.Message.{status};
-ghost use Rattle.nbt_node.specs.Calls.{AreWritten};
+ghost use Rattle.nbt_packet.specs.Spelling.{AreWritten};
+ghost use Rattle.nbt_node.specs.Node.{slots_most};
 ghost use Rattle.nbt_node.specs.Datagrams.{listed};
 
 use crate::state::Slot;
-use crate::writing::write;
 use arrayvec::ArrayVec;
 use nbt_name::Name;
-use nbt_packet::{Message, status_name_octets};
+use nbt_packet::{Message, status_name_octets, write};
 
 /// The octets of the names that are held in one scope, in order of slots.
 pub fn listed(slots: &[Option<Slot>], scope: &[u8]) -> ArrayVec<u8, 252>
-    requires { length slots.now ≤ 14 }
+    requires { length slots.now ≤ slots_most }
     ensures names { result.items ≡ flat_map (listed scope.now) slots.now }
     ensures most { length result.items ≤ 252 }
     ensures whole { length result.items % 18 ≡ 0 }

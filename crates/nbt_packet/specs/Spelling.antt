@@ -1,9 +1,9 @@
 -- What octets say: the words by which crates above speak of datagrams, with no packet, section or place among them.
-use Rattle.std.specs.Prelude.{ℕ, ◌*◌, ◌≤◌, List, length, Option, Some}
+use Rattle.std.specs.Prelude.{◌≡◌, ℕ, ◌*◌, ◌≤◌, List, [], length, Option, Some, None}
 use Rattle.nbt_name.specs.Wire.{NameValue}
 use Rattle.nbt_packet.specs.Packet.{PacketValue, PacketIs}
 use Rattle.nbt_packet.specs.Message.{MessageValue, MessageIs, registration, overwrite, refresh, release, query, status_request, registered, released, found, not_found, status, wait}
-use Rattle.nbt_packet.specs.Text.{entries_most}
+use Rattle.nbt_packet.specs.Text.{text, entries_most}
 
 -- The octets begin with a packet that spells the message; what comes after that packet is not looked at.
 pub record Spells (octets : List ℕ) (message : MessageValue) : Type 0 where
@@ -11,6 +11,11 @@ pub record Spells (octets : List ℕ) (message : MessageValue) : Type 0 where
   pub taken : ℕ
   pub packet_is : PacketIs octets packet taken
   pub message_is : MessageIs packet message
+
+-- The octets are a message's written form, which spells it; where there is no message there are none.
+abbrev pub AreWritten : Option MessageValue → List ℕ → Type 0
+AreWritten None octets = octets ≡ []
+AreWritten (Some message) octets = (octets ≡ text message) × Spells octets message
 
 -- a message's id, by which a reply is told from others
 abbrev pub id_of : MessageValue → ℕ

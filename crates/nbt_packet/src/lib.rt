@@ -18,4 +18,4 @@ pub use fault::{Fault, FaultKind, Full};
 pub use message::{Message, Registration};
 pub use packet::{Packet, Question, Record};
 pub use reading::read;
-pub use writing::{encode, entries_most, entry_octets, status_name_octets};
+pub use writing::{encode, entries_most, entry_octets, status_name_octets, write};

@@ -1,14 +1,16 @@
 //! Writing a message's one written form (RFC 1002 section 4.2).
 
-ghost use Rattle.std.specs.Prelude.{◌≡◌, ◌+◌, ◌*◌, ◌<◌, ◌≤◌, ◌↔◌, [], ◌++◌, length, OnOk, OnErr, IsErr};
+ghost use Rattle.std.specs.Prelude.{◌≡◌, ◌+◌, ◌*◌, ◌<◌, ◌≤◌, ◌↔◌, [], ◌++◌, length, Some, OnOk, OnErr, IsErr};
 ghost use Rattle.std.specs.Option.{ForSome};
 ghost use Rattle.nbt_name.specs.Wire.{AreOctets, IsName, wire};
 ghost use Rattle.nbt_packet.specs.Fields.{word, long};
 ghost use Rattle.nbt_packet.specs.Message.{Fits, IsRegistration, HoldsNumbers, message_of, not_found, status, nb, internet};
+ghost use Rattle.nbt_packet.specs.Spelling.{HasFewRows, AreWritten};
 ghost use Rattle.nbt_packet.specs.Text as spec;
 ghost use Rattle.nbt_packet.specs.Text.{text, entry, status_name, question_octets, claim_octets, answer_octets};
 
 use crate::fault::Full;
+use crate::laws;
 use crate::message::{Message, Registration};
 use crate::wire::{
     ADDR_ENTRY, DATAGRAM_MOST, GROUP, HEADER, IN, NAME_FLAGS_P_ACTIVE, NB, NB_FLAGS_P, NBSTAT,
@@ -102,6 +104,19 @@ pub fn encode(message: &Message<'_>, out: &mut ArrayVec<u8, 576>) -> Result<(), 
         ),
     }
     Ok(())
+}
+
+/// Leaves in `out` the message's one written form and nothing else: at most 576 octets, which spell that message (RFC 1002
+/// section 4.2.1). That the message fits, and has no more entries or names than have room, is the caller's.
+pub fn write(message: &Message<'_>, out: &mut ArrayVec<u8, 576>)
+    requires fits { Fits (message_of message.now) }
+    requires few { HasFewRows (message_of message.now) }
+    ensures { AreWritten (Some (message_of message.now)) out.new.items }
+{
+    laws::few_rows_are_written();
+    laws::written_form_is_read();
+    let written = encode(message, out);
+    prove!(written.is_ok());
 }
 
 /// A request that is its question alone (RFC 1002 sections 4.2.12 and 4.2.17).

@@ -1,3 +1,4 @@
 pub mod Serving
+pub mod Calls
 pub mod Numbers
 pub mod OneAnswer

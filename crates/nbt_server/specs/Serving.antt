@@ -1,19 +1,20 @@
 -- What the name server does with a message, and with octets: RFC 1002 section 5.1.4. The silence after a start, the
 -- refusal of what is not the sender's own, and which refusal has which RCODE are our profile.
-use Rattle.std.specs.Prelude.{◌≡◌, ◌≢◌, ℕ, ◌+◌, ◌-◌, ◌*◌, ◌/◌, ◌<◌, ◌≤◌, Bool, nat_lt, List, [], take, length, slice_index, Option, Some, None, Result, Ok, Err}
+use Rattle.std.specs.Prelude.{◌≡◌, ℕ, ◌+◌, ◌-◌, ◌/◌, ◌<◌, ◌≤◌, Bool, nat_lt, List, [], take, length, Option, Some, None, Result, Ok, Err}
 use Rattle.std.specs.List.{flat_map}
 use Rattle.nbt_name.specs.declared.addr.Kind.{Kind}
-use Rattle.nbt_name.specs.Wire.{NameValue}
+use Rattle.nbt_name.specs.Wire.{NameValue, IsStar}
 use Rattle.nbt_packet.specs.declared.message.Registration.{Registration}
 use Rattle.nbt_packet.specs.Message.{MessageValue, registration, overwrite, refresh, release, query, registered, released, found, not_found}
 use Rattle.nbt_packet.specs.Spelling.{Spells}
-use Rattle.nbt_packet.specs.Text.{text, entry, entries_most}
+use Rattle.nbt_packet.specs.Text.{entry, entries_most}
 use Rattle.nbt_lease.specs.declared.fault.GrantFault.{GrantFault}
 use Rattle.nbt_lease.specs.declared.fault.GrantFault.TheVariants.{Active, TableFull, GroupFull, OutOfMemory}
 use Rattle.nbt_lease.specs.declared.lease.Grant.{Grant}
 use Rattle.nbt_lease.specs.declared.lease.Lease.{Lease}
 use Rattle.nbt_lease.specs.declared.lease.Released.{Released}
 use Rattle.nbt_lease.specs.declared.lease.Released.TheVariants.{Gone, NoLease, OfOthers}
+use Rattle.nbt_lease.specs.Config.{milliseconds}
 use Rattle.nbt_lease.specs.Lease.{Leases, TableValue, leases_at}
 use Rattle.nbt_lease.specs.Rules.{Asked, asked, Grants, ChangesLeases, Releases, IsLeastEnd}
 
@@ -24,9 +25,9 @@ pub data AsksFor : MessageValue → Registration → Type 0 where
   by_registration : (r : Registration) → AsksFor (registration r) r
   by_refresh : (r : Registration) → AsksFor (refresh r) r
 
--- the address is the sender's, and the name isn't one that stands for all: it doesn't begin with `*`
+-- the address is the sender's, and the name doesn't begin with `*`
 abbrev pub IsOwn : (ip : ℕ) → NameValue → (addr : ℕ) → Type 0
-IsOwn ip name addr = (addr ≡ ip) × (slice_index name.octets 0 ≢ 0x2A)
+IsOwn ip name addr = (addr ≡ ip) × (¬ IsStar name)
 
 abbrev pub asked_in : Registration → Asked
 asked_in r = asked r.addr r.kind r.ttl
@@ -133,7 +134,7 @@ pub record ServerValue : Type 0 where
 
 -- A lease that was given before the start may last until then.
 abbrev pub speaks_from : ServerValue → ℕ
-speaks_from server = server.start + 1000 * server.table.config.longest
+speaks_from server = server.start + milliseconds server.table.config.longest
 
 -- What the server does with a datagram: nothing before it speaks, nor with octets that spell no message; else what it
 -- does with the message that they spell.
@@ -148,13 +149,3 @@ pub record OctetsNeedMemory (server : ServerValue) (now ip : ℕ) (octets : List
   pub speaks : speaks_from server ≤ now
   pub spelled : Spells octets message
   pub needs : NeedsMemory server.table now ip message
-
--- the octets of a reply: none where there is none
-abbrev pub written : Option MessageValue → List ℕ
-written None = []
-written (Some reply) = text reply
-
--- they spell it
-abbrev pub Spelled : Option MessageValue → List ℕ → Type 0
-Spelled None octets = Unit {0}
-Spelled (Some reply) octets = Spells octets reply

@@ -34,13 +34,13 @@ impl Model for Server {
 }
 
 impl Server {
-    ghost use Rattle.nbt_server.specs.Serving.{ServerValue, ServesOctets, OctetsNeedMemory, written, Spelled};
+    ghost use Rattle.nbt_packet.specs.Spelling.{AreWritten};
+    ghost use Rattle.nbt_server.specs.Serving.{ServerValue, speaks_from};
+    ghost use Rattle.nbt_server.specs.Calls.{ServerStarts, ServerTakes, ServerForgets};
 
     /// A server without leases, which starts at `now`. It takes no memory.
     pub fn start(alloc: Global, config: Config, now: Moment) -> Server
-        ensures start { (result.start ≡ now) × (result.last ≡ now) }
-        ensures config { result.table.config ≡ config }
-        ensures empty { result.table.rows ≡ [] }
+        ensures { ServerStarts config now result }
     {
         Server {
             start: now,
@@ -75,15 +75,13 @@ impl Server {
         octets: &[u8],
         out: &mut ArrayVec<u8, 576>,
     ) -> Result<bool, ServerFault>
-        ensures served { IfOk result (λ is_reply. (reply : Option MessageValue)
-            × ServesOctets self.old now from.ip octets.now reply (leases_at now self.new.table.rows)
-            × (is_reply ≡ is_some reply) × (out.new.items ≡ written reply) × Spelled reply out.new.items) }
+        ensures served { IfOk result (λ is_reply. (reply : Option MessageValue) × ServerTakes self.old now from.ip octets.now reply self.new
+            × (is_reply ≡ is_some reply) × AreWritten reply out.new.items) }
 
         // When it is refused, and what that leaves.
         ensures clock_back { IsErrOf result ServerFault.ClockBack ↔ (now < self.old.last) }
         ensures unchanged { IsErrOf result ServerFault.ClockBack → self.new ≡ self.old }
-        ensures memory { IsErrOf result ServerFault.OutOfMemory → OctetsNeedMemory self.old now from.ip octets.now
-            × (leases_at now self.new.table.rows ≡ leases_at now self.old.table.rows) }
+        ensures memory { IsErrOf result ServerFault.OutOfMemory → ServerForgets self.old now from.ip octets.now self.new }
         ensures empty { OnErr result (out.new.items ≡ []) }
 
         // What the server is afterwards.
@@ -92,7 +90,7 @@ impl Server {
         ensures config { self.new.table.config ≡ self.old.table.config }
     {
         out.clear();
-        if now < self.last {
+        if now.get() < self.last.get() {
             return Err(ServerFault::ClockBack);
         }
         self.last = now;
@@ -121,7 +119,7 @@ impl Server {
 
     /// Until when the server is silent, in milliseconds: leases that were given before its start may last so long.
     fn speaks_from(&self) -> u64
-        ensures value { result ≡ self.now.start + 1000 * self.now.table.config.longest }
+        ensures value { result ≡ speaks_from self.now }
         ensures limits { IsConfig self.now.table.config }
     {
         self.start.get() + 1000 * u64::from(self.table.config().longest())

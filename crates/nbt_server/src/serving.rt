@@ -3,19 +3,19 @@
 ghost use Rattle.std.specs.Prelude.{◌≡◌, ◌≢◌, ℕ, ◌+◌, ◌*◌, ◌<◌, ◌≤◌, ◌↔◌, Option, Some, IsTrue, IfOk, IfSome, IsNone, OnErr, [], length, is_some};
 ghost use Rattle.nbt_name.specs.declared.addr.Kind.{Kind};
 ghost use Rattle.nbt_name.specs.Wire.{NameValue};
-ghost use Rattle.nbt_packet.specs.Message.{MessageValue, message_of, message_if, query, release, released, Fits};
-ghost use Rattle.nbt_packet.specs.Spelling.{HasFewRows};
+ghost use Rattle.nbt_packet.specs.Message.{MessageValue, message_of, message_if, query, release, released};
+ghost use Rattle.nbt_packet.specs.Spelling.{AreWritten};
 ghost use Rattle.nbt_packet.specs.Text.{text, entries_most};
-ghost use Rattle.nbt_lease.specs.Config.{IsConfig};
+ghost use Rattle.nbt_lease.specs.Config.{IsConfig, milliseconds, longest_most};
 ghost use Rattle.nbt_lease.specs.Lease.{leases_at, latest_end, AreSound};
 ghost use Rattle.nbt_lease.specs.Rules.{IsLeastEnd};
-ghost use Rattle.nbt_server.specs.Serving.{AsksFor, IsOwn, fault_rcode, refusal, release_rcode, seconds_until, entries, listed, is_cut, Serves, NeedsMemory, written, Spelled};
+ghost use Rattle.nbt_server.specs.Serving.{AsksFor, IsOwn, fault_rcode, refusal, release_rcode, seconds_until, entries, listed, is_cut, Serves, NeedsMemory};
 ghost use Rattle.nbt_packet.specs.Spelling.{Spells};
 
 use arrayvec::ArrayVec;
 use nbt_lease::{GrantFault, Moment, Released, Table};
 use nbt_name::{Kind, Name};
-use nbt_packet::{Message, Registration, encode, entries_most, entry_octets};
+use nbt_packet::{Message, Registration, entries_most, entry_octets, write};
 use std::alloc::AllocError;
 
 /// RCODE SRV_ERR: the server can't (RFC 1002 section 4.2.6).
@@ -45,7 +45,7 @@ pub(crate) fn serve(
     requires empty { out.old.items ≡ [] }
     ensures served { IfOk result (λ is_reply. (reply : Option MessageValue)
         × Serves table.old now ip (message_of message.entry) reply (leases_at now table.new.rows)
-        × (is_reply ≡ is_some reply) × (out.new.items ≡ written reply) × Spelled reply out.new.items) }
+        × (is_reply ≡ is_some reply) × AreWritten reply out.new.items) }
     ensures memory { OnErr result (NeedsMemory table.old now ip (message_of message.entry)) }
     ensures refused { OnErr result ((leases_at now table.new.rows ≡ leases_at now table.old.rows) × (out.new.items ≡ [])) }
     ensures config { table.new.config ≡ table.old.config }
@@ -61,7 +61,7 @@ pub(crate) fn serve(
     let Some(reply) = reply_to(table, now, ip, message)? else {
         return Ok(false);
     };
-    put(&reply, out);
+    write(&reply, out);
     Ok(true)
 }
 
@@ -214,7 +214,7 @@ fn find(table: &mut Table, now: Moment, id: u16, name: Name, out: &mut ArrayVec<
             rcode: NAME_ERROR,
             name: Some(name),
         };
-        return put(&missing, out);
+        return write(&missing, out);
     };
     let found = Message::Found {
         id,
@@ -223,12 +223,12 @@ fn find(table: &mut Table, now: Moment, id: u16, name: Name, out: &mut ArrayVec<
         entries: listed.entries.as_slice(),
         cut: listed.cut,
     };
-    put(&found, out);
+    write(&found, out);
 }
 
 /// The seconds from a moment to an end, rounded up.
 fn seconds_left(now: Moment, end: u64) -> u32
-    requires { end ≤ now + 1000 * 1000000 }
+    requires { end ≤ now + milliseconds longest_most }
     ensures { result ≡ seconds_until now end }
 {
     let milliseconds = end.saturating_sub(now.get());
@@ -276,17 +276,4 @@ fn list(table: &Table, now: Moment, name: &Name) -> Listed
         cut: false,
         end,
     }
-}
-
-/// Leaves in `out` the written form of a reply, which has no more entries than have room in 576 octets.
-fn put(reply: &Message<'_>, out: &mut ArrayVec<u8, 576>)
-    requires fits { Fits (message_of reply.now) }
-    requires few { HasFewRows (message_of reply.now) }
-    ensures form { out.new.items ≡ text (message_of reply.now) }
-    ensures spells { Spells out.new.items (message_of reply.now) }
-{
-    nbt_packet::laws::few_rows_are_written();
-    nbt_packet::laws::written_form_is_read();
-    let written = encode(reply, out);
-    prove!(written.is_ok());
 }

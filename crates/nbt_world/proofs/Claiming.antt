@@ -8,8 +8,9 @@ use Rattle.nbt_packet.specs.Message.{MessageValue, registered}
 use Rattle.nbt_lease.specs.Drift.{quiet}
 use Rattle.nbt_node.specs.declared.state.State.{State}
 use Rattle.nbt_node.specs.declared.state.State.TheVariants.{Idle, Asking, Held, Releasing, Resting}
-use Rattle.nbt_node.specs.declared.state.Refresh.{Refresh}
-use Rattle.nbt_node.specs.Settling.{is_over, rested, pending_at, settled}
+use Rattle.nbt_node.specs.declared.transaction.Transaction.{Transaction}
+use Rattle.nbt_node.specs.Transaction.{is_over}
+use Rattle.nbt_node.specs.Settling.{rested, pending_at, settled}
 use Rattle.nbt_node.specs.Node.{NodeValue, state_of, state_at}
 use Rattle.nbt_node.specs.Moves.{NameEvent, hear, Told, Move, NameMoves, asks, gives_back, asks_again, gives_back_again, refreshes_again, refreshes, granted_to, renewed_to, refused_to, loses_asked, loses_held, freed, asking_waits, giving_back_waits, refresh_waits, unmoved}
 use Rattle.nbt_world.specs.declared.clocks.Clocks.{Clocks}
@@ -30,13 +31,13 @@ claims_want longest life now replied (Some k) kind end c = in_state k.start k.st
     in_state : (start : ℕ) (s : State) (kind : Kind) (end : ℕ) → Claims longest life now replied (knows start s) kind end → Wants (knows start s) kind
     in_state start Idle kind end (has j e w) = w
     in_state start Idle kind end (may_get j first moment r w a d) = w
-    in_state start (Asking k ttl id f last tries due) kind end (has j e w) = elim w [ ]
-    in_state start (Asking k ttl id f last tries due) kind end (may_get j first moment r w a d) = w.0
+    in_state start (Asking k ttl last p) kind end (has j e w) = elim w [ ]
+    in_state start (Asking k ttl last p) kind end (may_get j first moment r w a d) = w.0
     in_state start (Held k ttl until renew last pending) kind end (has j e w) = w.0
     in_state start (Held k ttl until renew last None) kind end (may_get j first moment r w a d) = elim w [ ]
     in_state start (Held k ttl until renew last (Some p)) kind end (may_get j first moment r w a d) = w.0
-    in_state start (Releasing k id last tries due) kind end (has j e w) = w
-    in_state start (Releasing k id last tries due) kind end (may_get j first moment r w a d) = w
+    in_state start (Releasing k last p) kind end (has j e w) = w
+    in_state start (Releasing k last p) kind end (may_get j first moment r w a d) = w
     in_state start (Resting last) kind end (has j e w) = w
     in_state start (Resting last) kind end (may_get j first moment r w a d) = w
 
@@ -60,14 +61,14 @@ rested_claims longest life clock now start last replied k = go (ltb (last + quie
 
 pub settled_claims : (longest life clock now start : ℕ) (replied : Clocks → MessageValue → Type 0) (s : State) → NoNewClaim longest life clock replied (knows start s) (knows start (settled life now s))
 settled_claims longest life clock now start replied Idle = λ kind end c. c
-settled_claims longest life clock now start replied (Asking kind ttl id first last tries due) = go (is_over now tries due)
+settled_claims longest life clock now start replied (Asking kind ttl last p) = go (is_over now p.tries p.due)
   where
-    go : (t : Bool) → NoNewClaim longest life clock replied (knows start (Asking kind ttl id first last tries due)) (knows start (cond t (rested life now last) (Asking kind ttl id first last tries due)))
-    go true = rested_claims longest life clock now start last replied (knows start (Asking kind ttl id first last tries due))
+    go : (t : Bool) → NoNewClaim longest life clock replied (knows start (Asking kind ttl last p)) (knows start (cond t (rested life now last) (Asking kind ttl last p)))
+    go true = rested_claims longest life clock now start last replied (knows start (Asking kind ttl last p))
     go false = λ k end c. c
 settled_claims longest life clock now start replied (Held kind ttl until renew last pending) = go (leb until now)
   where
-    still_open : (o : Option Refresh) (k : Kind) (first : ℕ) → IsOpenIn (Held kind ttl until renew last (pending_at now o)) k first → IsOpenIn (Held kind ttl until renew last o) k first
+    still_open : (o : Option Transaction) (k : Kind) (first : ℕ) → IsOpenIn (Held kind ttl until renew last (pending_at now o)) k first → IsOpenIn (Held kind ttl until renew last o) k first
     still_open None k first w = w
     still_open (Some r) k first w = at (is_over now r.tries r.due) w
       where
@@ -79,10 +80,10 @@ settled_claims longest life clock now start replied (Held kind ttl until renew l
     go true k end c = rested_claims longest life clock now start last replied (knows start (Held kind ttl until renew last pending)) k end c
     go false k end (has j e w) = has j e w
     go false k end (may_get j first moment r w a d) = may_get j first moment r (still_open pending j first w) a d
-settled_claims longest life clock now start replied (Releasing kind id last tries due) = go (is_over now tries due)
+settled_claims longest life clock now start replied (Releasing kind last p) = go (is_over now p.tries p.due)
   where
-    go : (t : Bool) → NoNewClaim longest life clock replied (knows start (Releasing kind id last tries due)) (knows start (cond t (rested life now last) (Releasing kind id last tries due)))
-    go true = rested_claims longest life clock now start last replied (knows start (Releasing kind id last tries due))
+    go : (t : Bool) → NoNewClaim longest life clock replied (knows start (Releasing kind last p)) (knows start (cond t (rested life now last) (Releasing kind last p)))
+    go true = rested_claims longest life clock now start last replied (knows start (Releasing kind last p))
     go false = λ k end c. c
 settled_claims longest life clock now start replied (Resting last) = rested_claims longest life clock now start last replied (knows start (Resting last))
 
@@ -105,10 +106,10 @@ sent_claims longest number clock asked replied {node = node} {now = now} (asks k
     absurd (none_left node.config.life number clock now node.start node.start moment asked replied Idle (registered 0 r) refl past fresh rested a d)
 sent_claims longest number clock asked replied (gives_back kind ttl until renew last pending) past fresh k end (has j e w) = elim w [ ]
 sent_claims longest number clock asked replied (gives_back kind ttl until renew last pending) past fresh k end (may_get j first moment r w a d) = elim w [ ]
-sent_claims longest number clock asked replied (asks_again kind ttl id f last tries due next) past fresh k end (has j e w) = elim w [ ]
-sent_claims longest number clock asked replied (asks_again kind ttl id f last tries due next) past fresh k end (may_get j first moment r w a d) = may_get j first moment r w a d
-sent_claims longest number clock asked replied (gives_back_again kind id last tries due next) past fresh k end (has j e w) = elim w [ ]
-sent_claims longest number clock asked replied (gives_back_again kind id last tries due next) past fresh k end (may_get j first moment r w a d) = elim w [ ]
+sent_claims longest number clock asked replied (asks_again kind ttl last p next) past fresh k end (has j e w) = elim w [ ]
+sent_claims longest number clock asked replied (asks_again kind ttl last p next) past fresh k end (may_get j first moment r w a d) = may_get j first moment r w a d
+sent_claims longest number clock asked replied (gives_back_again kind last p next) past fresh k end (has j e w) = elim w [ ]
+sent_claims longest number clock asked replied (gives_back_again kind last p next) past fresh k end (may_get j first moment r w a d) = elim w [ ]
 sent_claims longest number clock asked replied (refreshes_again kind ttl until renew last p next) past fresh k end (has j e w) = has j e w
 sent_claims longest number clock asked replied (refreshes_again kind ttl until renew last p next) past fresh k end (may_get j first moment r w a d) = may_get j first moment r w a d
 sent_claims longest number clock asked replied (refreshes kind ttl until renew last due over) past fresh k end (has j e w) = has j e w
@@ -124,28 +125,28 @@ IsListed life clock replied m = (r : Registration) → m ≡ registered 0 r → 
 heard_claims : (clock : ℕ) (replied : Clocks → MessageValue → Type 0) {node : NodeValue} {now : ℕ} {name : NameValue} {s t : State} {m : MessageValue} {told : Told} {next : ℕ}
     → Move node now name s (hear m) t None told next → IsListed node.config.life clock replied m
     → NoNewClaim node.config.longest node.config.life clock replied (knows node.start s) (knows node.start t)
-heard_claims clock replied {node = node} (granted_to kind ttl id first last tries due r e) is k end (has j u w) =
+heard_claims clock replied {node = node} (granted_to kind ttl last p r e) is k end (has j u w) =
     let l = is r refl in
-    let was : IsOpen (knows node.start (Asking kind ttl id first last tries due)) j first = (w.0, refl) in
-    subst (λ (x : ℕ). Claims node.config.longest node.config.life clock replied (knows node.start (Asking kind ttl id first last tries due)) j x) w.1 (may_get j first l.0 r was l.1 l.2)
-heard_claims clock replied (granted_to kind ttl id first last tries due r e) is k end (may_get j f n x w a b) = elim w [ ]
+    let was : IsOpen (knows node.start (Asking kind ttl last p)) j p.first = (w.0, refl) in
+    subst (λ (x : ℕ). Claims node.config.longest node.config.life clock replied (knows node.start (Asking kind ttl last p)) j x) w.1 (may_get j p.first l.0 r was l.1 l.2)
+heard_claims clock replied (granted_to kind ttl last p r e) is k end (may_get j f n x w a b) = elim w [ ]
 heard_claims clock replied {node = node} (renewed_to kind ttl until renew last p r e) is k end (has j u w) =
     let l = is r refl in
     let was : IsOpen (knows node.start (Held kind ttl until renew last (Some p))) j p.first = (w.0, refl) in
     subst (λ (x : ℕ). Claims node.config.longest node.config.life clock replied (knows node.start (Held kind ttl until renew last (Some p))) j x) w.1 (may_get j p.first l.0 r was l.1 l.2)
 heard_claims clock replied (renewed_to kind ttl until renew last p r e) is k end (may_get j f n x w a b) = elim w [ ]
-heard_claims clock replied (refused_to kind ttl id first last tries due rcode r e ne) is k end (has j u w) = elim w [ ]
-heard_claims clock replied (refused_to kind ttl id first last tries due rcode r e ne) is k end (may_get j f n x w a b) = elim w [ ]
-heard_claims clock replied (loses_asked kind ttl id first last tries due r ne) is k end (has j u w) = elim w [ ]
-heard_claims clock replied (loses_asked kind ttl id first last tries due r ne) is k end (may_get j f n x w a b) = elim w [ ]
+heard_claims clock replied (refused_to kind ttl last rcode p r e ne) is k end (has j u w) = elim w [ ]
+heard_claims clock replied (refused_to kind ttl last rcode p r e ne) is k end (may_get j f n x w a b) = elim w [ ]
+heard_claims clock replied (loses_asked kind ttl last p r ne) is k end (has j u w) = elim w [ ]
+heard_claims clock replied (loses_asked kind ttl last p r ne) is k end (may_get j f n x w a b) = elim w [ ]
 heard_claims clock replied (loses_held kind ttl until renew last rcode pending r ne c) is k end (has j u w) = elim w [ ]
 heard_claims clock replied (loses_held kind ttl until renew last rcode pending r ne c) is k end (may_get j f n x w a b) = elim w [ ]
-heard_claims clock replied (freed kind id last tries due rcode n q a) is k end (has j u w) = elim w [ ]
-heard_claims clock replied (freed kind id last tries due rcode n q a) is k end (may_get j f v x w b e) = elim w [ ]
-heard_claims clock replied (asking_waits kind ttl id first last tries due n t) is k end (has j u w) = elim w [ ]
-heard_claims clock replied (asking_waits kind ttl id first last tries due n t) is k end (may_get j f v x w a b) = may_get j f v x w a b
-heard_claims clock replied (giving_back_waits kind id last tries due n t) is k end (has j u w) = elim w [ ]
-heard_claims clock replied (giving_back_waits kind id last tries due n t) is k end (may_get j f v x w a b) = elim w [ ]
+heard_claims clock replied (freed kind last rcode p n q a) is k end (has j u w) = elim w [ ]
+heard_claims clock replied (freed kind last rcode p n q a) is k end (may_get j f v x w b e) = elim w [ ]
+heard_claims clock replied (asking_waits kind ttl last p n t) is k end (has j u w) = elim w [ ]
+heard_claims clock replied (asking_waits kind ttl last p n t) is k end (may_get j f v x w a b) = may_get j f v x w a b
+heard_claims clock replied (giving_back_waits kind last p n t) is k end (has j u w) = elim w [ ]
+heard_claims clock replied (giving_back_waits kind last p n t) is k end (may_get j f v x w a b) = elim w [ ]
 heard_claims clock replied (refresh_waits kind ttl until renew last p n t) is k end (has j u w) = has j u w
 heard_claims clock replied (refresh_waits kind ttl until renew last p n t) is k end (may_get j f v x w a b) = may_get j f v x w a b
 heard_claims clock replied (unmoved state message e) is k end c = c

@@ -20,7 +20,7 @@ use Rattle.nbt_world.specs.declared.clocks.Least.{Least}
 use Rattle.nbt_world.specs.declared.network.Datagram.{Datagram}
 use Rattle.nbt_world.specs.Drift.{reading}
 use Rattle.nbt_world.specs.World.{WorldValue, addr_of, IsEnd, node_of, with_server, with_node}
-use Rattle.nbt_world.specs.Step.{IsNew as IsNewServer}
+use Rattle.nbt_server.specs.Calls.{ServerStarts}
 use Rattle.nbt_world.specs.Kept.{Replied, known, Claims, has, may_get, Backs, ClaimsIn, IsCoveredIn, AreRead, IsSent, IsKept, ClaimsKept}
 use Rattle.nbt_world.proofs.Knowing.{knows}
 use Rattle.nbt_world.proofs.Drifting.{HoldLaw, hold_over}
@@ -185,7 +185,7 @@ server_claims w x kept on backs =
 pub crashed_claims : (w : WorldValue) → IsKept w → IsTrue w.kept → ClaimsKept (record w { ends = with_server w.ends None; sent = w.sent })
 crashed_claims w kept on = server_claims w None kept on (λ n a name kind end p c lt is. tt)
 
-pub started_claims : (w : WorldValue) (server : ServerValue) → IsKept w → IsTrue w.kept → IsNewServer w.config (reading w.now 0) server → ClaimsKept (record w { ends = with_server w.ends (Some server); sent = w.sent })
+pub started_claims : (w : WorldValue) (server : ServerValue) → IsKept w → IsTrue w.kept → ServerStarts w.config (reading w.now 0) server → ClaimsKept (record w { ends = with_server w.ends (Some server); sent = w.sent })
 started_claims w server kept on new = server_claims w (Some server) kept on backs
   where
     backs : (n : ℕ) (a : Addr) (name : NameValue) (kind : Kind) (end : ℕ) → addr_of w.ends n ≡ Some a → ClaimsIn w n a name kind end → reading w.now n < end → (is : IsCoveredIn w n a name kind end)

@@ -9,12 +9,11 @@ use Rattle.nbt_name.specs.Wire.{NameValue}
 use Rattle.nbt_packet.specs.Message.{MessageValue, registration, overwrite, refresh, release, query, status_request, registered, released, found, not_found, status, wait}
 use Rattle.nbt_packet.specs.declared.message.Registration.{Registration}
 use Rattle.nbt_packet.specs.Text.{text}
-use Rattle.nbt_packet.specs.Spelling.{Spells}
+use Rattle.nbt_packet.specs.Spelling.{Spells, AreWritten}
 use Rattle.nbt_lease.specs.Config.{ConfigValue}
 use Rattle.nbt_lease.specs.Lease.{Leases, TableValue, leases_at, IsSound}
 use Rattle.nbt_node.specs.Node.{NodeValue, Passes}
 use Rattle.nbt_node.specs.Moves.{hear, Told, NameMoves}
-use Rattle.nbt_node.specs.Calls.{AreWritten}
 use Rattle.nbt_node.specs.Datagrams.{same_end, Hears, from_server, from_stranger, Lists, lists_names, lists_nothing, names_listed, Ends as LookupEnds, is_answered, is_unanswered, Idles, idles, Takes as NodeTakes, TakesOctets, spelled, unspelled}
 use Rattle.nbt_lease.specs.declared.fault.GrantFault.{GrantFault}
 use Rattle.nbt_lease.specs.declared.lease.Grant.{Grant}
@@ -33,7 +32,8 @@ use Rattle.std.proofs.lemmas.List.Elements.{Contains-push_cases}
 use Rattle.nbt_world.proofs.Knowing.{Draws, fresh-reply}
 use Rattle.nbt_world.proofs.Claiming.{NoNewClaim, IsListed, claims_by_time, claims_hears}
 use Rattle.nbt_world.proofs.Keeping.{Grows, asked_still, asked_before, server_changes}
-use Rattle.nbt_world.proofs.Naming.{OneMessage, Laws, Origin, listed, strange, names_apart, Stays, stays_by_moves, is_new, nothing_new, name_by_time, name_hears, fresh_by_time, fresh_hears, grows_by, UpAt, up_at, node_moves}
+use Rattle.nbt_name.proofs.Same.{names_apart}
+use Rattle.nbt_world.proofs.Naming.{OneMessage, Laws, Origin, listed, strange, Stays, stays_by_moves, is_new, nothing_new, name_by_time, name_hears, fresh_by_time, fresh_hears, grows_by, UpAt, up_at, node_moves}
 use Rattle.nbt_world.proofs.Granting.{LeaseLaws}
 use Rattle.nbt_world.proofs.Served.{Took, served_claims, forgotten_claims}
 use Rattle.nbt_world.proofs.Events.{stays_by_lookup, stays_by_time, time_kept, other_kept}

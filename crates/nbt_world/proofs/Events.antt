@@ -10,8 +10,10 @@ use Rattle.nbt_node.specs.declared.lookup.Lookup.{Lookup}
 use Rattle.nbt_node.specs.declared.lookup.Wanted.{Wanted}
 use Rattle.nbt_node.specs.declared.lookup.Wanted.TheVariants.{Entries, Names}
 use Rattle.nbt_node.specs.Node.{NodeValue, ByTimeAlone, Passes}
-use Rattle.nbt_node.specs.Moves.{NameEvent, next_due}
-use Rattle.nbt_node.specs.Calls.{AreWritten, Sends, LooksUp, question, Opens, Polls, polls_name, polls_lookup, polls_nothing as nothing_due}
+use Rattle.nbt_node.specs.Transaction.{next_due}
+use Rattle.nbt_node.specs.Moves.{NameEvent}
+use Rattle.nbt_packet.specs.Spelling.{AreWritten}
+use Rattle.nbt_node.specs.Calls.{Sends, LooksUp, question, Opens, Polls, polls_name, polls_lookup, polls_nothing as nothing_due}
 use Rattle.nbt_world.specs.declared.event.Event.{Event}
 use Rattle.nbt_world.specs.declared.clocks.Clocks.{Clocks}
 use Rattle.nbt_world.specs.Drift.{reading}
@@ -19,7 +21,8 @@ use Rattle.nbt_world.specs.World.{WorldValue, node_of, with_node, datagram}
 use Rattle.nbt_world.specs.Step.{GivenValue, Does, asks, ask_refused, gives_back, release_refused, resolves, resolve_refused, asks_status, status_refused, polls, polls_nothing, after}
 use Rattle.nbt_world.specs.Kept.{IsRequest, Asked, Replied, known, RequestsEnded, RepliesFresh, IsNodeOf, IsKept}
 use Rattle.nbt_world.proofs.Keeping.{IsNew, from_new, asked_still, replied_before, addr_there, node_changes}
-use Rattle.nbt_world.proofs.Naming.{Laws, names_apart, request_one, request_no_overwrite, Sending, is_new, nothing_new, others_fewer, own_more, Stays, stays_by_moves, name_by_time, name_sends, fresh_by_time, fresh_sends, grows_by, UpAt, up_at, node_moves}
+use Rattle.nbt_name.proofs.Same.{names_apart}
+use Rattle.nbt_world.proofs.Naming.{Laws, request_one, request_no_overwrite, Sending, is_new, nothing_new, others_fewer, own_more, Stays, stays_by_moves, name_by_time, name_sends, fresh_by_time, fresh_sends, grows_by, UpAt, up_at, node_moves}
 use Rattle.nbt_world.proofs.Knowing.{is_sent}
 use Rattle.nbt_world.proofs.Claiming.{NoNewClaim, claims_by_time, claims_sends}
 use Rattle.nbt_world.proofs.Covering.{node_claims}

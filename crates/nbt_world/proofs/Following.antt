@@ -42,10 +42,10 @@ open_wanted (Some k) kind first w = in_state k.state w
   where
     in_state : (s : State) → IsOpenIn s kind first → WantsIn s kind
     in_state Idle w = w
-    in_state (Asking k ttl id f last tries due) w = w.0
+    in_state (Asking k ttl last p) w = w.0
     in_state (Held k ttl until renew last None) w = elim w [ ]
     in_state (Held k ttl until renew last (Some p)) w = w.0
-    in_state (Releasing k id last tries due) w = w
+    in_state (Releasing k last p) w = w
     in_state (Resting last) w = w
 
 pub open_fresh : RestLaw → (w : WorldValue) → IsKept w → IsTrue w.kept → (n : ℕ) (a : Addr) (name : NameValue) → addr_of w.ends n ≡ Some a → OpenIsFresh w n a name

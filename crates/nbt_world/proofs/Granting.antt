@@ -21,7 +21,7 @@ use Rattle.nbt_server.specs.Serving.{ServerValue, asked_in, AsksFor, by_registra
 use Rattle.nbt_server.specs.Serving as serving
 use Rattle.nbt_world.specs.Kept.{IsRequest, AsksAs, IsLeased}
 use Rattle.nbt_world.proofs.Drifting.{HoldLaw}
-use Rattle.nbt_world.proofs.Naming.{names_apart}
+use Rattle.nbt_name.proofs.Same.{names_apart}
 
 -- the laws of leases that this rests on
 pub record LeaseLaws : Type 0 where

@@ -8,8 +8,9 @@ use Rattle.nbt_packet.specs.Message.{MessageValue}
 use Rattle.nbt_lease.specs.Drift.{quiet}
 use Rattle.nbt_node.specs.declared.state.State.{State}
 use Rattle.nbt_node.specs.declared.state.State.TheVariants.{Idle, Asking, Held, Releasing, Resting}
-use Rattle.nbt_node.specs.declared.state.Refresh.{Refresh}
-use Rattle.nbt_node.specs.Settling.{is_over, rested, pending_at, settled}
+use Rattle.nbt_node.specs.declared.transaction.Transaction.{Transaction}
+use Rattle.nbt_node.specs.Transaction.{is_over}
+use Rattle.nbt_node.specs.Settling.{rested, pending_at, settled}
 use Rattle.nbt_node.specs.Node.{NodeValue}
 use Rattle.nbt_node.specs.Moves.{NameEvent, hear, Told, Move, asks, gives_back, asks_again, gives_back_again, refreshes_again, refreshes, granted_to, renewed_to, refused_to, loses_asked, loses_held, freed, asking_waits, giving_back_waits, refresh_waits, unmoved}
 use Rattle.nbt_world.specs.declared.clocks.Clocks.{Clocks}
@@ -54,10 +55,10 @@ rests life now start last s e = go (ltb (last + quiet life) now) refl
 
 pub fades : (life now start : ℕ) (s : State) → Fades life now start s (settled life now s)
 fades life now start Idle = stays refl (λ kind w. w) (λ kind first w. w)
-fades life now start (Asking kind ttl id first last tries due) = go (is_over now tries due)
+fades life now start (Asking kind ttl last p) = go (is_over now p.tries p.due)
   where
-    go : (t : Bool) → Fades life now start (Asking kind ttl id first last tries due) (cond t (rested life now last) (Asking kind ttl id first last tries due))
-    go true = rests life now start last (Asking kind ttl id first last tries due) refl
+    go : (t : Bool) → Fades life now start (Asking kind ttl last p) (cond t (rested life now last) (Asking kind ttl last p))
+    go true = rests life now start last (Asking kind ttl last p) refl
     go false = stays refl (λ kind w. w) (λ kind first w. w)
 fades life now start (Held kind ttl until renew last pending) = go (leb until now)
   where
@@ -65,17 +66,17 @@ fades life now start (Held kind ttl until renew last pending) = go (leb until no
     go true = rests life now start last (Held kind ttl until renew last pending) refl
     go false = stays refl (λ kind w. w) (still_open pending)
       where
-        still_open : (o : Option Refresh) (k : Kind) (first : ℕ) → IsOpenIn (Held kind ttl until renew last (pending_at now o)) k first → IsOpenIn (Held kind ttl until renew last o) k first
+        still_open : (o : Option Transaction) (k : Kind) (first : ℕ) → IsOpenIn (Held kind ttl until renew last (pending_at now o)) k first → IsOpenIn (Held kind ttl until renew last o) k first
         still_open None k first w = w
         still_open (Some r) k first w = at (is_over now r.tries r.due) w
           where
             at : (t : Bool) → IsOpenIn (Held kind ttl until renew last (cond t None (Some r))) k first → (kind ≡ k) × (r.first ≡ first)
             at true v = elim v [ ]
             at false v = v
-fades life now start (Releasing kind id last tries due) = go (is_over now tries due)
+fades life now start (Releasing kind last p) = go (is_over now p.tries p.due)
   where
-    go : (t : Bool) → Fades life now start (Releasing kind id last tries due) (cond t (rested life now last) (Releasing kind id last tries due))
-    go true = rests life now start last (Releasing kind id last tries due) refl
+    go : (t : Bool) → Fades life now start (Releasing kind last p) (cond t (rested life now last) (Releasing kind last p))
+    go true = rests life now start last (Releasing kind last p) refl
     go false = stays refl (λ kind w. w) (λ kind first w. w)
 fades life now start (Resting last) = rests life now start last (Resting last) refl
 
@@ -102,14 +103,14 @@ ended-fades life number clock now start asked s t past (ends over idle) kept = r
 -- what is heard makes a state want nothing new, and its last sending stays
 pub fades-heard : (life start : ℕ) {node : NodeValue} {now : ℕ} {name : NameValue} {s t : State} {m : MessageValue} {told : Told} {next : ℕ}
     → Move node now name s (hear m) t None told next → Fades life now start s t
-fades-heard life start (granted_to kind ttl id first last tries due r e) = stays refl (λ k w. w) (λ k f w. elim w [ ])
+fades-heard life start (granted_to kind ttl last p r e) = stays refl (λ k w. w) (λ k f w. elim w [ ])
 fades-heard life start (renewed_to kind ttl until renew last p r e) = stays refl (λ k w. w) (λ k f w. elim w [ ])
-fades-heard life start (refused_to kind ttl id first last tries due rcode r e ne) = stays refl (λ k w. elim w [ ]) (λ k first w. elim w [ ])
-fades-heard life start (loses_asked kind ttl id first last tries due r ne) = stays refl (λ k w. elim w [ ]) (λ k first w. elim w [ ])
+fades-heard life start (refused_to kind ttl last rcode p r e ne) = stays refl (λ k w. elim w [ ]) (λ k first w. elim w [ ])
+fades-heard life start (loses_asked kind ttl last p r ne) = stays refl (λ k w. elim w [ ]) (λ k first w. elim w [ ])
 fades-heard life start (loses_held kind ttl until renew last rcode pending r ne c) = stays refl (λ k w. elim w [ ]) (λ k first w. elim w [ ])
-fades-heard life start (freed kind id last tries due rcode n k a) = stays refl (λ j w. elim w [ ]) (λ j first w. elim w [ ])
-fades-heard life start (asking_waits kind ttl id first last tries due n t) = stays refl (λ k w. w) (λ k first w. w)
-fades-heard life start (giving_back_waits kind id last tries due n t) = stays refl (λ k w. elim w [ ]) (λ k first w. elim w [ ])
+fades-heard life start (freed kind last rcode p n k a) = stays refl (λ j w. elim w [ ]) (λ j first w. elim w [ ])
+fades-heard life start (asking_waits kind ttl last p n t) = stays refl (λ k w. w) (λ k first w. w)
+fades-heard life start (giving_back_waits kind last p n t) = stays refl (λ k w. elim w [ ]) (λ k first w. elim w [ ])
 fades-heard life start (refresh_waits kind ttl until renew last p n t) = stays refl (λ k w. w) (λ k first w. w)
 fades-heard life start (unmoved state message e) = stays refl (λ k w. w) (λ k first w. w)
 
@@ -128,8 +129,8 @@ pub is_sent : {node : NodeValue} {now : ℕ} {name : NameValue} {s t : State} {e
     → Move node now name s event t (Some m) told next → IsSent node.config.life now node.start name s t m
 is_sent (asks kind ttl rested) = record { last_is = refl; request = refl; kind_is = λ k w. w; before = λ k w. inr rested; begun = λ k first w. inr (w.1, rested) }
 is_sent (gives_back kind ttl until renew last pending) = record { last_is = refl; request = refl; kind_is = λ k w. elim w [ ]; before = λ k w. elim w [ ]; begun = λ k first w. elim w [ ] }
-is_sent (asks_again kind ttl id first last tries due e) = record { last_is = refl; request = refl; kind_is = λ k w. w; before = λ k w. inl w; begun = λ k first w. inl w }
-is_sent (gives_back_again kind id last tries due e) = record { last_is = refl; request = refl; kind_is = λ k w. elim w [ ]; before = λ k w. elim w [ ]; begun = λ k first w. elim w [ ] }
+is_sent (asks_again kind ttl last p e) = record { last_is = refl; request = refl; kind_is = λ k w. w; before = λ k w. inl w; begun = λ k first w. inl w }
+is_sent (gives_back_again kind last p e) = record { last_is = refl; request = refl; kind_is = λ k w. elim w [ ]; before = λ k w. elim w [ ]; begun = λ k first w. elim w [ ] }
 is_sent (refreshes_again kind ttl until renew last p e) = record { last_is = refl; request = refl; kind_is = λ k w. w; before = λ k w. inl w; begun = λ k first w. inl w }
 is_sent (refreshes kind ttl until renew last due rested) = record { last_is = refl; request = refl; kind_is = λ k w. w; before = λ k w. inl w; begun = λ k first w. inr (w.1, rested) }
 

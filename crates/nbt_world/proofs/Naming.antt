@@ -1,9 +1,6 @@
 -- What a world keeps when one node has moved: each name by time alone, but one that asks, sends again or hears.
 use Rattle.std.proofs.Common.{◌≡◌, ◌≢◌, ℕ, suc, ◌≤◌, Bool, true, false, List, [], ◌∷◌, ◌++◌, Option, Some, None, sym, ap, subst, ◌∙◌, arith, inl, inr}
 use Rattle.std.specs.Prelude.{Contains, IsTrue, ◌⊎◌}
-use Rattle.std.specs.Str.{bytes_eq}
-use Rattle.std.proofs.lemmas.Bool.{cases_Bool}
-use Rattle.std.proofs.lemmas.Slice.Eq.{bytes_eq-Decides}
 use Rattle.std.proofs.lemmas.List.Elements.{Contains-push_cases, Contains-append_left}
 use Rattle.std.proofs.lemmas.Option.{same_Some}
 use Rattle.nbt_name.specs.declared.addr.Addr.{Addr}
@@ -43,20 +40,6 @@ pub data Origin (w : WorldValue) (from to : Addr) (octets : List ℕ) : Type 0 w
   strange : (IsOfEnd w.ends from.ip → ⊥) → Origin w from to octets
 
 -- ---- names
-
-pub names_apart : (a b : NameValue) → (a ≡ b) ⊎ (a ≢ b)
-names_apart a b = go (cases_Bool (bytes_eq a.octets b.octets)) (cases_Bool (bytes_eq a.scope b.scope))
-  where
-    equal : a.octets ≡ b.octets → a.scope ≡ b.scope → a ≡ b
-    equal p q = λ i. record { octets = p i; scope = q i }
-
-    off : (t : Bool) → t ≡ false → t ≡ true → ⊥
-    off t p q = cc
-
-    go : (bytes_eq a.octets b.octets ≡ true) ⊎ (bytes_eq a.octets b.octets ≡ false) → (bytes_eq a.scope b.scope ≡ true) ⊎ (bytes_eq a.scope b.scope ≡ false) → (a ≡ b) ⊎ (a ≢ b)
-    go (inl p) (inl q) = inl (equal ((bytes_eq-Decides a.octets b.octets).0 p) ((bytes_eq-Decides a.scope b.scope).0 q))
-    go (inl p) (inr q) = inr (λ e. off (bytes_eq a.scope b.scope) q ((bytes_eq-Decides a.scope b.scope).1 (ap (λ (n : NameValue). n.scope) e)))
-    go (inr p) q = inr (λ e. off (bytes_eq a.octets b.octets) p ((bytes_eq-Decides a.octets b.octets).1 (ap (λ (n : NameValue). n.octets) e)))
 
 -- a request is about one name
 pub request_one : (m : MessageValue) (a b : NameValue) → IsRequest a m → IsRequest b m → a ≡ b

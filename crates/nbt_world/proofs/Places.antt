@@ -9,12 +9,13 @@ use Rattle.nbt_name.specs.declared.addr.Addr.{Addr}
 use Rattle.nbt_packet.specs.Message.{MessageValue}
 use Rattle.nbt_lease.specs.Config.{ConfigValue}
 use Rattle.nbt_server.specs.Serving.{ServerValue}
+use Rattle.nbt_server.specs.Calls.{ServerStarts}
 use Rattle.nbt_node.specs.Node.{NodeValue}
 use Rattle.nbt_node.specs.Calls.{started}
 use Rattle.nbt_world.specs.declared.ends.End.{End}
 use Rattle.nbt_world.specs.declared.ends.Ends.{Ends}
 use Rattle.nbt_world.specs.World.{IsOfEnd, addr_at, addr_of, node_in, node_of, put_node, with_server, with_node}
-use Rattle.nbt_world.specs.Step.{IsDown, IsUp, IsNew, Starts, server_starts, node_starts, Crashes, server_crashes, node_crashes, TakenValue, is_down, takes, ServerDoes, NodeHears, Takes, finds_down, by_server, by_node}
+use Rattle.nbt_world.specs.Step.{IsDown, IsUp, Starts, server_starts, node_starts, Crashes, server_crashes, node_crashes, TakenValue, is_down, takes, ServerDoes, NodeHears, Takes, finds_down, by_server, by_node}
 
 -- ---- numbers
 
@@ -172,7 +173,7 @@ node_is_down now ends from octets n ys r reads is =
     down zero ne at is = absurd (ne refl)
     down (suc i) ne {addr} at is = (addr, at, is)
 
-pub server_started : (config : ConfigValue) (now : ℕ) (ends : Ends) (n : ℕ) (server : ServerValue) → n ≡ 0 → is_some ends.server ≡ false → IsNew config now server
+pub server_started : (config : ConfigValue) (now : ℕ) (ends : Ends) (n : ℕ) (server : ServerValue) → n ≡ 0 → is_some ends.server ≡ false → ServerStarts config now server
     → Starts config now ends n (with_server ends (Some server))
 server_started config now ends n server e is new =
     subst (λ (m : ℕ). Starts config now ends m (with_server ends (Some server))) (sym e) (server_starts server (is_nothing ends.server is) new)

@@ -5,17 +5,15 @@ use Rattle.std.proofs.lemmas.Bool.{eqb-true, eqb-false}
 use Rattle.std.proofs.lemmas.List.{nil_from_length}
 use Rattle.nbt_packet.specs.Message.{MessageValue, registration, overwrite, refresh, release, query, status_request, registered, released, found, not_found, status, wait}
 use Rattle.nbt_packet.specs.Text.{text}
-use Rattle.nbt_packet.specs.Spelling.{Spells}
-use Rattle.nbt_server.specs.Serving.{written, Spelled}
-use Rattle.nbt_node.specs.Calls.{AreWritten}
+use Rattle.nbt_packet.specs.Spelling.{Spells, AreWritten}
 use Rattle.nbt_world.specs.Step.{takes}
 
 abbrev pub Replied : Option MessageValue → List ℕ → Type 0
 Replied reply octets = (m : MessageValue) × (takes reply ≡ takes (Some m)) × (octets ≡ text m) × Spells octets m
 
-pub replied : (reply : Option MessageValue) (octets : List ℕ) → is_some reply ≡ true → octets ≡ written reply → Spelled reply octets → Replied reply octets
-replied None octets is form spells = absurd cc
-replied (Some m) octets is form spells = (m, refl, form, spells)
+pub replied : (reply : Option MessageValue) (octets : List ℕ) → is_some reply ≡ true → AreWritten reply octets → Replied reply octets
+replied None octets is w = absurd cc
+replied (Some m) octets is w = (m, refl, w.0, w.1)
 
 pub is_silent : (reply : Option MessageValue) → is_some reply ≡ false → takes reply ≡ takes None
 is_silent None is = refl

@@ -17,13 +17,13 @@ use Rattle.nbt_world.proofs.Keeping.{addr_there}
 -- what a state holds at a moment, it holds until later
 held_in : (now : ℕ) (s : State) (kind : Kind) → held_at now s ≡ Some kind → (end : ℕ) × HoldsIn s kind end × (now < end)
 held_in now Idle kind e = absurd (none-some kind e)
-held_in now (Asking k ttl id first last tries due) kind e = absurd (none-some kind e)
+held_in now (Asking k ttl last p) kind e = absurd (none-some kind e)
 held_in now (Held k ttl until renew last pending) kind e = go (ltb now until) refl e
   where
     go : (t : Bool) → ltb now until ≡ t → cond t (Some k) None ≡ Some kind → (end : ℕ) × HoldsIn (Held k ttl until renew last pending) kind end × (now < end)
     go true p e = (until, (same_Some k kind e, refl), ltb-true now until p)
     go false p e = absurd (none-some kind e)
-held_in now (Releasing k id last tries due) kind e = absurd (none-some kind e)
+held_in now (Releasing k last p) kind e = absurd (none-some kind e)
 held_in now (Resting last) kind e = absurd (none-some kind e)
 
 held_claim : (now : ℕ) (node : Option NodeValue) (name : NameValue) (kind : Kind) → held_by node name now ≡ Some kind → (end : ℕ) × Holds (known node name) kind end × (now < end)

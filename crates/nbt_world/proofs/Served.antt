@@ -19,7 +19,7 @@ use Rattle.nbt_world.specs.declared.clocks.Clocks.{Clocks}
 use Rattle.nbt_world.specs.declared.network.Datagram.{Datagram}
 use Rattle.nbt_world.specs.Drift.{reading}
 use Rattle.nbt_world.specs.World.{WorldValue, addr_of, node_of, with_server}
-use Rattle.nbt_world.specs.Step.{ServerTakes, ServerForgets}
+use Rattle.nbt_server.specs.Calls.{ServerTakes, ServerForgets}
 use Rattle.nbt_world.specs.Kept.{IsRequest, AsksAs, Replied, known, Wants, Claims, has, may_get, IsLeased, Backs, ClaimsIn, IsCoveredIn, ClaimsKept, IsKept}
 use Rattle.nbt_world.proofs.Claiming.{claims_want}
 use Rattle.nbt_world.proofs.Drifting.{hold_over}
@@ -44,7 +44,7 @@ pub record Took (w : WorldValue) (server new : ServerValue) (from to : Addr) (oc
   pub config_is : server.table.config ≡ w.config
   pub sound : IsSound server.table.config (reading w.now 0) (leases_at (reading w.now 0) server.table.rows)
   pub origin : Origin w from to octets
-  pub takes : ServerTakes (reading w.now 0) server from.ip octets reply new
+  pub takes : ServerTakes server (reading w.now 0) from.ip octets reply new
   pub grows : Grows w.sent sent
   pub more : (a : Addr) (q : NameValue) (moment : Clocks) (message : MessageValue) → Replied sent w.ends.server_addr a q moment message
       → Replied w.sent w.ends.server_addr a q moment message ⊎ ((moment ≡ w.now) × (from ≡ a) × (reply ≡ Some message))
@@ -164,7 +164,7 @@ served_claims laws w server new from to octets reply sent took = record {
         absurd (ne ((took.kept).ends.apart i j a b p s (ap (λ (z : Addr). z.ip) (sym same ∙ other))))
 
 -- memory was refused: the leases are as they were
-pub forgotten_claims : (w : WorldValue) (server new : ServerValue) (from : Addr) (octets : List ℕ) → IsKept w → IsTrue w.kept → w.ends.server ≡ Some server → ServerForgets (reading w.now 0) server from.ip octets new
+pub forgotten_claims : (w : WorldValue) (server new : ServerValue) (from : Addr) (octets : List ℕ) → IsKept w → IsTrue w.kept → w.ends.server ≡ Some server → ServerForgets server (reading w.now 0) from.ip octets new
     → ClaimsKept (record w { ends = with_server w.ends (Some new); sent = w.sent })
 forgotten_claims w server new from octets kept on up forgets =
     server_claims w (Some new) kept on (λ n a q kind end p c lt is. still a q kind (reading is.moment 0 + 1000 * is.seconds) (subst (λ (s : Option ServerValue). Backs (reading w.now 0) s a.ip q kind (reading is.moment 0 + 1000 * is.seconds)) up is.backed))

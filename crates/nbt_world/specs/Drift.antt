@@ -1,6 +1,7 @@
 -- Clocks that drift: the true one and what each end reads, how they go on, and what a world keeps to tell whether the
 -- readings kept the drift bound so far (our profile).
-use Rattle.std.specs.Prelude.{ℕ, ◌+◌, ◌-◌, ◌*◌, ◌^◌, ◌≤◌, min, List, slice_index_or}
+use Rattle.std.specs.Prelude.{ℕ, ◌+◌, ◌-◌, ◌*◌, ◌≤◌, min, List, slice_index_or}
+use Rattle.nbt_lease.specs.Config.{last_moment}
 use Rattle.nbt_lease.specs.Drift.{KeepsDriftBound}
 use Rattle.nbt_world.specs.declared.clocks.Clocks.{Clocks}
 use Rattle.nbt_world.specs.declared.clocks.Least.{Least}
@@ -11,7 +12,7 @@ reading clocks number = slice_index_or clocks.readings number 0
 
 -- a clock goes on, at most to its last moment
 abbrev pub later : (moment ms : ℕ) → ℕ
-later moment ms = min (moment + ms) (2 ^ 60)
+later moment ms = min (moment + ms) last_moment
 
 -- The end's reading kept the drift bound between these two moments.
 abbrev pub IsBounded : (early late : Clocks) → (number : ℕ) → Type 0
@@ -20,10 +21,10 @@ IsBounded early late number = KeepsDriftBound early.clock (reading early number)
 -- With D the true clock and C the reading: 1000 * C - 1001 * D, and 999 * D - 1000 * C, each more by what makes it a
 -- natural number. Neither grows by more than 1,000 while the bound is kept.
 abbrev pub ahead : Clocks → (number : ℕ) → ℕ
-ahead clocks number = 1000 * reading clocks number + 1001 * (2 ^ 60 - clocks.clock)
+ahead clocks number = 1000 * reading clocks number + 1001 * (last_moment - clocks.clock)
 
 abbrev pub behind : Clocks → (number : ℕ) → ℕ
-behind clocks number = 999 * clocks.clock + 1000 * (2 ^ 60 - reading clocks number)
+behind clocks number = 999 * clocks.clock + 1000 * (last_moment - reading clocks number)
 
 -- the least of them so far, of the end of this number
 abbrev pub least_of : List Least → (number : ℕ) → Least

@@ -1,7 +1,7 @@
 -- The facts that every world keeps, and that carry the proof of its safety. Those of one node and one name speak of the
 -- true clock, of what the node reads, of what the network has about them, and of what the node knows of the name, and of
 -- nothing else. They are kept while the drift bound is.
-use Rattle.std.specs.Prelude.{◌≡◌, ◌≢◌, ℕ, ◌+◌, ◌*◌, ◌^◌, ◌<◌, ◌≤◌, ◌⊎◌, IsTrue, List, length, Option, Some, None, Contains}
+use Rattle.std.specs.Prelude.{◌≡◌, ◌≢◌, ℕ, ◌+◌, ◌*◌, ◌<◌, ◌≤◌, ◌⊎◌, IsTrue, List, length, Option, Some, None, Contains}
 use Rattle.nbt_name.specs.declared.addr.Addr.{Addr}
 use Rattle.nbt_name.specs.declared.addr.Kind.{Kind}
 use Rattle.nbt_name.specs.declared.addr.Kind.TheVariants.{Group}
@@ -11,7 +11,7 @@ use Rattle.nbt_packet.specs.Message.{MessageValue, registration, overwrite, refr
 use Rattle.nbt_packet.specs.Text.{text}
 use Rattle.nbt_packet.specs.Spelling.{Spells}
 use Rattle.nbt_lease.specs.declared.lease.Lease.{Lease}
-use Rattle.nbt_lease.specs.Config.{granted}
+use Rattle.nbt_lease.specs.Config.{granted, last_moment}
 use Rattle.nbt_lease.specs.Drift.{hold}
 use Rattle.nbt_lease.specs.Lease.{leases_at, IsSound}
 use Rattle.nbt_server.specs.Serving.{ServerValue, speaks_from}
@@ -23,7 +23,7 @@ use Rattle.nbt_world.specs.declared.clocks.Least.{Least}
 use Rattle.nbt_world.specs.declared.ends.Ends.{Ends}
 use Rattle.nbt_world.specs.declared.network.Datagram.{Datagram}
 use Rattle.nbt_world.specs.Drift.{reading, ahead, behind, least_of, IsAllowed}
-use Rattle.nbt_world.specs.World.{WorldValue, IsDeliverable, addr_of, IsEnd, node_of}
+use Rattle.nbt_world.specs.World.{WorldValue, nodes_most, IsDeliverable, addr_of, IsEnd, node_of}
 
 -- ---- what the network has of one node and one name
 
@@ -79,9 +79,9 @@ known (Some node) name = Some (record { start = node.start; state = state_of nod
 -- the last sending about the name that it knows of, or its start
 abbrev pub last_of : State → (start : ℕ) → ℕ
 last_of Idle start = start
-last_of (Asking kind ttl id first last tries due) start = last
+last_of (Asking kind ttl last p) start = last
 last_of (Held kind ttl until renew last pending) start = last
-last_of (Releasing kind id last tries due) start = last
+last_of (Releasing kind last p) start = last
 last_of (Resting last) start = last
 
 -- while it is down: what it reads now
@@ -91,7 +91,7 @@ bound now (Some k) = last_of k.state k.start
 
 -- the kind as which the node asks for the name or holds it
 abbrev pub WantsIn : State → Kind → Type 0
-WantsIn (Asking k ttl id first last tries due) kind = k ≡ kind
+WantsIn (Asking k ttl last p) kind = k ≡ kind
 WantsIn (Held k ttl until renew last pending) kind = k ≡ kind
 WantsIn _ kind = ⊥
 
@@ -101,7 +101,7 @@ Wants (Some k) kind = WantsIn k.state kind
 
 -- a registration or a refresh is open, of this kind and first sent at this moment
 abbrev pub IsOpenIn : State → Kind → (first : ℕ) → Type 0
-IsOpenIn (Asking k ttl id f last tries due) kind first = (k ≡ kind) × (f ≡ first)
+IsOpenIn (Asking k ttl last p) kind first = (k ≡ kind) × (p.first ≡ first)
 IsOpenIn (Held k ttl until renew last (Some p)) kind first = (k ≡ kind) × (p.first ≡ first)
 IsOpenIn _ kind first = ⊥
 
@@ -175,10 +175,10 @@ pub record RepliesFresh (life number clock now : ℕ) (asked replied : Clocks �
 
 -- ---- what holds of the ends and of the network
 
--- one server and 1 to 8 nodes, no two ends with one 32-bit address
+-- one server and one node at least, no two ends with one 32-bit address
 pub record AreEnds (ends : Ends) : Type 0 where
   pub some : 1 ≤ length ends.nodes.items
-  pub few : length ends.nodes.items ≤ 8
+  pub few : length ends.nodes.items ≤ nodes_most
   pub apart : (i j : ℕ) (a b : Addr) → addr_of ends i ≡ Some a → addr_of ends j ≡ Some b → a.ip ≡ b.ip → i ≡ j
 
 -- a node that is up has the world's addresses and limits, and wasn't called later than it reads now
@@ -204,8 +204,8 @@ pub record IsSeen (least : List Least) (now moment : Clocks) (number : ℕ) : Ty
 -- No clock is past its last moment, the numbers of each end now are no less than its least, and allowed beside them where
 -- the bound is kept.
 pub record AreRead (world : WorldValue) : Type 0 where
-  pub now : world.now.clock ≤ 2 ^ 60
-  pub readings : (number : ℕ) → IsEnd world.ends number → reading world.now number ≤ 2 ^ 60
+  pub now : world.now.clock ≤ last_moment
+  pub readings : (number : ℕ) → IsEnd world.ends number → reading world.now number ≤ last_moment
   pub seen : (number : ℕ) → IsEnd world.ends number → IsSeen world.least world.now world.now number
   pub allowed : IsTrue world.kept → (number : ℕ) → IsEnd world.ends number → IsAllowed (least_of world.least number) world.now number
 

@@ -8,14 +8,14 @@ use Rattle.nbt_packet.specs.Message.{MessageValue}
 use Rattle.nbt_packet.specs.Text.{text}
 use Rattle.nbt_packet.specs.Spelling.{Spells}
 use Rattle.nbt_lease.specs.Config.{ConfigValue}
-use Rattle.nbt_lease.specs.Lease.{leases_at}
-use Rattle.nbt_server.specs.Serving.{ServerValue, ServesOctets, OctetsNeedMemory}
+use Rattle.nbt_server.specs.Serving.{ServerValue}
+use Rattle.nbt_server.specs.Calls.{ServerStarts, ServerTakes, ServerForgets}
 use Rattle.nbt_node.specs.declared.fault.AskFault.{AskFault}
 use Rattle.nbt_node.specs.declared.fault.ReleaseFault.{ReleaseFault}
 use Rattle.nbt_node.specs.declared.fault.LookupFault.{LookupFault}
 use Rattle.nbt_node.specs.declared.lookup.Wanted.TheVariants.{Entries, Names}
 use Rattle.nbt_node.specs.Numbers.{ask_fault_number, release_fault_number, lookup_fault_number}
-use Rattle.nbt_node.specs.Node.{NodeValue}
+use Rattle.nbt_node.specs.Node.{NodeValue, slots_most}
 use Rattle.nbt_node.specs.Moves.{ask, give_back, Told}
 use Rattle.nbt_node.specs.Calls.{started, ask_refusal, release_refusal, resolve_refusal, status_refusal, Sends, Opens, Polls}
 use Rattle.nbt_node.specs.Datagrams.{Handles}
@@ -85,38 +85,16 @@ abbrev pub IsUp : Ends → ℕ → Type 0
 IsUp ends zero = (server : ServerValue) × (ends.server ≡ Some server)
 IsUp ends (suc index) = (node : NodeValue) × (node_of ends (suc index) ≡ Some node)
 
--- a server that starts: it has no lease
-pub record IsNew (config : ConfigValue) (now : ℕ) (server : ServerValue) : Type 0 where
-  pub start : server.start ≡ now
-  pub last : server.last ≡ now
-  pub config_is : server.table.config ≡ config
-  pub empty : server.table.rows ≡ []
-
 -- an end that was down starts, and knows nothing
 pub data Starts (config : ConfigValue) (now : ℕ) (old : Ends) : ℕ → Ends → Type 0 where
-  server_starts : (server : ServerValue) → old.server ≡ None → IsNew config now server → Starts config now old 0 (with_server old (Some server))
+  server_starts : (server : ServerValue) → old.server ≡ None → ServerStarts config now server → Starts config now old 0 (with_server old (Some server))
   node_starts : (index : ℕ) (addr : Addr) → addr_of old (suc index) ≡ Some addr → node_of old (suc index) ≡ None
-      → Starts config now old (suc index) (with_node old (suc index) (Some (started 14 addr old.server_addr config now)))
+      → Starts config now old (suc index) (with_node old (suc index) (Some (started slots_most addr old.server_addr config now)))
 
 -- an end that was up is down, and nothing of it is kept
 pub data Crashes (old : Ends) : ℕ → Ends → Type 0 where
   server_crashes : (server : ServerValue) → old.server ≡ Some server → Crashes old 0 (with_server old None)
   node_crashes : (index : ℕ) (node : NodeValue) → node_of old (suc index) ≡ Some node → Crashes old (suc index) (with_node old (suc index) None)
-
--- A server takes a datagram: which leases live afterwards is all that is said of its table.
-pub record ServerTakes (now : ℕ) (old : ServerValue) (ip : ℕ) (octets : List ℕ) (reply : Option MessageValue) (new : ServerValue) : Type 0 where
-  pub serves : ServesOctets old now ip octets reply (leases_at now new.table.rows)
-  pub start : new.start ≡ old.start
-  pub config : new.table.config ≡ old.table.config
-  pub last : new.last ≡ now
-
--- memory was refused to it: the leases are as before
-pub record ServerForgets (now : ℕ) (old : ServerValue) (ip : ℕ) (octets : List ℕ) (new : ServerValue) : Type 0 where
-  pub needs : OctetsNeedMemory old now ip octets
-  pub leases : leases_at now new.table.rows ≡ leases_at now old.table.rows
-  pub start : new.start ≡ old.start
-  pub config : new.table.config ≡ old.table.config
-  pub last : new.last ≡ now
 
 -- what becomes of a datagram at an end: the end is down, has no memory for it, or takes it, with a reply or none
 pub data TakenValue : Type 0 where
@@ -125,8 +103,8 @@ pub data TakenValue : Type 0 where
   takes : Option MessageValue → TakenValue
 
 pub data ServerDoes (now : ℕ) (old : ServerValue) (ip : ℕ) (octets : List ℕ) : TakenValue → ServerValue → Type 0 where
-  server_takes : (reply : Option MessageValue) (new : ServerValue) → ServerTakes now old ip octets reply new → ServerDoes now old ip octets (takes reply) new
-  server_forgets : (new : ServerValue) → ServerForgets now old ip octets new → ServerDoes now old ip octets is_lost new
+  server_takes : (reply : Option MessageValue) (new : ServerValue) → ServerTakes old now ip octets reply new → ServerDoes now old ip octets (takes reply) new
+  server_forgets : (new : ServerValue) → ServerForgets old now ip octets new → ServerDoes now old ip octets is_lost new
 
 pub record NodeHears (now : ℕ) (old : NodeValue) (from : Addr) (octets : List ℕ) (reply : Option MessageValue) (new : NodeValue) : Type 0 where
   pub told : Told

@@ -82,10 +82,14 @@ StandsIn ip addrs = (index : ℕ) × (addr : Addr) × (slice_get addrs index ≡
 abbrev pub AreApart : List Addr → Type 0
 AreApart addrs = (i j : ℕ) (a b : Addr) → slice_get addrs i ≡ Some a → slice_get addrs j ≡ Some b → a.ip ≡ b.ip → i ≡ j
 
--- two to nine addresses, of which no two are equal in their 32 bits: the server's, and then the nodes'
+-- the most nodes of a world
+abbrev pub nodes_most : ℕ
+nodes_most = 8
+
+-- The server's address and those of one node at least, no two of which are equal in their 32 bits.
 pub record AreAddrs (addrs : List Addr) : Type 0 where
   pub some : 2 ≤ length addrs
-  pub few : length addrs ≤ 9
+  pub few : length addrs ≤ nodes_most + 1
   pub apart : AreApart addrs
 
 -- ends at these addresses, which are all down

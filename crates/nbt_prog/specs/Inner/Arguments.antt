@@ -1,6 +1,7 @@
 -- What the command line takes as the arguments of a command, and which failure tells what is wrong with them.
-use Rattle.std.specs.Prelude.{◌≡◌, ◌≤◌, ◌^◌, ◌⊎◌, ℕ, List, Ok}
+use Rattle.std.specs.Prelude.{◌≡◌, ◌≤◌, ◌⊎◌, ℕ, List, Ok}
 use Rattle.hex.specs.Hex.{decode_of}
+use Rattle.nbt_lease.specs.Config.{last_moment}
 use Rattle.nbt_text.specs.Address.{SpellsAddress}
 use Rattle.nbt_text.specs.Number.{SpellsNumber}
 use Rattle.nbt_usage.specs.declared.words.AnswerWords.{AnswerWords}
@@ -10,9 +11,9 @@ use Rattle.nbt_prog.specs.declared.commands.answer.AnswerArguments.{AnswerArgume
 use Rattle.nbt_prog.specs.declared.failure.Failure.{Failure}
 use Rattle.nbt_prog.specs.declared.failure.Failure.TheVariants.{Unreadable, Memory}
 
--- The text is a number, in digits alone, of at most 2^60 milliseconds.
+-- The text is a number, in digits alone, of milliseconds up to the last moment.
 abbrev pub SpellsTime : List ℕ → ℕ → Type 0
-SpellsTime text at = SpellsNumber text at × (at ≤ 2 ^ 60)
+SpellsTime text at = SpellsNumber text at × (at ≤ last_moment)
 
 abbrev pub IsTime : List ℕ → Type 0
 IsTime text = (at : ℕ) × SpellsTime text at

@@ -1,7 +1,7 @@
 -- What the commands that open sockets take as their arguments, and which failure tells what is wrong with them.
-use Rattle.std.specs.Prelude.{◌≡◌, ◌≢◌, ◌≤◌, ◌↔◌, ◌⊎◌, ℕ, List, Option, Some, None, slice_index, codes}
+use Rattle.std.specs.Prelude.{◌≡◌, ◌≤◌, ◌↔◌, ◌⊎◌, ℕ, List, Option, Some, None, codes}
 use Rattle.std.specs.Borrow.{Bor}
-use Rattle.nbt_name.specs.Wire.{NameValue}
+use Rattle.nbt_name.specs.Wire.{NameValue, IsStar}
 use Rattle.nbt_name.specs.declared.addr.Kind.TheVariants.{Group}
 use Rattle.nbt_lease.specs.Config.{ConfigValue}
 use Rattle.nbt_text.specs.Address.{SpellsAddress}
@@ -28,7 +28,7 @@ IsWithin limited text = (number : ℕ) × SpellsWithin limited text number
 
 -- The text spells a name that can be held: it doesn't begin with `*`.
 abbrev pub SpellsHeld : List ℕ → NameValue → Type 0
-SpellsHeld text name = SpellsName text name × (slice_index name.octets 0 ≢ 0x2A)
+SpellsHeld text name = SpellsName text name × (¬ IsStar name)
 
 abbrev pub IsHeld : List ℕ → Type 0
 IsHeld text = (name : NameValue) × SpellsHeld text name

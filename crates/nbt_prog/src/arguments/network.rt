@@ -1,9 +1,10 @@
 //! What the words ask of the commands that open sockets.
 
-ghost use Rattle.std.specs.Prelude.{◌≡◌, ◌≢◌, ◌≤◌, ◌↔◌, IfOk, IfErr, IsSome, IfSome, slice_index, codes};
+ghost use Rattle.std.specs.Prelude.{◌≡◌, ◌≤◌, ◌↔◌, IfOk, IfErr, IsSome, IfSome, codes};
 ghost use Rattle.nbt_usage.specs.Limits.{least_of, most_of};
 ghost use Rattle.nbt_prog.specs.Inner.Arguments.{IsPort, IsUsageFailure, SpellsPort};
 ghost use Rattle.nbt_prog.specs.Inner.Network.{ServeGiven, ServeFails, NodeGiven, NodeFails, IsConfigOf, AreLimits, IsWithin, SpellsWithin, SpellsTurns, AreTurns, IsHeld, SpellsHeld};
+ghost use Rattle.nbt_name.specs.Wire.{IsStar};
 ghost use Rattle.nbt_name.specs.declared.addr.Kind.TheVariants.{Group};
 
 use crate::failure::Failure;
@@ -152,7 +153,7 @@ fn name_to_hold(text: &str) -> Option<Name>
 
 /// The name, where it doesn't begin with `*`.
 fn without_star(name: Name) -> Option<Name>
-    ensures found { IsSome result ↔ (slice_index name.octets 0 ≢ 0x2A) }
+    ensures found { IsSome result ↔ (¬ IsStar name) }
     ensures value { IfSome result (λ n. n ≡ name) }
 {
     if name.is_star() {

@@ -4,8 +4,8 @@ ghost use Rattle.std.specs.Prelude.{◌≡◌, ◌++◌, ◌∷◌, [], Option, 
 ghost use Rattle.std.specs.String.{string_bytes};
 ghost use Rattle.hex.specs.Hex.{encode_lower};
 ghost use Rattle.nbt_packet.specs.Message.{MessageValue};
-ghost use Rattle.nbt_lease.specs.Lease.{Leases};
-ghost use Rattle.nbt_server.specs.Serving.{ServesOctets};
+ghost use Rattle.nbt_server.specs.Serving.{ServerValue};
+ghost use Rattle.nbt_server.specs.Calls.{ServerTakes};
 ghost use Rattle.nbt_prog.specs.Inner.Answer.{new_server as fresh, answer_text};
 
 use crate::failure::Failure;
@@ -39,8 +39,8 @@ pub struct AnswerArguments {
 
 /// The reply of a new name server to the packet, in hexadecimal, or `none`, on one line.
 pub fn run(alloc: Global, arguments: &AnswerArguments) -> Result<Printed, Failure>
-    ensures reply { IfOk result (λ printed. (reply : Option MessageValue) × (after : Leases)
-        × ServesOctets fresh arguments.now.at arguments.now.from.ip arguments.now.octets.items reply after
+    ensures reply { IfOk result (λ printed. (reply : Option MessageValue) × (after : ServerValue)
+        × ServerTakes fresh arguments.now.at arguments.now.from.ip arguments.now.octets.items reply after
         × (string_bytes printed.text ≡ answer_text reply) × (printed.ending ≡ Ending.Done)) }
     ensures failure { IfErr result (λ failure. failure ≡ Failure.Memory) }
 {

@@ -23,36 +23,30 @@ pub returns-in_err-send-in-Ok-true-clause-err : goal.returns-in_err-send-in-Ok-t
 returns-in_err-send-in-Ok-true-clause-err g c =
     let p = err_from_is_err_and c.from_residual-in_err-send-in-Ok-true.result c.from_residual-in_err-send-in-Ok-true.ensures.1 in
     let e = c.in-Ok-true.ensures in
-    let b = e.clock_back in
-    let on : c.args.server.now.last ≤ c.now-now.result = grind (arith, b) in
     let served = subst (Served c.args.server.now c.on_datagram.new.self c.now-now.result c.in-Some.from c.as_slice.result.now c.on_datagram.new.out.items) c.in-Ok-true.field-0-test e.served in
     rw p.1 (turn_unsent g.P.Port.does g.C.Clock.tells c.args.port.now c.receive.new.self c.send.new.self c.args.clock.now c.now-now.new.self c.args.server.now c.on_datagram.new.self
     c.in_ok-from.field-0 c.in-Some.from c.receive.new.octets.items c.on_datagram.new.out.items c.now-now.result
-    c.in-Some.is c.in_ok-from.ensures.does c.now-now.ensures (record { goes_on = on; start = e.start; last = e.last on; config = e.config })
+    c.in-Some.is c.in_ok-from.ensures.does c.now-now.ensures
     (subst (λ octets. Served c.args.server.now c.on_datagram.new.self c.now-now.result c.in-Some.from octets c.on_datagram.new.out.items true) c.as_slice.ensures.value served)
     (subst (λ out. g.P.Port.does c.receive.new.self (send_failed c.in-Some.from out) c.send.new.self) c.as_slice-in-Ok-true.ensures.value c.in_err-send-in-Ok-true.ensures.does))
 
 pub returns-in_ok-send-in-Ok-true-clause-ok : goal.returns-in_ok-send-in-Ok-true-clause-ok
 returns-in_ok-send-in-Ok-true-clause-ok g c =
     let e = c.in-Ok-true.ensures in
-    let b = e.clock_back in
-    let on : c.args.server.now.last ≤ c.now-now.result = grind (arith, b) in
     let served = subst (Served c.args.server.now c.on_datagram.new.self c.now-now.result c.in-Some.from c.as_slice.result.now c.on_datagram.new.out.items) c.in-Ok-true.field-0-test e.served in
     turn_replied g.P.Port.does g.C.Clock.tells c.args.port.now c.receive.new.self c.send.new.self c.args.clock.now c.now-now.new.self c.args.server.now c.on_datagram.new.self
     c.none.result c.in_ok-from.field-0 c.in-Some.from c.receive.new.octets.items c.on_datagram.new.out.items c.now-now.result
-    c.none.ensures c.in-Some.is c.in_ok-from.ensures.does c.now-now.ensures (record { goes_on = on; start = e.start; last = e.last on; config = e.config })
+    c.none.ensures c.in-Some.is c.in_ok-from.ensures.does c.now-now.ensures
     (subst (λ octets. Served c.args.server.now c.on_datagram.new.self c.now-now.result c.in-Some.from octets c.on_datagram.new.out.items true) c.as_slice.ensures.value served)
     (subst (λ out. g.P.Port.does c.receive.new.self (sent c.in-Some.from out) c.send.new.self) c.as_slice-in-Ok-true.ensures.value c.in_ok-send-in-Ok-true.ensures.does)
 
 pub returns-in-Ok-false-clause-ok : goal.returns-in-Ok-false-clause-ok
 returns-in-Ok-false-clause-ok g c =
     let e = c.in-Ok-false.ensures in
-    let b = e.clock_back in
-    let on : c.args.server.now.last ≤ c.now-now.result = grind (arith, b) in
     let served = subst (Served c.args.server.now c.on_datagram.new.self c.now-now.result c.in-Some.from c.as_slice.result.now c.on_datagram.new.out.items) c.in-Ok-false.field-0-test e.served in
     turn_silent g.P.Port.does g.C.Clock.tells c.args.port.now c.receive.new.self c.args.clock.now c.now-now.new.self c.args.server.now c.on_datagram.new.self
     c.none.result c.in_ok-from.field-0 c.in-Some.from c.receive.new.octets.items c.on_datagram.new.out.items c.now-now.result
-    c.none.ensures c.in-Some.is c.in_ok-from.ensures.does c.now-now.ensures (record { goes_on = on; start = e.start; last = e.last on; config = e.config })
+    c.none.ensures c.in-Some.is c.in_ok-from.ensures.does c.now-now.ensures
     (subst (λ octets. Served c.args.server.now c.on_datagram.new.self c.now-now.result c.in-Some.from octets c.on_datagram.new.out.items false) c.as_slice.ensures.value served)
 
 pub returns-in-Err-clause-ok : goal.returns-in-Err-clause-ok
@@ -61,4 +55,4 @@ returns-in-Err-clause-ok g c =
     c.none.result c.in_ok-from.field-0 c.in-Some.from c.receive.new.octets.items c.now-now.result
     c.none.ensures c.in-Some.is c.in_ok-from.ensures.does c.now-now.ensures
     (refused c.args.server.now c.on_datagram.new.self c.now-now.result c.in-Some.from c.as_slice.result.now c.receive.new.octets.items c.in-Err.field-0 c.as_slice.ensures.value
-    c.in-Err.ensures.clock_back c.in-Err.ensures.unchanged c.in-Err.ensures.memory c.in-Err.ensures.last c.in-Err.ensures.start c.in-Err.ensures.config)
+    c.in-Err.ensures.clock_back c.in-Err.ensures.unchanged c.in-Err.ensures.memory)

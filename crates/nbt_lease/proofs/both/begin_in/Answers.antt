@@ -2,7 +2,7 @@ use Rattle.std.proofs.Common.{Some, List, sym, ap, ◌∙◌}
 use Rattle.std.specs.Map.{lookup}
 use Rattle.std.proofs.lemmas.Map.Steps.{set_value_same}
 use Rattle.nbt_lease.specs.declared.lease.Lease.{Lease}
-use Rattle.nbt_lease.specs.Lease.{is_name}
+use Rattle.nbt_name.specs.Wire.{same_name as is_name}
 use Rattle.nbt_lease.specs.Index.{Entries}
 use Rattle.nbt_lease.proofs.Agreeing.{on_err}
 use Rattle.nbt_lease.proofs.both.begin_in.Goals as goal

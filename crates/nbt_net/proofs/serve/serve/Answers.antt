@@ -8,7 +8,7 @@ returns-in-Some g c = record {
   first = c.start-server.result;
   last = c.serve_turns.new.server;
   clock_told = c.now-start.ensures;
-  is_new = record { start = c.start-server.ensures.start.0; last = c.start-server.ensures.start.1; config_is = c.start-server.ensures.config; empty = c.start-server.ensures.empty };
+  starts = c.start-server.ensures;
   serves = rw c.in-Some.is (
     c.in_ok-counts-in-Some.counts,
     c.in_ok-counts-in-Some.ensures.ok,
@@ -23,6 +23,6 @@ returns g c = record {
   first = c.start-server.result;
   last = c.serve_on.new.server;
   clock_told = c.now-start.ensures;
-  is_new = record { start = c.start-server.ensures.start.0; last = c.start-server.ensures.start.1; config_is = c.start-server.ensures.config; empty = c.start-server.ensures.empty };
+  starts = c.start-server.ensures;
   serves = rw c.in-None.is c.in_ok-serve_on-in-None.ensures.ok;
 }

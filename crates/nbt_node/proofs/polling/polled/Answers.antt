@@ -5,8 +5,8 @@ use Rattle.nbt_node.proofs.polling.polled.Goals as goal
 pub returns-else-not-is_next-clause-sending : goal.returns-else-not-is_next-clause-sending
 returns-else-not-is_next-clause-sending c = record {
   moves = λ node own_is id_is life_is.
-      rw (c.in-Asking.is, c.next_due.ensures, c.claim.ensures.value, ← own_is, ← id_is)
-      (asks_again c.in-Asking.kind c.in-Asking.ttl c.in-Asking.asked c.in-Asking.first c.in-Asking.last c.in-Asking.tries c.in-Asking.due (sym c.if-not-is_next.ensures));
+      rw (c.in-Asking.is, c.again.ensures, c.claim.ensures.value, ← own_is, ← id_is)
+      (asks_again c.in-Asking.kind c.in-Asking.ttl _ c.in-Asking.pending (sym c.if-not-is_next.ensures));
   name_is = c.copy.ensures;
   numbers = c.claim.ensures.whole;
   fits = tt;
@@ -16,8 +16,8 @@ returns-else-not-is_next-clause-sending c = record {
 pub returns-else-not-is_next-2-clause-sending : goal.returns-else-not-is_next-2-clause-sending
 returns-else-not-is_next-2-clause-sending c = record {
   moves = λ node own_is id_is life_is.
-      rw (c.in-Releasing.is, c.next_due-in-Releasing.ensures, c.release.ensures.value, ← own_is, ← id_is)
-      (gives_back_again c.in-Releasing.kind c.in-Releasing.asked c.in-Releasing.last c.in-Releasing.tries c.in-Releasing.due (sym c.if-not-is_next-2.ensures));
+      rw (c.in-Releasing.is, c.again-in-Releasing.ensures, c.release.ensures.value, ← own_is, ← id_is)
+      (gives_back_again c.in-Releasing.kind _ c.in-Releasing.pending (sym c.if-not-is_next-2.ensures));
   name_is = c.copy-in-Releasing.ensures;
   numbers = c.release.ensures.whole;
   fits = rw c.release.ensures.value tt;

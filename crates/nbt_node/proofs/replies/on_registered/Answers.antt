@@ -5,18 +5,18 @@ use Rattle.nbt_node.proofs.replies.on_registered.Goals as goal
 
 pub returns-then-asked-id : goal.returns-then-asked-id
 returns-then-asked-id c = λ node now name r id_is seconds_is.
-    asking_demanded node now name c.args.state.now _ _ c.in-Asking.kind c.in-Asking.ttl c.in-Asking.asked c.in-Asking.first c.in-Asking.last c.in-Asking.tries c.in-Asking.due c.args.rcode r c.in-Asking.is
+    asking_demanded node now name c.args.state.now _ _ c.in-Asking.kind c.in-Asking.ttl c.in-Asking.last c.args.rcode c.in-Asking.asked r c.in-Asking.is
     (λ e. c.if-asked-id.true (sym e ∙ id_is)) c.demanded.ensures.lost c.demanded.ensures.unmoved
 
 pub returns-then-rcode-ne0 : goal.returns-then-rcode-ne0
 returns-then-rcode-ne0 c = λ node now name r id_is seconds_is.
     rw (c.rests.ensures.state, c.rests.ensures.told)
-    (asking_refused node now name c.args.state.now c.in-Asking.kind c.in-Asking.ttl c.in-Asking.asked c.in-Asking.first c.in-Asking.last c.in-Asking.tries c.in-Asking.due c.args.rcode r c.in-Asking.is
+    (asking_refused node now name c.args.state.now c.in-Asking.kind c.in-Asking.ttl c.in-Asking.last c.args.rcode c.in-Asking.asked r c.in-Asking.is
     (id_is ∙ sym c.if-asked-id.false) c.if-rcode-ne0.true)
 
 pub returns-else-rcode-ne0 : goal.returns-else-rcode-ne0
 returns-else-rcode-ne0 c = λ node now name r id_is seconds_is.
-    asking_granted node now name c.args.state.now _ c.in-Asking.kind c.in-Asking.ttl c.in-Asking.asked c.in-Asking.first c.in-Asking.last c.in-Asking.tries c.in-Asking.due c.args.rcode c.args.seconds r
+    asking_granted node now name c.args.state.now _ c.in-Asking.kind c.in-Asking.ttl c.in-Asking.last c.args.rcode c.args.seconds c.in-Asking.asked r
     c.in-Asking.is (id_is ∙ sym c.if-asked-id.false) c.if-rcode-ne0.false seconds_is c.hold.ensures
 
 pub returns-in-None : goal.returns-in-None

@@ -7,11 +7,11 @@ use Rattle.nbt_node.proofs.replies.on_released.Goals as goal
 pub returns-then-given_back-id : goal.returns-then-given_back-id
 returns-then-given_back-id c = λ node now name n k a.
     stays node now name c.args.state.now c.unmoved.result.state (released c.args.id c.args.rcode n k a) _ c.unmoved.ensures.state c.unmoved.ensures.told
-    (rw c.in-Releasing.is (differs c.args.id c.in-Releasing.given_back c.if-given_back-id.true))
+    (rw c.in-Releasing.is (differs c.args.id c.in-Releasing.given_back.id c.if-given_back-id.true))
 
 pub returns-else-given_back-id : goal.returns-else-given_back-id
 returns-else-given_back-id c = λ node now name n k a.
-    rw (c.rests.ensures.state, c.rests.ensures.told, c.in-Releasing.is, c.if-given_back-id.false) (freed c.in-Releasing.kind c.args.id c.in-Releasing.last c.in-Releasing.tries c.in-Releasing.due c.args.rcode n k a)
+    rw (c.rests.ensures.state, c.rests.ensures.told, c.in-Releasing.is, ← c.if-given_back-id.false) (freed c.in-Releasing.kind c.in-Releasing.last c.args.rcode c.in-Releasing.given_back n k a)
 
 pub returns-in-Idle : goal.returns-in-Idle
 returns-in-Idle c = λ node now name n k a.

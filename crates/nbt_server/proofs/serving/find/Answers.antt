@@ -12,8 +12,8 @@ returns-in_default-clause-served c =
     let after = leases_at c.args.now c.sweep.new.self.rows in (
       not_found c.args.id 3 (Some c.args.name),
       λ ip. finds_none_after c.args.table.now c.args.now ip c.args.id c.args.name after c.sweep.ensures.leases (subst (IsLeastEnd (after c.args.name)) c.in_default.is c.list-listed.ensures.end),
-      c.put.ensures.form,
-      c.put.ensures.spells,
+      c.write.ensures.0,
+      c.write.ensures.1,
     )
 
 pub seconds_left-requires : goal.seconds_left-requires
@@ -24,14 +24,14 @@ seconds_left-requires c =
     let longest = c.requires.limits.longest in
     omega (arith, ap (λ (config : ConfigValue). config.longest) c.sweep.ensures.config)
 
-pub put-requires-2-clause-fits : goal.put-requires-2-clause-fits
-put-requires-2-clause-fits c =
+pub write-requires-2-clause-fits : goal.write-requires-2-clause-fits
+write-requires-2-clause-fits c =
     let leases = leases_at c.args.now c.sweep.new.self.rows c.args.name in
     rw (c.as_slice.ensures.value, c.list-listed.ensures.entries)
     (entries_fit (entries_most c.args.name) leases c.in-Some.end c.list-listed.ensures.room c.list-listed.ensures.sound.most (subst (IsLeastEnd leases) c.in-Some.is c.list-listed.ensures.end))
 
-pub put-requires-2-clause-few : goal.put-requires-2-clause-few
-put-requires-2-clause-few c =
+pub write-requires-2-clause-few : goal.write-requires-2-clause-few
+write-requires-2-clause-few c =
     rw (c.as_slice.ensures.value, c.list-listed.ensures.entries) (entries_short (entries_most c.args.name) (leases_at c.args.now c.sweep.new.self.rows c.args.name))
 
 pub returns-clause-served : goal.returns-clause-served
@@ -40,6 +40,6 @@ returns-clause-served c =
       found c.args.id c.args.name c.seconds_left.result c.as_slice.result.now c.list-listed.result.cut,
       λ ip. rw (c.seconds_left.ensures, c.as_slice.ensures.value, c.list-listed.ensures.entries, c.list-listed.ensures.cut)
           (finds_after c.args.table.now c.args.now ip c.args.id c.in-Some.end c.args.name after c.sweep.ensures.leases (subst (IsLeastEnd (after c.args.name)) c.in-Some.is c.list-listed.ensures.end)),
-      c.put-2.ensures.form,
-      c.put-2.ensures.spells,
+      c.write-2.ensures.0,
+      c.write-2.ensures.1,
     )

@@ -2,10 +2,10 @@ use Rattle.std.proofs.Common.{◌≡◌, ◌≢◌, ◌==◌, ◌++◌, ◌∷�
 use Rattle.std.specs.List.{IsDistinct}
 use Rattle.std.specs.Map.{lookup, keys_of}
 use Rattle.std.proofs.lemmas.Bool.{ne_eqb}
-use Rattle.nbt_name.specs.Wire.{NameValue}
+use Rattle.nbt_name.specs.Wire.{NameValue, same_name as is_name}
 use Rattle.nbt_lease.specs.declared.lease.Lease.{Lease}
 use Rattle.nbt_lease.specs.declared.ends.Due.{Due}
-use Rattle.nbt_lease.specs.Lease.{is_name, at_name}
+use Rattle.nbt_lease.specs.Lease.{at_name}
 use Rattle.nbt_lease.specs.Index.{Entries, members_of, rows_of, due, is_due, in_set, Agrees, IsMember, Renewed}
 use Rattle.nbt_lease.proofs.Changes.{at_same}
 use Rattle.nbt_lease.proofs.Agreeing.{other_end, renews, members_at, on_err, unwritten, named_is}

@@ -1,7 +1,8 @@
 use Rattle.std.proofs.Common.{length, sym, ap, subst, arith}
 use Rattle.std.specs.List.{IsDistinct}
 use Rattle.std.specs.Map.{keys_of}
-use Rattle.nbt_lease.specs.Lease.{is_name, leases_at, IsSound}
+use Rattle.nbt_name.specs.Wire.{same_name as is_name}
+use Rattle.nbt_lease.specs.Lease.{leases_at, IsSound}
 use Rattle.nbt_lease.specs.Index.{Entries, rows_of}
 use Rattle.nbt_lease.proofs.Changes.{none_sound}
 use Rattle.nbt_lease.proofs.Agreeing.{none_distinct}

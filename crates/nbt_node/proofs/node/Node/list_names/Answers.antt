@@ -2,7 +2,7 @@ use Rattle.std.proofs.Common.{◌≡◌, ℕ, List, Some, None, sym, ap, subst, 
 use Rattle.std.specs.List.{flat_map}
 use Rattle.nbt_packet.specs.Message.{status}
 use Rattle.nbt_node.specs.Node.{NodeValue}
-use Rattle.nbt_node.specs.Calls.{AreWritten}
+use Rattle.nbt_packet.specs.Spelling.{AreWritten}
 use Rattle.nbt_node.specs.Datagrams.{listed, names_listed, lists_names, lists_nothing}
 use Rattle.nbt_node.proofs.Moving.{passes}
 use Rattle.nbt_node.proofs.node.Node.list_names.Goals as goal

@@ -1,10 +1,10 @@
 use Rattle.std.proofs.Common.{◌≡◌, Some, refl, ap, subst, ◌∙◌}
 use Rattle.nbt_packet.specs.Message.{MessageValue, message_of}
-use Rattle.nbt_packet.specs.Text.{text}
-use Rattle.nbt_packet.specs.Spelling.{Spells}
+use Rattle.nbt_packet.specs.Spelling.{AreWritten}
 use Rattle.nbt_node.specs.declared.lookup.Lookup.{Lookup}
 use Rattle.nbt_node.specs.Node.{NodeValue}
-use Rattle.nbt_node.specs.Moves.{next_due, id_after}
+use Rattle.nbt_node.specs.Transaction.{next_due}
+use Rattle.nbt_node.specs.Moves.{id_after}
 use Rattle.nbt_node.specs.Calls.{question}
 use Rattle.nbt_node.proofs.Moving.{looks_up}
 use Rattle.nbt_node.proofs.node.Node.look_up.Goals as goal
@@ -18,5 +18,5 @@ returns g c =
     let asked : message_of c.question.result ≡ question opened = c.question.ensures.value ∙ rw (c.copy.ensures, id_is) refl in
     record {
       opens = looks_up old _ _ c.args.now (Some opened) (id_after old.next_id) mid_is (rw (c.copy.ensures, c.next_due.ensures, c.id_after-self-inside.ensures, id_is) refl) c.settle.ensures.apart;
-      written = (c.write.ensures.written ∙ ap text asked, subst (λ (m : MessageValue). Spells c.write.new.out.items m) asked c.write.ensures.spells);
+      written = subst (λ (m : MessageValue). AreWritten (Some m) c.write.new.out.items) asked c.write.ensures;
     }

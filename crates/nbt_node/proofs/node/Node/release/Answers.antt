@@ -12,15 +12,15 @@ use Rattle.nbt_node.proofs.node.Node.release.Goals as goal
 pub returns-clause-ok : goal.returns-clause-ok
 returns-clause-ok g c =
     let old : NodeValue = c.args.self.now in
-    let releasing : State = Releasing c.in-Some.kind c.self.inside.next_id c.args.now 1 c.next_due.result in
+    let releasing : State = Releasing c.in-Some.kind c.args.now c.open.result in
     let sent : MessageValue = message_of c.release-message.result in
     let held : held_kind (state_at old c.args.now c.args.name.now) ≡ Some c.in-Some.kind = ap held_kind (sym c.state_at.ensures) ∙ sym c.in-Some.ensures in
     let id_is : c.self.inside.next_id ≡ old.next_id = ap (λ (n : NodeValue). n.next_id) c.self.view_is in
     let own_is : c.self.inside.addr.ip ≡ old.addr.ip = ap (λ (n : NodeValue). n.addr.ip) c.self.view_is in
     let move : Move old c.args.now c.args.name.now (state_at old c.args.now c.args.name.now) give_back releasing (Some sent) nothing c.id_after.result =
-    rw (c.release-message.ensures.value, c.next_due.ensures, c.id_after.ensures, id_is, own_is) (held_given_back old c.args.now c.args.name.now _ c.in-Some.kind held) in
+    rw (c.release-message.ensures.value, c.open.ensures, c.id_after.ensures, id_is, own_is) (held_given_back old c.args.now c.args.name.now _ c.in-Some.kind held) in
     record {
       message = sent;
       moves = moves_known old c.change.new.self c.args.now c.args.name.now give_back releasing (Some sent) nothing c.id_after.result move c.change.ensures.node c.change.ensures.apart (λ kind ttl e. cc);
-      written = (c.write.ensures.written, c.write.ensures.spells);
+      written = c.write.ensures;
     }

@@ -1,0 +1,35 @@
+-- What a server's calls make of it: it starts, takes a datagram, or has no memory for one (our profile). Which leases live
+-- afterwards is all that is said of its table.
+use Rattle.std.specs.Prelude.{◌≡◌, ℕ, ◌≤◌, List, [], Option, IfSome}
+use Rattle.nbt_packet.specs.Message.{MessageValue}
+use Rattle.nbt_packet.specs.Spelling.{Spells}
+use Rattle.nbt_packet.specs.Text.{text}
+use Rattle.nbt_lease.specs.Config.{ConfigValue}
+use Rattle.nbt_lease.specs.Lease.{leases_at}
+use Rattle.nbt_server.specs.Serving.{ServerValue, ServesOctets, OctetsNeedMemory}
+
+-- a server that starts: it has no lease
+pub record ServerStarts (config : ConfigValue) (now : ℕ) (server : ServerValue) : Type 0 where
+  pub start : server.start ≡ now
+  pub last : server.last ≡ now
+  pub config_is : server.table.config ≡ config
+  pub empty : server.table.rows ≡ []
+
+-- A server takes a datagram from this 32-bit address, at a moment that doesn't go back: with this reply, whose written
+-- form spells it, or with none.
+pub record ServerTakes (old : ServerValue) (now ip : ℕ) (octets : List ℕ) (reply : Option MessageValue) (new : ServerValue) : Type 0 where
+  pub goes_on : old.last ≤ now
+  pub serves : ServesOctets old now ip octets reply (leases_at now new.table.rows)
+  pub spelled : IfSome reply (λ message. Spells (text message) message)
+  pub start : new.start ≡ old.start
+  pub last : new.last ≡ now
+  pub config : new.table.config ≡ old.table.config
+
+-- Memory was refused to it for a datagram that changes the leases: they are as before.
+pub record ServerForgets (old : ServerValue) (now ip : ℕ) (octets : List ℕ) (new : ServerValue) : Type 0 where
+  pub goes_on : old.last ≤ now
+  pub needs : OctetsNeedMemory old now ip octets
+  pub leases : leases_at now new.table.rows ≡ leases_at now old.table.rows
+  pub start : new.start ≡ old.start
+  pub last : new.last ≡ now
+  pub config : new.table.config ≡ old.table.config
