@@ -209,7 +209,9 @@ impl<R: Net> Demo<R> {
         let outcome = self.call(rt, holder)?;
         tell(self.alloc, writer, "call to FRED:", outcome)?;
         let now = self.ends.server.now();
-        let outcome = self.session.send_message(now, &self.ends.first.node, HELLO)?;
+        let outcome = self
+            .session
+            .send_message(now, &self.ends.first.node, HELLO)?;
         tell(self.alloc, writer, "message:", outcome)?;
         let now = self.ends.server.now();
         self.session.hang_up(now, &self.ends.first.node)

@@ -34,12 +34,7 @@ pub struct ListeningEnd<R: Net> {
 
 impl<R: Net> ListeningEnd<R> {
     /// Listens at `addr` for calls to the name, by anybody.
-    pub fn bind(
-        rt: &R,
-        alloc: Global,
-        addr: Addr,
-        called: Name,
-    ) -> io::Result<ListeningEnd<R>> {
+    pub fn bind(rt: &R, alloc: Global, addr: Addr, called: Name) -> io::Result<ListeningEnd<R>> {
         let socket = TcpListener::bind(rt, (Ipv4Addr::from_bits(addr.ip), addr.port))?;
         let mut listener = Listener::new(1);
         let entry = Entry {

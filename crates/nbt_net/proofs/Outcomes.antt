@@ -1,5 +1,5 @@
 -- Turns of an end that is meant to stay up: none, one that goes well, and one that fails.
-use Rattle.std.proofs.Common.{◌≡◌, ℕ, ◌+◌, ◌<◌, [], ◌∷◌, ◌++◌, Some, None, refl, ap, ◌∙◌, length-append}
+use Rattle.std.proofs.Common.{◌≡◌, ℕ, ◌+◌, ◌<◌, [], ◌∷◌, ◌++◌, Some, None, refl, sym, ap, subst, ◌∙◌, length-append}
 use Rattle.nbt_net.specs.Staying.{Standing, GoesOn, goes_well, fails, Goes}
 use Rattle.nbt_net.specs.declared.limits.TheConstants.{MOST_FAILURES}
 use Rattle.nbt_net.proofs.Turning.{chain_on}
@@ -24,3 +24,12 @@ goes_on_failed turns breaks count failed old mid new few before broken = record 
       before.outcomes None before.run (fails new few broken);
   count_is = length-append before.outcomes (None ∷ []) ∙ ap (λ (n : ℕ). n + 1) before.count_is;
 }
+
+-- the same where the row is known by another word
+pub row_over : {S X : Type 0} (turns : S → X → S → Type 0) (breaks : S → S → Type 0) (count failed row : ℕ) (old mid new : S) (x : X)
+    → row ≡ 0 → failed < MOST_FAILURES → Goes turns breaks count failed old mid → turns mid x new → Goes turns breaks (count + 1) row old new
+row_over turns breaks count failed row old mid new x is few before turn = subst (λ (n : ℕ). Goes turns breaks (count + 1) n old new) (sym is) (goes_on_well turns breaks count failed old mid new x few before turn)
+
+pub row_longer : {S X : Type 0} (turns : S → X → S → Type 0) (breaks : S → S → Type 0) (count failed row : ℕ) (old mid new : S)
+    → row ≡ failed + 1 → failed < MOST_FAILURES → Goes turns breaks count failed old mid → breaks mid new → Goes turns breaks (count + 1) row old new
+row_longer turns breaks count failed row old mid new is few before broken = subst (λ (n : ℕ). Goes turns breaks (count + 1) n old new) (sym is) (goes_on_failed turns breaks count failed old mid new few before broken)

@@ -10,7 +10,7 @@ use crate::clock::readable_clock;
 use crate::fault::Fault;
 use crate::limits::FOREVER;
 use crate::port::bound_port;
-use crate::staying::{node_on, tell_cause};
+use crate::staying::{node_on, tell_end_of};
 use nbt_engine::{Clock, MachineClock, Port, Seen, Want, node_turn};
 use nbt_lease::{Config, Moment};
 use nbt_name::Addr;
@@ -55,13 +55,12 @@ pub fn run_node<M: Net + time::Clock, W: Write, E: Write>(
 {
     let mut port = bound_port(machine, arguments.bind, errors)?;
     let mut clock = readable_clock(machine, arguments.bind, errors)?;
-    run_turns(
-        &mut port, &mut clock, arguments, writer, machine, errors,
-    )
+    let run = run_turns(&mut port, &mut clock, arguments, writer, machine, errors);
+    tell_end_of(run, port.cause(), errors);
+    run
 }
 
-/// Runs the node over a port, and prints each event as it comes, and last whether the name is held. Where the port fails for
-/// good, it says why in `errors`.
+/// Runs the node over a port, and prints each event as it comes, and last whether the name is held.
 pub fn run_turns<P: Port, M: time::Clock, W: Write, E: Write>(
     port: &mut P,
     clock: &mut MachineClock<'_, M>,
@@ -77,11 +76,7 @@ pub fn run_turns<P: Port, M: time::Clock, W: Write, E: Write>(
         port.old clock.old (W.contents writer.old) port.new clock.new (W.contents writer.new) }
 {
     let mut node = start_node(clock, arguments);
-    let run = run_for(port, clock, &mut node, arguments, writer, machine, errors);
-    if run == Err(Fault::Device) {
-        tell_cause(port.cause(), errors);
-    }
-    run?;
+    run_for(port, clock, &mut node, arguments, writer, machine, errors)?;
     tell_end(&node, clock.last(), &arguments.want, writer).map_err(|_| Fault::Output)
 }
 

@@ -8,7 +8,7 @@ use crate::clock::readable_clock;
 use crate::fault::Fault;
 use crate::limits::FOREVER;
 use crate::port::bound_port;
-use crate::staying::{serve_on, tell_cause};
+use crate::staying::{serve_on, tell_end_of};
 use nbt_engine::{Clock, Counts, Port, serve_turns};
 use nbt_lease::Config;
 use nbt_name::Addr;
@@ -49,13 +49,14 @@ pub fn run_server<M: Net + time::Clock, W: Write, E: Write>(
 {
     let mut port = bound_port(machine, arguments.bind, errors)?;
     let mut clock = readable_clock(machine, arguments.bind, errors)?;
-    serve(
+    let served = serve(
         alloc, &mut port, &mut clock, arguments, writer, machine, errors,
-    )
+    );
+    tell_end_of(served, port.cause(), errors);
+    served
 }
 
-/// Serves over a port and a clock, and prints what was done; with no end, that it has begun, and then it stays up. Where the port
-/// fails for good, it says why in `errors`.
+/// Serves over a port and a clock, and prints what was done; with no end, that it has begun, and then it stays up.
 pub fn serve<P: Port, C: Clock, W: Write, M: time::Clock, E: Write>(
     alloc: Global,
     port: &mut P,
@@ -74,11 +75,7 @@ pub fn serve<P: Port, C: Clock, W: Write, M: time::Clock, E: Write>(
 {
     let start = clock.now();
     let mut server = Server::start(alloc, arguments.config, start);
-    let served = serve_for(port, clock, &mut server, arguments, writer, machine, errors);
-    if served == Err(Fault::Device) {
-        tell_cause(port.cause(), errors);
-    }
-    served
+    serve_for(port, clock, &mut server, arguments, writer, machine, errors)
 }
 
 /// The server goes through its turns, or stays up, and prints what is to be printed of it.

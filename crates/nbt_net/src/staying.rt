@@ -125,9 +125,9 @@ pub fn node_on<P: Port, C: Clock, W: Write, M: time::Clock, E: Write>(
     Ok(())
 }
 
-/// Says why a port failed for good, where it knows that.
-pub fn tell_cause<E: Write>(cause: Option<Cause>, errors: &mut E) {
-    if let Some(cause) = cause {
+/// Of an end whose port failed for good, says why, where it knows that.
+pub fn tell_end_of<E: Write>(ended: Result<(), Fault>, cause: Option<Cause>, errors: &mut E) {
+    if let (Err(Fault::Device), Some(cause)) = (ended, cause) {
         cause.tell("", errors);
     }
 }

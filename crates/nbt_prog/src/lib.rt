@@ -50,12 +50,7 @@ pub fn command<S: AsStr, R: Read, W: Write>(
     ensures memory { result ≡ 4
         → Appends (W.contents writer.old) (W.contents writer.new) (codes "memory" ++ 10 ∷ []) }
 {
-    conclude_read(
-        alloc,
-        arguments::parse_words(alloc, words),
-        reader,
-        writer,
-    )
+    conclude_read(alloc, arguments::parse_words(alloc, words), reader, writer)
 }
 
 /// Runs the command that `words` name, as [`command_telling`] does, and tells nobody which call of the machine failed.

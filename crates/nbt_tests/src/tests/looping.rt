@@ -246,7 +246,11 @@ fn strangers_and_a_connection_that_fails_change_nothing(rt: HostRuntime) -> Resu
             "{caller:?} {listener:?}"
         );
         assert_eq!(&rt; status, 0, "{caller:?} {listener:?}");
-        assert_eq!(&rt; told.open.as_slice(), OPEN.as_slice(), "{caller:?} {listener:?}");
+        assert_eq!(&rt;
+            told.open.as_slice(),
+            OPEN.as_slice(),
+            "{caller:?} {listener:?}"
+        );
         assert_eq!(&rt;
             street.connections.get(),
             connections,

@@ -336,7 +336,11 @@ where
     assert!(rt; paper.is_line_by_line(), "{about}");
     assert_eq!(rt; machine.readings.get(), row.readings, "{about}");
     assert_eq!(rt; errors.text.as_slice(), row.errors.as_bytes(), "{about}");
-    let sleeps = if row.words.ends_with("--forever") { 99 } else { 0 };
+    let sleeps = if row.words.ends_with("--forever") {
+        99
+    } else {
+        0
+    };
     assert_eq!(rt; machine.sleeps.get(), sleeps, "{about}");
     expect_sent(rt, row, &machine.other)
 }
