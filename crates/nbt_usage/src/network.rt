@@ -148,7 +148,18 @@ fn with_ends<'a>(alloc: Global, command: Command<'a>) -> Result<Command<'a>, All
 
 /// With the name that is asked for, as which kind, and for how long.
 fn with_claim<'a>(alloc: Global, command: Command<'a>) -> Result<Command<'a>, AllocError> {
-    command.arg(name(alloc))?.arg(kind(alloc))?.arg(ttl(alloc))
+    let name = Arg::new(alloc, NAME).value_name("NAME").required(true).help(
+        "The name to be asked for: as text, or 32 hexadecimal digits, and `.` before each label of its scope",
+    );
+    let kind = Arg::new(alloc, KIND)
+        .value_name("KIND")
+        .required(true)
+        .value_parser(ValueParser::Names(&KINDS))
+        .help("Who may hold the name: one machine, or a group");
+    let ttl = Arg::new(alloc, TTL).value_name("TTL").required(true).help(
+        "The seconds to ask for: 0, as long as may be, to 4294967295",
+    );
+    command.arg(name)?.arg(kind)?.arg(ttl)
 }
 
 /// The command that runs a server and two nodes.
@@ -180,26 +191,6 @@ fn longest<'a>(alloc: Global) -> Arg<'a> {
         .value_name("LONGEST")
         .required(true)
         .help("The longest lease, in seconds: from 1 to 1000000")
-}
-
-fn name<'a>(alloc: Global) -> Arg<'a> {
-    Arg::new(alloc, NAME).value_name("NAME").required(true).help(
-        "The name to be asked for: as text, or 32 hexadecimal digits, and `.` before each label of its scope",
-    )
-}
-
-fn kind<'a>(alloc: Global) -> Arg<'a> {
-    Arg::new(alloc, KIND)
-        .value_name("KIND")
-        .required(true)
-        .value_parser(ValueParser::Names(&KINDS))
-        .help("Who may hold the name: one machine, or a group")
-}
-
-fn ttl<'a>(alloc: Global) -> Arg<'a> {
-    Arg::new(alloc, TTL).value_name("TTL").required(true).help(
-        "The seconds to ask for: 0, as long as may be, to 4294967295",
-    )
 }
 
 fn turns<'a>(alloc: Global) -> Result<Arg<'a>, AllocError> {
