@@ -19,6 +19,7 @@ fault_in other (Err fault) = fault
 -- what is returned for a call's error is that error
 pub passed_on : {A B : Type 0} (returned : Result A Fault) (called : Result B Fault) (passed found fault : Fault) → returned ≡ Err passed → passed ≡ found → called ≡ Err found → returned ≡ Err fault
     → called ≡ Err fault
+unfolding fault_in
 passed_on {A = A} returned called passed found fault back same was is = subst (λ (f : Fault). called ≡ Err f) (sym same ∙ ap (λ (r : Result A Fault). fault_in fault r) (sym back ∙ is)) was
 
 pub node_begins : {P : Type 0} (a : NodeArguments) (goes : Running P ℕ → Running P ℕ → Type 0) (old_port port : P) (old_clock mid_clock clock : ℕ) (old_text text : Option (List ℕ)) (first node : NodeValue)
