@@ -4,6 +4,7 @@
 //! machine's clock as over memory.
 #![tactic(auto)]
 
+mod cause;
 mod clock;
 pub mod laws;
 mod memory;
@@ -12,6 +13,7 @@ mod serving;
 mod turning;
 mod udp;
 
+pub use cause::{Cause, MachineCall};
 pub use clock::Clock;
 pub use memory::{Datagram, MemoryClock, MemoryPort};
 pub use port::{Device, Port};

@@ -3,6 +3,7 @@
 ghost use Rattle.std.specs.Prelude.{◌≡◌, ℕ, ◌<◌, ◌^◌};
 ghost use Rattle.nbt_engine.specs.Acts.{Act, receiving, sending, CountsFailure};
 
+use crate::cause::Cause;
 use arrayvec::ArrayVec;
 use nbt_name::Addr;
 use thiserror::Error;
@@ -39,4 +40,9 @@ pub trait Port {
     /// How many calls have failed.
     fn failures(&self) -> u64
         ensures { result ≡ failures self.now };
+
+    /// Why the last call failed that did, where the port knows it.
+    fn cause(&self) -> Option<Cause> {
+        None
+    }
 }

@@ -5,6 +5,7 @@ ghost use Rattle.std.specs.IoError.{error_kind};
 ghost use Rattle.nbt_engine.specs.Acts.{receiving, CountsFailure};
 ghost use Rattle.nbt_engine.specs.Inner.Sockets.{IsNothing, HasNoWay, Received, Sent};
 
+use crate::cause::{Cause, MachineCall};
 use crate::clock::Clock;
 use crate::port::{Device, MOST, Port};
 use arrayvec::ArrayVec;
@@ -26,6 +27,7 @@ pub struct UdpPort {
     socket: UdpSocket,
     addr: Addr,
     failures: u64,
+    cause: Option<Cause>,
 }
 
 impl Model for UdpPort {
@@ -48,6 +50,7 @@ impl UdpPort {
             socket,
             addr,
             failures: 0,
+            cause: None,
         })
     }
 
@@ -56,6 +59,14 @@ impl UdpPort {
         ensures { result ≡ self.now.addr }
     {
         self.addr
+    }
+
+    /// Why this call of it failed.
+    fn cause_of(&self, call: MachineCall, error: Option<io::Error>) -> Option<Cause> {
+        match error {
+            Some(error) => Some(Cause::new(call, self.addr, error)),
+            None => None,
+        }
     }
 }
 
@@ -75,23 +86,31 @@ impl Port for UdpPort {
     {
         let mut buffer = [0; MOST];
         let answer = self.socket.recv_from(&mut buffer);
+        let error = answer.err();
         let received = received(answer, &buffer, octets);
         if received.is_err() {
             self.failures += 1;
+            self.cause = self.cause_of(MachineCall::Receive, error);
         }
         received
     }
 
     fn send(&mut self, to: Addr, octets: &[u8]) -> Result<(), Device> {
-        let sent = sent(self.socket.send_to(octets, socket_addr(to)));
+        let answer = self.socket.send_to(octets, socket_addr(to));
+        let sent = sent(answer);
         if sent.is_err() {
             self.failures += 1;
+            self.cause = self.cause_of(MachineCall::Send, answer.err());
         }
         sent
     }
 
     fn failures(&self) -> u64 {
         self.failures
+    }
+
+    fn cause(&self) -> Option<Cause> {
+        self.cause
     }
 }
 
@@ -168,6 +187,7 @@ fn socket_addr(addr: Addr) -> SocketAddr {
 pub struct MachineClock<'a, R: time::Clock> {
     machine: &'a R,
     last: Moment,
+    error: Option<io::Error>,
 }
 
 impl<'a, R: time::Clock> Model for MachineClock<'a, R> {
@@ -188,6 +208,7 @@ impl<'a, R: time::Clock> MachineClock<'a, R> {
         MachineClock {
             machine,
             last: Moment::zero(),
+            error: None,
         }
     }
 
@@ -197,6 +218,11 @@ impl<'a, R: time::Clock> MachineClock<'a, R> {
     {
         self.last
     }
+
+    /// Why the last reading of the machine told no moment, where it told none.
+    pub fn error(&self) -> Option<io::Error> {
+        self.error
+    }
 }
 
 impl<'a, R: time::Clock> Clock for MachineClock<'a, R> {
@@ -205,18 +231,34 @@ impl<'a, R: time::Clock> Clock for MachineClock<'a, R> {
     ghost tells = { MachineTells };
 
     fn now(&mut self) -> Moment {
-        if let Some(moment) = time_of_day(self.machine) {
-            self.last = moment;
+        match time_of_day(self.machine) {
+            Ok(moment) => {
+                self.last = moment;
+                self.error = None;
+            }
+            Err(error) => self.error = Some(error),
         }
         self.last
     }
 }
 
 /// The time of day as a moment, where it can be read and is one.
-fn time_of_day<R: time::Clock>(machine: &R) -> Option<Moment>
+fn time_of_day<R: time::Clock>(machine: &R) -> io::Result<Moment>
+    ensures { IfOk result (λ moment. moment ≤ 2 ^ 60) }
+{
+    let now = SystemTime::now(machine)?;
+    let Ok(since) = now.duration_since(SystemTime::UNIX_EPOCH) else {
+        return Err(io::Error::other("the time is before 1970"));
+    };
+    match moment_of(since) {
+        Some(moment) => Ok(moment),
+        None => Err(io::Error::other("the time is past 2^60 ms")),
+    }
+}
+
+/// So much after 1970 as a moment, in milliseconds.
+fn moment_of(since: Duration) -> Option<Moment>
     ensures { IfSome result (λ moment. moment ≤ 2 ^ 60) }
 {
-    let now = SystemTime::now(machine).ok()?;
-    let since = now.duration_since(SystemTime::UNIX_EPOCH).ok()?;
     Moment::new(u64::try_from(since.as_millis()).ok()?)
 }

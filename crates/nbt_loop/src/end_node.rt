@@ -9,7 +9,7 @@ ghost use Rattle.nbt_loop.specs.Counting.{CountsOn};
 use crate::clock::CountedClock;
 use arrayvec::ArrayVec;
 use nbt_dgram::Joiner;
-use nbt_engine::{Clock, Device, Port, serve_turns};
+use nbt_engine::{Cause, Clock, Device, Port, serve_turns};
 use nbt_lease::{Config, Moment};
 use nbt_name::Addr;
 use nbt_node::Node;
@@ -35,6 +35,13 @@ pub struct EndNode<P: Drop> {
     pub datagrams_at: Addr,
     /// The datagrams of which fragments are missing.
     pub joiner: Joiner<1>,
+}
+
+impl<P: Port + Drop> EndNode<P> {
+    /// Why one of its ports failed, where one did.
+    pub fn cause(&self) -> Option<Cause> {
+        self.names.cause().or(self.datagrams.cause())
+    }
 }
 
 /// The name server, its port, and the clock of all.
@@ -65,6 +72,11 @@ impl<P: Port + Drop> NameServer<P> {
         ensures { result ≡ self.now.addr }
     {
         self.addr
+    }
+
+    /// Why its port failed, where it did.
+    pub fn cause(&self) -> Option<Cause> {
+        self.port.cause()
     }
 
     /// The next moment.

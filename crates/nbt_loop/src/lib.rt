@@ -8,15 +8,15 @@
 mod clock;
 mod connection;
 mod datagrams;
+mod demo;
 mod end_node;
 mod fault;
-mod listening;
+mod listening_end;
 mod names;
 mod outcome;
 mod ports;
-mod script;
 mod sessions;
 
+pub use demo::run;
 pub use fault::Fault;
 pub use ports::Ports;
-pub use script::run;

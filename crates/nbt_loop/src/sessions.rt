@@ -3,13 +3,15 @@
 use crate::connection::{Connection, send};
 use crate::end_node::SLOTS;
 use crate::fault::Fault;
-use crate::listening::Desk;
+use crate::listening_end::ListeningEnd;
 use crate::outcome::Outcome;
+use nbt_engine::Cause;
 use nbt_lease::Moment;
 use nbt_name::{Addr, Name};
 use nbt_node::Node;
 use nbt_session::{Caller, CallerAnswer, Event, Packet};
 use std::alloc::Global;
+use std::io;
 use std::net::{Ipv4Addr, Net, OpenStream, TcpStream};
 
 /// How many events are waited for in a call: three for each of its four tries.
@@ -30,18 +32,23 @@ pub struct Call {
 #[derive(Drop)]
 pub struct Session<R: Net> {
     alloc: Global,
-    desk: Desk<R>,
+    listening: ListeningEnd<R>,
     connection: Option<Connection<R::Stream>>,
 }
 
 impl<R: Net> Session<R> {
     /// Listens at `addr` for calls to the name.
-    pub fn listen(rt: &R, alloc: Global, addr: Addr, called: Name) -> Result<Session<R>, Fault> {
+    pub fn listen(rt: &R, alloc: Global, addr: Addr, called: Name) -> io::Result<Session<R>> {
         Ok(Session {
             alloc,
-            desk: Desk::bind(rt, alloc, addr, called)?,
+            listening: ListeningEnd::bind(rt, alloc, addr, called)?,
             connection: None,
         })
+    }
+
+    /// Why the socket that listens failed, where it did.
+    pub fn cause(&self) -> Option<Cause> {
+        self.listening.cause()
     }
 
     /// Makes the call at this moment, and returns what became of it (RFC 1002 section 5.2.1). `Nothing` where that
@@ -85,7 +92,7 @@ impl<R: Net> Session<R> {
         if !send(&mut self.connection, &message)? {
             return Ok(Outcome::Nothing);
         }
-        match self.desk.serve(now, node)? {
+        match self.listening.serve(now, node)? {
             Some(octets) => Ok(Outcome::Octets(octets.len())),
             None => Ok(Outcome::Nothing),
         }
@@ -95,7 +102,7 @@ impl<R: Net> Session<R> {
     /// 5.2.3).
     pub fn hang_up(&mut self, now: Moment, node: &Node<SLOTS>) -> Result<(), Fault> {
         self.connection = None;
-        self.desk.serve(now, node)?;
+        self.listening.serve(now, node)?;
         Ok(())
     }
 
@@ -114,8 +121,8 @@ impl<R: Net> Session<R> {
         let Ok(own) = socket.local_addr() else {
             return Ok(Event::Lost);
         };
-        if to == self.desk.addr() {
-            self.desk.take_connection(now, node, own)?;
+        if to == self.listening.addr() {
+            self.listening.take_connection(now, node, own)?;
         }
         self.connection = Connection::new(self.alloc, socket)?;
         if self.connection.is_some() {
@@ -136,7 +143,7 @@ impl<R: Net> Session<R> {
         if !send(&mut self.connection, packet)? {
             return Ok(Event::Lost);
         }
-        self.desk.serve(now, node)?;
+        self.listening.serve(now, node)?;
         self.next_event()
     }
 

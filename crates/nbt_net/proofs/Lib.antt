@@ -1,3 +1,4 @@
+pub mod Beginning
 pub mod Printing
 pub mod Outcomes
 pub mod Turning

@@ -1,6 +1,5 @@
--- What a writer has after what it had: nothing more, one text after another, and what was written before an error was
--- another's.
-use Rattle.std.proofs.Common.{◌≡◌, ℕ, List, [], ◌++◌, Option, Some, None, Result, Ok, Err, OnOk, sym, ap, ◌∙◌, append-nil, append_assoc}
+-- What a writer has after what it had: nothing more, and what was written before an error was another's.
+use Rattle.std.proofs.Common.{◌≡◌, ℕ, List, [], Option, Some, None, Result, Ok, Err, OnOk, sym, ap, ◌∙◌, append-nil}
 use Rattle.std.specs.Prelude.{is_ok}
 use Rattle.std.specs.Io.KnownBytes.{Appends}
 use Rattle.std.proofs.lemmas.Bool.{false≢true}
@@ -8,12 +7,6 @@ use Rattle.std.proofs.lemmas.Bool.{false≢true}
 pub appends_nothing : (known : Option (List ℕ)) → Appends known known []
 appends_nothing None = tt
 appends_nothing (Some text) = sym (append-nil text)
-
-pub appends_both : (old mid new : Option (List ℕ)) (front back : List ℕ) → Appends old mid front → Appends mid new back → Appends old new (front ++ back)
-appends_both None mid new front back first second = tt
-appends_both (Some a) None new front back first second = absurd first
-appends_both (Some a) (Some b) None front back first second = second
-appends_both (Some a) (Some b) (Some c) front back first second = second ∙ ap (λ (t : List ℕ). t ++ back) first ∙ append_assoc a front back
 
 pub ok_before : {A B D E Q : Type 0} (r : Result A D) (s : Result B E) → is_ok s ≡ is_ok r → (value : B) → s ≡ Ok value → OnOk r Q → Q
 ok_before (Ok x) s same value was q = q

@@ -1,5 +1,5 @@
+pub mod Here
 pub mod Line
 pub mod Node
 pub mod Serve
 pub mod Staying
-pub mod Turns

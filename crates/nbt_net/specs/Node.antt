@@ -1,20 +1,21 @@
 -- What `node` does and prints (our profile).
-use Rattle.std.specs.Prelude.{◌≡◌, ◌≢◌, ℕ, List, [], ◌++◌, length, Option, Some, None, codes}
+use Rattle.std.specs.Prelude.{◌≡◌, ℕ, ◌<◌, List, [], ◌++◌, length, Option, Some, None, codes}
 use Rattle.std.specs.Fmt.{decimal}
-use Rattle.std.specs.List.{flat_map}
 use Rattle.std.specs.Io.KnownBytes.{Appends}
 use Rattle.nbt_name.specs.declared.addr.Addr.{Addr}
 use Rattle.nbt_name.specs.declared.addr.Kind.{Kind}
 use Rattle.nbt_node.specs.Calls.{started}
 use Rattle.nbt_node.specs.Node.{NodeValue, holds, slots_most}
 use Rattle.nbt_engine.specs.Acts.{Act, Chain}
-use Rattle.nbt_engine.specs.Turning.{TakesTurn}
+use Rattle.nbt_engine.specs.Turning.{TakesTurn, BreaksTurn}
 use Rattle.nbt_engine.specs.declared.turning.Seen.{Seen}
 use Rattle.nbt_engine.specs.declared.turning.Seen.TheVariants as s
 use Rattle.nbt_engine.specs.declared.turning.Want.{Want}
-use Rattle.nbt_engine.specs.Udp.{UdpValue, UdpDoes, MachineTells}
+use Rattle.nbt_engine.specs.Udp.{UdpDoes, MachineTells}
+use Rattle.nbt_net.specs.Here.{Here}
 use Rattle.nbt_net.specs.Line.{one_line}
-use Rattle.nbt_net.specs.Turns.{turns_of}
+use Rattle.nbt_net.specs.Staying.{StaysUp, GivesUp}
+use Rattle.nbt_net.specs.declared.limits.TheConstants.{FOREVER}
 use Rattle.nbt_net.specs.declared.node.NodeArguments.{NodeArguments}
 
 -- the line of what was seen in a turn, or nothing
@@ -30,43 +31,69 @@ abbrev pub held_text : Option Kind → List ℕ
 held_text (Some kind) = one_line (codes "held")
 held_text None = one_line (codes "not held")
 
--- a port, a clock and a node
+-- a port, a clock, a node, and what is printed
 pub record Running (P C : Type 0) : Type 0 where
   pub port : P
   pub clock : C
   pub node : NodeValue
+  pub text : Option (List ℕ)
 
--- A turn makes these of those, and this is seen in it.
+-- A turn makes these of those, this is seen in it, and its line is printed.
 abbrev pub Turns : {P C : Type 0} → (P → Act → P → Type 0) → (C → ℕ → C → Type 0) → Addr → Want → Running P C → Seen → Running P C → Type 0
 Turns does tells server want old seen new = (acts : List Act) × (moments : List ℕ) × TakesTurn server want old.node acts moments seen new.node
-    × Chain does old.port acts new.port × Chain tells old.clock moments new.clock
+    × Chain does old.port acts new.port × Chain tells old.clock moments new.clock × Appends old.text new.text (seen_text seen)
 
--- So many turns, one after the other; the text grows by the lines of what was seen.
-pub record TakesTurns {P C : Type 0} (does : P → Act → P → Type 0) (tells : C → ℕ → C → Type 0) (server : Addr) (want : Want) (count : ℕ)
-    (old_port : P) (old_clock : C) (old : NodeValue) (old_text : Option (List ℕ)) (port : P) (clock : C) (new : NodeValue) (text : Option (List ℕ)) : Type 0 where
+-- The device fails in a turn, and nothing is printed of it.
+abbrev pub BreaksTurns : {P C : Type 0} → (P → Act → P → Type 0) → (C → ℕ → C → Type 0) → Addr → Want → Running P C → Running P C → Type 0
+BreaksTurns does tells server want old new = (acts : List Act) × (moments : List ℕ) × BreaksTurn server want old.node acts moments new.node
+    × Chain does old.port acts new.port × Chain tells old.clock moments new.clock × (new.text ≡ old.text)
+
+-- so many turns, one after the other
+pub record TakesTurns {P C : Type 0} (does : P → Act → P → Type 0) (tells : C → ℕ → C → Type 0) (server : Addr) (want : Want) (count : ℕ) (old new : Running P C) : Type 0 where
   pub seen : List Seen
-  pub turns : Chain (Turns does tells server want) (record { port = old_port; clock = old_clock; node = old }) seen (record { port = port; clock = clock; node = new })
+  pub turns : Chain (Turns does tells server want) old seen new
   pub count_is : length seen ≡ count
-  pub printed : Appends old_text text (flat_map seen_text seen)
 
--- The machine's clock is read, a node starts at that moment, and it takes its turns from there, with no end 2^64 - 1 of them.
--- The last line says whether it then holds the name, at the moment that the clock told last.
-pub record RunsNode {P : Type 0} (does : P → Act → P → Type 0) (a : NodeArguments)
+-- fewer turns than that, and then one in which the device fails
+pub record FailsTurns {P C : Type 0} (does : P → Act → P → Type 0) (tells : C → ℕ → C → Type 0) (server : Addr) (want : Want) (count : ℕ) (old new : Running P C) : Type 0 where
+  pub seen : List Seen
+  pub mid : Running P C
+  pub turns : Chain (Turns does tells server want) old seen mid
+  pub fewer : length seen < count
+  pub breaks : BreaksTurns does tells server want mid new
+
+-- With a number of turns it takes them. With no end it stays up.
+abbrev pub RunsFor : {P C : Type 0} → (P → Act → P → Type 0) → (C → ℕ → C → Type 0) → (turns : Option ℕ) → Addr → Want → Running P C → Running P C → Type 0
+RunsFor does tells (Some turns) server want old new = TakesTurns does tells server want turns old new
+RunsFor does tells None server want old new = StaysUp (Turns does tells server want) (BreaksTurns does tells server want) FOREVER old new
+
+-- The device fails: with a number of turns in the first turn in which it does. With no end the node gives up.
+abbrev pub NodeFailsFor : {P C : Type 0} → (P → Act → P → Type 0) → (C → ℕ → C → Type 0) → (turns : Option ℕ) → Addr → Want → Running P C → Running P C → Type 0
+NodeFailsFor does tells (Some turns) server want old new = FailsTurns does tells server want turns old new
+NodeFailsFor does tells None server want old new = GivesUp (Turns does tells server want) (BreaksTurns does tells server want) FOREVER old new
+
+-- The turns, and after them a line that says whether it then holds the name, at the moment that the clock told last.
+abbrev pub RunsToItsEnd : {P : Type 0} → (P → Act → P → Type 0) → NodeArguments → Running P ℕ → Running P ℕ → Type 0
+RunsToItsEnd does a old new = (turns_text : Option (List ℕ)) × RunsFor does MachineTells a.turns a.server a.want old (record new { text = turns_text })
+    × Appends turns_text new.text (held_text (holds new.node a.want.name new.clock))
+
+-- The machine's clock is read, a node starts at that moment, and the three go on from there.
+pub record NodeBegins {P : Type 0} (a : NodeArguments) (goes : Running P ℕ → Running P ℕ → Type 0)
     (old_port : P) (old_clock : ℕ) (old_text : Option (List ℕ)) (port : P) (clock : ℕ) (text : Option (List ℕ)) : Type 0 where
   pub start : ℕ
   pub node : NodeValue
-  pub turns_text : Option (List ℕ)
   pub clock_told : MachineTells old_clock start start
-  pub turns : TakesTurns does MachineTells a.server a.want (turns_of a.turns) old_port start (started slots_most a.bind a.server a.config start) old_text port clock node turns_text
-  pub ended : Appends turns_text text (held_text (holds node a.want.name clock))
+  pub goes_on : goes (record { port = old_port; clock = start; node = started slots_most a.bind a.server a.config start; text = old_text }) (record { port = port; clock = clock; node = node; text = text })
 
--- The same on a UDP port of this machine that was bound to the node's address, and over the machine's clock, which has told
--- a moment other than 0.
-pub record RunsNodeHere (a : NodeArguments) (old_text text : Option (List ℕ)) : Type 0 where
-  pub old_port : UdpValue
-  pub port : UdpValue
-  pub old_clock : ℕ
-  pub clock : ℕ
-  pub bound : old_port.addr ≡ a.bind
-  pub is_readable : old_clock ≢ 0
-  pub runs : RunsNode UdpDoes a old_port old_clock old_text port clock text
+abbrev pub RunsNode : {P : Type 0} → (P → Act → P → Type 0) → NodeArguments → P → (old_clock : ℕ) → (old_text : Option (List ℕ)) → P → (clock : ℕ) → (text : Option (List ℕ)) → Type 0
+RunsNode does a old_port old_clock old_text port clock text = NodeBegins a (RunsToItsEnd does a) old_port old_clock old_text port clock text
+
+abbrev pub NodeFails : {P : Type 0} → (P → Act → P → Type 0) → NodeArguments → P → (old_clock : ℕ) → (old_text : Option (List ℕ)) → P → (clock : ℕ) → (text : Option (List ℕ)) → Type 0
+NodeFails does a old_port old_clock old_text port clock text = NodeBegins a (NodeFailsFor does MachineTells a.turns a.server a.want) old_port old_clock old_text port clock text
+
+-- the same over this machine
+abbrev pub RunsNodeHere : NodeArguments → (old_text text : Option (List ℕ)) → Type 0
+RunsNodeHere a old_text text = Here a.bind (λ old_port old_clock port clock. RunsNode UdpDoes a old_port old_clock old_text port clock text)
+
+abbrev pub NodeFailsHere : NodeArguments → (old_text text : Option (List ℕ)) → Type 0
+NodeFailsHere a old_text text = Here a.bind (λ old_port old_clock port clock. NodeFails UdpDoes a old_port old_clock old_text port clock text)

@@ -1,16 +1,18 @@
 -- What `serve` does and prints (our profile).
-use Rattle.std.specs.Prelude.{◌≡◌, ◌≢◌, ℕ, List, [], ◌++◌, Option, Some, None, codes}
+use Rattle.std.specs.Prelude.{◌≡◌, ℕ, List, [], ◌++◌, Option, Some, None, codes}
 use Rattle.std.specs.Fmt.{decimal}
 use Rattle.std.specs.Io.KnownBytes.{Appends}
+use Rattle.nbt_lease.specs.Config.{ConfigValue}
 use Rattle.nbt_server.specs.Serving.{ServerValue}
 use Rattle.nbt_server.specs.Calls.{ServerStarts}
 use Rattle.nbt_engine.specs.Acts.{Act}
 use Rattle.nbt_engine.specs.Serving.{Runs, Breaks}
-use Rattle.nbt_engine.specs.Udp.{UdpValue, UdpDoes, MachineTells}
+use Rattle.nbt_engine.specs.Udp.{UdpDoes, MachineTells}
 use Rattle.nbt_engine.specs.declared.serving.Counts.{Counts}
+use Rattle.nbt_net.specs.Here.{Here}
 use Rattle.nbt_net.specs.Line.{one_line}
-use Rattle.nbt_net.specs.Staying.{StaysUp}
-use Rattle.nbt_net.specs.Turns.{forever}
+use Rattle.nbt_net.specs.Staying.{StaysUp, GivesUp}
+use Rattle.nbt_net.specs.declared.limits.TheConstants.{FOREVER}
 use Rattle.nbt_net.specs.declared.serve.ServeArguments.{ServeArguments}
 
 -- the line of the counts; each turn is one receive
@@ -35,26 +37,45 @@ BreaksServing does tells old new = Breaks does tells 1 old.port old.clock old.se
 abbrev pub ServesFor : {P C : Type 0} → (P → Act → P → Type 0) → (C → ℕ → C → Type 0) → (turns : Option ℕ) → Serving P C → (old_text : Option (List ℕ)) → Serving P C → (text : Option (List ℕ)) → Type 0
 ServesFor does tells (Some turns) old old_text new text = (counts : Counts) × Runs does tells turns counts old.port old.clock old.server new.port new.clock new.server
     × Appends old_text text (counts_text counts)
-ServesFor does tells None old old_text new text = StaysUp (ServesTurn does tells) (BreaksServing does tells) forever old new
+ServesFor does tells None old old_text new text = StaysUp (ServesTurn does tells) (BreaksServing does tells) FOREVER old new
+
+-- The device fails. With a number of turns that is at the first call of the port that does, and nothing is printed. With no
+-- end the server gives up.
+abbrev pub FailsFor : {P C : Type 0} → (P → Act → P → Type 0) → (C → ℕ → C → Type 0) → (turns : Option ℕ) → Serving P C → (old_text : Option (List ℕ)) → Serving P C → (text : Option (List ℕ)) → Type 0
+FailsFor does tells (Some turns) old old_text new text = Breaks does tells turns old.port old.clock old.server new.port new.clock new.server × (text ≡ old_text)
+FailsFor does tells None old old_text new text = GivesUp (ServesTurn does tells) (BreaksServing does tells) FOREVER old new
+
+-- The line can't be written. With a number of turns that is after the last of them, and with no end before the first.
+abbrev pub IsCutFor : {P C : Type 0} → (P → Act → P → Type 0) → (C → ℕ → C → Type 0) → (turns : Option ℕ) → Serving P C → Serving P C → Type 0
+IsCutFor does tells (Some turns) old new = (counts : Counts) × Runs does tells turns counts old.port old.clock old.server new.port new.clock new.server
+IsCutFor does tells None old new = new ≡ old
 
 -- A clock is read, a server starts at that moment, and the three go on from there.
-pub record Serves {P C : Type 0} (does : P → Act → P → Type 0) (tells : C → ℕ → C → Type 0) (a : ServeArguments)
-    (old_port : P) (old_clock : C) (old_text : Option (List ℕ)) (port : P) (clock : C) (text : Option (List ℕ)) : Type 0 where
+pub record Begins {P C : Type 0} (tells : C → ℕ → C → Type 0) (config : ConfigValue) (goes : Serving P C → Serving P C → Type 0)
+    (old_port : P) (old_clock : C) (port : P) (clock : C) : Type 0 where
   pub start : ℕ
   pub started_clock : C
   pub first : ServerValue
   pub last : ServerValue
   pub clock_told : tells old_clock start started_clock
-  pub starts : ServerStarts a.config start first
-  pub serves : ServesFor does tells a.turns (record { port = old_port; clock = started_clock; server = first }) old_text (record { port = port; clock = clock; server = last }) text
+  pub starts : ServerStarts config start first
+  pub goes_on : goes (record { port = old_port; clock = started_clock; server = first }) (record { port = port; clock = clock; server = last })
 
--- The same on a UDP port of this machine that was bound to the server's address, and over the machine's clock, which has
--- told a moment other than 0.
-pub record ServesHere (a : ServeArguments) (old_text text : Option (List ℕ)) : Type 0 where
-  pub old_port : UdpValue
-  pub port : UdpValue
-  pub old_clock : ℕ
-  pub clock : ℕ
-  pub bound : old_port.addr ≡ a.bind
-  pub is_readable : old_clock ≢ 0
-  pub serves : Serves UdpDoes MachineTells a old_port old_clock old_text port clock text
+abbrev pub Serves : {P C : Type 0} → (P → Act → P → Type 0) → (C → ℕ → C → Type 0) → ServeArguments → P → C → (old_text : Option (List ℕ)) → P → C → (text : Option (List ℕ)) → Type 0
+Serves does tells a old_port old_clock old_text port clock text = Begins tells a.config (λ old new. ServesFor does tells a.turns old old_text new text) old_port old_clock port clock
+
+abbrev pub ServerFails : {P C : Type 0} → (P → Act → P → Type 0) → (C → ℕ → C → Type 0) → ServeArguments → P → C → (old_text : Option (List ℕ)) → P → C → (text : Option (List ℕ)) → Type 0
+ServerFails does tells a old_port old_clock old_text port clock text = Begins tells a.config (λ old new. FailsFor does tells a.turns old old_text new text) old_port old_clock port clock
+
+abbrev pub ServerIsCut : {P C : Type 0} → (P → Act → P → Type 0) → (C → ℕ → C → Type 0) → ServeArguments → P → C → P → C → Type 0
+ServerIsCut does tells a old_port old_clock port clock = Begins tells a.config (IsCutFor does tells a.turns) old_port old_clock port clock
+
+-- the same over this machine
+abbrev pub ServesHere : ServeArguments → (old_text text : Option (List ℕ)) → Type 0
+ServesHere a old_text text = Here a.bind (λ old_port old_clock port clock. Serves UdpDoes MachineTells a old_port old_clock old_text port clock text)
+
+abbrev pub ServerFailsHere : ServeArguments → (old_text text : Option (List ℕ)) → Type 0
+ServerFailsHere a old_text text = Here a.bind (λ old_port old_clock port clock. ServerFails UdpDoes MachineTells a old_port old_clock old_text port clock text)
+
+abbrev pub ServerIsCutHere : ServeArguments → Type 0
+ServerIsCutHere a = Here a.bind (ServerIsCut UdpDoes MachineTells a)

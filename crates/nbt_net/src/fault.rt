@@ -8,7 +8,13 @@ use thiserror::Error;
 /// Why a server or a node ends early.
 #[derive(Clone, Copy, Debug, PartialEq, Eq, Error)]
 pub enum Fault {
-    /// A port can't be bound, a socket failed, or the clock can't be read.
+    /// The port can't be had.
+    #[error("device")]
+    NoPort,
+    /// The clock can't be read.
+    #[error("device")]
+    NoClock,
+    /// The port failed.
     #[error("device")]
     Device,
     /// What is printed can't be written.

@@ -4,6 +4,7 @@
 
 mod clock;
 mod fault;
+mod limits;
 mod node;
 mod port;
 mod serve;

@@ -1,14 +1,16 @@
 //! An end node over UDP and the machine's clock.
 
-ghost use Rattle.std.specs.Prelude.{◌≡◌, ℕ, ◌<◌, ◌^◌, OnOk};
+ghost use Rattle.std.specs.Prelude.{◌≡◌, ℕ, ◌+◌, ◌<◌, ◌≤◌, ◌^◌, OnOk, IfOk};
 ghost use Rattle.std.specs.Io.KnownBytes.{Appends};
 ghost use Rattle.nbt_node.specs.Calls.{started};
 ghost use Rattle.nbt_node.specs.Node.{holds};
-ghost use Rattle.nbt_net.specs.Node.{RunsNode, RunsNodeHere, TakesTurns, seen_text, held_text};
+ghost use Rattle.nbt_net.specs.Node.{Turns, BreaksTurns, TakesTurns, FailsTurns, RunsFor, NodeFailsFor, RunsNode, NodeFails, RunsNodeHere, NodeFailsHere, seen_text, held_text};
 
 use crate::clock::readable_clock;
 use crate::fault::Fault;
+use crate::limits::FOREVER;
 use crate::port::bound_port;
+use crate::staying::{node_on, tell_end_of};
 use nbt_engine::{Clock, MachineClock, Port, Seen, Want, node_turn};
 use nbt_lease::{Config, Moment};
 use nbt_name::Addr;
@@ -18,7 +20,7 @@ use std::net::Net;
 use std::{io, time};
 
 /// The slots of a node: the most that it may have.
-const SLOTS: usize = 14;
+pub const SLOTS: usize = 14;
 
 /// What a node is to do.
 #[derive(Debug, Drop)]
@@ -36,34 +38,45 @@ pub struct NodeArguments {
 }
 
 /// Runs an end node on a UDP port of this machine, over its clock. It prints a line for each event as it comes, and after
-/// the last turn whether the name is held; with no end that is after 2^64 - 1 turns. Refused: `Device` where the port can't
-/// be bound, the clock can't be read at first, or a socket fails; `Output` where `writer` fails.
-pub fn run_node<M: Net + time::Clock, W: Write>(
+/// the last turn whether the name is held. Where there is no end, it stays up for 2^61 turns, also where the port fails: it says
+/// so in `errors`, waits 100 ms after each turn that failed, and goes on from where the call that failed left the node.
+/// Refused: `NoPort` where the port can't be had; `NoClock` where the clock can't be read at first; `Device` where the port
+/// fails, with a number of turns at the first call that does, and with no end at the hundredth turn in a row; `Output` where
+/// `writer` fails. Of each but the last a line in `errors` says which call of the machine failed, for which address, and why. What can't
+/// be written to `errors` is passed over.
+pub fn run_node<M: Net + time::Clock, W: Write, E: Write>(
     machine: &M,
     arguments: &NodeArguments,
     writer: &mut W,
+    errors: &mut E,
 ) -> Result<(), Fault>
-    ensures { OnOk result (RunsNodeHere arguments.now (W.contents writer.old) (W.contents writer.new)) }
+    ensures ok { OnOk result (RunsNodeHere arguments.now (W.contents writer.old) (W.contents writer.new)) }
+    ensures device { result ≡ Err Fault.Device → NodeFailsHere arguments.now (W.contents writer.old) (W.contents writer.new) }
 {
-    let mut port = bound_port(machine, arguments.bind)?;
-    let mut clock = readable_clock(machine)?;
-    run_turns(&mut port, &mut clock, arguments, writer)
+    let mut port = bound_port(machine, arguments.bind, errors)?;
+    let mut clock = readable_clock(machine, arguments.bind, errors)?;
+    let run = run_turns(&mut port, &mut clock, arguments, writer, machine, errors);
+    tell_end_of(run, port.cause(), errors);
+    run
 }
 
 /// Runs the node over a port, and prints each event as it comes, and last whether the name is held.
-pub fn run_turns<P: Port, M: time::Clock, W: Write>(
+pub fn run_turns<P: Port, M: time::Clock, W: Write, E: Write>(
     port: &mut P,
     clock: &mut MachineClock<'_, M>,
     arguments: &NodeArguments,
     writer: &mut W,
+    machine: &M,
+    errors: &mut E,
 ) -> Result<(), Fault>
-    requires few { P.failures port.old < 2 ^ 62 }
-    ensures { OnOk result (RunsNode P.does arguments.now
+    requires few { P.failures port.old ≤ 2 ^ 61 }
+    ensures ok { OnOk result (RunsNode P.does arguments.now
         port.old clock.old (W.contents writer.old) port.new clock.new (W.contents writer.new)) }
+    ensures device { result ≡ Err Fault.Device → NodeFails P.does arguments.now
+        port.old clock.old (W.contents writer.old) port.new clock.new (W.contents writer.new) }
 {
     let mut node = start_node(clock, arguments);
-    let turns = arguments.turns.unwrap_or(u64::MAX);
-    take_turns(port, clock, &mut node, arguments, turns, writer)?;
+    run_for(port, clock, &mut node, arguments, writer, machine, errors)?;
     tell_end(&node, clock.last(), &arguments.want, writer).map_err(|_| Fault::Output)
 }
 
@@ -76,6 +89,30 @@ fn start_node<C: Clock>(clock: &mut C, arguments: &NodeArguments) -> Node<SLOTS>
     Node::start(arguments.bind, arguments.server, arguments.config, now)
 }
 
+/// The node takes its turns, or stays up, and prints what is seen in each.
+fn run_for<P: Port, C: Clock, W: Write, M: time::Clock, E: Write>(
+    port: &mut P,
+    clock: &mut C,
+    node: &mut Node<SLOTS>,
+    arguments: &NodeArguments,
+    writer: &mut W,
+    machine: &M,
+    errors: &mut E,
+) -> Result<(), Fault>
+    requires few { P.failures port.old ≤ 2 ^ 61 }
+    ensures ok { OnOk result (RunsFor P.does C.tells arguments.now.turns arguments.now.server arguments.now.want (record { port = port.old; clock = clock.old; node = node.old; text = W.contents writer.old })
+        (record { port = port.new; clock = clock.new; node = node.new; text = W.contents writer.new })) }
+    ensures device { result ≡ Err Fault.Device → NodeFailsFor P.does C.tells arguments.now.turns arguments.now.server arguments.now.want (record { port = port.old; clock = clock.old; node = node.old; text = W.contents writer.old })
+        (record { port = port.new; clock = clock.new; node = node.new; text = W.contents writer.new }) }
+{
+    match arguments.turns {
+        Some(turns) => take_turns(port, clock, node, arguments, turns, writer),
+        None => node_on(
+            port, clock, node, arguments, FOREVER, writer, machine, errors,
+        ),
+    }
+}
+
 /// Takes `turns` turns, and prints what is seen in each.
 fn take_turns<P: Port, C: Clock, W: Write>(
     port: &mut P,
@@ -86,14 +123,36 @@ fn take_turns<P: Port, C: Clock, W: Write>(
     writer: &mut W,
 ) -> Result<(), Fault>
     requires few { P.failures port.old < 2 ^ 62 }
-    ensures { OnOk result (TakesTurns P.does C.tells arguments.now.server arguments.now.want turns
-        port.old clock.old node.old (W.contents writer.old) port.new clock.new node.new (W.contents writer.new)) }
+    ensures ok { OnOk result (TakesTurns P.does C.tells arguments.now.server arguments.now.want turns
+        (record { port = port.old; clock = clock.old; node = node.old; text = W.contents writer.old }) (record { port = port.new; clock = clock.new; node = node.new; text = W.contents writer.new })) }
+    ensures device { result ≡ Err Fault.Device → FailsTurns P.does C.tells arguments.now.server arguments.now.want turns
+        (record { port = port.old; clock = clock.old; node = node.old; text = W.contents writer.old }) (record { port = port.new; clock = clock.new; node = node.new; text = W.contents writer.new }) }
 {
     for _ in 0..turns {
-        let seen = node_turn(port, clock, node, arguments.server, &arguments.want)?;
-        tell(seen, writer).map_err(|_| Fault::Output)?;
+        take_turn(port, clock, node, arguments, writer)?;
     }
     Ok(())
+}
+
+/// Takes a turn, and prints what is seen in it.
+pub fn take_turn<P: Port, C: Clock, W: Write>(
+    port: &mut P,
+    clock: &mut C,
+    node: &mut Node<SLOTS>,
+    arguments: &NodeArguments,
+    writer: &mut W,
+) -> Result<Seen, Fault>
+    requires few { P.failures port.old < 2 ^ 62 }
+    ensures ok { IfOk result (λ seen. Turns P.does C.tells arguments.now.server arguments.now.want
+        (record { port = port.old; clock = clock.old; node = node.old; text = W.contents writer.old }) seen (record { port = port.new; clock = clock.new; node = node.new; text = W.contents writer.new })) }
+    ensures device { result ≡ Err Fault.Device → BreaksTurns P.does C.tells arguments.now.server arguments.now.want
+        (record { port = port.old; clock = clock.old; node = node.old; text = W.contents writer.old }) (record { port = port.new; clock = clock.new; node = node.new; text = W.contents writer.new }) }
+    ensures same { OnOk result (P.failures port.new ≡ P.failures port.old) }
+    ensures count { P.failures port.new ≤ P.failures port.old + 1 }
+{
+    let seen = node_turn(port, clock, node, arguments.server, &arguments.want)?;
+    tell(seen, writer).map_err(|_| Fault::Output)?;
+    Ok(seen)
 }
 
 /// Prints an event, if it is one, at once.

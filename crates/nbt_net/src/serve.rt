@@ -1,13 +1,14 @@
 //! A name server over UDP and the machine's clock.
 
-ghost use Rattle.std.specs.Prelude.{◌≤◌, ◌^◌, OnOk};
+ghost use Rattle.std.specs.Prelude.{◌≡◌, ◌≤◌, ◌^◌, OnOk};
 ghost use Rattle.std.specs.Io.KnownBytes.{Appends};
-ghost use Rattle.nbt_net.specs.Serve.{Serves, ServesHere, counts_text};
+ghost use Rattle.nbt_net.specs.Serve.{Serves, ServerFails, ServerIsCut, ServesHere, ServerFailsHere, ServerIsCutHere, ServesFor, FailsFor, IsCutFor, counts_text};
 
 use crate::clock::readable_clock;
 use crate::fault::Fault;
+use crate::limits::FOREVER;
 use crate::port::bound_port;
-use crate::staying::{FOREVER, serve_on};
+use crate::staying::{serve_on, tell_end_of};
 use nbt_engine::{Clock, Counts, Port, serve_turns};
 use nbt_lease::Config;
 use nbt_name::Addr;
@@ -30,10 +31,11 @@ pub struct ServeArguments {
 
 /// Runs a name server on a UDP port of this machine, over its clock. With a number of turns it goes through them, and prints
 /// what was done, after the last. Where there is no end, it first prints a line that says that it has begun, and then stays
-/// up for 2^61 turns, also where the socket fails: it says so in `errors`, waits 100 ms after each turn that failed, and goes on
-/// with the leases that it has. Refused: `Device` where the port can't be bound, the clock can't be read at first, or the socket
-/// fails, where there is no end 100 turns in a row; `Output` where `writer` fails. What can't be written to `errors` is passed
-/// over.
+/// up for 2^61 turns, also where the port fails: it says so in `errors`, waits 100 ms after each turn that failed, and goes on
+/// with the leases that it has. Refused: `NoPort` where the port can't be had; `NoClock` where the clock can't be read at
+/// first; `Device` where the port fails, with a number of turns at the first call that does, and with no end at the hundredth
+/// turn in a row; `Output` where `writer` fails. Of each but the last a line in `errors` says which call of the machine failed, for
+/// which address, and why. What can't be written to `errors` is passed over.
 pub fn run_server<M: Net + time::Clock, W: Write, E: Write>(
     machine: &M,
     alloc: Global,
@@ -41,13 +43,17 @@ pub fn run_server<M: Net + time::Clock, W: Write, E: Write>(
     writer: &mut W,
     errors: &mut E,
 ) -> Result<(), Fault>
-    ensures { OnOk result (ServesHere arguments.now (W.contents writer.old) (W.contents writer.new)) }
+    ensures ok { OnOk result (ServesHere arguments.now (W.contents writer.old) (W.contents writer.new)) }
+    ensures device { result ≡ Err Fault.Device → ServerFailsHere arguments.now (W.contents writer.old) (W.contents writer.new) }
+    ensures output { result ≡ Err Fault.Output → ServerIsCutHere arguments.now }
 {
-    let mut port = bound_port(machine, arguments.bind)?;
-    let mut clock = readable_clock(machine)?;
-    serve(
+    let mut port = bound_port(machine, arguments.bind, errors)?;
+    let mut clock = readable_clock(machine, arguments.bind, errors)?;
+    let served = serve(
         alloc, &mut port, &mut clock, arguments, writer, machine, errors,
-    )
+    );
+    tell_end_of(served, port.cause(), errors);
+    served
 }
 
 /// Serves over a port and a clock, and prints what was done; with no end, that it has begun, and then it stays up.
@@ -61,20 +67,44 @@ pub fn serve<P: Port, C: Clock, W: Write, M: time::Clock, E: Write>(
     errors: &mut E,
 ) -> Result<(), Fault>
     requires few { P.failures port.old ≤ 2 ^ 61 }
-    ensures { OnOk result (Serves P.does C.tells arguments.now
+    ensures ok { OnOk result (Serves P.does C.tells arguments.now
         port.old clock.old (W.contents writer.old) port.new clock.new (W.contents writer.new)) }
+    ensures device { result ≡ Err Fault.Device → ServerFails P.does C.tells arguments.now
+        port.old clock.old (W.contents writer.old) port.new clock.new (W.contents writer.new) }
+    ensures output { result ≡ Err Fault.Output → ServerIsCut P.does C.tells arguments.now port.old clock.old port.new clock.new }
 {
     let start = clock.now();
     let mut server = Server::start(alloc, arguments.config, start);
+    serve_for(port, clock, &mut server, arguments, writer, machine, errors)
+}
+
+/// The server goes through its turns, or stays up, and prints what is to be printed of it.
+fn serve_for<P: Port, C: Clock, W: Write, M: time::Clock, E: Write>(
+    port: &mut P,
+    clock: &mut C,
+    server: &mut Server,
+    arguments: &ServeArguments,
+    writer: &mut W,
+    machine: &M,
+    errors: &mut E,
+) -> Result<(), Fault>
+    requires few { P.failures port.old ≤ 2 ^ 61 }
+    ensures ok { OnOk result (ServesFor P.does C.tells arguments.now.turns (record { port = port.old; clock = clock.old; server = server.old }) (W.contents writer.old)
+        (record { port = port.new; clock = clock.new; server = server.new }) (W.contents writer.new)) }
+    ensures device { result ≡ Err Fault.Device → FailsFor P.does C.tells arguments.now.turns (record { port = port.old; clock = clock.old; server = server.old }) (W.contents writer.old)
+        (record { port = port.new; clock = clock.new; server = server.new }) (W.contents writer.new) }
+    ensures output { result ≡ Err Fault.Output → IsCutFor P.does C.tells arguments.now.turns (record { port = port.old; clock = clock.old; server = server.old })
+        (record { port = port.new; clock = clock.new; server = server.new }) }
+{
     match arguments.turns {
         Some(turns) => {
-            let counts = serve_turns(port, clock, &mut server, turns)?;
+            let counts = serve_turns(port, clock, server, turns)?;
             print_counts(counts, writer).map_err(|_| Fault::Output)?;
             Ok(())
         }
         None => {
             print_begin(arguments, writer).map_err(|_| Fault::Output)?;
-            serve_on(port, clock, &mut server, FOREVER, machine, errors)?;
+            serve_on(port, clock, server, FOREVER, machine, errors)?;
             Ok(())
         }
     }

@@ -1,24 +1,72 @@
 //! What stays up when its port fails.
 
-ghost use Rattle.std.specs.Prelude.{◌+◌, ◌≤◌, ◌^◌, OnOk, OnErr};
+ghost use Rattle.std.specs.Prelude.{◌≡◌, ◌+◌, ◌<◌, ◌≤◌, ◌^◌, OnOk, OnErr};
+ghost use Rattle.nbt_net.specs.Node.{Turns, BreaksTurns};
 ghost use Rattle.nbt_net.specs.Serve.{ServesTurn, BreaksServing};
 ghost use Rattle.nbt_net.specs.Staying.{StaysUp, GivesUp};
 
-use nbt_engine::{Clock, Device, Port, serve_turns};
+use crate::fault::Fault;
+use crate::limits::MOST_FAILURES;
+use crate::node::{NodeArguments, SLOTS, take_turn};
+use nbt_engine::{Cause, Clock, Device, Port, serve_turns};
+use nbt_node::Node;
 use nbt_server::Server;
 use std::io::Write;
 use std::time::Duration;
 use std::{io, thread, time};
 
-/// How many turns in a row may fail: at the last of them an end gives up that is meant to stay up (our profile).
-pub const MOST_FAILURES: u64 = 100;
-
-/// How many turns an end takes that has no end: more than any machine lives to see (our profile).
-pub const FOREVER: u64 = 1 << 61;
-
 /// How long an end waits after a turn that failed, in milliseconds: as long as a turn takes in which nothing comes (our
 /// profile).
 const WAIT: u64 = 100;
+
+/// How many turns in a row have failed.
+#[derive(Debug, Drop)]
+pub struct Row {
+    failed: u64,
+}
+
+impl Row {
+    /// None has.
+    pub fn new() -> Row
+        ensures { result.failed ≡ 0 }
+    {
+        Row { failed: 0 }
+    }
+
+    /// A turn went well: the row is over. Where it was one, that is said in `errors`.
+    pub fn ends<E: Write>(&mut self, errors: &mut E)
+        ensures { self.new.failed ≡ 0 }
+    {
+        if self.failed > 0 {
+            let _ = tell_count(errors, self.failed);
+        }
+        self.failed = 0;
+    }
+
+    /// A turn failed, for this cause. At the first of a row that is said in `errors`. It waits 100 ms by the machine's clock,
+    /// and the end goes on. Refused with `Device` at the hundredth in a row, at once.
+    pub fn goes_on<M: time::Clock, E: Write>(
+        &mut self,
+        cause: Option<Cause>,
+        machine: &M,
+        errors: &mut E,
+    ) -> Result<(), Device>
+        requires few { self.old.failed < MOST_FAILURES }
+        ensures count { self.new.failed ≡ self.old.failed + 1 }
+        ensures ok { OnOk result (self.new.failed < MOST_FAILURES) }
+        ensures err { OnErr result (self.new.failed ≡ MOST_FAILURES) }
+    {
+        self.failed += 1;
+        if self.failed >= MOST_FAILURES {
+            return Err(Device);
+        }
+        if self.failed == 1 {
+            tell_failure(cause, errors);
+        }
+        thread::sleep(machine, Duration::from_millis(WAIT));
+        Ok(())
+    }
+}
 
 /// The server goes through `turns` turns, as [`serve_turns`] does, and stays up when the port fails. After a turn that failed
 /// it says so in `errors`, the first time of a row, waits 100 ms by the machine's clock, and goes on from where the failure
@@ -38,37 +86,59 @@ pub fn serve_on<P: Port, C: Clock, M: time::Clock, E: Write>(
     ensures err { OnErr result (GivesUp (ServesTurn P.does C.tells) (BreaksServing P.does C.tells) turns
         (record { port = port.old; clock = clock.old; server = server.old }) (record { port = port.new; clock = clock.new; server = server.new })) }
 {
-    let mut row = 0;
+    let mut row = Row::new();
     for _ in 0..turns {
         match serve_turns(port, clock, server, 1) {
-            Ok(_) => {
-                tell_over(row, errors);
-                row = 0;
-            }
-            Err(failure) => {
-                row += 1;
-                if row >= MOST_FAILURES {
-                    return Err(failure);
-                }
-                outlast(row, machine, errors);
-            }
+            Ok(_) => row.ends(errors),
+            Err(_) => row.goes_on(port.cause(), machine, errors)?,
         }
     }
     Ok(())
 }
 
-/// After the `row`th failure in a row: says it, where it is the first, and waits.
-pub fn outlast<M: time::Clock, E: Write>(row: u64, machine: &M, errors: &mut E) {
-    if row == 1 {
-        let _ = tell(errors, "the port failed; going on");
+/// The node takes `turns` turns, prints what is seen in each, and stays up when the port fails, as [`serve_on`] does. Refused
+/// with `Device` at the hundredth failure in a row, at once, and with `Output` where `writer` fails.
+pub fn node_on<P: Port, C: Clock, W: Write, M: time::Clock, E: Write>(
+    port: &mut P,
+    clock: &mut C,
+    node: &mut Node<SLOTS>,
+    arguments: &NodeArguments,
+    turns: u64,
+    writer: &mut W,
+    machine: &M,
+    errors: &mut E,
+) -> Result<(), Fault>
+    requires few { P.failures port.old + turns ≤ 2 ^ 62 }
+    ensures ok { OnOk result (StaysUp (Turns P.does C.tells arguments.now.server arguments.now.want) (BreaksTurns P.does C.tells arguments.now.server arguments.now.want) turns
+        (record { port = port.old; clock = clock.old; node = node.old; text = W.contents writer.old }) (record { port = port.new; clock = clock.new; node = node.new; text = W.contents writer.new })) }
+    ensures device { result ≡ Err Fault.Device → GivesUp (Turns P.does C.tells arguments.now.server arguments.now.want) (BreaksTurns P.does C.tells arguments.now.server arguments.now.want) turns
+        (record { port = port.old; clock = clock.old; node = node.old; text = W.contents writer.old }) (record { port = port.new; clock = clock.new; node = node.new; text = W.contents writer.new }) }
+{
+    let mut row = Row::new();
+    for _ in 0..turns {
+        match take_turn(port, clock, node, arguments, writer) {
+            Ok(_) => row.ends(errors),
+            Err(Fault::Device) => row.goes_on(port.cause(), machine, errors)?,
+            Err(fault) => return Err(fault),
+        }
     }
-    thread::sleep(machine, Duration::from_millis(WAIT));
+    Ok(())
 }
 
-/// After a turn that went well: says how many failed in a row before it, where some did.
-pub fn tell_over<E: Write>(row: u64, errors: &mut E) {
-    if row > 0 {
-        let _ = tell_count(errors, row);
+/// Of an end whose port failed for good, says why, where it knows that.
+pub fn tell_end_of<E: Write>(ended: Result<(), Fault>, cause: Option<Cause>, errors: &mut E) {
+    if let (Err(Fault::Device), Some(cause)) = (ended, cause) {
+        cause.tell("", errors);
+    }
+}
+
+/// Says that a port failed, and why, where it knows that.
+fn tell_failure<E: Write>(cause: Option<Cause>, errors: &mut E) {
+    match cause {
+        Some(cause) => cause.tell("; going on", errors),
+        None => {
+            let _ = tell(errors, "the port failed; going on");
+        }
     }
 }
 

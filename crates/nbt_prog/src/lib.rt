@@ -50,7 +50,7 @@ pub fn command<S: AsStr, R: Read, W: Write>(
     ensures memory { result ≡ 4
         → Appends (W.contents writer.old) (W.contents writer.new) (codes "memory" ++ 10 ∷ []) }
 {
-    conclude(run(alloc, words, reader), writer)
+    conclude_read(alloc, arguments::parse_words(alloc, words), reader, writer)
 }
 
 /// Runs the command that `words` name, as [`command_telling`] does, and tells nobody which call of the machine failed.
@@ -68,9 +68,9 @@ pub fn command_on<M: Net + time::Clock, S: AsStr, R: Read, W: Write>(
 
 /// Runs the command that `words` name, as [`command`] does, and on this machine those that open sockets too: `serve`,
 /// `node` and `loop`. They write to `writer` as they go on. Status 3 is also that of a port that can't be bound, of a
-/// clock that can't be read at the start of `serve` or `node`, and of a socket that failed; of `serve --forever` a socket that
-/// fails is said in `errors`, and only the hundredth turn in a row that fails ends the command. What can't be written to
-/// `errors` is passed over.
+/// clock that can't be read at the start of `serve` or `node`, and of a socket that failed. Then a line in `errors` says which
+/// call of the machine failed, for which address, and why. With `--forever` a socket that fails is said in `errors` too, and only
+/// the hundredth turn in a row that fails ends the command. What can't be written to `errors` is passed over.
 pub fn command_telling<M: Net + time::Clock, S: AsStr, R: Read, W: Write, E: Write>(
     machine: &M,
     alloc: Global,
@@ -83,13 +83,12 @@ pub fn command_telling<M: Net + time::Clock, S: AsStr, R: Read, W: Write, E: Wri
 {
     match arguments::parse_words(alloc, words) {
         Ok(Request::Serve(arguments)) => serve_on(machine, alloc, &arguments, writer, errors),
-        Ok(Request::Node(arguments)) => node_on(machine, &arguments, writer),
+        Ok(Request::Node(arguments)) => node_on(machine, &arguments, writer, errors),
         Ok(Request::Loop(ports)) => {
-            let outcome = nbt_loop::run(machine, alloc, ports, writer);
+            let outcome = nbt_loop::run(machine, alloc, ports, writer, errors);
             conclude_written(outcome.map_err(Failure::from), writer)
         }
-        Ok(request) => conclude(run_request(alloc, request, reader), writer),
-        Err(failure) => conclude(Err(failure), writer),
+        asked => conclude_read(alloc, asked, reader, writer),
     }
 }
 
@@ -111,15 +110,16 @@ fn serve_on<M: Net + time::Clock, W: Write, E: Write>(
 }
 
 /// Runs a node. With status 0 it took its turns, and printed what it has to.
-fn node_on<M: Net + time::Clock, W: Write>(
+fn node_on<M: Net + time::Clock, W: Write, E: Write>(
     machine: &M,
     arguments: &NodeArguments,
     writer: &mut W,
+    errors: &mut E,
 ) -> u8
     ensures bound { result ≤ 4 }
     ensures done { result ≡ 0 → RunsNodeHere arguments.now (W.contents writer.old) (W.contents writer.new) }
 {
-    match nbt_net::run_node(machine, arguments, writer) {
+    match nbt_net::run_node(machine, arguments, writer, errors) {
         Ok(()) => 0,
         Err(fault) => conclude_fault(fault, writer),
     }
@@ -130,7 +130,9 @@ fn conclude_fault<W: Write>(fault: Fault, writer: &mut W) -> u8
     ensures { result ≡ 3 }
 {
     match fault {
-        Fault::Device => conclude_written(Err(Failure::Device), writer),
+        Fault::NoPort | Fault::NoClock | Fault::Device => {
+            conclude_written(Err(Failure::Device), writer)
+        }
         Fault::Output => conclude_written(Err(Failure::Output), writer),
     }
 }
@@ -167,9 +169,23 @@ pub fn command_without_words<W: Write>(alloc: Global, error: io::Error, writer: 
     conclude(Err(failure), writer)
 }
 
-/// The whole output of the command that `words` name.
-fn run<S: AsStr, R: Read>(alloc: Global, words: &[S], reader: &mut R) -> Result<Printed, Failure> {
-    run_request(alloc, arguments::parse_words(alloc, words)?, reader)
+/// Does what the words ask for, where they could be read, without a machine. Prints its output, or the text of the failure, and
+/// returns the status.
+fn conclude_read<R: Read, W: Write>(
+    alloc: Global,
+    asked: Result<Request, Failure>,
+    reader: &mut R,
+    writer: &mut W,
+) -> u8
+    ensures bound { result ≤ 4 }
+    ensures memory { result ≡ 4
+        → Appends (W.contents writer.old) (W.contents writer.new) (codes "memory" ++ 10 ∷ []) }
+{
+    let outcome = match asked {
+        Ok(request) => run_request(alloc, request, reader),
+        Err(failure) => Err(failure),
+    };
+    conclude(outcome, writer)
 }
 
 /// The whole output of a command. Those that open sockets have no machine here to open them on.

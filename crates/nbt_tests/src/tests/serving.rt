@@ -18,7 +18,8 @@ const OWN: &str = "127.42.22.2:20138";
 const OTHER: &str = "127.42.22.3:20139";
 
 /// A command, the moments that its clock tells, and what the other end sends at which reading of it; at which reading the
-/// port breaks, or 0; and how it ends, after how many readings, what is printed, and what the other end is sent.
+/// port breaks, or 0; and how it ends, after how many readings, what is printed, what is said of errors, and what the other end
+/// is sent.
 #[derive(Clone, Copy)]
 struct Row {
     about: &'static str,
@@ -29,6 +30,7 @@ struct Row {
     status: u8,
     readings: usize,
     text: &'static str,
+    errors: &'static str,
     sent: &'static [&'static str],
 }
 
@@ -73,6 +75,18 @@ const REFUSED: &str = "0001_ad86_0000_0001_0000_0000_{FRED}_0020_0001_00000000_0
 
 const CONFLICT: &str = "0002_ad87_0000_0001_0000_0000_{FRED}_0020_0001_00000000_0006_2000_7f2a1602";
 
+/// What is said of a port that fails for good; of one that fails where there is no end; and of a clock.
+const FAILED: &str = "nbt: 127.42.22.2:20138: receive: Connection refused (os error 111)\n";
+
+const GIVES_UP: &str = "\
+nbt: 127.42.22.2:20138: receive: Connection refused (os error 111); going on
+nbt: 127.42.22.2:20138: receive: Connection refused (os error 111)
+";
+
+const NO_CLOCK: &str = "nbt: 127.42.22.2:20138: clock: unsupported\n";
+
+const NO_TIME: &str = "nbt: 127.42.22.2:20138: clock: the time is 1970\n";
+
 const SERVERS: [Row; 9] = [
     Row {
         about: "BIND, LONGEST and TURNS: silent for 70 s, and then leases of 70 s at most, of two names and more",
@@ -83,6 +97,7 @@ const SERVERS: [Row; 9] = [
         status: 0,
         readings: 5,
         text: "turns 5 replies 2 lost 0\n",
+        errors: "",
         sent: &[
             "0002_ad80_0000_0001_0000_0000_{FRED}_0020_0001_00000046_0006_2000_7f2a1603",
             TEAM_GRANTED,
@@ -97,6 +112,7 @@ const SERVERS: [Row; 9] = [
         status: 0,
         readings: 3,
         text: "turns 1 replies 0 lost 0\n",
+        errors: "",
         sent: &[],
     },
     Row {
@@ -108,6 +124,7 @@ const SERVERS: [Row; 9] = [
         status: 0,
         readings: 3,
         text: "turns 1 replies 1 lost 0\n",
+        errors: "",
         sent: &[FIRST_GRANTED],
     },
     Row {
@@ -119,6 +136,7 @@ const SERVERS: [Row; 9] = [
         status: 0,
         readings: 5,
         text: "turns 4 replies 2 lost 1\n",
+        errors: "",
         sent: &[FIRST_GRANTED, AGAIN_GRANTED],
     },
     Row {
@@ -130,6 +148,7 @@ const SERVERS: [Row; 9] = [
         status: 3,
         readings: 2,
         text: "serving 127.42.22.2:20138, silent for 60 s\ndevice\n",
+        errors: GIVES_UP,
         sent: &[],
     },
     Row {
@@ -141,6 +160,7 @@ const SERVERS: [Row; 9] = [
         status: 3,
         readings: 4,
         text: "serving 127.42.22.2:20138, silent for 60 s\ndevice\n",
+        errors: GIVES_UP,
         sent: &[FIRST_GRANTED],
     },
     Row {
@@ -152,6 +172,7 @@ const SERVERS: [Row; 9] = [
         status: 3,
         readings: 4,
         text: "device\n",
+        errors: FAILED,
         sent: &[FIRST_GRANTED],
     },
     Row {
@@ -163,6 +184,7 @@ const SERVERS: [Row; 9] = [
         status: 3,
         readings: 1,
         text: "device\n",
+        errors: NO_CLOCK,
         sent: &[],
     },
     Row {
@@ -174,6 +196,7 @@ const SERVERS: [Row; 9] = [
         status: 3,
         readings: 1,
         text: "device\n",
+        errors: NO_TIME,
         sent: &[],
     },
 ];
@@ -198,6 +221,7 @@ const NODES: [Row; 5] = [
         status: 0,
         readings: 10,
         text: "granted 70\nheld\n",
+        errors: "",
         sent: &[
             "0001_2900_0001_0000_0000_0001_{FRED}_0020_0001_c00c_0020_0001_0000012c_0006_a000_7f2a1602",
         ],
@@ -213,6 +237,7 @@ const NODES: [Row; 5] = [
         status: 0,
         readings: 8,
         text: "granted 60\nrenewed 60\nheld\n",
+        errors: "",
         sent: &[ASKS, REFRESHES],
     },
     Row {
@@ -232,17 +257,19 @@ const NODES: [Row; 5] = [
         status: 0,
         readings: 12,
         text: "refused 6\ngranted 60\nlost\nnot held\n",
+        errors: "",
         sent: &[ASKS, ASKS_AGAIN],
     },
     Row {
-        about: "with no end it goes on until its port fails",
+        about: "with no end it goes on until its port fails 100 times in a row",
         words: "nbt node 127.42.22.2:20138 127.42.22.3:20139 1000 60 FRED unique 60 --forever",
         moments: &[1_000_000, 1_000_000, 1_002_005],
         sends: &[(3, GRANTED)],
         breaks_at: 6,
         status: 3,
-        readings: 7,
+        readings: 106,
         text: "granted 60\ndevice\n",
+        errors: GIVES_UP,
         sent: &[ASKS],
     },
     Row {
@@ -254,6 +281,7 @@ const NODES: [Row; 5] = [
         status: 3,
         readings: 1,
         text: "device\n",
+        errors: NO_CLOCK,
         sent: &[],
     },
 ];
@@ -285,9 +313,6 @@ where
     })
 }
 
-/// What is said of a server's port that fails, where there is no end.
-const FAILED: &str = "nbt: the port failed; going on\n";
-
 /// Runs a row's command, while the other end sends.
 fn expect_row<R>(rt: &R, row: &Row) -> Result<(), Fail>
 where
@@ -310,12 +335,12 @@ where
     assert_eq!(rt; status, row.status, "{about}");
     assert!(rt; paper.is_line_by_line(), "{about}");
     assert_eq!(rt; machine.readings.get(), row.readings, "{about}");
-    let (text, sleeps) = if row.words.starts_with("nbt serve") && row.words.ends_with("--forever") {
-        (FAILED, 99)
+    assert_eq!(rt; errors.text.as_slice(), row.errors.as_bytes(), "{about}");
+    let sleeps = if row.words.ends_with("--forever") {
+        99
     } else {
-        ("", 0)
+        0
     };
-    assert_eq!(rt; errors.text.as_slice(), text.as_bytes(), "{about}");
     assert_eq!(rt; machine.sleeps.get(), sleeps, "{about}");
     expect_sent(rt, row, &machine.other)
 }
@@ -356,8 +381,16 @@ const ASKS_FOR_FRED: &str = "0004_0100_0001_0000_0000_0000_{FRED}_0020_0001";
 
 const HAS_FRED: &str = "0004_8580_0000_0001_0000_0000_{FRED}_0020_0001_0000003c_0006_2000_7f2a1603";
 
-/// A server whose port fails three times in a row, is well again, and then fails for good.
-const OUTLASTS: Row = Row {
+/// What is said of a port that fails three times in a row, is well again, and then fails for good.
+const OUTLASTED: &str = "\
+nbt: 127.42.22.2:20138: receive: Connection refused (os error 111); going on
+nbt: the port is well again after 3 failures in a row
+nbt: 127.42.22.2:20138: receive: Connection refused (os error 111); going on
+nbt: 127.42.22.2:20138: receive: Connection refused (os error 111)
+";
+
+/// A server whose port does so.
+const SERVER_OUTLASTS: Row = Row {
     about: "after three failures it goes on with the leases that it has",
     words: "nbt serve 127.42.22.2:20138 1000 60 --forever",
     moments: &[1_000_000, 1_000_000, 1_060_000],
@@ -366,22 +399,35 @@ const OUTLASTS: Row = Row {
     status: 3,
     readings: 6,
     text: "serving 127.42.22.2:20138, silent for 60 s\ndevice\n",
+    errors: OUTLASTED,
     sent: &[FIRST_GRANTED, HAS_FRED],
 };
 
-/// What is said of it.
-const OUTLASTED: &str = "nbt: the port failed; going on
-nbt: the port is well again after 3 failures in a row
-nbt: the port failed; going on
-";
+/// A node whose port does so.
+const NODE_OUTLASTS: Row = Row {
+    about: "after three failures it renews the name that it holds",
+    words: "nbt node 127.42.22.2:20138 127.42.22.3:20139 1000 60 FRED unique 60 --forever",
+    moments: &[
+        1_000_000, 1_000_000, 1_002_005, 1_002_005, 1_002_005, 1_002_005, 1_002_005, 1_032_005,
+    ],
+    sends: &[(3, GRANTED), (WELL, SECOND_GRANTED)],
+    breaks_at: 4,
+    status: 3,
+    readings: 109,
+    text: "granted 60\nrenewed 60\ndevice\n",
+    errors: OUTLASTED,
+    sent: &[ASKS, REFRESHES],
+};
 
-#[test]
-fn a_server_stays_up(rt: HostRuntime) -> Result<(), Fail> {
-    let row = &OUTLASTS;
-    let mut machine = machine_of(&rt, row)?;
+/// Runs the row's command, whose port is well after three failures and breaks again at that reading.
+fn expect_outlasting<R>(rt: &R, row: &Row, breaks_again_at: usize) -> Result<(), Fail>
+where
+    R: Abort + AllocGlobal + Net<Stream = TcpStream, Listener = TcpListener>,
+{
+    let mut machine = machine_of(rt, row)?;
     machine.well_after = 3;
-    machine.breaks_again_at = 6;
-    let words = words_of(&rt, row.words);
+    machine.breaks_again_at = breaks_again_at;
+    let words = words_of(rt, row.words);
     let mut paper = Paper::new();
     let mut errors = Paper::new();
     let status = command_telling(
@@ -392,13 +438,24 @@ fn a_server_stays_up(rt: HostRuntime) -> Result<(), Fail> {
         &mut paper,
         &mut errors,
     );
-    assert_eq!(&rt; paper.text.as_slice(), row.text.as_bytes());
-    assert_eq!(&rt; status, row.status);
-    assert_eq!(&rt; errors.text.as_slice(), OUTLASTED.as_bytes());
-    assert_eq!(&rt; machine.readings.get(), row.readings);
+    let about = row.about;
+    assert_eq!(rt; paper.text.as_slice(), row.text.as_bytes(), "{about}");
+    assert_eq!(rt; status, row.status, "{about}");
+    assert_eq!(rt; errors.text.as_slice(), row.errors.as_bytes(), "{about}");
+    assert_eq!(rt; machine.readings.get(), row.readings, "{about}");
     // One wait after each failure but the last: three, and 99.
-    assert_eq!(&rt; machine.sleeps.get(), 102);
-    expect_sent(&rt, row, &machine.other)
+    assert_eq!(rt; machine.sleeps.get(), 102, "{about}");
+    expect_sent(rt, row, &machine.other)
+}
+
+#[test]
+fn a_server_stays_up(rt: HostRuntime) -> Result<(), Fail> {
+    expect_outlasting(&rt, &SERVER_OUTLASTS, 6)
+}
+
+#[test]
+fn a_node_stays_up(rt: HostRuntime) -> Result<(), Fail> {
+    expect_outlasting(&rt, &NODE_OUTLASTS, 9)
 }
 
 /// The first line of each row of a node.

@@ -1,23 +1,21 @@
-use Rattle.std.proofs.Common.{refl}
-use Rattle.nbt_node.specs.Calls.{started}
-use Rattle.nbt_net.specs.Turns.{turns_of}
+use Rattle.std.proofs.lemmas.Result.{err_from_is_err_and}
+use Rattle.nbt_engine.specs.Udp.{MachineTells}
+use Rattle.nbt_net.specs.Node.{RunsToItsEnd, NodeFailsFor}
+use Rattle.nbt_net.proofs.Beginning.{passed_on, node_begins}
 use Rattle.nbt_net.proofs.Printing.{on_ok}
-use Rattle.nbt_net.proofs.Turning.{turns_from}
 use Rattle.nbt_net.proofs.node.run_turns.Goals as goal
 
-pub returns : goal.returns
-returns g c = on_ok c.tell_end.result c.map_err.result c.map_err.ensures.variant c.tell_end.ensures
-    (λ told. let begun = c.start_node-node.ensures in
-    let start = begun.0 in
+pub returns-in_err-run_for-clause-device : goal.returns-in_err-run_for-clause-device
+returns-in_err-run_for-clause-device g c =
+    let p = err_from_is_err_and c.from_residual.result c.from_residual.ensures.1 in
     let a = c.args.arguments.now in
-    record {
-      start = start;
-      node = c.take_turns.new.node;
-      turns_text = g.W.Write.contents c.take_turns.new.writer;
-      clock_told = (refl, begun.1.1);
-      turns = turns_from g.P.Port.does a.server a.want c.args.port.now c.take_turns.new.port c.start_node-node.new.clock start c.take_turns.new.clock
-          c.start_node-node.result (started 14 a.bind a.server a.config start) c.take_turns.new.node c.unwrap_or-turns.result (turns_of a.turns)
-          (g.W.Write.contents c.args.writer.now) (g.W.Write.contents c.take_turns.new.writer)
-          c.unwrap_or-turns.ensures begun.1.0 begun.2 c.in_ok-take_turns.ensures;
-      ended = rw (← c.last.ensures) told;
-    })
+    λ same. node_begins a (NodeFailsFor g.P.Port.does MachineTells a.turns a.server a.want) c.args.port.now c.run_for.new.port c.args.clock.now c.start_node-node.new.clock c.run_for.new.clock
+    (g.W.Write.contents c.args.writer.now) (g.W.Write.contents c.run_for.new.writer) c.start_node-node.result c.run_for.new.node c.start_node-node.ensures
+    (c.run_for.ensures.device (passed_on c.from_residual.result c.run_for.result p.0 _ _ p.1 p.2 c.in_err-run_for.was same))
+
+pub returns-clause-ok : goal.returns-clause-ok
+returns-clause-ok g c = on_ok c.tell_end.result c.map_err.result c.map_err.ensures.variant c.tell_end.ensures
+    (λ told. let a = c.args.arguments.now in
+    node_begins a (RunsToItsEnd g.P.Port.does a) c.args.port.now c.run_for.new.port c.args.clock.now c.start_node-node.new.clock c.run_for.new.clock
+    (g.W.Write.contents c.args.writer.now) (g.W.Write.contents c.tell_end.new.writer) c.start_node-node.result c.run_for.new.node c.start_node-node.ensures
+    (g.W.Write.contents c.run_for.new.writer, c.in_ok-run_for.ensures.ok, rw (← c.last.ensures) told))

@@ -1,20 +1,31 @@
 use Rattle.std.proofs.Common.{refl, ◌∙◌}
-use Rattle.nbt_net.proofs.Printing.{ok_before}
-use Rattle.nbt_net.proofs.Turning.{no_turns, turns_on}
+use Rattle.std.proofs.lemmas.Result.{err_from_is_err_and}
+use Rattle.nbt_net.proofs.Beginning.{passed_on}
+use Rattle.nbt_net.proofs.Turning.{no_turns, turns_on, turns_fail}
 use Rattle.nbt_net.proofs.node.take_turns.Goals as goal
 
 pub loop-init : goal.loop-init
 loop-init g c = record {
-  run = no_turns g.P.Port.does g.C.Clock.tells c.args.arguments.now.server c.args.arguments.now.want c.args.port.now c.args.clock.now c.args.node.now (g.W.Write.contents c.args.writer.now);
+  run = no_turns g.P.Port.does g.C.Clock.tells c.args.arguments.now.server c.args.arguments.now.want
+      (record { port = c.args.port.now; clock = c.args.clock.now; node = c.args.node.now; text = g.W.Write.contents c.args.writer.now });
   count = refl;
 }
 
 pub loop-preserved : goal.loop-preserved
 loop-preserved g c = record {
   run = turns_on g.P.Port.does g.C.Clock.tells c.args.arguments.now.server c.args.arguments.now.want c.loop.counter
-      c.args.port.now c.loop.port c.node_turn.new.port c.args.clock.now c.loop.clock c.node_turn.new.clock c.args.node.now c.loop.node c.node_turn.new.node
-      (g.W.Write.contents c.args.writer.now) (g.W.Write.contents c.loop.writer) (g.W.Write.contents c.tell.new.writer) c.in_ok-seen.seen
-      c.loop.invariant.run c.in_ok-seen.ensures.ok
-      (ok_before c.tell.result c.map_err.result c.map_err.ensures.variant _ c.in_ok-map_err.was c.tell.ensures);
-  count = c.in_ok-seen.ensures.device ∙ c.loop.invariant.count;
+      (record { port = c.args.port.now; clock = c.args.clock.now; node = c.args.node.now; text = g.W.Write.contents c.args.writer.now })
+      (record { port = c.loop.port; clock = c.loop.clock; node = c.loop.node; text = g.W.Write.contents c.loop.writer })
+      (record { port = c.take_turn.new.port; clock = c.take_turn.new.clock; node = c.take_turn.new.node; text = g.W.Write.contents c.take_turn.new.writer })
+      _ c.loop.invariant.run c.in_ok-take_turn.ensures.ok;
+  count = c.in_ok-take_turn.ensures.same ∙ c.loop.invariant.count;
 }
+
+pub returns-in_err-take_turn-clause-device : goal.returns-in_err-take_turn-clause-device
+returns-in_err-take_turn-clause-device g c =
+    let p = err_from_is_err_and c.from_residual.result c.from_residual.ensures.1 in
+    λ same. turns_fail g.P.Port.does g.C.Clock.tells c.args.arguments.now.server c.args.arguments.now.want c.loop.counter c.args.turns
+    (record { port = c.args.port.now; clock = c.args.clock.now; node = c.args.node.now; text = g.W.Write.contents c.args.writer.now })
+    (record { port = c.loop.port; clock = c.loop.clock; node = c.loop.node; text = g.W.Write.contents c.loop.writer })
+    (record { port = c.take_turn.new.port; clock = c.take_turn.new.clock; node = c.take_turn.new.node; text = g.W.Write.contents c.take_turn.new.writer })
+    c.loop-test.true c.loop.invariant.run (c.take_turn.ensures.device (passed_on c.from_residual.result c.take_turn.result p.0 _ _ p.1 p.2 c.in_err-take_turn.was same))

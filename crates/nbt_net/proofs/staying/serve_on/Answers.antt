@@ -1,27 +1,23 @@
-use Rattle.std.proofs.Common.{arith, ◌+◌, ◌≡◌, ◌≤◌, ◌<◌, ℕ, subst}
+use Rattle.std.proofs.Common.{arith, ◌+◌, ◌≤◌, sym, ◌∙◌}
+use Rattle.std.proofs.lemmas.Result.{err_from_is_err_and}
 use Rattle.nbt_net.specs.Serve.{ServesTurn, BreaksServing}
-use Rattle.nbt_net.specs.Staying.{Goes}
-use Rattle.nbt_net.proofs.Outcomes.{goes_on_well, goes_on_failed}
+use Rattle.nbt_net.proofs.Outcomes.{row_over, row_longer}
 use Rattle.nbt_net.proofs.staying.serve_on.Goals as goal
-use Rattle.nbt_net.proofs.staying.serve_on.Goals.{in-Ok, in-Err+else-row-ge-MOST_FAILURES}
+use Rattle.nbt_net.proofs.staying.serve_on.Goals.{in-Ok, in-Err+in_ok-goes_on-in-Err}
 
-pub returns-then-row-ge-MOST_FAILURES-clause-err : goal.returns-then-row-ge-MOST_FAILURES-clause-err
-returns-then-row-ge-MOST_FAILURES-clause-err g c =
-    let few = c.loop.invariant.few in
-    let full = c.if-row-ge-MOST_FAILURES.true in
+pub returns-in_err-goes_on-in-Err-clause-err : goal.returns-in_err-goes_on-in-Err-clause-err
+returns-in_err-goes_on-in-Err-clause-err g c =
+    let p = err_from_is_err_and c.from_residual.result c.from_residual.ensures.1 in
     let lt = c.loop-test.true in
-    let same : c.loop.row + 1 ≡ 100 = omega (arith, few, full) in
     let most : c.loop.counter + 1 ≤ c.args.turns = omega (arith, lt) in
-    let turns = ServesTurn g.P.Port.does g.C.Clock.tells in
-    let breaks = BreaksServing g.P.Port.does g.C.Clock.tells in (
+    rw p.1 (
       c.loop.counter + 1,
       most,
-      subst (λ (n : ℕ). Goes turns breaks (c.loop.counter + 1) n (record { port = c.args.port.now; clock = c.args.clock.now; server = c.args.server.now })
-          (record { port = c.serve_turns.new.port; clock = c.serve_turns.new.clock; server = c.serve_turns.new.server })) same
-          (goes_on_failed turns breaks c.loop.counter c.loop.row (record { port = c.args.port.now; clock = c.args.clock.now; server = c.args.server.now })
+      row_longer (ServesTurn g.P.Port.does g.C.Clock.tells) (BreaksServing g.P.Port.does g.C.Clock.tells) c.loop.counter c.loop.row.failed _
+          (record { port = c.args.port.now; clock = c.args.clock.now; server = c.args.server.now })
           (record { port = c.loop.port; clock = c.loop.clock; server = c.loop.server })
           (record { port = c.serve_turns.new.port; clock = c.serve_turns.new.clock; server = c.serve_turns.new.server })
-          c.loop.invariant.few c.loop.invariant.run c.in-Err.ensures.err),
+          (sym c.in_err-goes_on-in-Err.ensures.err ∙ c.goes_on.ensures.count) c.loop.invariant.few c.loop.invariant.run c.in-Err.ensures.err,
     )
 
 pub loop-preserved : goal.loop-preserved
@@ -32,23 +28,23 @@ loop-preserved g c =
     elim c.match-serve_turns.branch [
       | in-Ok w ↦
           let count = w.in-Ok.ensures.device in
+          let over = w.ends.ensures in
           record {
-            run = rw w.row-is (goes_on_well turns breaks c.loop.counter c.loop.row (record { port = c.args.port.now; clock = c.args.clock.now; server = c.args.server.now })
+            run = rw w.row-is (row_over turns breaks c.loop.counter c.loop.row.failed _ (record { port = c.args.port.now; clock = c.args.clock.now; server = c.args.server.now })
                 (record { port = c.loop.port; clock = c.loop.clock; server = c.loop.server })
                 (record { port = c.serve_turns.new.port; clock = c.serve_turns.new.clock; server = c.serve_turns.new.server })
-                w.in-Ok.field-0 c.loop.invariant.few c.loop.invariant.run w.in-Ok.ensures.ok);
-            few = rw w.row-is (omega arith);
+                w.in-Ok.field-0 over c.loop.invariant.few c.loop.invariant.run w.in-Ok.ensures.ok);
+            few = rw w.row-is (omega (arith, over));
             count = omega (arith, before, count);
           }
-      | in-Err+else-row-ge-MOST_FAILURES w ↦
+      | in-Err+in_ok-goes_on-in-Err w ↦
           let count = w.in-Err.ensures.device in
-          let few = w.if-row-ge-MOST_FAILURES.false in
           record {
-            run = rw w.row-is (goes_on_failed turns breaks c.loop.counter c.loop.row (record { port = c.args.port.now; clock = c.args.clock.now; server = c.args.server.now })
+            run = rw w.row-is (row_longer turns breaks c.loop.counter c.loop.row.failed _ (record { port = c.args.port.now; clock = c.args.clock.now; server = c.args.server.now })
                 (record { port = c.loop.port; clock = c.loop.clock; server = c.loop.server })
                 (record { port = c.serve_turns.new.port; clock = c.serve_turns.new.clock; server = c.serve_turns.new.server })
-                c.loop.invariant.few c.loop.invariant.run w.in-Err.ensures.err);
-            few = rw w.row-is (omega (arith, few));
+                w.goes_on.ensures.count c.loop.invariant.few c.loop.invariant.run w.in-Err.ensures.err);
+            few = rw w.row-is w.in_ok-goes_on-in-Err.ensures.ok;
             count = omega (arith, before, count);
           }
     ]

@@ -5,6 +5,7 @@ ghost use Rattle.std.specs.Prelude.{◌≡◌};
 use crate::connection::{Connection, send};
 use crate::end_node::SLOTS;
 use crate::fault::Fault;
+use nbt_engine::{Cause, MachineCall};
 use nbt_lease::Moment;
 use nbt_name::{Addr, Name};
 use nbt_node::Node;
@@ -16,22 +17,24 @@ use std::net::{Ipv4Addr, Net, OpenListener, SocketAddr, TcpListener};
 /// The listener's one slot.
 const SLOT: usize = 0;
 
-/// How many accepts are made for one call. The connections of other programs of this machine are closed.
-const CONNECTIONS: u32 = 8;
+/// How many accepts are made for one call: those that were interrupted, and those of other programs of this machine, whose
+/// connections are closed, count too.
+const ACCEPTS: u32 = 8;
 
 /// A TCP socket that listens, the calls that are taken, and the one connection that there may be.
 #[derive(Drop)]
-pub struct Desk<R: Net> {
+pub struct ListeningEnd<R: Net> {
     alloc: Global,
     socket: R::Listener,
     addr: Addr,
     listener: Listener<1, 1>,
     connection: Option<Connection<R::Stream>>,
+    cause: Option<Cause>,
 }
 
-impl<R: Net> Desk<R> {
+impl<R: Net> ListeningEnd<R> {
     /// Listens at `addr` for calls to the name, by anybody.
-    pub fn bind(rt: &R, alloc: Global, addr: Addr, called: Name) -> Result<Desk<R>, Fault> {
+    pub fn bind(rt: &R, alloc: Global, addr: Addr, called: Name) -> io::Result<ListeningEnd<R>> {
         let socket = TcpListener::bind(rt, (Ipv4Addr::from_bits(addr.ip), addr.port))?;
         let mut listener = Listener::new(1);
         let entry = Entry {
@@ -40,12 +43,13 @@ impl<R: Net> Desk<R> {
             retarget: None,
         };
         let _ = listener.listen(entry);
-        Ok(Desk {
+        Ok(ListeningEnd {
             alloc,
             socket,
             addr,
             listener,
             connection: None,
+            cause: None,
         })
     }
 
@@ -54,6 +58,11 @@ impl<R: Net> Desk<R> {
         ensures { result ≡ self.now.addr }
     {
         self.addr
+    }
+
+    /// Why its socket failed, where it did.
+    pub fn cause(&self) -> Option<Cause> {
+        self.cause
     }
 
     /// Takes the connection that `peer` made (RFC 1002 section 5.2.1). An earlier one is lost to the listener, which
@@ -79,12 +88,15 @@ impl<R: Net> Desk<R> {
 
     /// Accepts connections up to the one that `peer` made. Those of other programs are closed. An accept that was
     /// interrupted is made again, and counts as one of the eight.
-    fn accept_from(&self, peer: SocketAddr) -> Result<Option<R::Stream>, Fault> {
-        for _ in 0..CONNECTIONS {
+    fn accept_from(&mut self, peer: SocketAddr) -> Result<Option<R::Stream>, Fault> {
+        for _ in 0..ACCEPTS {
             let (socket, from) = match self.socket.accept() {
                 Ok(accepted) => accepted,
                 Err(error) if error.kind() == io::ErrorKind::Interrupted => continue,
-                Err(error) => return Err(Fault::from(error)),
+                Err(error) => {
+                    self.cause = Some(Cause::new(MachineCall::Accept, self.addr, error));
+                    return Err(Fault::from(error));
+                }
             };
             if from == peer {
                 return Ok(Some(socket));

@@ -14,11 +14,12 @@ use crate::ports::Ports;
 use crate::sessions::{Call, Session};
 use arrayvec::ArrayVec;
 use nbt_dgram::Joiner;
-use nbt_engine::UdpPort;
+use nbt_engine::{Cause, MachineCall, Port, UdpPort};
 use nbt_lease::{Config, Moment};
 use nbt_name::{Addr, Kind, Name};
 use nbt_node::{Event, Node};
 use std::alloc::Global;
+use std::io;
 use std::io::Write;
 use std::net::Net;
 
@@ -43,32 +44,99 @@ const HELLO: &[u8] = b"hello";
 /// sessions. Each step's line goes to `writer` as soon as it is done. All sockets are bound before the first line,
 /// and closed at the end. What another program sends to a node is passed over, up to a few datagrams or connections a
 /// step. Refused: `Device` where a socket can't be bound, or one of UDP or one that listens fails; `Output` where
-/// `writer` fails; `Memory` where memory is refused. A TCP connection that fails is lost, as the end that calls sees
-/// it.
-pub fn run<R: Net, W: Write>(
+/// `writer` fails; `Memory` where memory is refused. Of a socket a line in `errors` says which call of it failed, at which address, and
+/// why; what can't be written there is passed over. A TCP connection that fails is lost, as the end that calls sees it.
+pub fn run<R: Net, W: Write, E: Write>(
     rt: &R,
     alloc: Global,
     ports: Ports,
     writer: &mut W,
+    errors: &mut E,
 ) -> Result<(), Fault> {
-    let mut scene = Scene::open(rt, alloc, ports)?;
-    scene.play(rt, writer)
+    let mut demo = Demo::open(rt, alloc, ports, errors)?;
+    let played = demo.play(rt, writer);
+    if played == Err(Fault::Device) {
+        if let Some(cause) = demo.cause() {
+            cause.tell("", errors);
+        }
+    }
+    played
 }
 
-/// The name server, the two end nodes, and the session that is held.
+/// The name server and the two end nodes.
 #[derive(Drop)]
-struct Scene<R: Net> {
-    alloc: Global,
-    ports: Ports,
+struct Ends {
     server: NameServer<UdpPort>,
     first: EndNode<UdpPort>,
     second: EndNode<UdpPort>,
+}
+
+impl Ends {
+    /// Binds the sockets of all, and starts them at 0.
+    fn open<R: Net, E: Write>(
+        rt: &R,
+        alloc: Global,
+        ports: Ports,
+        errors: &mut E,
+    ) -> Result<Ends, Fault> {
+        let config = Config::new(LIFE, LONGEST, ROWS).unwrap();
+        let at = Addr {
+            ip: SERVER,
+            port: ports.names(),
+        };
+        let port = bound_port(rt, at, errors)?;
+        let first = end_node(rt, config, ports, at, FIRST, errors)?;
+        let second = end_node(rt, config, ports, at, SECOND, errors)?;
+        Ok(Ends {
+            server: NameServer::start(alloc, config, at, port),
+            first,
+            second,
+        })
+    }
+
+    /// Why a port of theirs failed, where one did.
+    fn cause(&self) -> Option<Cause> {
+        let first = self.server.cause().or(self.first.cause());
+        first.or(self.second.cause())
+    }
+}
+
+/// All ends, and the session that is held.
+#[derive(Drop)]
+struct Demo<R: Net> {
+    alloc: Global,
+    ports: Ports,
+    ends: Ends,
     session: Session<R>,
     fred: Name,
     team: Name,
 }
 
-impl<R: Net> Scene<R> {
+impl<R: Net> Demo<R> {
+    /// Binds all sockets, and starts all ends at 0.
+    fn open<E: Write>(
+        rt: &R,
+        alloc: Global,
+        ports: Ports,
+        errors: &mut E,
+    ) -> Result<Demo<R>, Fault> {
+        let ends = Ends::open(rt, alloc, ports, errors)?;
+        let session = listen(rt, alloc, ports, errors)?;
+        Ok(Demo {
+            alloc,
+            ports,
+            ends,
+            session,
+            fred: fred(),
+            team: team(),
+        })
+    }
+
+    /// Why a socket failed, where one did.
+    fn cause(&self) -> Option<Cause> {
+        self.session.cause().or(self.ends.cause())
+    }
+
     /// Goes through the steps, and tells each.
     fn play<W: Write>(&mut self, rt: &R, writer: &mut W) -> Result<(), Fault> {
         tell_line(writer, "server up\n")?;
@@ -80,76 +148,29 @@ impl<R: Net> Scene<R> {
         tell_line(writer, "done\n")
     }
 
-    /// Binds all sockets, and starts all ends at 0.
-    fn open(rt: &R, alloc: Global, ports: Ports) -> Result<Scene<R>, Fault> {
-        let config = Config::new(LIFE, LONGEST, ROWS).unwrap();
-        let at = Addr {
-            ip: SERVER,
-            port: ports.names(),
-        };
-        let port = UdpPort::bind(rt, at)?;
-        let fred = fred();
-        let listening = Addr {
-            ip: FIRST,
-            port: ports.sessions(),
-        };
-        Ok(Scene {
-            alloc,
-            ports,
-            server: NameServer::start(alloc, config, at, port),
-            first: end_node(rt, config, ports, at, FIRST)?,
-            second: end_node(rt, config, ports, at, SECOND)?,
-            session: Session::listen(rt, alloc, listening, fred.copy())?,
-            fred,
-            team: team(),
-        })
-    }
-
     /// Both ask for `FRED`, which the first has then, and for the group `TEAM`.
     fn claim_names<W: Write>(&mut self, writer: &mut W) -> Result<(), Fault> {
-        let mut octets = ArrayVec::new();
-        let server = &mut self.server;
-        let event = ask(
-            &mut self.first,
-            server,
-            &self.fred,
-            Kind::Unique,
-            &mut octets,
-        )?;
-        tell(self.alloc, writer, "n1 asks FRED:", Outcome::Event(event))?;
-        let event = ask(
-            &mut self.second,
-            server,
-            &self.fred,
-            Kind::Unique,
-            &mut octets,
-        )?;
-        tell(self.alloc, writer, "n2 asks FRED:", Outcome::Event(event))?;
-        let event = ask(
-            &mut self.first,
-            server,
-            &self.team,
-            Kind::Group,
-            &mut octets,
-        )?;
-        tell(self.alloc, writer, "n1 asks TEAM:", Outcome::Event(event))?;
-        let event = ask(
-            &mut self.second,
-            server,
-            &self.team,
-            Kind::Group,
-            &mut octets,
-        )?;
-        tell(self.alloc, writer, "n2 asks TEAM:", Outcome::Event(event))
+        let alloc = self.alloc;
+        let server = &mut self.ends.server;
+        let first = &mut self.ends.first;
+        let second = &mut self.ends.second;
+        let (fred, unique) = (&self.fred, Kind::Unique);
+        let (team, group) = (&self.team, Kind::Group);
+        claim(alloc, writer, "n1 asks FRED:", first, server, fred, unique)?;
+        claim(alloc, writer, "n2 asks FRED:", second, server, fred, unique)?;
+        claim(alloc, writer, "n1 asks TEAM:", first, server, team, group)?;
+        claim(alloc, writer, "n2 asks TEAM:", second, server, team, group)
     }
 
     /// The second looks both names up. Returns where `FRED` was found first.
     fn find_names<W: Write>(&mut self, writer: &mut W) -> Result<Option<u32>, Fault> {
         let mut octets = ArrayVec::new();
-        let event = resolve(&mut self.second, &mut self.server, &self.fred, &mut octets)?;
+        let server = &mut self.ends.server;
+        let second = &mut self.ends.second;
+        let event = resolve(second, server, &self.fred, &mut octets)?;
         let holder = first_address(event);
         tell(self.alloc, writer, "n2 finds FRED:", Outcome::Event(event))?;
-        let event = resolve(&mut self.second, &mut self.server, &self.team, &mut octets)?;
+        let event = resolve(second, server, &self.team, &mut octets)?;
         tell(self.alloc, writer, "n2 finds TEAM:", Outcome::Event(event))?;
         Ok(holder)
     }
@@ -164,9 +185,9 @@ impl<R: Net> Scene<R> {
             Some(ip) => {
                 let port = self.ports.datagrams();
                 send_data(
-                    &mut self.second,
-                    &mut self.first,
-                    &mut self.server,
+                    &mut self.ends.second,
+                    &mut self.ends.first,
+                    &mut self.ends.server,
                     &self.team,
                     &self.fred,
                     Addr { ip, port },
@@ -187,11 +208,13 @@ impl<R: Net> Scene<R> {
     ) -> Result<(), Fault> {
         let outcome = self.call(rt, holder)?;
         tell(self.alloc, writer, "call to FRED:", outcome)?;
-        let now = self.server.now();
-        let outcome = self.session.send_message(now, &self.first.node, HELLO)?;
+        let now = self.ends.server.now();
+        let outcome = self
+            .session
+            .send_message(now, &self.ends.first.node, HELLO)?;
         tell(self.alloc, writer, "message:", outcome)?;
-        let now = self.server.now();
-        self.session.hang_up(now, &self.first.node)
+        let now = self.ends.server.now();
+        self.session.hang_up(now, &self.ends.first.node)
     }
 
     /// The first gives `FRED` back, and the second calls it once more.
@@ -202,7 +225,9 @@ impl<R: Net> Scene<R> {
         holder: Option<u32>,
     ) -> Result<(), Fault> {
         let mut octets = ArrayVec::new();
-        let event = release(&mut self.first, &mut self.server, &self.fred, &mut octets)?;
+        let server = &mut self.ends.server;
+        let first = &mut self.ends.first;
+        let event = release(first, server, &self.fred, &mut octets)?;
         tell(
             self.alloc,
             writer,
@@ -224,8 +249,8 @@ impl<R: Net> Scene<R> {
             calling: self.team.copy(),
             to: Addr { ip, port },
         };
-        let now = self.server.now();
-        self.session.call(rt, now, &self.first.node, &call)
+        let now = self.ends.server.now();
+        self.session.call(rt, now, &self.ends.first.node, &call)
     }
 }
 
@@ -243,13 +268,60 @@ fn team() -> Name
     Name::new(b"TEAM            ", &[]).unwrap()
 }
 
+/// The end node asks for the name, and what came of it is told.
+fn claim<P: Port + Drop, W: Write>(
+    alloc: Global,
+    writer: &mut W,
+    step: &str,
+    end: &mut EndNode<P>,
+    server: &mut NameServer<P>,
+    name: &Name,
+    kind: Kind,
+) -> Result<(), Fault> {
+    let mut octets = ArrayVec::new();
+    let event = ask(end, server, name, kind, &mut octets)?;
+    tell(alloc, writer, step, Outcome::Event(event))
+}
+
+/// The UDP port at this address. Where it can't be had, it says why in `errors`.
+fn bound_port<R: Net, E: Write>(rt: &R, addr: Addr, errors: &mut E) -> Result<UdpPort, Fault> {
+    match UdpPort::bind(rt, addr) {
+        Ok(port) => Ok(port),
+        Err(error) => Err(not_bound(addr, error, errors)),
+    }
+}
+
+/// Listens for calls to `FRED`. Where that can't be, it says why in `errors`.
+fn listen<R: Net, E: Write>(
+    rt: &R,
+    alloc: Global,
+    ports: Ports,
+    errors: &mut E,
+) -> Result<Session<R>, Fault> {
+    let addr = Addr {
+        ip: FIRST,
+        port: ports.sessions(),
+    };
+    match Session::listen(rt, alloc, addr, fred()) {
+        Ok(session) => Ok(session),
+        Err(error) => Err(not_bound(addr, error, errors)),
+    }
+}
+
+/// Says in `errors` why no socket can be had at this address.
+fn not_bound<E: Write>(addr: Addr, error: io::Error, errors: &mut E) -> Fault {
+    Cause::new(MachineCall::Bind, addr, error).tell("", errors);
+    Fault::from(error)
+}
+
 /// An end node at this address, with both its sockets.
-fn end_node<R: Net>(
+fn end_node<R: Net, E: Write>(
     rt: &R,
     config: Config,
     ports: Ports,
     server: Addr,
     ip: u32,
+    errors: &mut E,
 ) -> Result<EndNode<UdpPort>, Fault> {
     let names_at = Addr {
         ip,
@@ -259,10 +331,12 @@ fn end_node<R: Net>(
         ip,
         port: ports.datagrams(),
     };
+    let names = bound_port(rt, names_at, errors)?;
+    let datagrams = bound_port(rt, datagrams_at, errors)?;
     Ok(EndNode {
         node: Node::start(names_at, server, config, Moment::zero()),
-        names: UdpPort::bind(rt, names_at)?,
-        datagrams: UdpPort::bind(rt, datagrams_at)?,
+        names,
+        datagrams,
         datagrams_at,
         joiner: Joiner::new(),
     })
