@@ -18,9 +18,10 @@ const FIRST: u32 = 0x7F000002;
 const SECOND: u32 = 0x7F000003;
 
 /// Pieces of packets by their names (RFC 1002 section 4.2). `FRED`, `TEAM` and `STAR` are names on the wire, and `again`
-/// is a pointer to the question's; the longest scope is three labels of 63 octets and one of 28, so that the name has 255; `NB`, `NULL` and `NBSTAT` are a type and the class; `one-name` and `two-parts` are the
-/// counts of a request, `reply` those of a response; `unique` and `group` are the length of an address entry and its
-/// NB_FLAGS, and `statistics` those of a status response; `-` is nothing.
+/// is a pointer to the question's; the longest scope is three labels of 63 octets and one of 28, so that the name has 255.
+/// `NB`, `NULL` and `NBSTAT` are a type and the class; `one-name` and `two-parts` are the counts of a request, `reply` those
+/// of a response; `unique` and `group` are the length of an address entry and its NB_FLAGS, and `statistics` those of a
+/// status response; `-` is nothing.
 const PIECES: [(&str, &str); 23] = [
     ("-", ""),
     (

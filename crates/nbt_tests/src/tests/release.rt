@@ -39,6 +39,13 @@ fn start(addr: Addr) -> Result<Node<2>, Fail> {
     Ok(Node::start(addr, SERVER, config, at(0)?))
 }
 
+/// What the node sends to ask for FRED, for 60 s.
+fn asks(node: &mut Node<2>, ms: u64) -> Result<Datagram, Fail> {
+    let mut request = ArrayVec::new();
+    node.ask(at(ms)?, &fred()?, Kind::Unique, 60, &mut request)?;
+    Ok(request)
+}
+
 /// Why the node doesn't ask for FRED.
 fn refusal(node: &mut Node<2>, ms: u64) -> Result<Option<AskFault>, Fail> {
     let mut request: Datagram = ArrayVec::new();
@@ -46,59 +53,26 @@ fn refusal(node: &mut Node<2>, ms: u64) -> Result<Option<AskFault>, Fail> {
     Ok(asked.err())
 }
 
-/// The server's reply to a node's request has these flags, and tells the node this.
-fn replied<R: Abort>(
+/// What the server replies to a node's request, where the reply has these flags.
+fn reply<R: Abort>(
     rt: &R,
     server: &mut Server,
-    node: &mut Node<2>,
     ms: u64,
+    from: Addr,
     request: &Datagram,
-    (flags, event): (&[u8], Event<'_>),
-) -> Result<(), Fail> {
-    let mut reply: Datagram = ArrayVec::new();
-    let mut out = ArrayVec::new();
-    let is_reply = server.on_datagram(at(ms)?, node.addr(), request.as_slice(), &mut reply)?;
+    flags: &[u8],
+) -> Result<Datagram, Fail> {
+    let mut reply = ArrayVec::new();
+    let is_reply = server.on_datagram(at(ms)?, from, request.as_slice(), &mut reply)?;
     assert!(rt; is_reply);
     assert!(rt; reply.as_slice().get(2..4) == Some(flags), "at {ms}");
-    let told = node.on_datagram(at(ms)?, SERVER, reply.as_slice(), &mut out)?;
-    assert!(rt; told == event, "at {ms}");
-    Ok(())
+    Ok(reply)
 }
 
-/// The node asks for FRED, for 60 s.
-fn asks<R: Abort>(
-    rt: &R,
-    server: &mut Server,
-    node: &mut Node<2>,
-    ms: u64,
-    answer: (&[u8], Event<'_>),
-) -> Result<(), Fail> {
-    let mut request = ArrayVec::new();
-    node.ask(at(ms)?, &fred()?, Kind::Unique, 60, &mut request)?;
-    replied(rt, server, node, ms, &request, answer)
-}
-
-/// What happens at the server and the two nodes.
-fn go<R: Abort>(
-    rt: &R,
-    server: &mut Server,
-    first: &mut Node<2>,
-    second: &mut Node<2>,
-) -> Result<(), Fail> {
-    let granted = b"\xAD\x80".as_slice();
-    asks(rt, server, first, 60_000, (granted, Event::Granted(60)))?;
-    let mut release = ArrayVec::new();
-    first.release(at(70_000)?, &fred()?, &mut release)?;
-    assert_eq!(rt; refusal(first, 70_500)?, Some(AskFault::Quiet));
-    let freed = (b"\xB4\x00".as_slice(), Event::Freed(0));
-    replied(rt, server, first, 71_000, &release, freed)?;
-    asks(rt, server, second, 71_000, (granted, Event::Granted(60)))?;
-    assert_eq!(rt; refusal(first, 72_004)?, Some(AskFault::Quiet));
-    let refused = (b"\xAD\x86".as_slice(), Event::Refused(6));
-    asks(rt, server, first, 72_005, refused)?;
-    assert_eq!(rt; first.holds(at(72_005)?, &fred()?), None);
-    assert_eq!(rt; second.holds(at(72_005)?, &fred()?), Some(Kind::Unique));
-    Ok(())
+/// What the server's reply is to a node.
+fn hears<'a>(node: &mut Node<2>, ms: u64, reply: &'a Datagram) -> Result<Event<'a>, Fail> {
+    let mut out = ArrayVec::new();
+    Ok(node.on_datagram(at(ms)?, SERVER, reply.as_slice(), &mut out)?)
 }
 
 #[test]
@@ -107,5 +81,26 @@ fn an_early_ask_after_a_release_is_refused(rt: HostRuntime) -> Result<(), Fail> 
     let mut server = Server::start(rt.alloc(), config, at(0)?);
     let mut first = start(FIRST)?;
     let mut second = start(SECOND)?;
-    go(&rt, &mut server, &mut first, &mut second)
+
+    let request = asks(&mut first, 60_000)?;
+    let granted = reply(&rt, &mut server, 60_000, FIRST, &request, b"\xAD\x80")?;
+    assert!(rt; hears(&mut first, 60_000, &granted)? == Event::Granted(60));
+
+    let mut release = ArrayVec::new();
+    first.release(at(70_000)?, &fred()?, &mut release)?;
+    assert_eq!(rt; refusal(&mut first, 70_500)?, Some(AskFault::Quiet));
+    let freed = reply(&rt, &mut server, 71_000, FIRST, &release, b"\xB4\x00")?;
+    assert!(rt; hears(&mut first, 71_000, &freed)? == Event::Freed(0));
+
+    let request = asks(&mut second, 71_000)?;
+    let granted = reply(&rt, &mut server, 71_000, SECOND, &request, b"\xAD\x80")?;
+    assert!(rt; hears(&mut second, 71_000, &granted)? == Event::Granted(60));
+
+    assert_eq!(rt; refusal(&mut first, 72_004)?, Some(AskFault::Quiet));
+    let request = asks(&mut first, 72_005)?;
+    let refused = reply(&rt, &mut server, 72_005, FIRST, &request, b"\xAD\x86")?;
+    assert!(rt; hears(&mut first, 72_005, &refused)? == Event::Refused(6));
+    assert_eq!(rt; first.holds(at(72_005)?, &fred()?), None);
+    assert_eq!(rt; second.holds(at(72_005)?, &fred()?), Some(Kind::Unique));
+    Ok(())
 }

@@ -1,8 +1,6 @@
 //! The command `show`.
 
-use super::expect_of_input;
-use super::terminal::{play, word_of};
-use std::io;
+use super::terminal::play;
 
 const NAMES: &str = "\
 # A registration of FRED.
@@ -167,26 +165,6 @@ error: the following required arguments...
 $ nbt show --help
 Shows what the octets...
 ";
-
-/// A registration of FRED.
-const REGISTRATION: &str =
-    "0001_2900_0001_0000_0000_0001_{FRED}_0020_0001_c00c_0020_0001_0000003c_0006_2000_7f000002";
-
-/// Of each shorter length: the octets end where one is missing.
-#[test]
-fn a_packet_cut_at_every_length(rt: HostRuntime) {
-    let mut word = String::new(rt.alloc());
-    for (place, digit) in word_of(&rt, REGISTRATION).as_str().chars().enumerate() {
-        if place % 2 == 0 {
-            let words = ["nbt", "show", "name", word.as_str()];
-            let length = place / 2;
-            let text = format!(in rt.alloc(); "fault Short at {length}\n").expect(&rt, "memory");
-            expect_of_input(&rt, &words, &mut io::empty(), 1, text.as_bytes());
-        }
-        word.push(digit).expect(&rt, "memory");
-    }
-    assert_eq!(&rt; word.len(), 2 * 68);
-}
 
 #[test]
 fn shows(rt: HostRuntime) {
