@@ -1,6 +1,6 @@
 -- Turns of an end that is meant to stay up: none, one that goes well, and one that fails.
 use Rattle.std.proofs.Common.{◌≡◌, ℕ, ◌+◌, ◌<◌, [], ◌∷◌, ◌++◌, Some, None, refl, sym, ap, subst, ◌∙◌, length-append}
-use Rattle.nbt_net.specs.Staying.{Standing, GoesOn, goes_well, fails, Goes}
+use Rattle.nbt_net.specs.Staying.{GoesOn, goes_well, fails, Goes}
 use Rattle.nbt_net.specs.declared.limits.TheConstants.{MOST_FAILURES}
 use Rattle.nbt_net.proofs.Turning.{chain_on}
 

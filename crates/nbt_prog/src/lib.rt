@@ -88,7 +88,8 @@ pub fn command_telling<M: Net + time::Clock, S: AsStr, R: Read, W: Write, E: Wri
             let outcome = nbt_loop::run(machine, alloc, ports, writer, errors);
             conclude_written(outcome.map_err(Failure::from), writer)
         }
-        asked => conclude_read(alloc, asked, reader, writer),
+        Ok(request) => conclude_read(alloc, Ok(request), reader, writer),
+        Err(failure) => conclude_read(alloc, Err(failure), reader, writer),
     }
 }
 
