@@ -1,5 +1,5 @@
 -- A word is cut in one way, and spells one row of octets or has one fault.
-use Rattle.std.proofs.Common.{◌≡◌, ◌≢◌, ℕ, ◌+◌, ◌⊎◌, List, [], ◌∷◌, ◌++◌, Ok, sym, ◌∙◌, ap, refl, subst, inl, inr, arith, suc}
+use Rattle.std.proofs.Common.{◌≡◌, ◌≢◌, ℕ, ◌⊎◌, List, [], ◌∷◌, ◌++◌, Ok, sym, ◌∙◌, ap, refl, subst, inl, inr, arith, suc}
 use Rattle.std.specs.Prelude.{slice_index}
 use Rattle.std.proofs.lemmas.Bool.{cases_order}
 use Rattle.std.proofs.lemmas.List.{append_cancel_left, append_cancel_right}
