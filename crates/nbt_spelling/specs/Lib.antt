@@ -1,0 +1,5 @@
+pub mod Characters
+pub mod Inner
+pub mod Names
+pub mod Numbers
+pub mod Others
