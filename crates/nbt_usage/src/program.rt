@@ -101,13 +101,12 @@ const SIM_ABOUT: &str =
     "Plays a script from standard input in a network: a name server, nodes, and their datagrams";
 
 const SIM_HELP: &str = "\
-Each line of standard input is one step, in words between spaces, and each but `config`, `at` and `advance` prints a
-line. Blank lines and lines that begin with `#` are passed over. At most 1048576 octets are taken.
+Each line of standard input is one step, in words between spaces, and each but `config` and `at` prints a line. Blank
+lines and lines that begin with `#` are passed over. At most 1048576 octets are taken.
 
   config LIFE LONGEST ROWS NODES   first of all: a datagram's life in ms, the longest lease in s, the server's rows, and
                                    1 to 8 nodes. The server is 127.0.0.1:137, node I is 127.0.0.(I+1):137
   at MS                            the clock goes on to MS, at most 1152921504606846976
-  advance MS S N1 ..               the true clock goes on by MS, the server's by S, and each node's by its own number
   start E, crash E                 E is `s`, the server, or `n1` to `n8`: prints `ok`, or `none` where it is so already
   ask nI NAME unique|group TTL     node I asks for a name for TTL seconds
   release nI NAME                  node I gives it back
@@ -117,8 +116,6 @@ line. Blank lines and lines that begin with `#` are passed over. At most 1048576
   deliver K                        datagram K is delivered, once more if it was before
   stranger ADDRESS E HEX           HEX comes to E from ADDRESS, which is no end's; empty HEX is `-`
   holders NAME                     who holds a name: prints `holders FRED: n1 unique`, or `holders FRED: none`
-  kept                             prints `kept` where each end's clock kept within one part in a thousand and a millisecond
-                                   of the true one so far, and `broken` where one didn't
 
 What a node does prints `sent K`, with the number of the datagram counted from 0, `refused NUMBER WORD`, `none`, or `down`.
 A delivery prints `nobody`, `lost`, `down`, `sent K` where the end replies, or `taken`. A line that can't be read prints
