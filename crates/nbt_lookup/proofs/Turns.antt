@@ -1,5 +1,5 @@
 -- A turn by its parts, and turns up to the end of a lookup.
-use Rattle.std.proofs.Common.{◌≡◌, ℕ, ◌+◌, Bool, true, false, List, [], ◌∷◌, ◌++◌, length, Option, Some, None, Result, Ok, Err, sym, ◌∙◌, ap, refl, subst, arith, length-append}
+use Rattle.std.proofs.Common.{◌≡◌, ℕ, ◌+◌, Bool, true, false, List, [], ◌∷◌, ◌++◌, length, Some, Result, Ok, Err, sym, ◌∙◌, refl, subst, arith, length-append}
 use Rattle.std.specs.Prelude.{◌<◌, IfOk, OnErr}
 use Rattle.std.specs.List.{flat_map}
 use Rattle.std.proofs.lemmas.List.{append-nil}
@@ -10,11 +10,10 @@ use Rattle.nbt_node.specs.Calls.{Polls}
 use Rattle.nbt_engine.specs.Acts.{Act, receive_failed, send_failed, Chain}
 use Rattle.nbt_engine.specs.Turning.{PollsTo, PollsAll}
 use Rattle.nbt_engine.proofs.Chains.{chain_one, chain-append}
-use Rattle.nbt_lookup.specs.declared.looking.Ending.{Ending}
 use Rattle.nbt_lookup.specs.declared.looking.Ending.TheVariants as e
 use Rattle.nbt_lookup.specs.declared.turning.Progress.TheVariants as g
-use Rattle.nbt_lookup.specs.Looking.{Turn, acts_in, moments_in, Takes, GoesOn, Waits, is_end, Ends, is_told, is_late, is_spent, Waited, BreaksTurn, at_poll, at_receive, Broken}
-use Rattle.nbt_lookup.specs.Inner.Steps.{Tells, TurnIs, HeardIs, Passed}
+use Rattle.nbt_lookup.specs.Looking.{acts_in, moments_in, GoesOn, Waits, is_end, Ends, is_told, is_late, is_spent, Waited, BreaksTurn, at_poll, at_receive, Broken}
+use Rattle.nbt_lookup.specs.Inner.Steps.{TurnIs, HeardIs, Passed}
 
 pub IfOk-map : {A E : Type 0} (P Q : A → Type 0) (r : Result A E) → IfOk r P → ((a : A) → P a → Q a) → IfOk r Q
 IfOk-map P Q (Ok a) h f = f a h

@@ -1,5 +1,5 @@
 -- What a lookup asks, and of which end (RFC 1002 sections 4.2.12 and 4.2.17).
-use Rattle.std.specs.Prelude.{◌≡◌, ℕ, List, Option}
+use Rattle.std.specs.Prelude.{ℕ, List, Option}
 use Rattle.nbt_name.specs.declared.addr.Addr.{Addr}
 use Rattle.nbt_node.specs.declared.fault.LookupFault.{LookupFault}
 use Rattle.nbt_node.specs.declared.lookup.Wanted.TheVariants as w

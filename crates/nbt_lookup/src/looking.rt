@@ -1,6 +1,6 @@
 //! A whole lookup.
 
-ghost use Rattle.std.specs.Prelude.{◌≡◌, ◌<◌, ◌^◌, ◌+◌, IfOk, OnErr};
+ghost use Rattle.std.specs.Prelude.{◌<◌, ◌^◌, ◌+◌, IfOk, OnErr};
 ghost use Rattle.nbt_engine.specs.Acts.{CountsFailure};
 ghost use Rattle.nbt_lookup.specs.Looking.{Waited, Looks, Broken, Fails};
 

@@ -1,10 +1,9 @@
 //! One turn of a lookup.
 
-ghost use Rattle.std.specs.Prelude.{◌≡◌, ◌≢◌, ℕ, ◌+◌, ◌<◌, ◌^◌, Bool, List, [], ◌∷◌, ◌++◌, Some, IfSome, IsNone, IfOk, OnOk, OnErr, IsTrue, ◌↔◌};
+ghost use Rattle.std.specs.Prelude.{◌≡◌, ℕ, ◌<◌, ◌^◌, List, [], ◌∷◌, ◌++◌, Some, IfSome, IsNone, IfOk, OnOk, OnErr, IsTrue, ◌↔◌};
 ghost use Rattle.nbt_node.specs.Node.{NodeValue};
 ghost use Rattle.nbt_node.specs.Moves.{Told, told_of};
 ghost use Rattle.nbt_node.specs.Calls.{Polls};
-ghost use Rattle.nbt_node.specs.Datagrams.{Handles};
 ghost use Rattle.nbt_name.specs.declared.addr.Addr.{Addr as End};
 ghost use Rattle.nbt_engine.specs.Acts.{Act, came, receive_failed, send_failed, Chain, CountsFailure};
 ghost use Rattle.nbt_engine.specs.Turning.{PollsTo, PollsAll, EndsPolls};

@@ -1,5 +1,5 @@
 -- A turn by what the code returns of it, and turns that have gone by: words of contracts within the crate.
-use Rattle.std.specs.Prelude.{◌≡◌, ℕ, Bool, true, List, [], ◌∷◌, length}
+use Rattle.std.specs.Prelude.{◌≡◌, ℕ, Bool, true, List, length}
 use Rattle.std.specs.List.{flat_map}
 use Rattle.nbt_name.specs.declared.addr.Addr.{Addr}
 use Rattle.nbt_node.specs.Node.{NodeValue}

@@ -1,8 +1,6 @@
-use Rattle.std.proofs.Common.{◌≡◌, ◌+◌, ℕ, List, sym, ap, subst}
+use Rattle.std.proofs.Common.{◌≡◌, ◌+◌, ℕ, sym, ap, subst}
 use Rattle.std.proofs.lemmas.Result.{err_from_is_err_and}
-use Rattle.nbt_name.specs.declared.addr.Addr.{Addr}
 use Rattle.nbt_node.specs.Node.{NodeValue}
-use Rattle.nbt_engine.specs.Acts.{sent}
 use Rattle.nbt_lookup.specs.declared.looking.Ending.{Ending}
 use Rattle.nbt_lookup.specs.declared.looking.Ending.TheVariants as e
 use Rattle.nbt_lookup.specs.Looking.{Waited, Looks, is_refused, is_asked, Broken, Fails, at_question, at_turn}
