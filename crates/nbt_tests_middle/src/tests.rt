@@ -6,10 +6,12 @@ use nbt_text::octets_of;
 use std::test::Fail;
 
 mod engine;
+mod lookups;
 mod ports;
 mod printing;
 mod scripts;
 mod server;
+mod spelling;
 mod texts;
 mod world;
 

@@ -1,0 +1,231 @@
+//! Lookups of a node at 127.0.0.2 over a port in memory, at a server at 127.0.0.1.
+
+use super::{config, moment, octets};
+use arrayvec::ArrayVec;
+use nbt_engine::{Datagram, MemoryClock, MemoryPort, Port};
+use nbt_lookup::{Ending, Question, look_up};
+use nbt_name::{Addr, Name};
+use nbt_node::{LookupFault, Node};
+use std::collections::VecDeque;
+use std::process::Abort;
+use std::test::Fail;
+
+const SERVER: Addr = Addr {
+    ip: 0x7F000001,
+    port: 137,
+};
+
+const OWN: Addr = Addr {
+    ip: 0x7F000002,
+    port: 137,
+};
+
+const PEER: Addr = Addr {
+    ip: 0x7F000003,
+    port: 137,
+};
+
+/// The first query and the first status request of a node.
+const QUERY: &str = "0001 0100 one-name FRED NB";
+
+const STATUS_REQUEST: &str = "0001 0000 one-name STAR NBSTAT";
+
+const FOUND: &str = "0001 8580 reply FRED NB 1s unique 127.0.0.3";
+
+const FOUND_BY_ANOTHER_ID: &str = "0002 8580 reply FRED NB 1s unique 127.0.0.3";
+
+const NOT_FOUND: &str = "0001 8583 reply FRED NULL 0s 0000";
+
+/// A status response with no name.
+const STATUS: &str = "0001 8400 reply STAR NBSTAT 0s 002f 00 statistics";
+
+/// A datagram as words, with the end that it is from or for; nothing where there are no octets.
+type Row = (Addr, &'static str);
+
+/// One lookup: the moments that the clock tells, what the port hands out, and for how long, and how often, it waits.
+struct Lookup {
+    asks: &'static str,
+    moments: &'static [u64],
+    given: &'static [Row],
+    patience: u64,
+    most: u64,
+    ending: Ending,
+    sent: &'static [Row],
+}
+
+fn question(asks: &str) -> Result<Question, Fail> {
+    Ok(match asks {
+        "FRED" => Question::Holders(SERVER, Name::new(b"FRED            ", b"")?),
+        "*" => Question::Holders(SERVER, Name::any(b"")?),
+        _ => Question::Names(PEER, Name::any(b"")?),
+    })
+}
+
+fn clock<R: AllocGlobal>(rt: &R, moments: &[u64]) -> Result<MemoryClock, Fail> {
+    let mut told = VecDeque::new(rt.alloc());
+    for ms in moments {
+        told.push_back(moment(*ms)?)?;
+    }
+    Ok(MemoryClock::new(told))
+}
+
+fn port<R: AllocGlobal>(rt: &R, given: &[Row]) -> Result<MemoryPort, Fail> {
+    let mut incoming = VecDeque::new(rt.alloc());
+    for (addr, words) in given {
+        let octets = octets(rt, words)?;
+        let is_one = !octets.is_empty();
+        let datagram = Datagram {
+            addr: *addr,
+            octets,
+        };
+        incoming.push_back(if is_one { Some(datagram) } else { None })?;
+    }
+    Ok(MemoryPort::new(rt.alloc(), incoming))
+}
+
+/// Plays one lookup of a node that starts at 0. Where a reply ended it, the last datagram given is what is left in the
+/// buffer.
+fn play<R: Abort + AllocGlobal>(rt: &R, lookup: &Lookup) -> Result<(), Fail> {
+    let mut port = port(rt, lookup.given)?;
+    let mut clock = clock(rt, lookup.moments)?;
+    let mut node: Node<1> = Node::start(OWN, SERVER, config(16)?, moment(0)?);
+    let mut left = ArrayVec::new();
+    assert!(rt; port.failures() < 1 << 62);
+    assert!(rt; lookup.patience < 1 << 62);
+    let ending = look_up(
+        &mut port,
+        &mut clock,
+        &mut node,
+        &question(lookup.asks)?,
+        lookup.patience,
+        lookup.most,
+        &mut left,
+    )?;
+    assert_eq!(rt; ending, lookup.ending);
+    expect_sent(rt, &port, lookup.sent)?;
+    if ending == Ending::Told {
+        let (_, words) = lookup.given.last().ok_or("nothing given")?;
+        assert_eq!(rt; left.as_slice(), octets(rt, words)?.as_slice(), "{words}");
+    }
+    Ok(())
+}
+
+/// These were sent, in order.
+fn expect_sent<R: Abort + AllocGlobal>(
+    rt: &R,
+    port: &MemoryPort,
+    sent: &[Row],
+) -> Result<(), Fail> {
+    assert_eq!(rt; port.sent().len(), sent.len());
+    for (got, (addr, words)) in port.sent().iter().zip(sent) {
+        assert_eq!(rt; got.addr, *addr, "{words}");
+        assert_eq!(rt;
+            got.octets.as_slice(),
+            octets(rt, words)?.as_slice(),
+            "{words}"
+        );
+    }
+    Ok(())
+}
+
+#[test]
+fn lookups_that_are_told(rt: HostRuntime) -> Result<(), Fail> {
+    for told in &[
+        Lookup {
+            asks: "FRED",
+            moments: &[0, 0, 10],
+            given: &[(SERVER, FOUND)],
+            patience: 15_000,
+            most: 1_000,
+            ending: Ending::Told,
+            sent: &[(SERVER, QUERY)],
+        },
+        Lookup {
+            asks: "FRED",
+            moments: &[0, 0, 10],
+            given: &[(SERVER, NOT_FOUND)],
+            patience: 15_000,
+            most: 1,
+            ending: Ending::Told,
+            sent: &[(SERVER, QUERY)],
+        },
+        // Another id, another end, a status request and another message end nothing.
+        Lookup {
+            asks: "FRED",
+            moments: &[0, 0, 10, 10, 20, 20, 30, 30, 40, 40, 50],
+            given: &[
+                (SERVER, FOUND_BY_ANOTHER_ID),
+                (PEER, FOUND),
+                (PEER, STATUS_REQUEST),
+                (SERVER, STATUS),
+                (SERVER, FOUND),
+            ],
+            patience: 15_000,
+            most: 1_000,
+            ending: Ending::Told,
+            sent: &[(SERVER, QUERY)],
+        },
+        // Asked again after 5 s.
+        Lookup {
+            asks: "names",
+            moments: &[0, 0, 4_999, 5_000, 5_010],
+            given: &[(PEER, ""), (PEER, STATUS)],
+            patience: 15_000,
+            most: 1_000,
+            ending: Ending::Told,
+            sent: &[(PEER, STATUS_REQUEST), (PEER, STATUS_REQUEST)],
+        },
+    ] {
+        play(&rt, told)?;
+    }
+    Ok(())
+}
+
+#[test]
+fn lookups_that_are_not(rt: HostRuntime) -> Result<(), Fail> {
+    for told in &[
+        // Three tries of 5 s.
+        Lookup {
+            asks: "FRED",
+            moments: &[
+                0, 0, 0, 5_000, 5_000, 10_000, 10_000, 14_999, 14_999, 15_000,
+            ],
+            given: &[],
+            patience: 60_000,
+            most: 1_000,
+            ending: Ending::NoReply,
+            sent: &[(SERVER, QUERY), (SERVER, QUERY), (SERVER, QUERY)],
+        },
+        // One try: the second would be sent at the limit.
+        Lookup {
+            asks: "FRED",
+            moments: &[0, 0, 0, 4_999, 4_999, 5_000],
+            given: &[(SERVER, ""), (SERVER, ""), (SERVER, FOUND)],
+            patience: 5_000,
+            most: 1_000,
+            ending: Ending::NoReply,
+            sent: &[(SERVER, QUERY)],
+        },
+        Lookup {
+            asks: "FRED",
+            moments: &[0, 0, 10],
+            given: &[(SERVER, FOUND_BY_ANOTHER_ID), (SERVER, FOUND)],
+            patience: 15_000,
+            most: 1,
+            ending: Ending::NoReply,
+            sent: &[(SERVER, QUERY)],
+        },
+        Lookup {
+            asks: "*",
+            moments: &[0],
+            given: &[],
+            patience: 15_000,
+            most: 1_000,
+            ending: Ending::Refused(LookupFault::BadName),
+            sent: &[],
+        },
+    ] {
+        play(&rt, told)?;
+    }
+    Ok(())
+}
