@@ -6,7 +6,7 @@ use Rattle.nbt_dgram.specs.declared.dgram.Part.TheVariants.{First}
 use Rattle.nbt_dgram.specs.declared.slot.Key.{Key}
 use Rattle.nbt_dgram.specs.declared.slot.Slot.{Slot}
 use Rattle.nbt_dgram.specs.Dgram.{FragmentValue}
-use Rattle.nbt_dgram.specs.Pieces.{begin_of, end_of}
+use Rattle.nbt_dgram.specs.Fragments.{begin_of, end_of}
 use Rattle.nbt_dgram.specs.Slot.{known_at, fresh, Agrees}
 use Rattle.nbt_dgram.proofs.Marks.{nothing_known}
 

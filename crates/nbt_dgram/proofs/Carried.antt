@@ -6,7 +6,7 @@ use Rattle.nbt_dgram.specs.declared.slot.Key.{Key}
 use Rattle.nbt_dgram.specs.declared.slot.Slot.{Slot}
 use Rattle.nbt_dgram.specs.declared.joined.Dropped.TheVariants.{ClockBack}
 use Rattle.nbt_dgram.specs.Dgram.{FragmentValue, fragment}
-use Rattle.nbt_dgram.specs.Pieces.{end_of, MakesUp}
+use Rattle.nbt_dgram.specs.Fragments.{end_of, MakesUp}
 use Rattle.nbt_dgram.specs.Slot.{fresh, Agrees, joined, Since, begun, one_more}
 use Rattle.nbt_dgram.specs.Joiner.{dropped, key_of}
 use Rattle.nbt_dgram.specs.Carrying.{Put, IsAlone, Waits, Passes, other_key, went_back, is_alone, Ends, GoesOn, nobody, one_waits, one_passes, none, since, Leaves, none_came, was_ended, was_given_up, is_left}

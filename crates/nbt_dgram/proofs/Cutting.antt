@@ -11,7 +11,7 @@ use Rattle.nbt_dgram.specs.declared.dgram.Names.{Names}
 use Rattle.nbt_dgram.specs.declared.dgram.Part.TheVariants.{First}
 use Rattle.nbt_dgram.specs.Dgram.{FragmentValue, DgramValue}
 use Rattle.nbt_dgram.specs.Text.{names_text}
-use Rattle.nbt_dgram.specs.Pieces.{Covers, octet_in, MakesUp, one, front_of, back_of, size_of, packet, in_one, in_two, IsSplit}
+use Rattle.nbt_dgram.specs.Fragments.{Covers, octet_in, MakesUp, one, front_of, back_of, size_of, packet, in_one, in_two, IsSplit}
 
 -- ---- the members of short lists
 

@@ -12,7 +12,7 @@ use Rattle.nbt_dgram.specs.declared.dgram.Part.TheVariants.{First, Later}
 use Rattle.nbt_dgram.specs.declared.slot.Key.{Key}
 use Rattle.nbt_dgram.specs.declared.slot.Slot.{Slot}
 use Rattle.nbt_dgram.specs.Dgram.{FragmentValue}
-use Rattle.nbt_dgram.specs.Pieces.{begin_of, end_of, Covers, octet_in, MakesUp}
+use Rattle.nbt_dgram.specs.Fragments.{begin_of, end_of, Covers, octet_in, MakesUp}
 use Rattle.nbt_dgram.specs.Carrying.{AreNamed, AllAgree}
 use Rattle.nbt_dgram.specs.Slot.{nothing, fresh, known_at, Agrees, names_with, joined, IsWhole, Since, begun, one_more}
 use Rattle.nbt_dgram.proofs.Marks.{nothing_known, map_at, written-length, written_before, written_inside, written_behind}

@@ -8,7 +8,7 @@ use Rattle.nbt_dgram.specs.declared.joined.Dropped.TheVariants as reasons
 use Rattle.nbt_dgram.specs.declared.slot.Key.{Key}
 use Rattle.nbt_dgram.specs.declared.slot.Slot.{Slot}
 use Rattle.nbt_dgram.specs.Dgram.{FragmentValue, BodyValue, fragment, DgramValue}
-use Rattle.nbt_dgram.specs.Pieces.{end_of}
+use Rattle.nbt_dgram.specs.Fragments.{end_of}
 use Rattle.nbt_dgram.specs.Slot.{fresh, Agrees, joined, IsWhole}
 use Rattle.nbt_dgram.specs.Joiner.{JoinedValue, whole, waiting, dropped, is_of, is_free, emptied, Joins, too_long, no_room, begins, conflicts, waits, completes, JoinerValue, joiner_of, key_of, kept, Puts, clock_back, alone, joins}
 

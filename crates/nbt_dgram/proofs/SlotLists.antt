@@ -12,10 +12,10 @@ use Rattle.nbt_dgram.specs.declared.slot.Slot.{Slot}
 use Rattle.nbt_dgram.specs.declared.joined.Joined.{Joined}
 use Rattle.nbt_dgram.specs.declared.joined.Joined.TheVariants as results
 use Rattle.nbt_dgram.specs.Dgram.{FragmentValue}
-use Rattle.nbt_dgram.specs.Pieces.{begin_of, end_of}
+use Rattle.nbt_dgram.specs.Fragments.{begin_of, end_of}
 use Rattle.nbt_dgram.specs.Slot.{nothing, fresh, joined}
 use Rattle.nbt_dgram.specs.Joiner.{JoinedValue, waiting, joined_of, is_old, kept, is_of, emptied, HasRoom, Joins, no_room, begins, conflicts, waits, completes}
-use Rattle.nbt_dgram.specs.Joining.{JoinsSlot, disagrees, unfinished, finished, IsTaken, JoinsAt, Begins, no_place, in_place}
+use Rattle.nbt_dgram.specs.Inner.Joining.{JoinsSlot, disagrees, unfinished, finished, IsTaken, JoinsAt, Begins, no_place, in_place}
 use Rattle.nbt_dgram.proofs.Marks.{written-length}
 
 -- ---- a loop that writes f over each element

@@ -7,7 +7,7 @@ use Rattle.nbt_dgram.specs.declared.dgram.Part.TheVariants.{First}
 use Rattle.nbt_dgram.specs.declared.slot.Key.{Key}
 use Rattle.nbt_dgram.specs.declared.joined.Dropped.TheVariants.{TooLong, Conflict, Full, ClockBack}
 use Rattle.nbt_dgram.specs.Dgram.{FragmentValue, fragment, DgramValue}
-use Rattle.nbt_dgram.specs.Pieces.{end_of, Covers, octet_in, MakesUp}
+use Rattle.nbt_dgram.specs.Fragments.{end_of, Covers, octet_in, MakesUp}
 use Rattle.nbt_dgram.specs.Joiner.{JoinedValue, whole, waiting, dropped, JoinerValue, joiner_of, key_of, Puts, Sweeps}
 
 -- A packet that was put at a moment, and what it led to.

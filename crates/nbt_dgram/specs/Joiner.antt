@@ -12,7 +12,7 @@ use Rattle.nbt_dgram.specs.declared.joined.Joined.TheVariants as m
 use Rattle.nbt_dgram.specs.declared.joined.Payload.{Payload}
 use Rattle.nbt_dgram.specs.declared.joined.Payload.TheVariants as payloads
 use Rattle.nbt_dgram.specs.Dgram.{FragmentValue, fragment, DgramValue}
-use Rattle.nbt_dgram.specs.Pieces.{end_of}
+use Rattle.nbt_dgram.specs.Fragments.{end_of}
 use Rattle.nbt_dgram.specs.Slot.{fresh, Agrees, joined, IsWhole}
 
 -- What a packet led to.

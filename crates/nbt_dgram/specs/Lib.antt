@@ -2,10 +2,9 @@ pub mod Numbers
 pub mod Fields
 pub mod Dgram
 pub mod Text
-pub mod Decoding
-pub mod Pieces
+pub mod Fragments
 pub mod Slot
 pub mod Joiner
-pub mod Joining
 pub mod Carrying
 pub mod Accepting
+pub mod Inner

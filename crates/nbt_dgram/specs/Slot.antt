@@ -7,7 +7,7 @@ use Rattle.nbt_dgram.specs.declared.dgram.Part.TheVariants.{First, Later}
 use Rattle.nbt_dgram.specs.declared.slot.Key.{Key}
 use Rattle.nbt_dgram.specs.declared.slot.Slot.{Slot}
 use Rattle.nbt_dgram.specs.Dgram.{FragmentValue}
-use Rattle.nbt_dgram.specs.Pieces.{begin_of, end_of, Covers, octet_in}
+use Rattle.nbt_dgram.specs.Fragments.{begin_of, end_of, Covers, octet_in}
 
 -- no octet of 512 is known
 unfoldable pub nothing : List (Option ℕ)

@@ -7,7 +7,7 @@ ghost use Rattle.nbt_dgram.specs.declared.fault.DgramFault.{DgramFault};
 ghost use Rattle.nbt_dgram.specs.Numbers.{fault_within as name_fault, short, bad_offset, head_size};
 ghost use Rattle.nbt_dgram.specs.Fields.{octet_at, word_at, long_at, first_at, more_at, offset_at, end_at, within as counted};
 ghost use Rattle.nbt_dgram.specs.Text.{Fits};
-ghost use Rattle.nbt_dgram.specs.Decoding.{NameFaultAt, IsReadPart};
+ghost use Rattle.nbt_dgram.specs.Inner.Decoding.{NameFaultAt, IsReadPart};
 ghost use Rattle.nbt_dgram.specs.Dgram.{DgramValue, IsTypeAt, NamesAt, PartAt, FragmentAt, BodyAt, DgramIs, NamesFault, FragmentFault, FaultIs, type_of, fragment_of, body_of, dgram_of, decoded};
 
 use crate::dgram::{Body, Dgram, Fragment, Names, Part};

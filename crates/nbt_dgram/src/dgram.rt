@@ -76,7 +76,7 @@ impl Fragment<'_> {
     ghost use Rattle.nbt_dgram.specs.declared.dgram.Names.{Names};
     ghost use Rattle.nbt_dgram.specs.declared.dgram.Part.TheVariants.{First};
     ghost use Rattle.nbt_dgram.specs.Dgram.{fragment_of};
-    ghost use Rattle.nbt_dgram.specs.Pieces.{begin_of, end_of};
+    ghost use Rattle.nbt_dgram.specs.Fragments.{begin_of, end_of};
 
     /// The names, where the fragment is the first and the last one: a whole datagram.
     pub(crate) fn names_if_whole(&self) -> Option<&Names>

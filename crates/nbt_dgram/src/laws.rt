@@ -9,7 +9,7 @@ ghost use Rattle.nbt_dgram.specs.declared.dgram.Names.{Names};
 ghost use Rattle.nbt_dgram.specs.declared.slot.Key.{Key};
 ghost use Rattle.nbt_dgram.specs.declared.slot.Slot.{Slot};
 ghost use Rattle.nbt_dgram.specs.Dgram.{FragmentValue, fragment, DgramValue, DgramIs, FaultIs};
-ghost use Rattle.nbt_dgram.specs.Pieces.{MakesUp};
+ghost use Rattle.nbt_dgram.specs.Fragments.{MakesUp};
 ghost use Rattle.nbt_dgram.specs.Joiner.{JoinedValue, JoinerValue, key_of, Puts};
 ghost use Rattle.nbt_dgram.specs.Carrying.{Put, Run, IsAlone, Unfinished, none, since, fragments_in, Leaves, Tells};
 ghost use Rattle.nbt_dgram.specs.Accepting.{AcceptValue, Accepts};

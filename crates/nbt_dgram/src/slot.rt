@@ -4,7 +4,7 @@ ghost use Rattle.std.specs.Prelude.{◌≡◌, ℕ, ◌+◌, ◌<◌, ◌≤◌,
 ghost use Rattle.nbt_dgram.specs.declared.dgram.Names.{Names};
 ghost use Rattle.nbt_dgram.specs.declared.dgram.Part.TheVariants.{First};
 ghost use Rattle.nbt_dgram.specs.Dgram.{fragment_of};
-ghost use Rattle.nbt_dgram.specs.Pieces.{begin_of, end_of};
+ghost use Rattle.nbt_dgram.specs.Fragments.{begin_of, end_of};
 ghost use Rattle.nbt_dgram.specs.Slot.{known_at, fresh, Agrees, joined, IsWhole};
 
 use crate::dgram::{Fragment, Names, Part};

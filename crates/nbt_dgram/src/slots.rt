@@ -3,10 +3,10 @@
 ghost use Rattle.std.specs.Prelude.{◌≡◌, ◌<◌, ◌≤◌, length, map, count_by, Some, IfSome, IfNone};
 ghost use Rattle.std.specs.List.{position, All};
 ghost use Rattle.nbt_dgram.specs.Dgram.{fragment_of};
-ghost use Rattle.nbt_dgram.specs.Pieces.{end_of};
+ghost use Rattle.nbt_dgram.specs.Fragments.{end_of};
 ghost use Rattle.nbt_dgram.specs.Joiner as spec;
 ghost use Rattle.nbt_dgram.specs.Joiner.{kept, emptied, is_free, Joins, HasRoom, joined_of};
-ghost use Rattle.nbt_dgram.specs.Joining.{JoinsSlot, IsTaken, JoinsAt, Begins};
+ghost use Rattle.nbt_dgram.specs.Inner.Joining.{JoinsSlot, IsTaken, JoinsAt, Begins};
 
 use crate::dgram::Fragment;
 use crate::joined::{Dropped, Joined, Payload};

@@ -2,7 +2,7 @@
 
 ghost use Rattle.std.specs.Prelude.{◌≡◌, ◌<◌, ◌↔◌, length, map, IsErr, IfOk};
 ghost use Rattle.nbt_dgram.specs.Dgram.{dgram_of};
-ghost use Rattle.nbt_dgram.specs.Pieces.{IsSplit, packet as of_fragment};
+ghost use Rattle.nbt_dgram.specs.Fragments.{IsSplit, packet as of_fragment};
 
 use crate::dgram::{Body, Dgram, Fragment, Names, Part};
 use crate::fault::TooLong;

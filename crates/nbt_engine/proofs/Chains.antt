@@ -1,6 +1,6 @@
 -- Steps in order: one of them, and some after others.
 use Rattle.std.proofs.Common.{List, [], ◌∷◌, ◌++◌, refl, subst}
-use Rattle.nbt_engine.specs.Acts.{Chain}
+use Rattle.nbt_engine.specs.PortCalls.{Chain}
 
 pub chain_one : {S X : Type 0} (step : S → X → S → Type 0) (old : S) (x : X) (new : S) → step old x new → Chain step old (x ∷ []) new
 chain_one step old x new h = (new, h, refl)

@@ -17,7 +17,7 @@ use Rattle.nbt_node.specs.Settling.{settled, rested}
 use Rattle.nbt_node.specs.Node.{NodeValue, is_in, state_in, slot_of, put, with_state, settled_slot, settled_lookup, state_at}
 use Rattle.nbt_node.specs.Moves.{Move, poll, Told, is_due, asks_again, gives_back_again, refreshes_again, refreshes}
 use Rattle.nbt_node.specs.Calls.{Polls, polls_name, polls_lookup, due_lookup, lookup_due}
-use Rattle.nbt_engine.specs.Acts.{Act, nothing_came, came, receive_failed, sent, send_failed, Chain}
+use Rattle.nbt_engine.specs.PortCalls.{PortCall, nothing_came, came, receive_failed, sent, send_failed, Chain}
 use Rattle.nbt_engine.specs.Turning.{PollsTo}
 
 -- a settled state stays as it is
@@ -206,7 +206,7 @@ polls_fewer ends now old new to octets (polls_lookup l n o is due looks writes) 
 
 -- ---- polls at one moment: no more than were due at first
 
-polls_lessen : SettlingEnds → (now : ℕ) (acts : List Act) (old new : NodeValue) → Chain (PollsTo now) old acts new → length acts + dues now new ≤ dues now old
+polls_lessen : SettlingEnds → (now : ℕ) (acts : List PortCall) (old new : NodeValue) → Chain (PollsTo now) old acts new → length acts + dues now new ≤ dues now old
 polls_lessen ends now [] old new polls = rw polls (omega arith)
 polls_lessen ends now (sent to octets ∷ acts) old new polls =
     let fewer = polls_fewer ends now old polls.0 to octets polls.1 in
@@ -229,7 +229,7 @@ slots_dues_few life now (slot ∷ slots) = let one = of_slot (settled_slot life 
     of_slot None = omega arith
     of_slot (Some s) = at_most_one (is_due life now s.state)
 
-pub few_polls : SettlingEnds → (now : ℕ) (old new : NodeValue) (acts : List Act) → Chain (PollsTo now) old acts new → length acts ≤ length old.slots + 1
+pub few_polls : SettlingEnds → (now : ℕ) (old new : NodeValue) (acts : List PortCall) → Chain (PollsTo now) old acts new → length acts ≤ length old.slots + 1
 few_polls ends now old new acts polls =
     let all = polls_lessen ends now acts old new polls in
     let slots = slots_dues_few old.config.life now old.slots in

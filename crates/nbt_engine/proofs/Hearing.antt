@@ -8,9 +8,9 @@ use Rattle.nbt_packet.specs.Message as m
 use Rattle.nbt_node.specs.Node.{NodeValue}
 use Rattle.nbt_node.specs.Moves.{Told, replied, finds, finds_none, lists}
 use Rattle.nbt_packet.specs.Spelling.{AreWritten}
-use Rattle.nbt_node.specs.Datagrams.{Hears, from_server, from_stranger, Lists, lists_names, lists_nothing, Ends, is_answered, is_unanswered, Idles, idles, Takes, TakesOctets, spelled, unspelled, Handles}
+use Rattle.nbt_node.specs.Datagrams.{NodeHears, from_server, from_stranger, Lists, lists_names, lists_nothing, Ends, is_answered, is_unanswered, Idles, idles, NodeTakes, NodeTakesOctets, spelled, unspelled, Handles}
 
-heard_none : (old : NodeValue) (now : ℕ) (from : Addr) (name : NameValue) (message : MessageValue) (new : NodeValue) (sent : Option MessageValue) (told : Told) → Hears old now from name message new sent told → sent ≡ None
+heard_none : (old : NodeValue) (now : ℕ) (from : Addr) (name : NameValue) (message : MessageValue) (new : NodeValue) (sent : Option MessageValue) (told : Told) → NodeHears old now from name message new sent told → sent ≡ None
 heard_none old now from name message new sent told (from_server n t same moves) = refl
 heard_none old now from name message new sent told (from_stranger n same passes) = refl
 
@@ -25,7 +25,7 @@ ended_none old now from message end new sent told (is_unanswered n is passes) = 
 idle_none : (old : NodeValue) (now : ℕ) (new : NodeValue) (sent : Option MessageValue) (told : Told) → Idles old now new sent told → sent ≡ None
 idle_none old now new sent told (idles n passes) = refl
 
-taken_none : (old : NodeValue) (now : ℕ) (from : Addr) (message : MessageValue) (new : NodeValue) (sent : Option MessageValue) (told : Told) → told ≢ replied → Takes old now from message new sent told → sent ≡ None
+taken_none : (old : NodeValue) (now : ℕ) (from : Addr) (message : MessageValue) (new : NodeValue) (sent : Option MessageValue) (told : Told) → told ≢ replied → NodeTakes old now from message new sent told → sent ≡ None
 taken_none old now from (m.registered rcode r) new sent told other takes = heard_none old now from r.name (m.registered rcode r) new sent told takes
 taken_none old now from (m.released id rcode name kind addr) new sent told other takes = heard_none old now from name (m.released id rcode name kind addr) new sent told takes
 taken_none old now from (m.wait id name ttl) new sent told other takes = heard_none old now from name (m.wait id name ttl) new sent told takes
@@ -39,7 +39,7 @@ taken_none old now from (m.refresh r) new sent told other takes = idle_none old 
 taken_none old now from (m.release id name kind addr) new sent told other takes = idle_none old now new sent told takes
 taken_none old now from (m.query id name) new sent told other takes = idle_none old now new sent told takes
 
-octets_none : (old : NodeValue) (now : ℕ) (from : Addr) (octets : List ℕ) (new : NodeValue) (sent : Option MessageValue) (told : Told) → told ≢ replied → TakesOctets old now from octets new sent told → sent ≡ None
+octets_none : (old : NodeValue) (now : ℕ) (from : Addr) (octets : List ℕ) (new : NodeValue) (sent : Option MessageValue) (told : Told) → told ≢ replied → NodeTakesOctets old now from octets new sent told → sent ≡ None
 octets_none old now from octets new sent told other (spelled message n s t spells takes) = taken_none old now from message new sent told other takes
 octets_none old now from octets new sent told other (unspelled n none passes) = refl
 

@@ -4,7 +4,7 @@ use Rattle.std.specs.Prelude.{Result, IsOk, OnOk, min, take, Err}
 use Rattle.std.proofs.lemmas.List.{take_min}
 use Rattle.nbt_name.specs.declared.addr.Addr.{Addr}
 use Rattle.nbt_engine.specs.declared.memory.Datagram.{Datagram}
-use Rattle.nbt_engine.specs.Acts.{receive_failed, sent, send_failed, receiving}
+use Rattle.nbt_engine.specs.PortCalls.{receive_failed, sent, send_failed, receiving}
 use Rattle.nbt_engine.specs.Memory.{DatagramValue, MemoryValue, IsToFail, one_later, HandsOut, datagram, nothing, at_end, MemoryDoes, receives, sends, fails_to_receive, fails_to_send, has_no_memory, to, ToldValue, Tells, tells_next, tells_again}
 
 pub told_next : (old : ToldValue) (left rest : List ℕ) (last moment : ℕ) → record { left = left; last = last } ≡ old → left ≡ moment ∷ rest → Tells old moment (record { left = rest; last = moment })

@@ -6,12 +6,12 @@ use Rattle.std.proofs.lemmas.List.Concat.{flat_map-append}
 use Rattle.std.proofs.lemmas.List.Sums.{sum_by-append, sum_by-cons}
 use Rattle.nbt_server.specs.Serving.{ServerValue}
 use Rattle.nbt_engine.specs.declared.serving.Counts.{Counts}
-use Rattle.nbt_engine.specs.Acts.{Act, Chain}
+use Rattle.nbt_engine.specs.PortCalls.{PortCall, Chain}
 use Rattle.nbt_engine.specs.Serving.{Turn, is_empty, is_taken, is_lost, Turns, acts_in, moments_in, replies_in, lost_in, counts_of, sum_of, Failure, Fails, acts_of, moments_of, Runs, Breaks}
 use Rattle.nbt_engine.proofs.Chains.{chain_one, chain-append}
 
 -- one turn alone
-pub runs_one : {P C : Type 0} (does : P → Act → P → Type 0) (tells : C → ℕ → C → Type 0) (turn : Turn) (counts : Counts) (p q : P) (c d : C) (s t : ServerValue)
+pub runs_one : {P C : Type 0} (does : P → PortCall → P → Type 0) (tells : C → ℕ → C → Type 0) (turn : Turn) (counts : Counts) (p q : P) (c d : C) (s t : ServerValue)
     → counts ≡ counts_of (turn ∷ []) → Turns s turn t → Chain does p (acts_in turn) q → Chain tells c (moments_in turn) d → Runs does tells 1 counts p c s q d t
 runs_one does tells turn counts p q c d s t counted turns did told = record {
   turns = turn ∷ [];
@@ -23,7 +23,7 @@ runs_one does tells turn counts p q c d s t counted turns did told = record {
 }
 
 -- the device fails at once
-pub breaks_one : {P C : Type 0} (does : P → Act → P → Type 0) (tells : C → ℕ → C → Type 0) (failure : Failure) (p q : P) (c d : C) (s t : ServerValue)
+pub breaks_one : {P C : Type 0} (does : P → PortCall → P → Type 0) (tells : C → ℕ → C → Type 0) (failure : Failure) (p q : P) (c d : C) (s t : ServerValue)
     → Fails s failure t → Chain does p (acts_of failure) q → Chain tells c (moments_of failure) d → Breaks does tells 1 p c s q d t
 breaks_one does tells failure p q c d s t fails did told = record {
   turns = [];
@@ -37,7 +37,7 @@ breaks_one does tells failure p q c d s t fails did told = record {
 }
 
 -- no turn
-pub runs_none : {P C : Type 0} (does : P → Act → P → Type 0) (tells : C → ℕ → C → Type 0) (counts : Counts) (p : P) (c : C) (s : ServerValue)
+pub runs_none : {P C : Type 0} (does : P → PortCall → P → Type 0) (tells : C → ℕ → C → Type 0) (counts : Counts) (p : P) (c : C) (s : ServerValue)
     → counts ≡ record { receives = 0; replies = 0; lost = 0 } → Runs does tells 0 counts p c s p c s
 runs_none does tells counts p c s counted = record { turns = []; server = refl; port_did = refl; clock_told = refl; count_is = refl; counts_are = counted }
 
@@ -45,7 +45,7 @@ counts_of-append : (xs ys : List Turn) → counts_of (xs ++ ys) ≡ sum_of (coun
 counts_of-append xs ys = rw (length-append, sum_by-append replies_in xs ys, sum_by-append lost_in xs ys) refl
 
 -- turns after others
-pub runs_on : {P C : Type 0} (does : P → Act → P → Type 0) (tells : C → ℕ → C → Type 0) (m n : ℕ) (a b : Counts) (p q r : P) (c d e : C) (s t u : ServerValue)
+pub runs_on : {P C : Type 0} (does : P → PortCall → P → Type 0) (tells : C → ℕ → C → Type 0) (m n : ℕ) (a b : Counts) (p q r : P) (c d e : C) (s t u : ServerValue)
     → Runs does tells m a p c s q d t → Runs does tells n b q d t r e u → Runs does tells (m + n) (sum_of a b) p c s r e u
 runs_on does tells m n a b p q r c d e s t u x y = record {
   turns = x.turns ++ y.turns;
@@ -57,7 +57,7 @@ runs_on does tells m n a b p q r c d e s t u x y = record {
 }
 
 -- the device fails after some turns
-pub breaks_on : {P C : Type 0} (does : P → Act → P → Type 0) (tells : C → ℕ → C → Type 0) (m n : ℕ) (a : Counts) (p q r : P) (c d e : C) (s t u : ServerValue)
+pub breaks_on : {P C : Type 0} (does : P → PortCall → P → Type 0) (tells : C → ℕ → C → Type 0) (m n : ℕ) (a : Counts) (p q r : P) (c d e : C) (s t u : ServerValue)
     → m < n → Runs does tells m a p c s q d t → Breaks does tells 1 q d t r e u → Breaks does tells n p c s r e u
 breaks_on does tells m n a p q r c d e s t u lt x y = record {
   turns = x.turns ++ y.turns;
@@ -91,7 +91,7 @@ pub record AreFew (count : ℕ) (counts : Counts) : Type 0 where
   pub replies : counts.replies ≤ count
   pub lost : counts.lost ≤ count
 
-pub counts_few : {P C : Type 0} (does : P → Act → P → Type 0) (tells : C → ℕ → C → Type 0) (n : ℕ) (counts : Counts) (p q : P) (c d : C) (s t : ServerValue)
+pub counts_few : {P C : Type 0} (does : P → PortCall → P → Type 0) (tells : C → ℕ → C → Type 0) (n : ℕ) (counts : Counts) (p q : P) (c d : C) (s t : ServerValue)
     → Runs does tells n counts p c s q d t → AreFew n counts
 counts_few does tells n counts p q c d s t run =
     let r = at_most_one replies_in few_replies run.turns in

@@ -10,7 +10,7 @@ use Rattle.nbt_packet.specs.Text.{text}
 use Rattle.nbt_server.specs.Serving.{ServerValue}
 use Rattle.nbt_server.specs.Calls.{ServerTakes, ServerForgets}
 use Rattle.nbt_engine.specs.declared.serving.Counts.{Counts}
-use Rattle.nbt_engine.specs.Acts.{Act, nothing_came, came, sent, send_failed, receiving}
+use Rattle.nbt_engine.specs.PortCalls.{PortCall, nothing_came, came, sent, send_failed, receiving}
 use Rattle.nbt_engine.specs.Serving.{is_empty, is_taken, is_lost, Turns, passes, takes, goes_back, has_no_memory, of_send, Runs, Breaks}
 use Rattle.nbt_engine.proofs.Chains.{chain_one}
 use Rattle.nbt_engine.proofs.Running.{runs_one, breaks_one}
@@ -31,19 +31,19 @@ silent : (s t : ServerValue) (now : ℕ) (from : Addr) (octets out : List ℕ) �
 silent s t now from octets out (None, did, is_reply, written) = did
 silent s t now from octets out (Some reply, did, is_reply, written) = absurd cc
 
-pub turn_empty : {P C : Type 0} (does : P → Act → P → Type 0) (tells : C → ℕ → C → Type 0) (p q : P) (c : C) (s : ServerValue) (zero : Counts) (found : Option Addr) (octets : List ℕ)
+pub turn_empty : {P C : Type 0} (does : P → PortCall → P → Type 0) (tells : C → ℕ → C → Type 0) (p q : P) (c : C) (s : ServerValue) (zero : Counts) (found : Option Addr) (octets : List ℕ)
     → Zero zero → found ≡ None → does p (receiving (Ok found) octets) q → Runs does tells 1 (record zero { receives = 1 }) p c s q c s
 turn_empty does tells p q c s zero found octets z none did =
     runs_one does tells is_empty _ p q c c s s (rw z refl) passes (chain_one does p nothing_came q (subst (λ o. does p (receiving (Ok o) octets) q) none did)) refl
 
-pub turn_silent : {P C : Type 0} (does : P → Act → P → Type 0) (tells : C → ℕ → C → Type 0) (p q : P) (c d : C) (s t : ServerValue) (zero : Counts) (found : Option Addr) (from : Addr) (octets out : List ℕ) (now : ℕ)
+pub turn_silent : {P C : Type 0} (does : P → PortCall → P → Type 0) (tells : C → ℕ → C → Type 0) (p q : P) (c d : C) (s t : ServerValue) (zero : Counts) (found : Option Addr) (from : Addr) (octets out : List ℕ) (now : ℕ)
     → Zero zero → found ≡ Some from → does p (receiving (Ok found) octets) q → tells c now d → Served s t now from octets out false
     → Runs does tells 1 (record zero { receives = 1 }) p c s q d t
 turn_silent does tells p q c d s t zero found from octets out now z some did told served =
     runs_one does tells (is_taken now from octets None) _ p q c d s t (rw z refl) (takes now from octets None t (silent s t now from octets out served))
     (chain_one does p (came from octets) q (subst (λ o. does p (receiving (Ok o) octets) q) some did)) (chain_one tells c now d told)
 
-pub turn_replied : {P C : Type 0} (does : P → Act → P → Type 0) (tells : C → ℕ → C → Type 0) (p q r : P) (c d : C) (s t : ServerValue) (zero : Counts) (found : Option Addr) (from : Addr) (octets out : List ℕ) (now : ℕ)
+pub turn_replied : {P C : Type 0} (does : P → PortCall → P → Type 0) (tells : C → ℕ → C → Type 0) (p q r : P) (c d : C) (s t : ServerValue) (zero : Counts) (found : Option Addr) (from : Addr) (octets out : List ℕ) (now : ℕ)
     → Zero zero → found ≡ Some from → does p (receiving (Ok found) octets) q → tells c now d → Served s t now from octets out true → does q (sent from out) r
     → Runs does tells 1 (record zero { receives = 1; replies = 1 }) p c s r d t
 turn_replied does tells p q r c d s t zero found from octets out now z some did told served sends =
@@ -51,7 +51,7 @@ turn_replied does tells p q r c d s t zero found from octets out now z some did 
     runs_one does tells (is_taken now from octets (Some k.0)) _ p r c d s t (rw z refl) (takes now from octets (Some k.0) t k.1)
     (q, subst (λ o. does p (receiving (Ok o) octets) q) some did, (r, subst (λ xs. does q (sent from xs) r) k.2 sends, refl)) (chain_one tells c now d told)
 
-pub turn_unsent : {P C : Type 0} (does : P → Act → P → Type 0) (tells : C → ℕ → C → Type 0) (p q r : P) (c d : C) (s t : ServerValue) (found : Option Addr) (from : Addr) (octets out : List ℕ) (now : ℕ)
+pub turn_unsent : {P C : Type 0} (does : P → PortCall → P → Type 0) (tells : C → ℕ → C → Type 0) (p q r : P) (c d : C) (s t : ServerValue) (found : Option Addr) (from : Addr) (octets out : List ℕ) (now : ℕ)
     → found ≡ Some from → does p (receiving (Ok found) octets) q → tells c now d → Served s t now from octets out true → does q (send_failed from out) r
     → Breaks does tells 1 p c s r d t
 turn_unsent does tells p q r c d s t found from octets out now some did told served fails =
@@ -59,7 +59,7 @@ turn_unsent does tells p q r c d s t found from octets out now some did told ser
     breaks_one does tells (of_send now from octets k.0) p r c d s t k.1
     (q, subst (λ o. does p (receiving (Ok o) octets) q) some did, (r, subst (λ xs. does q (send_failed from xs) r) k.2 fails, refl)) (chain_one tells c now d told)
 
-pub turn_lost : {P C : Type 0} (does : P → Act → P → Type 0) (tells : C → ℕ → C → Type 0) (p q : P) (c d : C) (s t : ServerValue) (zero : Counts) (found : Option Addr) (from : Addr) (octets : List ℕ) (now : ℕ)
+pub turn_lost : {P C : Type 0} (does : P → PortCall → P → Type 0) (tells : C → ℕ → C → Type 0) (p q : P) (c d : C) (s t : ServerValue) (zero : Counts) (found : Option Addr) (from : Addr) (octets : List ℕ) (now : ℕ)
     → Zero zero → found ≡ Some from → does p (receiving (Ok found) octets) q → tells c now d → Turns s (is_lost now from octets) t
     → Runs does tells 1 (record zero { receives = 1; lost = 1 }) p c s q d t
 turn_lost does tells p q c d s t zero found from octets now z some did told lost =

@@ -1,4 +1,4 @@
-pub mod Acts
+pub mod PortCalls
 pub mod Inner
 pub mod Memory
 pub mod OneAnswer

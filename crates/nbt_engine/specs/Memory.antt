@@ -2,7 +2,7 @@
 use Rattle.std.specs.Prelude.{◌≡◌, ℕ, ◌+◌, ◌-◌, List, [], ◌∷◌, ◌++◌, map, take, Option, Some, None, Ok}
 use Rattle.nbt_name.specs.declared.addr.Addr.{Addr}
 use Rattle.nbt_engine.specs.declared.memory.Datagram.{Datagram}
-use Rattle.nbt_engine.specs.Acts.{Act, nothing_came, came, receive_failed, sent, send_failed, receiving}
+use Rattle.nbt_engine.specs.PortCalls.{PortCall, nothing_came, came, receive_failed, sent, send_failed, receiving}
 
 -- ---- a port
 
@@ -49,7 +49,7 @@ pub data HandsOut : (incoming : List (Option Datagram)) → (found : Option Addr
 
 -- What is sent goes last among what was sent. A call fails where it is to, and then nothing is handed out or kept; a send
 -- fails also where memory was refused.
-pub data MemoryDoes (old : MemoryValue) : Act → MemoryValue → Type 0 where
+pub data MemoryDoes (old : MemoryValue) : PortCall → MemoryValue → Type 0 where
   receives : (found : Option Addr) (octets : List ℕ) (rest : List (Option Datagram)) → ¬ IsToFail old.fails_after → HandsOut old.incoming found octets rest
       → MemoryDoes old (receiving (Ok found) octets) (record old { incoming = rest; fails_after = one_later old.fails_after })
   sends : (addr : Addr) (octets : List ℕ) → ¬ IsToFail old.fails_after → MemoryDoes old (sent addr octets) (record old { sent = old.sent ++ to addr octets ∷ []; fails_after = one_later old.fails_after })
@@ -60,13 +60,13 @@ pub data MemoryDoes (old : MemoryValue) : Act → MemoryValue → Type 0 where
 -- ---- what the calls of a port come to
 
 -- what was sent, in order
-abbrev pub sent_in : List Act → List DatagramValue
+abbrev pub sent_in : List PortCall → List DatagramValue
 sent_in [] = []
 sent_in (sent addr octets ∷ acts) = to addr octets ∷ sent_in acts
 sent_in (_ ∷ acts) = sent_in acts
 
 -- what came, in order
-abbrev pub came_in : List Act → List DatagramValue
+abbrev pub came_in : List PortCall → List DatagramValue
 came_in [] = []
 came_in (came from octets ∷ acts) = record { addr = from; octets = octets } ∷ came_in acts
 came_in (_ ∷ acts) = came_in acts
@@ -78,14 +78,14 @@ datagrams_in (None ∷ rest) = datagrams_in rest
 datagrams_in (Some d ∷ rest) = record { addr = d.addr; octets = take 2048 d.octets.items } ∷ datagrams_in rest
 
 -- how many receives handed out something or nothing
-abbrev pub received_in : List Act → ℕ
+abbrev pub received_in : List PortCall → ℕ
 received_in [] = 0
 received_in (nothing_came ∷ acts) = 1 + received_in acts
 received_in (came from octets ∷ acts) = 1 + received_in acts
 received_in (_ ∷ acts) = received_in acts
 
 -- how many calls failed
-abbrev pub failed_in : List Act → ℕ
+abbrev pub failed_in : List PortCall → ℕ
 failed_in [] = 0
 failed_in (receive_failed ∷ acts) = 1 + failed_in acts
 failed_in (send_failed addr octets ∷ acts) = 1 + failed_in acts

@@ -7,7 +7,7 @@ use Rattle.nbt_node.specs.Node.{NodeValue}
 use Rattle.nbt_server.specs.Serving.{ServerValue}
 use Rattle.nbt_engine.specs.declared.turning.Seen.{Seen}
 use Rattle.nbt_engine.specs.declared.turning.Want.{Want}
-use Rattle.nbt_engine.specs.Acts.{Act}
+use Rattle.nbt_engine.specs.PortCalls.{PortCall}
 use Rattle.nbt_engine.specs.Memory.{came_in}
 use Rattle.nbt_engine.specs.Serving.{is_taken, Turns}
 use Rattle.nbt_engine.specs.Turning.{TakesTurn}
@@ -20,5 +20,5 @@ OneServerTurn = (old a b : ServerValue) (now : ℕ) (from : Addr) (octets : List
 -- A node's turn whose moments don't go back is determined by them and by what came: the port's calls, what is seen, and
 -- the node afterwards.
 abbrev pub OneNodeTurn : Type 0
-OneNodeTurn = (server : Addr) (want : Want) (old a b : NodeValue) (acts also : List Act) (first second : ℕ) (s t : Seen) → old.last ≤ first → first ≤ second
+OneNodeTurn = (server : Addr) (want : Want) (old a b : NodeValue) (acts also : List PortCall) (first second : ℕ) (s t : Seen) → old.last ≤ first → first ≤ second
     → TakesTurn server want old acts (first ∷ second ∷ []) s a → TakesTurn server want old also (first ∷ second ∷ []) t b → came_in acts ≡ came_in also → (acts ≡ also) × (s ≡ t) × (a ≡ b)

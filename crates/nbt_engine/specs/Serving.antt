@@ -7,7 +7,7 @@ use Rattle.nbt_packet.specs.Text.{text}
 use Rattle.nbt_server.specs.Serving.{ServerValue}
 use Rattle.nbt_server.specs.Calls.{ServerTakes, ServerForgets}
 use Rattle.nbt_engine.specs.declared.serving.Counts.{Counts}
-use Rattle.nbt_engine.specs.Acts.{Act, nothing_came, came, receive_failed, sent, send_failed, Chain}
+use Rattle.nbt_engine.specs.PortCalls.{PortCall, nothing_came, came, receive_failed, sent, send_failed, Chain}
 
 -- ---- one turn
 
@@ -19,7 +19,7 @@ pub data Turn : Type 0 where
   is_lost : (now : ℕ) → (from : Addr) → (octets : List ℕ) → Turn
 
 -- the calls of the port: one receive, and the reply to the datagram's sender
-abbrev pub acts_in : Turn → List Act
+abbrev pub acts_in : Turn → List PortCall
 acts_in is_empty = nothing_came ∷ []
 acts_in (is_taken now from octets None) = came from octets ∷ []
 acts_in (is_taken now from octets (Some reply)) = came from octets ∷ sent from (text reply) ∷ []
@@ -46,7 +46,7 @@ pub data Failure : Type 0 where
   of_receive : Failure
   of_send : (now : ℕ) → (from : Addr) → (octets : List ℕ) → (reply : MessageValue) → Failure
 
-abbrev pub acts_of : Failure → List Act
+abbrev pub acts_of : Failure → List PortCall
 acts_of of_receive = receive_failed ∷ []
 acts_of (of_send now from octets reply) = came from octets ∷ send_failed from (text reply) ∷ []
 
@@ -78,7 +78,7 @@ abbrev pub sum_of : Counts → Counts → Counts
 sum_of a b = record { receives = a.receives + b.receives; replies = a.replies + b.replies; lost = a.lost + b.lost }
 
 -- A server, a port and a clock go through `count` turns, one after the other.
-pub record Runs {P C : Type 0} (does : P → Act → P → Type 0) (tells : C → ℕ → C → Type 0) (count : ℕ) (counts : Counts)
+pub record Runs {P C : Type 0} (does : P → PortCall → P → Type 0) (tells : C → ℕ → C → Type 0) (count : ℕ) (counts : Counts)
     (old_port : P) (old_clock : C) (old : ServerValue) (port : P) (clock : C) (new : ServerValue) : Type 0 where
   pub turns : List Turn
   pub server : Chain Turns old turns new
@@ -88,7 +88,7 @@ pub record Runs {P C : Type 0} (does : P → Act → P → Type 0) (tells : C �
   pub counts_are : counts ≡ counts_of turns
 
 -- They go through some turns, fewer than `count`, and then the device fails.
-pub record Breaks {P C : Type 0} (does : P → Act → P → Type 0) (tells : C → ℕ → C → Type 0) (count : ℕ)
+pub record Breaks {P C : Type 0} (does : P → PortCall → P → Type 0) (tells : C → ℕ → C → Type 0) (count : ℕ)
     (old_port : P) (old_clock : C) (old : ServerValue) (port : P) (clock : C) (new : ServerValue) : Type 0 where
   pub turns : List Turn
   pub mid : ServerValue

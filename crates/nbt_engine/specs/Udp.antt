@@ -2,7 +2,7 @@
 use Rattle.std.specs.Prelude.{◌≡◌, ℕ, ◌≤◌, length}
 use Rattle.nbt_name.specs.declared.addr.Addr.{Addr}
 use Rattle.nbt_lease.specs.Config.{last_moment}
-use Rattle.nbt_engine.specs.Acts.{Act, came}
+use Rattle.nbt_engine.specs.PortCalls.{PortCall, came}
 
 -- the address that a port was bound to, as it was asked for, and how many of its calls have failed
 pub record UdpValue : Type 0 where
@@ -10,12 +10,12 @@ pub record UdpValue : Type 0 where
   pub failures : ℕ
 
 -- What comes has at most 2,048 octets.
-abbrev pub FitsReceive : Act → Type 0
+abbrev pub FitsReceive : PortCall → Type 0
 FitsReceive (came from octets) = length octets ≤ 2048
 FitsReceive _ = Unit {0}
 
 -- A call leaves the port where it is. Which octets a socket carries, no contract can say.
-abbrev pub UdpDoes : UdpValue → Act → UdpValue → Type 0
+abbrev pub UdpDoes : UdpValue → PortCall → UdpValue → Type 0
 UdpDoes old act new = (new.addr ≡ old.addr) × FitsReceive act
 
 -- The clock keeps the moment that it told. Which one it tells, no contract can say.

@@ -1,7 +1,7 @@
 //! Where datagrams come from and go to.
 
 ghost use Rattle.std.specs.Prelude.{◌≡◌, ℕ, ◌<◌, ◌^◌};
-ghost use Rattle.nbt_engine.specs.Acts.{Act, receiving, sending, CountsFailure};
+ghost use Rattle.nbt_engine.specs.PortCalls.{PortCall, receiving, sending, CountsFailure};
 
 use crate::cause::Cause;
 use arrayvec::ArrayVec;
@@ -19,7 +19,7 @@ pub struct Device;
 /// A port for datagrams, as UDP has (RFC 768).
 pub trait Port {
     /// What a call of it is: the port before, what the call did, and the port afterwards.
-    ghost does: { Self → Act → Self → Type 0 };
+    ghost does: { Self → PortCall → Self → Type 0 };
 
     /// How many calls have failed.
     ghost failures: { Self → ℕ };

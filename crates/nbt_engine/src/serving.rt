@@ -1,7 +1,7 @@
 //! A name server over a port and a clock.
 
 ghost use Rattle.std.specs.Prelude.{◌≡◌, ℕ, ◌+◌, ◌<◌, ◌≤◌, ◌^◌, IfOk, OnErr};
-ghost use Rattle.nbt_engine.specs.Acts.{CountsFailure};
+ghost use Rattle.nbt_engine.specs.PortCalls.{CountsFailure};
 ghost use Rattle.nbt_engine.specs.Serving.{Runs, Breaks};
 
 use crate::clock::Clock;

@@ -6,8 +6,8 @@ ghost use Rattle.nbt_node.specs.Moves.{told_of, replied};
 ghost use Rattle.nbt_node.specs.Calls.{Polls};
 ghost use Rattle.nbt_node.specs.Datagrams.{Handles};
 ghost use Rattle.nbt_name.specs.declared.addr.Addr.{Addr as End};
-ghost use Rattle.nbt_engine.specs.Acts.{Act, came, receive_failed, send_failed, Chain, CountsFailure};
-ghost use Rattle.nbt_engine.specs.Turning.{AsksFor, Asks, PollsTo, PollsAll, EndsPolls, Hears, seen_of, TakesTurn, BreaksTurn};
+ghost use Rattle.nbt_engine.specs.PortCalls.{PortCall, came, receive_failed, send_failed, Chain, CountsFailure};
+ghost use Rattle.nbt_engine.specs.Turning.{AsksFor, Asks, PollsTo, PollsAll, EndsPolls, TurnHears, seen_of, TakesTurn, BreaksTurn};
 
 use crate::clock::Clock;
 use crate::port::{Device, Port};
@@ -56,9 +56,9 @@ pub fn node_turn<P: Port, C: Clock, const N: usize>(
     want: &Want,
 ) -> Result<Seen, Device>
     requires few { P.failures port.old < 2 ^ 62 }
-    ensures ok { IfOk result (λ seen. (acts : List Act) × (moments : List ℕ) × TakesTurn server want.now node.old acts moments seen node.new
+    ensures ok { IfOk result (λ seen. (acts : List PortCall) × (moments : List ℕ) × TakesTurn server want.now node.old acts moments seen node.new
         × Chain P.does port.old acts port.new × Chain C.tells clock.old moments clock.new) }
-    ensures err { OnErr result ((acts : List Act) × (moments : List ℕ) × BreaksTurn server want.now node.old acts moments node.new
+    ensures err { OnErr result ((acts : List PortCall) × (moments : List ℕ) × BreaksTurn server want.now node.old acts moments node.new
         × Chain P.does port.old acts port.new × Chain C.tells clock.old moments clock.new) }
     // It is refused exactly where the port's count of failures grew.
     ensures device { CountsFailure (P.failures port.old) (P.failures port.new) result }
@@ -86,7 +86,7 @@ fn ask<P: Port, const N: usize>(
     out: &mut ArrayVec<u8, 576>,
 ) -> Result<(), Device>
     requires few { P.failures port.old < 2 ^ 62 }
-    ensures ok { OnOk result ((acts : List Act) × Asks server now want.now node.old acts node.new × Chain P.does port.old acts port.new) }
+    ensures ok { OnOk result ((acts : List PortCall) × Asks server now want.now node.old acts node.new × Chain P.does port.old acts port.new) }
     ensures err { OnErr result ((octets : List ℕ) × AsksFor now want.now node.old octets node.new × P.does port.old (send_failed server octets) port.new) }
     ensures device { CountsFailure (P.failures port.old) (P.failures port.new) result }
 {
@@ -104,8 +104,8 @@ fn poll_all<P: Port, const N: usize>(
     out: &mut ArrayVec<u8, 576>,
 ) -> Result<(), Device>
     requires few { P.failures port.old < 2 ^ 62 }
-    ensures ok { OnOk result ((acts : List Act) × PollsAll now node.old acts node.new × Chain P.does port.old acts port.new) }
-    ensures err { OnErr result ((acts : List Act) × (mid : NodeValue) × (to : End) × (octets : List ℕ) × Chain (PollsTo now) node.old acts mid × Polls mid now node.new (Some to) octets
+    ensures ok { OnOk result ((acts : List PortCall) × PollsAll now node.old acts node.new × Chain P.does port.old acts port.new) }
+    ensures err { OnErr result ((acts : List PortCall) × (mid : NodeValue) × (to : End) × (octets : List ℕ) × Chain (PollsTo now) node.old acts mid × Polls mid now node.new (Some to) octets
         × Chain P.does port.old (acts ++ send_failed to octets ∷ []) port.new) }
     ensures device { CountsFailure (P.failures port.old) (P.failures port.new) result }
 {
@@ -141,7 +141,7 @@ fn hear<P: Port, const N: usize>(
     out: &mut ArrayVec<u8, 576>,
 ) -> Result<Seen, Device>
     requires few { P.failures port.old < 2 ^ 62 }
-    ensures ok { IfOk result (λ seen. (acts : List Act) × Hears now node.old (came from octets.now ∷ acts) seen node.new × Chain P.does port.old acts port.new) }
+    ensures ok { IfOk result (λ seen. (acts : List PortCall) × TurnHears now node.old (came from octets.now ∷ acts) seen node.new × Chain P.does port.old acts port.new) }
     ensures err { OnErr result ((reply : List ℕ) × Handles node.old now from octets.now node.new replied reply × P.does port.old (send_failed from reply) port.new) }
     ensures device { CountsFailure (P.failures port.old) (P.failures port.new) result }
 {

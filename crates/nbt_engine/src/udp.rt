@@ -2,7 +2,7 @@
 
 ghost use Rattle.std.specs.Prelude.{◌≡◌, ◌≤◌, ◌<◌, ◌^◌, ◌↔◌, [], None, Ok, IfOk, IfSome, IsTrue};
 ghost use Rattle.std.specs.IoError.{error_kind};
-ghost use Rattle.nbt_engine.specs.Acts.{receiving, CountsFailure};
+ghost use Rattle.nbt_engine.specs.PortCalls.{receiving, CountsFailure};
 ghost use Rattle.nbt_engine.specs.Inner.Sockets.{IsNothing, HasNoWay, Received, Sent};
 
 use crate::cause::{Cause, MachineCall};

@@ -5,12 +5,12 @@ use Rattle.std.specs.Map.{lookup, keys_of, set_value}
 use Rattle.std.proofs.lemmas.Map.Steps.{set_value_same}
 use Rattle.std.specs.Option.{IfSome, IfNone}
 use Rattle.std.proofs.lemmas.Bool.{cases_Bool, cond-true, cond-false, both_ways, and_parts}
-use Rattle.nbt_name.specs.Wire.{NameValue, same_name as is_name}
+use Rattle.nbt_name.specs.Wire.{NameValue, same_name}
 use Rattle.nbt_lease.specs.declared.lease.Lease.{Lease}
 use Rattle.nbt_lease.specs.declared.ends.Due.{Due}
 use Rattle.nbt_lease.specs.Lease.{is_live, at_name, HasNone, AreApart}
-use Rattle.nbt_lease.specs.Index.{Entries, members_of, due, is_due, in_set, has_end, Agrees, IsMember, if_any, TakenFrom}
-use Rattle.nbt_name.proofs.Same.{same_name-true as name_is, same_name-same as name_again, same_name-turned as turned}
+use Rattle.nbt_lease.specs.Inner.Index.{Entries, members_of, due, is_due, in_set, has_end, Agrees, IsMember, if_any, TakenFrom}
+use Rattle.nbt_name.proofs.Same.{same_name-true, same_name-same, same_name-turned}
 use Rattle.nbt_lease.proofs.Rows.{same_leases}
 use Rattle.nbt_lease.proofs.Sound.{apart_push, apart_replaced, apart_without}
 use Rattle.nbt_lease.proofs.Others.{some_there}
@@ -21,45 +21,45 @@ use Rattle.nbt_lease.proofs.Ending.{ends_so, ends-append, ends-push, ends-withou
 abbrev the_none : Entries
 the_none = []
 
-pub none_distinct : IsDistinct is_name (keys_of the_none)
+pub none_distinct : IsDistinct same_name (keys_of the_none)
 unfolding IsDistinct
 none_distinct = tt
 
 -- ---- one name changes
 
-filled_at : (k : NameValue) (w x : Option (List Lease)) (q : NameValue) (y : Option (List Lease)) → y ≡ cond (is_name k q) w x → w ≢ Some [] → x ≢ Some [] → y ≢ Some []
+filled_at : (k : NameValue) (w x : Option (List Lease)) (q : NameValue) (y : Option (List Lease)) → y ≡ cond (same_name k q) w x → w ≢ Some [] → x ≢ Some [] → y ≢ Some []
 filled_at k w x q y is some others empty =
     ⊎_elim
-    (λ named. some (sym (is ∙ cond-true (is_name k q) w x named) ∙ empty))
-    (λ other. others (sym (is ∙ cond-false (is_name k q) w x other) ∙ empty))
-    (cases_Bool (is_name k q))
+    (λ named. some (sym (is ∙ cond-true (same_name k q) w x named) ∙ empty))
+    (λ other. others (sym (is ∙ cond-false (same_name k q) w x other) ∙ empty))
+    (cases_Bool (same_name k q))
 
-pub changes_one : (es fs : Entries) (ds gs : List Due) (k : NameValue) (w : Option (List Lease)) → Agrees es ds → IsDistinct is_name (keys_of fs) → IsDistinct is_due gs
-    → ((q : NameValue) → lookup (is_name q) fs ≡ cond (is_name k q) w (lookup (is_name q) es)) → w ≢ Some [] → AreApart (unwrap_or w [])
-    → ((d : Due) → is_name k d.name ≡ false → in_set gs d ≡ in_set ds d) → ((e a : ℕ) → in_set gs (due e k a) ≡ has_end e a (unwrap_or w [])) → Agrees fs gs
+pub changes_one : (es fs : Entries) (ds gs : List Due) (k : NameValue) (w : Option (List Lease)) → Agrees es ds → IsDistinct same_name (keys_of fs) → IsDistinct is_due gs
+    → ((q : NameValue) → lookup (same_name q) fs ≡ cond (same_name k q) w (lookup (same_name q) es)) → w ≢ Some [] → AreApart (unwrap_or w [])
+    → ((d : Due) → same_name k d.name ≡ false → in_set gs d ≡ in_set ds d) → ((e a : ℕ) → in_set gs (due e k a) ≡ has_end e a (unwrap_or w [])) → Agrees fs gs
 changes_one es fs ds gs k w h names ends map some apart others here = record {
   names = names;
-  filled = λ q. filled_at k w (lookup (is_name q) es) q (lookup (is_name q) fs) (map q) some (h.filled q);
+  filled = λ q. filled_at k w (lookup (same_name q) es) q (lookup (same_name q) fs) (map q) some (h.filled q);
   apart = λ q.
       ⊎_elim
-      (λ named. subst (λ (o : Option (List Lease)). AreApart (unwrap_or o [])) (sym (map q ∙ cond-true (is_name k q) w (lookup (is_name q) es) named)) apart)
-      (λ other. subst (λ (o : Option (List Lease)). AreApart (unwrap_or o [])) (sym (map q ∙ cond-false (is_name k q) w (lookup (is_name q) es) other)) (h.apart q))
-      (cases_Bool (is_name k q));
+      (λ named. subst (λ (o : Option (List Lease)). AreApart (unwrap_or o [])) (sym (map q ∙ cond-true (same_name k q) w (lookup (same_name q) es) named)) apart)
+      (λ other. subst (λ (o : Option (List Lease)). AreApart (unwrap_or o [])) (sym (map q ∙ cond-false (same_name k q) w (lookup (same_name q) es) other)) (h.apart q))
+      (cases_Bool (same_name k q));
   once = ends;
   agree = λ d.
       ⊎_elim
-      (λ named. subst (λ (n : NameValue). in_set gs (due d.end n d.addr) ≡ has_end d.end d.addr (members_of fs n)) (name_is k d.name named)
-      (here d.end d.addr ∙ ap (λ (o : Option (List Lease)). has_end d.end d.addr (unwrap_or o [])) (sym (map k ∙ cond-true (is_name k k) w (lookup (is_name k) es) (name_again k)))))
-      (λ other. others d other ∙ (h.agree d ∙ ap (λ (o : Option (List Lease)). has_end d.end d.addr (unwrap_or o [])) (sym (map d.name ∙ cond-false (is_name k d.name) w (lookup (is_name d.name) es) other))))
-      (cases_Bool (is_name k d.name));
+      (λ named. subst (λ (n : NameValue). in_set gs (due d.end n d.addr) ≡ has_end d.end d.addr (members_of fs n)) (same_name-true k d.name named)
+      (here d.end d.addr ∙ ap (λ (o : Option (List Lease)). has_end d.end d.addr (unwrap_or o [])) (sym (map k ∙ cond-true (same_name k k) w (lookup (same_name k) es) (same_name-same k)))))
+      (λ other. others d other ∙ (h.agree d ∙ ap (λ (o : Option (List Lease)). has_end d.end d.addr (unwrap_or o [])) (sym (map d.name ∙ cond-false (same_name k d.name) w (lookup (same_name d.name) es) other))))
+      (cases_Bool (same_name k d.name));
 }
 
 -- a test of an end of this name, at another and at this name
-elsewhere : (e a : ℕ) (k : NameValue) (b x : Bool) (d : Due) → is_name k d.name ≡ false → cond (is_due (due e k a) d) b x ≡ x
+elsewhere : (e a : ℕ) (k : NameValue) (b x : Bool) (d : Due) → same_name k d.name ≡ false → cond (is_due (due e k a) d) b x ≡ x
 elsewhere e a k b x d other = rw other refl
 
 at_home : (e a f c : ℕ) (k : NameValue) (b x : Bool) → cond (is_due (due e k a) (due f k c)) b x ≡ cond ((a == c) && (e == f)) b x
-at_home e a f c k b x = rw (name_again k) refl
+at_home e a f c k b x = rw (same_name-same k) refl
 
 some_push : (leases : List Lease) (lease : Lease) (behind : List Lease) → Some (leases ++ lease ∷ behind) ≢ Some []
 some_push leases lease behind e = some_there leases behind lease (ap (λ (o : Option (List Lease)). unwrap_or o []) e)
@@ -74,16 +74,16 @@ if_any_is (x ∷ xs) = refl
 
 -- ---- a lease begins, ends, is renewed; or all stays
 
-pub begins : (es fs : Entries) (ds gs : List Due) (k : NameValue) (l : Lease) → Agrees es ds → IsDistinct is_name (keys_of fs) → IsDistinct is_due gs → HasNone l.addr (members_of es k)
-    → ((q : NameValue) → lookup (is_name q) fs ≡ cond (is_name k q) (Some (members_of es k ++ l ∷ [])) (lookup (is_name q) es))
+pub begins : (es fs : Entries) (ds gs : List Due) (k : NameValue) (l : Lease) → Agrees es ds → IsDistinct same_name (keys_of fs) → IsDistinct is_due gs → HasNone l.addr (members_of es k)
+    → ((q : NameValue) → lookup (same_name q) fs ≡ cond (same_name k q) (Some (members_of es k ++ l ∷ [])) (lookup (same_name q) es))
     → ((d : Due) → in_set gs d ≡ cond (is_due (due l.end k l.addr) d) true (in_set ds d)) → Agrees fs gs
 begins es fs ds gs k l h names ends none map set =
     changes_one es fs ds gs k (Some (members_of es k ++ l ∷ [])) h names ends map (some_push (members_of es k) l []) (apart_push (members_of es k) l none (h.apart k))
     (λ d other. set d ∙ elsewhere l.end l.addr k true (in_set ds d) d other)
     (λ e a. set (due e k a) ∙ (at_home l.end l.addr e a k true (in_set ds (due e k a)) ∙ (ap (cond (ends_so e a l) true) (h.agree (due e k a)) ∙ ends-push e a (members_of es k) l)))
 
-pub goes : (es fs : Entries) (ds gs : List Due) (k : NameValue) (addr : ℕ) (before behind : List Lease) (l : Lease) → Agrees es ds → IsDistinct is_name (keys_of fs) → IsDistinct is_due gs → IsMember addr (members_of es k) before l behind
-    → ((q : NameValue) → lookup (is_name q) fs ≡ cond (is_name k q) (if_any (before ++ behind)) (lookup (is_name q) es))
+pub goes : (es fs : Entries) (ds gs : List Due) (k : NameValue) (addr : ℕ) (before behind : List Lease) (l : Lease) → Agrees es ds → IsDistinct same_name (keys_of fs) → IsDistinct is_due gs → IsMember addr (members_of es k) before l behind
+    → ((q : NameValue) → lookup (same_name q) fs ≡ cond (same_name k q) (if_any (before ++ behind)) (lookup (same_name q) es))
     → ((d : Due) → in_set gs d ≡ cond (is_due (due l.end k l.addr) d) false (in_set ds d)) → Agrees fs gs
 goes es fs ds gs k addr before behind l h names ends member map set =
     let apart : AreApart (before ++ l ∷ behind) = subst AreApart member.is (h.apart k) in
@@ -92,8 +92,8 @@ goes es fs ds gs k addr before behind l h names ends member map set =
     (λ e a. set (due e k a) ∙ (at_home l.end l.addr e a k false (in_set ds (due e k a)) ∙ (ap (cond (ends_so e a l) false) (h.agree (due e k a) ∙ ap (has_end e a) member.is)
     ∙ (ends-without e a before behind l apart ∙ ap (has_end e a) (sym (if_any_is (before ++ behind)))))))
 
-pub renews : (es fs : Entries) (ds gs : List Due) (k : NameValue) (addr new : ℕ) (before behind : List Lease) (l : Lease) → Agrees es ds → IsDistinct is_name (keys_of fs) → IsDistinct is_due gs → IsMember addr (members_of es k) before l behind → new ≢ l.end
-    → ((q : NameValue) → lookup (is_name q) fs ≡ cond (is_name k q) (Some (before ++ record l { end = new } ∷ behind)) (lookup (is_name q) es))
+pub renews : (es fs : Entries) (ds gs : List Due) (k : NameValue) (addr new : ℕ) (before behind : List Lease) (l : Lease) → Agrees es ds → IsDistinct same_name (keys_of fs) → IsDistinct is_due gs → IsMember addr (members_of es k) before l behind → new ≢ l.end
+    → ((q : NameValue) → lookup (same_name q) fs ≡ cond (same_name k q) (Some (before ++ record l { end = new } ∷ behind)) (lookup (same_name q) es))
     → ((d : Due) → in_set gs d ≡ cond (is_due (due l.end k l.addr) d) false (cond (is_due (due new k l.addr) d) true (in_set ds d))) → Agrees fs gs
 renews es fs ds gs k addr new before behind l h names ends member other map set =
     let m : Lease = record l { end = new } in
@@ -104,8 +104,8 @@ renews es fs ds gs k addr new before behind l h names ends member other map set 
     ∙ (ap (cond (ends_so e a l) false) (at_home new l.addr e a k true (in_set ds (due e k a)) ∙ ap (cond (ends_so e a m) true) (h.agree (due e k a) ∙ ap (has_end e a) member.is))
     ∙ ends-renewed e a new before behind l apart other)))
 
-pub stays : (es fs : Entries) (ds gs : List Due) → Agrees es ds → IsDistinct is_name (keys_of fs) → IsDistinct is_due gs
-    → ((q : NameValue) → lookup (is_name q) fs ≡ lookup (is_name q) es) → ((d : Due) → in_set gs d ≡ in_set ds d) → Agrees fs gs
+pub stays : (es fs : Entries) (ds gs : List Due) → Agrees es ds → IsDistinct same_name (keys_of fs) → IsDistinct is_due gs
+    → ((q : NameValue) → lookup (same_name q) fs ≡ lookup (same_name q) es) → ((d : Due) → in_set gs d ≡ in_set ds d) → Agrees fs gs
 stays es fs ds gs h names ends map set = record {
   names = names;
   filled = λ q empty. h.filled q (sym (map q) ∙ empty);
@@ -133,23 +133,23 @@ other_end es ds k addr new before behind l h member other =
 
 -- ---- the members of each name
 
-name_turned : (a b : NameValue) → is_name a b ≡ is_name b a
+name_turned : (a b : NameValue) → same_name a b ≡ same_name b a
 name_turned a b =
     ⊎_elim
-    (λ named. named ∙ sym (ap (λ (n : NameValue). is_name n a) (sym (name_is a b named)) ∙ name_again a))
-    (λ other. other ∙ sym (turned a b other))
-    (cases_Bool (is_name a b))
+    (λ named. named ∙ sym (ap (λ (n : NameValue). same_name n a) (sym (same_name-true a b named)) ∙ same_name-same a))
+    (λ other. other ∙ sym (same_name-turned a b other))
+    (cases_Bool (same_name a b))
 
 chosen : (b : Bool) (w x : Option (List Lease)) → unwrap_or (cond b w x) [] ≡ cond b (unwrap_or w []) (unwrap_or x [])
 chosen true w x = refl
 chosen false w x = refl
 
-pub members_at : (es fs : Entries) (k : NameValue) (w : Option (List Lease)) → ((q : NameValue) → lookup (is_name q) fs ≡ cond (is_name k q) w (lookup (is_name q) es)) → members_of fs ≡ at_name k (unwrap_or w []) (members_of es)
+pub members_at : (es fs : Entries) (k : NameValue) (w : Option (List Lease)) → ((q : NameValue) → lookup (same_name q) fs ≡ cond (same_name k q) w (lookup (same_name q) es)) → members_of fs ≡ at_name k (unwrap_or w []) (members_of es)
 members_at es fs k w map =
     same_leases (members_of fs) (at_name k (unwrap_or w []) (members_of es))
-    (λ q. ap (λ (o : Option (List Lease)). unwrap_or o []) (map q) ∙ (chosen (is_name k q) w (lookup (is_name q) es) ∙ ap (λ (b : Bool). cond b (unwrap_or w []) (members_of es q)) (name_turned k q)))
+    (λ q. ap (λ (o : Option (List Lease)). unwrap_or o []) (map q) ∙ (chosen (same_name k q) w (lookup (same_name q) es) ∙ ap (λ (b : Bool). cond b (unwrap_or w []) (members_of es q)) (name_turned k q)))
 
-pub members_stay : (es fs : Entries) → ((q : NameValue) → lookup (is_name q) fs ≡ lookup (is_name q) es) → members_of fs ≡ members_of es
+pub members_stay : (es fs : Entries) → ((q : NameValue) → lookup (same_name q) fs ≡ lookup (same_name q) es) → members_of fs ≡ members_of es
 members_stay es fs map = same_leases (members_of fs) (members_of es) (λ q. ap (λ (o : Option (List Lease)). unwrap_or o []) (map q))
 
 -- ---- no leases
@@ -189,11 +189,11 @@ due_end es fs ds d lease h there t =
     let end : lease.end ≡ d.end = only_end d.end t.before t.behind lease apart (ap (λ (n : ℕ). has_end d.end n (t.before ++ lease ∷ t.behind)) t.member.owner_is ∙ has) in
     λ i. record { end = sym end i; name = d.name; addr = sym t.member.owner_is i }
 
-pub goes_taken : (es fs : Entries) (ds gs : List Due) (k : NameValue) (addr : ℕ) (lease : Lease) → Agrees es ds → IsDistinct is_name (keys_of fs) → IsDistinct is_due gs → TakenFrom es fs k addr lease
+pub goes_taken : (es fs : Entries) (ds gs : List Due) (k : NameValue) (addr : ℕ) (lease : Lease) → Agrees es ds → IsDistinct same_name (keys_of fs) → IsDistinct is_due gs → TakenFrom es fs k addr lease
     → ((d : Due) → in_set gs d ≡ cond (is_due (due lease.end k lease.addr) d) false (in_set ds d)) → Agrees fs gs
 goes_taken es fs ds gs k addr lease h names ends t set = goes es fs ds gs k addr t.before t.behind lease h names ends t.member t.left set
 
-pub pops : (es fs : Entries) (ds gs : List Due) (d : Due) (r : Option Lease) → Agrees es ds → IsDistinct is_name (keys_of fs) → IsDistinct is_due gs → in_set ds d ≡ true
+pub pops : (es fs : Entries) (ds gs : List Due) (d : Due) (r : Option Lease) → Agrees es ds → IsDistinct same_name (keys_of fs) → IsDistinct is_due gs → in_set ds d ≡ true
     → IfSome r (λ lease. TakenFrom es fs d.name d.addr lease) → IfNone r (HasNone d.addr (members_of es d.name)) → ((x : Due) → in_set gs x ≡ cond (is_due d x) false (in_set ds x)) → Agrees fs gs
 pops es fs ds gs d r h names once there some none set =
     let t = found_out r (λ lease. TakenFrom es fs d.name d.addr lease) (HasNone d.addr (members_of es d.name)) some none (due_there es ds d h there) in
@@ -226,8 +226,8 @@ if_none (Some x) P p = tt
 
 -- ---- what was read through a loan, and not written
 
-pub unwritten : (es fs old : Entries) (k : NameValue) (w : List Lease) → fs ≡ set_value (is_name k) es w → Some w ≡ lookup (is_name k) es → es ≡ old → fs ≡ old
-unwritten es fs old k w is has view = is ∙ (set_value_same (is_name k) es w (sym has) ∙ view)
+pub unwritten : (es fs old : Entries) (k : NameValue) (w : List Lease) → fs ≡ set_value (same_name k) es w → Some w ≡ lookup (same_name k) es → es ≡ old → fs ≡ old
+unwritten es fs old k w is has view = is ∙ (set_value_same (same_name k) es w (sym has) ∙ view)
 
-pub named_is : (es : Entries) (k : NameValue) (w : List Lease) → Some w ≡ lookup (is_name k) es → members_of es k ≡ w
+pub named_is : (es : Entries) (k : NameValue) (w : List Lease) → Some w ≡ lookup (same_name k) es → members_of es k ≡ w
 named_is es k w has = ap (λ (o : Option (List Lease)). unwrap_or o []) (sym has)

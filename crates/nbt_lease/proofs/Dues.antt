@@ -12,10 +12,10 @@ use Rattle.std.specs.Str.{bytes_eq}
 use Rattle.std.proofs.lemmas.Bool.{cases_Bool, both_ways, false_from_ne_true, and_parts, and_from}
 use Rattle.std.proofs.lemmas.Map.Text.{is_eq-slice_cmp}
 use Rattle.std.proofs.lemmas.Map.Keys.{IsDistinct-from_sorted, le_from_not_gt}
-use Rattle.nbt_name.specs.Wire.{NameValue, same_name as is_name}
+use Rattle.nbt_name.specs.Wire.{NameValue, same_name}
 use Rattle.nbt_lease.specs.declared.ends.Due.{Due}
-use Rattle.nbt_lease.specs.Index.{is_due, in_set}
-use Rattle.nbt_name.proofs.Same.{same_name-true as name_is, same_name-same as name_again}
+use Rattle.nbt_lease.specs.Inner.Index.{is_due, in_set}
+use Rattle.nbt_name.proofs.Same.{same_name-true, same_name-same}
 
 pub some_weaker : (r : Option Due) (P Q : Due → Type 0) → ((d : Due) → P d → Q d) → IfSome r P → IfSome r Q
 some_weaker None P Q weaker h = h
@@ -31,15 +31,15 @@ number_again a = (unsigned_Decides a a).1 refl
 
 pub due_is : (a b : Due) → is_due a b ≡ true → a ≡ b
 due_is a b h =
-    let parts = and_parts (is_name a.name b.name) ((a.addr == b.addr) && (a.end == b.end)) h in
+    let parts = and_parts (same_name a.name b.name) ((a.addr == b.addr) && (a.end == b.end)) h in
     let numbers = and_parts (a.addr == b.addr) (a.end == b.end) parts.1 in
-    let name : a.name ≡ b.name = name_is a.name b.name parts.0 in
+    let name : a.name ≡ b.name = same_name-true a.name b.name parts.0 in
     let addr : a.addr ≡ b.addr = same_number a.addr b.addr numbers.0 in
     let end : a.end ≡ b.end = same_number a.end b.end numbers.1 in
     λ i. record { end = end i; name = name i; addr = addr i }
 
 pub due_again : (a : Due) → is_due a a ≡ true
-due_again a = and_from (is_name a.name a.name) ((a.addr == a.addr) && (a.end == a.end)) (name_again a.name) (and_from (a.addr == a.addr) (a.end == a.end) (number_again a.addr) (number_again a.end))
+due_again a = and_from (same_name a.name a.name) ((a.addr == a.addr) && (a.end == a.end)) (same_name-same a.name) (and_from (a.addr == a.addr) (a.end == a.end) (number_again a.addr) (number_again a.end))
 
 due_turned : (a b : Due) → is_due a b ≡ is_due b a
 due_turned a b =
@@ -73,16 +73,16 @@ turned_round false true false = refl
 turned_round false false true = refl
 turned_round false false false = refl
 
-name_tied : (a b : NameValue) → is_eq (name_cmp a b) ≡ is_name a b
+name_tied : (a b : NameValue) → is_eq (name_cmp a b) ≡ same_name a b
 name_tied a b = sym (tied_then (slice_cmp nat_cmp a.octets b.octets) (slice_cmp nat_cmp a.scope b.scope)) ∙ (λ i. is_eq-slice_cmp a.octets b.octets i && is_eq-slice_cmp a.scope b.scope i)
 
-rest_tied : (a b : Due) → is_eq (ordering_then (name_cmp a.name b.name) (nat_cmp a.addr b.addr)) ≡ (is_name a.name b.name && (a.addr == b.addr))
+rest_tied : (a b : Due) → is_eq (ordering_then (name_cmp a.name b.name) (nat_cmp a.addr b.addr)) ≡ (same_name a.name b.name && (a.addr == b.addr))
 rest_tied a b = sym (tied_then (name_cmp a.name b.name) (nat_cmp a.addr b.addr)) ∙ (λ i. name_tied a.name b.name i && unsigned_tied a.addr b.addr i)
 
 pub due_tied : (a b : Due) → is_eq (due_cmp a b) ≡ is_due a b
 due_tied a b =
     sym (tied_then (nat_cmp a.end b.end) (ordering_then (name_cmp a.name b.name) (nat_cmp a.addr b.addr)))
-    ∙ ((λ i. unsigned_tied a.end b.end i && rest_tied a b i) ∙ turned_round (a.end == b.end) (is_name a.name b.name) (a.addr == b.addr))
+    ∙ ((λ i. unsigned_tied a.end b.end i && rest_tied a b i) ∙ turned_round (a.end == b.end) (same_name a.name b.name) (a.addr == b.addr))
 
 -- what the ordered set says of a key, by the parts of the key
 pub set_is : (ends : List Due) (d : Due) → list_any (λ e. is_eq (due_cmp d e)) ends ≡ in_set ends d

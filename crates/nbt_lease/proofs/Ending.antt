@@ -6,7 +6,7 @@ use Rattle.std.proofs.lemmas.List.{drop_more, take-append-drop, length-take-le}
 use Rattle.std.proofs.lemmas.List.Folds.{list_any-append}
 use Rattle.nbt_lease.specs.declared.lease.Lease.{Lease}
 use Rattle.nbt_lease.specs.Lease.{HasNone, AreApart}
-use Rattle.nbt_lease.specs.Index.{has_end, AreLive, IsMember}
+use Rattle.nbt_lease.specs.Inner.Index.{has_end, AreLive, IsMember}
 use Rattle.nbt_lease.proofs.Sound.{all_behind}
 use Rattle.nbt_lease.proofs.Dues.{same_number, number_again}
 

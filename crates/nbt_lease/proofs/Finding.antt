@@ -6,7 +6,7 @@ use Rattle.nbt_name.specs.declared.addr.Kind.TheVariants.{Unique, Group}
 use Rattle.nbt_lease.specs.declared.lease.Lease.{Lease}
 use Rattle.nbt_lease.specs.declared.standing.Standing.{Standing}
 use Rattle.nbt_lease.specs.Lease.{HasNone, AreGroup}
-use Rattle.nbt_lease.specs.Standing.{HasOne, StandsIn}
+use Rattle.nbt_lease.specs.Inner.Standing.{HasOne, StandsIn}
 use Rattle.nbt_lease.specs.Rules.{Asked, IsAllowed, free, member, owner}
 use Rattle.nbt_lease.proofs.Sound.{all_front, all_behind, all_joined}
 use Rattle.nbt_lease.proofs.Cases.{kind_cases, kinds_differ}

@@ -7,7 +7,7 @@ use Rattle.std.proofs.Math.Seq.{set-append_seam}
 use Rattle.std.specs.Prelude.{Any, All, min, filter}
 use Rattle.nbt_lease.specs.declared.lease.Lease.{Lease}
 use Rattle.nbt_lease.specs.Lease.{is_live}
-use Rattle.nbt_lease.specs.Index.{AreLive}
+use Rattle.nbt_lease.specs.Inner.Index.{AreLive}
 use Rattle.nbt_lease.specs.Rules.{IsLeastEnd}
 use Rattle.nbt_lease.proofs.Flat.{all_live}
 

@@ -3,7 +3,7 @@ use Rattle.std.proofs.Common.{◌≡◌, ◌≢◌, ℕ, ◌≤◌, ◌⊎◌, �
 use Rattle.std.specs.List.{AllByRecursion, Contains}
 use Rattle.std.proofs.lemmas.Bool.{cond-true, cases_lt}
 use Rattle.std.proofs.lemmas.List.Elements.{Contains-append_left, Contains-append_right, Contains-append_cases, Contains-push, Contains-push_cases}
-use Rattle.nbt_name.specs.Wire.{NameValue, same_name as is_name}
+use Rattle.nbt_name.specs.Wire.{NameValue, same_name}
 use Rattle.nbt_name.specs.declared.addr.Kind.TheVariants.{Group}
 use Rattle.nbt_lease.specs.declared.lease.Lease.{Lease}
 use Rattle.nbt_lease.specs.declared.lease.Grant.{Grant}
@@ -12,7 +12,7 @@ use Rattle.nbt_lease.specs.declared.fault.GrantFault.{GrantFault}
 use Rattle.nbt_lease.specs.Config.{ConfigValue}
 use Rattle.nbt_lease.specs.Lease.{Leases, TableValue, leases_at, live_count, at_name, AreGroup, AreApart, IsSound}
 use Rattle.nbt_lease.specs.Rules.{Asked, IsAllowed, free, member, owner, end_of, GrantCase, active, renews, group_full, table_full, begins, Grants, renewed, begun, IsGranted, ReleaseCase, gone, no_lease, of_others, Releases}
-use Rattle.nbt_name.proofs.Same.{same_name-same as name_again}
+use Rattle.nbt_name.proofs.Same.{same_name-same}
 use Rattle.nbt_lease.proofs.Sound.{all_behind, alone, sound_after_grant}
 use Rattle.nbt_lease.proofs.Cases.{one_own}
 
@@ -110,7 +110,7 @@ others_after_release addr leases after result lease other (gone before behind ow
 )
 
 pub here : (name : NameValue) (leases : List Lease) (others : Leases) → at_name name leases others name ≡ leases
-here name leases others = cond-true (is_name name name) leases (others name) (name_again name)
+here name leases others = cond-true (same_name name name) leases (others name) (same_name-same name)
 
 after_here : (name : NameValue) (leases : List Lease) (others after : Leases) → after ≡ at_name name leases others → leases ≡ after name
 after_here name leases others after is = sym (ap (λ (f : Leases). f name) is ∙ here name leases others)

@@ -6,7 +6,7 @@ use Rattle.std.specs.Bool.{OnFalse}
 use Rattle.std.specs.Option.{IfNone}
 use Rattle.std.proofs.lemmas.Bool.{cond_both, both_ways, cases_lt, false≢true}
 use Rattle.std.proofs.lemmas.List.{length-append}
-use Rattle.nbt_name.specs.Wire.{NameValue, same_name as is_name}
+use Rattle.nbt_name.specs.Wire.{NameValue, same_name}
 use Rattle.nbt_lease.specs.declared.lease.Lease.{Lease}
 use Rattle.nbt_lease.specs.declared.lease.Grant.{Grant}
 use Rattle.nbt_lease.specs.declared.lease.Released.{Released}
@@ -16,10 +16,10 @@ use Rattle.nbt_lease.specs.declared.fault.GrantFault.TheVariants.{OutOfMemory}
 use Rattle.nbt_lease.specs.Lease.{Rows, Leases, TableValue, is_live, leases_at, live_count, members_most, at_name, HasNone, IsSound}
 use Rattle.nbt_lease.specs.Rules.{Asked, IsAllowed, end_of, grant_until, begun, renewed, GrantCase, active, renews, group_full, table_full, begins, Grants, ReleaseCase, gone, no_lease, of_others, Releases}
 use Rattle.nbt_lease.specs.Config.{ConfigValue, granted}
-use Rattle.nbt_lease.specs.Index.{Entries, members_of, rows_of, AreLive, IsMember, Renewed, Moves, Ended}
+use Rattle.nbt_lease.specs.Inner.Index.{Entries, members_of, rows_of, AreLive, IsMember, Renewed, Moves, Ended}
 use Rattle.nbt_lease.specs.declared.standing.Standing.{Standing}
-use Rattle.nbt_lease.specs.Standing.{StandsIn}
-use Rattle.nbt_lease.specs.Placing.{HoldsLive, Places, granted_until}
+use Rattle.nbt_lease.specs.Inner.Standing.{StandsIn}
+use Rattle.nbt_lease.specs.Inner.Placing.{HoldsLive, Places, granted_until}
 use Rattle.nbt_lease.proofs.Rows.{same_leases}
 use Rattle.nbt_lease.proofs.Counts.{same_count}
 use Rattle.nbt_lease.proofs.Sound.{all_joined, all_replaced, all_without, sound_granted}
@@ -37,7 +37,7 @@ pub record Left (now : ℕ) (old left : Entries) : Type 0 where
   pub count : length (rows_of left) ≡ live_count now (rows_of old)
   pub all : live_count now (rows_of left) ≡ length (rows_of left)
 
-pub left_over : (now : ℕ) (old left : Entries) → IsDistinct is_name (keys_of old) → IsDistinct is_name (keys_of left) → ((q : NameValue) → members_of left q ≡ filter (is_live now) (members_of old q)) → Left now old left
+pub left_over : (now : ℕ) (old left : Entries) → IsDistinct same_name (keys_of old) → IsDistinct same_name (keys_of left) → ((q : NameValue) → members_of left q ≡ filter (is_live now) (members_of old q)) → Left now old left
 left_over now old left names names_left h =
     let live : (q : NameValue) → AreLive now (members_of left q) = λ q. subst (AreLive now) (sym (h q)) (live_left now (members_of old q)) in
     let leases : members_of left ≡ leases_at now (rows_of old) = same_leases (members_of left) (leases_at now (rows_of old)) (λ q. h q ∙ sym (leases_are now old q names)) in
@@ -196,7 +196,7 @@ sound_placed table now name a (Err fault) after placed sound = subst (IsSound ta
 -- ---- none is over afterwards
 
 live_at : (now : ℕ) (name : NameValue) (leases : List Lease) (others : Leases) → AreLive now leases → ((q : NameValue) → AreLive now (others q)) → (q : NameValue) → AreLive now (at_name name leases others q)
-live_at now name leases others one all q = cond_both (is_name q name) leases (others q) (AreLive now) (λ _. one) (λ _. all q)
+live_at now name leases others one all q = cond_both (same_name q name) leases (others q) (AreLive now) (λ _. one) (λ _. all q)
 
 live_granted : (config : ConfigValue) (now count : ℕ) (a : Asked) (leases after : List Lease) (result : Result Grant GrantFault) → now < end_of config now a → GrantCase config now count a leases result after → AreLive now leases → AreLive now after
 live_granted config now count a leases after result onward (active _) h = h

@@ -4,24 +4,24 @@ use Rattle.std.specs.List.{filter}
 use Rattle.std.proofs.lemmas.Bool.{cases_Bool, both_ways, false_from_ne_true, and_parts, and_from, and_right, ltb-false, lt-ltb, le-ltb}
 use Rattle.std.proofs.lemmas.List.{map-append, length-append}
 use Rattle.std.proofs.lemmas.List.Elements.{filter-append}
-use Rattle.nbt_name.specs.Wire.{NameValue, same_name as is_name}
+use Rattle.nbt_name.specs.Wire.{NameValue, same_name}
 use Rattle.nbt_lease.specs.declared.lease.Lease.{Lease}
 use Rattle.nbt_lease.specs.Lease.{Rows, Leases, is_live, is_row_of, leases_at, live_count}
 
 -- ---- one row more, in front
 
-pub row_lives : (m : ℕ) (row : NameValue × Lease) (rows : Rows) (name : NameValue) → is_name row.0 name ≡ true → is_live m row.1 ≡ true → leases_at m (row ∷ rows) name ≡ row.1 ∷ leases_at m rows name
+pub row_lives : (m : ℕ) (row : NameValue × Lease) (rows : Rows) (name : NameValue) → same_name row.0 name ≡ true → is_live m row.1 ≡ true → leases_at m (row ∷ rows) name ≡ row.1 ∷ leases_at m rows name
 unfolding leases_at
 row_lives m row rows name named live = rw (named, live) refl
 
-pub row_of_other : (m : ℕ) (row : NameValue × Lease) (rows : Rows) (name : NameValue) → is_name row.0 name ≡ false → leases_at m (row ∷ rows) name ≡ leases_at m rows name
+pub row_of_other : (m : ℕ) (row : NameValue × Lease) (rows : Rows) (name : NameValue) → same_name row.0 name ≡ false → leases_at m (row ∷ rows) name ≡ leases_at m rows name
 unfolding leases_at
 row_of_other m row rows name other = rw other refl
 
 pub row_over : (m : ℕ) (row : NameValue × Lease) (rows : Rows) (name : NameValue) → is_live m row.1 ≡ false → leases_at m (row ∷ rows) name ≡ leases_at m rows name
 unfolding leases_at
 row_over m row rows name over =
-    let out : is_row_of m name row ≡ false = and_right (is_name row.0 name) (is_live m row.1) over in
+    let out : is_row_of m name row ≡ false = and_right (same_name row.0 name) (is_live m row.1) over in
     rw out refl
 
 pub count_lives : (m : ℕ) (row : NameValue × Lease) (rows : Rows) → is_live m row.1 ≡ true → live_count m (row ∷ rows) ≡ suc (live_count m rows)
@@ -70,7 +70,7 @@ later_cases early late row rows name onward rest =
     (λ over. row_over late row rows name (over_later early late row.1 onward over) ∙ (rest ∙ ap (filter (is_live late)) (sym (row_over early row rows name over))))
     (cases_Bool (is_live early row.1)))
     (λ other. row_of_other late row rows name other ∙ (rest ∙ ap (filter (is_live late)) (sym (row_of_other early row rows name other))))
-    (cases_Bool (is_name row.0 name))
+    (cases_Bool (same_name row.0 name))
 
 -- what lives later is what lives then of what lives now
 pub later_is : (early late : ℕ) (rows : Rows) (name : NameValue) → early ≤ late → leases_at late rows name ≡ filter (is_live late) (leases_at early rows name)

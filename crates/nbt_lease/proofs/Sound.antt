@@ -4,7 +4,7 @@ use Rattle.std.specs.List.{AllByRecursion, filter}
 use Rattle.std.proofs.lemmas.Bool.{cases_Bool, cond_both}
 use Rattle.std.proofs.lemmas.List.Sums.{length-filter, count_by-le-length}
 use Rattle.std.proofs.lemmas.List.{length-append}
-use Rattle.nbt_name.specs.Wire.{NameValue, same_name as is_name}
+use Rattle.nbt_name.specs.Wire.{NameValue, same_name}
 use Rattle.nbt_name.specs.declared.addr.Kind.{Kind}
 use Rattle.nbt_name.specs.declared.addr.Kind.TheVariants.{Unique, Group}
 use Rattle.nbt_lease.specs.declared.lease.Lease.{Lease}
@@ -182,7 +182,7 @@ sound_after_release latest addr leases after result h (of_others _ _) = h
 
 -- at one name
 sound_at : (config : ConfigValue) (now : ℕ) (name : NameValue) (leases : List Lease) (others : Leases) → AreSound (latest_end config now) leases → IsSound config now others → IsSound config now (at_name name leases others)
-sound_at config now name leases others here elsewhere q = cond_both (is_name q name) leases (others q) (AreSound (latest_end config now)) (λ _. here) (λ _. elsewhere q)
+sound_at config now name leases others here elsewhere q = cond_both (same_name q name) leases (others q) (AreSound (latest_end config now)) (λ _. here) (λ _. elsewhere q)
 
 pub sound_granted : (table : TableValue) (now : ℕ) (name : NameValue) (a : Asked) (result : Result Grant GrantFault) (after : Leases) → IsSound table.config now (leases_at now table.rows) → Grants table now name a result after → IsSound table.config now after
 sound_granted table now name a result after h g =

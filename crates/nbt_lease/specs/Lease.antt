@@ -1,7 +1,7 @@
 -- Leases, and what a table holds of them at a moment (our profile).
 use Rattle.std.specs.Prelude.{◌≡◌, ◌≢◌, ℕ, ◌+◌, ◌≤◌, Bool, ◌&&◌, if◌then◌else◌, nat_lt, List, [], ◌∷◌, map, filter, length, ⊤}
 use Rattle.std.specs.List.{AllByRecursion}
-use Rattle.nbt_name.specs.Wire.{NameValue, same_name as is_name}
+use Rattle.nbt_name.specs.Wire.{NameValue, same_name}
 use Rattle.nbt_name.specs.declared.addr.Kind.TheVariants.{Unique, Group}
 use Rattle.nbt_lease.specs.declared.lease.Lease.{Lease}
 use Rattle.nbt_lease.specs.Config.{ConfigValue, milliseconds}
@@ -27,7 +27,7 @@ pub record TableValue : Type 0 where
 
 -- the leases that live at a moment
 abbrev pub is_row_of : ℕ → NameValue → NameValue × Lease → Bool
-is_row_of moment name row = is_name row.0 name && is_live moment row.1
+is_row_of moment name row = same_name row.0 name && is_live moment row.1
 
 unfoldable pub leases_at : ℕ → Rows → Leases
 leases_at moment rows name = map (λ row. row.1) (filter (is_row_of moment name) rows)
@@ -38,7 +38,7 @@ live_count moment rows = length (filter (λ row. is_live moment row.1) rows)
 
 -- the same leases, but these for this name
 abbrev pub at_name : NameValue → List Lease → Leases → Leases
-at_name name leases others q = if is_name q name then leases else others q
+at_name name leases others q = if same_name q name then leases else others q
 
 -- no lease of this address
 abbrev pub HasNone : ℕ → List Lease → Type 0

@@ -3,6 +3,4 @@ pub mod Drift
 pub mod Numbers
 pub mod Lease
 pub mod Rules
-pub mod Index
-pub mod Standing
-pub mod Placing
+pub mod Inner

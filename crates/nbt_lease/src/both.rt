@@ -3,10 +3,10 @@
 ghost use Rattle.std.specs.Prelude.{◌≡◌, ◌+◌, None, Some, true, false, [], ◌∷◌, ◌++◌, length, if◌then◌else◌, IfSome, IfNone, OnOk, OnErr};
 ghost use Rattle.std.specs.List.{IsDistinct};
 ghost use Rattle.std.specs.Map.{lookup, keys_of};
-ghost use Rattle.nbt_name.specs.Wire.{NameValue, same_name as is_name};
+ghost use Rattle.nbt_name.specs.Wire.{NameValue, same_name};
 ghost use Rattle.nbt_lease.specs.declared.ends.Due.{Due};
 ghost use Rattle.nbt_lease.specs.Lease.{HasNone};
-ghost use Rattle.nbt_lease.specs.Index.{members_of, due, is_due, in_set, TakenFrom};
+ghost use Rattle.nbt_lease.specs.Inner.Index.{members_of, due, is_due, in_set, TakenFrom};
 
 use crate::ends::Ends;
 use crate::lease::Lease;
@@ -26,13 +26,13 @@ pub(crate) fn begin_in(
 ) -> Result<(), AllocError>
     requires absent { in_set ends.old (due lease.end name.now lease.addr) ≡ false }
     requires distinct { IsDistinct is_due ends.old }
-    ensures members { OnOk result ((q : NameValue) → lookup (is_name q) members.new.entries ≡ (if is_name name.now q then Some (members_of members.old.entries name.now ++ lease ∷ []) else lookup (is_name q) members.old.entries)) }
+    ensures members { OnOk result ((q : NameValue) → lookup (same_name q) members.new.entries ≡ (if same_name name.now q then Some (members_of members.old.entries name.now ++ lease ∷ []) else lookup (same_name q) members.old.entries)) }
     ensures ends { OnOk result ((d : Due) → in_set ends.new d ≡ (if is_due (due lease.end name.now lease.addr) d then true else in_set ends.old d)) }
-    ensures members_left { OnErr result ((q : NameValue) → lookup (is_name q) members.new.entries ≡ lookup (is_name q) members.old.entries) }
+    ensures members_left { OnErr result ((q : NameValue) → lookup (same_name q) members.new.entries ≡ lookup (same_name q) members.old.entries) }
     ensures ends_left { OnErr result ((d : Due) → in_set ends.new d ≡ in_set ends.old d) }
     ensures count { OnOk result (length ends.new ≡ length ends.old + 1) }
     ensures count_left { OnErr result (length ends.new ≡ length ends.old) }
-    ensures names { IsDistinct is_name (keys_of members.new.entries) }
+    ensures names { IsDistinct same_name (keys_of members.new.entries) }
     ensures distinct { IsDistinct is_due ends.new }
 {
     let Some(named) = members.get_mut(name) else {
@@ -54,17 +54,17 @@ fn begin_first(
     name: &Name,
     lease: Lease,
 ) -> Result<(), AllocError>
-    requires new { lookup (is_name name.now) members.old.entries ≡ None }
-    requires names { IsDistinct is_name (keys_of members.old.entries) }
+    requires new { lookup (same_name name.now) members.old.entries ≡ None }
+    requires names { IsDistinct same_name (keys_of members.old.entries) }
     requires absent { in_set ends.old (due lease.end name.now lease.addr) ≡ false }
     requires distinct { IsDistinct is_due ends.old }
-    ensures members { OnOk result ((q : NameValue) → lookup (is_name q) members.new.entries ≡ (if is_name name.now q then Some (lease ∷ []) else lookup (is_name q) members.old.entries)) }
+    ensures members { OnOk result ((q : NameValue) → lookup (same_name q) members.new.entries ≡ (if same_name name.now q then Some (lease ∷ []) else lookup (same_name q) members.old.entries)) }
     ensures ends { OnOk result ((d : Due) → in_set ends.new d ≡ (if is_due (due lease.end name.now lease.addr) d then true else in_set ends.old d)) }
-    ensures members_left { OnErr result ((q : NameValue) → lookup (is_name q) members.new.entries ≡ lookup (is_name q) members.old.entries) }
+    ensures members_left { OnErr result ((q : NameValue) → lookup (same_name q) members.new.entries ≡ lookup (same_name q) members.old.entries) }
     ensures ends_left { OnErr result ((d : Due) → in_set ends.new d ≡ in_set ends.old d) }
     ensures count { OnOk result (length ends.new ≡ length ends.old + 1) }
     ensures count_left { OnErr result (length ends.new ≡ length ends.old) }
-    ensures names { IsDistinct is_name (keys_of members.new.entries) }
+    ensures names { IsDistinct same_name (keys_of members.new.entries) }
     ensures distinct { IsDistinct is_due ends.new }
 {
     let mut named = Named::new(alloc);
@@ -79,11 +79,11 @@ fn begin_first(
 
 /// Takes the member of this address out of its name, and the name out of the map with its last member. Takes no memory.
 pub(crate) fn take_out(members: &mut IndexMap<Name, Named>, name: &Name, addr: u32) -> Option<Lease>
-    requires names { IsDistinct is_name (keys_of members.old.entries) }
+    requires names { IsDistinct same_name (keys_of members.old.entries) }
     ensures taken { IfSome result (λ lease. TakenFrom members.old.entries members.new.entries name.now addr lease) }
     ensures none { IfNone result (HasNone addr (members_of members.old.entries name.now)) }
-    ensures left { IfNone result ((q : NameValue) → lookup (is_name q) members.new.entries ≡ lookup (is_name q) members.old.entries) }
-    ensures names { IsDistinct is_name (keys_of members.new.entries) }
+    ensures left { IfNone result ((q : NameValue) → lookup (same_name q) members.new.entries ≡ lookup (same_name q) members.old.entries) }
+    ensures names { IsDistinct same_name (keys_of members.new.entries) }
 {
     let named = members.get_mut(name)?;
     let lease = named.take(addr)?;

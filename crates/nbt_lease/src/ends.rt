@@ -35,7 +35,7 @@ impl Model for Ends {
 impl Ends {
     ghost use Rattle.std.specs.List.{IsDistinct};
     ghost use Rattle.nbt_lease.specs.declared.ends.Due.{Due as Seen};
-    ghost use Rattle.nbt_lease.specs.Index.{due, is_due, in_set};
+    ghost use Rattle.nbt_lease.specs.Inner.Index.{due, is_due, in_set};
 
     /// No ends. Takes no memory.
     pub fn new(alloc: Global) -> Ends

@@ -28,7 +28,7 @@ pub(crate) struct Index {
 }
 
 impl Model for Index {
-    ghost use Rattle.nbt_lease.specs.Index.{Entries, Agrees};
+    ghost use Rattle.nbt_lease.specs.Inner.Index.{Entries, Agrees};
 
     ghost Value = { Entries };
 
@@ -38,9 +38,9 @@ impl Model for Index {
 }
 
 impl Index {
-    ghost use Rattle.nbt_name.specs.Wire.{same_name as is_name};
+    ghost use Rattle.nbt_name.specs.Wire.{same_name};
     ghost use Rattle.nbt_lease.specs.Lease.{is_live, at_name, HasNone};
-    ghost use Rattle.nbt_lease.specs.Index.{members_of, rows_of, AreLive, Renewed, Moves, Ended};
+    ghost use Rattle.nbt_lease.specs.Inner.Index.{members_of, rows_of, AreLive, Renewed, Moves, Ended};
 
     /// No leases. Takes no memory.
     pub fn new(alloc: Global) -> Index
@@ -87,7 +87,7 @@ impl Index {
         ensures unchanged { OnErr result (members_of self.new ≡ members_of self.old) }
         ensures count { OnOk result (length (rows_of self.new) ≡ length (rows_of self.old) + 1) }
         ensures count_left { OnErr result (length (rows_of self.new) ≡ length (rows_of self.old)) }
-        ensures names { IsDistinct is_name (keys_of self.new) }
+        ensures names { IsDistinct same_name (keys_of self.new) }
     {
         begin_in(&mut self.members, &mut self.ends, self.alloc, name, lease)
     }
@@ -102,7 +102,7 @@ impl Index {
         ensures moves { OnErr result (Moves self.old name.now addr end) }
         ensures unchanged { OnErr result (members_of self.new ≡ members_of self.old) }
         ensures count { length (rows_of self.new) ≡ length (rows_of self.old) }
-        ensures names { IsDistinct is_name (keys_of self.new) }
+        ensures names { IsDistinct same_name (keys_of self.new) }
     {
         let Some(named) = self.members.get_mut(name) else {
             return Ok(None);
@@ -126,7 +126,7 @@ impl Index {
         ensures none { OnFalse result (HasNone addr (members_of self.old name.now)) }
         ensures unchanged { OnFalse result (members_of self.new ≡ members_of self.old) }
         ensures count { length (rows_of self.new) ≤ length (rows_of self.old) }
-        ensures names { IsDistinct is_name (keys_of self.new) }
+        ensures names { IsDistinct same_name (keys_of self.new) }
     {
         let Some(lease) = take_out(&mut self.members, name, addr) else {
             return false;
@@ -141,7 +141,7 @@ impl Index {
         ensures looks { looks.new ≡ looks.old + 1 }
         ensures count { length (rows_of self.new) + (if result then 1 else 0) ≡ length (rows_of self.old) }
         ensures live { OnFalse result ((q : NameValue) → AreLive now (members_of self.new q)) }
-        ensures names { IsDistinct is_name (keys_of self.new) }
+        ensures names { IsDistinct same_name (keys_of self.new) }
     {
         let Some(due) = self.ends.take_due(now, looks) else {
             return false;
@@ -151,11 +151,11 @@ impl Index {
     }
 
     /// Takes out the leases that are over at `now`: one look at each, and one more. Takes no memory.
-    pub fn take_out_due<L: Ledger>(&mut self, now: u64, looks: &mut Looks<L>)
+    pub fn drop_expired<L: Ledger>(&mut self, now: u64, looks: &mut Looks<L>)
         ensures leases { (q : NameValue) → members_of self.new q ≡ filter (is_live now) (members_of self.old q) }
         ensures looks { looks.new + length (rows_of self.new) ≡ looks.old + length (rows_of self.old) + 1 }
         ensures fewer { length (rows_of self.new) ≤ length (rows_of self.old) }
-        ensures names { IsDistinct is_name (keys_of self.new) }
+        ensures names { IsDistinct same_name (keys_of self.new) }
     {
         'dues: while self.pop_due(now, looks) {}
     }

@@ -4,7 +4,7 @@ ghost use Rattle.std.specs.Prelude.{◌≡◌, ◌≢◌, ◌+◌, ◌<◌, List
 ghost use Rattle.nbt_lease.specs.declared.lease.Lease.{Lease};
 ghost use Rattle.nbt_lease.specs.Lease.{HasNone, is_live};
 ghost use Rattle.nbt_lease.specs.Rules.{IsLeastEnd};
-ghost use Rattle.nbt_lease.specs.Index.{IsMember};
+ghost use Rattle.nbt_lease.specs.Inner.Index.{IsMember};
 
 use crate::lease::Lease;
 use crate::members::Members;

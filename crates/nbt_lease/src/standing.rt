@@ -21,7 +21,7 @@ pub(crate) struct Standing {
 }
 
 impl Standing {
-    ghost use Rattle.nbt_lease.specs.Standing.{StandsIn};
+    ghost use Rattle.nbt_lease.specs.Inner.Standing.{StandsIn};
     ghost use Rattle.nbt_lease.specs.Lease.{members_most};
     ghost use Rattle.nbt_lease.specs.Rules.{Asked, IsAllowed};
 

@@ -3,11 +3,11 @@
 ghost use Rattle.std.specs.Prelude.{◌≡◌, ◌≢◌, ℕ, ◌+◌, ◌<◌, ◌≤◌, [], length, filter, OnErr};
 ghost use Rattle.std.specs.List.{IsDistinct};
 ghost use Rattle.std.specs.Map.{keys_of};
-ghost use Rattle.nbt_name.specs.Wire.{NameValue, same_name as is_name};
+ghost use Rattle.nbt_name.specs.Wire.{NameValue, same_name};
 ghost use Rattle.nbt_lease.specs.Lease.{TableValue, is_live, leases_at, HasNone};
 ghost use Rattle.nbt_lease.specs.Rules.{Asked, begun, Releases};
-ghost use Rattle.nbt_lease.specs.Placing.{HoldsLive, MayBegin, Places};
-ghost use Rattle.nbt_lease.specs.Index.{members_of, rows_of};
+ghost use Rattle.nbt_lease.specs.Inner.Placing.{HoldsLive, MayBegin, Places};
+ghost use Rattle.nbt_lease.specs.Inner.Index.{members_of, rows_of};
 
 use crate::config::Config;
 use crate::fault::GrantFault;
@@ -37,15 +37,15 @@ impl Model for Table {
     ghost use Rattle.std.specs.Prelude.{◌≤◌, length};
     ghost use Rattle.std.specs.List.{IsDistinct};
     ghost use Rattle.std.specs.Map.{keys_of};
-    ghost use Rattle.nbt_name.specs.Wire.{same_name as is_name};
+    ghost use Rattle.nbt_name.specs.Wire.{same_name};
     ghost use Rattle.nbt_lease.specs.Lease.{TableValue, leases_at, IsSound};
-    ghost use Rattle.nbt_lease.specs.Index.{rows_of};
+    ghost use Rattle.nbt_lease.specs.Inner.Index.{rows_of};
 
     ghost Value = { TableValue };
 
     ghost view = { λ t. record { config = t.config; last = t.last; rows = rows_of t.index } };
 
-    ghost invariant = { λ t. IsDistinct is_name (keys_of t.index) × IsSound t.config t.last (leases_at t.last (rows_of t.index)) × (length (rows_of t.index) ≤ t.config.rows) };
+    ghost invariant = { λ t. IsDistinct same_name (keys_of t.index) × IsSound t.config t.last (leases_at t.last (rows_of t.index)) × (length (rows_of t.index) ≤ t.config.rows) };
 }
 
 impl Table {
@@ -118,8 +118,11 @@ impl Table {
             kind,
             end: ms + 1000 * u64::from(seconds),
         };
-        take_out_due::<Brand>(&mut self.index, ms, Blank::new(1));
-        place(&mut self.index, self.config.rows(), name, lease).map(|end| Grant { seconds, end })
+        drop_expired::<Brand>(&mut self.index, ms, Blank::new(1));
+        renew_or_begin(&mut self.index, self.config.rows(), name, lease).map(|end| Grant {
+            seconds,
+            end,
+        })
     }
 
     /// Takes out the address's live lease of the name, of either kind: `Gone`. Where it has none, `NoLease` where the
@@ -134,8 +137,8 @@ impl Table {
         ensures sound { IsSound self.new.config now (leases_at now self.new.rows) }
     {
         self.last = now;
-        take_out_due::<Brand>(&mut self.index, now.get(), Blank::new(1));
-        take_back(&mut self.index, name, addr)
+        drop_expired::<Brand>(&mut self.index, now.get(), Blank::new(1));
+        end_lease(&mut self.index, name, addr)
     }
 
     /// The live leases of the name at `now`, in order of their beginnings: at most 1,000. It lends them and takes
@@ -184,7 +187,7 @@ impl Table {
         ensures sound { IsSound self.new.config now (leases_at now self.new.rows) }
     {
         self.last = now;
-        self.index.take_out_due(now.get(), looks);
+        self.index.drop_expired(now.get(), looks);
     }
 
     /// The same, where nobody counts the looks.
@@ -205,25 +208,30 @@ impl Table {
 }
 
 /// Takes out the leases that are over; nobody counts the looks.
-fn take_out_due<L: Ledger>(index: &mut Index, now: u64, blank: Blank)
+fn drop_expired<L: Ledger>(index: &mut Index, now: u64, blank: Blank)
     requires name { blank.name ≡ L.name }
     requires parts { blank.parts ≡ L.parts }
     requires some { 0 < blank.parts }
     ensures leases { (q : NameValue) → members_of index.new q ≡ filter (is_live now) (members_of index.old q) }
     ensures fewer { length (rows_of index.new) ≤ length (rows_of index.old) }
-    ensures names { IsDistinct is_name (keys_of index.new) }
+    ensures names { IsDistinct same_name (keys_of index.new) }
 {
     let mut looks = Looks::<L>::new(blank);
-    index.take_out_due(now, &mut looks);
+    index.drop_expired(now, &mut looks);
 }
 
 /// Renews the lease of the lease's address, or begins one; returns its end. All leases live.
-fn place(index: &mut Index, most: usize, name: &Name, lease: Lease) -> Result<u64, GrantFault>
-    requires names { IsDistinct is_name (keys_of index.old) }
+fn renew_or_begin(
+    index: &mut Index,
+    most: usize,
+    name: &Name,
+    lease: Lease,
+) -> Result<u64, GrantFault>
+    requires names { IsDistinct same_name (keys_of index.old) }
     requires fits { length (rows_of index.old) ≤ most }
     ensures rule { (table : TableValue) (now : ℕ) (a : Asked) → HoldsLive table now index.old → table.config.rows ≡ most → lease ≡ begun table.config now a → Places table now name.now a result (members_of index.new) }
     ensures fits { length (rows_of index.new) ≤ most }
-    ensures names { IsDistinct is_name (keys_of index.new) }
+    ensures names { IsDistinct same_name (keys_of index.new) }
 {
     let standing = Standing::find(index.members(name), lease.addr);
     if !standing.allows(lease.kind) {
@@ -244,12 +252,12 @@ fn place(index: &mut Index, most: usize, name: &Name, lease: Lease) -> Result<u6
 /// Begins a lease, which goes last; returns its end. All leases live.
 fn begin(index: &mut Index, most: usize, name: &Name, lease: Lease) -> Result<u64, GrantFault>
     requires none { HasNone lease.addr (members_of index.old name.now) }
-    requires names { IsDistinct is_name (keys_of index.old) }
+    requires names { IsDistinct same_name (keys_of index.old) }
     requires fits { length (rows_of index.old) ≤ most }
     ensures rule { (table : TableValue) (now : ℕ) (a : Asked) → HoldsLive table now index.old → table.config.rows ≡ most → lease ≡ begun table.config now a
         → MayBegin a (leases_at now table.rows name.now) → Places table now name.now a result (members_of index.new) }
     ensures fits { length (rows_of index.new) ≤ most }
-    ensures names { IsDistinct is_name (keys_of index.new) }
+    ensures names { IsDistinct same_name (keys_of index.new) }
 {
     if index.count() >= most {
         return Err(GrantFault::TableFull);
@@ -261,10 +269,10 @@ fn begin(index: &mut Index, most: usize, name: &Name, lease: Lease) -> Result<u6
 }
 
 /// Ends the address's lease of the name. All leases live.
-fn take_back(index: &mut Index, name: &Name, addr: u32) -> Released
+fn end_lease(index: &mut Index, name: &Name, addr: u32) -> Released
     ensures rule { (table : TableValue) (now : ℕ) → HoldsLive table now index.old → Releases table now name.now addr result (members_of index.new) }
     ensures count { length (rows_of index.new) ≤ length (rows_of index.old) }
-    ensures names { IsDistinct is_name (keys_of index.new) }
+    ensures names { IsDistinct same_name (keys_of index.new) }
 {
     if index.end(name, addr) {
         return Released::Gone;

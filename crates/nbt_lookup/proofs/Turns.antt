@@ -7,7 +7,7 @@ use Rattle.std.proofs.lemmas.List.Concat.{flat_map-append}
 use Rattle.nbt_name.specs.declared.addr.Addr.{Addr}
 use Rattle.nbt_node.specs.Node.{NodeValue}
 use Rattle.nbt_node.specs.Calls.{Polls}
-use Rattle.nbt_engine.specs.Acts.{Act, receive_failed, send_failed, Chain}
+use Rattle.nbt_engine.specs.PortCalls.{Act, receive_failed, send_failed, Chain}
 use Rattle.nbt_engine.specs.Turning.{PollsTo, PollsAll}
 use Rattle.nbt_engine.proofs.Chains.{chain_one, chain-append}
 use Rattle.nbt_lookup.specs.declared.looking.Ending.TheVariants as e

@@ -7,7 +7,7 @@ use Rattle.nbt_node.specs.Node.{NodeValue, lookup_open}
 use Rattle.nbt_node.specs.Moves.{Told, nothing, finds, finds_none, lists}
 use Rattle.nbt_node.specs.Calls.{Polls}
 use Rattle.nbt_node.specs.Datagrams.{Handles}
-use Rattle.nbt_engine.specs.Acts.{Act, nothing_came, came, receive_failed, sent, send_failed, Chain}
+use Rattle.nbt_engine.specs.PortCalls.{Act, nothing_came, came, receive_failed, sent, send_failed, Chain}
 use Rattle.nbt_engine.specs.Turning.{PollsTo, PollsAll}
 use Rattle.nbt_lookup.specs.declared.looking.Ending.{Ending}
 use Rattle.nbt_lookup.specs.declared.looking.Ending.TheVariants as e

@@ -1,7 +1,7 @@
 //! A whole lookup.
 
 ghost use Rattle.std.specs.Prelude.{◌<◌, ◌^◌, ◌+◌, IfOk, OnErr};
-ghost use Rattle.nbt_engine.specs.Acts.{CountsFailure};
+ghost use Rattle.nbt_engine.specs.PortCalls.{CountsFailure};
 ghost use Rattle.nbt_lookup.specs.Looking.{Waited, Looks, Broken, Fails};
 
 use crate::question::{Question, begin, end_of};

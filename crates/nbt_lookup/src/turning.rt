@@ -5,7 +5,7 @@ ghost use Rattle.nbt_node.specs.Node.{NodeValue};
 ghost use Rattle.nbt_node.specs.Moves.{Told, told_of};
 ghost use Rattle.nbt_node.specs.Calls.{Polls};
 ghost use Rattle.nbt_name.specs.declared.addr.Addr.{Addr as End};
-ghost use Rattle.nbt_engine.specs.Acts.{Act, came, receive_failed, send_failed, Chain, CountsFailure};
+ghost use Rattle.nbt_engine.specs.PortCalls.{Act, came, receive_failed, send_failed, Chain, CountsFailure};
 ghost use Rattle.nbt_engine.specs.Turning.{PollsTo, PollsAll, EndsPolls};
 ghost use Rattle.nbt_lookup.specs.Looking.{Hears, GoesOn, is_end, BreaksTurn};
 ghost use Rattle.nbt_lookup.specs.Inner.Steps.{TurnIs, HeardIs};

@@ -1,7 +1,7 @@
 //! An end node with its two ports, and the name server with its port and its clock.
 
 ghost use Rattle.std.specs.Prelude.{◌≡◌, ◌<◌, OnOk, IsErr};
-ghost use Rattle.nbt_engine.specs.Acts.{receiving, sending};
+ghost use Rattle.nbt_engine.specs.PortCalls.{receiving, sending};
 ghost use Rattle.nbt_engine.specs.Serving.{Runs};
 ghost use Rattle.nbt_engine.specs.declared.serving.Counts.{Counts};
 ghost use Rattle.nbt_loop.specs.Counting.{CountsOn};

@@ -1,7 +1,7 @@
 -- The turns of a node: none, one after others, and one in which the device fails.
 use Rattle.std.proofs.Common.{ℕ, ◌+◌, ◌<◌, List, [], ◌∷◌, ◌++◌, refl, sym, ap, subst, ◌∙◌, length-append}
 use Rattle.nbt_name.specs.declared.addr.Addr.{Addr}
-use Rattle.nbt_engine.specs.Acts.{Act, Chain}
+use Rattle.nbt_engine.specs.PortCalls.{PortCall, Chain}
 use Rattle.nbt_engine.specs.declared.turning.Seen.{Seen}
 use Rattle.nbt_engine.specs.declared.turning.Want.{Want}
 use Rattle.nbt_net.specs.Node.{Running, Turns, BreaksTurns, TakesTurns, FailsTurns}
@@ -10,10 +10,10 @@ pub chain_on : {S X : Type 0} (step : S → X → S → Type 0) (old mid new : S
 chain_on step old mid new [] x before last = (new, subst (λ s. step s x new) before last, refl)
 chain_on step old mid new (y ∷ ys) x before last = (before.0, before.1, chain_on step before.0 mid new ys x before.2 last)
 
-pub no_turns : {P C : Type 0} (does : P → Act → P → Type 0) (tells : C → ℕ → C → Type 0) (server : Addr) (want : Want) (here : Running P C) → TakesTurns does tells server want 0 here here
+pub no_turns : {P C : Type 0} (does : P → PortCall → P → Type 0) (tells : C → ℕ → C → Type 0) (server : Addr) (want : Want) (here : Running P C) → TakesTurns does tells server want 0 here here
 no_turns does tells server want here = record { seen = []; turns = refl; count_is = refl }
 
-pub turns_on : {P C : Type 0} (does : P → Act → P → Type 0) (tells : C → ℕ → C → Type 0) (server : Addr) (want : Want) (count : ℕ) (old mid new : Running P C) (one : Seen)
+pub turns_on : {P C : Type 0} (does : P → PortCall → P → Type 0) (tells : C → ℕ → C → Type 0) (server : Addr) (want : Want) (count : ℕ) (old mid new : Running P C) (one : Seen)
     → TakesTurns does tells server want count old mid → Turns does tells server want mid one new → TakesTurns does tells server want (count + 1) old new
 turns_on does tells server want count old mid new one before turn = record {
   seen = before.seen ++ one ∷ [];
@@ -21,7 +21,7 @@ turns_on does tells server want count old mid new one before turn = record {
   count_is = length-append before.seen (one ∷ []) ∙ ap (λ (n : ℕ). n + 1) before.count_is;
 }
 
-pub turns_fail : {P C : Type 0} (does : P → Act → P → Type 0) (tells : C → ℕ → C → Type 0) (server : Addr) (want : Want) (count turns : ℕ) (old mid new : Running P C)
+pub turns_fail : {P C : Type 0} (does : P → PortCall → P → Type 0) (tells : C → ℕ → C → Type 0) (server : Addr) (want : Want) (count turns : ℕ) (old mid new : Running P C)
     → count < turns → TakesTurns does tells server want count old mid → BreaksTurns does tells server want mid new → FailsTurns does tells server want turns old new
 turns_fail does tells server want count turns old mid new fewer before broken = record {
   seen = before.seen;

@@ -6,7 +6,7 @@ use Rattle.nbt_name.specs.declared.addr.Addr.{Addr}
 use Rattle.nbt_name.specs.declared.addr.Kind.{Kind}
 use Rattle.nbt_node.specs.Calls.{started}
 use Rattle.nbt_node.specs.Node.{NodeValue, holds, slots_most}
-use Rattle.nbt_engine.specs.Acts.{Act, Chain}
+use Rattle.nbt_engine.specs.PortCalls.{PortCall, Chain}
 use Rattle.nbt_engine.specs.Turning.{TakesTurn, BreaksTurn}
 use Rattle.nbt_engine.specs.declared.turning.Seen.{Seen}
 use Rattle.nbt_engine.specs.declared.turning.Seen.TheVariants as s
@@ -39,23 +39,23 @@ pub record Running (P C : Type 0) : Type 0 where
   pub text : Option (List ℕ)
 
 -- A turn makes these of those, this is seen in it, and its line is printed.
-abbrev pub Turns : {P C : Type 0} → (P → Act → P → Type 0) → (C → ℕ → C → Type 0) → Addr → Want → Running P C → Seen → Running P C → Type 0
-Turns does tells server want old seen new = (acts : List Act) × (moments : List ℕ) × TakesTurn server want old.node acts moments seen new.node
+abbrev pub Turns : {P C : Type 0} → (P → PortCall → P → Type 0) → (C → ℕ → C → Type 0) → Addr → Want → Running P C → Seen → Running P C → Type 0
+Turns does tells server want old seen new = (acts : List PortCall) × (moments : List ℕ) × TakesTurn server want old.node acts moments seen new.node
     × Chain does old.port acts new.port × Chain tells old.clock moments new.clock × Appends old.text new.text (seen_text seen)
 
 -- The device fails in a turn, and nothing is printed of it.
-abbrev pub BreaksTurns : {P C : Type 0} → (P → Act → P → Type 0) → (C → ℕ → C → Type 0) → Addr → Want → Running P C → Running P C → Type 0
-BreaksTurns does tells server want old new = (acts : List Act) × (moments : List ℕ) × BreaksTurn server want old.node acts moments new.node
+abbrev pub BreaksTurns : {P C : Type 0} → (P → PortCall → P → Type 0) → (C → ℕ → C → Type 0) → Addr → Want → Running P C → Running P C → Type 0
+BreaksTurns does tells server want old new = (acts : List PortCall) × (moments : List ℕ) × BreaksTurn server want old.node acts moments new.node
     × Chain does old.port acts new.port × Chain tells old.clock moments new.clock × (new.text ≡ old.text)
 
 -- so many turns, one after the other
-pub record TakesTurns {P C : Type 0} (does : P → Act → P → Type 0) (tells : C → ℕ → C → Type 0) (server : Addr) (want : Want) (count : ℕ) (old new : Running P C) : Type 0 where
+pub record TakesTurns {P C : Type 0} (does : P → PortCall → P → Type 0) (tells : C → ℕ → C → Type 0) (server : Addr) (want : Want) (count : ℕ) (old new : Running P C) : Type 0 where
   pub seen : List Seen
   pub turns : Chain (Turns does tells server want) old seen new
   pub count_is : length seen ≡ count
 
 -- fewer turns than that, and then one in which the device fails
-pub record FailsTurns {P C : Type 0} (does : P → Act → P → Type 0) (tells : C → ℕ → C → Type 0) (server : Addr) (want : Want) (count : ℕ) (old new : Running P C) : Type 0 where
+pub record FailsTurns {P C : Type 0} (does : P → PortCall → P → Type 0) (tells : C → ℕ → C → Type 0) (server : Addr) (want : Want) (count : ℕ) (old new : Running P C) : Type 0 where
   pub seen : List Seen
   pub mid : Running P C
   pub turns : Chain (Turns does tells server want) old seen mid
@@ -63,17 +63,17 @@ pub record FailsTurns {P C : Type 0} (does : P → Act → P → Type 0) (tells 
   pub breaks : BreaksTurns does tells server want mid new
 
 -- With a number of turns it takes them. With no end it stays up.
-abbrev pub RunsFor : {P C : Type 0} → (P → Act → P → Type 0) → (C → ℕ → C → Type 0) → (turns : Option ℕ) → Addr → Want → Running P C → Running P C → Type 0
+abbrev pub RunsFor : {P C : Type 0} → (P → PortCall → P → Type 0) → (C → ℕ → C → Type 0) → (turns : Option ℕ) → Addr → Want → Running P C → Running P C → Type 0
 RunsFor does tells (Some turns) server want old new = TakesTurns does tells server want turns old new
 RunsFor does tells None server want old new = StaysUp (Turns does tells server want) (BreaksTurns does tells server want) FOREVER old new
 
 -- The device fails: with a number of turns in the first turn in which it does. With no end the node gives up.
-abbrev pub NodeFailsFor : {P C : Type 0} → (P → Act → P → Type 0) → (C → ℕ → C → Type 0) → (turns : Option ℕ) → Addr → Want → Running P C → Running P C → Type 0
+abbrev pub NodeFailsFor : {P C : Type 0} → (P → PortCall → P → Type 0) → (C → ℕ → C → Type 0) → (turns : Option ℕ) → Addr → Want → Running P C → Running P C → Type 0
 NodeFailsFor does tells (Some turns) server want old new = FailsTurns does tells server want turns old new
 NodeFailsFor does tells None server want old new = GivesUp (Turns does tells server want) (BreaksTurns does tells server want) FOREVER old new
 
 -- The turns, and after them a line that says whether it then holds the name, at the moment that the clock told last.
-abbrev pub RunsToItsEnd : {P : Type 0} → (P → Act → P → Type 0) → NodeArguments → Running P ℕ → Running P ℕ → Type 0
+abbrev pub RunsToItsEnd : {P : Type 0} → (P → PortCall → P → Type 0) → NodeArguments → Running P ℕ → Running P ℕ → Type 0
 RunsToItsEnd does a old new = (turns_text : Option (List ℕ)) × RunsFor does MachineTells a.turns a.server a.want old (record new { text = turns_text })
     × Appends turns_text new.text (held_text (holds new.node a.want.name new.clock))
 
@@ -85,10 +85,10 @@ pub record NodeBegins {P : Type 0} (a : NodeArguments) (goes : Running P ℕ →
   pub clock_told : MachineTells old_clock start start
   pub goes_on : goes (record { port = old_port; clock = start; node = started slots_most a.bind a.server a.config start; text = old_text }) (record { port = port; clock = clock; node = node; text = text })
 
-abbrev pub RunsNode : {P : Type 0} → (P → Act → P → Type 0) → NodeArguments → P → (old_clock : ℕ) → (old_text : Option (List ℕ)) → P → (clock : ℕ) → (text : Option (List ℕ)) → Type 0
+abbrev pub RunsNode : {P : Type 0} → (P → PortCall → P → Type 0) → NodeArguments → P → (old_clock : ℕ) → (old_text : Option (List ℕ)) → P → (clock : ℕ) → (text : Option (List ℕ)) → Type 0
 RunsNode does a old_port old_clock old_text port clock text = NodeBegins a (RunsToItsEnd does a) old_port old_clock old_text port clock text
 
-abbrev pub NodeFails : {P : Type 0} → (P → Act → P → Type 0) → NodeArguments → P → (old_clock : ℕ) → (old_text : Option (List ℕ)) → P → (clock : ℕ) → (text : Option (List ℕ)) → Type 0
+abbrev pub NodeFails : {P : Type 0} → (P → PortCall → P → Type 0) → NodeArguments → P → (old_clock : ℕ) → (old_text : Option (List ℕ)) → P → (clock : ℕ) → (text : Option (List ℕ)) → Type 0
 NodeFails does a old_port old_clock old_text port clock text = NodeBegins a (NodeFailsFor does MachineTells a.turns a.server a.want) old_port old_clock old_text port clock text
 
 -- the same over this machine

@@ -1,6 +1,6 @@
 -- How an end that is meant to stay up goes on after turns that failed (our profile).
 use Rattle.std.specs.Prelude.{◌≡◌, ℕ, ◌+◌, ◌<◌, ◌≤◌, List, length, Option, Some, None}
-use Rattle.nbt_engine.specs.Acts.{Chain}
+use Rattle.nbt_engine.specs.PortCalls.{Chain}
 use Rattle.nbt_net.specs.declared.limits.TheConstants.{MOST_FAILURES}
 
 -- an end, with how many of its turns have failed in a row

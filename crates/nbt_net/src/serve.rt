@@ -2,7 +2,7 @@
 
 ghost use Rattle.std.specs.Prelude.{◌≡◌, ◌≤◌, ◌^◌, OnOk};
 ghost use Rattle.std.specs.Io.KnownBytes.{Appends};
-ghost use Rattle.nbt_net.specs.Serve.{Serves, ServerFails, ServerIsCut, ServesHere, ServerFailsHere, ServerIsCutHere, ServesFor, FailsFor, IsCutFor, counts_text};
+ghost use Rattle.nbt_net.specs.Serve.{RunsServer, ServerFails, ServerIsCut, RunsServerHere, ServerFailsHere, ServerIsCutHere, ServesFor, FailsFor, IsCutFor, counts_text};
 
 use crate::clock::readable_clock;
 use crate::fault::Fault;
@@ -43,7 +43,7 @@ pub fn run_server<M: Net + time::Clock, W: Write, E: Write>(
     writer: &mut W,
     errors: &mut E,
 ) -> Result<(), Fault>
-    ensures ok { OnOk result (ServesHere arguments.now (W.contents writer.old) (W.contents writer.new)) }
+    ensures ok { OnOk result (RunsServerHere arguments.now (W.contents writer.old) (W.contents writer.new)) }
     ensures device { result ≡ Err Fault.Device → ServerFailsHere arguments.now (W.contents writer.old) (W.contents writer.new) }
     ensures output { result ≡ Err Fault.Output → ServerIsCutHere arguments.now }
 {
@@ -67,7 +67,7 @@ pub fn serve<P: Port, C: Clock, W: Write, M: time::Clock, E: Write>(
     errors: &mut E,
 ) -> Result<(), Fault>
     requires few { P.failures port.old ≤ 2 ^ 61 }
-    ensures ok { OnOk result (Serves P.does C.tells arguments.now
+    ensures ok { OnOk result (RunsServer P.does C.tells arguments.now
         port.old clock.old (W.contents writer.old) port.new clock.new (W.contents writer.new)) }
     ensures device { result ≡ Err Fault.Device → ServerFails P.does C.tells arguments.now
         port.old clock.old (W.contents writer.old) port.new clock.new (W.contents writer.new) }

@@ -9,7 +9,7 @@ use Rattle.nbt_node.specs.Settling.{settled}
 use Rattle.nbt_node.specs.Node.{is_in, AreDistinct, state_in, slot_of}
 use Rattle.nbt_node.specs.Moves.{is_due}
 use Rattle.nbt_node.specs.Calls.{first_due}
-use Rattle.nbt_node.specs.Sending.{IsSending}
+use Rattle.nbt_node.specs.Inner.Sending.{IsSending}
 use Rattle.nbt_name.proofs.Same.{same_name-same, name_tells}
 use Rattle.nbt_node.proofs.Known.{slot_tells}
 

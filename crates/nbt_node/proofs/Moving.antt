@@ -20,8 +20,8 @@ use Rattle.nbt_node.specs.Transaction.{next_due}
 use Rattle.nbt_node.specs.Moves.{NameEvent, ask, poll, hear, nothing, Told, Move, NameMoves, asks, gives_back, asks_again, gives_back_again, refreshes_again, refreshes, granted_to, renewed_to, refused_to, loses_asked, loses_held, freed, asking_waits, giving_back_waits, refresh_waits, unmoved}
 use Rattle.nbt_packet.specs.Spelling.{AreWritten}
 use Rattle.nbt_node.specs.Calls.{is_busy, is_quiet, ask_refusal, question, LooksUp, slot_due, lookup_due, due_lookup, Polls, polls_name, polls_lookup, polls_nothing}
-use Rattle.nbt_node.specs.Datagrams.{same_end, Hears, from_server, from_stranger, ends, Ends, is_answered, is_unanswered}
-use Rattle.nbt_node.specs.Sending.{IsSending}
+use Rattle.nbt_node.specs.Datagrams.{same_end, NodeHears, from_server, from_stranger, ends, Ends, is_answered, is_unanswered}
+use Rattle.nbt_node.specs.Inner.Sending.{IsSending}
 use Rattle.nbt_node.proofs.Due.{known_due}
 use Rattle.nbt_node.proofs.Awake.{awake-settled, awake-with_state}
 use Rattle.nbt_node.proofs.Known.{absent, distinct-settled, state_in-settled, distinct-with_state, length-with_state, with_state-other, with_state-same}
@@ -210,12 +210,12 @@ polls_sending old new now kept sending octets apart due is new_is written =
 
 -- by a stranger, and by the server; the node as the code has it open is the node before
 pub ignored : (old inside new : NodeValue) (now : ℕ) (from : Addr) (name : NameValue) (message : MessageValue) → inside ≡ old → false ≡ same_end from inside.server → new ≡ settled_node old now → AreDistinct old.slots
-    → Hears old now from name message new None nothing
+    → NodeHears old now from name message new None nothing
 ignored old inside new now from name message inside_is stranger new_is apart =
     from_stranger new (ap (λ (n : NodeValue). same_end from n.server) (sym inside_is) ∙ sym stranger) (passes old new now new_is apart)
 
 pub heard : (old inside new : NodeValue) (now : ℕ) (from : Addr) (name : NameValue) (message : MessageValue) → inside ≡ old → true ≡ same_end from inside.server → (state after : State) (told : Told) → state ≡ state_at old now name
-    → Move old now name state (hear message) after None told old.next_id → new ≡ changed old now name after inside.next_id → AreDistinct old.slots → Hears old now from name message new None told
+    → Move old now name state (hear message) after None told old.next_id → new ≡ changed old now name after inside.next_id → AreDistinct old.slots → NodeHears old now from name message new None told
 heard old inside new now from name message inside_is server state after told state_is move new_is apart =
     let move_at : Move old now name (state_at old now name) (hear message) after None told old.next_id = rw (← state_is) move in
     let whole : new ≡ changed old now name after old.next_id = new_is ∙ ap (λ (n : NodeValue). changed old now name after n.next_id) inside_is in

@@ -12,7 +12,7 @@ use Rattle.nbt_node.specs.Node.{NodeValue, state_at, changed}
 use Rattle.nbt_node.specs.Transaction.{next_due}
 use Rattle.nbt_node.specs.Moves.{NameEvent, poll, hear, Told, nothing, finds, finds_none, lists, NameMoves}
 use Rattle.nbt_node.specs.Calls.{Sends, question, with_lookup, Opens, Polls, polls_name, polls_lookup, polls_nothing}
-use Rattle.nbt_node.specs.Datagrams.{Hears, from_server, from_stranger, Lists, lists_names, lists_nothing, Ends, is_answered, is_unanswered, Idles, idles, Takes, TakesOctets, spelled, unspelled, Handles}
+use Rattle.nbt_node.specs.Datagrams.{NodeHears, from_server, from_stranger, Lists, lists_names, lists_nothing, Ends, is_answered, is_unanswered, Idles, idles, NodeTakes, NodeTakesOctets, spelled, unspelled, Handles}
 use Rattle.nbt_node.proofs.OneMove.{one_outcome}
 
 same_some : {X : Type 0} (x y : X) (o : Option X) → o ≡ Some x → o ≡ Some y → x ≡ y
@@ -62,7 +62,7 @@ module _ (old : NodeValue) (now : ℕ) where
 
   -- ---- a message
 
-  one_hearing : (from : Addr) (name : NameValue) (message : MessageValue) (a b : NodeValue) (m n : Option MessageValue) (t u : Told) → Hears old now from name message a m t → Hears old now from name message b n u → (a ≡ b) × (m ≡ n) × (t ≡ u)
+  one_hearing : (from : Addr) (name : NameValue) (message : MessageValue) (a b : NodeValue) (m n : Option MessageValue) (t u : Told) → NodeHears old now from name message a m t → NodeHears old now from name message b n u → (a ≡ b) × (m ≡ n) × (t ≡ u)
   one_hearing from name message _ _ _ _ _ _ (from_server a t is moves) (from_server b u _ also) = one_name_moves name (hear message) a b None None t u moves also
   one_hearing from name message _ _ _ _ _ _ (from_server a t is moves) (from_stranger b not passes) = absurd (let e : true ≡ false = sym is ∙ not in cc)
   one_hearing from name message _ _ _ _ _ _ (from_stranger a not passes) (from_server b u is moves) = absurd (let e : true ≡ false = sym is ∙ not in cc)
@@ -83,7 +83,7 @@ module _ (old : NodeValue) (now : ℕ) where
   one_idling : (a b : NodeValue) (m n : Option MessageValue) (t u : Told) → Idles old now a m t → Idles old now b n u → (a ≡ b) × (m ≡ n) × (t ≡ u)
   one_idling _ _ _ _ _ _ (idles a passes) (idles b also) = (passes.node ∙ sym also.node, refl, refl)
 
-  one_taking : (from : Addr) (message : MessageValue) (a b : NodeValue) (m n : Option MessageValue) (t u : Told) → Takes old now from message a m t → Takes old now from message b n u → (a ≡ b) × (m ≡ n) × (t ≡ u)
+  one_taking : (from : Addr) (message : MessageValue) (a b : NodeValue) (m n : Option MessageValue) (t u : Told) → NodeTakes old now from message a m t → NodeTakes old now from message b n u → (a ≡ b) × (m ≡ n) × (t ≡ u)
   one_taking from (registration r) a b m n t u x y = one_idling a b m n t u x y
   one_taking from (overwrite r) a b m n t u x y = one_idling a b m n t u x y
   one_taking from (refresh r) a b m n t u x y = one_idling a b m n t u x y
@@ -100,10 +100,10 @@ module _ (old : NodeValue) (now : ℕ) where
   -- ---- octets, which spell one message at most
 
   module _ (one_message : (octets : List ℕ) (m n : MessageValue) → Spells octets m → Spells octets n → m ≡ n) where
-    one_octets : (from : Addr) (octets : List ℕ) (a b : NodeValue) (m n : Option MessageValue) (t u : Told) → TakesOctets old now from octets a m t → TakesOctets old now from octets b n u → (a ≡ b) × (m ≡ n) × (t ≡ u)
+    one_octets : (from : Addr) (octets : List ℕ) (a b : NodeValue) (m n : Option MessageValue) (t u : Told) → NodeTakesOctets old now from octets a m t → NodeTakesOctets old now from octets b n u → (a ≡ b) × (m ≡ n) × (t ≡ u)
     one_octets from octets _ _ _ _ _ _ (spelled message a m t is takes) (spelled other b n u also takes_too) =
         let same : message ≡ other = one_message octets message other is also in
-        one_taking from other a b m n t u (subst (λ (v : MessageValue). Takes old now from v a m t) same takes) takes_too
+        one_taking from other a b m n t u (subst (λ (v : MessageValue). NodeTakes old now from v a m t) same takes) takes_too
     one_octets from octets _ _ _ _ _ _ (spelled message a m t is takes) (unspelled b not passes) = absurd (not message is)
     one_octets from octets _ _ _ _ _ _ (unspelled a not passes) (spelled message b n u is takes) = absurd (not message is)
     one_octets from octets _ _ _ _ _ _ (unspelled a not passes) (unspelled b _ also) = (passes.node ∙ sym also.node, refl, refl)

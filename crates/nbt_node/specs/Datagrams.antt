@@ -20,9 +20,9 @@ abbrev pub same_end : Addr → Addr → Bool
 same_end a b = nat_eq a.ip b.ip && nat_eq a.port b.port
 
 -- what is said about a name counts only from the node's server, its address and port
-pub data Hears (old : NodeValue) (now : ℕ) (from : Addr) (name : NameValue) (message : MessageValue) : NodeValue → Option MessageValue → Told → Type 0 where
-  from_server : (new : NodeValue) (told : Told) → same_end from old.server ≡ true → NameMoves old now name (hear message) new None told → Hears old now from name message new None told
-  from_stranger : (new : NodeValue) → same_end from old.server ≡ false → Passes old now new → Hears old now from name message new None nothing
+pub data NodeHears (old : NodeValue) (now : ℕ) (from : Addr) (name : NameValue) (message : MessageValue) : NodeValue → Option MessageValue → Told → Type 0 where
+  from_server : (new : NodeValue) (told : Told) → same_end from old.server ≡ true → NameMoves old now name (hear message) new None told → NodeHears old now from name message new None told
+  from_stranger : (new : NodeValue) → same_end from old.server ≡ false → Passes old now new → NodeHears old now from name message new None nothing
 
 -- a status reply lists the held names of the scope that is asked for, in order of slots (RFC 1002 section 4.2.18)
 abbrev pub listed_as : List ℕ → Option Kind → List ℕ
@@ -71,22 +71,22 @@ pub data Idles (old : NodeValue) (now : ℕ) : NodeValue → Option MessageValue
   idles : (new : NodeValue) → Passes old now new → Idles old now new None nothing
 
 -- what a message from an end makes of the node, what is sent back to that end, and what is told
-abbrev pub Takes : NodeValue → ℕ → Addr → MessageValue → NodeValue → Option MessageValue → Told → Type 0
-Takes old now from (registered rcode r) = Hears old now from r.name (registered rcode r)
-Takes old now from (released id rcode name kind addr) = Hears old now from name (released id rcode name kind addr)
-Takes old now from (wait id name ttl) = Hears old now from name (wait id name ttl)
-Takes old now from (status_request id name) = Lists old now id name
-Takes old now from (found id name ttl entries cut) = Ends old now from (found id name ttl entries cut) (finds entries cut)
-Takes old now from (not_found id rcode name) = Ends old now from (not_found id rcode name) finds_none
-Takes old now from (status id name names) = Ends old now from (status id name names) (lists names)
-Takes old now from message = Idles old now
+abbrev pub NodeTakes : NodeValue → ℕ → Addr → MessageValue → NodeValue → Option MessageValue → Told → Type 0
+NodeTakes old now from (registered rcode r) = NodeHears old now from r.name (registered rcode r)
+NodeTakes old now from (released id rcode name kind addr) = NodeHears old now from name (released id rcode name kind addr)
+NodeTakes old now from (wait id name ttl) = NodeHears old now from name (wait id name ttl)
+NodeTakes old now from (status_request id name) = Lists old now id name
+NodeTakes old now from (found id name ttl entries cut) = Ends old now from (found id name ttl entries cut) (finds entries cut)
+NodeTakes old now from (not_found id rcode name) = Ends old now from (not_found id rcode name) finds_none
+NodeTakes old now from (status id name names) = Ends old now from (status id name names) (lists names)
+NodeTakes old now from message = Idles old now
 
 -- and what octets do, by the message that they spell, if any
-pub data TakesOctets (old : NodeValue) (now : ℕ) (from : Addr) (octets : List ℕ) : NodeValue → Option MessageValue → Told → Type 0 where
-  spelled : (message : MessageValue) (new : NodeValue) (sent : Option MessageValue) (told : Told) → Spells octets message → Takes old now from message new sent told → TakesOctets old now from octets new sent told
-  unspelled : (new : NodeValue) → ((message : MessageValue) → Spells octets message → ⊥) → Passes old now new → TakesOctets old now from octets new None nothing
+pub data NodeTakesOctets (old : NodeValue) (now : ℕ) (from : Addr) (octets : List ℕ) : NodeValue → Option MessageValue → Told → Type 0 where
+  spelled : (message : MessageValue) (new : NodeValue) (sent : Option MessageValue) (told : Told) → Spells octets message → NodeTakes old now from message new sent told → NodeTakesOctets old now from octets new sent told
+  unspelled : (new : NodeValue) → ((message : MessageValue) → Spells octets message → ⊥) → Passes old now new → NodeTakesOctets old now from octets new None nothing
 
 pub record Handles (old : NodeValue) (now : ℕ) (from : Addr) (octets : List ℕ) (new : NodeValue) (told : Told) (out : List ℕ) : Type 0 where
   pub sent : Option MessageValue
-  pub takes : TakesOctets old now from octets new sent told
+  pub takes : NodeTakesOctets old now from octets new sent told
   pub written : AreWritten sent out

@@ -5,5 +5,5 @@ pub mod Node
 pub mod Moves
 pub mod Calls
 pub mod Datagrams
-pub mod Sending
 pub mod OneAnswer
+pub mod Inner

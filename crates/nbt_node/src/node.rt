@@ -49,7 +49,7 @@ impl<const N: usize> Node<N> {
     ghost use Rattle.nbt_node.specs.Moves.{ask, give_back, told_of};
     ghost use Rattle.nbt_packet.specs.Spelling.{AreWritten};
     ghost use Rattle.nbt_node.specs.Calls.{started, ask_refusal, release_refusal, resolve_refusal, status_refusal, Sends, Opens, Polls, slot_due};
-    ghost use Rattle.nbt_node.specs.Datagrams.{Hears, Lists, Ends, Takes, Handles, is_listed_for};
+    ghost use Rattle.nbt_node.specs.Datagrams.{NodeHears, Lists, Ends, NodeTakes, Handles, is_listed_for};
 
     /// A node at `addr` whose name server is at `server`. It knows nothing, and asks for nothing until more than
     /// `Config::quiet()` has passed: two lives of a datagram, and what its clock may be fast by (our profile). All moments
@@ -384,7 +384,7 @@ impl<const N: usize> Node<N> {
     ) -> Event<'a>
         requires later { self.old.last ≤ now }
         requires empty { out.old.items ≡ [] }
-        ensures { (sent : Option MessageValue) × Takes self.old now from (message_of message.now) self.new sent (told_of result) × AreWritten sent out.new.items }
+        ensures { (sent : Option MessageValue) × NodeTakes self.old now from (message_of message.now) self.new sent (told_of result) × AreWritten sent out.new.items }
     {
         match message {
             Message::Registered {
@@ -478,7 +478,7 @@ impl<const N: usize> Node<N> {
         r: &Registration,
     ) -> Event<'a>
         requires { self.old.last ≤ now }
-        ensures { Hears self.old now from r.now.name (registered rcode r.now) self.new None (told_of result) }
+        ensures { NodeHears self.old now from r.now.name (registered rcode r.now) self.new None (told_of result) }
     {
         if !is_same_end(from, self.server) {
             self.settle(now);
@@ -501,7 +501,7 @@ impl<const N: usize> Node<N> {
         name: &Name,
     ) -> Event<'a>
         requires { self.old.last ≤ now }
-        ensures { (k : NameKind) (a : ℕ) → Hears self.old now from name.now (released id rcode name.now k a) self.new None (told_of result) }
+        ensures { (k : NameKind) (a : ℕ) → NodeHears self.old now from name.now (released id rcode name.now k a) self.new None (told_of result) }
     {
         if !is_same_end(from, self.server) {
             self.settle(now);
@@ -524,7 +524,7 @@ impl<const N: usize> Node<N> {
         ttl: u32,
     ) -> Event<'a>
         requires { self.old.last ≤ now }
-        ensures { Hears self.old now from name.now (wait id name.now ttl) self.new None (told_of result) }
+        ensures { NodeHears self.old now from name.now (wait id name.now ttl) self.new None (told_of result) }
     {
         if !is_same_end(from, self.server) {
             self.settle(now);

@@ -9,7 +9,7 @@ ghost use Rattle.nbt_node.specs.Node.{NodeValue, settled_slot};
 ghost use Rattle.nbt_node.specs.Moves as spec;
 ghost use Rattle.nbt_node.specs.Moves.{Move, poll, nothing, is_due};
 ghost use Rattle.nbt_node.specs.Calls.{first_due};
-ghost use Rattle.nbt_node.specs.Sending.{IsSending};
+ghost use Rattle.nbt_node.specs.Inner.Sending.{IsSending};
 
 use crate::asking::{claim, id_after, release};
 use crate::state::{Slot, State};

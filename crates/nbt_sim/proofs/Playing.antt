@@ -10,8 +10,8 @@ use Rattle.nbt_sim.specs.declared.instruction.Line.{Line}
 use Rattle.nbt_sim.specs.declared.instruction.Line.TheVariants as line
 use Rattle.nbt_sim.specs.Line.{Says}
 use Rattle.nbt_sim.specs.Inner.Line.{LineIs, passed_over, said, unreadable}
-use Rattle.nbt_sim.specs.Inner.Stage.{PlaysLine, is_passed_over, is_done, is_unreadable}
-use Rattle.nbt_sim.specs.Script.{Does, Fits, says_what_does_not_fit, Plays, ends, passes_over, does, stops}
+use Rattle.nbt_sim.specs.Inner.ScriptWorld.{PlaysLine, is_passed_over, is_done, is_unreadable}
+use Rattle.nbt_sim.specs.Script.{LineDoes, Fits, says_what_does_not_fit, Plays, ends, passes_over, does, stops}
 
 -- ---- what stands in a line that was read
 
@@ -51,13 +51,13 @@ at_the_end number world left all text so_far none = subst (λ (x : List ℕ). Pl
 -- ---- one line
 
 pub played_said : {E : Type 0} (r : Result Bool E) (world next : Option WorldValue) (text old new : List ℕ) (l : Line) (i : Instruction) → LineIs text l → l ≡ line.Says i
-    → IfOk r (λ done. MatchBool done ((x : List ℕ) × (new ≡ old ++ x) × Does world i next x) ((new ≡ old) × (¬ Fits world i))) → IfOk r (λ well. (x : List ℕ) × (new ≡ old ++ x) × PlaysLine world text well next x)
+    → IfOk r (λ done. MatchBool done ((x : List ℕ) × (new ≡ old ++ x) × LineDoes world i next x) ((new ≡ old) × (¬ Fits world i))) → IfOk r (λ well. (x : List ℕ) × (new ≡ old ++ x) × PlaysLine world text well next x)
 played_said (Err e) world next text old new l i stands there h = tt
 played_said (Ok true) world next text old new l i stands there h = let s = said_in text l i stands there in (h.0, h.1, is_done i next h.0 s.0 s.1 h.2)
 played_said (Ok false) world next text old new l i stands there h = let s = said_in text l i stands there in ([], h.0 ∙ sym (append-nil old), is_unreadable next s.0 (says_what_does_not_fit i s.1 h.1))
 
 -- the clocks moved, or there isn't a number for each
-pub moved : (done : Bool) (text : List ℕ) (world next : Option WorldValue) (i : Instruction) → MatchBool done (Does world i next []) (¬ Fits world i)
-    → MatchBool done ((x : List ℕ) × (text ≡ text ++ x) × Does world i next x) ((text ≡ text) × (¬ Fits world i))
+pub moved : (done : Bool) (text : List ℕ) (world next : Option WorldValue) (i : Instruction) → MatchBool done (LineDoes world i next []) (¬ Fits world i)
+    → MatchBool done ((x : List ℕ) × (text ≡ text ++ x) × LineDoes world i next x) ((text ≡ text) × (¬ Fits world i))
 moved true text world next i h = ([], sym (append-nil text), h)
 moved false text world next i h = (refl, h)

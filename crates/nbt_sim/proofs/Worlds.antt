@@ -22,7 +22,7 @@ use Rattle.nbt_world.specs.Step.{
   from_a_stranger,
   outcome_of,
   outcome_of_taking,
-  GivenValue,
+  CallOutcomeValue,
   nothing,
   refusal,
   octets_to,
@@ -30,7 +30,7 @@ use Rattle.nbt_world.specs.Step.{
   is_down,
   is_lost,
   takes,
-  Does,
+  NodeDoes,
   asks,
   ask_refused,
   gives_back,
@@ -100,7 +100,7 @@ goes_to old new outcome moment s later fits =
 
 -- ---- refusals
 
-outcome_refused : (w : WorldValue) (given : GivenValue) (n : ℕ) → outcome_of w given ≡ Refused n → given ≡ refusal n
+outcome_refused : (w : WorldValue) (given : CallOutcomeValue) (n : ℕ) → outcome_of w given ≡ Refused n → given ≡ refusal n
 outcome_refused w nothing n e = absurd cc
 outcome_refused w (refusal m) n e = let same : m ≡ n = cc in ap refusal same
 outcome_refused w (octets_to to octets) n e = absurd cc
@@ -111,7 +111,7 @@ taking_never w is_lost n e = absurd cc
 taking_never w (takes None) n e = absurd cc
 taking_never w (takes (Some reply)) n e = absurd cc
 
-does_named : (old new : NodeValue) (now : ℕ) (event : Event) (given : GivenValue) (n : ℕ) → Does old now event new given → given ≡ refusal n → (word : List ℕ) × NamesRefusal event n word
+does_named : (old new : NodeValue) (now : ℕ) (event : Event) (given : CallOutcomeValue) (n : ℕ) → NodeDoes old now event new given → given ≡ refusal n → (word : List ℕ) × NamesRefusal event n word
 does_named old _ now _ _ n (asks number name kind ttl new octets p q) e = absurd cc
 does_named old _ now _ _ n (ask_refused number name kind ttl fault p) e = let same : ask_fault_number fault ≡ n = cc in (ask_fault_word fault, rw (← same) (of_ask number name kind ttl fault))
 does_named old _ now _ _ n (gives_back number name new octets p q) e = absurd cc

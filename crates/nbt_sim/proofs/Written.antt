@@ -16,7 +16,7 @@ use Rattle.nbt_world.specs.declared.event.Outcome.{Outcome}
 use Rattle.nbt_name.specs.Wire.{NameValue}
 use Rattle.nbt_sim.specs.declared.instruction.Instruction.TheVariants as instruction
 use Rattle.nbt_sim.specs.Words.{kept_word}
-use Rattle.nbt_sim.specs.Script.{Does, happens, tells, tells_kept, PrintsOutcome, PrintsHolders, AreHolders, holder_text, holders_text, other_holders_text}
+use Rattle.nbt_sim.specs.Script.{LineDoes, happens, tells, tells_kept, PrintsOutcome, PrintsHolders, AreHolders, holder_text, holders_text, other_holders_text}
 
 -- a line was written
 pub line_written : {E : Type 0} (r : Result (Unit {0}) E) (P : List ℕ → Type 0) (old new text : List ℕ) → OnOk r (new ≡ old ++ text ++ newline) → P text → OnOk r ((x : List ℕ) × (new ≡ old ++ x ++ newline) × P x)
@@ -56,16 +56,16 @@ holders_written (Err x) old a b c d new name world n holders e f printed g h are
 
 -- what happened was printed, and so was who holds a name
 pub happened : {E : Type 0} (r : Result (Unit {0}) E) (old new : List ℕ) (before next : WorldValue) (event : Event) (outcome : Outcome) → Step before event outcome next
-    → OnOk r ((x : List ℕ) × (new ≡ old ++ x ++ newline) × PrintsOutcome event outcome x) → OnOk r ((x : List ℕ) × (new ≡ old ++ x) × Does (Some before) (instruction.Happens event) (Some next) x)
+    → OnOk r ((x : List ℕ) × (new ≡ old ++ x ++ newline) × PrintsOutcome event outcome x) → OnOk r ((x : List ℕ) × (new ≡ old ++ x) × LineDoes (Some before) (instruction.Happens event) (Some next) x)
 happened (Ok u) old new before next event outcome s h = (h.0 ++ newline, h.1 ∙ append_assoc old h.0 newline, happens event outcome before next h.0 s h.2)
 happened (Err e) old new before next event outcome s h = tt
 
 pub told : {E : Type 0} (r : Result (Unit {0}) E) (old new : List ℕ) (world : WorldValue) (name : NameValue) → OnOk r ((x : List ℕ) × (new ≡ old ++ x ++ newline) × PrintsHolders world name x)
-    → OnOk r ((x : List ℕ) × (new ≡ old ++ x) × Does (Some world) (instruction.Holders name) (Some world) x)
+    → OnOk r ((x : List ℕ) × (new ≡ old ++ x) × LineDoes (Some world) (instruction.Holders name) (Some world) x)
 told (Ok u) old new world name h = (h.0 ++ newline, h.1 ∙ append_assoc old h.0 newline, tells name world h.0 h.2)
 told (Err e) old new world name h = tt
 
 pub told_kept : {E : Type 0} (r : Result (Unit {0}) E) (old new : List ℕ) (world : WorldValue) → OnOk r (new ≡ old ++ kept_word world.kept ++ newline)
-    → OnOk r ((x : List ℕ) × (new ≡ old ++ x) × Does (Some world) instruction.Kept (Some world) x)
+    → OnOk r ((x : List ℕ) × (new ≡ old ++ x) × LineDoes (Some world) instruction.Kept (Some world) x)
 told_kept (Ok u) old new world h = (kept_word world.kept ++ newline, h ∙ append_assoc old (kept_word world.kept) newline, tells_kept world)
 told_kept (Err e) old new world h = tt

@@ -107,16 +107,16 @@ abbrev pub entries : (moves : List ℕ) → List ℕ
 entries moves = moves ++ replicate (9 - length moves) 0
 
 -- What an instruction makes of a script's world, and what it prints.
-pub data Does : Option WorldValue → Instruction → Option WorldValue → List ℕ → Type 0 where
+pub data LineDoes : Option WorldValue → Instruction → Option WorldValue → List ℕ → Type 0 where
   begins : (config : ConfigValue) (nodes : ℕ) (addrs : List Addr) (world : WorldValue) → AreFew nodes → ArePlaces addrs nodes → IsFresh config addrs world
-      → Does None (instruction.Config config nodes) (Some world) []
+      → LineDoes None (instruction.Config config nodes) (Some world) []
   goes_on : (moment : ℕ) (world next : WorldValue) → world.now.clock ≤ moment → Step world (Tick (moment - world.now.clock)) o.Done next → next.now.clock ≡ moment
-      → Does (Some world) (instruction.At moment) (Some next) []
-  drifts : (ms : ℕ) (moves : ArrayVec ℕ) (world next : WorldValue) → AreForEnds world moves.items → Step world (Advance ms (entries moves.items)) o.Done next → Does (Some world) (instruction.Advance ms moves) (Some next) []
+      → LineDoes (Some world) (instruction.At moment) (Some next) []
+  drifts : (ms : ℕ) (moves : ArrayVec ℕ) (world next : WorldValue) → AreForEnds world moves.items → Step world (Advance ms (entries moves.items)) o.Done next → LineDoes (Some world) (instruction.Advance ms moves) (Some next) []
   happens : (event : Event) (outcome : Outcome) (world next : WorldValue) (text : List ℕ) → Step world event outcome next → PrintsOutcome event outcome text
-      → Does (Some world) (instruction.Happens event) (Some next) (text ++ newline)
-  tells : (name : NameValue) (world : WorldValue) (text : List ℕ) → PrintsHolders world name text → Does (Some world) (instruction.Holders name) (Some world) (text ++ newline)
-  tells_kept : (world : WorldValue) → Does (Some world) instruction.Kept (Some world) (kept_word world.kept ++ newline)
+      → LineDoes (Some world) (instruction.Happens event) (Some next) (text ++ newline)
+  tells : (name : NameValue) (world : WorldValue) (text : List ℕ) → PrintsHolders world name text → LineDoes (Some world) (instruction.Holders name) (Some world) (text ++ newline)
+  tells_kept : (world : WorldValue) → LineDoes (Some world) instruction.Kept (Some world) (kept_word world.kept ++ newline)
 
 -- The words say nothing, or what can't be done in this world.
 pub data IsUnreadable (world : Option WorldValue) (words : List (List ℕ)) : Type 0 where
@@ -130,6 +130,6 @@ pub data Plays : (number : ℕ) → Option WorldValue → List (List ℕ) → Bo
   passes_over : (number : ℕ) (world : Option WorldValue) (line : List ℕ) (rest : List (List ℕ)) (well : Bool) (text : List ℕ) → IsPassedOver line
       → Plays (number + 1) world rest well text → Plays number world (line ∷ rest) well text
   does : (number : ℕ) (world next : Option WorldValue) (line : List ℕ) (rest : List (List ℕ)) (i : Instruction) (well : Bool) (text more : List ℕ) → ¬ (IsPassedOver line) → Says (words line) i
-      → Does world i next text → Plays (number + 1) next rest well more → Plays number world (line ∷ rest) well (text ++ more)
+      → LineDoes world i next text → Plays (number + 1) next rest well more → Plays number world (line ∷ rest) well (text ++ more)
   stops : (number : ℕ) (world : Option WorldValue) (line : List ℕ) (rest : List (List ℕ)) → ¬ (IsPassedOver line) → IsUnreadable world (words line)
       → Plays number world (line ∷ rest) false (verdict_line number (codes "unreadable"))

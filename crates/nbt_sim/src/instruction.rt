@@ -10,7 +10,7 @@ ghost use Rattle.nbt_sim.specs.Line.{Says, SaysOf};
 ghost use Rattle.nbt_sim.specs.Words.{SpellsMoves};
 ghost use Rattle.nbt_sim.specs.Inner.Line.{LineIs};
 
-use crate::stage::ENDS_MOST;
+use crate::script_world::ENDS_MOST;
 use crate::verb::{Verb, verb_of};
 use crate::words::{address_of, count_of, end_of, kind_of, moment_of, node_of, seconds_of};
 use arrayvec::ArrayVec;

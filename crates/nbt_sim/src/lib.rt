@@ -7,7 +7,7 @@
 mod instruction;
 mod printing;
 mod script;
-mod stage;
+mod script_world;
 mod verb;
 mod words;
 

@@ -4,11 +4,11 @@ ghost use Rattle.std.specs.Prelude.{◌≡◌, ◌++◌, ℕ, List, [], None, Ma
 ghost use Rattle.std.specs.String.{string_bytes};
 ghost use Rattle.nbt_text.specs.Texts.{texts};
 ghost use Rattle.nbt_text.specs.Lines.{lines};
-ghost use Rattle.nbt_sim.specs.Script.{Does, Fits, Plays};
-ghost use Rattle.nbt_sim.specs.Inner.Stage.{PlaysLine, world_of};
+ghost use Rattle.nbt_sim.specs.Script.{LineDoes, Fits, Plays};
+ghost use Rattle.nbt_sim.specs.Inner.ScriptWorld.{PlaysLine, world_of};
 
 use crate::instruction::{Instruction, Line, parse_line};
-use crate::stage::Stage;
+use crate::script_world::ScriptWorld;
 use std::alloc::{AllocError, Global};
 
 /// Appends what the lines of a script print, in order; the first line that can't be read, or asks for what can't be done,
@@ -42,7 +42,7 @@ fn lines_of(alloc: Global, script: &[u8]) -> Result<Vec<&[u8]>, AllocError>
 fn play_line(
     alloc: Global,
     line: &[u8],
-    stage: &mut Option<Stage>,
+    stage: &mut Option<ScriptWorld>,
     out: &mut String,
 ) -> Result<bool, AllocError>
     ensures { IfOk result (λ well. (text : List ℕ) × (string_bytes out.new ≡ string_bytes out.old ++ text)
@@ -58,13 +58,13 @@ fn play_line(
 /// Does what a line asks for, and appends what it prints. Returns whether it can be done.
 fn does(
     alloc: Global,
-    stage: &mut Option<Stage>,
+    stage: &mut Option<ScriptWorld>,
     instruction: &Instruction,
     out: &mut String,
 ) -> Result<bool, AllocError>
     ensures { IfOk result (λ done. MatchBool done
         ((text : List ℕ) × (string_bytes out.new ≡ string_bytes out.old ++ text)
-        × Does (world_of stage.old) instruction.now (world_of stage.new) text)
+        × LineDoes (world_of stage.old) instruction.now (world_of stage.new) text)
         ((string_bytes out.new ≡ string_bytes out.old) × (¬ Fits (world_of stage.old) instruction.now))) }
 {
     let Some(stage) = stage else {
@@ -90,13 +90,13 @@ fn does(
 }
 
 /// Begins a world where a line asks for one. Returns whether it does, and the world can be.
-fn begins(alloc: Global, stage: &mut Option<Stage>, instruction: &Instruction) -> bool
+fn begins(alloc: Global, stage: &mut Option<ScriptWorld>, instruction: &Instruction) -> bool
     requires { world_of stage.old ≡ None }
-    ensures { MatchBool result (Does None instruction.now (world_of stage.new) []) (¬ Fits None instruction.now) }
+    ensures { MatchBool result (LineDoes None instruction.now (world_of stage.new) []) (¬ Fits None instruction.now) }
 {
     let Instruction::Config(config, nodes) = instruction else {
         return false;
     };
-    *stage = Stage::begin(alloc, *config, *nodes);
+    *stage = ScriptWorld::begin(alloc, *config, *nodes);
     stage.is_some()
 }

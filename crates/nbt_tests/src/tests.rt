@@ -29,7 +29,7 @@ const ROOM: usize = 4096;
 /// A writer that takes `at_once` octets a call, and fails at its first call past `calls`. It tells whether each line
 /// was flushed before the next.
 #[derive(Drop)]
-struct Paper {
+struct LimitedWriter {
     text: ArrayVec<u8, ROOM>,
     at_once: usize,
     calls: usize,
@@ -38,9 +38,9 @@ struct Paper {
     late: bool,
 }
 
-impl Paper {
-    fn new() -> Paper {
-        Paper {
+impl LimitedWriter {
+    fn new() -> LimitedWriter {
+        LimitedWriter {
             text: ArrayVec::new(),
             at_once: ROOM,
             calls: usize::MAX,
@@ -51,19 +51,19 @@ impl Paper {
     }
 
     /// Takes one octet a call, for `calls` calls.
-    fn short(calls: usize) -> Paper {
-        Paper {
+    fn short(calls: usize) -> LimitedWriter {
+        LimitedWriter {
             at_once: 1,
             calls,
-            ..Paper::new()
+            ..LimitedWriter::new()
         }
     }
 
     /// Takes all, and can't flush.
-    fn stuck() -> Paper {
-        Paper {
+    fn stuck() -> LimitedWriter {
+        LimitedWriter {
             flushes: false,
-            ..Paper::new()
+            ..LimitedWriter::new()
         }
     }
 
@@ -78,7 +78,7 @@ impl Paper {
     }
 }
 
-impl Write for Paper {
+impl Write for LimitedWriter {
     fn write(&mut self, buf: &[u8]) -> io::Result<usize> {
         if self.calls == 0 {
             return Err(io::Error::from(io::ErrorKind::StorageFull));
@@ -112,7 +112,7 @@ fn expect_of_input<R: Abort + AllocGlobal, I: Read>(
     status: u8,
     text: &[u8],
 ) {
-    let mut paper = Paper::new();
+    let mut paper = LimitedWriter::new();
     let got = command(rt.alloc(), words, input, &mut paper);
     assert_eq!(rt; paper.text.as_slice(), text, "{words:?}");
     assert_eq!(rt; got, status, "{words:?}");

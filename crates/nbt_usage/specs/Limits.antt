@@ -1,15 +1,15 @@
 -- The limits of the numbers that `serve` and `node` take, as the help says them (our profile).
 use Rattle.std.specs.Prelude.{ℕ, ◌^◌, ◌-◌}
-use Rattle.nbt_usage.specs.declared.network.Limited.{Limited}
-use Rattle.nbt_usage.specs.declared.network.Limited.TheVariants.{Life, Longest, Ttl, Turns}
+use Rattle.nbt_usage.specs.declared.network.NumberArgument.{NumberArgument}
+use Rattle.nbt_usage.specs.declared.network.NumberArgument.TheVariants.{Life, Longest, Ttl, Turns}
 
 -- the least that a number may be: only a TTL may be 0, which is as long as may be
-abbrev pub least_of : Limited → ℕ
+abbrev pub least_of : NumberArgument → ℕ
 least_of Ttl = 0
 least_of _ = 1
 
 -- the most that it may be: milliseconds of a datagram's life, seconds of a lease, the seconds asked for, turns
-abbrev pub most_of : Limited → ℕ
+abbrev pub most_of : NumberArgument → ℕ
 most_of Life = 60000
 most_of Longest = 1000000
 most_of Ttl = 4294967295

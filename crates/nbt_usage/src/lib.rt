@@ -9,7 +9,7 @@ mod program;
 mod refusal;
 mod words;
 
-pub use network::{GROUP, Limited, Which, bad_number, bad_port};
+pub use network::{GROUP, NetworkCommand, NumberArgument, bad_number, bad_port};
 pub use program::{DGRAM, SESSION, bad_time, no_text};
 pub use refusal::{Refusal, Text};
 pub use words::{AnswerWords, NodeWords, ServeWords, ShowWords, Words, read};

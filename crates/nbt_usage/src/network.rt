@@ -210,27 +210,27 @@ fn forever<'a>(alloc: Global) -> Arg<'a> {
 
 /// Which of the commands.
 #[derive(Clone, Copy, Debug, PartialEq, Eq)]
-pub enum Which {
+pub enum NetworkCommand {
     Server,
     Node,
 }
 
 /// A number that these commands take.
 #[derive(Clone, Copy, Debug, PartialEq, Eq)]
-pub enum Limited {
+pub enum NumberArgument {
     Life,
     Longest,
     Ttl,
     Turns,
 }
 
-impl Limited {
+impl NumberArgument {
     /// The least that it may be.
     pub fn least(self) -> u64
         ensures { result ≡ least_of self }
     {
         match self {
-            Limited::Ttl => 0,
+            NumberArgument::Ttl => 0,
             _ => 1,
         }
     }
@@ -240,9 +240,9 @@ impl Limited {
         ensures { result ≡ most_of self }
     {
         match self {
-            Limited::Life => 60_000,
-            Limited::Longest | Limited::Turns => 1_000_000,
-            Limited::Ttl => 0xFFFF_FFFF,
+            NumberArgument::Life => 60_000,
+            NumberArgument::Longest | NumberArgument::Turns => 1_000_000,
+            NumberArgument::Ttl => 0xFFFF_FFFF,
         }
     }
 }
@@ -268,7 +268,12 @@ fn bad_port_error(alloc: Global, value: &str) -> Result<Error, AllocError>
 }
 
 /// The refusal of a number that is out of its limits, with clap's own text around it, or the one of memory.
-pub fn bad_number(alloc: Global, which: Which, limited: Limited, value: &str) -> Refusal
+pub fn bad_number(
+    alloc: Global,
+    which: NetworkCommand,
+    limited: NumberArgument,
+    value: &str,
+) -> Refusal
     ensures { IsWrongUsage result }
 {
     match bad_number_error(alloc, which, limited, value) {
@@ -279,17 +284,17 @@ pub fn bad_number(alloc: Global, which: Which, limited: Limited, value: &str) ->
 
 fn bad_number_error(
     alloc: Global,
-    which: Which,
-    limited: Limited,
+    which: NetworkCommand,
+    limited: NumberArgument,
     value: &str,
 ) -> Result<Error, AllocError>
     ensures { IfOk result (λ e. kind_of e ≡ ErrorKind.ValueValidation) }
 {
     let label = match limited {
-        Limited::Life => "LIFE",
-        Limited::Longest => "LONGEST",
-        Limited::Ttl => "TTL",
-        Limited::Turns => "TURNS",
+        NumberArgument::Life => "LIFE",
+        NumberArgument::Longest => "LONGEST",
+        NumberArgument::Ttl => "TTL",
+        NumberArgument::Turns => "TURNS",
     };
     let least = limited.least();
     let most = limited.most();
@@ -297,8 +302,8 @@ fn bad_number_error(
         "invalid value '{value}' for '<{label}>': not a whole number from {least} to {most}"
     )?;
     let mut command = match which {
-        Which::Server => serve_command(alloc)?.bin_name("nbt serve")?,
-        Which::Node => node_command(alloc)?.bin_name("nbt node")?,
+        NetworkCommand::Server => serve_command(alloc)?.bin_name("nbt serve")?,
+        NetworkCommand::Node => node_command(alloc)?.bin_name("nbt node")?,
     };
     command.error(ErrorKind::ValueValidation, message.as_str())
 }

@@ -7,18 +7,18 @@ use Rattle.std.proofs.lemmas.Option.{none-some}
 use Rattle.nbt_name.specs.declared.addr.Addr.{Addr}
 use Rattle.nbt_world.specs.declared.clocks.Clocks.{Clocks}
 use Rattle.nbt_world.specs.declared.clocks.Least.{Least}
-use Rattle.nbt_world.specs.declared.ends.End.{End}
+use Rattle.nbt_world.specs.declared.ends.NodeEnd.{NodeEnd}
 use Rattle.nbt_world.specs.declared.ends.Ends.{Ends}
 use Rattle.nbt_world.specs.Drift.{reading, later, least_of, numbers_of, lesser, IsAllowed}
 use Rattle.nbt_world.specs.World.{WorldValue, addr_at, IsEnd}
 use Rattle.nbt_world.specs.Step.{Advances}
 
-in_place : (nodes : List End) (i : ℕ) (a : Addr) → addr_at nodes i ≡ Some a → i < length nodes
+in_place : (nodes : List NodeEnd) (i : ℕ) (a : Addr) → addr_at nodes i ≡ Some a → i < length nodes
 in_place [] i a e = absurd (none-some a e)
 in_place (x ∷ xs) zero a e = omega arith
 in_place (x ∷ xs) (suc i) a e = let lt = in_place xs i a e in omega arith
 
-stands : (nodes : List End) (i : ℕ) → i < length nodes → (a : Addr) × (addr_at nodes i ≡ Some a)
+stands : (nodes : List NodeEnd) (i : ℕ) → i < length nodes → (a : Addr) × (addr_at nodes i ≡ Some a)
 stands [] i lt = absurd (omega arith)
 stands (x ∷ xs) zero lt = (x.addr, refl)
 stands (x ∷ xs) (suc i) lt = stands xs i (omega arith)

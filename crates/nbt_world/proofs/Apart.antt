@@ -11,11 +11,11 @@ use Rattle.nbt_lease.specs.Config.{ConfigValue}
 use Rattle.nbt_node.specs.Node.{NodeValue}
 use Rattle.nbt_world.specs.declared.clocks.Clocks.{Clocks}
 use Rattle.nbt_world.specs.declared.clocks.Least.{Least}
-use Rattle.nbt_world.specs.declared.ends.End.{End}
+use Rattle.nbt_world.specs.declared.ends.NodeEnd.{NodeEnd}
 use Rattle.nbt_world.specs.declared.network.Datagram.{Datagram}
 use Rattle.nbt_world.specs.Drift.{reading, least_of, numbers_of}
-use Rattle.nbt_world.specs.World.{WorldValue, addr_at, addr_of, IsEnd, node_in, node_of, StandsIn, AreApart, AreAddrs, ends_at, IsFresh}
-use Rattle.nbt_world.specs.Kept.{Asked, Replied, known, Claims, ClaimsIn, IsKept}
+use Rattle.nbt_world.specs.World.{WorldValue, addr_at, addr_of, IsEnd, node_in, node_of, IsAmong, AreApart, AreAddrs, ends_at, IsFresh}
+use Rattle.nbt_world.specs.Inner.Kept.{Asked, Replied, known, Claims, ClaimsIn, Invariant}
 use Rattle.nbt_world.proofs.Knowing.{ended-down}
 use Rattle.nbt_world.proofs.Covering.{down_claims}
 
@@ -23,7 +23,7 @@ pub apart_none : AreApart []
 apart_none i j a b p q same = absurd (none-some a p)
 
 -- one address more, which doesn't stand among the others
-pub apart_more : (first : Addr) (others : List Addr) → (StandsIn first.ip others → ⊥) → AreApart (first ∷ others) ↔ AreApart others
+pub apart_more : (first : Addr) (others : List Addr) → (IsAmong first.ip others → ⊥) → AreApart (first ∷ others) ↔ AreApart others
 apart_more first others off = (λ apart i j a b p q same. down i j (apart (suc i) (suc j) a b p q same), λ apart i j a b p q same. up apart i j a b p q same)
   where
     down : (i j : ℕ) → suc i ≡ suc j → i ≡ j
@@ -35,7 +35,7 @@ apart_more first others off = (λ apart i j a b p q same. down i j (apart (suc i
     up apart (suc i) zero a b p q same = absurd (off (i, a, p, same ∙ ap (λ (x : Addr). x.ip) (sym (same_Some first b q))))
     up apart (suc i) (suc j) a b p q same = ap suc (apart i j a b p q same)
 
-pub not_apart : (first : Addr) (others : List Addr) → StandsIn first.ip others → AreApart (first ∷ others) → ⊥
+pub not_apart : (first : Addr) (others : List Addr) → IsAmong first.ip others → AreApart (first ∷ others) → ⊥
 not_apart first others is apart = zero_suc is.0 (apart zero (suc is.0) first is.1 refl is.2 (sym is.3))
   where
     zero_suc : (k : ℕ) → zero ≡ suc k → ⊥
@@ -43,7 +43,7 @@ not_apart first others is apart = zero_suc is.0 (apart zero (suc is.0) first is.
 
 -- ---- the world at them
 
-abbrev pub end_of : Addr → End
+abbrev pub end_of : Addr → NodeEnd
 end_of a = record { addr = a; node = None }
 
 at_place : (others : List Addr) (i : ℕ) → addr_at (map (λ a. record { addr = a; node = None }) others) i ≡ slice_get others i
@@ -100,7 +100,7 @@ nothing_among d c = let lt = c.1 in absurd (omega arith)
 counted : (others : List Addr) → length (map (λ (a : Addr). end_of a) others) ≡ length others
 counted others = length-map others end_of
 
-pub fresh_kept : (config : ConfigValue) (server : Addr) (others : List Addr) → AreAddrs (server ∷ others) → IsKept (fresh config server others)
+pub fresh_kept : (config : ConfigValue) (server : Addr) (others : List Addr) → AreAddrs (server ∷ others) → Invariant (fresh config server others)
 fresh_kept config server others are = record {
   ends = record {
     some = let n = counted others in let some = are.some in omega arith;

@@ -15,7 +15,7 @@ use Rattle.nbt_node.specs.Node.{NodeValue, state_of, state_at}
 use Rattle.nbt_node.specs.Moves.{NameEvent, hear, Told, Move, NameMoves, asks, gives_back, asks_again, gives_back_again, refreshes_again, refreshes, granted_to, renewed_to, refused_to, loses_asked, loses_held, freed, asking_waits, giving_back_waits, refresh_waits, unmoved}
 use Rattle.nbt_world.specs.declared.clocks.Clocks.{Clocks}
 use Rattle.nbt_world.specs.World.{IsDeliverable}
-use Rattle.nbt_world.specs.Kept.{Known, known, Wants, IsOpen, IsOpenIn, Claims, has, may_get, RepliesFresh, last_of}
+use Rattle.nbt_world.specs.Inner.Kept.{Known, known, Wants, IsOpen, IsOpenIn, Claims, has, may_get, RepliesFresh, last_of}
 use Rattle.nbt_world.proofs.Knowing.{ArePast, knows, fades, fresh-fades}
 
 -- each claim was there before

@@ -10,7 +10,7 @@ use Rattle.nbt_world.specs.declared.network.Datagram.{Datagram}
 use Rattle.nbt_world.specs.Drift.{reading, later, ahead, behind, least_of, numbers_of, lesser}
 use Rattle.nbt_world.specs.World.{WorldValue, IsEnd, addr_of, node_of}
 use Rattle.nbt_world.specs.Step.{Advances}
-use Rattle.nbt_world.specs.Kept.{Asked, Replied, known, IsSeen, AreRead, IsSent, IsKept}
+use Rattle.nbt_world.specs.Inner.Kept.{Asked, Replied, known, IsSeen, AreRead, IsSent, Invariant}
 use Rattle.nbt_world.proofs.Knowing.{ended-frame, fresh-frame}
 use Rattle.nbt_world.proofs.Drifting.{HoldLaw}
 use Rattle.nbt_world.proofs.Keeping.{sent_frame}
@@ -54,7 +54,7 @@ read_on w v ms moves adv read = record {
   allowed = λ on n e. ((adv.kept).0 on).1 n e;
 }
 
-pub clock_changes : StaySound → LaterLive → HoldLaw → (w v : WorldValue) (ms : ℕ) (moves : ℕ → ℕ) → Advances w ms moves v → IsKept w → IsKept (record w { now = v.now; least = v.least; kept = v.kept })
+pub clock_changes : StaySound → LaterLive → HoldLaw → (w v : WorldValue) (ms : ℕ) (moves : ℕ → ℕ) → Advances w ms moves v → Invariant w → Invariant (record w { now = v.now; least = v.least; kept = v.kept })
 clock_changes law live holds w v ms moves adv kept = record {
   ends = record { some = kept.ends.some; few = kept.ends.few; apart = kept.ends.apart };
   clocks = read_on w v ms moves adv kept.clocks;

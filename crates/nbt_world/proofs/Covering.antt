@@ -21,7 +21,7 @@ use Rattle.nbt_world.specs.declared.network.Datagram.{Datagram}
 use Rattle.nbt_world.specs.Drift.{reading}
 use Rattle.nbt_world.specs.World.{WorldValue, addr_of, IsEnd, node_of, with_server, with_node}
 use Rattle.nbt_server.specs.Calls.{ServerStarts}
-use Rattle.nbt_world.specs.Kept.{Replied, known, Claims, has, may_get, Backs, ClaimsIn, IsCoveredIn, AreRead, IsSent, IsKept, ClaimsKept}
+use Rattle.nbt_world.specs.Inner.Kept.{Replied, known, Claims, has, may_get, Covers, ClaimsIn, IsCoveredIn, AreRead, IsSent, Invariant, ClaimsKept}
 use Rattle.nbt_world.proofs.Knowing.{knows}
 use Rattle.nbt_world.proofs.Drifting.{HoldLaw, hold_over}
 use Rattle.nbt_world.proofs.Claiming.{NoNewClaim, claims_fewer}
@@ -83,7 +83,7 @@ contains_filter p (y ∷ xs) x e c = go (contains_filter p xs x e) (Contains-app
     go among (inl d) = first (Contains-push_cases [] y x d)
     go among (inr d) = keep (p y) (among d)
 
-later_backs : LaterLive → (now later : ℕ) (server : Option ServerValue) (ip : ℕ) (name : NameValue) (kind : Kind) (till : ℕ) → now ≤ later → later < till → Backs now server ip name kind till → Backs later server ip name kind till
+later_backs : LaterLive → (now later : ℕ) (server : Option ServerValue) (ip : ℕ) (name : NameValue) (kind : Kind) (till : ℕ) → now ≤ later → later < till → Covers now server ip name kind till → Covers later server ip name kind till
 later_backs law now later None ip name kind till le lt b = b
 later_backs law now later (Some server) ip name kind till le lt (inl l) =
     let lasts = l.lasts in
@@ -125,7 +125,7 @@ pub replied_still : (old new : List Datagram) (server to : Addr) (name : NameVal
 replied_still old new server to name grows moment message r =
     record { datagram = r.datagram; among = grows r.datagram r.among; sender = r.sender; receiver = r.receiver; moment_is = r.moment_is; spelled = r.spelled; reply = r.reply }
 
-pub node_claims : (w : WorldValue) (i : ℕ) (addr : Addr) (x : Option NodeValue) (sent : List Datagram) → IsKept w → addr_of w.ends (suc i) ≡ Some addr → IsNew w addr sent → Grows w.sent sent
+pub node_claims : (w : WorldValue) (i : ℕ) (addr : Addr) (x : Option NodeValue) (sent : List Datagram) → Invariant w → addr_of w.ends (suc i) ≡ Some addr → IsNew w addr sent → Grows w.sent sent
     → IsTrue w.kept → ((name : NameValue) → NoNewClaim w.config.longest w.config.life w.now.clock (Replied w.sent w.ends.server_addr addr name) (known (node_of w.ends (suc i)) name) (known x name))
     → ClaimsKept (record w { ends = with_node w.ends (suc i) x; sent = sent })
 node_claims w i addr x sent kept at new grows on own = claims_frame w (record w { ends = with_node w.ends (suc i) x; sent = sent }) (λ n a p. omega arith) (addr_with w.ends i x) old still (kept.claims on)
@@ -172,8 +172,8 @@ node_claims w i addr x sent kept at new grows on own = claims_frame w (record w 
 -- ---- the server starts, and crashes: the silence lasts as long as any claim
 
 -- the server is another, and nothing was sent
-pub server_claims : (w : WorldValue) (x : Option ServerValue) → IsKept w → IsTrue w.kept
-    → ((n : ℕ) (a : Addr) (name : NameValue) (kind : Kind) (end : ℕ) → addr_of w.ends n ≡ Some a → ClaimsIn w n a name kind end → reading w.now n < end → (is : IsCoveredIn w n a name kind end) → Backs (reading w.now 0) x a.ip name kind (reading is.moment 0 + 1000 * is.seconds))
+pub server_claims : (w : WorldValue) (x : Option ServerValue) → Invariant w → IsTrue w.kept
+    → ((n : ℕ) (a : Addr) (name : NameValue) (kind : Kind) (end : ℕ) → addr_of w.ends n ≡ Some a → ClaimsIn w n a name kind end → reading w.now n < end → (is : IsCoveredIn w n a name kind end) → Covers (reading w.now 0) x a.ip name kind (reading is.moment 0 + 1000 * is.seconds))
     → ClaimsKept (record w { ends = with_server w.ends x; sent = w.sent })
 server_claims w x kept on backs =
     claims_frame w (record w { ends = with_server w.ends x; sent = w.sent }) (λ n a p. omega arith) (server_addr_with w.ends x)
@@ -182,14 +182,14 @@ server_claims w x kept on backs =
     record { moment = is.moment; message = is.message; replied_is = is.replied_is; seconds = is.seconds; within = is.within; counted = is.counted; backed = backs n a name kind end p c lt is })
     (kept.claims on)
 
-pub crashed_claims : (w : WorldValue) → IsKept w → IsTrue w.kept → ClaimsKept (record w { ends = with_server w.ends None; sent = w.sent })
+pub crashed_claims : (w : WorldValue) → Invariant w → IsTrue w.kept → ClaimsKept (record w { ends = with_server w.ends None; sent = w.sent })
 crashed_claims w kept on = server_claims w None kept on (λ n a name kind end p c lt is. tt)
 
-pub started_claims : (w : WorldValue) (server : ServerValue) → IsKept w → IsTrue w.kept → ServerStarts w.config (reading w.now 0) server → ClaimsKept (record w { ends = with_server w.ends (Some server); sent = w.sent })
+pub started_claims : (w : WorldValue) (server : ServerValue) → Invariant w → IsTrue w.kept → ServerStarts w.config (reading w.now 0) server → ClaimsKept (record w { ends = with_server w.ends (Some server); sent = w.sent })
 started_claims w server kept on new = server_claims w (Some server) kept on backs
   where
     backs : (n : ℕ) (a : Addr) (name : NameValue) (kind : Kind) (end : ℕ) → addr_of w.ends n ≡ Some a → ClaimsIn w n a name kind end → reading w.now n < end → (is : IsCoveredIn w n a name kind end)
-        → Backs (reading w.now 0) (Some server) a.ip name kind (reading is.moment 0 + 1000 * is.seconds)
+        → Covers (reading w.now 0) (Some server) a.ip name kind (reading is.moment 0 + 1000 * is.seconds)
     backs n a name kind end p c lt is =
         let past : reading is.moment 0 ≤ reading w.now 0 =
         subst (λ (m : Clocks). reading m 0 ≤ reading w.now 0) (is.replied_is).moment_is ((kept.sent (is.replied_is).datagram (is.replied_is).among).seen 0 (w.ends.server_addr, refl)).read in

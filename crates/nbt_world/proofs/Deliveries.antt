@@ -14,7 +14,7 @@ use Rattle.nbt_lease.specs.Config.{ConfigValue}
 use Rattle.nbt_lease.specs.Lease.{Leases, TableValue, leases_at, IsSound}
 use Rattle.nbt_node.specs.Node.{NodeValue, Passes}
 use Rattle.nbt_node.specs.Moves.{hear, Told, NameMoves}
-use Rattle.nbt_node.specs.Datagrams.{same_end, Hears, from_server, from_stranger, Lists, lists_names, lists_nothing, names_listed, Ends as LookupEnds, is_answered, is_unanswered, Idles, idles, Takes as NodeTakes, TakesOctets, spelled, unspelled}
+use Rattle.nbt_node.specs.Datagrams.{same_end, NodeHears, from_server, from_stranger, Lists, lists_names, lists_nothing, names_listed, Ends as LookupEnds, is_answered, is_unanswered, Idles, idles, NodeTakes, NodeTakesOctets, spelled, unspelled}
 use Rattle.nbt_lease.specs.declared.fault.GrantFault.{GrantFault}
 use Rattle.nbt_lease.specs.declared.lease.Grant.{Grant}
 use Rattle.nbt_lease.specs.declared.lease.Released.{Released}
@@ -26,8 +26,8 @@ use Rattle.nbt_world.specs.declared.ends.Ends.{Ends}
 use Rattle.nbt_world.specs.declared.network.Datagram.{Datagram}
 use Rattle.nbt_world.specs.Drift.{reading}
 use Rattle.nbt_world.specs.World.{WorldValue, IsDeliverable, addr_of, node_of, with_server, with_node, datagram}
-use Rattle.nbt_world.specs.Step.{NodeHears, TakenValue, takes, after_taking, ServerDoes, server_takes, server_forgets, Takes, finds_down, by_server, by_node}
-use Rattle.nbt_world.specs.Kept.{IsRequest, IsReply, Asked, Replied, known, IsOpen, RequestsEnded, RepliesFresh, IsServerOf, IsKept}
+use Rattle.nbt_world.specs.Step.{NodeHandles, TakenValue, takes, after_taking, ServerDoes, server_takes, server_forgets, EndTakes, finds_down, by_server, by_node}
+use Rattle.nbt_world.specs.Inner.Kept.{IsRequest, IsReply, Asked, Replied, known, IsOpen, RequestsEnded, RepliesFresh, IsServerOf, Invariant}
 use Rattle.std.proofs.lemmas.List.Elements.{Contains-push_cases}
 use Rattle.nbt_world.proofs.Knowing.{Draws, fresh-reply}
 use Rattle.nbt_world.proofs.Claiming.{NoNewClaim, IsListed, claims_by_time, claims_hears}
@@ -44,9 +44,9 @@ use Rattle.nbt_world.proofs.Events.{stays_by_lookup, stays_by_time, time_kept, o
 abbrev pub ListedTo : WorldValue → Addr → NameValue → MessageValue → Type 0
 ListedTo w addr name m = IsListed w.config.life w.now.clock (Replied w.sent w.ends.server_addr addr name) m
 
-hears_kept : Laws → (w : WorldValue) (i : ℕ) (node new : NodeValue) (name : NameValue) (m : MessageValue) (told : Told) → IsKept w → node_of w.ends (suc i) ≡ Some node → NameMoves node (reading w.now (suc i)) name (hear m) new None told
+hears_kept : Laws → (w : WorldValue) (i : ℕ) (node new : NodeValue) (name : NameValue) (m : MessageValue) (told : Told) → Invariant w → node_of w.ends (suc i) ≡ Some node → NameMoves node (reading w.now (suc i)) name (hear m) new None told
     → ((addr : Addr) → addr_of w.ends (suc i) ≡ Some addr → ListedTo w addr name m)
-    → IsKept (record w { ends = with_node w.ends (suc i) (Some new) })
+    → Invariant (record w { ends = with_node w.ends (suc i) (Some new) })
 hears_kept law w i node new name m told kept up moves is_listed =
     let at = up_at law.rests w i node kept up in
     let stays = stays_by_moves (reading w.now (suc i)) node new name _ _ _ moves in
@@ -80,7 +80,7 @@ abbrev pub replied_world : WorldValue → (i : ℕ) → NodeValue → Addr → O
 replied_world w i new to None = record w { ends = with_node w.ends (suc i) (Some new) }
 replied_world w i new to (Some m) = record w { ends = with_node w.ends (suc i) (Some new); sent = w.sent ++ datagram new.addr to w.now (text m) ∷ [] }
 
-passes_kept : Laws → (w : WorldValue) (i : ℕ) (node new : NodeValue) → IsKept w → node_of w.ends (suc i) ≡ Some node → Passes node (reading w.now (suc i)) new → IsKept (record w { ends = with_node w.ends (suc i) (Some new) })
+passes_kept : Laws → (w : WorldValue) (i : ℕ) (node new : NodeValue) → Invariant w → node_of w.ends (suc i) ≡ Some node → Passes node (reading w.now (suc i)) new → Invariant (record w { ends = with_node w.ends (suc i) (Some new) })
 passes_kept law w i node new kept up passes = time_kept law w i node new kept up (stays_by_time (reading w.now (suc i)) node new passes) passes.names
 
 -- where octets from this end come from, and what they spell
@@ -117,25 +117,25 @@ same_addr a b e =
     let parts = and_parts (eqb a.ip b.ip) (eqb a.port b.port) e in
     λ i. record { ip = eqb-true a.ip b.ip parts.0 i; port = eqb-true a.port b.port parts.1 i }
 
-heard_kept : Laws → (w : WorldValue) (i : ℕ) (node new : NodeValue) (from to : Addr) (name : NameValue) (m : MessageValue) (sent : Option MessageValue) (told : Told) → IsKept w → node_of w.ends (suc i) ≡ Some node
-    → Hears node (reading w.now (suc i)) from name m new sent told → IsHeard w i from m → ((r : Registration) → m ≡ registered 0 r → r.name ≡ name) → IsKept (replied_world w i new to sent)
+heard_kept : Laws → (w : WorldValue) (i : ℕ) (node new : NodeValue) (from to : Addr) (name : NameValue) (m : MessageValue) (sent : Option MessageValue) (told : Told) → Invariant w → node_of w.ends (suc i) ≡ Some node
+    → NodeHears node (reading w.now (suc i)) from name m new sent told → IsHeard w i from m → ((r : Registration) → m ≡ registered 0 r → r.name ≡ name) → Invariant (replied_world w i new to sent)
 heard_kept law w i node new from to name m sent told kept up (from_server n t same moves) heard named =
     hears_kept law w i node new name m told kept up moves (heard_listed w i from name m heard (same_addr from node.server same ∙ ((up_at law.rests w i node kept up).is).server_is) named)
 heard_kept law w i node new from to name m sent told kept up (from_stranger n other passes) heard named = passes_kept law w i node new kept up passes
 
-lists_kept : Laws → (w : WorldValue) (i : ℕ) (node new : NodeValue) (to : Addr) (id : ℕ) (name : NameValue) (sent : Option MessageValue) (told : Told) (out : List ℕ) → IsKept w → node_of w.ends (suc i) ≡ Some node
-    → Lists node (reading w.now (suc i)) id name new sent told → AreWritten sent out → IsKept (replied_world w i new to sent)
+lists_kept : Laws → (w : WorldValue) (i : ℕ) (node new : NodeValue) (to : Addr) (id : ℕ) (name : NameValue) (sent : Option MessageValue) (told : Told) (out : List ℕ) → Invariant w → node_of w.ends (suc i) ≡ Some node
+    → Lists node (reading w.now (suc i)) id name new sent told → AreWritten sent out → Invariant (replied_world w i new to sent)
 lists_kept law w i node new to id name sent told out kept up (lists_names n is passes) written =
     other_kept law w i node new to _ (status id name (names_listed node (reading w.now (suc i)) name)) kept up (stays_by_time (reading w.now (suc i)) node new passes) passes.names (refl, subst (λ (xs : List ℕ). Spells xs (status id name (names_listed node (reading w.now (suc i)) name))) written.0 written.1) (λ q r. r) (λ r e. cc)
 lists_kept law w i node new to id name sent told out kept up (lists_nothing n is passes) written = passes_kept law w i node new kept up passes
 
-ended_kept : Laws → (w : WorldValue) (i : ℕ) (node new : NodeValue) (from to : Addr) (m : MessageValue) (sent : Option MessageValue) (t told : Told) → IsKept w → node_of w.ends (suc i) ≡ Some node
-    → LookupEnds node (reading w.now (suc i)) from m t new sent told → IsKept (replied_world w i new to sent)
+ended_kept : Laws → (w : WorldValue) (i : ℕ) (node new : NodeValue) (from to : Addr) (m : MessageValue) (sent : Option MessageValue) (t told : Told) → Invariant w → node_of w.ends (suc i) ≡ Some node
+    → LookupEnds node (reading w.now (suc i)) from m t new sent told → Invariant (replied_world w i new to sent)
 ended_kept law w i node new from to m sent t told kept up (is_answered n is looks) = time_kept law w i node new kept up (stays_by_lookup (reading w.now (suc i)) node new _ _ looks) looks.names
 ended_kept law w i node new from to m sent t told kept up (is_unanswered n is passes) = passes_kept law w i node new kept up passes
 
-idles_kept : Laws → (w : WorldValue) (i : ℕ) (node new : NodeValue) (to : Addr) (sent : Option MessageValue) (told : Told) → IsKept w → node_of w.ends (suc i) ≡ Some node
-    → Idles node (reading w.now (suc i)) new sent told → IsKept (replied_world w i new to sent)
+idles_kept : Laws → (w : WorldValue) (i : ℕ) (node new : NodeValue) (to : Addr) (sent : Option MessageValue) (told : Told) → Invariant w → node_of w.ends (suc i) ≡ Some node
+    → Idles node (reading w.now (suc i)) new sent told → Invariant (replied_world w i new to sent)
 idles_kept law w i node new to sent told kept up (idles n passes) = passes_kept law w i node new kept up passes
 
 -- a positive reply is about its own name
@@ -145,8 +145,8 @@ named_registered rcode r x e = ap (λ (y : Registration). y.name) (sym (same r x
     same : (a b : Registration) → registered rcode a ≡ registered 0 b → a ≡ b
     same a b e = cc
 
-takes_kept : Laws → (w : WorldValue) (i : ℕ) (node new : NodeValue) (from to : Addr) (m : MessageValue) (sent : Option MessageValue) (told : Told) (out : List ℕ) → IsKept w → node_of w.ends (suc i) ≡ Some node
-    → NodeTakes node (reading w.now (suc i)) from m new sent told → AreWritten sent out → IsHeard w i from m → IsKept (replied_world w i new to sent)
+takes_kept : Laws → (w : WorldValue) (i : ℕ) (node new : NodeValue) (from to : Addr) (m : MessageValue) (sent : Option MessageValue) (told : Told) (out : List ℕ) → Invariant w → node_of w.ends (suc i) ≡ Some node
+    → NodeTakes node (reading w.now (suc i)) from m new sent told → AreWritten sent out → IsHeard w i from m → Invariant (replied_world w i new to sent)
 takes_kept law w i node new from to (registration r) sent told out kept up t written heard = idles_kept law w i node new to sent told kept up t
 takes_kept law w i node new from to (overwrite r) sent told out kept up t written heard = idles_kept law w i node new to sent told kept up t
 takes_kept law w i node new from to (refresh r) sent told out kept up t written heard = idles_kept law w i node new to sent told kept up t
@@ -160,13 +160,13 @@ takes_kept law w i node new from to (not_found id rcode name) sent told out kept
 takes_kept law w i node new from to (status id name names) sent told out kept up t written heard = ended_kept law w i node new from to _ sent _ told kept up t
 takes_kept law w i node new from to (wait id name ttl) sent told out kept up t written heard = heard_kept law w i node new from to _ _ sent told kept up t heard (λ x e. cc)
 
-octets_kept : Laws → (w : WorldValue) (i : ℕ) (node new : NodeValue) (from to : Addr) (octets : List ℕ) (sent : Option MessageValue) (told : Told) (out : List ℕ) → IsKept w → node_of w.ends (suc i) ≡ Some node
-    → (addr : Addr) → addr_of w.ends (suc i) ≡ Some addr → Origin w from addr octets → TakesOctets node (reading w.now (suc i)) from octets new sent told → AreWritten sent out → IsKept (replied_world w i new to sent)
+octets_kept : Laws → (w : WorldValue) (i : ℕ) (node new : NodeValue) (from to : Addr) (octets : List ℕ) (sent : Option MessageValue) (told : Told) (out : List ℕ) → Invariant w → node_of w.ends (suc i) ≡ Some node
+    → (addr : Addr) → addr_of w.ends (suc i) ≡ Some addr → Origin w from addr octets → NodeTakesOctets node (reading w.now (suc i)) from octets new sent told → AreWritten sent out → Invariant (replied_world w i new to sent)
 octets_kept law w i node new from to octets sent told out kept up addr at origin (spelled m n s t is does) written =
     takes_kept law w i node new from to m sent told out kept up does written (record { addr = addr; at = at; octets = octets; origin = origin; spells = is })
 octets_kept law w i node new from to octets sent told out kept up addr at origin (unspelled n no_message passes) written = passes_kept law w i node new kept up passes
 
-heard_addr : (now : ℕ) (node new : NodeValue) (from : Addr) (name : NameValue) (m : MessageValue) (sent : Option MessageValue) (told : Told) → Hears node now from name m new sent told → new.addr ≡ node.addr
+heard_addr : (now : ℕ) (node new : NodeValue) (from : Addr) (name : NameValue) (m : MessageValue) (sent : Option MessageValue) (told : Told) → NodeHears node now from name m new sent told → new.addr ≡ node.addr
 heard_addr now node new from name m sent told (from_server n t same moves) = (stays_by_moves now node new name _ _ _ moves).addr_is
 heard_addr now node new from name m sent told (from_stranger n other passes) = (stays_by_time now node new passes).addr_is
 
@@ -195,15 +195,15 @@ taken_addr now node new from (not_found id rcode name) sent told t = ended_addr 
 taken_addr now node new from (status id name names) sent told t = ended_addr now node new from _ _ sent told t
 taken_addr now node new from (wait id name ttl) sent told t = heard_addr now node new from name _ sent told t
 
-stays_by_octets : (now : ℕ) (node new : NodeValue) (from : Addr) (octets : List ℕ) (sent : Option MessageValue) (told : Told) → TakesOctets node now from octets new sent told → new.addr ≡ node.addr
+stays_by_octets : (now : ℕ) (node new : NodeValue) (from : Addr) (octets : List ℕ) (sent : Option MessageValue) (told : Told) → NodeTakesOctets node now from octets new sent told → new.addr ≡ node.addr
 stays_by_octets now node new from octets sent told (spelled m n s t is does) = taken_addr now node new from m sent told does
 stays_by_octets now node new from octets sent told (unspelled n no_message passes) = (stays_by_time now node new passes).addr_is
 
-node_hears_kept : Laws → (w : WorldValue) (i : ℕ) (node new : NodeValue) (from addr : Addr) (octets : List ℕ) (reply : Option MessageValue) → IsKept w → addr_of w.ends (suc i) ≡ Some addr → node_of w.ends (suc i) ≡ Some node
-    → Origin w from addr octets → NodeHears (reading w.now (suc i)) node from octets reply new → IsKept (after_taking w (with_node w.ends (suc i) (Some new)) addr from (takes reply))
-node_hears_kept law w i node new from addr octets reply kept at up origin hears = as_taken reply same (subst (λ (r : Option MessageValue). IsKept (replied_world w i new from r)) hears.sent_is left)
+node_hears_kept : Laws → (w : WorldValue) (i : ℕ) (node new : NodeValue) (from addr : Addr) (octets : List ℕ) (reply : Option MessageValue) → Invariant w → addr_of w.ends (suc i) ≡ Some addr → node_of w.ends (suc i) ≡ Some node
+    → Origin w from addr octets → NodeHandles (reading w.now (suc i)) node from octets reply new → Invariant (after_taking w (with_node w.ends (suc i) (Some new)) addr from (takes reply))
+node_hears_kept law w i node new from addr octets reply kept at up origin hears = as_taken reply same (subst (λ (r : Option MessageValue). Invariant (replied_world w i new from r)) hears.sent_is left)
   where
-    left : IsKept (replied_world w i new from (hears.handles).sent)
+    left : Invariant (replied_world w i new from (hears.handles).sent)
     left = octets_kept law w i node new from from octets (hears.handles).sent hears.told hears.out kept up addr at origin (hears.handles).takes (hears.handles).written
 
     same : new.addr ≡ addr
@@ -211,9 +211,9 @@ node_hears_kept law w i node new from addr octets reply kept at up origin hears 
         let here = up_at law.rests w i node kept up in
         stays_by_octets (reading w.now (suc i)) node new from octets _ _ (hears.handles).takes ∙ (here.is).addr_is ∙ same_Some here.addr addr (sym here.at ∙ at)
 
-    as_taken : (r : Option MessageValue) → new.addr ≡ addr → IsKept (replied_world w i new from r) → IsKept (after_taking w (with_node w.ends (suc i) (Some new)) addr from (takes r))
+    as_taken : (r : Option MessageValue) → new.addr ≡ addr → Invariant (replied_world w i new from r) → Invariant (after_taking w (with_node w.ends (suc i) (Some new)) addr from (takes r))
     as_taken None e kept = kept
-    as_taken (Some m) e kept = subst (λ (a : Addr). IsKept (record w { ends = with_node w.ends (suc i) (Some new); sent = w.sent ++ datagram a from w.now (text m) ∷ [] })) e kept
+    as_taken (Some m) e kept = subst (λ (a : Addr). Invariant (record w { ends = with_node w.ends (suc i) (Some new); sent = w.sent ++ datagram a from w.now (text m) ∷ [] })) e kept
 
 -- ---- the server takes a datagram
 
@@ -299,7 +299,7 @@ octets_no_overwrite server now ip octets reply after (serving.is_no_message none
 octets_no_overwrite server now ip octets reply after (serving.serves k p l speaks spells does) m e r f = serves_no_overwrite server.table now ip k reply after does m e r f
 
 -- what is new among the replies to an end was drawn by its request
-replies_drawn : Laws → (w : WorldValue) (server : ServerValue) (from to_addr : Addr) (octets : List ℕ) (reply : Option MessageValue) (after : Leases) (m : MessageValue) → IsKept w → Origin w from to_addr octets
+replies_drawn : Laws → (w : WorldValue) (server : ServerValue) (from to_addr : Addr) (octets : List ℕ) (reply : Option MessageValue) (after : Leases) (m : MessageValue) → Invariant w → Origin w from to_addr octets
     → ServesOctets server (reading w.now 0) from.ip octets reply after → reply ≡ Some m → (d : Datagram) → d.to ≡ from → d.moment ≡ w.now → Spells d.octets.items m
     → (n : ℕ) (a : Addr) (name : NameValue) → addr_of w.ends n ≡ Some a
     → (moment : Clocks) (message : MessageValue) → Replied (w.sent ++ d ∷ []) w.ends.server_addr a name moment message
@@ -331,9 +331,9 @@ replies_drawn law w server from to_addr octets reply after m kept origin serves 
         let same : from ≡ a = sym to ∙ ap (λ (y : Datagram). y.to) e ∙ r.receiver in
         inr (drawn e same (octets_asked server (reading w.now 0) from.ip octets reply after serves m is name (subst (λ (k : MessageValue). IsReply name k) one r.reply)) origin)
 
-server_takes_kept : Laws → GrantsSound → ReleasesSound → LeaseLaws → (w : WorldValue) (server new : ServerValue) (from addr : Addr) (octets : List ℕ) (taken : TakenValue) → IsKept w → w.ends.server ≡ Some server → addr_of w.ends 0 ≡ Some addr
+server_takes_kept : Laws → GrantsSound → ReleasesSound → LeaseLaws → (w : WorldValue) (server new : ServerValue) (from addr : Addr) (octets : List ℕ) (taken : TakenValue) → Invariant w → w.ends.server ≡ Some server → addr_of w.ends 0 ≡ Some addr
     → Origin w from addr octets → ServerDoes (reading w.now 0) server from.ip octets taken new → ((m : MessageValue) → taken ≡ takes (Some m) → Spells (text m) m)
-    → IsKept (after_taking w (with_server w.ends (Some new)) addr from taken)
+    → Invariant (after_taking w (with_server w.ends (Some new)) addr from taken)
 server_takes_kept law g r laws w server new from addr octets taken kept up at origin (server_takes reply n t) spells = go reply refl (λ m e. spells m (ap takes e))
   where
     is : IsServerOf w new
@@ -366,7 +366,7 @@ server_takes_kept law g r laws w server new from addr octets taken kept up at or
     is_its : (s : ServerValue) → Some new ≡ Some s → IsServerOf w s
     is_its s e = subst (λ (x : ServerValue). IsServerOf w x) (same_Some new s e) is
 
-    go : (p : Option MessageValue) → reply ≡ p → ((m : MessageValue) → p ≡ Some m → Spells (text m) m) → IsKept (after_taking w (with_server w.ends (Some new)) addr from (takes p))
+    go : (p : Option MessageValue) → reply ≡ p → ((m : MessageValue) → p ≡ Some m → Spells (text m) m) → Invariant (after_taking w (with_server w.ends (Some new)) addr from (takes p))
     go None same spelling =
         server_changes w (Some new) w.sent kept is_its (nothing_new w w.ends.server_addr) kept.replies
         (λ on. served_claims laws w server new from addr octets reply w.sent (took w.sent on (λ d c. c) (λ a q moment message replied. inl replied)))
@@ -427,9 +427,9 @@ server_takes_kept law g r laws w server new from addr octets taken kept up at or
 
 -- ---- an end takes a datagram
 
-pub taking_kept : Laws → GrantsSound → ReleasesSound → LeaseLaws → (w : WorldValue) (from addr : Addr) (octets : List ℕ) (number : ℕ) (taken : TakenValue) (ends : Ends) → IsKept w → addr_of w.ends number ≡ Some addr
-    → Origin w from addr octets → Takes (reading w.now number) w.ends from octets number taken ends → ((m : MessageValue) → taken ≡ takes (Some m) → Spells (text m) m)
-    → IsKept (after_taking w ends addr from taken)
+pub taking_kept : Laws → GrantsSound → ReleasesSound → LeaseLaws → (w : WorldValue) (from addr : Addr) (octets : List ℕ) (number : ℕ) (taken : TakenValue) (ends : Ends) → Invariant w → addr_of w.ends number ≡ Some addr
+    → Origin w from addr octets → EndTakes (reading w.now number) w.ends from octets number taken ends → ((m : MessageValue) → taken ≡ takes (Some m) → Spells (text m) m)
+    → Invariant (after_taking w ends addr from taken)
 taking_kept law g r laws w from addr octets number taken ends kept at origin (finds_down n down) spells = kept
 taking_kept law g r laws w from addr octets number taken ends kept at origin (by_server server new t up does) spells = server_takes_kept law g r laws w server new from addr octets taken kept up at origin does spells
 taking_kept law g r laws w from addr octets number taken ends kept at origin (by_node i node new reply up hears) spells = node_hears_kept law w i node new from addr octets reply kept at up origin hears

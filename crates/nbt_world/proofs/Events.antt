@@ -18,8 +18,8 @@ use Rattle.nbt_world.specs.declared.event.Event.{Event}
 use Rattle.nbt_world.specs.declared.clocks.Clocks.{Clocks}
 use Rattle.nbt_world.specs.Drift.{reading}
 use Rattle.nbt_world.specs.World.{WorldValue, node_of, with_node, datagram}
-use Rattle.nbt_world.specs.Step.{GivenValue, Does, asks, ask_refused, gives_back, release_refused, resolves, resolve_refused, asks_status, status_refused, polls, polls_nothing, after}
-use Rattle.nbt_world.specs.Kept.{IsRequest, Asked, Replied, known, RequestsEnded, RepliesFresh, IsNodeOf, IsKept}
+use Rattle.nbt_world.specs.Step.{CallOutcomeValue, NodeDoes, asks, ask_refused, gives_back, release_refused, resolves, resolve_refused, asks_status, status_refused, polls, polls_nothing, after}
+use Rattle.nbt_world.specs.Inner.Kept.{IsRequest, Asked, Replied, known, RequestsEnded, RepliesFresh, IsNodeOf, Invariant}
 use Rattle.nbt_world.proofs.Keeping.{IsNew, from_new, asked_still, replied_before, addr_there, node_changes}
 use Rattle.nbt_name.proofs.Same.{names_apart}
 use Rattle.nbt_world.proofs.Naming.{Laws, request_one, request_no_overwrite, Sending, is_new, nothing_new, others_fewer, own_more, Stays, stays_by_moves, name_by_time, name_sends, fresh_by_time, fresh_sends, grows_by, UpAt, up_at, node_moves}
@@ -29,9 +29,9 @@ use Rattle.nbt_world.proofs.Covering.{node_claims}
 
 -- ---- a request about a name: asked for, given back, or sent again
 
-pub sends_kept : Laws → (w : WorldValue) (i : ℕ) (node new : NodeValue) (name : NameValue) (event : NameEvent) (to : Addr) (octets : List ℕ) → IsKept w → node_of w.ends (suc i) ≡ Some node
+pub sends_kept : Laws → (w : WorldValue) (i : ℕ) (node new : NodeValue) (name : NameValue) (event : NameEvent) (to : Addr) (octets : List ℕ) → Invariant w → node_of w.ends (suc i) ≡ Some node
     → Sends node (reading w.now (suc i)) name event new octets
-    → IsKept (record w { ends = with_node w.ends (suc i) (Some new); sent = w.sent ++ datagram new.addr to w.now octets ∷ [] })
+    → Invariant (record w { ends = with_node w.ends (suc i) (Some new); sent = w.sent ++ datagram new.addr to w.now octets ∷ [] })
 sends_kept law w i node new name event to octets kept up sends =
     let at = up_at law.rests w i node kept up in
     let stays = stays_by_moves (reading w.now (suc i)) node new name event _ _ sends.moves in
@@ -112,8 +112,8 @@ stays_by_time now old new passes = record {
   last_is = ap (λ (n : NodeValue). n.last) passes.node;
 }
 
-pub time_kept : Laws → (w : WorldValue) (i : ℕ) (node new : NodeValue) → IsKept w → node_of w.ends (suc i) ≡ Some node → Stays node (reading w.now (suc i)) new → ByTimeAlone node (reading w.now (suc i)) new
-    → IsKept (record w { ends = with_node w.ends (suc i) (Some new) })
+pub time_kept : Laws → (w : WorldValue) (i : ℕ) (node new : NodeValue) → Invariant w → node_of w.ends (suc i) ≡ Some node → Stays node (reading w.now (suc i)) new → ByTimeAlone node (reading w.now (suc i)) new
+    → Invariant (record w { ends = with_node w.ends (suc i) (Some new) })
 time_kept law w i node new kept up stays names =
     let at = up_at law.rests w i node kept up in
     node_moves w i node new w.sent kept at stays (nothing_new w at.addr) (λ d c. c)
@@ -123,9 +123,9 @@ time_kept law w i node new kept up stays names =
     (λ on q. claims_by_time w.now.clock (reading w.now (suc i)) node new q node.config.longest (Replied w.sent w.ends.server_addr at.addr q) stays.start_is (names q))
 
 -- a datagram that is no request
-pub other_kept : Laws → (w : WorldValue) (i : ℕ) (node new : NodeValue) (to : Addr) (octets : List ℕ) (m : MessageValue) → IsKept w → node_of w.ends (suc i) ≡ Some node → Stays node (reading w.now (suc i)) new → ByTimeAlone node (reading w.now (suc i)) new
+pub other_kept : Laws → (w : WorldValue) (i : ℕ) (node new : NodeValue) (to : Addr) (octets : List ℕ) (m : MessageValue) → Invariant w → node_of w.ends (suc i) ≡ Some node → Stays node (reading w.now (suc i)) new → ByTimeAlone node (reading w.now (suc i)) new
     → AreWritten (Some m) octets → ((q : NameValue) → IsRequest q m → ⊥) → ((r : Registration) → m ≡ overwrite r → ⊥)
-    → IsKept (record w { ends = with_node w.ends (suc i) (Some new); sent = w.sent ++ datagram new.addr to w.now octets ∷ [] })
+    → Invariant (record w { ends = with_node w.ends (suc i) (Some new); sent = w.sent ++ datagram new.addr to w.now octets ∷ [] })
 other_kept law w i node new to octets m kept up stays names written off no_overwrite =
     let at = up_at law.rests w i node kept up in
     let sending : Sending w at.addr (datagram new.addr to w.now octets) m =
@@ -144,7 +144,7 @@ other_kept law w i node new to octets m kept up stays names written off no_overw
     (λ on q. claims_by_time w.now.clock (reading w.now (suc i)) node new q node.config.longest (Replied w.sent w.ends.server_addr at.addr q) stays.start_is (names q))
 
 -- a call that was refused leaves the node
-pub refused_kept : (w : WorldValue) (i : ℕ) (node : NodeValue) → IsKept w → node_of w.ends (suc i) ≡ Some node → IsKept (record w { ends = with_node w.ends (suc i) (Some node) })
+pub refused_kept : (w : WorldValue) (i : ℕ) (node : NodeValue) → Invariant w → node_of w.ends (suc i) ≡ Some node → Invariant (record w { ends = with_node w.ends (suc i) (Some node) })
 refused_kept w i node kept up =
     let there = addr_there w.ends (suc i) node up in
     node_changes w i there.0 (Some node) w.sent kept there.1
@@ -170,28 +170,28 @@ question_off l q = go l.wanted
     go Entries r = r
     go Names r = r
 
-opens_kept : Laws → (w : WorldValue) (i : ℕ) (node new : NodeValue) (name : NameValue) (to : Addr) (wanted : Wanted) (octets : List ℕ) → IsKept w → node_of w.ends (suc i) ≡ Some node
-    → Opens node (reading w.now (suc i)) name to wanted new octets → IsKept (record w { ends = with_node w.ends (suc i) (Some new); sent = w.sent ++ datagram new.addr to w.now octets ∷ [] })
+opens_kept : Laws → (w : WorldValue) (i : ℕ) (node new : NodeValue) (name : NameValue) (to : Addr) (wanted : Wanted) (octets : List ℕ) → Invariant w → node_of w.ends (suc i) ≡ Some node
+    → Opens node (reading w.now (suc i)) name to wanted new octets → Invariant (record w { ends = with_node w.ends (suc i) (Some new); sent = w.sent ++ datagram new.addr to w.now octets ∷ [] })
 opens_kept law w i node new name to wanted octets kept up opens =
     other_kept law w i node new to octets _ kept up (stays_by_lookup (reading w.now (suc i)) node new _ _ opens.opens) ((opens.opens).names) opens.written
     (question_off (record { id = node.next_id; name = name; to = to; wanted = wanted; tries = 1; due = next_due (reading w.now (suc i)) }))
     (question_no_overwrite (record { id = node.next_id; name = name; to = to; wanted = wanted; tries = 1; due = next_due (reading w.now (suc i)) }))
 
-polls_kept : Laws → (w : WorldValue) (i : ℕ) (node new : NodeValue) (x : Option Addr) (octets : List ℕ) → IsKept w → node_of w.ends (suc i) ≡ Some node → Polls node (reading w.now (suc i)) new x octets
-    → (to : Addr) → x ≡ Some to → IsKept (record w { ends = with_node w.ends (suc i) (Some new); sent = w.sent ++ datagram new.addr to w.now octets ∷ [] })
+polls_kept : Laws → (w : WorldValue) (i : ℕ) (node new : NodeValue) (x : Option Addr) (octets : List ℕ) → Invariant w → node_of w.ends (suc i) ≡ Some node → Polls node (reading w.now (suc i)) new x octets
+    → (to : Addr) → x ≡ Some to → Invariant (record w { ends = with_node w.ends (suc i) (Some new); sent = w.sent ++ datagram new.addr to w.now octets ∷ [] })
 polls_kept law w i node new x octets kept up (polls_name slot n o due sends) to e = sends_kept law w i node new slot.name _ to octets kept up sends
 polls_kept law w i node new x octets kept up (polls_lookup l n o none due looks written) to e =
     other_kept law w i node new to octets (question l) kept up (stays_by_lookup (reading w.now (suc i)) node new _ _ looks) looks.names written (question_off l) (question_no_overwrite l)
 polls_kept law w i node new x octets kept up (nothing_due n none no_lookup passes) to e = absurd (none-some to e)
 
-idle_kept : Laws → (w : WorldValue) (i : ℕ) (node new : NodeValue) (x : Option Addr) (octets : List ℕ) → IsKept w → node_of w.ends (suc i) ≡ Some node → Polls node (reading w.now (suc i)) new x octets → x ≡ None
-    → IsKept (record w { ends = with_node w.ends (suc i) (Some new) })
+idle_kept : Laws → (w : WorldValue) (i : ℕ) (node new : NodeValue) (x : Option Addr) (octets : List ℕ) → Invariant w → node_of w.ends (suc i) ≡ Some node → Polls node (reading w.now (suc i)) new x octets → x ≡ None
+    → Invariant (record w { ends = with_node w.ends (suc i) (Some new) })
 idle_kept law w i node new x octets kept up (polls_name slot n o due sends) e = absurd (none-some node.server (sym e))
 idle_kept law w i node new x octets kept up (polls_lookup l n o none due looks written) e = absurd (none-some l.to (sym e))
 idle_kept law w i node new x octets kept up (nothing_due n none no_lookup passes) e = time_kept law w i node new kept up (stays_by_time (reading w.now (suc i)) node new passes) passes.names
 
-pub does_kept : Laws → (w : WorldValue) (i : ℕ) (node new : NodeValue) (event : Event) (given : GivenValue) → IsKept w → node_of w.ends (suc i) ≡ Some node → Does node (reading w.now (suc i)) event new given
-    → IsKept (after w (suc i) new given)
+pub does_kept : Laws → (w : WorldValue) (i : ℕ) (node new : NodeValue) (event : Event) (given : CallOutcomeValue) → Invariant w → node_of w.ends (suc i) ≡ Some node → NodeDoes node (reading w.now (suc i)) event new given
+    → Invariant (after w (suc i) new given)
 does_kept law w i node new event given kept up (asks number name kind ttl n octets none sends) = sends_kept law w i node new name _ node.server octets kept up sends
 does_kept law w i node new event given kept up (ask_refused number name kind ttl fault is) = refused_kept w i node kept up
 does_kept law w i node new event given kept up (gives_back number name n octets none sends) = sends_kept law w i node new name _ node.server octets kept up sends

@@ -12,7 +12,7 @@ use Rattle.nbt_world.specs.declared.clocks.Least.{Least}
 use Rattle.nbt_world.specs.Drift.{reading, IsBounded, ahead, behind, least_of, numbers_of, lesser, IsAllowed}
 use Rattle.nbt_world.specs.World.{WorldValue, IsEnd, addr_of, IsFresh}
 use Rattle.nbt_world.specs.Step.{Advances}
-use Rattle.nbt_world.specs.Kept.{IsSeen, AreRead}
+use Rattle.nbt_world.specs.Inner.Kept.{IsSeen, AreRead}
 use Rattle.nbt_world.specs.Safety.{KeepDriftBound}
 use Rattle.nbt_world.proofs.Drifting.{bounded}
 use Rattle.nbt_world.proofs.Clock.{sees, sees_now, read_on, goes_up}

@@ -13,16 +13,16 @@ use Rattle.nbt_world.specs.declared.clocks.Clocks.{Clocks}
 use Rattle.nbt_world.specs.Drift.{reading}
 use Rattle.nbt_world.specs.World.{WorldValue, addr_of, node_of}
 use Rattle.nbt_world.proofs.Drifting.{RestLaw, asked_are_past}
-use Rattle.nbt_world.specs.Kept.{Known, known, bound, WantsIn, Wants, IsOpen, IsOpenIn, Backs, IsCoveredIn, IsKept}
-use Rattle.nbt_world.specs.Facts.{IsBehind, by_lease, by_silence, while_down, ClaimsAreCovered, IsRested, RepliedIn, OpenIsFresh, RequestsHaveEnded}
+use Rattle.nbt_world.specs.Inner.Kept.{Known, known, last_sending, WantsIn, Wants, IsOpen, IsOpenIn, Covers, IsCoveredIn, Invariant}
+use Rattle.nbt_world.specs.Inner.Facts.{CoversIn, by_lease, by_silence, while_down, ClaimsAreCovered, IsRested, RepliedIn, OpenIsFresh, RequestsHaveEnded}
 
-pub claims_covered : (w : WorldValue) → IsKept w → IsTrue w.kept → ClaimsAreCovered w
+pub claims_covered : (w : WorldValue) → Invariant w → IsTrue w.kept → ClaimsAreCovered w
 claims_covered w kept on n a name kind end p c lt = (is.moment, is.seconds, is.counted, go w.ends.server refl (is.backed))
   where
     is : IsCoveredIn w n a name kind end
     is = (kept.claims on).covered n a name kind end p c lt
 
-    go : (s : Option ServerValue) → w.ends.server ≡ s → Backs (reading w.now 0) s a.ip name kind (reading is.moment 0 + 1000 * is.seconds) → IsBehind w a name kind (reading is.moment 0 + 1000 * is.seconds)
+    go : (s : Option ServerValue) → w.ends.server ≡ s → Covers (reading w.now 0) s a.ip name kind (reading is.moment 0 + 1000 * is.seconds) → CoversIn w a name kind (reading is.moment 0 + 1000 * is.seconds)
     go None e b =
         let past : reading is.moment 0 ≤ reading w.now 0 =
         subst (λ (m : Clocks). reading m 0 ≤ reading w.now 0) (is.replied_is).moment_is ((kept.sent (is.replied_is).datagram (is.replied_is).among).seen 0 (w.ends.server_addr, refl)).read in
@@ -32,7 +32,7 @@ claims_covered w kept on n a name kind end p c lt = (is.moment, is.seconds, is.c
     go (Some server) e (inr silent) = by_silence server e silent
 
 -- where a name has rested, the last sending that the node knows of is its start
-rested_bound : (w : WorldValue) (n : ℕ) (name : NameValue) → IsRested w n name → bound (reading w.now n) (known (node_of w.ends n) name) + quiet w.config.life < reading w.now n
+rested_bound : (w : WorldValue) (n : ℕ) (name : NameValue) → IsRested w n name → last_sending (reading w.now n) (known (node_of w.ends n) name) + quiet w.config.life < reading w.now n
 rested_bound w n name rested = rw (rested.1, rested.2) rested.3
 
 -- what is open is wanted
@@ -48,7 +48,7 @@ open_wanted (Some k) kind first w = in_state k.state w
     in_state (Releasing k last p) w = w
     in_state (Resting last) w = w
 
-pub open_fresh : RestLaw → (w : WorldValue) → IsKept w → IsTrue w.kept → (n : ℕ) (a : Addr) (name : NameValue) → addr_of w.ends n ≡ Some a → OpenIsFresh w n a name
+pub open_fresh : RestLaw → (w : WorldValue) → Invariant w → IsTrue w.kept → (n : ℕ) (a : Addr) (name : NameValue) → addr_of w.ends n ≡ Some a → OpenIsFresh w n a name
 open_fresh law w kept on n a name p = record {
   one_kind = λ kind first moment message o x. (kept.requests on n a name p).one_kind kind moment message (open_wanted (known (node_of w.ends n) name) kind first o) x.0 x.1;
   asked_since = λ kind first moment message o x. (kept.replies on n a name p).since kind first moment message o (inl x.0) x.1;
@@ -64,7 +64,7 @@ open_fresh law w kept on n a name p = record {
       absurd (omega arith);
 }
 
-pub requests_ended : RestLaw → (w : WorldValue) → IsKept w → IsTrue w.kept → (n : ℕ) (a : Addr) (name : NameValue) → addr_of w.ends n ≡ Some a → RequestsHaveEnded w n a name
+pub requests_ended : RestLaw → (w : WorldValue) → Invariant w → IsTrue w.kept → (n : ℕ) (a : Addr) (name : NameValue) → addr_of w.ends n ≡ Some a → RequestsHaveEnded w n a name
 requests_ended law w kept on n a name p = record {
   by_last = λ moment message x. (kept.requests on n a name p).ended moment message x.0 x.1;
   no_request = λ moment message rested x.

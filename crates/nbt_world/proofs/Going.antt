@@ -19,8 +19,8 @@ use Rattle.nbt_world.specs.declared.event.Event.{Event}
 use Rattle.nbt_world.specs.declared.event.Outcome.{Outcome}
 use Rattle.nbt_world.specs.Drift.{reading, later, ahead, behind, least_of, numbers_of, lesser, IsAllowed}
 use Rattle.nbt_world.specs.World.{WorldValue, IsEnd, addr_of, with_node, datagram, IsFresh}
-use Rattle.nbt_world.specs.Step.{Advances, Step, ticks, advances, starts, starts_nothing, crashes, crashes_nothing, node_does, node_is_down, no_datagram, no_end, too_late, delivered, from_an_end, to_no_end, from_a_stranger, GivenValue, nothing, refusal, octets_to, after, TakenValue, is_down, is_lost, takes, Takes, finds_down, by_server, by_node, after_taking, Starts, server_starts, node_starts, Crashes, server_crashes, node_crashes}
-use Rattle.nbt_world.specs.Kept.{IsSeen, AreRead}
+use Rattle.nbt_world.specs.Step.{Advances, Step, ticks, advances, starts, starts_nothing, crashes, crashes_nothing, node_does, node_is_down, no_datagram, no_end, too_late, delivered, from_an_end, to_no_end, from_a_stranger, CallOutcomeValue, nothing, refusal, octets_to, after, TakenValue, is_down, is_lost, takes, EndTakes, finds_down, by_server, by_node, after_taking, Starts, server_starts, node_starts, Crashes, server_crashes, node_crashes}
+use Rattle.nbt_world.specs.Inner.Kept.{IsSeen, AreRead}
 use Rattle.nbt_world.specs.Safety.{IsSafe, AreSafe, AreSafeWhileKept, IsInStep, LetsClocksDrift, MoveClocksAlike, NoClockStopped, AreKeptUntilClocksStop, RunsSafely}
 use Rattle.nbt_world.proofs.Keeping.{addr_with, server_addr_with, read_with}
 use Rattle.nbt_world.proofs.Clock.{sees, sees_now, read_on, goes_up}
@@ -72,12 +72,12 @@ crashes_same : (old : Ends) (number : ℕ) (new : Ends) → Crashes old number n
 crashes_same old number new (server_crashes server up) n = server_addr_with old None n
 crashes_same old number new (node_crashes index node up) n = addr_with old index None n
 
-takes_same : (now : ℕ) (old : Ends) (from : Addr) (octets : List ℕ) (number : ℕ) (taken : TakenValue) (new : Ends) → Takes now old from octets number taken new → (n : ℕ) → addr_of new n ≡ addr_of old n
+takes_same : (now : ℕ) (old : Ends) (from : Addr) (octets : List ℕ) (number : ℕ) (taken : TakenValue) (new : Ends) → EndTakes now old from octets number taken new → (n : ℕ) → addr_of new n ≡ addr_of old n
 takes_same now old from octets number taken new (finds_down k down) n = refl
 takes_same now old from octets number taken new (by_server server s t up does) n = server_addr_with old (Some s) n
 takes_same now old from octets number taken new (by_node index node s reply up hears) n = addr_with old index (Some s) n
 
-goes_after : (w : WorldValue) (number : ℕ) (new : NodeValue) (given : GivenValue) → AreRead w → Goes w (after w number new given)
+goes_after : (w : WorldValue) (number : ℕ) (new : NodeValue) (given : CallOutcomeValue) → AreRead w → Goes w (after w number new given)
 goes_after w number new nothing read = goes_with w (with_node w.ends number (Some new)) w.sent (with_same w.ends number (Some new)) read
 goes_after w number new (refusal fault) read = goes_with w (with_node w.ends number (Some new)) w.sent (with_same w.ends number (Some new)) read
 goes_after w number new (octets_to to octets) read = goes_with w (with_node w.ends number (Some new)) (w.sent ++ datagram new.addr to w.now octets ∷ []) (with_same w.ends number (Some new)) read
@@ -112,7 +112,7 @@ record StaysAlike (P : WorldValue → Type 0) : Type 0 where
   ticks : (w v : WorldValue) (ms : ℕ) → Advances w ms (λ n. ms) v → AreRead w → P w → P v
   others : (w : WorldValue) (ends : Ends) (sent : List Datagram) → ((n : ℕ) → addr_of ends n ≡ addr_of w.ends n) → P w → P (record w { ends = ends; sent = sent })
 
-after_alike : (P : WorldValue → Type 0) → StaysAlike P → (w : WorldValue) (number : ℕ) (new : NodeValue) (given : GivenValue) → P w → P (after w number new given)
+after_alike : (P : WorldValue → Type 0) → StaysAlike P → (w : WorldValue) (number : ℕ) (new : NodeValue) (given : CallOutcomeValue) → P w → P (after w number new given)
 after_alike P stays w number new nothing is = stays.others w (with_node w.ends number (Some new)) w.sent (with_same w.ends number (Some new)) is
 after_alike P stays w number new (refusal fault) is = stays.others w (with_node w.ends number (Some new)) w.sent (with_same w.ends number (Some new)) is
 after_alike P stays w number new (octets_to to octets) is = stays.others w (with_node w.ends number (Some new)) (w.sent ++ datagram new.addr to w.now octets ∷ []) (with_same w.ends number (Some new)) is

@@ -19,7 +19,7 @@ use Rattle.nbt_lease.specs.Lease.{Leases, TableValue, leases_at, at_name, IsSoun
 use Rattle.nbt_lease.specs.Rules.{Asked as Asking, Grants, GrantCase, active, renews, group_full, table_full, begins, IsGranted, Releases}
 use Rattle.nbt_server.specs.Serving.{ServerValue, asked_in, AsksFor, by_registration, by_refresh, speaks_from, Serves, ServesOctets}
 use Rattle.nbt_server.specs.Serving as serving
-use Rattle.nbt_world.specs.Kept.{IsRequest, AsksAs, IsLeased}
+use Rattle.nbt_world.specs.Inner.Kept.{IsRequest, AsksAs, IsLeased}
 use Rattle.nbt_world.proofs.Drifting.{HoldLaw}
 use Rattle.nbt_name.proofs.Same.{names_apart}
 

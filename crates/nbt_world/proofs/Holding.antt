@@ -7,24 +7,24 @@ use Rattle.std.proofs.lemmas.Option.{slice_get_read, slice_get_past, none-some, 
 use Rattle.std.proofs.lemmas.Bool.{cases_lt, cases_eq}
 use Rattle.nbt_name.specs.declared.addr.Kind.{Kind}
 use Rattle.nbt_name.specs.Wire.{NameValue}
-use Rattle.nbt_world.specs.declared.ends.End.{End}
+use Rattle.nbt_world.specs.declared.ends.NodeEnd.{NodeEnd}
 use Rattle.nbt_world.specs.declared.ends.Holder.{Holder}
 use Rattle.nbt_world.specs.declared.clocks.Clocks.{Clocks}
 use Rattle.nbt_world.specs.Drift.{reading}
 use Rattle.nbt_world.specs.World.{WorldValue, node_in}
 use Rattle.nbt_world.specs.Safety.{held_by, holding}
 
-abbrev pub held_at_place : List End → (index : ℕ) → NameValue → (now : Clocks) → Option Kind
+abbrev pub held_at_place : List NodeEnd → (index : ℕ) → NameValue → (now : Clocks) → Option Kind
 held_at_place nodes index name now = held_by (node_in (slice_get nodes index)) name (reading now (suc index))
 
 -- these are the holders among the first nodes
-pub record AreHolders (nodes : List End) (name : NameValue) (now : Clocks) (count : ℕ) (holders : List Holder) : Type 0 where
+pub record AreHolders (nodes : List NodeEnd) (name : NameValue) (now : Clocks) (count : ℕ) (holders : List Holder) : Type 0 where
   pub few : length holders ≤ count
   pub only : (h : Holder) → Contains holders h → (index : ℕ) × (index < count) × (h.node ≡ suc index) × (held_at_place nodes index name now ≡ Some h.kind)
   pub all : (index : ℕ) (kind : Kind) → index < count → held_at_place nodes index name now ≡ Some kind → Contains holders (record { node = suc index; kind = kind })
   pub in_order : (i j : ℕ) (d : Holder) → i < j → j < length holders → (get_or holders i d).node < (get_or holders j d).node
 
-pub no_holders : (nodes : List End) (name : NameValue) (now : Clocks) → AreHolders nodes name now 0 []
+pub no_holders : (nodes : List NodeEnd) (name : NameValue) (now : Clocks) → AreHolders nodes name now 0 []
 no_holders nodes name now = record {
   few = omega arith;
   only = λ h c. let lt = c.1 in absurd (omega arith);
@@ -33,7 +33,7 @@ no_holders nodes name now = record {
 }
 
 -- one place more, which holds nothing
-pub passes_over : (nodes : List End) (name : NameValue) (now : Clocks) (count : ℕ) (holders : List Holder) → held_at_place nodes count name now ≡ None → AreHolders nodes name now count holders → AreHolders nodes name now (count + 1) holders
+pub passes_over : (nodes : List NodeEnd) (name : NameValue) (now : Clocks) (count : ℕ) (holders : List Holder) → held_at_place nodes count name now ≡ None → AreHolders nodes name now count holders → AreHolders nodes name now (count + 1) holders
 passes_over nodes name now count holders none are = record {
   few = let few = are.few in omega arith;
   only = λ h c. let o = are.only h c in (o.0, (let lt = o.1 in omega arith), o.2, o.3);
@@ -46,7 +46,7 @@ passes_over nodes name now count holders none are = record {
     at index kind lt is (inr ne) = are.all index kind (omega arith) is
 
 -- one place more, which holds the name
-pub takes_in : (nodes : List End) (name : NameValue) (now : Clocks) (count : ℕ) (holders : List Holder) (kind : Kind) → held_at_place nodes count name now ≡ Some kind → AreHolders nodes name now count holders
+pub takes_in : (nodes : List NodeEnd) (name : NameValue) (now : Clocks) (count : ℕ) (holders : List Holder) (kind : Kind) → held_at_place nodes count name now ≡ Some kind → AreHolders nodes name now count holders
     → AreHolders nodes name now (count + 1) (holders ++ record { node = count + 1; kind = kind } ∷ [])
 takes_in nodes name now count holders kind held are = record {
   few = let few = are.few in omega (arith, length_push holders (record { node = count + 1; kind = kind }));
@@ -96,18 +96,18 @@ are_all w name count holders le are number kind = (λ c. found (are.only _ c), �
       where
         at : (i < length w.ends.nodes.items) ⊎ (length w.ends.nodes.items ≤ i) → Contains holders (record { node = suc i; kind = kind })
         at (inl inside) = are.all i kind (omega arith) is
-        at (inr past) = absurd (none-some kind (sym (ap (λ (o : Option End). held_by (node_in o) name (reading w.now (suc i))) (slice_get_past w.ends.nodes.items i past)) ∙ is))
+        at (inr past) = absurd (none-some kind (sym (ap (λ (o : Option NodeEnd). held_by (node_in o) name (reading w.now (suc i))) (slice_get_past w.ends.nodes.items i past)) ∙ is))
 
 -- ---- as the code reads it
 
-pub reads_held : (nodes : List End) (index : ℕ) (end : End) (name : NameValue) (now clocks : Clocks) (clock : ℕ) (o : Option Kind) → index < length nodes → end ≡ get_or nodes index end → clocks ≡ now → clock ≡ reading clocks (index + 1)
+pub reads_held : (nodes : List NodeEnd) (index : ℕ) (end : NodeEnd) (name : NameValue) (now clocks : Clocks) (clock : ℕ) (o : Option Kind) → index < length nodes → end ≡ get_or nodes index end → clocks ≡ now → clock ≡ reading clocks (index + 1)
     → o ≡ held_by end.node name clock → held_at_place nodes index name now ≡ o
 reads_held nodes index end name now clocks clock o lt is same read held =
     let next : index + 1 ≡ suc index = omega arith in
     let at : clock ≡ reading now (suc index) = read ∙ ap (λ (c : Clocks). reading c (index + 1)) same ∙ ap (reading now) next in
-    ap (λ (x : Option End). held_by (node_in x) name (reading now (suc index))) (slice_get_read nodes (length nodes) index end refl lt is) ∙ sym (held ∙ ap (λ (t : ℕ). held_by end.node name t) at)
+    ap (λ (x : Option NodeEnd). held_by (node_in x) name (reading now (suc index))) (slice_get_read nodes (length nodes) index end refl lt is) ∙ sym (held ∙ ap (λ (t : ℕ). held_by end.node name t) at)
 
-pub are_all_in : (w : WorldValue) (nodes : List End) (name : NameValue) (count : ℕ) (holders : List Holder) → nodes ≡ w.ends.nodes.items → length nodes ≤ count → AreHolders nodes name w.now count holders
+pub are_all_in : (w : WorldValue) (nodes : List NodeEnd) (name : NameValue) (count : ℕ) (holders : List Holder) → nodes ≡ w.ends.nodes.items → length nodes ≤ count → AreHolders nodes name w.now count holders
     → (number : ℕ) (kind : Kind) → Contains holders (record { node = number; kind = kind }) ↔ (holding w number name ≡ Some kind)
 are_all_in w nodes name count holders same le are number kind =
-    are_all w name count holders (subst (λ (xs : List End). length xs ≤ count) same le) (subst (λ (xs : List End). AreHolders xs name w.now count holders) same are) number kind
+    are_all w name count holders (subst (λ (xs : List NodeEnd). length xs ≤ count) same le) (subst (λ (xs : List NodeEnd). AreHolders xs name w.now count holders) same are) number kind

@@ -11,36 +11,36 @@ use Rattle.nbt_server.specs.Serving.{ServerValue}
 use Rattle.nbt_node.specs.Node.{NodeValue}
 use Rattle.nbt_world.specs.declared.clocks.Clocks.{Clocks}
 use Rattle.nbt_world.specs.declared.clocks.Least.{Least}
-use Rattle.nbt_world.specs.declared.ends.End.{End}
+use Rattle.nbt_world.specs.declared.ends.NodeEnd.{NodeEnd}
 use Rattle.nbt_world.specs.declared.ends.Ends.{Ends}
 use Rattle.nbt_world.specs.declared.network.Datagram.{Datagram}
 use Rattle.nbt_world.specs.Drift.{reading}
 use Rattle.nbt_world.specs.World.{WorldValue, addr_at, addr_of, IsEnd, node_in, node_of, put_node, with_server, with_node}
-use Rattle.nbt_world.specs.Kept.{Asked, Replied, known, RequestsEnded, RepliesFresh, IsNodeOf, IsServerOf, IsSeen, AreRead, IsSent, ClaimsKept, IsKept}
+use Rattle.nbt_world.specs.Inner.Kept.{Asked, Replied, known, RequestsEnded, RepliesFresh, IsNodeOf, IsServerOf, IsSeen, AreRead, IsSent, ClaimsKept, Invariant}
 use Rattle.nbt_world.proofs.Knowing.{ended-frame, ended-down, fresh-frame}
 
 -- ---- one node is another
 
-put_addr : (nodes : List End) (i : ℕ) (x : Option NodeValue) (j : ℕ) → addr_at (put_node nodes i x) j ≡ addr_at nodes j
+put_addr : (nodes : List NodeEnd) (i : ℕ) (x : Option NodeValue) (j : ℕ) → addr_at (put_node nodes i x) j ≡ addr_at nodes j
 put_addr [] i x j = refl
 put_addr (end ∷ nodes) zero x zero = refl
 put_addr (end ∷ nodes) zero x (suc j) = refl
 put_addr (end ∷ nodes) (suc i) x zero = refl
 put_addr (end ∷ nodes) (suc i) x (suc j) = put_addr nodes i x j
 
-put_other : (nodes : List End) (i : ℕ) (x : Option NodeValue) (j : ℕ) → j ≢ i → node_in (slice_get (put_node nodes i x) j) ≡ node_in (slice_get nodes j)
+put_other : (nodes : List NodeEnd) (i : ℕ) (x : Option NodeValue) (j : ℕ) → j ≢ i → node_in (slice_get (put_node nodes i x) j) ≡ node_in (slice_get nodes j)
 put_other [] i x j ne = refl
 put_other (end ∷ nodes) zero x zero ne = absurd (ne refl)
 put_other (end ∷ nodes) zero x (suc j) ne = refl
 put_other (end ∷ nodes) (suc i) x zero ne = refl
 put_other (end ∷ nodes) (suc i) x (suc j) ne = put_other nodes i x j (λ e. ne (ap suc e))
 
-put_here : (nodes : List End) (i : ℕ) (x : Option NodeValue) (addr : Addr) → addr_at nodes i ≡ Some addr → node_in (slice_get (put_node nodes i x) i) ≡ x
+put_here : (nodes : List NodeEnd) (i : ℕ) (x : Option NodeValue) (addr : Addr) → addr_at nodes i ≡ Some addr → node_in (slice_get (put_node nodes i x) i) ≡ x
 put_here [] i x addr at = absurd (none-some addr at)
 put_here (end ∷ nodes) zero x addr at = refl
 put_here (end ∷ nodes) (suc i) x addr at = put_here nodes i x addr at
 
-put_length : (nodes : List End) (i : ℕ) (x : Option NodeValue) → length (put_node nodes i x) ≡ length nodes
+put_length : (nodes : List NodeEnd) (i : ℕ) (x : Option NodeValue) → length (put_node nodes i x) ≡ length nodes
 put_length [] i x = refl
 put_length (end ∷ nodes) zero x = refl
 put_length (end ∷ nodes) (suc i) x = ap suc (put_length nodes i x)
@@ -60,7 +60,7 @@ pub addr_there : (ends : Ends) (n : ℕ) (node : NodeValue) → node_of ends n �
 addr_there ends zero node is = absurd (none-some node is)
 addr_there ends (suc i) node is = go (slice_get ends.nodes.items i) refl is
   where
-    go : (o : Option End) → slice_get ends.nodes.items i ≡ o → node_in o ≡ Some node → (addr : Addr) × (addr_of ends (suc i) ≡ Some addr)
+    go : (o : Option NodeEnd) → slice_get ends.nodes.items i ≡ o → node_in o ≡ Some node → (addr : Addr) × (addr_of ends (suc i) ≡ Some addr)
     go None e up = absurd (none-some node up)
     go (Some end) e up = (end.addr, rw e refl)
 
@@ -125,7 +125,7 @@ replied_before old new from server to name ne from_new moment message a = go (fr
     go (inr e) = absurd (ne (sym e ∙ a.sender))
 
 -- a node isn't where the server is
-pub node_not_server : (w : WorldValue) (i : ℕ) (addr : Addr) → IsKept w → addr_of w.ends (suc i) ≡ Some addr → addr ≢ w.ends.server_addr
+pub node_not_server : (w : WorldValue) (i : ℕ) (addr : Addr) → Invariant w → addr_of w.ends (suc i) ≡ Some addr → addr ≢ w.ends.server_addr
 node_not_server w i addr kept at e = suc_zero i (kept.ends.apart (suc i) zero addr w.ends.server_addr at refl (ap (λ (a : Addr). a.ip) e))
   where
     suc_zero : (k : ℕ) → suc k ≡ zero → ⊥
@@ -137,7 +137,7 @@ node_not_server w i addr kept at e = suc_zero i (kept.ends.apart (suc i) zero ad
 abbrev pub IsNew : WorldValue → Addr → List Datagram → Type 0
 IsNew w addr sent = (d : Datagram) → Contains sent d → Contains w.sent d ⊎ ((d.from ≡ addr) × IsSent w.ends w.now w.least d)
 
-all_sent : (w : WorldValue) (addr : Addr) (sent : List Datagram) → IsKept w → IsNew w addr sent → (d : Datagram) → Contains sent d → IsSent w.ends w.now w.least d
+all_sent : (w : WorldValue) (addr : Addr) (sent : List Datagram) → Invariant w → IsNew w addr sent → (d : Datagram) → Contains sent d → IsSent w.ends w.now w.least d
 all_sent w addr sent kept new d c = go (new d c)
   where
     go : Contains w.sent d ⊎ ((d.from ≡ addr) × IsSent w.ends w.now w.least d) → IsSent w.ends w.now w.least d
@@ -151,13 +151,13 @@ from_new w addr sent new d c = go (new d c)
     go (inl old) = inl old
     go (inr is) = inr is.0
 
-pub node_changes : (w : WorldValue) (i : ℕ) (addr : Addr) (x : Option NodeValue) (sent : List Datagram) → IsKept w → addr_of w.ends (suc i) ≡ Some addr
+pub node_changes : (w : WorldValue) (i : ℕ) (addr : Addr) (x : Option NodeValue) (sent : List Datagram) → Invariant w → addr_of w.ends (suc i) ≡ Some addr
     → ((node : NodeValue) → x ≡ Some node → IsNodeOf w (suc i) addr node) → IsNew w addr sent
     → Grows w.sent sent
     → (IsTrue w.kept → (name : NameValue) → RequestsEnded w.config.life (suc i) w.now.clock (reading w.now (suc i)) (Asked sent addr.ip name) (known x name))
     → (IsTrue w.kept → (name : NameValue) → RepliesFresh w.config.life (suc i) w.now.clock (reading w.now (suc i)) (Asked sent addr.ip name) (Replied sent w.ends.server_addr addr name) (known x name))
     → (IsTrue w.kept → ClaimsKept (record w { ends = with_node w.ends (suc i) x; sent = sent }))
-    → IsKept (record w { ends = with_node w.ends (suc i) x; sent = sent })
+    → Invariant (record w { ends = with_node w.ends (suc i) x; sent = sent })
 node_changes w i addr x sent kept at is new grows names replies claims = record {
   ends = record {
     some = let e = put_length w.ends.nodes.items i x in let some = kept.ends.some in omega arith;
@@ -218,12 +218,12 @@ pub server_node_with : (ends : Ends) (x : Option ServerValue) (n : ℕ) → node
 server_node_with ends x zero = refl
 server_node_with ends x (suc j) = refl
 
-pub server_changes : (w : WorldValue) (x : Option ServerValue) (sent : List Datagram) → IsKept w
+pub server_changes : (w : WorldValue) (x : Option ServerValue) (sent : List Datagram) → Invariant w
     → ((server : ServerValue) → x ≡ Some server → IsServerOf w server) → IsNew w w.ends.server_addr sent
     → (IsTrue w.kept → (n : ℕ) (a : Addr) (name : NameValue) → addr_of w.ends n ≡ Some a
     → RepliesFresh w.config.life n w.now.clock (reading w.now n) (Asked sent a.ip name) (Replied sent w.ends.server_addr a name) (known (node_of w.ends n) name))
     → (IsTrue w.kept → ClaimsKept (record w { ends = with_server w.ends x; sent = sent }))
-    → IsKept (record w { ends = with_server w.ends x; sent = sent })
+    → Invariant (record w { ends = with_server w.ends x; sent = sent })
 server_changes w x sent kept is new replies claims = record {
   ends = record {
     some = kept.ends.some;

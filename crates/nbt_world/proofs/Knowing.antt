@@ -16,7 +16,7 @@ use Rattle.nbt_node.specs.Moves.{NameEvent, hear, Told, Move, asks, gives_back, 
 use Rattle.nbt_world.specs.declared.clocks.Clocks.{Clocks}
 use Rattle.nbt_world.specs.Drift.{reading}
 use Rattle.nbt_world.specs.World.{IsDeliverable}
-use Rattle.nbt_world.specs.Kept.{IsRequest, AsksAs, Known, last_of, WantsIn, IsOpen, IsOpenIn, DrawnBy, RequestsEnded, RepliesFresh}
+use Rattle.nbt_world.specs.Inner.Kept.{IsRequest, AsksAs, Known, last_of, WantsIn, IsOpen, IsOpenIn, DrawnBy, RequestsEnded, RepliesFresh}
 
 -- ---- what was sent about the name, as the node reads it
 

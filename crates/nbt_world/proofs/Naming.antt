@@ -18,7 +18,7 @@ use Rattle.nbt_world.specs.declared.clocks.Clocks.{Clocks}
 use Rattle.nbt_world.specs.declared.network.Datagram.{Datagram}
 use Rattle.nbt_world.specs.Drift.{reading}
 use Rattle.nbt_world.specs.World.{WorldValue, IsDeliverable, IsOfEnd, addr_of, node_of, with_node}
-use Rattle.nbt_world.specs.Kept.{IsRequest, Asked, Replied, known, RequestsEnded, RepliesFresh, IsNodeOf, IsSeen, IsSent, IsKept}
+use Rattle.nbt_world.specs.Inner.Kept.{IsRequest, Asked, Replied, known, RequestsEnded, RepliesFresh, IsNodeOf, IsSeen, IsSent, Invariant}
 use Rattle.nbt_world.proofs.Knowing.{ArePast, past-more, fades, fades-heard, knows, ended-fades, ended-frame, ended-sent, is_sent, fresh-fades, fresh-frame, fresh-sent}
 use Rattle.nbt_world.proofs.Claiming.{NoNewClaim}
 use Rattle.nbt_world.proofs.Drifting.{RestLaw, asked_are_past}
@@ -70,7 +70,7 @@ pub record Sending (w : WorldValue) (addr : Addr) (d : Datagram) (m : MessageVal
   pub spelled : Spells d.octets.items m
   pub no_overwrite : (r : Registration) → m ≡ overwrite r → ⊥
 
-pub is_new : OneMessage → (w : WorldValue) → IsKept w → (n : ℕ) (addr : Addr) (d : Datagram) (m : MessageValue) → addr_of w.ends n ≡ Some addr → Sending w addr d m → IsNew w addr (w.sent ++ d ∷ [])
+pub is_new : OneMessage → (w : WorldValue) → Invariant w → (n : ℕ) (addr : Addr) (d : Datagram) (m : MessageValue) → addr_of w.ends n ≡ Some addr → Sending w addr d m → IsNew w addr (w.sent ++ d ∷ [])
 is_new law w kept n addr d m at s x c = go (Contains-push_cases w.sent d x c)
   where
     is : IsSent w.ends w.now w.least d
@@ -214,7 +214,7 @@ pub record UpAt (w : WorldValue) (i : ℕ) (node : NodeValue) : Type 0 where
   pub replies : IsTrue w.kept → (q : NameValue) → RepliesFresh node.config.life (suc i) w.now.clock (reading w.now (suc i)) (Asked w.sent addr.ip q) (Replied w.sent w.ends.server_addr addr q) (known (Some node) q)
   pub no_server : addr ≢ w.ends.server_addr
 
-pub up_at : RestLaw → (w : WorldValue) (i : ℕ) (node : NodeValue) → IsKept w → node_of w.ends (suc i) ≡ Some node → UpAt w i node
+pub up_at : RestLaw → (w : WorldValue) (i : ℕ) (node : NodeValue) → Invariant w → node_of w.ends (suc i) ≡ Some node → UpAt w i node
 up_at law w i node kept up =
     let there = addr_there w.ends (suc i) node up in
     let is = kept.nodes (suc i) there.0 node there.1 up in
@@ -237,11 +237,11 @@ up_at law w i node kept up =
     }
 
 -- The world after the node is another, with what is new in the list.
-pub node_moves : (w : WorldValue) (i : ℕ) (node new : NodeValue) (sent : List Datagram) → IsKept w → (at : UpAt w i node) → Stays node (reading w.now (suc i)) new → IsNew w at.addr sent → Grows w.sent sent
+pub node_moves : (w : WorldValue) (i : ℕ) (node new : NodeValue) (sent : List Datagram) → Invariant w → (at : UpAt w i node) → Stays node (reading w.now (suc i)) new → IsNew w at.addr sent → Grows w.sent sent
     → (IsTrue w.kept → (q : NameValue) → RequestsEnded node.config.life (suc i) w.now.clock (reading w.now (suc i)) (Asked sent (at.addr).ip q) (known (Some new) q))
     → (IsTrue w.kept → (q : NameValue) → RepliesFresh node.config.life (suc i) w.now.clock (reading w.now (suc i)) (Asked sent (at.addr).ip q) (Replied sent w.ends.server_addr at.addr q) (known (Some new) q))
     → (IsTrue w.kept → (q : NameValue) → NoNewClaim node.config.longest node.config.life w.now.clock (Replied w.sent w.ends.server_addr at.addr q) (known (Some node) q) (known (Some new) q))
-    → IsKept (record w { ends = with_node w.ends (suc i) (Some new); sent = sent })
+    → Invariant (record w { ends = with_node w.ends (suc i) (Some new); sent = sent })
 node_moves w i node new sent kept at stays fresh grows names replies claims =
     node_changes w i at.addr (Some new) sent kept at.at
     (λ x e. subst (λ (y : NodeValue). IsNodeOf w (suc i) at.addr y) (same_Some new x e) (node_stays w (suc i) at.addr node new stays at.is)) fresh grows

@@ -12,10 +12,10 @@ use Rattle.nbt_server.specs.Serving.{ServerValue}
 use Rattle.nbt_server.specs.Calls.{ServerStarts}
 use Rattle.nbt_node.specs.Node.{NodeValue}
 use Rattle.nbt_node.specs.Calls.{started}
-use Rattle.nbt_world.specs.declared.ends.End.{End}
+use Rattle.nbt_world.specs.declared.ends.NodeEnd.{NodeEnd}
 use Rattle.nbt_world.specs.declared.ends.Ends.{Ends}
 use Rattle.nbt_world.specs.World.{IsOfEnd, addr_at, addr_of, node_in, node_of, put_node, with_server, with_node}
-use Rattle.nbt_world.specs.Step.{IsDown, IsUp, Starts, server_starts, node_starts, Crashes, server_crashes, node_crashes, TakenValue, is_down, takes, ServerDoes, NodeHears, Takes, finds_down, by_server, by_node}
+use Rattle.nbt_world.specs.Step.{IsDown, IsUp, Starts, server_starts, node_starts, Crashes, server_crashes, node_crashes, TakenValue, is_down, takes, ServerDoes, NodeHandles, EndTakes, finds_down, by_server, by_node}
 
 -- ---- numbers
 
@@ -26,61 +26,61 @@ place_from P n ne p = let e : suc (n - 1) ≡ n = omega arith in subst P e p
 -- ---- the end at a place, as the code reads it and writes it back
 
 -- The code has lent the nodes, as a list ys, and reads one of them, r.
-pub record Reads (ends : Ends) (n : ℕ) (ys : List End) (r : End) : Type 0 where
+pub record Reads (ends : Ends) (n : ℕ) (ys : List NodeEnd) (r : NodeEnd) : Type 0 where
   pub lent : ys ≡ ends.nodes.items
   pub some : n ≢ 0
   pub within : n ≤ length ends.nodes.items
   pub read : r ≡ get_or ys (n - 1) r
 
 -- what the code leaves, with another end at that place
-abbrev pub written_back : (ends : Ends) (n : ℕ) (ys : List End) → End → Ends
+abbrev pub written_back : (ends : Ends) (n : ℕ) (ys : List NodeEnd) → NodeEnd → Ends
 written_back ends n ys e = record ends { nodes = record { items = refill (length ends.nodes.items) ends.nodes.items (set ys (n - 1) e) } }
 
-pub there : (ends : Ends) (n : ℕ) (ys : List End) (r : End) → Reads ends n ys r → slice_get ends.nodes.items (n - 1) ≡ Some (get_or ys (n - 1) r)
+pub there : (ends : Ends) (n : ℕ) (ys : List NodeEnd) (r : NodeEnd) → Reads ends n ys r → slice_get ends.nodes.items (n - 1) ≡ Some (get_or ys (n - 1) r)
 there ends n ys r reads =
     let some = reads.some in
     let within = reads.within in
     let same : r ≡ get_or ends.nodes.items (n - 1) r = rw reads.lent at reads.read in
     let lt : n - 1 < length ends.nodes.items = omega arith in
-    subst (λ (x : End). slice_get ends.nodes.items (n - 1) ≡ Some x) reads.read (slice_get_read ends.nodes.items (length ends.nodes.items) (n - 1) r refl lt same)
+    subst (λ (x : NodeEnd). slice_get ends.nodes.items (n - 1) ≡ Some x) reads.read (slice_get_read ends.nodes.items (length ends.nodes.items) (n - 1) r refl lt same)
 
-put_is_set : (nodes : List End) (i : ℕ) (e : End) (x : Option NodeValue) → slice_get nodes i ≡ Some e → set nodes i (record e { node = x }) ≡ put_node nodes i x
+put_is_set : (nodes : List NodeEnd) (i : ℕ) (e : NodeEnd) (x : Option NodeValue) → slice_get nodes i ≡ Some e → set nodes i (record e { node = x }) ≡ put_node nodes i x
 put_is_set [] i e x is = absurd (none-some e is)
-put_is_set (end ∷ nodes) zero e x is = ap (λ (f : End). record f { node = x } ∷ nodes) (sym (same_Some end e is))
-put_is_set (end ∷ nodes) (suc i) e x is = ap (λ (rest : List End). end ∷ rest) (put_is_set nodes i e x is)
+put_is_set (end ∷ nodes) zero e x is = ap (λ (f : NodeEnd). record f { node = x } ∷ nodes) (sym (same_Some end e is))
+put_is_set (end ∷ nodes) (suc i) e x is = ap (λ (rest : List NodeEnd). end ∷ rest) (put_is_set nodes i e x is)
 
-refilled : (nodes ys : List End) (i : ℕ) (e : End) → ys ≡ nodes → refill (length nodes) nodes (set ys i e) ≡ set nodes i e
+refilled : (nodes ys : List NodeEnd) (i : ℕ) (e : NodeEnd) → ys ≡ nodes → refill (length nodes) nodes (set ys i e) ≡ set nodes i e
 refilled nodes ys i e same =
-    subst (λ (zs : List End). refill (length nodes) nodes (set zs i e) ≡ set nodes i e) (sym same)
+    subst (λ (zs : List NodeEnd). refill (length nodes) nodes (set zs i e) ≡ set nodes i e) (sym same)
     (take_at (set nodes i e) (drop (length (set nodes i e)) nodes) (length nodes) (length-set nodes i e))
 
-pub written_node : (ends : Ends) (n : ℕ) (ys : List End) (r : End) (x : Option NodeValue) → Reads ends n ys r
+pub written_node : (ends : Ends) (n : ℕ) (ys : List NodeEnd) (r : NodeEnd) (x : Option NodeValue) → Reads ends n ys r
     → written_back ends n ys (record (get_or ys (n - 1) r) { node = x }) ≡ with_node ends n x
 written_node ends n ys r x reads =
     place_from (λ m. written_back ends n ys (record (get_or ys (n - 1) r) { node = x }) ≡ with_node ends m x) n reads.some
-    (ap (λ (items : List End). record ends { nodes = record { items = items } })
+    (ap (λ (items : List NodeEnd). record ends { nodes = record { items = items } })
     (refilled ends.nodes.items ys (n - 1) _ reads.lent ∙ put_is_set ends.nodes.items (n - 1) _ x (there ends n ys r reads)))
 
-pub written_same : (ends : Ends) (n : ℕ) (ys : List End) (r : End) → Reads ends n ys r → written_back ends n ys (get_or ys (n - 1) r) ≡ ends
+pub written_same : (ends : Ends) (n : ℕ) (ys : List NodeEnd) (r : NodeEnd) → Reads ends n ys r → written_back ends n ys (get_or ys (n - 1) r) ≡ ends
 written_same ends n ys r reads =
-    ap (λ (items : List End). record ends { nodes = record { items = items } })
+    ap (λ (items : List NodeEnd). record ends { nodes = record { items = items } })
     (refilled ends.nodes.items ys (n - 1) _ reads.lent ∙ set_same ends.nodes.items (n - 1) _ (there ends n ys r reads))
   where
-    set_same : (nodes : List End) (i : ℕ) (e : End) → slice_get nodes i ≡ Some e → set nodes i e ≡ nodes
+    set_same : (nodes : List NodeEnd) (i : ℕ) (e : NodeEnd) → slice_get nodes i ≡ Some e → set nodes i e ≡ nodes
     set_same [] i e is = refl
-    set_same (end ∷ nodes) zero e is = ap (λ (f : End). f ∷ nodes) (sym (same_Some end e is))
-    set_same (end ∷ nodes) (suc i) e is = ap (λ (rest : List End). end ∷ rest) (set_same nodes i e is)
+    set_same (end ∷ nodes) zero e is = ap (λ (f : NodeEnd). f ∷ nodes) (sym (same_Some end e is))
+    set_same (end ∷ nodes) (suc i) e is = ap (λ (rest : List NodeEnd). end ∷ rest) (set_same nodes i e is)
 
-pub node_read : (ends : Ends) (n : ℕ) (ys : List End) (r : End) → Reads ends n ys r → node_of ends n ≡ (get_or ys (n - 1) r).node
+pub node_read : (ends : Ends) (n : ℕ) (ys : List NodeEnd) (r : NodeEnd) → Reads ends n ys r → node_of ends n ≡ (get_or ys (n - 1) r).node
 node_read ends n ys r reads =
     place_from (λ m. node_of ends m ≡ (get_or ys (n - 1) r).node) n reads.some (ap node_in (there ends n ys r reads))
 
-pub addr_read : (ends : Ends) (n : ℕ) (ys : List End) (r : End) → Reads ends n ys r → addr_of ends n ≡ Some (get_or ys (n - 1) r).addr
+pub addr_read : (ends : Ends) (n : ℕ) (ys : List NodeEnd) (r : NodeEnd) → Reads ends n ys r → addr_of ends n ≡ Some (get_or ys (n - 1) r).addr
 addr_read ends n ys r reads =
     place_from (λ m. addr_of ends m ≡ Some (get_or ys (n - 1) r).addr) n reads.some
-    (ap (λ (o : Option End). addr_some o) (there ends n ys r reads))
+    (ap (λ (o : Option NodeEnd). addr_some o) (there ends n ys r reads))
   where
-    addr_some : Option End → Option Addr
+    addr_some : Option NodeEnd → Option Addr
     addr_some None = None
     addr_some (Some e) = Some e.addr
 
@@ -128,12 +128,12 @@ server_stays_down ends n e is = subst (λ (m : ℕ). ¬ IsUp ends m) (sym e) (λ
     none_is None s is e = cc
     none_is (Some t) s is e = absurd cc
 
-pub node_crashed : (ends : Ends) (n : ℕ) (ys : List End) (r : End) (b : Bool) (e : End) → Reads ends n ys r
+pub node_crashed : (ends : Ends) (n : ℕ) (ys : List NodeEnd) (r : NodeEnd) (b : Bool) (e : NodeEnd) → Reads ends n ys r
     → MatchBool b (IsSome (get_or ys (n - 1) r).node × (e ≡ record (get_or ys (n - 1) r) { node = None })) (((get_or ys (n - 1) r).node ≡ None) × (e ≡ get_or ys (n - 1) r))
     → MatchBool b (Crashes ends n (written_back ends n ys e)) ((¬ IsUp ends n) × (written_back ends n ys e ≡ ends))
 node_crashed ends n ys r true e reads is =
     let node = is_there (get_or ys (n - 1) r).node is.0 in
-    let left : written_back ends n ys e ≡ with_node ends n None = ap (λ (x : End). written_back ends n ys x) is.1 ∙ written_node ends n ys r None reads in
+    let left : written_back ends n ys e ≡ with_node ends n None = ap (λ (x : NodeEnd). written_back ends n ys x) is.1 ∙ written_node ends n ys r None reads in
     let up : node_of ends n ≡ Some node.0 = node_read ends n ys r reads ∙ node.1 in
     subst (λ (x : Ends). Crashes ends n x) (sym left) (crashed n reads.some up)
   where
@@ -141,33 +141,33 @@ node_crashed ends n ys r true e reads is =
     crashed zero ne up = absurd (ne refl)
     crashed (suc i) ne {node} up = node_crashes i node up
 node_crashed ends n ys r false e reads is =
-    (up n reads.some (node_read ends n ys r reads ∙ is.0), ap (λ (x : End). written_back ends n ys x) is.1 ∙ written_same ends n ys r reads)
+    (up n reads.some (node_read ends n ys r reads ∙ is.0), ap (λ (x : NodeEnd). written_back ends n ys x) is.1 ∙ written_same ends n ys r reads)
   where
     up : (m : ℕ) → m ≢ 0 → node_of ends m ≡ None → ¬ IsUp ends m
     up zero ne down = absurd (ne refl)
     up (suc i) ne down = λ u. none-some u.0 (sym down ∙ u.1)
 
 pub server_took : (now : ℕ) (ends : Ends) (from : Addr) (octets : List ℕ) (n : ℕ) (server new : ServerValue) (taken : TakenValue) → n ≡ 0 → ends.server ≡ Some server
-    → ServerDoes now server from.ip octets taken new → Takes now ends from octets n taken (with_server ends (Some new))
-server_took now ends from octets n server new taken e is does = subst (λ (m : ℕ). Takes now ends from octets m taken (with_server ends (Some new))) (sym e) (by_server server new taken is does)
+    → ServerDoes now server from.ip octets taken new → EndTakes now ends from octets n taken (with_server ends (Some new))
+server_took now ends from octets n server new taken e is does = subst (λ (m : ℕ). EndTakes now ends from octets m taken (with_server ends (Some new))) (sym e) (by_server server new taken is does)
 
-pub server_is_down : (now : ℕ) (ends : Ends) (from : Addr) (octets : List ℕ) (n : ℕ) → n ≡ 0 → ends.server ≡ None → Takes now ends from octets n is_down ends
+pub server_is_down : (now : ℕ) (ends : Ends) (from : Addr) (octets : List ℕ) (n : ℕ) → n ≡ 0 → ends.server ≡ None → EndTakes now ends from octets n is_down ends
 server_is_down now ends from octets n e is = finds_down n (subst (λ (m : ℕ). IsDown ends m) (sym e) is)
 
-pub node_took : (now : ℕ) (ends : Ends) (from : Addr) (octets : List ℕ) (n : ℕ) (ys : List End) (r : End) (node new : NodeValue) (reply : Option MessageValue) → Reads ends n ys r
-    → (get_or ys (n - 1) r).node ≡ Some node → NodeHears now node from octets reply new
-    → Takes now ends from octets n (takes reply) (written_back ends n ys (record (get_or ys (n - 1) r) { node = Some new }))
+pub node_took : (now : ℕ) (ends : Ends) (from : Addr) (octets : List ℕ) (n : ℕ) (ys : List NodeEnd) (r : NodeEnd) (node new : NodeValue) (reply : Option MessageValue) → Reads ends n ys r
+    → (get_or ys (n - 1) r).node ≡ Some node → NodeHandles now node from octets reply new
+    → EndTakes now ends from octets n (takes reply) (written_back ends n ys (record (get_or ys (n - 1) r) { node = Some new }))
 node_took now ends from octets n ys r node new reply reads is hears =
-    subst (λ (x : Ends). Takes now ends from octets n (takes reply) x) (sym (written_node ends n ys r (Some new) reads)) (took n reads.some (node_read ends n ys r reads ∙ is))
+    subst (λ (x : Ends). EndTakes now ends from octets n (takes reply) x) (sym (written_node ends n ys r (Some new) reads)) (took n reads.some (node_read ends n ys r reads ∙ is))
   where
-    took : (m : ℕ) → m ≢ 0 → node_of ends m ≡ Some node → Takes now ends from octets m (takes reply) (with_node ends m (Some new))
+    took : (m : ℕ) → m ≢ 0 → node_of ends m ≡ Some node → EndTakes now ends from octets m (takes reply) (with_node ends m (Some new))
     took zero ne up = absurd (ne refl)
     took (suc i) ne up = by_node i node new reply up hears
 
-pub node_is_down : (now : ℕ) (ends : Ends) (from : Addr) (octets : List ℕ) (n : ℕ) (ys : List End) (r : End) → Reads ends n ys r → (get_or ys (n - 1) r).node ≡ None
-    → Takes now ends from octets n is_down (written_back ends n ys (get_or ys (n - 1) r))
+pub node_is_down : (now : ℕ) (ends : Ends) (from : Addr) (octets : List ℕ) (n : ℕ) (ys : List NodeEnd) (r : NodeEnd) → Reads ends n ys r → (get_or ys (n - 1) r).node ≡ None
+    → EndTakes now ends from octets n is_down (written_back ends n ys (get_or ys (n - 1) r))
 node_is_down now ends from octets n ys r reads is =
-    subst (λ (x : Ends). Takes now ends from octets n is_down x) (sym (written_same ends n ys r reads)) (finds_down n (down n reads.some (addr_read ends n ys r reads) (node_read ends n ys r reads ∙ is)))
+    subst (λ (x : Ends). EndTakes now ends from octets n is_down x) (sym (written_same ends n ys r reads)) (finds_down n (down n reads.some (addr_read ends n ys r reads) (node_read ends n ys r reads ∙ is)))
   where
     down : (m : ℕ) → m ≢ 0 → {addr : Addr} → addr_of ends m ≡ Some addr → node_of ends m ≡ None → IsDown ends m
     down zero ne at is = absurd (ne refl)
@@ -189,13 +189,13 @@ server_stays_up ends n e is = subst (λ (m : ℕ). ¬ IsDown ends m) (sym e) (λ
     some_is None is e = absurd cc
     some_is (Some t) is e = cc
 
-pub node_started : (config : ConfigValue) (now : ℕ) (ends : Ends) (n : ℕ) (ys : List End) (r : End) (b : Bool) (e : End) → Reads ends n ys r
+pub node_started : (config : ConfigValue) (now : ℕ) (ends : Ends) (n : ℕ) (ys : List NodeEnd) (r : NodeEnd) (b : Bool) (e : NodeEnd) → Reads ends n ys r
     → MatchBool b (((get_or ys (n - 1) r).node ≡ None) × (e ≡ record (get_or ys (n - 1) r) { node = Some (started 14 (get_or ys (n - 1) r).addr ends.server_addr config now) }))
     (IsSome (get_or ys (n - 1) r).node × (e ≡ get_or ys (n - 1) r))
     → MatchBool b (Starts config now ends n (written_back ends n ys e)) ((¬ IsDown ends n) × (written_back ends n ys e ≡ ends))
 node_started config now ends n ys r true e reads is =
     let left : written_back ends n ys e ≡ with_node ends n (Some (started 14 (get_or ys (n - 1) r).addr ends.server_addr config now)) =
-    ap (λ (x : End). written_back ends n ys x) is.1 ∙ written_node ends n ys r _ reads in
+    ap (λ (x : NodeEnd). written_back ends n ys x) is.1 ∙ written_node ends n ys r _ reads in
     subst (λ (x : Ends). Starts config now ends n x) (sym left) (begun n reads.some (addr_read ends n ys r reads) (node_read ends n ys r reads ∙ is.0))
   where
     begun : (m : ℕ) → m ≢ 0 → {addr : Addr} → addr_of ends m ≡ Some addr → node_of ends m ≡ None → Starts config now ends m (with_node ends m (Some (started 14 addr ends.server_addr config now)))
@@ -203,7 +203,7 @@ node_started config now ends n ys r true e reads is =
     begun (suc i) ne {addr} at down = node_starts i addr at down
 node_started config now ends n ys r false e reads is =
     let node = is_there (get_or ys (n - 1) r).node is.0 in
-    (down n reads.some (node_read ends n ys r reads ∙ node.1), ap (λ (x : End). written_back ends n ys x) is.1 ∙ written_same ends n ys r reads)
+    (down n reads.some (node_read ends n ys r reads ∙ node.1), ap (λ (x : NodeEnd). written_back ends n ys x) is.1 ∙ written_same ends n ys r reads)
   where
     down : (m : ℕ) → m ≢ 0 → {node : NodeValue} → node_of ends m ≡ Some node → ¬ IsDown ends m
     down zero ne up = absurd (ne refl)

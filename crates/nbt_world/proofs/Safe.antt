@@ -11,7 +11,7 @@ use Rattle.std.specs.Prelude.{IsTrue}
 use Rattle.nbt_world.specs.Drift.{reading}
 use Rattle.nbt_world.specs.World.{WorldValue, node_of}
 use Rattle.nbt_world.specs.Safety.{held_by, holding, IsSafe}
-use Rattle.nbt_world.specs.Kept.{HoldsIn, known, has, Holds, IsKept}
+use Rattle.nbt_world.specs.Inner.Kept.{HoldsIn, known, has, Holds, Invariant}
 use Rattle.nbt_world.proofs.Keeping.{addr_there}
 
 -- what a state holds at a moment, it holds until later
@@ -41,7 +41,7 @@ holder_up w i name kind e = go (node_of w.ends i) refl e
     go None p e = absurd (none-some kind e)
     go (Some node) p e = (node, p)
 
-pub is_safe : (w : WorldValue) → IsKept w → IsTrue w.kept → IsSafe w
+pub is_safe : (w : WorldValue) → Invariant w → IsTrue w.kept → IsSafe w
 is_safe w kept on name i j k l ne p q =
     let a = holder_up w i name k p in
     let b = holder_up w j name l q in

@@ -20,7 +20,7 @@ use Rattle.nbt_world.specs.declared.network.Datagram.{Datagram}
 use Rattle.nbt_world.specs.Drift.{reading}
 use Rattle.nbt_world.specs.World.{WorldValue, addr_of, node_of, with_server}
 use Rattle.nbt_server.specs.Calls.{ServerTakes, ServerForgets}
-use Rattle.nbt_world.specs.Kept.{IsRequest, AsksAs, Replied, known, Wants, Claims, has, may_get, IsLeased, Backs, ClaimsIn, IsCoveredIn, ClaimsKept, IsKept}
+use Rattle.nbt_world.specs.Inner.Kept.{IsRequest, AsksAs, Replied, known, Wants, Claims, has, may_get, IsLeased, Covers, ClaimsIn, IsCoveredIn, ClaimsKept, Invariant}
 use Rattle.nbt_world.proofs.Claiming.{claims_want}
 use Rattle.nbt_world.proofs.Drifting.{hold_over}
 use Rattle.nbt_world.proofs.Keeping.{Grows, server_addr_with, server_node_with}
@@ -29,7 +29,7 @@ use Rattle.nbt_world.proofs.Naming.{Origin, listed, strange}
 use Rattle.nbt_world.proofs.Granting.{LeaseLaws, Gives, granted_most, octets_keep, octets_give}
 
 -- what an end has asked with these octets, if it wants the name: the name, as its kind
-asked_kind : (w : WorldValue) (from to : Addr) (octets : List ℕ) (n : ℕ) (a : Addr) (q : NameValue) (kind : Kind) → IsKept w → IsTrue w.kept → Origin w from to octets → addr_of w.ends n ≡ Some a → Wants (known (node_of w.ends n) q) kind
+asked_kind : (w : WorldValue) (from to : Addr) (octets : List ℕ) (n : ℕ) (a : Addr) (q : NameValue) (kind : Kind) → Invariant w → IsTrue w.kept → Origin w from to octets → addr_of w.ends n ≡ Some a → Wants (known (node_of w.ends n) q) kind
     → (m : MessageValue) → Spells octets m → a.ip ≡ from.ip → IsRequest q m → AsksAs kind m
 asked_kind w from to octets n a q kind kept on (strange off) p wants m spells same is = absurd (off (n, a, p, same))
 asked_kind w from to octets n a q kind kept on (listed d c f t o delivered) p wants m spells same is =
@@ -38,7 +38,7 @@ asked_kind w from to octets n a q kind kept on (listed d c f t o delivered) p wa
 
 -- The server took a datagram, and sent its reply, if any.
 pub record Took (w : WorldValue) (server new : ServerValue) (from to : Addr) (octets : List ℕ) (reply : Option MessageValue) (sent : List Datagram) : Type 0 where
-  pub kept : IsKept w
+  pub kept : Invariant w
   pub on : IsTrue w.kept
   pub up : w.ends.server ≡ Some server
   pub config_is : server.table.config ≡ w.config
@@ -82,7 +82,7 @@ gives laws w server new from to octets reply sent took n a q kind moment r p sam
 
 -- what backs an old claim backs it still
 backs_still : LeaseLaws → (w : WorldValue) (server new : ServerValue) (from to : Addr) (octets : List ℕ) (reply : Option MessageValue) (sent : List Datagram) (took : Took w server new from to octets reply sent)
-    → (n : ℕ) (a : Addr) (q : NameValue) (kind : Kind) (till : ℕ) → addr_of w.ends n ≡ Some a → Wants (known (node_of w.ends n) q) kind → Backs (reading w.now 0) (Some server) a.ip q kind till → Backs (reading w.now 0) (Some new) a.ip q kind till
+    → (n : ℕ) (a : Addr) (q : NameValue) (kind : Kind) (till : ℕ) → addr_of w.ends n ≡ Some a → Wants (known (node_of w.ends n) q) kind → Covers (reading w.now 0) (Some server) a.ip q kind till → Covers (reading w.now 0) (Some new) a.ip q kind till
 backs_still laws w server new from to octets reply sent took n a q kind till p wants (inl leased) =
     inl (octets_keep laws server (reading w.now 0) from.ip octets reply _ took.sound (took.takes).serves q a.ip kind till (asked_kind w from to octets n a q kind took.kept took.on took.origin p wants) leased)
 backs_still laws w server new from to octets reply sent took n a q kind till p wants (inr silent) =
@@ -109,8 +109,8 @@ served_claims laws w server new from to octets reply sent took = record {
     wanted : (n : ℕ) (a : Addr) (q : NameValue) (kind : Kind) (end : ℕ) → ClaimsIn w n a q kind end → Wants (known (node_of w.ends n) q) kind
     wanted n a q kind end c = claims_want w.config.longest w.config.life w.now.clock (Replied w.sent w.ends.server_addr a q) (known (node_of w.ends n) q) kind end c
 
-    backed : (a : Addr) (q : NameValue) (kind : Kind) (till : ℕ) → Backs (reading w.now 0) w.ends.server a.ip q kind till → Backs (reading w.now 0) (Some server) a.ip q kind till
-    backed a q kind till b = subst (λ (s : Option ServerValue). Backs (reading w.now 0) s a.ip q kind till) took.up b
+    backed : (a : Addr) (q : NameValue) (kind : Kind) (till : ℕ) → Covers (reading w.now 0) w.ends.server a.ip q kind till → Covers (reading w.now 0) (Some server) a.ip q kind till
+    backed a q kind till b = subst (λ (s : Option ServerValue). Covers (reading w.now 0) s a.ip q kind till) took.up b
 
     covered : (n : ℕ) (a : Addr) (q : NameValue) (kind : Kind) (end : ℕ) → addr_of w.ends n ≡ Some a → reading w.now n < end → Claimed w from reply sent n a q kind end
         → IsCoveredIn (record w { ends = with_server w.ends (Some new); sent = sent }) n a q kind end
@@ -149,7 +149,7 @@ served_claims laws w server new from to octets reply sent took = record {
         (backed b q l (reading cover.moment 0 + 1000 * cover.seconds) cover.backed)
       where
         go : speaks_from server ≤ reading w.now 0 → Gives (reading w.now 0) w.config.longest a.ip r.ttl (leases_at (reading w.now 0) server.table.rows q) (leases_at (reading w.now 0) new.table.rows q) k → (till : ℕ) → reading w.now 0 < till
-            → Backs (reading w.now 0) (Some server) b.ip q l till → (l ≡ Group) × (k ≡ Group)
+            → Covers (reading w.now 0) (Some server) b.ip q l till → (l ≡ Group) × (k ≡ Group)
         go speaks g till over (inl leased) = g.beside _ leased.among (λ ip. ne ((took.kept).ends.apart i j a b p s (sym ip)))
         go speaks g till over (inr silent) = absurd (omega arith)
 
@@ -164,12 +164,12 @@ served_claims laws w server new from to octets reply sent took = record {
         absurd (ne ((took.kept).ends.apart i j a b p s (ap (λ (z : Addr). z.ip) (sym same ∙ other))))
 
 -- memory was refused: the leases are as they were
-pub forgotten_claims : (w : WorldValue) (server new : ServerValue) (from : Addr) (octets : List ℕ) → IsKept w → IsTrue w.kept → w.ends.server ≡ Some server → ServerForgets server (reading w.now 0) from.ip octets new
+pub forgotten_claims : (w : WorldValue) (server new : ServerValue) (from : Addr) (octets : List ℕ) → Invariant w → IsTrue w.kept → w.ends.server ≡ Some server → ServerForgets server (reading w.now 0) from.ip octets new
     → ClaimsKept (record w { ends = with_server w.ends (Some new); sent = w.sent })
 forgotten_claims w server new from octets kept on up forgets =
-    server_claims w (Some new) kept on (λ n a q kind end p c lt is. still a q kind (reading is.moment 0 + 1000 * is.seconds) (subst (λ (s : Option ServerValue). Backs (reading w.now 0) s a.ip q kind (reading is.moment 0 + 1000 * is.seconds)) up is.backed))
+    server_claims w (Some new) kept on (λ n a q kind end p c lt is. still a q kind (reading is.moment 0 + 1000 * is.seconds) (subst (λ (s : Option ServerValue). Covers (reading w.now 0) s a.ip q kind (reading is.moment 0 + 1000 * is.seconds)) up is.backed))
   where
-    still : (a : Addr) (q : NameValue) (kind : Kind) (till : ℕ) → Backs (reading w.now 0) (Some server) a.ip q kind till → Backs (reading w.now 0) (Some new) a.ip q kind till
+    still : (a : Addr) (q : NameValue) (kind : Kind) (till : ℕ) → Covers (reading w.now 0) (Some server) a.ip q kind till → Covers (reading w.now 0) (Some new) a.ip q kind till
     still a q kind till (inl leased) = inl (subst (λ (ls : List Lease). IsLeased ls a.ip kind till) (ap (λ (f : NameValue → List Lease). f q) (sym forgets.leases)) leased)
     still a q kind till (inr silent) =
         let start = forgets.start in

@@ -13,7 +13,7 @@ use Rattle.nbt_world.specs.declared.ends.Ends.{Ends}
 use Rattle.nbt_world.specs.Drift.{reading}
 use Rattle.nbt_world.specs.World.{WorldValue, node_of}
 use Rattle.nbt_world.specs.Step.{Starts, server_starts, node_starts, Crashes, server_crashes, node_crashes}
-use Rattle.nbt_world.specs.Kept.{Asked, Replied, known, RequestsEnded, RepliesFresh, IsNodeOf, IsServerOf, IsKept}
+use Rattle.nbt_world.specs.Inner.Kept.{Asked, Replied, known, RequestsEnded, RepliesFresh, IsNodeOf, IsServerOf, Invariant}
 use Rattle.nbt_world.proofs.Knowing.{ended-start, ended-down, fresh-start, fresh-down}
 use Rattle.nbt_world.proofs.Keeping.{addr_there, asked_read, node_changes, server_changes}
 use Rattle.nbt_world.proofs.Naming.{nothing_new}
@@ -30,7 +30,7 @@ idle_in : (count : ℕ) (q : NameValue) → state_in (replicate count None) q �
 idle_in zero q = refl
 idle_in (suc n) q = idle_in n q
 
-pub starts_kept : (w : WorldValue) (number : ℕ) (ends : Ends) → IsKept w → Starts w.config (reading w.now number) w.ends number ends → IsKept (record w { ends = ends })
+pub starts_kept : (w : WorldValue) (number : ℕ) (ends : Ends) → Invariant w → Starts w.config (reading w.now number) w.ends number ends → Invariant (record w { ends = ends })
 starts_kept w number ends kept (server_starts server down new) =
     server_changes w (Some server) w.sent kept (λ s e. subst (λ (x : ServerValue). IsServerOf w x) (same_Some server s e) is) (nothing_new w w.ends.server_addr) kept.replies (λ on. started_claims w server kept on new)
   where
@@ -53,7 +53,7 @@ starts_kept w number ends kept (node_starts i addr at down) =
     (λ on. node_claims w i addr (Some (started 14 addr w.ends.server_addr w.config (reading w.now (suc i)))) w.sent kept at (nothing_new w addr) (λ d c. c) on
     (λ q kind end c. absurd (idle_claims w.config.longest w.config.life w.now.clock (reading w.now (suc i)) (Replied w.sent w.ends.server_addr addr q) kind end (rw (idle_in 14 q) at c))))
 
-pub crashes_kept : (w : WorldValue) (number : ℕ) (ends : Ends) → IsKept w → Crashes w.ends number ends → IsKept (record w { ends = ends })
+pub crashes_kept : (w : WorldValue) (number : ℕ) (ends : Ends) → Invariant w → Crashes w.ends number ends → Invariant (record w { ends = ends })
 crashes_kept w number ends kept (server_crashes server up) = server_changes w None w.sent kept (λ s e. absurd (none-some s e)) (nothing_new w w.ends.server_addr) kept.replies (λ on. crashed_claims w kept on)
 crashes_kept w number ends kept (node_crashes i node up) =
     let there = addr_there w.ends (suc i) node up in

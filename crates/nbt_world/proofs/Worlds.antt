@@ -18,8 +18,8 @@ use Rattle.nbt_world.specs.declared.event.Outcome.{Outcome}
 use Rattle.nbt_world.specs.declared.event.Outcome.TheVariants as o
 use Rattle.nbt_world.specs.Drift.{reading}
 use Rattle.nbt_world.specs.World.{WorldValue, addr_of, node_of, with_node}
-use Rattle.nbt_world.specs.Step.{number_in, GivenValue, Does, after, outcome_of, IsDown, IsUp, Starts, Crashes, TakenValue, takes, Takes, IsTaken, after_taking, outcome_of_taking, Step, starts, starts_nothing, crashes, crashes_nothing, node_does, node_is_down}
-use Rattle.nbt_world.specs.Kept.{IsNodeOf, IsKept}
+use Rattle.nbt_world.specs.Step.{number_in, CallOutcomeValue, NodeDoes, after, outcome_of, IsDown, IsUp, Starts, Crashes, TakenValue, takes, EndTakes, IsTaken, after_taking, outcome_of_taking, Step, starts, starts_nothing, crashes, crashes_nothing, node_does, node_is_down}
+use Rattle.nbt_world.specs.Inner.Kept.{IsNodeOf, Invariant}
 use Rattle.nbt_world.proofs.Keeping.{addr_there}
 use Rattle.nbt_world.proofs.Naming.{Laws, Origin}
 use Rattle.nbt_world.proofs.Events.{does_kept}
@@ -31,14 +31,14 @@ use Rattle.nbt_world.proofs.Starting.{starts_kept, crashes_kept}
 pub same_world : (w : WorldValue) (ends : Ends) (sent : List Datagram) → ends ≡ w.ends → sent ≡ w.sent → w ≡ record w { ends = ends; sent = sent }
 same_world w ends sent p q = λ i. record w { ends = sym p i; sent = sym q i }
 
-pub node_is_of : (w : WorldValue) (n : ℕ) (node : NodeValue) → IsKept w → node_of w.ends n ≡ Some node → (addr : Addr) × IsNodeOf w n addr node
+pub node_is_of : (w : WorldValue) (n : ℕ) (node : NodeValue) → Invariant w → node_of w.ends n ≡ Some node → (addr : Addr) × IsNodeOf w n addr node
 node_is_of w n node kept up = let there = addr_there w.ends n node up in (there.0, kept.nodes n there.0 node there.1 up)
 
 -- ---- an end starts, or crashes
 
-pub started_kept : (w : WorldValue) (number : ℕ) (ends : Ends) (b : Bool) → IsKept w → MatchBool b (Starts w.config (reading w.now number) w.ends number ends) ((¬ IsDown w.ends number) × (ends ≡ w.ends)) → IsKept (record w { ends = ends })
+pub started_kept : (w : WorldValue) (number : ℕ) (ends : Ends) (b : Bool) → Invariant w → MatchBool b (Starts w.config (reading w.now number) w.ends number ends) ((¬ IsDown w.ends number) × (ends ≡ w.ends)) → Invariant (record w { ends = ends })
 started_kept w number ends true kept is = starts_kept w number ends kept is
-started_kept w number ends false kept is = subst (λ (x : Ends). IsKept (record w { ends = x })) (sym is.1) kept
+started_kept w number ends false kept is = subst (λ (x : Ends). Invariant (record w { ends = x })) (sym is.1) kept
 
 pub has_started : (w : WorldValue) (number : ℕ) (ends : Ends) (b : Bool) → b ≡ true → MatchBool b (Starts w.config (reading w.now number) w.ends number ends) ((¬ IsDown w.ends number) × (ends ≡ w.ends))
     → Step w (e.Start number) o.Done (record w { ends = ends })
@@ -50,9 +50,9 @@ pub has_not_started : (w : WorldValue) (number : ℕ) (ends : Ends) (b : Bool) �
 has_not_started w number ends true p is = absurd cc
 has_not_started w number ends false p is = subst (λ (x : Ends). Step w (e.Start number) o.Nothing (record w { ends = x })) (sym is.1) (starts_nothing number is.0)
 
-pub crashed_kept : (w : WorldValue) (number : ℕ) (ends : Ends) (b : Bool) → IsKept w → MatchBool b (Crashes w.ends number ends) ((¬ IsUp w.ends number) × (ends ≡ w.ends)) → IsKept (record w { ends = ends })
+pub crashed_kept : (w : WorldValue) (number : ℕ) (ends : Ends) (b : Bool) → Invariant w → MatchBool b (Crashes w.ends number ends) ((¬ IsUp w.ends number) × (ends ≡ w.ends)) → Invariant (record w { ends = ends })
 crashed_kept w number ends true kept is = crashes_kept w number ends kept is
-crashed_kept w number ends false kept is = subst (λ (x : Ends). IsKept (record w { ends = x })) (sym is.1) kept
+crashed_kept w number ends false kept is = subst (λ (x : Ends). Invariant (record w { ends = x })) (sym is.1) kept
 
 pub has_crashed : (w : WorldValue) (number : ℕ) (ends : Ends) (b : Bool) → b ≡ true → MatchBool b (Crashes w.ends number ends) ((¬ IsUp w.ends number) × (ends ≡ w.ends))
     → Step w (e.Crash number) o.Done (record w { ends = ends })
@@ -74,10 +74,10 @@ stays_down w event number ends sent p q own down = subst (λ (x : WorldValue). S
 pub record Gave (w : WorldValue) (event : Event) (number : ℕ) (ends : Ends) (sent : List Datagram) (outcome : Outcome) : Type 0 where
   pub node : NodeValue
   pub new : NodeValue
-  pub given : GivenValue
+  pub given : CallOutcomeValue
   pub own : number_in event ≡ Some number
   pub up : node_of w.ends number ≡ Some node
-  pub does : Does node (reading w.now number) event new given
+  pub does : NodeDoes node (reading w.now number) event new given
   pub ends_is : ends ≡ with_node w.ends number (Some new)
   pub outcome_is : outcome ≡ outcome_of w given
   pub left : after w number new given ≡ record w { ends = with_node w.ends number (Some new); sent = sent }
@@ -85,10 +85,10 @@ pub record Gave (w : WorldValue) (event : Event) (number : ℕ) (ends : Ends) (s
 gave_world : (w : WorldValue) (event : Event) (number : ℕ) (ends : Ends) (sent : List Datagram) (outcome : Outcome) (g : Gave w event number ends sent outcome) → after w number g.new g.given ≡ record w { ends = ends; sent = sent }
 gave_world w event number ends sent outcome g = g.left ∙ ap (λ (x : Ends). record w { ends = x; sent = sent }) (sym g.ends_is)
 
-pub gave_kept : Laws → (w : WorldValue) (event : Event) (number : ℕ) (ends : Ends) (sent : List Datagram) (outcome : Outcome) → IsKept w → Gave w event number ends sent outcome → IsKept (record w { ends = ends; sent = sent })
-gave_kept law w event number ends sent outcome kept g = subst IsKept (gave_world w event number ends sent outcome g) (at number g.up g.does)
+pub gave_kept : Laws → (w : WorldValue) (event : Event) (number : ℕ) (ends : Ends) (sent : List Datagram) (outcome : Outcome) → Invariant w → Gave w event number ends sent outcome → Invariant (record w { ends = ends; sent = sent })
+gave_kept law w event number ends sent outcome kept g = subst Invariant (gave_world w event number ends sent outcome g) (at number g.up g.does)
   where
-    at : (n : ℕ) → node_of w.ends n ≡ Some g.node → Does g.node (reading w.now n) event g.new g.given → IsKept (after w n g.new g.given)
+    at : (n : ℕ) → node_of w.ends n ≡ Some g.node → NodeDoes g.node (reading w.now n) event g.new g.given → Invariant (after w n g.new g.given)
     at zero up does = absurd (none-some g.node up)
     at (suc i) up does = does_kept law w i g.node g.new event g.given kept up does
 
@@ -105,7 +105,7 @@ pub record Took (w : WorldValue) (from to : Addr) (octets : List ℕ) (number : 
   pub out : List ℕ
   pub taken : TakenValue
   pub at : addr_of w.ends number ≡ Some to
-  pub does : Takes (reading w.now number) w.ends from octets number taken ends
+  pub does : EndTakes (reading w.now number) w.ends from octets number taken ends
   pub is : IsTaken code out taken
   pub origin : Origin w from to octets
   pub outcome_is : outcome ≡ outcome_of_taking w taken
@@ -119,10 +119,10 @@ spells t.Replies out taken m is same =
     let one : is.0 ≡ m = cc in
     subst (λ (k : MessageValue). Spells (text k) k) one (subst (λ (xs : List ℕ). Spells xs is.0) is.2 is.3)
 
-pub took_kept : Laws → GrantsSound → ReleasesSound → LeaseLaws → (w : WorldValue) (from to : Addr) (octets : List ℕ) (number : ℕ) (ends : Ends) (sent : List Datagram) (outcome : Outcome) → IsKept w
-    → Took w from to octets number ends sent outcome → IsKept (record w { ends = ends; sent = sent })
+pub took_kept : Laws → GrantsSound → ReleasesSound → LeaseLaws → (w : WorldValue) (from to : Addr) (octets : List ℕ) (number : ℕ) (ends : Ends) (sent : List Datagram) (outcome : Outcome) → Invariant w
+    → Took w from to octets number ends sent outcome → Invariant (record w { ends = ends; sent = sent })
 took_kept law g r laws w from to octets number ends sent outcome kept k =
-    subst IsKept k.left (taking_kept law g r laws w from to octets number k.taken ends kept k.at k.origin k.does (λ m same. spells k.code k.out k.taken m k.is same))
+    subst Invariant k.left (taking_kept law g r laws w from to octets number k.taken ends kept k.at k.origin k.does (λ m same. spells k.code k.out k.taken m k.is same))
 
 pub took_step : (w : WorldValue) (from to : Addr) (octets : List ℕ) (number : ℕ) (ends : Ends) (sent : List Datagram) (outcome : Outcome) (event : Event) (k : Took w from to octets number ends sent outcome)
     → Step w event (outcome_of_taking w k.taken) (after_taking w ends to from k.taken) → Step w event outcome (record w { ends = ends; sent = sent })

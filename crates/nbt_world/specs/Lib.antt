@@ -2,5 +2,4 @@ pub mod Drift
 pub mod World
 pub mod Step
 pub mod Safety
-pub mod Kept
-pub mod Facts
+pub mod Inner

@@ -19,8 +19,8 @@ use Rattle.nbt_node.specs.Node.{NodeValue, slots_most}
 use Rattle.nbt_node.specs.Moves.{ask, give_back, Told}
 use Rattle.nbt_node.specs.Calls.{started, ask_refusal, release_refusal, resolve_refusal, status_refusal, Sends, Opens, Polls}
 use Rattle.nbt_node.specs.Datagrams.{Handles}
-use Rattle.nbt_world.specs.declared.doing.Given.{Given}
-use Rattle.nbt_world.specs.declared.doing.Given.TheVariants as g
+use Rattle.nbt_world.specs.declared.node_call.CallOutcome.{CallOutcome}
+use Rattle.nbt_world.specs.declared.node_call.CallOutcome.TheVariants as g
 use Rattle.nbt_world.specs.declared.ends.Ends.{Ends}
 use Rattle.nbt_world.specs.declared.ends.Taken.{Taken}
 use Rattle.nbt_world.specs.declared.ends.Taken.TheVariants as t
@@ -35,12 +35,12 @@ use Rattle.nbt_world.specs.World.{WorldValue, addr_of, IsEnd, node_of, IsOfEnd, 
 -- ---- what a node does at an event of its own
 
 -- what a call gives: nothing, a refusal with its number, or octets for an end
-pub data GivenValue : Type 0 where
-  nothing : GivenValue
-  refusal : (number : ℕ) → GivenValue
-  octets_to : Addr → List ℕ → GivenValue
+pub data CallOutcomeValue : Type 0 where
+  nothing : CallOutcomeValue
+  refusal : (number : ℕ) → CallOutcomeValue
+  octets_to : Addr → List ℕ → CallOutcomeValue
 
-abbrev pub given_of : Given → List ℕ → GivenValue
+abbrev pub given_of : CallOutcome → List ℕ → CallOutcomeValue
 given_of g.Nothing octets = nothing
 given_of (g.Refusal number) octets = refusal number
 given_of (g.To to) octets = octets_to to octets
@@ -54,25 +54,25 @@ number_in (NameStatus number to name) = Some number
 number_in (Poll number) = Some number
 number_in _ = None
 
-pub data Does (old : NodeValue) (now : ℕ) : Event → NodeValue → GivenValue → Type 0 where
+pub data NodeDoes (old : NodeValue) (now : ℕ) : Event → NodeValue → CallOutcomeValue → Type 0 where
   asks : (number : ℕ) (name : NameValue) (kind : Kind) (ttl : ℕ) (new : NodeValue) (octets : List ℕ) → ask_refusal old now name ≡ None → Sends old now name (ask kind ttl) new octets
-      → Does old now (Ask number name kind ttl) new (octets_to old.server octets)
+      → NodeDoes old now (Ask number name kind ttl) new (octets_to old.server octets)
   ask_refused : (number : ℕ) (name : NameValue) (kind : Kind) (ttl : ℕ) (fault : AskFault) → ask_refusal old now name ≡ Some fault
-      → Does old now (Ask number name kind ttl) old (refusal (ask_fault_number fault))
+      → NodeDoes old now (Ask number name kind ttl) old (refusal (ask_fault_number fault))
   gives_back : (number : ℕ) (name : NameValue) (new : NodeValue) (octets : List ℕ) → release_refusal old now name ≡ None → Sends old now name give_back new octets
-      → Does old now (Release number name) new (octets_to old.server octets)
+      → NodeDoes old now (Release number name) new (octets_to old.server octets)
   release_refused : (number : ℕ) (name : NameValue) (fault : ReleaseFault) → release_refusal old now name ≡ Some fault
-      → Does old now (Release number name) old (refusal (release_fault_number fault))
+      → NodeDoes old now (Release number name) old (refusal (release_fault_number fault))
   resolves : (number : ℕ) (name : NameValue) (new : NodeValue) (octets : List ℕ) → resolve_refusal old now name ≡ None → Opens old now name old.server Entries new octets
-      → Does old now (Resolve number name) new (octets_to old.server octets)
+      → NodeDoes old now (Resolve number name) new (octets_to old.server octets)
   resolve_refused : (number : ℕ) (name : NameValue) (fault : LookupFault) → resolve_refusal old now name ≡ Some fault
-      → Does old now (Resolve number name) old (refusal (lookup_fault_number fault))
+      → NodeDoes old now (Resolve number name) old (refusal (lookup_fault_number fault))
   asks_status : (number : ℕ) (to : Addr) (name : NameValue) (new : NodeValue) (octets : List ℕ) → status_refusal old now ≡ None → Opens old now name to Names new octets
-      → Does old now (NameStatus number to name) new (octets_to to octets)
+      → NodeDoes old now (NameStatus number to name) new (octets_to to octets)
   status_refused : (number : ℕ) (to : Addr) (name : NameValue) (fault : LookupFault) → status_refusal old now ≡ Some fault
-      → Does old now (NameStatus number to name) old (refusal (lookup_fault_number fault))
-  polls : (number : ℕ) (to : Addr) (new : NodeValue) (octets : List ℕ) → Polls old now new (Some to) octets → Does old now (Poll number) new (octets_to to octets)
-  polls_nothing : (number : ℕ) (new : NodeValue) (octets : List ℕ) → Polls old now new None octets → Does old now (Poll number) new nothing
+      → NodeDoes old now (NameStatus number to name) old (refusal (lookup_fault_number fault))
+  polls : (number : ℕ) (to : Addr) (new : NodeValue) (octets : List ℕ) → Polls old now new (Some to) octets → NodeDoes old now (Poll number) new (octets_to to octets)
+  polls_nothing : (number : ℕ) (new : NodeValue) (octets : List ℕ) → Polls old now new None octets → NodeDoes old now (Poll number) new nothing
 
 -- ---- what an end does: it starts, crashes, and takes a datagram
 
@@ -106,18 +106,18 @@ pub data ServerDoes (now : ℕ) (old : ServerValue) (ip : ℕ) (octets : List �
   server_takes : (reply : Option MessageValue) (new : ServerValue) → ServerTakes old now ip octets reply new → ServerDoes now old ip octets (takes reply) new
   server_forgets : (new : ServerValue) → ServerForgets old now ip octets new → ServerDoes now old ip octets is_lost new
 
-pub record NodeHears (now : ℕ) (old : NodeValue) (from : Addr) (octets : List ℕ) (reply : Option MessageValue) (new : NodeValue) : Type 0 where
+pub record NodeHandles (now : ℕ) (old : NodeValue) (from : Addr) (octets : List ℕ) (reply : Option MessageValue) (new : NodeValue) : Type 0 where
   pub told : Told
   pub out : List ℕ
   pub handles : Handles old now from octets new told out
   pub sent_is : handles.sent ≡ reply
 
-pub data Takes (now : ℕ) (old : Ends) (from : Addr) (octets : List ℕ) : ℕ → TakenValue → Ends → Type 0 where
-  finds_down : (number : ℕ) → IsDown old number → Takes now old from octets number is_down old
+pub data EndTakes (now : ℕ) (old : Ends) (from : Addr) (octets : List ℕ) : ℕ → TakenValue → Ends → Type 0 where
+  finds_down : (number : ℕ) → IsDown old number → EndTakes now old from octets number is_down old
   by_server : (server new : ServerValue) (taken : TakenValue) → old.server ≡ Some server → ServerDoes now server from.ip octets taken new
-      → Takes now old from octets 0 taken (with_server old (Some new))
-  by_node : (index : ℕ) (node new : NodeValue) (reply : Option MessageValue) → node_of old (suc index) ≡ Some node → NodeHears now node from octets reply new
-      → Takes now old from octets (suc index) (takes reply) (with_node old (suc index) (Some new))
+      → EndTakes now old from octets 0 taken (with_server old (Some new))
+  by_node : (index : ℕ) (node new : NodeValue) (reply : Option MessageValue) → node_of old (suc index) ≡ Some node → NodeHandles now node from octets reply new
+      → EndTakes now old from octets (suc index) (takes reply) (with_node old (suc index) (Some new))
 
 -- how the code says it, the octets of a reply being those in its buffer
 abbrev pub IsTaken : Taken → List ℕ → TakenValue → Type 0
@@ -129,13 +129,13 @@ IsTaken t.Replies octets taken = (reply : MessageValue) × (taken ≡ takes (Som
 -- ---- what comes of it
 
 -- the node is another, and what it gave was sent
-abbrev pub after : WorldValue → (number : ℕ) → NodeValue → GivenValue → WorldValue
+abbrev pub after : WorldValue → (number : ℕ) → NodeValue → CallOutcomeValue → WorldValue
 after world number new nothing = record world { ends = with_node world.ends number (Some new) }
 after world number new (refusal fault) = record world { ends = with_node world.ends number (Some new) }
 after world number new (octets_to to octets) =
     record world { ends = with_node world.ends number (Some new); sent = world.sent ++ datagram new.addr to world.now octets ∷ [] }
 
-abbrev pub outcome_of : WorldValue → GivenValue → Outcome
+abbrev pub outcome_of : WorldValue → CallOutcomeValue → Outcome
 outcome_of world nothing = o.Nothing
 outcome_of world (refusal number) = o.Refused number
 outcome_of world (octets_to to octets) = o.Sent (length world.sent)
@@ -172,7 +172,7 @@ pub data Step (old : WorldValue) : Event → Outcome → WorldValue → Type 0 w
   crashes : (number : ℕ) (ends : Ends) → Crashes old.ends number ends → Step old (Crash number) o.Done (record old { ends = ends })
   crashes_nothing : (number : ℕ) → ¬ IsUp old.ends number → Step old (Crash number) o.Nothing old
   -- a node does something of its own, or is down
-  node_does : (event : Event) (number : ℕ) (node new : NodeValue) (given : GivenValue) → number_in event ≡ Some number → node_of old.ends number ≡ Some node → Does node (reading old.now number) event new given
+  node_does : (event : Event) (number : ℕ) (node new : NodeValue) (given : CallOutcomeValue) → number_in event ≡ Some number → node_of old.ends number ≡ Some node → NodeDoes node (reading old.now number) event new given
       → Step old event (outcome_of old given) (after old number new given)
   node_is_down : (event : Event) (number : ℕ) → number_in event ≡ Some number → node_of old.ends number ≡ None → Step old event o.Down old
   -- a datagram of the list is delivered: to nobody, too late, or to an end, whose reply goes back
@@ -181,13 +181,13 @@ pub data Step (old : WorldValue) : Event → Outcome → WorldValue → Type 0 w
   too_late : (k : ℕ) (d : Datagram) (number : ℕ) → slice_get old.sent k ≡ Some d → addr_of old.ends number ≡ Some d.to → ¬ IsDeliverable old.config.life old.now.clock d.moment.clock
       → Step old (Deliver k) o.Lost old
   delivered : (k : ℕ) (d : Datagram) (number : ℕ) (taken : TakenValue) (ends : Ends) → slice_get old.sent k ≡ Some d → addr_of old.ends number ≡ Some d.to
-      → IsDeliverable old.config.life old.now.clock d.moment.clock → Takes (reading old.now number) old.ends d.from d.octets.items number taken ends
+      → IsDeliverable old.config.life old.now.clock d.moment.clock → EndTakes (reading old.now number) old.ends d.from d.octets.items number taken ends
       → Step old (Deliver k) (outcome_of_taking old taken) (after_taking old ends d.to d.from taken)
   -- a datagram comes from an address that is no end's
   from_an_end : (from : Addr) (number : ℕ) (octets : Vec ℕ) → IsOfEnd old.ends from.ip → Step old (Stranger from number octets) o.Nobody old
   to_no_end : (from : Addr) (number : ℕ) (octets : Vec ℕ) → addr_of old.ends number ≡ None → Step old (Stranger from number octets) o.Nobody old
   from_a_stranger : (from addr : Addr) (number : ℕ) (octets : Vec ℕ) (taken : TakenValue) (ends : Ends) → ¬ IsOfEnd old.ends from.ip → addr_of old.ends number ≡ Some addr
-      → Takes (reading old.now number) old.ends from octets.items number taken ends
+      → EndTakes (reading old.now number) old.ends from octets.items number taken ends
       → Step old (Stranger from number octets) (outcome_of_taking old taken) (after_taking old ends addr from taken)
 
 -- room for a datagram is made for all other events

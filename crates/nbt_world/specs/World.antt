@@ -7,7 +7,7 @@ use Rattle.nbt_server.specs.Serving.{ServerValue}
 use Rattle.nbt_node.specs.Node.{NodeValue}
 use Rattle.nbt_world.specs.declared.clocks.Clocks.{Clocks}
 use Rattle.nbt_world.specs.declared.clocks.Least.{Least}
-use Rattle.nbt_world.specs.declared.ends.End.{End}
+use Rattle.nbt_world.specs.declared.ends.NodeEnd.{NodeEnd}
 use Rattle.nbt_world.specs.declared.ends.Ends.{Ends}
 use Rattle.nbt_world.specs.declared.network.Datagram.{Datagram}
 use Rattle.nbt_world.specs.Drift.{reading, least_of, numbers_of}
@@ -24,14 +24,14 @@ pub record WorldValue : Type 0 where
 
 -- ---- ends: 0 is the server, and the nodes are numbered from 1
 
-abbrev pub addr_at : List End → (index : ℕ) → Option Addr
+abbrev pub addr_at : List NodeEnd → (index : ℕ) → Option Addr
 addr_at nodes index = option_map (λ end. end.addr) (slice_get nodes index)
 
 abbrev pub addr_of : Ends → ℕ → Option Addr
 addr_of ends zero = Some ends.server_addr
 addr_of ends (suc index) = addr_at ends.nodes.items index
 
-abbrev pub node_in : Option End → Option NodeValue
+abbrev pub node_in : Option NodeEnd → Option NodeValue
 node_in None = None
 node_in (Some end) = end.node
 
@@ -53,7 +53,7 @@ IsOfEnd ends ip = (number : ℕ) × (addr : Addr) × (addr_of ends number ≡ So
 abbrev pub with_server : Ends → Option ServerValue → Ends
 with_server ends server = record ends { server = server }
 
-abbrev pub put_node : List End → ℕ → Option NodeValue → List End
+abbrev pub put_node : List NodeEnd → ℕ → Option NodeValue → List NodeEnd
 put_node [] index value = []
 put_node (end ∷ ends) zero value = record end { node = value } ∷ ends
 put_node (end ∷ ends) (suc index) value = end ∷ put_node ends index value
@@ -76,8 +76,8 @@ IsDeliverable life now sent = now ≤ sent + life
 -- ---- the beginning
 
 -- one of the addresses has these 32 bits, and no two have the same
-abbrev pub StandsIn : (ip : ℕ) → List Addr → Type 0
-StandsIn ip addrs = (index : ℕ) × (addr : Addr) × (slice_get addrs index ≡ Some addr) × (addr.ip ≡ ip)
+abbrev pub IsAmong : (ip : ℕ) → List Addr → Type 0
+IsAmong ip addrs = (index : ℕ) × (addr : Addr) × (slice_get addrs index ≡ Some addr) × (addr.ip ≡ ip)
 
 abbrev pub AreApart : List Addr → Type 0
 AreApart addrs = (i j : ℕ) (a b : Addr) → slice_get addrs i ≡ Some a → slice_get addrs j ≡ Some b → a.ip ≡ b.ip → i ≡ j

@@ -6,11 +6,11 @@ ghost use Rattle.nbt_node.specs.Node.{NodeValue};
 ghost use Rattle.nbt_node.specs.Calls.{started};
 ghost use Rattle.nbt_server.specs.Serving.{ServerValue};
 ghost use Rattle.nbt_name.specs.declared.addr.Addr.{Addr};
-ghost use Rattle.nbt_world.specs.World.{addr_at, StandsIn, AreApart};
-ghost use Rattle.nbt_world.specs.Step.{TakenValue, takes, ServerDoes, NodeHears, IsTaken};
+ghost use Rattle.nbt_world.specs.World.{addr_at, IsAmong, AreApart};
+ghost use Rattle.nbt_world.specs.Step.{TakenValue, takes, ServerDoes, NodeHandles, IsTaken};
 
-use crate::doing::{Given, SLOTS, does};
 use crate::event::Event;
+use crate::node_call::{CallOutcome, SLOTS, call_node};
 use arrayvec::ArrayVec;
 use nbt_lease::{Config, Moment};
 use nbt_name::{Addr, Kind, Name};
@@ -20,7 +20,7 @@ use std::alloc::Global;
 
 /// A node's address, and what it is while it is up.
 #[derive(Debug, Drop)]
-pub struct End {
+pub struct NodeEnd {
     pub addr: Addr,
     pub node: Option<Node<SLOTS>>,
 }
@@ -30,7 +30,7 @@ pub struct End {
 pub struct Ends {
     pub server_addr: Addr,
     pub server: Option<Server>,
-    pub nodes: ArrayVec<End, 8>,
+    pub nodes: ArrayVec<NodeEnd, 8>,
 }
 
 /// A node that holds a name, by its number, and as which kind.
@@ -51,16 +51,16 @@ impl Default for Holder {
     }
 }
 
-impl Default for End {
-    fn default() -> End {
-        End {
+impl Default for NodeEnd {
+    fn default() -> NodeEnd {
+        NodeEnd {
             addr: Addr { ip: 0, port: 0 },
             node: None,
         }
     }
 }
 
-impl End {
+impl NodeEnd {
     ghost use Rattle.nbt_world.specs.Safety.{held_by};
 
     /// As which kind the node holds the name at a moment; `None` where it is down.
@@ -85,7 +85,7 @@ pub enum Taken {
 
 impl Ends {
     ghost use Rattle.nbt_world.specs.World.{ends_at, addr_of, node_of, IsOfEnd, with_node};
-    ghost use Rattle.nbt_world.specs.Step.{number_in, given_of, Does, Starts, Crashes, Takes, IsDown, IsUp, TakenValue, IsTaken};
+    ghost use Rattle.nbt_world.specs.Step.{number_in, given_of, NodeDoes, Starts, Crashes, EndTakes, IsDown, IsUp, TakenValue, IsTaken};
 
     /// A server and nodes at these addresses, which are all down.
     pub fn new(server_addr: Addr, others: &[Addr]) -> Ends
@@ -94,7 +94,7 @@ impl Ends {
     {
         let mut nodes = ArrayVec::new();
         for addr in others {
-            nodes.push(End {
+            nodes.push(NodeEnd {
                 addr: *addr,
                 node: None,
             });
@@ -179,12 +179,12 @@ impl Ends {
         now: Moment,
         event: &Event,
         out: &mut ArrayVec<u8, 576>,
-    ) -> Option<(Addr, Given)>
+    ) -> Option<(Addr, CallOutcome)>
         requires own { IsSome (number_in event.now) }
         requires server { (node : NodeValue) → node_of self.old number ≡ Some node → node.server ≡ self.old.server_addr }
         requires time { (node : NodeValue) → node_of self.old number ≡ Some node → node.last ≤ now }
         ensures down { IsNone result → (node_of self.old number ≡ None) × (self.new ≡ self.old) }
-        ensures does { IfSome result (λ given. (node : NodeValue) × (new : NodeValue) × (node_of self.old number ≡ Some node) × Does node now event.now new (given_of given.1 out.new.items)
+        ensures does { IfSome result (λ given. (node : NodeValue) × (new : NodeValue) × (node_of self.old number ≡ Some node) × NodeDoes node now event.now new (given_of given.1 out.new.items)
             × (self.new ≡ with_node self.old number (Some new)) × (given.0 ≡ new.addr)) }
     {
         if number == 0 || number > self.nodes.len() {
@@ -194,7 +194,7 @@ impl Ends {
         let end = &mut self.nodes[number - 1];
         match &mut end.node {
             Some(node) => {
-                let given = does(node, server, now, event, out);
+                let given = call_node(node, server, now, event, out);
                 Some((node.addr(), given))
             }
             None => None,
@@ -213,7 +213,7 @@ impl Ends {
         requires there { IsSome (addr_of self.old number) }
         requires node { (node : NodeValue) → node_of self.old number ≡ Some node → node.last ≤ now }
         requires server { (server : ServerValue) → number ≡ 0 → self.old.server ≡ Some server → server.last ≤ now }
-        ensures { (taken : TakenValue) × Takes now self.old from octets.now number taken self.new × IsTaken result out.new.items taken }
+        ensures { (taken : TakenValue) × EndTakes now self.old from octets.now number taken self.new × IsTaken result out.new.items taken }
     {
         if number == 0 {
             return match &mut self.server {
@@ -230,7 +230,7 @@ impl Ends {
 }
 
 /// Starts a node that is down. Returns whether it was.
-fn start_node(end: &mut End, server: Addr, config: Config, now: Moment) -> bool
+fn start_node(end: &mut NodeEnd, server: Addr, config: Config, now: Moment) -> bool
     ensures { MatchBool result ((end.old.node ≡ None) × (end.new ≡ record end.old { node = Some (started 14 end.old.addr server config now) })) (IsSome end.old.node × (end.new ≡ end.old)) }
 {
     if end.node.is_some() {
@@ -241,7 +241,7 @@ fn start_node(end: &mut End, server: Addr, config: Config, now: Moment) -> bool
 }
 
 /// Crashes a node that is up. Returns whether it was.
-fn crash_node(end: &mut End) -> bool
+fn crash_node(end: &mut NodeEnd) -> bool
     ensures { MatchBool result (IsSome end.old.node × (end.new ≡ record end.old { node = None })) ((end.old.node ≡ None) × (end.new ≡ end.old)) }
 {
     if end.node.is_none() {
@@ -279,7 +279,7 @@ fn hear(
     out: &mut ArrayVec<u8, 576>,
 ) -> Taken
     requires { node.old.last ≤ now }
-    ensures { (reply : Option MessageValue) × NodeHears now node.old from octets.now reply node.new × IsTaken result out.new.items (takes reply) }
+    ensures { (reply : Option MessageValue) × NodeHandles now node.old from octets.now reply node.new × IsTaken result out.new.items (takes reply) }
 {
     if node.on_datagram(now, from, octets, out).is_err() {
         unreachable!();
@@ -292,7 +292,7 @@ fn hear(
 }
 
 /// The place of the node at an address.
-fn place_of(nodes: &[End], addr: Addr) -> Option<usize>
+fn place_of(nodes: &[NodeEnd], addr: Addr) -> Option<usize>
     ensures found { IfSome result (λ index. addr_at nodes.now index ≡ Some addr) }
     ensures none { IsNone result → (index : ℕ) → addr_at nodes.now index ≢ Some addr }
 {
@@ -305,7 +305,7 @@ fn place_of(nodes: &[End], addr: Addr) -> Option<usize>
 }
 
 /// Whether some node has this 32-bit address.
-fn any_has_ip(nodes: &[End], ip: u32) -> bool
+fn any_has_ip(nodes: &[NodeEnd], ip: u32) -> bool
     ensures { IsTrue result ↔ ((index : ℕ) × (addr : Addr) × (addr_at nodes.now index ≡ Some addr) × (addr.ip ≡ ip)) }
 {
     for end in nodes {
@@ -332,7 +332,7 @@ pub fn are_apart(addrs: &[Addr]) -> bool
 
 /// Whether one of the addresses has these 32 bits.
 fn stands_in(addrs: &[Addr], ip: u32) -> bool
-    ensures { IsTrue result ↔ StandsIn ip addrs.now }
+    ensures { IsTrue result ↔ IsAmong ip addrs.now }
 {
     for addr in addrs {
         if addr.ip == ip {

@@ -6,11 +6,11 @@
 #![tactic(auto)]
 
 mod clocks;
-mod doing;
 mod ends;
 mod event;
 pub mod laws;
 mod network;
+mod node_call;
 mod world;
 
 pub use ends::Holder;

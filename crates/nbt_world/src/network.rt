@@ -8,9 +8,9 @@ ghost use Rattle.nbt_world.specs.World.{WorldValue, with_node};
 ghost use Rattle.nbt_world.specs.Step.{given_of, after, outcome_of, TakenValue, IsTaken, after_taking, outcome_of_taking};
 
 use crate::clocks::Clocks;
-use crate::doing::Given;
 use crate::ends::Taken;
 use crate::event::Outcome;
+use crate::node_call::CallOutcome;
 use arrayvec::ArrayVec;
 use nbt_name::Addr;
 
@@ -39,7 +39,7 @@ fn send(sent: &mut Vec<Datagram>, datagram: Datagram) -> usize
 /// Sends what a node's call gave, where it gave a datagram.
 pub fn give(
     sent: &mut Vec<Datagram>,
-    given: Given,
+    given: CallOutcome,
     from: Addr,
     moment: Clocks,
     octets: ArrayVec<u8, 576>,
@@ -50,9 +50,9 @@ pub fn give(
         × (after world number new (given_of given octets.items) ≡ record world { ends = with_node world.ends number (Some new); sent = sent.new.items }) }
 {
     match given {
-        Given::Nothing => Outcome::Nothing,
-        Given::Refusal(fault) => Outcome::Refused(fault),
-        Given::To(to) => Outcome::Sent(send(
+        CallOutcome::Nothing => Outcome::Nothing,
+        CallOutcome::Refusal(fault) => Outcome::Refused(fault),
+        CallOutcome::To(to) => Outcome::Sent(send(
             sent,
             Datagram {
                 from,

@@ -5,7 +5,7 @@ ghost use Rattle.nbt_name.specs.declared.addr.Kind.{Kind as KindValue};
 ghost use Rattle.nbt_world.specs.World.{WorldValue, AreAddrs, IsEnd, IsFresh};
 ghost use Rattle.nbt_world.specs.Step.{Advances, Step, number_in, TakesNoMemory};
 ghost use Rattle.nbt_world.specs.Safety.{Run, holding, MayHold, IsSafe, RunsSafely};
-ghost use Rattle.nbt_world.specs.Kept.{AreRead};
+ghost use Rattle.nbt_world.specs.Inner.Kept.{AreRead};
 ghost use Rattle.nbt_world.specs.declared.ends.Holder.{Holder as HolderValue};
 
 use crate::clocks::{Clocks, ENDS_MOST, Least, at_beginning, watch};
@@ -41,13 +41,13 @@ pub struct World {
 
 impl Model for World {
     ghost use Rattle.nbt_world.specs.World.{WorldValue};
-    ghost use Rattle.nbt_world.specs.Kept.{IsKept};
+    ghost use Rattle.nbt_world.specs.Inner.Kept.{Invariant};
 
     ghost Value = { WorldValue };
 
     ghost view = { λ w. record { now = w.clocks; config = w.config; ends = w.ends; sent = w.sent.items; least = w.least; kept = w.kept } };
 
-    ghost invariant = { λ w. IsKept (record { now = w.clocks; config = w.config; ends = w.ends; sent = w.sent.items; least = w.least; kept = w.kept }) };
+    ghost invariant = { λ w. Invariant (record { now = w.clocks; config = w.config; ends = w.ends; sent = w.sent.items; least = w.least; kept = w.kept }) };
 }
 
 impl World {

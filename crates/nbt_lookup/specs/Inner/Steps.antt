@@ -4,7 +4,7 @@ use Rattle.std.specs.List.{flat_map}
 use Rattle.nbt_name.specs.declared.addr.Addr.{Addr}
 use Rattle.nbt_node.specs.Node.{NodeValue}
 use Rattle.nbt_node.specs.Moves.{Told}
-use Rattle.nbt_engine.specs.Acts.{Act, came, Chain}
+use Rattle.nbt_engine.specs.PortCalls.{Act, came, Chain}
 use Rattle.nbt_lookup.specs.declared.turning.Progress.{Progress}
 use Rattle.nbt_lookup.specs.declared.turning.Progress.TheVariants as g
 use Rattle.nbt_lookup.specs.Looking.{Turn, acts_in, moments_in, Hears, Takes, GoesOn, Waits, is_end}

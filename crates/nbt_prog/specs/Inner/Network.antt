@@ -10,8 +10,8 @@ use Rattle.nbt_text.specs.Number.{SpellsNumber}
 use Rattle.nbt_net.specs.declared.node.NodeArguments.{NodeArguments}
 use Rattle.nbt_net.specs.declared.serve.ServeArguments.{ServeArguments}
 use Rattle.nbt_usage.specs.Limits.{least_of, most_of}
-use Rattle.nbt_usage.specs.declared.network.Limited.{Limited}
-use Rattle.nbt_usage.specs.declared.network.Limited.TheVariants.{Life, Longest, Ttl, Turns}
+use Rattle.nbt_usage.specs.declared.network.NumberArgument.{NumberArgument}
+use Rattle.nbt_usage.specs.declared.network.NumberArgument.TheVariants.{Life, Longest, Ttl, Turns}
 use Rattle.nbt_usage.specs.declared.words.NodeWords.{NodeWords}
 use Rattle.nbt_usage.specs.declared.words.ServeWords.{ServeWords}
 use Rattle.nbt_prog.specs.Inner.Arguments.{IsAddress}
@@ -20,10 +20,10 @@ use Rattle.nbt_prog.specs.declared.failure.Failure.{Failure}
 use Rattle.nbt_prog.specs.declared.failure.Failure.TheVariants.{Unreadable, Memory}
 
 -- The text is a number, in digits alone, within the limits that the help says.
-abbrev pub SpellsWithin : Limited → List ℕ → ℕ → Type 0
+abbrev pub SpellsWithin : NumberArgument → List ℕ → ℕ → Type 0
 SpellsWithin limited text number = SpellsNumber text number × ((least_of limited ≤ number) × (number ≤ most_of limited))
 
-abbrev pub IsWithin : Limited → List ℕ → Type 0
+abbrev pub IsWithin : NumberArgument → List ℕ → Type 0
 IsWithin limited text = (number : ℕ) × SpellsWithin limited text number
 
 -- The text spells a name that can be held: it doesn't begin with `*`.

@@ -14,7 +14,7 @@ use nbt_loop::Ports;
 use nbt_name::{Kind, Name};
 use nbt_net::{NodeArguments, ServeArguments};
 use nbt_text::{parse_address, parse_name, parse_number};
-use nbt_usage::{Limited, NodeWords, ServeWords, Which};
+use nbt_usage::{NetworkCommand, NodeWords, NumberArgument, ServeWords};
 use std::alloc::Global;
 
 /// The rows of a server.
@@ -26,8 +26,8 @@ pub fn serve_arguments(alloc: Global, words: &ServeWords<'_>) -> Result<ServeArg
     ensures given { IfOk result (ServeGiven words.now) }
     ensures failure { IfErr result (ServeFails words.now) }
 {
-    let config = config(alloc, Which::Server, words.life, words.longest)?;
-    let turns = turns(alloc, Which::Server, words.turns)?;
+    let config = config(alloc, NetworkCommand::Server, words.life, words.longest)?;
+    let turns = turns(alloc, NetworkCommand::Server, words.turns)?;
     let bind = parse_address(words.bind).ok_or(Failure::Unreadable)?;
     Ok(ServeArguments {
         bind,
@@ -41,9 +41,9 @@ pub fn node_arguments(alloc: Global, words: &NodeWords<'_>) -> Result<NodeArgume
     ensures given { IfOk result (NodeGiven words.now) }
     ensures failure { IfErr result (NodeFails words.now) }
 {
-    let config = config(alloc, Which::Node, words.life, words.longest)?;
-    let ttl = number(alloc, Which::Node, Limited::Ttl, words.ttl)? as u32;
-    let turns = turns(alloc, Which::Node, words.turns)?;
+    let config = config(alloc, NetworkCommand::Node, words.life, words.longest)?;
+    let ttl = number(alloc, NetworkCommand::Node, NumberArgument::Ttl, words.ttl)? as u32;
+    let turns = turns(alloc, NetworkCommand::Node, words.turns)?;
     let bind = parse_address(words.bind).ok_or(Failure::Unreadable)?;
     let server = parse_address(words.server).ok_or(Failure::Unreadable)?;
     let name = name_to_hold(words.name).ok_or(Failure::Unreadable)?;
@@ -81,13 +81,18 @@ fn parse_ports(text: &str) -> Option<Ports>
 }
 
 /// The limits of the server and its nodes.
-fn config(alloc: Global, which: Which, life: &str, longest: &str) -> Result<Config, Failure>
+fn config(
+    alloc: Global,
+    which: NetworkCommand,
+    life: &str,
+    longest: &str,
+) -> Result<Config, Failure>
     ensures read { IfOk result (IsConfigOf life.now longest.now) }
     ensures limits { IfOk result (λ _. AreLimits life.now longest.now) }
     ensures failure { IfErr result (IsUsageFailure (AreLimits life.now longest.now)) }
 {
-    let life = number(alloc, which, Limited::Life, life)?;
-    let longest = number(alloc, which, Limited::Longest, longest)? as u32;
+    let life = number(alloc, which, NumberArgument::Life, life)?;
+    let longest = number(alloc, which, NumberArgument::Longest, longest)? as u32;
     match Config::new(life, longest, ROWS) {
         Ok(config) => Ok(config),
         Err(_) => Err(Failure::Unreadable),
@@ -95,19 +100,24 @@ fn config(alloc: Global, which: Which, life: &str, longest: &str) -> Result<Conf
 }
 
 /// How many turns; `None` where there is no end.
-fn turns(alloc: Global, which: Which, text: Option<&str>) -> Result<Option<u64>, Failure>
+fn turns(alloc: Global, which: NetworkCommand, text: Option<&str>) -> Result<Option<u64>, Failure>
     ensures read { IfOk result (SpellsTurns text.entry) }
     ensures limits { IfOk result (λ _. AreTurns text.entry) }
     ensures failure { IfErr result (IsUsageFailure (AreTurns text.entry)) }
 {
     match text {
-        Some(text) => Ok(Some(number(alloc, which, Limited::Turns, text)?)),
+        Some(text) => Ok(Some(number(alloc, which, NumberArgument::Turns, text)?)),
         None => Ok(None),
     }
 }
 
 /// A number, in digits alone, within its limits; or the refusal of it.
-fn number(alloc: Global, which: Which, limited: Limited, text: &str) -> Result<u64, Failure>
+fn number(
+    alloc: Global,
+    which: NetworkCommand,
+    limited: NumberArgument,
+    text: &str,
+) -> Result<u64, Failure>
     ensures read { IfOk result (SpellsWithin limited text.now) }
     ensures failure { IfErr result (IsUsageFailure (IsWithin limited text.now)) }
 {
@@ -118,7 +128,7 @@ fn number(alloc: Global, which: Which, limited: Limited, text: &str) -> Result<u
 }
 
 /// Reads a number within its limits: digits alone, of which the first ones may be zeros.
-fn parse_within(limited: Limited, text: &str) -> Option<u64>
+fn parse_within(limited: NumberArgument, text: &str) -> Option<u64>
     ensures read { IfSome result (SpellsWithin limited text.now) }
     ensures found { IsWithin limited text.now → IsSome result }
 {
@@ -129,7 +139,7 @@ fn parse_within(limited: Limited, text: &str) -> Option<u64>
 }
 
 /// The number, where it is within its limits.
-fn within(limited: Limited, number: u64) -> Option<u64>
+fn within(limited: NumberArgument, number: u64) -> Option<u64>
     ensures found { IsSome result ↔ ((least_of limited ≤ number) × (number ≤ most_of limited)) }
     ensures value { IfSome result (λ n. n ≡ number) }
 {

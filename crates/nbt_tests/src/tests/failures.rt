@@ -1,7 +1,7 @@
 //! Writers and readers that fail, and memory that is refused.
 
 use super::terminal::words_of;
-use super::{Paper, expect_of_input};
+use super::{LimitedWriter, expect_of_input};
 use nbt_prog::command;
 use std::io;
 use std::io::Read;
@@ -25,7 +25,7 @@ fn a_writer_that_fails(rt: HostRuntime) {
     for (line, text) in PRINTED {
         let words = words_of(&rt, line);
         for calls in 0..text.len() {
-            let mut paper = Paper::short(calls);
+            let mut paper = LimitedWriter::short(calls);
             let status = command(rt.alloc(), words.as_slice(), &mut io::empty(), &mut paper);
             assert_eq!(rt; status, 3, "{line} cut at {calls}");
             assert_eq!(rt;
@@ -34,12 +34,12 @@ fn a_writer_that_fails(rt: HostRuntime) {
                 "{line} cut at {calls}"
             );
         }
-        let mut paper = Paper::stuck();
+        let mut paper = LimitedWriter::stuck();
         let status = command(rt.alloc(), words.as_slice(), &mut io::empty(), &mut paper);
         assert_eq!(rt; status, 3, "{line}");
         assert_eq!(rt; paper.text.as_slice(), text, "{line}");
     }
-    let mut paper = Paper::short(0);
+    let mut paper = LimitedWriter::short(0);
     let status = command(rt.alloc(), &["nbt", "--help"], &mut io::empty(), &mut paper);
     assert_eq!(rt; status, 3);
     assert!(rt; paper.text.is_empty());
@@ -135,7 +135,7 @@ const WITH_MEMORY: [(&[&str], &[u8], u8, &[&[u8]]); 9] = [
 #[test]
 fn memory_that_is_refused(rt: HostRuntime) {
     for (words, input, status, starts) in WITH_MEMORY {
-        let mut paper = Paper::new();
+        let mut paper = LimitedWriter::new();
         let mut reader = input;
         let got = command(rt.alloc(), words, &mut reader, &mut paper);
         let text = paper.text.as_slice();

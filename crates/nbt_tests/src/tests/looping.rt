@@ -1,6 +1,6 @@
 //! The command `loop`, over the sockets of this machine.
 
-use super::Paper;
+use super::LimitedWriter;
 use super::street::{Luck, Street};
 use super::terminal::words_of;
 use arrayvec::ArrayVec;
@@ -32,7 +32,7 @@ done
 #[test]
 fn a_server_and_two_nodes_twice_in_a_row(rt: HostRuntime) {
     for _ in 0..2 {
-        let mut paper = Paper::new();
+        let mut paper = LimitedWriter::new();
         let words = ["nbt", "loop", "21037"];
         let status = command_on(&rt, rt.alloc(), &words, &mut io::empty(), &mut paper);
         assert_eq!(rt; paper.text.as_slice(), TOLD.as_bytes());
@@ -43,7 +43,7 @@ fn a_server_and_two_nodes_twice_in_a_row(rt: HostRuntime) {
 
 #[test]
 fn without_a_network(rt: HostRuntime) {
-    let mut paper = Paper::new();
+    let mut paper = LimitedWriter::new();
     let words = ["nbt", "loop", "22237"];
     let status = command(rt.alloc(), &words, &mut io::empty(), &mut paper);
     assert_eq!(rt; paper.text.as_slice(), b"device\n".as_slice());
@@ -86,8 +86,8 @@ fn ports_that_can_not_be_had(rt: HostRuntime) -> Result<(), Fail> {
     let _sessions = TcpListener::bind(&rt, end(2, 22439))?;
     for (line, text) in NOT_BOUND {
         let words = words_of(&rt, line);
-        let mut paper = Paper::new();
-        let mut errors = Paper::new();
+        let mut paper = LimitedWriter::new();
+        let mut errors = LimitedWriter::new();
         let status = command_telling(
             &rt,
             rt.alloc(),
@@ -207,7 +207,7 @@ fn teller_of(rt: &HostRuntime) -> io::Result<(UdpSocket, u16)> {
 /// is sent.
 #[derive(Drop)]
 struct Watcher<'s, 'a> {
-    paper: Paper,
+    paper: LimitedWriter,
     street: &'s Street<'a, HostRuntime>,
     open: ArrayVec<usize, 16>,
 }
@@ -234,7 +234,7 @@ fn strangers_and_a_connection_that_fails_change_nothing(rt: HostRuntime) -> Resu
         let open = Cell::new(0);
         let street = street_of(&rt, &open, caller, listener, port);
         let mut told = Watcher {
-            paper: Paper::new(),
+            paper: LimitedWriter::new(),
             street: &street,
             open: ArrayVec::new(),
         };
@@ -284,8 +284,8 @@ const WHY_WITHOUT_CALLS: &str = "nbt: 127.0.0.2:21139: accept: invalid input par
 fn a_socket_that_listens_and_fails_ends_all(rt: HostRuntime) {
     let open = Cell::new(0);
     let street = street_of(&rt, &open, Luck::Well, Luck::Refused, ABOVE);
-    let mut paper = Paper::new();
-    let mut errors = Paper::new();
+    let mut paper = LimitedWriter::new();
+    let mut errors = LimitedWriter::new();
     let words = ["nbt", "loop", "21137"];
     let status = command_telling(
         &street,

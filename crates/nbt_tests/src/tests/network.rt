@@ -1,6 +1,6 @@
 //! The commands that open sockets: their words, and what they do on this machine with nobody else.
 
-use super::Paper;
+use super::LimitedWriter;
 use super::terminal::{play, words_of};
 use nbt_prog::{command, command_on};
 use std::io;
@@ -153,7 +153,7 @@ const DONE: [(&str, u8, &[u8]); 3] = [
 fn with_nobody_else(rt: HostRuntime) {
     for (line, status, text) in DONE {
         let words = words_of(&rt, line);
-        let mut paper = Paper::new();
+        let mut paper = LimitedWriter::new();
         let got = command_on(
             &rt,
             rt.alloc(),
@@ -164,7 +164,7 @@ fn with_nobody_else(rt: HostRuntime) {
         assert_eq!(rt; paper.text.as_slice(), text, "{line}");
         assert_eq!(rt; got, status, "{line}");
         assert!(rt; paper.is_line_by_line(), "{line}");
-        let mut paper = Paper::new();
+        let mut paper = LimitedWriter::new();
         let got = command(rt.alloc(), words.as_slice(), &mut io::empty(), &mut paper);
         assert_eq!(rt; paper.text.as_slice(), b"device\n".as_slice(), "{line}");
         assert_eq!(rt; got, 3, "{line}");
@@ -193,7 +193,7 @@ const LINES: [(&str, &[u8]); 4] = [
 fn a_writer_that_failed_is_told_nothing_more(rt: HostRuntime) {
     for (line, text) in LINES {
         let words = words_of(&rt, line);
-        let mut paper = Paper::stuck();
+        let mut paper = LimitedWriter::stuck();
         let status = command_on(
             &rt,
             rt.alloc(),
@@ -203,7 +203,7 @@ fn a_writer_that_failed_is_told_nothing_more(rt: HostRuntime) {
         );
         assert_eq!(rt; status, 3, "{line}");
         assert_eq!(rt; paper.text.as_slice(), text, "{line}");
-        let mut paper = Paper::short(3);
+        let mut paper = LimitedWriter::short(3);
         let status = command_on(
             &rt,
             rt.alloc(),

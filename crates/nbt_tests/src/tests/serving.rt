@@ -1,6 +1,6 @@
 //! The commands `serve` and `node` with another end, over UDP and a clock that is set: what they print and send.
 
-use super::Paper;
+use super::LimitedWriter;
 use super::machine::{Machine, WELL};
 use super::terminal::{word_of, words_of};
 use nbt_prog::{command_on, command_telling};
@@ -320,8 +320,8 @@ where
 {
     let machine = machine_of(rt, row)?;
     let words = words_of(rt, row.words);
-    let mut paper = Paper::new();
-    let mut errors = Paper::new();
+    let mut paper = LimitedWriter::new();
+    let mut errors = LimitedWriter::new();
     let status = command_telling(
         &machine,
         rt.alloc(),
@@ -428,8 +428,8 @@ where
     machine.well_after = 3;
     machine.breaks_again_at = breaks_again_at;
     let words = words_of(rt, row.words);
-    let mut paper = Paper::new();
-    let mut errors = Paper::new();
+    let mut paper = LimitedWriter::new();
+    let mut errors = LimitedWriter::new();
     let status = command_telling(
         &machine,
         rt.alloc(),
@@ -473,7 +473,7 @@ fn an_event_that_can_not_be_told(rt: HostRuntime) -> Result<(), Fail> {
     for (row, line) in NODES.iter().zip(FIRST_LINES) {
         let machine = machine_of(&rt, row)?;
         let words = words_of(&rt, row.words);
-        let mut paper = Paper::stuck();
+        let mut paper = LimitedWriter::stuck();
         let status = command_on(
             &machine,
             rt.alloc(),

@@ -8,7 +8,7 @@
 //! - Each other line is printed, in this order and no other; `= WORD` is a line of such a word. `...` stands, once, for
 //!   anything.
 
-use super::Paper;
+use super::LimitedWriter;
 use nbt_prog::{command, command_on};
 use std::net::Net;
 use std::process::Abort;
@@ -36,11 +36,11 @@ struct Run {
 pub fn play<R: Abort + AllocGlobal + Net + Clock>(rt: &R, runs: &str) {
     for text in runs.split("\n\n") {
         let run = read_run(rt, text);
-        let mut paper = Paper::new();
+        let mut paper = LimitedWriter::new();
         let mut input = run.input.as_bytes();
         let status = command(rt.alloc(), run.words.as_slice(), &mut input, &mut paper);
         expect_run(rt, text, &run, status, &paper);
-        let mut paper = Paper::new();
+        let mut paper = LimitedWriter::new();
         let mut input = run.input.as_bytes();
         let words = run.words.as_slice();
         let status = command_on(rt, rt.alloc(), words, &mut input, &mut paper);
@@ -49,7 +49,7 @@ pub fn play<R: Abort + AllocGlobal + Net + Clock>(rt: &R, runs: &str) {
 }
 
 /// What a run did, against what is wanted of it.
-fn expect_run<R: Abort>(rt: &R, message: &str, run: &Run, status: u8, paper: &Paper) {
+fn expect_run<R: Abort>(rt: &R, message: &str, run: &Run, status: u8, paper: &LimitedWriter) {
     let got = paper.text.as_slice();
     match run.text.as_str().split_once("...") {
         Some((start, end)) => {

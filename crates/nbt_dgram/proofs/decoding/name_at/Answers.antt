@@ -1,5 +1,5 @@
 use Rattle.std.proofs.Common.{refl}
-use Rattle.nbt_dgram.specs.Decoding.{name_bad}
+use Rattle.nbt_dgram.specs.Inner.Decoding.{name_bad}
 use Rattle.nbt_dgram.proofs.decoding.name_at.Goals as goal
 
 pub returns-in-Err-clause-fault : goal.returns-in-Err-clause-fault

@@ -3,7 +3,7 @@ use Rattle.std.proofs.lemmas.Result.{err_from_is_err_and}
 use Rattle.nbt_name.specs.Wire.{NameValue}
 use Rattle.nbt_name.specs.Reading.{PlainNameAt}
 use Rattle.nbt_dgram.specs.declared.fault.DgramFault.{DgramFault}
-use Rattle.nbt_dgram.specs.Decoding.{NameFaultAt, name_bad}
+use Rattle.nbt_dgram.specs.Inner.Decoding.{NameFaultAt, name_bad}
 use Rattle.nbt_dgram.specs.Dgram.{NamesFault, source_bad, destination_bad}
 use Rattle.nbt_dgram.proofs.decoding.part_at.Goals as goal
 

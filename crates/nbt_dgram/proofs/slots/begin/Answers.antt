@@ -1,5 +1,5 @@
 use Rattle.std.proofs.Common.{sym}
-use Rattle.nbt_dgram.specs.Joining.{no_place, in_place}
+use Rattle.nbt_dgram.specs.Inner.Joining.{no_place, in_place}
 use Rattle.nbt_dgram.proofs.slots.begin.Goals as goal
 
 pub returns-in_default : goal.returns-in_default

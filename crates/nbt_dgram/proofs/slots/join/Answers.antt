@@ -1,6 +1,6 @@
 use Rattle.std.proofs.Common.{◌<◌, ◌≤◌, sym, arith}
 use Rattle.nbt_dgram.specs.Dgram.{fragment_of}
-use Rattle.nbt_dgram.specs.Pieces.{end_of}
+use Rattle.nbt_dgram.specs.Fragments.{end_of}
 use Rattle.nbt_dgram.specs.Joiner.{joined_of, too_long}
 use Rattle.nbt_dgram.proofs.SlotLists.{all_emptied_room, begins_room, begins_join, taken, waits_join, done_join, join_at_room, not_waiting}
 use Rattle.nbt_dgram.proofs.slots.join.Goals as goal

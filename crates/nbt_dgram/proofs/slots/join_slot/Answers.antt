@@ -1,4 +1,4 @@
-use Rattle.nbt_dgram.specs.Joining.{disagrees, unfinished, finished}
+use Rattle.nbt_dgram.specs.Inner.Joining.{disagrees, unfinished, finished}
 use Rattle.nbt_dgram.proofs.slots.join_slot.Goals as goal
 
 pub returns-then-not-agrees : goal.returns-then-not-agrees

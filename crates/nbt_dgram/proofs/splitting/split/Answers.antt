@@ -3,7 +3,7 @@ use Rattle.nbt_dgram.specs.declared.dgram.Names.{Names}
 use Rattle.nbt_dgram.specs.declared.dgram.Part.TheVariants.{First}
 use Rattle.nbt_dgram.specs.Dgram.{DgramValue}
 use Rattle.nbt_dgram.specs.Text.{names_text}
-use Rattle.nbt_dgram.specs.Pieces.{one, size_of}
+use Rattle.nbt_dgram.specs.Fragments.{one, size_of}
 use Rattle.nbt_dgram.proofs.Cutting.{one_is_split, cut_is_split}
 use Rattle.nbt_dgram.proofs.splitting.split.Goals as goal
 

@@ -1,6 +1,6 @@
 use Rattle.std.proofs.Common.{refl, ◌≤◌, arith, true, false, subst}
 use Rattle.std.proofs.lemmas.Result.{err_from_is_err_and}
-use Rattle.nbt_engine.specs.Acts.{receive_failed, sent, send_failed}
+use Rattle.nbt_engine.specs.PortCalls.{receive_failed, sent, send_failed}
 use Rattle.nbt_engine.specs.Serving.{of_receive}
 use Rattle.nbt_engine.proofs.Chains.{chain_one}
 use Rattle.nbt_engine.proofs.Running.{breaks_one}

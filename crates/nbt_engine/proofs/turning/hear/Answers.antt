@@ -1,5 +1,5 @@
 use Rattle.std.proofs.Common.{[], ◌∷◌, refl}
-use Rattle.nbt_engine.specs.Acts.{sent}
+use Rattle.nbt_engine.specs.PortCalls.{sent}
 use Rattle.nbt_engine.specs.Turning.{hears_back}
 use Rattle.nbt_engine.proofs.Chains.{chain_one}
 use Rattle.nbt_engine.proofs.Sending.{heard_reply, heard_other}

@@ -3,8 +3,8 @@ use Rattle.nbt_lease.specs.declared.lease.Lease.{Lease}
 use Rattle.nbt_lease.specs.declared.fault.GrantFault.TheVariants.{TableFull, OutOfMemory}
 use Rattle.nbt_lease.specs.Lease.{at_name}
 use Rattle.nbt_lease.specs.Rules.{begun, end_of, table_full}
-use Rattle.nbt_lease.specs.Index.{members_of}
-use Rattle.nbt_lease.specs.Placing.{Places}
+use Rattle.nbt_lease.specs.Inner.Index.{members_of}
+use Rattle.nbt_lease.specs.Inner.Placing.{Places}
 use Rattle.nbt_lease.proofs.Placing.{refuses, runs_out, begins_lease}
 use Rattle.nbt_lease.proofs.table.begin.Goals as goal
 

@@ -2,7 +2,7 @@ use Rattle.std.proofs.Common.{Ok, Option, refl, subst}
 use Rattle.std.proofs.lemmas.Result.{err_from_is_err_and}
 use Rattle.nbt_name.specs.declared.addr.Addr.{Addr}
 use Rattle.nbt_node.specs.Moves.{nothing}
-use Rattle.nbt_engine.specs.Acts.{came, nothing_came, receiving}
+use Rattle.nbt_engine.specs.PortCalls.{came, nothing_came, receiving}
 use Rattle.nbt_lookup.specs.Looking.{Hears, hears_nothing}
 use Rattle.nbt_lookup.proofs.turning.listen.Goals as goal
 

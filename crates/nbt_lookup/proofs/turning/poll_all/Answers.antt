@@ -1,6 +1,6 @@
 use Rattle.std.proofs.Common.{[], ◌∷◌, ◌∙◌, refl}
 use Rattle.std.proofs.lemmas.Result.{err_from_is_err_and}
-use Rattle.nbt_engine.specs.Acts.{send_failed}
+use Rattle.nbt_engine.specs.PortCalls.{send_failed}
 use Rattle.nbt_engine.proofs.Chains.{chain_one, chain-append}
 use Rattle.nbt_engine.proofs.Dues.{polls_fewer}
 use Rattle.nbt_engine.proofs.Sending.{polls_ended, polls_on}

@@ -1,5 +1,5 @@
 use Rattle.std.proofs.Common.{◌≡◌, List}
-use Rattle.nbt_engine.specs.Acts.{Act, Chain}
+use Rattle.nbt_engine.specs.PortCalls.{Act, Chain}
 use Rattle.nbt_engine.specs.Turning.{PollsTo}
 use Rattle.nbt_engine.proofs.Dues.{dues}
 use Rattle.nbt_lookup.proofs.turning.poll_all.Given as goal

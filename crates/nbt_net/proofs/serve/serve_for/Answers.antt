@@ -7,10 +7,10 @@ returns-in_err-counts-in-Some-clause-device g c = rw c.in-Some.is (λ same. (c.i
 
 pub returns-in_ok-map_err-in-Some-clause-ok : goal.returns-in_ok-map_err-in-Some-clause-ok
 returns-in_ok-map_err-in-Some-clause-ok g c = rw c.in-Some.is (
-    c.in_ok-counts-in-Some.counts,
-    c.in_ok-counts-in-Some.ensures.ok,
-    ok_before c.print_counts.result c.map_err.result c.map_err.ensures.variant _ c.in_ok-map_err-in-Some.was c.print_counts.ensures,
-  )
+  c.in_ok-counts-in-Some.counts,
+  c.in_ok-counts-in-Some.ensures.ok,
+  ok_before c.print_counts.result c.map_err.result c.map_err.ensures.variant _ c.in_ok-map_err-in-Some.was c.print_counts.ensures,
+)
 
 pub returns-in_err-map_err-in-Some-clause-output : goal.returns-in_err-map_err-in-Some-clause-output
 returns-in_err-map_err-in-Some-clause-output g c = rw c.in-Some.is (λ same. (c.in_ok-counts-in-Some.counts, c.in_ok-counts-in-Some.ensures.ok))

@@ -1,7 +1,7 @@
 use Rattle.std.proofs.Common.{◌≡◌, ◌++◌, ◌∷◌, [], Some, length, sym, ap, subst, ◌∙◌, arith}
 use Rattle.std.proofs.lemmas.Result.{on_ok_weaker}
 use Rattle.nbt_lease.specs.Lease.{HasNone, at_name}
-use Rattle.nbt_lease.specs.Index.{Entries, members_of, rows_of, Agrees}
+use Rattle.nbt_lease.specs.Inner.Index.{Entries, members_of, rows_of, Agrees}
 use Rattle.nbt_lease.proofs.Agreeing.{absent, begins, stays, members_at, members_stay, either_way, on_err_weaker}
 use Rattle.nbt_lease.proofs.Flat.{counted}
 use Rattle.nbt_lease.proofs.index.Index.begin.Goals as goal

@@ -2,11 +2,11 @@ use Rattle.std.proofs.Common.{◌≡◌, ◌≢◌, ◌==◌, ◌++◌, ◌∷�
 use Rattle.std.specs.List.{IsDistinct}
 use Rattle.std.specs.Map.{lookup, keys_of}
 use Rattle.std.proofs.lemmas.Bool.{ne_eqb}
-use Rattle.nbt_name.specs.Wire.{NameValue, same_name as is_name}
+use Rattle.nbt_name.specs.Wire.{NameValue, same_name}
 use Rattle.nbt_lease.specs.declared.lease.Lease.{Lease}
 use Rattle.nbt_lease.specs.declared.ends.Due.{Due}
 use Rattle.nbt_lease.specs.Lease.{at_name}
-use Rattle.nbt_lease.specs.Index.{Entries, members_of, rows_of, due, is_due, in_set, Agrees, IsMember, Renewed}
+use Rattle.nbt_lease.specs.Inner.Index.{Entries, members_of, rows_of, due, is_due, in_set, Agrees, IsMember, Renewed}
 use Rattle.nbt_lease.proofs.Changes.{at_same}
 use Rattle.nbt_lease.proofs.Agreeing.{other_end, renews, members_at, on_err, unwritten, named_is}
 use Rattle.nbt_lease.proofs.Flat.{counted}
@@ -81,7 +81,7 @@ invariant_of-self-2 c =
     renews es (c.get_mut.follows.lender c.set_end.new.self).entries ds c.remove.new.self name c.args.addr c.args.end p.0 p.2 lease c.self.invariant held.4 c.remove.ensures.distinct
     (record { is = named_is c.self.inside.members.entries c.args.name.now c.in-Some.named.now c.in-Some.ensures.value ∙ p.3.is; owner_is = p.3.owner_is })
     (λ same. omega (arith, told, same, c.if-end-before.false))
-    (λ q. (held.3 (ap is_some (sym c.in-Some.ensures.value))).0 q ∙ ap (λ (ls : List Lease). cond (is_name name q) (Some ls) (lookup (is_name q) es)) written)
+    (λ q. (held.3 (ap is_some (sym c.in-Some.ensures.value))).0 q ∙ ap (λ (ls : List Lease). cond (same_name name q) (Some ls) (lookup (same_name q) es)) written)
     (λ d. c.remove.ensures.found d ∙ (λ i. cond (is_due (due (told i) name (sym p.3.owner_is i)) d) false
     ((c.in_ok-insert.ensures.found d ∙ (λ j. cond (is_due (due c.args.end name (sym p.3.owner_is j)) d) true (in_set ds d))) i)))
 
@@ -103,7 +103,7 @@ returns-clause-renewed c =
       until_is = omega (arith, told, c.if-end-before.false);
       after_is =
           members_at es (c.get_mut.follows.lender c.set_end.new.self).entries name (Some new)
-          (λ q. (held.3 (ap is_some (sym c.in-Some.ensures.value))).0 q ∙ ap (λ (ls : List Lease). cond (is_name name q) (Some ls) (lookup (is_name q) es)) written)
+          (λ q. (held.3 (ap is_some (sym c.in-Some.ensures.value))).0 q ∙ ap (λ (ls : List Lease). cond (same_name name q) (Some ls) (lookup (same_name q) es)) written)
           ∙ ap (λ (fs : Entries). at_name name new (members_of fs)) c.self.view_is;
     }
 

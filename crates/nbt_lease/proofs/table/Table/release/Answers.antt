@@ -3,39 +3,39 @@ use Rattle.std.specs.List.{filter}
 use Rattle.nbt_name.specs.Wire.{NameValue}
 use Rattle.nbt_lease.specs.Lease.{TableValue, Leases, is_live, leases_at, IsSound}
 use Rattle.nbt_lease.specs.Rules.{Releases}
-use Rattle.nbt_lease.specs.Index.{members_of, rows_of, AreLive}
+use Rattle.nbt_lease.specs.Inner.Index.{members_of, rows_of, AreLive}
 use Rattle.nbt_lease.proofs.Sound.{sound_later, sound_released}
 use Rattle.nbt_lease.proofs.Flat.{leases_members}
 use Rattle.nbt_lease.proofs.Placing.{Left, left_over, holds_live, live_after_release, nothing_released}
 use Rattle.nbt_lease.proofs.table.Table.release.Goals as goal
 
-left : (c : goal.After-take_back) → Left c.args.now c.self.inside.index c.take_out_due.new.index
+left : (c : goal.After-end_lease) → Left c.args.now c.self.inside.index c.drop_expired.new.index
 left c =
-    left_over c.args.now c.self.inside.index c.take_out_due.new.index c.self.invariant.0 c.take_out_due.ensures.names
-    (subst (λ (m : ℕ). (q : NameValue) → members_of c.take_out_due.new.index q ≡ filter (is_live m) (members_of c.self.inside.index q)) c.get.ensures.value c.take_out_due.ensures.leases)
+    left_over c.args.now c.self.inside.index c.drop_expired.new.index c.self.invariant.0 c.drop_expired.ensures.names
+    (subst (λ (m : ℕ). (q : NameValue) → members_of c.drop_expired.new.index q ≡ filter (is_live m) (members_of c.self.inside.index q)) c.get.ensures.value c.drop_expired.ensures.leases)
 
-taken : (c : goal.After-take_back) → Releases c.args.self.now c.args.now c.args.name.now c.args.addr c.take_back.result (members_of c.take_back.new.index)
-taken c = c.take_back.ensures.rule c.args.self.now c.args.now (holds_live c.args.self.now c.args.now c.self.inside.index c.take_out_due.new.index (ap (λ (v : TableValue). v.rows) c.self.view_is) (left c))
+taken : (c : goal.After-end_lease) → Releases c.args.self.now c.args.now c.args.name.now c.args.addr c.end_lease.result (members_of c.end_lease.new.index)
+taken c = c.end_lease.ensures.rule c.args.self.now c.args.now (holds_live c.args.self.now c.args.now c.self.inside.index c.drop_expired.new.index (ap (λ (v : TableValue). v.rows) c.self.view_is) (left c))
 
 -- all leases live afterwards
-live_rows : (c : goal.After-take_back) → leases_at c.args.now (rows_of c.take_back.new.index) ≡ members_of c.take_back.new.index
+live_rows : (c : goal.After-end_lease) → leases_at c.args.now (rows_of c.end_lease.new.index) ≡ members_of c.end_lease.new.index
 live_rows c =
-    leases_members c.args.now c.take_back.new.index c.take_back.ensures.names
-    (live_after_release c.args.self.now c.args.now c.args.name.now c.args.addr c.take_back.result (members_of c.take_back.new.index) (taken c)
+    leases_members c.args.now c.end_lease.new.index c.end_lease.ensures.names
+    (live_after_release c.args.self.now c.args.now c.args.name.now c.args.addr c.end_lease.result (members_of c.end_lease.new.index) (taken c)
     (subst (λ (f : Leases). (q : NameValue) → AreLive c.args.now (f q)) ((left c).leases ∙ ap (λ (v : TableValue). leases_at c.args.now v.rows) c.self.view_is) (left c).live))
 
 pub returns-clause-rule : goal.returns-clause-rule
-returns-clause-rule c = subst (λ (f : Leases). Releases c.args.self.now c.args.now c.args.name.now c.args.addr c.take_back.result f) (sym (live_rows c)) (taken c)
+returns-clause-rule c = subst (λ (f : Leases). Releases c.args.self.now c.args.now c.args.name.now c.args.addr c.end_lease.result f) (sym (live_rows c)) (taken c)
 
 pub returns-clause-unchanged : goal.returns-clause-unchanged
-returns-clause-unchanged c = nothing_released c.args.self.now c.args.now c.args.name.now c.args.addr c.take_back.result (leases_at c.args.now (rows_of c.take_back.new.index)) (returns-clause-rule c)
+returns-clause-unchanged c = nothing_released c.args.self.now c.args.now c.args.name.now c.args.addr c.end_lease.result (leases_at c.args.now (rows_of c.end_lease.new.index)) (returns-clause-rule c)
 
 pub returns-clause-sound : goal.returns-clause-sound
 returns-clause-sound c =
     let t = c.args.self.now in
-    subst (λ (v : TableValue). IsSound v.config c.args.now (leases_at c.args.now (rows_of c.take_back.new.index))) (sym c.self.view_is)
-    (sound_released t c.args.now c.args.name.now c.args.addr c.take_back.result (leases_at c.args.now (rows_of c.take_back.new.index))
+    subst (λ (v : TableValue). IsSound v.config c.args.now (leases_at c.args.now (rows_of c.end_lease.new.index))) (sym c.self.view_is)
+    (sound_released t c.args.now c.args.name.now c.args.addr c.end_lease.result (leases_at c.args.now (rows_of c.end_lease.new.index))
     (sound_later t.config t.last c.args.now t.rows c.requires (subst (λ (v : TableValue). IsSound v.config v.last (leases_at v.last v.rows)) c.self.view_is c.self.invariant.1)) (returns-clause-rule c))
 
 pub invariant_of-self : goal.invariant_of-self
-invariant_of-self c = (c.take_back.ensures.names, returns-clause-sound c, omega (arith, c.self.invariant.2, c.take_out_due.ensures.fewer, c.take_back.ensures.count))
+invariant_of-self c = (c.end_lease.ensures.names, returns-clause-sound c, omega (arith, c.self.invariant.2, c.drop_expired.ensures.fewer, c.end_lease.ensures.count))

@@ -2,7 +2,7 @@ use Rattle.std.proofs.Common.{◌≡◌, Some, ap, subst, ◌∙◌}
 use Rattle.nbt_node.specs.declared.state.Slot.{Slot}
 use Rattle.nbt_node.specs.Node.{NodeValue}
 use Rattle.nbt_node.specs.Calls.{slot_due}
-use Rattle.nbt_node.specs.Sending.{IsSending}
+use Rattle.nbt_node.specs.Inner.Sending.{IsSending}
 use Rattle.nbt_node.proofs.Moving.{polls_sending}
 use Rattle.nbt_node.proofs.node.Node.poll.Goals as goal
 

@@ -7,10 +7,10 @@ returns-in-Some-clause-does c =
     let reads : Reads c.args.self.now c.args.number c.deref_mut.result.now c.index-deref_mut-number.result =
     record { lent = c.deref_mut.ensures.value; some = c.if-number-eq0.false; within = omega arith; read = c.index-deref_mut-number.is } in (
       c.in-Some.node,
-      c.does-given.new.node,
+      c.call_node-given.new.node,
       node_read c.args.self.now c.args.number _ _ reads ∙ c.in-Some.is,
-      c.does-given.ensures,
-      written_node c.args.self.now c.args.number _ _ (Some c.does-given.new.node) reads,
+      c.call_node-given.ensures,
+      written_node c.args.self.now c.args.number _ _ (Some c.call_node-given.new.node) reads,
       c.addr.ensures,
     )
 

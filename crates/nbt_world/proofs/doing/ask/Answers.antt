@@ -1,9 +1,0 @@
-use Rattle.std.proofs.Common.{sym}
-use Rattle.nbt_world.specs.Step.{asks, ask_refused}
-use Rattle.nbt_world.proofs.doing.ask.Goals as goal
-
-pub returns-in-Ok : goal.returns-in-Ok
-returns-in-Ok c = λ number. rw (← c.requires) (asks number _ _ _ _ _ (sym c.in-Ok.ensures.refused) c.in-Ok.ensures.ok)
-
-pub returns-in-Err : goal.returns-in-Err
-returns-in-Err c = λ number. rw (c.number.ensures, c.in-Err.ensures.err.0) (ask_refused number _ _ _ _ (sym c.in-Err.ensures.refused))
