@@ -7,7 +7,7 @@ use Rattle.std.proofs.lemmas.List.Concat.{flat_map-append}
 use Rattle.nbt_name.specs.declared.addr.Addr.{Addr}
 use Rattle.nbt_node.specs.Node.{NodeValue}
 use Rattle.nbt_node.specs.Calls.{Polls}
-use Rattle.nbt_engine.specs.PortCalls.{Act, receive_failed, send_failed, Chain}
+use Rattle.nbt_engine.specs.PortCalls.{PortCall, receive_failed, send_failed, Chain}
 use Rattle.nbt_engine.specs.Turning.{PollsTo, PollsAll}
 use Rattle.nbt_engine.proofs.Chains.{chain_one, chain-append}
 use Rattle.nbt_lookup.specs.declared.looking.Ending.TheVariants as e
@@ -21,8 +21,8 @@ IfOk-map P Q (Err x) h f = tt
 
 -- ---- one turn
 
-pub turn_waits : {P C : Type 0} (does : P → Act → P → Type 0) (tells : C → ℕ → C → Type 0) (limit : ℕ) (ended : Bool) (octets : List ℕ) (first : ℕ) (a p q : P) (b c d : C) (r s t : NodeValue)
-    → ended ≡ false → GoesOn limit r first → tells b first c → ((polling : List Act) × PollsAll first r polling s × Chain does a polling p) → HeardIs does tells ended octets p c s q d t
+pub turn_waits : {P C : Type 0} (does : P → PortCall → P → Type 0) (tells : C → ℕ → C → Type 0) (limit : ℕ) (ended : Bool) (octets : List ℕ) (first : ℕ) (a p q : P) (b c d : C) (r s t : NodeValue)
+    → ended ≡ false → GoesOn limit r first → tells b first c → ((polling : List PortCall) × PollsAll first r polling s × Chain does a polling p) → HeardIs does tells ended octets p c s q d t
     → TurnIs does tells limit g.Waits octets a b r q d t
 turn_waits does tells limit ended octets first a p q b c d r s t is on told polls h = (
   record { first = first; second = h.second; polling = polls.0; hearing = h.hearing },
@@ -31,8 +31,8 @@ turn_waits does tells limit ended octets first a p q b c d r s t is on told poll
   (c, told, chain_one tells c h.second d h.clock_told),
 )
 
-pub turn_tells : {P C : Type 0} (does : P → Act → P → Type 0) (tells : C → ℕ → C → Type 0) (limit : ℕ) (ended : Bool) (octets : List ℕ) (first : ℕ) (a p q : P) (b c d : C) (r s t : NodeValue)
-    → ended ≡ true → GoesOn limit r first → tells b first c → ((polling : List Act) × PollsAll first r polling s × Chain does a polling p) → HeardIs does tells ended octets p c s q d t
+pub turn_tells : {P C : Type 0} (does : P → PortCall → P → Type 0) (tells : C → ℕ → C → Type 0) (limit : ℕ) (ended : Bool) (octets : List ℕ) (first : ℕ) (a p q : P) (b c d : C) (r s t : NodeValue)
+    → ended ≡ true → GoesOn limit r first → tells b first c → ((polling : List PortCall) × PollsAll first r polling s × Chain does a polling p) → HeardIs does tells ended octets p c s q d t
     → TurnIs does tells limit g.Told octets a b r q d t
 turn_tells does tells limit ended octets first a p q b c d r s t is on told polls h =
     let ends : is_end h.told ≡ true = sym h.ended_is ∙ is in
@@ -45,16 +45,16 @@ turn_tells does tells limit ended octets first a p q b c d r s t is on told poll
 
 -- ---- turns
 
-pub passed_none : {P C : Type 0} (does : P → Act → P → Type 0) (tells : C → ℕ → C → Type 0) (limit : ℕ) (p : P) (c : C) (s : NodeValue) → Passed does tells limit 0 p c s p c s
+pub passed_none : {P C : Type 0} (does : P → PortCall → P → Type 0) (tells : C → ℕ → C → Type 0) (limit : ℕ) (p : P) (c : C) (s : NodeValue) → Passed does tells limit 0 p c s p c s
 passed_none does tells limit p c s = record { turns = []; waits = refl; port_did = refl; clock_told = refl; count_is = refl }
 
-pub passed_on : {P C : Type 0} (does : P → Act → P → Type 0) (tells : C → ℕ → C → Type 0) (limit count : ℕ) (octets : List ℕ) (p q r : P) (c d b : C) (s t u : NodeValue)
+pub passed_on : {P C : Type 0} (does : P → PortCall → P → Type 0) (tells : C → ℕ → C → Type 0) (limit count : ℕ) (octets : List ℕ) (p q r : P) (c d b : C) (s t u : NodeValue)
     → Passed does tells limit count p c s q d t → TurnIs does tells limit g.Waits octets q d t r b u → Passed does tells limit (count + 1) p c s r b u
 passed_on does tells limit count octets p q r c d b s t u x y = record {
   turns = x.turns ++ y.0 ∷ [];
   waits = chain-append (Waits limit) s t u x.turns (y.0 ∷ []) x.waits (chain_one (Waits limit) t y.0 u y.1);
-  port_did = subst (λ (xs : List Act). Chain does p xs r) (sym (flat_map-append acts_in x.turns (y.0 ∷ [])))
-      (chain-append does p q r (flat_map acts_in x.turns) (flat_map acts_in (y.0 ∷ [])) x.port_did (subst (λ (xs : List Act). Chain does q xs r) (sym (append-nil (acts_in y.0))) y.2));
+  port_did = subst (λ (xs : List PortCall). Chain does p xs r) (sym (flat_map-append acts_in x.turns (y.0 ∷ [])))
+      (chain-append does p q r (flat_map acts_in x.turns) (flat_map acts_in (y.0 ∷ [])) x.port_did (subst (λ (xs : List PortCall). Chain does q xs r) (sym (append-nil (acts_in y.0))) y.2));
   clock_told = subst (λ (xs : List ℕ). Chain tells c xs b) (sym (flat_map-append moments_in x.turns (y.0 ∷ [])))
       (chain-append tells c d b (flat_map moments_in x.turns) (flat_map moments_in (y.0 ∷ [])) x.clock_told (subst (λ (xs : List ℕ). Chain tells d xs b) (sym (append-nil (moments_in y.0))) y.3));
   count_is = omega (arith, length-append x.turns (y.0 ∷ []), x.count_is);
@@ -62,7 +62,7 @@ passed_on does tells limit count octets p q r c d b s t u x y = record {
 
 -- ---- ends
 
-pub told_at_last : {P C : Type 0} (does : P → Act → P → Type 0) (tells : C → ℕ → C → Type 0) (limit most count : ℕ) (octets : List ℕ) (p q r : P) (c d b : C) (s t u : NodeValue)
+pub told_at_last : {P C : Type 0} (does : P → PortCall → P → Type 0) (tells : C → ℕ → C → Type 0) (limit most count : ℕ) (octets : List ℕ) (p q r : P) (c d b : C) (s t u : NodeValue)
     → Passed does tells limit count p c s q d t → TurnIs does tells limit g.Told octets q d t r b u → Waited does tells limit most e.Told octets p c s r b u
 told_at_last does tells limit most count octets p q r c d b s t u x y = record {
   turns = x.turns;
@@ -75,7 +75,7 @@ told_at_last does tells limit most count octets p q r c d b s t u x y = record {
   clock_told = chain-append tells c d b (flat_map moments_in x.turns) (moments_in y.0) x.clock_told y.3;
 }
 
-pub late_at_last : {P C : Type 0} (does : P → Act → P → Type 0) (tells : C → ℕ → C → Type 0) (limit most count : ℕ) (octets : List ℕ) (p q r : P) (c d b : C) (s t u : NodeValue)
+pub late_at_last : {P C : Type 0} (does : P → PortCall → P → Type 0) (tells : C → ℕ → C → Type 0) (limit most count : ℕ) (octets : List ℕ) (p q r : P) (c d b : C) (s t u : NodeValue)
     → Passed does tells limit count p c s q d t → TurnIs does tells limit g.Late octets q d t r b u → Waited does tells limit most e.NoReply octets p c s r b u
 late_at_last does tells limit most count octets p q r c d b s t u x y = record {
   turns = x.turns;
@@ -88,7 +88,7 @@ late_at_last does tells limit most count octets p q r c d b s t u x y = record {
   clock_told = chain-append tells c d b (flat_map moments_in x.turns) (y.0 ∷ []) x.clock_told (chain_one tells d y.0 b y.2);
 }
 
-pub spent_at_last : {P C : Type 0} (does : P → Act → P → Type 0) (tells : C → ℕ → C → Type 0) (limit most count : ℕ) (octets : List ℕ) (p q : P) (c d : C) (s t : NodeValue)
+pub spent_at_last : {P C : Type 0} (does : P → PortCall → P → Type 0) (tells : C → ℕ → C → Type 0) (limit most count : ℕ) (octets : List ℕ) (p q : P) (c d : C) (s t : NodeValue)
     → count ≡ most → Passed does tells limit count p c s q d t → Waited does tells limit most e.NoReply octets p c s q d t
 spent_at_last does tells limit most count octets p q c d s t all x = record {
   turns = x.turns;
@@ -107,15 +107,15 @@ pub OnErr-map : {A E : Type 0} (P Q : Type 0) (r : Result A E) → OnErr r P →
 OnErr-map P Q (Ok a) h f = tt
 OnErr-map P Q (Err x) h f = f h
 
-pub breaks_at_poll : {P C : Type 0} (does : P → Act → P → Type 0) (tells : C → ℕ → C → Type 0) (limit first : ℕ) (a p : P) (b c : C) (r s : NodeValue) → GoesOn limit r first → tells b first c
-    → ((acts : List Act) × (mid : NodeValue) × (to : Addr) × (octets : List ℕ) × Chain (PollsTo first) r acts mid × Polls mid first s (Some to) octets × Chain does a (acts ++ send_failed to octets ∷ []) p)
-    → (acts : List Act) × (moments : List ℕ) × BreaksTurn limit r acts moments s × Chain does a acts p × Chain tells b moments c
+pub breaks_at_poll : {P C : Type 0} (does : P → PortCall → P → Type 0) (tells : C → ℕ → C → Type 0) (limit first : ℕ) (a p : P) (b c : C) (r s : NodeValue) → GoesOn limit r first → tells b first c
+    → ((acts : List PortCall) × (mid : NodeValue) × (to : Addr) × (octets : List ℕ) × Chain (PollsTo first) r acts mid × Polls mid first s (Some to) octets × Chain does a (acts ++ send_failed to octets ∷ []) p)
+    → (acts : List PortCall) × (moments : List ℕ) × BreaksTurn limit r acts moments s × Chain does a acts p × Chain tells b moments c
 breaks_at_poll does tells limit first a p b c r s on told x =
     (x.0 ++ send_failed x.2 x.3 ∷ [], first ∷ [], at_poll first x.0 x.1 s x.2 x.3 on x.4 x.5, x.6, chain_one tells b first c told)
 
-pub breaks_at_receive : {P C : Type 0} (does : P → Act → P → Type 0) (tells : C → ℕ → C → Type 0) (limit first : ℕ) (a p q : P) (b c d : C) (r s t : NodeValue) → GoesOn limit r first → tells b first c
-    → ((polling : List Act) × PollsAll first r polling s × Chain does a polling p) → does p receive_failed q × (t ≡ s) × (d ≡ c)
-    → (acts : List Act) × (moments : List ℕ) × BreaksTurn limit r acts moments t × Chain does a acts q × Chain tells b moments d
+pub breaks_at_receive : {P C : Type 0} (does : P → PortCall → P → Type 0) (tells : C → ℕ → C → Type 0) (limit first : ℕ) (a p q : P) (b c d : C) (r s t : NodeValue) → GoesOn limit r first → tells b first c
+    → ((polling : List PortCall) × PollsAll first r polling s × Chain does a polling p) → does p receive_failed q × (t ≡ s) × (d ≡ c)
+    → (acts : List PortCall) × (moments : List ℕ) × BreaksTurn limit r acts moments t × Chain does a acts q × Chain tells b moments d
 breaks_at_receive does tells limit first a p q b c d r s t on told polls x = (
   polls.0 ++ receive_failed ∷ [],
   first ∷ [],
@@ -124,8 +124,8 @@ breaks_at_receive does tells limit first a p q b c d r s t on told polls x = (
   subst (λ z. Chain tells b (first ∷ []) z) (sym x.2) (chain_one tells b first c told),
 )
 
-pub broken_at_last : {P C : Type 0} (does : P → Act → P → Type 0) (tells : C → ℕ → C → Type 0) (limit most count : ℕ) (p q r : P) (c d b : C) (s t u : NodeValue) → count < most
-    → Passed does tells limit count p c s q d t → ((acts : List Act) × (moments : List ℕ) × BreaksTurn limit t acts moments u × Chain does q acts r × Chain tells d moments b)
+pub broken_at_last : {P C : Type 0} (does : P → PortCall → P → Type 0) (tells : C → ℕ → C → Type 0) (limit most count : ℕ) (p q r : P) (c d b : C) (s t u : NodeValue) → count < most
+    → Passed does tells limit count p c s q d t → ((acts : List PortCall) × (moments : List ℕ) × BreaksTurn limit t acts moments u × Chain does q acts r × Chain tells d moments b)
     → Broken does tells limit most p c s r b u
 broken_at_last does tells limit most count p q r c d b s t u less x y = record {
   turns = x.turns;

@@ -7,7 +7,7 @@ use Rattle.nbt_node.specs.Node.{NodeValue, lookup_open}
 use Rattle.nbt_node.specs.Moves.{Told, nothing, finds, finds_none, lists}
 use Rattle.nbt_node.specs.Calls.{Polls}
 use Rattle.nbt_node.specs.Datagrams.{Handles}
-use Rattle.nbt_engine.specs.PortCalls.{Act, nothing_came, came, receive_failed, sent, send_failed, Chain}
+use Rattle.nbt_engine.specs.PortCalls.{PortCall, nothing_came, came, receive_failed, sent, send_failed, Chain}
 use Rattle.nbt_engine.specs.Turning.{PollsTo, PollsAll}
 use Rattle.nbt_lookup.specs.declared.looking.Ending.{Ending}
 use Rattle.nbt_lookup.specs.declared.looking.Ending.TheVariants as e
@@ -20,10 +20,10 @@ use Rattle.nbt_lookup.specs.Asking.{refusal_of, end_of, Begins}
 pub record Turn : Type 0 where
   pub first : ℕ
   pub second : ℕ
-  pub polling : List Act
-  pub hearing : Act
+  pub polling : List PortCall
+  pub hearing : PortCall
 
-abbrev pub acts_in : Turn → List Act
+abbrev pub acts_in : Turn → List PortCall
 acts_in turn = turn.polling ++ turn.hearing ∷ []
 
 abbrev pub moments_in : Turn → List ℕ
@@ -31,7 +31,7 @@ moments_in turn = turn.first ∷ turn.second ∷ []
 
 -- The node takes what came, and is told what it was. Nothing is sent for it. A datagram that the node refuses since the
 -- clock went back is passed over.
-pub data Hears (now : ℕ) (old : NodeValue) : Act → Told → NodeValue → Type 0 where
+pub data Hears (now : ℕ) (old : NodeValue) : PortCall → Told → NodeValue → Type 0 where
   hears_nothing : Hears now old nothing_came nothing old
   hears_back : (from : Addr) (octets : List ℕ) → now < old.last → Hears now old (came from octets) nothing old
   hears : (from : Addr) (octets reply : List ℕ) (told : Told) (new : NodeValue) → Handles old now from octets new told reply → Hears now old (came from octets) told new
@@ -65,18 +65,18 @@ pub record Waits (limit : ℕ) (old : NodeValue) (turn : Turn) (new : NodeValue)
 
 -- What ended it, after so many turns: a reply, of these octets; or a moment at which it doesn't go on, at which nothing is
 -- done; or that it had all its turns.
-pub data Ends (limit most count : ℕ) (old : NodeValue) : Ending → (octets : List ℕ) → List Act → List ℕ → NodeValue → Type 0 where
+pub data Ends (limit most count : ℕ) (old : NodeValue) : Ending → (octets : List ℕ) → List PortCall → List ℕ → NodeValue → Type 0 where
   is_told : (from : Addr) (octets : List ℕ) (turn : Turn) (told : Told) (new : NodeValue) → GoesOn limit old turn.first → Takes old turn told new → is_end told ≡ true → turn.hearing ≡ came from octets
       → Ends limit most count old e.Told octets (acts_in turn) (moments_in turn) new
   is_late : (now : ℕ) (octets : List ℕ) → ¬ GoesOn limit old now → Ends limit most count old e.NoReply octets [] (now ∷ []) old
   is_spent : (octets : List ℕ) → count ≡ most → Ends limit most count old e.NoReply octets [] [] old
 
 -- Turns that don't end it, and then its end.
-pub record Waited {P C : Type 0} (does : P → Act → P → Type 0) (tells : C → ℕ → C → Type 0) (limit most : ℕ) (ending : Ending) (octets : List ℕ)
+pub record Waited {P C : Type 0} (does : P → PortCall → P → Type 0) (tells : C → ℕ → C → Type 0) (limit most : ℕ) (ending : Ending) (octets : List ℕ)
     (old_port : P) (old_clock : C) (old : NodeValue) (port : P) (clock : C) (new : NodeValue) : Type 0 where
   pub turns : List Turn
   pub mid : NodeValue
-  pub acts : List Act
+  pub acts : List PortCall
   pub moments : List ℕ
   pub waits : Chain (Waits limit) old turns mid
   pub ends : Ends limit most (length turns) mid ending octets acts moments new
@@ -87,7 +87,7 @@ pub record Waited {P C : Type 0} (does : P → Act → P → Type 0) (tells : C 
 
 -- The clock is read, and the node asks nothing, for this reason; or the question goes to its end, and turns follow up to the
 -- limit, which is so many milliseconds after that moment.
-pub data Looks {P C : Type 0} (does : P → Act → P → Type 0) (tells : C → ℕ → C → Type 0) (question : Question) (patience most : ℕ)
+pub data Looks {P C : Type 0} (does : P → PortCall → P → Type 0) (tells : C → ℕ → C → Type 0) (question : Question) (patience most : ℕ)
     (old_port : P) (old_clock : C) (old : NodeValue) : Ending → (octets : List ℕ) → P → C → NodeValue → Type 0 where
   is_refused : (now : ℕ) (fault : LookupFault) (octets : List ℕ) (clock : C) → tells old_clock now clock → refusal_of old now question ≡ Some fault
       → Looks does tells question patience most old_port old_clock old (e.Refused fault) octets old_port clock old
@@ -99,17 +99,17 @@ pub data Looks {P C : Type 0} (does : P → Act → P → Type 0) (tells : C →
 -- ---- the device fails
 
 -- A turn in which it does: the node is as after the call that made the sending, or as it was before the receive.
-pub data BreaksTurn (limit : ℕ) (old : NodeValue) : List Act → List ℕ → NodeValue → Type 0 where
-  at_poll : (first : ℕ) (polling : List Act) (mid new : NodeValue) (to : Addr) (octets : List ℕ) → GoesOn limit old first → Chain (PollsTo first) old polling mid → Polls mid first new (Some to) octets
+pub data BreaksTurn (limit : ℕ) (old : NodeValue) : List PortCall → List ℕ → NodeValue → Type 0 where
+  at_poll : (first : ℕ) (polling : List PortCall) (mid new : NodeValue) (to : Addr) (octets : List ℕ) → GoesOn limit old first → Chain (PollsTo first) old polling mid → Polls mid first new (Some to) octets
       → BreaksTurn limit old (polling ++ send_failed to octets ∷ []) (first ∷ []) new
-  at_receive : (first : ℕ) (polling : List Act) (new : NodeValue) → GoesOn limit old first → PollsAll first old polling new → BreaksTurn limit old (polling ++ receive_failed ∷ []) (first ∷ []) new
+  at_receive : (first : ℕ) (polling : List PortCall) (new : NodeValue) → GoesOn limit old first → PollsAll first old polling new → BreaksTurn limit old (polling ++ receive_failed ∷ []) (first ∷ []) new
 
 -- Turns that don't end the lookup, fewer than all, and then such a turn.
-pub record Broken {P C : Type 0} (does : P → Act → P → Type 0) (tells : C → ℕ → C → Type 0) (limit most : ℕ)
+pub record Broken {P C : Type 0} (does : P → PortCall → P → Type 0) (tells : C → ℕ → C → Type 0) (limit most : ℕ)
     (old_port : P) (old_clock : C) (old : NodeValue) (port : P) (clock : C) (new : NodeValue) : Type 0 where
   pub turns : List Turn
   pub mid : NodeValue
-  pub acts : List Act
+  pub acts : List PortCall
   pub moments : List ℕ
   pub waits : Chain (Waits limit) old turns mid
   pub breaks : BreaksTurn limit mid acts moments new
@@ -118,7 +118,7 @@ pub record Broken {P C : Type 0} (does : P → Act → P → Type 0) (tells : C 
   pub clock_told : Chain tells old_clock (flat_map moments_in turns ++ moments) clock
 
 -- The question is lost, the node having opened the lookup; or it goes to its end, and a turn fails.
-pub data Fails {P C : Type 0} (does : P → Act → P → Type 0) (tells : C → ℕ → C → Type 0) (question : Question) (patience most : ℕ)
+pub data Fails {P C : Type 0} (does : P → PortCall → P → Type 0) (tells : C → ℕ → C → Type 0) (question : Question) (patience most : ℕ)
     (old_port : P) (old_clock : C) (old : NodeValue) : P → C → NodeValue → Type 0 where
   at_question : (now : ℕ) (request : List ℕ) (port : P) (clock : C) (new : NodeValue) → tells old_clock now clock → refusal_of old now question ≡ None → Begins old now question new request
       → does old_port (send_failed (end_of question) request) port → Fails does tells question patience most old_port old_clock old port clock new

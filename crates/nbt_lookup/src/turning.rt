@@ -5,7 +5,7 @@ ghost use Rattle.nbt_node.specs.Node.{NodeValue};
 ghost use Rattle.nbt_node.specs.Moves.{Told, told_of};
 ghost use Rattle.nbt_node.specs.Calls.{Polls};
 ghost use Rattle.nbt_name.specs.declared.addr.Addr.{Addr as End};
-ghost use Rattle.nbt_engine.specs.PortCalls.{Act, came, receive_failed, send_failed, Chain, CountsFailure};
+ghost use Rattle.nbt_engine.specs.PortCalls.{PortCall, came, receive_failed, send_failed, Chain, CountsFailure};
 ghost use Rattle.nbt_engine.specs.Turning.{PollsTo, PollsAll, EndsPolls};
 ghost use Rattle.nbt_lookup.specs.Looking.{Hears, GoesOn, is_end, BreaksTurn};
 ghost use Rattle.nbt_lookup.specs.Inner.Steps.{TurnIs, HeardIs};
@@ -43,7 +43,7 @@ pub fn take_turn<P: Port, C: Clock, const N: usize>(
     octets: &mut ArrayVec<u8, 2048>,
 ) -> Result<Progress, Device>
     requires few { P.failures port.old < 2 ^ 62 }
-    ensures err { OnErr result ((acts : List Act) × (moments : List ℕ) × BreaksTurn limit node.old acts moments node.new × Chain P.does port.old acts port.new × Chain C.tells clock.old moments clock.new) }
+    ensures err { OnErr result ((acts : List PortCall) × (moments : List ℕ) × BreaksTurn limit node.old acts moments node.new × Chain P.does port.old acts port.new × Chain C.tells clock.old moments clock.new) }
     ensures ok { IfOk result (λ progress. TurnIs P.does C.tells limit progress octets.new.items port.old clock.old node.old port.new clock.new node.new) }
     ensures device { CountsFailure (P.failures port.old) (P.failures port.new) result }
 {
@@ -88,9 +88,9 @@ fn poll_all<P: Port, const N: usize>(
     out: &mut ArrayVec<u8, 576>,
 ) -> Result<(), Device>
     requires few { P.failures port.old < 2 ^ 62 }
-    ensures err { OnErr result ((acts : List Act) × (mid : NodeValue) × (to : End) × (octets : List ℕ) × Chain (PollsTo now) node.old acts mid × Polls mid now node.new (Some to) octets
+    ensures err { OnErr result ((acts : List PortCall) × (mid : NodeValue) × (to : End) × (octets : List ℕ) × Chain (PollsTo now) node.old acts mid × Polls mid now node.new (Some to) octets
         × Chain P.does port.old (acts ++ send_failed to octets ∷ []) port.new) }
-    ensures ok { OnOk result ((acts : List Act) × PollsAll now node.old acts node.new × Chain P.does port.old acts port.new) }
+    ensures ok { OnOk result ((acts : List PortCall) × PollsAll now node.old acts node.new × Chain P.does port.old acts port.new) }
     ensures device { CountsFailure (P.failures port.old) (P.failures port.new) result }
 {
     nbt_node::laws::settling_ends();

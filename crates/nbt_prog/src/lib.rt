@@ -9,7 +9,7 @@ ghost use Rattle.std.specs.IoError.{error_kind};
 ghost use Rattle.std.specs.declared.io.ErrorKind.TheVariants.{InvalidData};
 ghost use Rattle.std.specs.Io.KnownBytes.{Appends};
 ghost use Rattle.nbt_net.specs.Node.{RunsNodeHere};
-ghost use Rattle.nbt_net.specs.Serve.{ServesHere};
+ghost use Rattle.nbt_net.specs.Serve.{RunsServerHere};
 ghost use Rattle.nbt_prog.specs.Inner.Failure.{failure_status, failure_text};
 ghost use Rattle.nbt_prog.specs.Inner.Outcome.{status_of_outcome, text_of_outcome};
 
@@ -102,7 +102,7 @@ fn serve_on<M: Net + time::Clock, W: Write, E: Write>(
     errors: &mut E,
 ) -> u8
     ensures bound { result ≤ 4 }
-    ensures done { result ≡ 0 → ServesHere arguments.now (W.contents writer.old) (W.contents writer.new) }
+    ensures done { result ≡ 0 → RunsServerHere arguments.now (W.contents writer.old) (W.contents writer.new) }
 {
     match nbt_net::run_server(machine, alloc, arguments, writer, errors) {
         Ok(()) => 0,

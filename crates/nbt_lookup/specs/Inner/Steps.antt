@@ -4,7 +4,7 @@ use Rattle.std.specs.List.{flat_map}
 use Rattle.nbt_name.specs.declared.addr.Addr.{Addr}
 use Rattle.nbt_node.specs.Node.{NodeValue}
 use Rattle.nbt_node.specs.Moves.{Told}
-use Rattle.nbt_engine.specs.PortCalls.{Act, came, Chain}
+use Rattle.nbt_engine.specs.PortCalls.{PortCall, came, Chain}
 use Rattle.nbt_lookup.specs.declared.turning.Progress.{Progress}
 use Rattle.nbt_lookup.specs.declared.turning.Progress.TheVariants as g
 use Rattle.nbt_lookup.specs.Looking.{Turn, acts_in, moments_in, Hears, Takes, GoesOn, Waits, is_end}
@@ -20,15 +20,15 @@ pub record Tells (limit : ℕ) (octets : List ℕ) (old : NodeValue) (turn : Tur
 
 -- What a turn was, from one port, clock and node to the next: one that waits, one that ends the lookup, or a moment at which
 -- it doesn't go on.
-abbrev pub TurnIs : {P C : Type 0} → (P → Act → P → Type 0) → (C → ℕ → C → Type 0) → (limit : ℕ) → Progress → (octets : List ℕ) → P → C → NodeValue → P → C → NodeValue → Type 0
+abbrev pub TurnIs : {P C : Type 0} → (P → PortCall → P → Type 0) → (C → ℕ → C → Type 0) → (limit : ℕ) → Progress → (octets : List ℕ) → P → C → NodeValue → P → C → NodeValue → Type 0
 TurnIs does tells limit g.Waits octets p c s q d t = (turn : Turn) × Waits limit s turn t × Chain does p (acts_in turn) q × Chain tells c (moments_in turn) d
 TurnIs does tells limit g.Told octets p c s q d t = (turn : Turn) × Tells limit octets s turn t × Chain does p (acts_in turn) q × Chain tells c (moments_in turn) d
 TurnIs does tells limit g.Late octets p c s q d t = (now : ℕ) × (¬ GoesOn limit s now) × tells c now d × (q ≡ p) × (t ≡ s)
 
 -- one receive, the reading after it, and what the node made of it
-pub record HeardIs {P C : Type 0} (does : P → Act → P → Type 0) (tells : C → ℕ → C → Type 0) (ended : Bool) (octets : List ℕ) (p : P) (c : C) (s : NodeValue) (q : P) (d : C) (t : NodeValue) : Type 0 where
+pub record HeardIs {P C : Type 0} (does : P → PortCall → P → Type 0) (tells : C → ℕ → C → Type 0) (ended : Bool) (octets : List ℕ) (p : P) (c : C) (s : NodeValue) (q : P) (d : C) (t : NodeValue) : Type 0 where
   pub second : ℕ
-  pub hearing : Act
+  pub hearing : PortCall
   pub told : Told
   pub hears : Hears second s hearing told t
   pub ended_is : ended ≡ is_end told
@@ -37,7 +37,7 @@ pub record HeardIs {P C : Type 0} (does : P → Act → P → Type 0) (tells : C
   pub clock_told : tells c second d
 
 -- so many turns that didn't end it
-pub record Passed {P C : Type 0} (does : P → Act → P → Type 0) (tells : C → ℕ → C → Type 0) (limit count : ℕ) (p : P) (c : C) (s : NodeValue) (q : P) (d : C) (t : NodeValue) : Type 0 where
+pub record Passed {P C : Type 0} (does : P → PortCall → P → Type 0) (tells : C → ℕ → C → Type 0) (limit count : ℕ) (p : P) (c : C) (s : NodeValue) (q : P) (d : C) (t : NodeValue) : Type 0 where
   pub turns : List Turn
   pub waits : Chain (Waits limit) s turns t
   pub port_did : Chain does p (flat_map acts_in turns) q

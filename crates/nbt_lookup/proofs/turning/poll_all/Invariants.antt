@@ -1,12 +1,12 @@
 use Rattle.std.proofs.Common.{◌≡◌, List}
-use Rattle.nbt_engine.specs.PortCalls.{Act, Chain}
+use Rattle.nbt_engine.specs.PortCalls.{PortCall, Chain}
 use Rattle.nbt_engine.specs.Turning.{PollsTo}
 use Rattle.nbt_engine.proofs.Dues.{dues}
 use Rattle.nbt_lookup.proofs.turning.poll_all.Given as goal
 
 abbrev pub invariant-loop-to : goal.invariant-loop-to
 invariant-loop-to g l = record {
-  polls : (acts : List Act) × Chain (PollsTo l.now) l.fn.node acts l.node × Chain g.P.Port.does l.fn.port acts l.port;
+  polls : (acts : List PortCall) × Chain (PollsTo l.now) l.fn.node acts l.node × Chain g.P.Port.does l.fn.port acts l.port;
   count : g.P.Port.failures l.port ≡ g.P.Port.failures l.fn.port;
 }
 
