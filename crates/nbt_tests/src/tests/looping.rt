@@ -2,13 +2,10 @@
 
 use super::LimitedWriter;
 use super::street::{Luck, Street};
-use super::terminal::words_of;
-use arrayvec::ArrayVec;
-use nbt_prog::{command, command_on, command_telling};
+use nbt_prog::{command, command_on};
 use std::cell::Cell;
 use std::io;
-use std::io::Write;
-use std::net::{IpAddr, Ipv4Addr, SocketAddr, TcpListener, UdpSocket};
+use std::net::{IpAddr, Ipv4Addr, SocketAddr, UdpSocket};
 use std::test::Fail;
 use std::time::Duration;
 
@@ -42,64 +39,17 @@ fn a_server_and_two_nodes_twice_in_a_row(rt: HostRuntime) {
 }
 
 #[test]
-fn without_a_network(rt: HostRuntime) {
+fn without_a_network_and_at_a_port_in_use(rt: HostRuntime) -> Result<(), Fail> {
     let mut paper = LimitedWriter::new();
     let words = ["nbt", "loop", "22237"];
     let status = command(rt.alloc(), &words, &mut io::empty(), &mut paper);
     assert_eq!(rt; paper.text.as_slice(), b"device\n".as_slice());
     assert_eq!(rt; status, 3);
-}
-
-/// Commands whose port can't be had, since another program has it or since its address is no address of this machine, and what is
-/// said of it.
-const NOT_BOUND: [(&str, &str); 6] = [
-    (
-        "nbt serve 127.42.24.1:22337 1000 60 1",
-        "nbt: 127.42.24.1:22337: Address already in use (os error 98)\n",
-    ),
-    (
-        "nbt serve 192.0.2.1:22337 1000 60 --forever",
-        "nbt: 192.0.2.1:22337: Cannot assign requested address (os error 99)\n",
-    ),
-    (
-        "nbt node 127.42.24.1:22337 127.42.24.2:22337 1000 60 FRED unique 60 --forever",
-        "nbt: 127.42.24.1:22337: Address already in use (os error 98)\n",
-    ),
-    (
-        "nbt node 192.0.2.1:22337 127.42.24.2:22337 1000 60 FRED unique 60 1",
-        "nbt: 192.0.2.1:22337: Cannot assign requested address (os error 99)\n",
-    ),
-    (
-        "nbt loop 22237",
-        "nbt: 127.0.0.2:22238: Address already in use (os error 98)\n",
-    ),
-    (
-        "nbt loop 22437",
-        "nbt: 127.0.0.2:22439: Address already in use (os error 98)\n",
-    ),
-];
-
-#[test]
-fn ports_that_can_not_be_had(rt: HostRuntime) -> Result<(), Fail> {
-    let _taken = UdpSocket::bind(&rt, "127.42.24.1:22337")?;
-    let _datagrams = UdpSocket::bind(&rt, end(2, 22238))?;
-    let _sessions = TcpListener::bind(&rt, end(2, 22439))?;
-    for (line, text) in NOT_BOUND {
-        let words = words_of(&rt, line);
-        let mut paper = LimitedWriter::new();
-        let mut errors = LimitedWriter::new();
-        let status = command_telling(
-            &rt,
-            rt.alloc(),
-            words.as_slice(),
-            &mut io::empty(),
-            &mut paper,
-            &mut errors,
-        );
-        assert_eq!(rt; paper.text.as_slice(), b"device\n".as_slice(), "{line}");
-        assert_eq!(rt; errors.text.as_slice(), text.as_bytes(), "{line}");
-        assert_eq!(rt; status, 3, "{line}");
-    }
+    let _taken = UdpSocket::bind(&rt, (Ipv4Addr::new(127, 0, 0, 2), 22238))?;
+    let mut paper = LimitedWriter::new();
+    let status = command_on(&rt, rt.alloc(), &words, &mut io::empty(), &mut paper);
+    assert_eq!(rt; paper.text.as_slice(), b"device\n".as_slice());
+    assert_eq!(rt; status, 3);
     Ok(())
 }
 
@@ -110,7 +60,7 @@ fn end(last: u8, port: u16) -> SocketAddr {
 
 /// The luck of the first connection at the end that calls and at the end that listens, and how many connections both
 /// calls are made with.
-const LUCKS: [(Luck, Luck, usize); 14] = [
+const LUCKS: [(Luck, Luck, usize); 13] = [
     (Luck::Well, Luck::Well, 2),
     (Luck::Refused, Luck::Well, 3),
     (Luck::Mute, Luck::Well, 3),
@@ -122,7 +72,6 @@ const LUCKS: [(Luck, Luck, usize); 14] = [
     (Luck::Well, Luck::Silent, 3),
     (Luck::Interrupted, Luck::Well, 2),
     (Luck::Well, Luck::Interrupted, 2),
-    (Luck::Well, Luck::Signalled, 2),
     (Luck::Slow, Luck::Well, 2),
     (Luck::Well, Luck::Slow, 2),
 ];
@@ -131,126 +80,35 @@ const LUCKS: [(Luck, Luck, usize); 14] = [
 const TO_NOBODY: &[u8] =
     b"\x10\x06\x00\x07\x7F\x00\x00\x04\x53\x5C\x00\x49\x00\x00 FEEFEBENCACACACACACACACACACACACA\x00 EOEPEOEFCACACACACACACACACACACACA\x00hello";
 
-/// The same from 127.0.0.4:101, a port below those of this protocol.
-const TO_NOBODY_FROM_BELOW: &[u8] =
-    b"\x10\x06\x00\x07\x7F\x00\x00\x04\x00\x65\x00\x49\x00\x00 FEEFEBENCACACACACACACACACACACACA\x00 EOEPEOEFCACACACACACACACACACACACA\x00hello";
-
 /// What comes of it: an error from n1's own port, 127.0.0.2:21138 (RFC 1002 section 4.4.3).
 const NOT_PRESENT: &[u8] = b"\x13\x06\x00\x07\x7F\x00\x00\x02\x52\x92\x82";
 
-/// A reply to the lookup of FRED that `n2` makes as its third request: FRED is at 127.0.0.2, and at 127.0.0.9 too.
-const FOUND_TWICE: &[u8] =
-    b"\x00\x03\x85\x80\x00\x00\x00\x01\x00\x00\x00\x00 EGFCEFEECACACACACACACACACACACACA\x00\x00\x20\x00\x01\x00\x00\x00\x3C\x00\x0C\x20\x00\x7F\x00\x00\x02\x20\x00\x7F\x00\x00\x09";
-
-/// All that is told where that one came to `n2` before the server's own.
-const TOLD_TWICE: &str = "\
-server up
-n1 asks FRED: granted 60
-n2 asks FRED: refused 6
-n1 asks TEAM: granted 60
-n2 asks TEAM: granted 60
-n2 finds FRED: 127.0.0.2 127.0.0.9
-n2 finds TEAM: 127.0.0.2 127.0.0.3
-datagram to FRED: 5 octets
-call to FRED: open
-message: 5 octets
-n1 releases FRED: 0
-call to FRED: refused 82
-done
-";
-
-/// How many ends of connections are open as each of these lines is told: both of the call from when it is open to when it
-/// is hung up, and none of a call that is refused.
-const OPEN: [usize; 13] = [0, 0, 0, 0, 0, 0, 0, 0, 2, 2, 0, 0, 0];
-
-/// This machine's network, where the first connection has this luck at its two ends, and TEAM at this port sends to nobody.
-fn street_of<'a>(
-    rt: &'a HostRuntime,
-    open: &'a Cell<usize>,
-    caller: Luck,
-    listener: Luck,
-    teller: u16,
-) -> Street<'a, HostRuntime> {
-    let octets = if teller == BELOW {
-        TO_NOBODY_FROM_BELOW
-    } else {
-        TO_NOBODY
-    };
+/// This machine's network, where the first connection has this luck at its two ends.
+fn street_of<'a>(rt: &'a HostRuntime, caller: Luck, listener: Luck) -> Street<'a, HostRuntime> {
     Street {
         machine: rt,
         caller: Cell::new(caller),
         listener,
         connections: Cell::new(0),
-        open,
-        last: (end(3, 21138), octets, end(2, 21138)),
-        late: (end(1, 21137), FOUND_TWICE, end(3, 21137)),
-        sender: Cell::new(None),
-    }
-}
-
-/// A port below those of this protocol, and one above.
-const BELOW: u16 = 101;
-
-const ABOVE: u16 = 21340;
-
-/// The port at which TEAM is told that its datagram was for nobody: the one below where this program may have it.
-fn teller_of(rt: &HostRuntime) -> io::Result<(UdpSocket, u16)> {
-    match UdpSocket::bind(rt, end(4, BELOW)) {
-        Err(error) if error.kind() == io::ErrorKind::PermissionDenied => {
-            Ok((UdpSocket::bind(rt, end(4, ABOVE))?, ABOVE))
-        }
-        bound => Ok((bound?, BELOW)),
-    }
-}
-
-/// What is told, with how many ends of connections were open as each line was. Before the first lookup what is to be sent late
-/// is sent.
-#[derive(Drop)]
-struct Watcher<'s, 'a> {
-    paper: LimitedWriter,
-    street: &'s Street<'a, HostRuntime>,
-    open: ArrayVec<usize, 16>,
-}
-
-impl Write for Watcher<'_, '_> {
-    fn write(&mut self, buf: &[u8]) -> io::Result<usize> {
-        let _ = self.open.try_push(self.street.open.get());
-        if buf.starts_with(b"n2 asks TEAM") {
-            self.street.send_late()?;
-        }
-        self.paper.write(buf)
-    }
-
-    fn flush(&mut self) -> io::Result<()> {
-        self.paper.flush()
+        last: (end(3, 21138), TO_NOBODY, end(2, 21138)),
     }
 }
 
 #[test]
 fn strangers_and_a_connection_that_fails_change_nothing(rt: HostRuntime) -> Result<(), Fail> {
-    let (teller, port) = teller_of(&rt)?;
+    let teller = UdpSocket::bind(&rt, end(4, 21340))?;
     teller.set_read_timeout(Some(Duration::from_millis(1)))?;
     for (caller, listener, connections) in LUCKS {
-        let open = Cell::new(0);
-        let street = street_of(&rt, &open, caller, listener, port);
-        let mut told = Watcher {
-            paper: LimitedWriter::new(),
-            street: &street,
-            open: ArrayVec::new(),
-        };
+        let street = street_of(&rt, caller, listener);
+        let mut paper = LimitedWriter::new();
         let words = ["nbt", "loop", "21137"];
-        let status = command_on(&street, rt.alloc(), &words, &mut io::empty(), &mut told);
+        let status = command_on(&street, rt.alloc(), &words, &mut io::empty(), &mut paper);
         assert_eq!(&rt;
-            told.paper.text.as_slice(),
-            TOLD_TWICE.as_bytes(),
+            paper.text.as_slice(),
+            TOLD.as_bytes(),
             "{caller:?} {listener:?}"
         );
         assert_eq!(&rt; status, 0, "{caller:?} {listener:?}");
-        assert_eq!(&rt;
-            told.open.as_slice(),
-            OPEN.as_slice(),
-            "{caller:?} {listener:?}"
-        );
         assert_eq!(&rt;
             street.connections.get(),
             connections,
@@ -277,25 +135,12 @@ datagram to FRED: 5 octets
 device
 ";
 
-/// What is said of it.
-const WHY_WITHOUT_CALLS: &str = "nbt: 127.0.0.2:21139: accept: invalid input parameter\n";
-
 #[test]
 fn a_socket_that_listens_and_fails_ends_all(rt: HostRuntime) {
-    let open = Cell::new(0);
-    let street = street_of(&rt, &open, Luck::Well, Luck::Refused, ABOVE);
+    let street = street_of(&rt, Luck::Well, Luck::Refused);
     let mut paper = LimitedWriter::new();
-    let mut errors = LimitedWriter::new();
     let words = ["nbt", "loop", "21137"];
-    let status = command_telling(
-        &street,
-        rt.alloc(),
-        &words,
-        &mut io::empty(),
-        &mut paper,
-        &mut errors,
-    );
+    let status = command_on(&street, rt.alloc(), &words, &mut io::empty(), &mut paper);
     assert_eq!(&rt; paper.text.as_slice(), TOLD_WITHOUT_CALLS.as_bytes());
-    assert_eq!(&rt; errors.text.as_slice(), WHY_WITHOUT_CALLS.as_bytes());
     assert_eq!(&rt; status, 3);
 }

@@ -34,8 +34,6 @@ pub enum Luck {
     Interrupted,
     /// A read gets one octet.
     Slow,
-    /// The accept of it is interrupted once.
-    Signalled,
     /// All is well.
     Well,
 }
@@ -43,40 +41,25 @@ pub enum Luck {
 /// How long a read waits at most, in milliseconds (our profile).
 const WAIT: u64 = 1000;
 
-/// One end of a TCP connection, with its luck, and how long its reads wait. One that would wait otherwise fails. It counts among
-/// the open ones until it is closed.
-pub struct Line<'a> {
+/// One end of a TCP connection, with its luck, and how long its reads wait. One that would wait otherwise fails.
+#[derive(Drop)]
+pub struct Line {
     socket: TcpStream,
     luck: Cell<Luck>,
     waits: Cell<Option<Duration>>,
-    open: &'a Cell<usize>,
 }
 
-impl<'a> Line<'a> {
-    fn new(socket: TcpStream, luck: Luck, open: &'a Cell<usize>) -> Line<'a> {
-        open.set(open.get().saturating_add(1));
+impl Line {
+    fn new(socket: TcpStream, luck: Luck) -> Line {
         Line {
             socket,
             luck: Cell::new(luck),
             waits: Cell::new(None),
-            open,
         }
     }
 }
 
-impl Drop for Line<'_> {
-    fn drop(self) {
-        let Line {
-            socket: _,
-            luck: _,
-            waits: _,
-            open,
-        } = self;
-        open.set(open.get().saturating_sub(1));
-    }
-}
-
-impl Read for Line<'_> {
+impl Read for Line {
     fn read(&mut self, buf: &mut [u8]) -> io::Result<usize> {
         if self.waits.get() != Some(Duration::from_millis(WAIT)) {
             return Err(io::Error::from(io::ErrorKind::Unsupported));
@@ -100,7 +83,7 @@ impl Read for Line<'_> {
     }
 }
 
-impl Write for Line<'_> {
+impl Write for Line {
     fn write(&mut self, buf: &[u8]) -> io::Result<usize> {
         match self.luck.get() {
             Luck::Mute => Err(io::Error::from(io::ErrorKind::BrokenPipe)),
@@ -114,7 +97,7 @@ impl Write for Line<'_> {
     }
 }
 
-impl OpenStream for Line<'_> {
+impl OpenStream for Line {
     fn local_addr(&self) -> io::Result<SocketAddr> {
         self.socket.local_addr()
     }
@@ -125,7 +108,7 @@ impl OpenStream for Line<'_> {
     }
 }
 
-impl AsRawFd for Line<'_> {
+impl AsRawFd for Line {
     fn as_raw_fd(&self) -> RawFd {
         self.socket.as_raw_fd()
     }
@@ -134,87 +117,61 @@ impl AsRawFd for Line<'_> {
 /// A TCP socket that listens. The first connection that it accepts after those of the strangers has its luck; all others
 /// are well.
 #[derive(Drop)]
-pub struct Door<'a> {
+pub struct Door {
     socket: TcpListener,
     strangers: Cell<usize>,
     next: Cell<Luck>,
-    open: &'a Cell<usize>,
 }
 
-impl Door<'_> {
-    /// The luck of the connection that is accepted next.
-    fn next_luck(&self) -> Luck {
+impl OpenListener for Door {
+    type Stream = Line;
+
+    fn accept(&self) -> io::Result<(Line, SocketAddr)> {
+        let (socket, from) = self.socket.accept()?;
         let strangers = self.strangers.get();
         self.strangers.set(strangers.saturating_sub(1));
-        if strangers == 0 {
+        let luck = if strangers == 0 {
             self.next.replace(Luck::Well)
         } else {
             Luck::Well
-        }
-    }
-}
-
-impl<'a> OpenListener for Door<'a> {
-    type Stream = Line<'a>;
-
-    fn accept(&self) -> io::Result<(Line<'a>, SocketAddr)> {
-        let luck = self.next_luck();
-        if luck == Luck::Signalled {
-            return Err(io::Error::from(io::ErrorKind::Interrupted));
-        }
-        let (socket, from) = self.socket.accept()?;
+        };
         if luck == Luck::Refused {
             return Err(io::Error::from(io::ErrorKind::InvalidInput));
         }
-        Ok((Line::new(socket, luck, self.open), from))
+        Ok((Line::new(socket, luck), from))
     }
 }
 
-impl AsRawFd for Door<'_> {
+impl AsRawFd for Door {
     fn as_raw_fd(&self) -> RawFd {
         self.socket.as_raw_fd()
     }
 }
 
 /// The network of `machine`. Strangers send to each socket as soon as it is bound. The first connection that is made has
-/// its luck at each end, and all others are well; how many are made is counted, and how many ends of them are open. Once
-/// the UDP port `last.0` is bound, it sends the octets `last.1` to `last.2`. The UDP port `late.0` sends `late.1` to
-/// `late.2` when it is told to.
+/// its luck at each end, and all others are well; how many are made is counted. Once the UDP port `last.0` is bound, it sends
+/// the octets `last.1` to `last.2`.
 #[derive(Drop)]
 pub struct Street<'a, N> {
     pub machine: &'a N,
     pub caller: Cell<Luck>,
     pub listener: Luck,
     pub connections: Cell<usize>,
-    pub open: &'a Cell<usize>,
     pub last: (SocketAddr, &'static [u8], SocketAddr),
-    pub late: (SocketAddr, &'static [u8], SocketAddr),
-    pub sender: Cell<Option<UdpSocket>>,
-}
-
-impl<'a, N> Street<'a, N> {
-    /// What is to be sent late is sent, once.
-    pub fn send_late(&self) -> io::Result<()> {
-        if let Some(socket) = self.sender.replace(None) {
-            socket.send_to(self.late.1, self.late.2)?;
-        }
-        Ok(())
-    }
 }
 
 impl<'a, N: Net<Stream = TcpStream, Listener = TcpListener>> Net for Street<'a, N> {
-    type Stream = Line<'a>;
+    type Stream = Line;
 
-    type Listener = Door<'a>;
+    type Listener = Door;
 
-    fn bind(&self, addr: SocketAddr) -> io::Result<Door<'a>> {
+    fn bind(&self, addr: SocketAddr) -> io::Result<Door> {
         let socket = self.machine.bind(addr)?;
         self.machine.connect(addr)?;
         Ok(Door {
             socket,
             strangers: Cell::new(1),
             next: Cell::new(self.listener),
-            open: self.open,
         })
     }
 
@@ -228,13 +185,10 @@ impl<'a, N: Net<Stream = TcpStream, Listener = TcpListener>> Net for Street<'a, 
         if addr == from {
             socket.send_to(octets, to)?;
         }
-        if addr == self.late.0 {
-            self.sender.set(Some(socket.try_clone()?));
-        }
         Ok(socket)
     }
 
-    fn connect(&self, addr: SocketAddr) -> io::Result<Line<'a>> {
+    fn connect(&self, addr: SocketAddr) -> io::Result<Line> {
         let made = self.connections.get();
         self.connections.set(made.saturating_add(1));
         let luck = self.caller.replace(Luck::Well);
@@ -242,7 +196,7 @@ impl<'a, N: Net<Stream = TcpStream, Listener = TcpListener>> Net for Street<'a, 
             return Err(io::Error::from(io::ErrorKind::ConnectionRefused));
         }
         let socket = self.machine.connect(addr)?;
-        Ok(Line::new(socket, luck, self.open))
+        Ok(Line::new(socket, luck))
     }
 }
 
