@@ -34,7 +34,8 @@ pub struct ServeArguments {
 /// up for 2^61 turns, also where the port fails: it says so in `errors`, waits 100 ms after each turn that failed, and goes on
 /// with the leases that it has. Refused: `NoPort` where the port can't be had; `NoClock` where the clock can't be read at
 /// first; `Device` where the port fails, with a number of turns at the first call that does, and with no end at the hundredth
-/// turn in a row; `Output` where `writer` fails. Of each but the last a line in `errors` says which call of the machine failed, for
+/// turn in a row that fails; `Output` where the line can't be written to `writer`, with a number of turns after the last of
+/// them, and with no end before the first. Of each but the last a line in `errors` says which call of the machine failed, for
 /// which address, and why. What can't be written to `errors` is passed over.
 pub fn run_server<M: Net + time::Clock, W: Write, E: Write>(
     machine: &M,

@@ -1,9 +1,9 @@
 //! What stays up when its port fails.
 
 ghost use Rattle.std.specs.Prelude.{◌≡◌, ◌+◌, ◌<◌, ◌≤◌, ◌^◌, OnOk, OnErr};
-ghost use Rattle.nbt_net.specs.Node.{Turns, BreaksTurns};
+ghost use Rattle.nbt_net.specs.Node.{Turns, BreaksTurns, CutsTurn};
 ghost use Rattle.nbt_net.specs.Serve.{ServesTurn, BreaksServing};
-ghost use Rattle.nbt_net.specs.Staying.{StaysUp, GivesUp};
+ghost use Rattle.nbt_net.specs.Staying.{StaysUp, GivesUp, IsCutOff};
 
 use crate::fault::Fault;
 use crate::limits::MOST_FAILURES;
@@ -97,7 +97,7 @@ pub fn serve_on<P: Port, C: Clock, M: time::Clock, E: Write>(
 }
 
 /// The node takes `turns` turns, prints what is seen in each, and stays up when the port fails, as [`serve_on`] does. Refused
-/// with `Device` at the hundredth failure in a row, at once, and with `Output` where `writer` fails.
+/// with `Device` at the hundredth failure in a row, at once, and with `Output` after a turn whose event can't be written, at once.
 pub fn node_on<P: Port, C: Clock, W: Write, M: time::Clock, E: Write>(
     port: &mut P,
     clock: &mut C,
@@ -112,6 +112,9 @@ pub fn node_on<P: Port, C: Clock, W: Write, M: time::Clock, E: Write>(
     ensures ok { OnOk result (StaysUp (Turns P.does C.tells arguments.now.server arguments.now.want) (BreaksTurns P.does C.tells arguments.now.server arguments.now.want) turns
         (record { port = port.old; clock = clock.old; node = node.old; text = W.contents writer.old }) (record { port = port.new; clock = clock.new; node = node.new; text = W.contents writer.new })) }
     ensures device { result ≡ Err Fault.Device → GivesUp (Turns P.does C.tells arguments.now.server arguments.now.want) (BreaksTurns P.does C.tells arguments.now.server arguments.now.want) turns
+        (record { port = port.old; clock = clock.old; node = node.old; text = W.contents writer.old }) (record { port = port.new; clock = clock.new; node = node.new; text = W.contents writer.new }) }
+    ensures output { result ≡ Err Fault.Output → IsCutOff (Turns P.does C.tells arguments.now.server arguments.now.want) (BreaksTurns P.does C.tells arguments.now.server arguments.now.want)
+        (CutsTurn P.does C.tells arguments.now.server arguments.now.want) turns
         (record { port = port.old; clock = clock.old; node = node.old; text = W.contents writer.old }) (record { port = port.new; clock = clock.new; node = node.new; text = W.contents writer.new }) }
 {
     let mut row = Row::new();

@@ -29,6 +29,15 @@ returns-in_err-goes_on-in-Err-Device-clause-device g c =
           (c.take_turn.ensures.device (subst (λ (f : Fault). c.take_turn.result ≡ Err f) c.in-Err-Device.field-0-is c.in-Err-Device.is)),
     )
 
+pub returns-in-Err-clause-output : goal.returns-in-Err-clause-output
+returns-in-Err-clause-output g c = λ same. (
+  c.loop.counter,
+  record { port = c.loop.port; clock = c.loop.clock; node = c.loop.node; text = g.W.Write.contents c.loop.writer },
+  c.loop-test.true,
+  (c.loop.row.failed, c.loop.invariant.few, c.loop.invariant.run),
+  c.take_turn.ensures.output (c.in-Err.is ∙ same),
+)
+
 pub loop-preserved : goal.loop-preserved
 loop-preserved g c =
     let turns = Turns g.P.Port.does g.C.Clock.tells c.args.arguments.now.server c.args.arguments.now.want in
