@@ -18,5 +18,5 @@ pub use clock::Clock;
 pub use memory::{Datagram, MemoryClock, MemoryPort};
 pub use port::{Device, Port};
 pub use serving::{Counts, serve_turns};
-pub use turning::{Seen, Want, node_turn};
+pub use turning::{Seen, Want, node_turn, poll_all};
 pub use udp::{MachineClock, UdpPort};
