@@ -35,3 +35,8 @@ returns-clause-output g c =
     λ same. node_begins a (IsCutToItsEnd g.P.Port.does a) c.args.port.now c.run_for.new.port c.args.clock.now c.start_node-node.new.clock c.run_for.new.clock
     (g.W.Write.contents c.args.writer.now) (g.W.Write.contents c.tell_end.new.writer) c.start_node-node.result c.run_for.new.node c.start_node-node.ensures
     (inr (g.W.Write.contents c.run_for.new.writer, c.in_ok-run_for.ensures.ok))
+
+pub returns-in_err-run_for-clause-memory : goal.returns-in_err-run_for-clause-memory
+returns-in_err-run_for-clause-memory g c =
+    let p = err_from_is_err_and c.from_residual.result c.from_residual.ensures.1 in
+    λ same. c.run_for.ensures.memory (passed_on c.from_residual.result c.run_for.result p.0 _ _ p.1 p.2 c.in_err-run_for.was same)

@@ -39,3 +39,8 @@ returns-in_err-take_turn-clause-output g c =
     (record { port = c.loop.port; clock = c.loop.clock; node = c.loop.node; text = g.W.Write.contents c.loop.writer })
     (record { port = c.take_turn.new.port; clock = c.take_turn.new.clock; node = c.take_turn.new.node; text = g.W.Write.contents c.take_turn.new.writer })
     c.loop-test.true c.loop.invariant.run (c.take_turn.ensures.output (passed_on c.from_residual.result c.take_turn.result p.0 _ _ p.1 p.2 c.in_err-take_turn.was same))
+
+pub returns-in_err-take_turn-clause-memory : goal.returns-in_err-take_turn-clause-memory
+returns-in_err-take_turn-clause-memory g c =
+    let p = err_from_is_err_and c.from_residual.result c.from_residual.ensures.1 in
+    λ same. c.take_turn.ensures.memory (passed_on c.from_residual.result c.take_turn.result p.0 _ _ p.1 p.2 c.in_err-take_turn.was same)
