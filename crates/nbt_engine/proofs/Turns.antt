@@ -4,14 +4,13 @@ use Rattle.std.specs.Prelude.{Result, IfOk, OnErr}
 use Rattle.nbt_name.specs.declared.addr.Addr.{Addr}
 use Rattle.nbt_node.specs.Node.{NodeValue}
 use Rattle.nbt_node.specs.Moves.{replied}
-use Rattle.nbt_node.specs.Calls.{Polls}
 use Rattle.nbt_node.specs.Datagrams.{Handles}
 use Rattle.nbt_engine.specs.declared.port.Device.{Device}
 use Rattle.nbt_engine.specs.declared.turning.Seen.{Seen}
 use Rattle.nbt_engine.specs.declared.turning.Seen.TheVariants as s
 use Rattle.nbt_engine.specs.declared.turning.Want.{Want}
 use Rattle.nbt_engine.specs.PortCalls.{PortCall, nothing_came, came, receive_failed, send_failed, receiving, Chain}
-use Rattle.nbt_engine.specs.Turning.{AsksFor, Asks, PollsTo, PollsAll, TurnHears, hears_nothing, TakesTurn, BreaksTurn, at_ask, at_poll, at_receive, at_reply}
+use Rattle.nbt_engine.specs.Turning.{AsksFor, Asks, PollsAll, BreaksPolls, TurnHears, hears_nothing, TakesTurn, BreaksTurn, at_ask, at_poll, at_receive, at_reply}
 use Rattle.nbt_engine.proofs.Chains.{chain_one, chain-append}
 
 module _ {P C : Type 0} (does : P → PortCall → P → Type 0) (tells : C → ℕ → C → Type 0) (server : Addr) (want : Want) (old : NodeValue) (p : P) (c : C) where
@@ -33,15 +32,9 @@ module _ {P C : Type 0} (does : P → PortCall → P → Type 0) (tells : C → 
   broken_at_ask now q d new e told = (send_failed server e.0 ∷ [], now ∷ [], at_ask now e.0 new e.1, chain_one does p (send_failed server e.0) q e.2, chain_one tells c now d told)
 
   pub broken_at_poll : (now : ℕ) (q r : P) (d : C) (asked new : NodeValue) → Asked now q asked
-      → ((acts : List PortCall) × (mid : NodeValue) × (to : Addr) × (octets : List ℕ) × Chain (PollsTo now) asked acts mid × Polls mid now new (Some to) octets × Chain does q (acts ++ send_failed to octets ∷ []) r)
-      → tells c now d → Broken r d new
-  broken_at_poll now q r d asked new a e told = (
-    a.0 ++ (e.0 ++ send_failed e.2 e.3 ∷ []),
-    now ∷ [],
-    at_poll now a.0 e.0 asked e.1 new e.2 e.3 a.1 e.4 e.5,
-    chain-append does p q r a.0 (e.0 ++ send_failed e.2 e.3 ∷ []) a.2 e.6,
-    chain_one tells c now d told,
-  )
+      → ((acts : List PortCall) × BreaksPolls now asked acts new × Chain does q acts r) → tells c now d → Broken r d new
+  broken_at_poll now q r d asked new a e told =
+      (a.0 ++ e.0, now ∷ [], at_poll now a.0 e.0 asked new a.1 e.1, chain-append does p q r a.0 e.0 a.2 e.2, chain_one tells c now d told)
 
   -- both are done, and what follows is in order after them
   behind : (now : ℕ) (q r t : P) (asked polled : NodeValue) (a : Asked now q asked) (b : Polled now q asked r polled) (acts : List PortCall) → Chain does r acts t → Chain does p (a.0 ++ (b.0 ++ acts)) t

@@ -1,4 +1,5 @@
 pub mod PortCalls
+pub mod Faults
 pub mod Inner
 pub mod Memory
 pub mod OneAnswer

@@ -40,6 +40,11 @@ pub record PollsAll (now : ℕ) (old : NodeValue) (acts : List PortCall) (new : 
   pub polls : Chain (PollsTo now) old acts mid
   pub ends : EndsPolls now mid new
 
+-- Polls go on until the send of one of them fails.
+pub data BreaksPolls (now : ℕ) (old : NodeValue) : List PortCall → NodeValue → Type 0 where
+  at_send : (polling : List PortCall) (mid new : NodeValue) (to : Addr) (octets : List ℕ) → Chain (PollsTo now) old polling mid → Polls mid now new (Some to) octets
+      → BreaksPolls now old (polling ++ send_failed to octets ∷ []) new
+
 -- ---- what is heard
 
 -- what a user of a node sees of what it was told
@@ -79,8 +84,8 @@ pub record TakesTurn (server : Addr) (want : Want) (old : NodeValue) (acts : Lis
 -- the sending, or as it was before the receive.
 pub data BreaksTurn (server : Addr) (want : Want) (old : NodeValue) : List PortCall → List ℕ → NodeValue → Type 0 where
   at_ask : (first : ℕ) (octets : List ℕ) (new : NodeValue) → AsksFor first want old octets new → BreaksTurn server want old (send_failed server octets ∷ []) (first ∷ []) new
-  at_poll : (first : ℕ) (asking polling : List PortCall) (asked mid new : NodeValue) (to : Addr) (octets : List ℕ) → Asks server first want old asking asked → Chain (PollsTo first) asked polling mid
-      → Polls mid first new (Some to) octets → BreaksTurn server want old (asking ++ (polling ++ send_failed to octets ∷ [])) (first ∷ []) new
+  at_poll : (first : ℕ) (asking polling : List PortCall) (asked new : NodeValue) → Asks server first want old asking asked → BreaksPolls first asked polling new
+      → BreaksTurn server want old (asking ++ polling) (first ∷ []) new
   at_receive : (first : ℕ) (asking polling : List PortCall) (asked new : NodeValue) → Asks server first want old asking asked → PollsAll first asked polling new
       → BreaksTurn server want old (asking ++ (polling ++ receive_failed ∷ [])) (first ∷ []) new
   at_reply : (first second : ℕ) (asking polling : List PortCall) (asked polled new : NodeValue) (from : Addr) (octets reply : List ℕ) → Asks server first want old asking asked

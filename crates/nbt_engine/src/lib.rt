@@ -6,6 +6,7 @@
 
 mod cause;
 mod clock;
+mod fault;
 pub mod laws;
 mod memory;
 mod port;
@@ -15,8 +16,9 @@ mod udp;
 
 pub use cause::{Cause, MachineCall};
 pub use clock::Clock;
+pub use fault::Fault;
 pub use memory::{Datagram, MemoryClock, MemoryPort};
 pub use port::{Device, Port};
 pub use serving::{Counts, serve_turns};
-pub use turning::{Seen, Want, node_turn};
-pub use udp::{MachineClock, UdpPort};
+pub use turning::{Seen, Want, node_turn, poll_all};
+pub use udp::{MachineClock, RECEIVE_WAIT, UdpPort};

@@ -1,13 +1,11 @@
 //! An end node over a port and a clock.
 
-ghost use Rattle.std.specs.Prelude.{◌≡◌, ℕ, ◌<◌, ◌^◌, List, [], ◌∷◌, ◌++◌, Some, IfSome, IsNone, IfOk, OnOk, OnErr};
-ghost use Rattle.nbt_node.specs.Node.{NodeValue};
+ghost use Rattle.std.specs.Prelude.{◌≡◌, ℕ, ◌<◌, ◌^◌, List, ◌∷◌, Some, IfSome, IsNone, IfOk, OnOk, OnErr};
 ghost use Rattle.nbt_node.specs.Moves.{told_of, replied};
 ghost use Rattle.nbt_node.specs.Calls.{Polls};
 ghost use Rattle.nbt_node.specs.Datagrams.{Handles};
-ghost use Rattle.nbt_name.specs.declared.addr.Addr.{Addr as End};
 ghost use Rattle.nbt_engine.specs.PortCalls.{PortCall, came, receive_failed, send_failed, Chain, CountsFailure};
-ghost use Rattle.nbt_engine.specs.Turning.{AsksFor, Asks, PollsTo, PollsAll, EndsPolls, TurnHears, seen_of, TakesTurn, BreaksTurn};
+ghost use Rattle.nbt_engine.specs.Turning.{AsksFor, Asks, PollsAll, EndsPolls, BreaksPolls, TurnHears, seen_of, TakesTurn, BreaksTurn};
 
 use crate::clock::Clock;
 use crate::port::{Device, Port};
@@ -96,8 +94,11 @@ fn ask<P: Port, const N: usize>(
     }
 }
 
-/// Sends all that is due at a moment.
-fn poll_all<P: Port, const N: usize>(
+/// Sends all that is due at a moment: the node is polled until it has nothing to send, each datagram going to its end, by way
+/// of the buffer `out`. A poll that is refused since the clock went back ends that too, and is passed over. Refused with
+/// `Device` at the first send that fails: no poll follows, and the node is as after the poll that made that sending, which is
+/// lost.
+pub fn poll_all<P: Port, const N: usize>(
     port: &mut P,
     node: &mut Node<N>,
     now: Moment,
@@ -105,8 +106,8 @@ fn poll_all<P: Port, const N: usize>(
 ) -> Result<(), Device>
     requires few { P.failures port.old < 2 ^ 62 }
     ensures ok { OnOk result ((acts : List PortCall) × PollsAll now node.old acts node.new × Chain P.does port.old acts port.new) }
-    ensures err { OnErr result ((acts : List PortCall) × (mid : NodeValue) × (to : End) × (octets : List ℕ) × Chain (PollsTo now) node.old acts mid × Polls mid now node.new (Some to) octets
-        × Chain P.does port.old (acts ++ send_failed to octets ∷ []) port.new) }
+    ensures err { OnErr result ((acts : List PortCall) × BreaksPolls now node.old acts node.new × Chain P.does port.old acts port.new) }
+    // It is refused exactly where the port's count of failures grew.
     ensures device { CountsFailure (P.failures port.old) (P.failures port.new) result }
 {
     nbt_node::laws::settling_ends();

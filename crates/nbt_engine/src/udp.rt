@@ -2,6 +2,7 @@
 
 ghost use Rattle.std.specs.Prelude.{◌≡◌, ◌≤◌, ◌<◌, ◌^◌, ◌↔◌, [], None, Ok, IfOk, IfSome, IsTrue};
 ghost use Rattle.std.specs.IoError.{error_kind};
+ghost use Rattle.nbt_lease.specs.Config.{last_moment};
 ghost use Rattle.nbt_engine.specs.PortCalls.{receiving, CountsFailure};
 ghost use Rattle.nbt_engine.specs.Inner.Sockets.{IsNothing, HasNoWay, Received, Sent};
 
@@ -17,8 +18,8 @@ use std::net::{IpAddr, Ipv4Addr, Net, SocketAddr, UdpSocket};
 use std::time::{Duration, SystemTime};
 use std::{io, time};
 
-/// How long a receive waits for a datagram, in milliseconds.
-const WAIT: u64 = 100;
+/// How long a receive waits for a datagram, in milliseconds (our profile).
+pub const RECEIVE_WAIT: u64 = 100;
 
 /// A port over UDP (RFC 768). A receive waits 100 ms at most. A contract sees the address that it was bound to, as it was
 /// asked for, and how many calls have failed.
@@ -45,7 +46,7 @@ impl UdpPort {
         ensures { IfOk result (λ p. p ≡ record { addr = addr; failures = 0 }) }
     {
         let socket = UdpSocket::bind(net, socket_addr(addr))?;
-        socket.set_read_timeout(Some(Duration::from_millis(WAIT)))?;
+        socket.set_read_timeout(Some(Duration::from_millis(RECEIVE_WAIT)))?;
         Ok(UdpPort {
             socket,
             addr,
@@ -121,7 +122,7 @@ fn received(
     buffer: &[u8; MOST],
     octets: &mut ArrayVec<u8, 2048>,
 ) -> Result<Option<Addr>, Device>
-    requires within { IfOk answer (λ a. a.0 ≤ 2048) }
+    requires within { IfOk answer (λ a. a.0 ≤ MOST) }
     ensures { Received answer buffer.now result octets.new.items }
 {
     octets.clear();
@@ -191,13 +192,14 @@ pub struct MachineClock<'a, R: time::Clock> {
 }
 
 impl<'a, R: time::Clock> Model for MachineClock<'a, R> {
-    ghost use Rattle.std.specs.Prelude.{ℕ, ◌≤◌, ◌^◌};
+    ghost use Rattle.std.specs.Prelude.{ℕ, ◌≤◌};
+    ghost use Rattle.nbt_lease.specs.Config.{last_moment};
 
     ghost Value = { ℕ };
 
     ghost view = { λ c. c.last };
 
-    ghost invariant = { λ c. c.last ≤ 2 ^ 60 };
+    ghost invariant = { λ c. c.last ≤ last_moment };
 }
 
 impl<'a, R: time::Clock> MachineClock<'a, R> {
@@ -244,7 +246,7 @@ impl<'a, R: time::Clock> Clock for MachineClock<'a, R> {
 
 /// The time of day as a moment, where it can be read and is one.
 fn time_of_day<R: time::Clock>(machine: &R) -> io::Result<Moment>
-    ensures { IfOk result (λ moment. moment ≤ 2 ^ 60) }
+    ensures { IfOk result (λ moment. moment ≤ last_moment) }
 {
     let now = SystemTime::now(machine)?;
     let Ok(since) = now.duration_since(SystemTime::UNIX_EPOCH) else {
@@ -258,7 +260,7 @@ fn time_of_day<R: time::Clock>(machine: &R) -> io::Result<Moment>
 
 /// So much after 1970 as a moment, in milliseconds.
 fn moment_of(since: Duration) -> Option<Moment>
-    ensures { IfSome result (λ moment. moment ≤ 2 ^ 60) }
+    ensures { IfSome result (λ moment. moment ≤ last_moment) }
 {
     Moment::new(u64::try_from(since.as_millis()).ok()?)
 }

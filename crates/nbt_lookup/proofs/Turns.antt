@@ -1,14 +1,12 @@
 -- A turn by its parts, and turns up to the end of a lookup.
-use Rattle.std.proofs.Common.{◌≡◌, ℕ, ◌+◌, Bool, true, false, List, [], ◌∷◌, ◌++◌, length, Some, Result, Ok, Err, sym, ◌∙◌, refl, subst, arith, length-append}
+use Rattle.std.proofs.Common.{◌≡◌, ℕ, ◌+◌, Bool, true, false, List, [], ◌∷◌, ◌++◌, length, Result, Ok, Err, sym, ◌∙◌, refl, subst, arith, length-append}
 use Rattle.std.specs.Prelude.{◌<◌, IfOk, OnErr}
 use Rattle.std.specs.List.{flat_map}
 use Rattle.std.proofs.lemmas.List.{append-nil}
 use Rattle.std.proofs.lemmas.List.Concat.{flat_map-append}
-use Rattle.nbt_name.specs.declared.addr.Addr.{Addr}
 use Rattle.nbt_node.specs.Node.{NodeValue}
-use Rattle.nbt_node.specs.Calls.{Polls}
-use Rattle.nbt_engine.specs.PortCalls.{PortCall, receive_failed, send_failed, Chain}
-use Rattle.nbt_engine.specs.Turning.{PollsTo, PollsAll}
+use Rattle.nbt_engine.specs.PortCalls.{PortCall, receive_failed, Chain}
+use Rattle.nbt_engine.specs.Turning.{PollsAll, BreaksPolls}
 use Rattle.nbt_engine.proofs.Chains.{chain_one, chain-append}
 use Rattle.nbt_lookup.specs.declared.looking.Ending.TheVariants as e
 use Rattle.nbt_lookup.specs.declared.turning.Progress.TheVariants as g
@@ -108,10 +106,10 @@ OnErr-map P Q (Ok a) h f = tt
 OnErr-map P Q (Err x) h f = f h
 
 pub breaks_at_poll : {P C : Type 0} (does : P → PortCall → P → Type 0) (tells : C → ℕ → C → Type 0) (limit first : ℕ) (a p : P) (b c : C) (r s : NodeValue) → GoesOn limit r first → tells b first c
-    → ((acts : List PortCall) × (mid : NodeValue) × (to : Addr) × (octets : List ℕ) × Chain (PollsTo first) r acts mid × Polls mid first s (Some to) octets × Chain does a (acts ++ send_failed to octets ∷ []) p)
+    → ((acts : List PortCall) × BreaksPolls first r acts s × Chain does a acts p)
     → (acts : List PortCall) × (moments : List ℕ) × BreaksTurn limit r acts moments s × Chain does a acts p × Chain tells b moments c
 breaks_at_poll does tells limit first a p b c r s on told x =
-    (x.0 ++ send_failed x.2 x.3 ∷ [], first ∷ [], at_poll first x.0 x.1 s x.2 x.3 on x.4 x.5, x.6, chain_one tells b first c told)
+    (x.0, first ∷ [], at_poll first x.0 s on x.1, x.2, chain_one tells b first c told)
 
 pub breaks_at_receive : {P C : Type 0} (does : P → PortCall → P → Type 0) (tells : C → ℕ → C → Type 0) (limit first : ℕ) (a p q : P) (b c d : C) (r s t : NodeValue) → GoesOn limit r first → tells b first c
     → ((polling : List PortCall) × PollsAll first r polling s × Chain does a polling p) → does p receive_failed q × (t ≡ s) × (d ≡ c)

@@ -5,10 +5,9 @@ use Rattle.nbt_name.specs.declared.addr.Addr.{Addr}
 use Rattle.nbt_node.specs.declared.fault.LookupFault.{LookupFault}
 use Rattle.nbt_node.specs.Node.{NodeValue, lookup_open}
 use Rattle.nbt_node.specs.Moves.{Told, nothing, finds, finds_none, lists}
-use Rattle.nbt_node.specs.Calls.{Polls}
 use Rattle.nbt_node.specs.Datagrams.{Handles}
 use Rattle.nbt_engine.specs.PortCalls.{PortCall, nothing_came, came, receive_failed, sent, send_failed, Chain}
-use Rattle.nbt_engine.specs.Turning.{PollsTo, PollsAll}
+use Rattle.nbt_engine.specs.Turning.{PollsAll, BreaksPolls}
 use Rattle.nbt_lookup.specs.declared.looking.Ending.{Ending}
 use Rattle.nbt_lookup.specs.declared.looking.Ending.TheVariants as e
 use Rattle.nbt_lookup.specs.declared.question.Question.{Question}
@@ -100,8 +99,7 @@ pub data Looks {P C : Type 0} (does : P → PortCall → P → Type 0) (tells : 
 
 -- A turn in which it does: the node is as after the call that made the sending, or as it was before the receive.
 pub data BreaksTurn (limit : ℕ) (old : NodeValue) : List PortCall → List ℕ → NodeValue → Type 0 where
-  at_poll : (first : ℕ) (polling : List PortCall) (mid new : NodeValue) (to : Addr) (octets : List ℕ) → GoesOn limit old first → Chain (PollsTo first) old polling mid → Polls mid first new (Some to) octets
-      → BreaksTurn limit old (polling ++ send_failed to octets ∷ []) (first ∷ []) new
+  at_poll : (first : ℕ) (polling : List PortCall) (new : NodeValue) → GoesOn limit old first → BreaksPolls first old polling new → BreaksTurn limit old polling (first ∷ []) new
   at_receive : (first : ℕ) (polling : List PortCall) (new : NodeValue) → GoesOn limit old first → PollsAll first old polling new → BreaksTurn limit old (polling ++ receive_failed ∷ []) (first ∷ []) new
 
 -- Turns that don't end the lookup, fewer than all, and then such a turn.

@@ -1,17 +1,13 @@
 //! One turn of a lookup.
 
-ghost use Rattle.std.specs.Prelude.{◌≡◌, ℕ, ◌<◌, ◌^◌, List, [], ◌∷◌, ◌++◌, Some, IfSome, IsNone, IfOk, OnOk, OnErr, IsTrue, ◌↔◌};
-ghost use Rattle.nbt_node.specs.Node.{NodeValue};
+ghost use Rattle.std.specs.Prelude.{◌≡◌, ℕ, ◌<◌, ◌^◌, List, IfOk, OnErr, IsTrue, ◌↔◌};
 ghost use Rattle.nbt_node.specs.Moves.{Told, told_of};
-ghost use Rattle.nbt_node.specs.Calls.{Polls};
-ghost use Rattle.nbt_name.specs.declared.addr.Addr.{Addr as End};
-ghost use Rattle.nbt_engine.specs.PortCalls.{PortCall, came, receive_failed, send_failed, Chain, CountsFailure};
-ghost use Rattle.nbt_engine.specs.Turning.{PollsTo, PollsAll, EndsPolls};
+ghost use Rattle.nbt_engine.specs.PortCalls.{PortCall, came, receive_failed, Chain, CountsFailure};
 ghost use Rattle.nbt_lookup.specs.Looking.{Hears, GoesOn, is_end, BreaksTurn};
 ghost use Rattle.nbt_lookup.specs.Inner.Steps.{TurnIs, HeardIs};
 
 use arrayvec::ArrayVec;
-use nbt_engine::{Clock, Device, Port};
+use nbt_engine::{Clock, Device, Port, poll_all};
 use nbt_lease::Moment;
 use nbt_name::Addr;
 use nbt_node::{Event, Node};
@@ -77,41 +73,6 @@ fn listen<P: Port, C: Clock, const N: usize>(
     match from {
         Some(from) => Ok(hear(node, now, from, octets.as_slice(), out)),
         None => Ok(false),
-    }
-}
-
-/// Sends all that is due at a moment.
-fn poll_all<P: Port, const N: usize>(
-    port: &mut P,
-    node: &mut Node<N>,
-    now: Moment,
-    out: &mut ArrayVec<u8, 576>,
-) -> Result<(), Device>
-    requires few { P.failures port.old < 2 ^ 62 }
-    ensures err { OnErr result ((acts : List PortCall) × (mid : NodeValue) × (to : End) × (octets : List ℕ) × Chain (PollsTo now) node.old acts mid × Polls mid now node.new (Some to) octets
-        × Chain P.does port.old (acts ++ send_failed to octets ∷ []) port.new) }
-    ensures ok { OnOk result ((acts : List PortCall) × PollsAll now node.old acts node.new × Chain P.does port.old acts port.new) }
-    ensures device { CountsFailure (P.failures port.old) (P.failures port.new) result }
-{
-    nbt_node::laws::settling_ends();
-    while let Some(to) = next_due(node, now, out) {
-        port.send(to, out.as_slice())?;
-    }
-    Ok(())
-}
-
-/// The end for which the node has something due at a moment, in `out`.
-fn next_due<const N: usize>(
-    node: &mut Node<N>,
-    now: Moment,
-    out: &mut ArrayVec<u8, 576>,
-) -> Option<Addr>
-    ensures due { IfSome result (λ to. Polls node.old now node.new (Some to) out.new.items) }
-    ensures none { IsNone result → EndsPolls now node.old node.new }
-{
-    match node.poll(now, out) {
-        Ok(to) => to,
-        Err(_) => None,
     }
 }
 

@@ -1,6 +1,6 @@
 //! A TCP connection that carries a session's packets (RFC 1002 section 4.3).
 
-use crate::fault::Fault;
+use nbt_engine::Fault;
 use nbt_session::{EncodeFault, Event, Packet, Stream, StreamFault, encode};
 use std::alloc::Global;
 use std::io;

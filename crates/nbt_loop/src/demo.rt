@@ -7,14 +7,13 @@ ghost use Rattle.nbt_loop.specs.Texts.{newline, outcome_text};
 
 use crate::datagrams::send_data;
 use crate::end_node::{EndNode, NameServer};
-use crate::fault::Fault;
 use crate::names::{ask, release, resolve};
 use crate::outcome::{Outcome, write_outcome};
 use crate::ports::Ports;
 use crate::sessions::{Call, Session};
 use arrayvec::ArrayVec;
 use nbt_dgram::Joiner;
-use nbt_engine::{Cause, MachineCall, Port, UdpPort};
+use nbt_engine::{Cause, Fault, MachineCall, Port, UdpPort};
 use nbt_lease::{Config, Moment};
 use nbt_name::{Addr, Kind, Name};
 use nbt_node::{Event, Node};
@@ -43,8 +42,8 @@ const HELLO: &[u8] = b"hello";
 /// Lets a name server and two end nodes talk over the sockets of this machine: UDP for names and datagrams, TCP for
 /// sessions. Each step's line goes to `writer` as soon as it is done. All sockets are bound before the first line,
 /// and closed at the end. What another program sends to a node is passed over, up to a few datagrams or connections a
-/// step. Refused: `Device` where a socket can't be bound, or one of UDP or one that listens fails; `Output` where
-/// `writer` fails; `Memory` where memory is refused. Of a socket a line in `errors` says which call of it failed, at which address, and
+/// step. Refused: `NoPort` where a socket can't be bound; `Device` where one of UDP or one that listens fails; `Output`
+/// where `writer` fails; `Memory` where memory is refused. Of a socket a line in `errors` says which call of it failed, at which address, and
 /// why; what can't be written there is passed over. A TCP connection that fails is lost, as the end that calls sees it.
 pub fn run<R: Net, W: Write, E: Write>(
     rt: &R,
@@ -308,10 +307,13 @@ fn listen<R: Net, E: Write>(
     }
 }
 
-/// Says in `errors` why no socket can be had at this address.
+/// Says in `errors` why no socket can be had at this address. That is `NoPort`, but for want of memory.
 fn not_bound<E: Write>(addr: Addr, error: io::Error, errors: &mut E) -> Fault {
     Cause::new(MachineCall::Bind, addr, error).tell("", errors);
-    Fault::from(error)
+    match Fault::from(error) {
+        Fault::Memory => Fault::Memory,
+        _ => Fault::NoPort,
+    }
 }
 
 /// An end node at this address, with both its sockets.

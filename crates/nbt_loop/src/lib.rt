@@ -10,7 +10,6 @@ mod connection;
 mod datagrams;
 mod demo;
 mod end_node;
-mod fault;
 mod listening_end;
 mod names;
 mod outcome;
@@ -18,5 +17,4 @@ mod ports;
 mod sessions;
 
 pub use demo::run;
-pub use fault::Fault;
 pub use ports::Ports;

@@ -4,8 +4,7 @@ ghost use Rattle.std.specs.Prelude.{◌≡◌};
 
 use crate::connection::{Connection, send};
 use crate::end_node::SLOTS;
-use crate::fault::Fault;
-use nbt_engine::{Cause, MachineCall};
+use nbt_engine::{Cause, Fault, MachineCall};
 use nbt_lease::Moment;
 use nbt_name::{Addr, Name};
 use nbt_node::Node;

@@ -2,10 +2,9 @@
 
 use crate::connection::{Connection, send};
 use crate::end_node::SLOTS;
-use crate::fault::Fault;
 use crate::listening_end::ListeningEnd;
 use crate::outcome::Outcome;
-use nbt_engine::Cause;
+use nbt_engine::{Cause, Fault};
 use nbt_lease::Moment;
 use nbt_name::{Addr, Name};
 use nbt_node::Node;

@@ -10,7 +10,7 @@ use Rattle.nbt_engine.specs.Udp.{UdpValue, MachineTells}
 use Rattle.nbt_net.specs.Here.{Here}
 use Rattle.nbt_net.specs.Node.{Running, NodeBegins}
 use Rattle.nbt_net.specs.Serve.{Serving, Begins}
-use Rattle.nbt_net.specs.declared.fault.Fault.{Fault}
+use Rattle.nbt_engine.specs.declared.fault.Fault.{Fault}
 use Rattle.nbt_net.specs.declared.node.NodeArguments.{NodeArguments}
 
 fault_in : {A : Type 0} → Fault → Result A Fault → Fault

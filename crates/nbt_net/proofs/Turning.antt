@@ -1,10 +1,10 @@
--- The turns of a node: none, one after others, and one in which the device fails.
+-- The turns of a node: none, one after others, and one that ends them.
 use Rattle.std.proofs.Common.{ℕ, ◌+◌, ◌<◌, List, [], ◌∷◌, ◌++◌, refl, sym, ap, subst, ◌∙◌, length-append}
 use Rattle.nbt_name.specs.declared.addr.Addr.{Addr}
 use Rattle.nbt_engine.specs.PortCalls.{PortCall, Chain}
 use Rattle.nbt_engine.specs.declared.turning.Seen.{Seen}
 use Rattle.nbt_engine.specs.declared.turning.Want.{Want}
-use Rattle.nbt_net.specs.Node.{Running, Turns, BreaksTurns, TakesTurns, FailsTurns}
+use Rattle.nbt_net.specs.Node.{Running, Turns, TakesTurns, EndsTurns}
 
 pub chain_on : {S X : Type 0} (step : S → X → S → Type 0) (old mid new : S) (xs : List X) (x : X) → Chain step old xs mid → step mid x new → Chain step old (xs ++ x ∷ []) new
 chain_on step old mid new [] x before last = (new, subst (λ s. step s x new) before last, refl)
@@ -21,12 +21,12 @@ turns_on does tells server want count old mid new one before turn = record {
   count_is = length-append before.seen (one ∷ []) ∙ ap (λ (n : ℕ). n + 1) before.count_is;
 }
 
-pub turns_fail : {P C : Type 0} (does : P → PortCall → P → Type 0) (tells : C → ℕ → C → Type 0) (server : Addr) (want : Want) (count turns : ℕ) (old mid new : Running P C)
-    → count < turns → TakesTurns does tells server want count old mid → BreaksTurns does tells server want mid new → FailsTurns does tells server want turns old new
-turns_fail does tells server want count turns old mid new fewer before broken = record {
+pub turns_end : {P C : Type 0} (does : P → PortCall → P → Type 0) (tells : C → ℕ → C → Type 0) (server : Addr) (want : Want) (ends : Running P C → Running P C → Type 0) (count turns : ℕ) (old mid new : Running P C)
+    → count < turns → TakesTurns does tells server want count old mid → ends mid new → EndsTurns does tells server want ends turns old new
+turns_end does tells server want ends count turns old mid new fewer before last = record {
   seen = before.seen;
   mid = mid;
   turns = before.turns;
   fewer = subst (λ (n : ℕ). n < turns) (sym before.count_is) fewer;
-  breaks = broken;
+  ended = last;
 }

@@ -1,5 +1,5 @@
 -- What `node` does and prints (our profile).
-use Rattle.std.specs.Prelude.{◌≡◌, ℕ, ◌<◌, List, [], ◌++◌, length, Option, Some, None, codes}
+use Rattle.std.specs.Prelude.{◌≡◌, ◌≢◌, ◌⊎◌, ℕ, ◌<◌, List, [], ◌++◌, length, Option, Some, None, codes}
 use Rattle.std.specs.Fmt.{decimal}
 use Rattle.std.specs.Io.KnownBytes.{Appends}
 use Rattle.nbt_name.specs.declared.addr.Addr.{Addr}
@@ -14,7 +14,7 @@ use Rattle.nbt_engine.specs.declared.turning.Want.{Want}
 use Rattle.nbt_engine.specs.Udp.{UdpDoes, MachineTells}
 use Rattle.nbt_net.specs.Here.{Here}
 use Rattle.nbt_net.specs.Line.{one_line}
-use Rattle.nbt_net.specs.Staying.{StaysUp, GivesUp}
+use Rattle.nbt_net.specs.Staying.{StaysUp, GivesUp, IsCutOff}
 use Rattle.nbt_net.specs.declared.limits.TheConstants.{FOREVER}
 use Rattle.nbt_net.specs.declared.node.NodeArguments.{NodeArguments}
 
@@ -48,19 +48,24 @@ abbrev pub BreaksTurns : {P C : Type 0} → (P → PortCall → P → Type 0) �
 BreaksTurns does tells server want old new = (acts : List PortCall) × (moments : List ℕ) × BreaksTurn server want old.node acts moments new.node
     × Chain does old.port acts new.port × Chain tells old.clock moments new.clock × (new.text ≡ old.text)
 
+-- A turn goes well, but the line of what was seen in it can't be written. What stands in the text then isn't said.
+abbrev pub CutsTurn : {P C : Type 0} → (P → PortCall → P → Type 0) → (C → ℕ → C → Type 0) → Addr → Want → Running P C → Running P C → Type 0
+CutsTurn does tells server want old new = (seen : Seen) × (seen ≢ s.Nothing) × (acts : List PortCall) × (moments : List ℕ) × TakesTurn server want old.node acts moments seen new.node
+    × Chain does old.port acts new.port × Chain tells old.clock moments new.clock
+
 -- so many turns, one after the other
 pub record TakesTurns {P C : Type 0} (does : P → PortCall → P → Type 0) (tells : C → ℕ → C → Type 0) (server : Addr) (want : Want) (count : ℕ) (old new : Running P C) : Type 0 where
   pub seen : List Seen
   pub turns : Chain (Turns does tells server want) old seen new
   pub count_is : length seen ≡ count
 
--- fewer turns than that, and then one in which the device fails
-pub record FailsTurns {P C : Type 0} (does : P → PortCall → P → Type 0) (tells : C → ℕ → C → Type 0) (server : Addr) (want : Want) (count : ℕ) (old new : Running P C) : Type 0 where
+-- fewer turns than that, and then one that ends them in such a way
+pub record EndsTurns {P C : Type 0} (does : P → PortCall → P → Type 0) (tells : C → ℕ → C → Type 0) (server : Addr) (want : Want) (ends : Running P C → Running P C → Type 0) (count : ℕ) (old new : Running P C) : Type 0 where
   pub seen : List Seen
   pub mid : Running P C
   pub turns : Chain (Turns does tells server want) old seen mid
   pub fewer : length seen < count
-  pub breaks : BreaksTurns does tells server want mid new
+  pub ended : ends mid new
 
 -- With a number of turns it takes them. With no end it stays up.
 abbrev pub RunsFor : {P C : Type 0} → (P → PortCall → P → Type 0) → (C → ℕ → C → Type 0) → (turns : Option ℕ) → Addr → Want → Running P C → Running P C → Type 0
@@ -69,13 +74,23 @@ RunsFor does tells None server want old new = StaysUp (Turns does tells server w
 
 -- The device fails: with a number of turns in the first turn in which it does. With no end the node gives up.
 abbrev pub NodeFailsFor : {P C : Type 0} → (P → PortCall → P → Type 0) → (C → ℕ → C → Type 0) → (turns : Option ℕ) → Addr → Want → Running P C → Running P C → Type 0
-NodeFailsFor does tells (Some turns) server want old new = FailsTurns does tells server want turns old new
+NodeFailsFor does tells (Some turns) server want old new = EndsTurns does tells server want (BreaksTurns does tells server want) turns old new
 NodeFailsFor does tells None server want old new = GivesUp (Turns does tells server want) (BreaksTurns does tells server want) FOREVER old new
+
+-- The line of an event can't be written, and no turn is taken after it. With no end the turns before it stayed up.
+abbrev pub NodeIsCutFor : {P C : Type 0} → (P → PortCall → P → Type 0) → (C → ℕ → C → Type 0) → (turns : Option ℕ) → Addr → Want → Running P C → Running P C → Type 0
+NodeIsCutFor does tells (Some turns) server want old new = EndsTurns does tells server want (CutsTurn does tells server want) turns old new
+NodeIsCutFor does tells None server want old new = IsCutOff (Turns does tells server want) (BreaksTurns does tells server want) (CutsTurn does tells server want) FOREVER old new
 
 -- The turns, and after them a line that says whether it then holds the name, at the moment that the clock told last.
 abbrev pub RunsToItsEnd : {P : Type 0} → (P → PortCall → P → Type 0) → NodeArguments → Running P ℕ → Running P ℕ → Type 0
 RunsToItsEnd does a old new = (turns_text : Option (List ℕ)) × RunsFor does MachineTells a.turns a.server a.want old (record new { text = turns_text })
     × Appends turns_text new.text (held_text (holds new.node a.want.name new.clock))
+
+-- A line can't be written: that of an event; or, after all turns, the last one.
+abbrev pub IsCutToItsEnd : {P : Type 0} → (P → PortCall → P → Type 0) → NodeArguments → Running P ℕ → Running P ℕ → Type 0
+IsCutToItsEnd does a old new = NodeIsCutFor does MachineTells a.turns a.server a.want old new
+    ⊎ ((turns_text : Option (List ℕ)) × RunsFor does MachineTells a.turns a.server a.want old (record new { text = turns_text }))
 
 -- The machine's clock is read, a node starts at that moment, and the three go on from there.
 pub record NodeBegins {P : Type 0} (a : NodeArguments) (goes : Running P ℕ → Running P ℕ → Type 0)
@@ -91,9 +106,15 @@ RunsNode does a old_port old_clock old_text port clock text = NodeBegins a (Runs
 abbrev pub NodeFails : {P : Type 0} → (P → PortCall → P → Type 0) → NodeArguments → P → (old_clock : ℕ) → (old_text : Option (List ℕ)) → P → (clock : ℕ) → (text : Option (List ℕ)) → Type 0
 NodeFails does a old_port old_clock old_text port clock text = NodeBegins a (NodeFailsFor does MachineTells a.turns a.server a.want) old_port old_clock old_text port clock text
 
+abbrev pub NodeIsCut : {P : Type 0} → (P → PortCall → P → Type 0) → NodeArguments → P → (old_clock : ℕ) → (old_text : Option (List ℕ)) → P → (clock : ℕ) → (text : Option (List ℕ)) → Type 0
+NodeIsCut does a old_port old_clock old_text port clock text = NodeBegins a (IsCutToItsEnd does a) old_port old_clock old_text port clock text
+
 -- the same over this machine
 abbrev pub RunsNodeHere : NodeArguments → (old_text text : Option (List ℕ)) → Type 0
 RunsNodeHere a old_text text = Here a.bind (λ old_port old_clock port clock. RunsNode UdpDoes a old_port old_clock old_text port clock text)
 
 abbrev pub NodeFailsHere : NodeArguments → (old_text text : Option (List ℕ)) → Type 0
 NodeFailsHere a old_text text = Here a.bind (λ old_port old_clock port clock. NodeFails UdpDoes a old_port old_clock old_text port clock text)
+
+abbrev pub NodeIsCutHere : NodeArguments → (old_text text : Option (List ℕ)) → Type 0
+NodeIsCutHere a old_text text = Here a.bind (λ old_port old_clock port clock. NodeIsCut UdpDoes a old_port old_clock old_text port clock text)

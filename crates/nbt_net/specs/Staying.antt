@@ -27,3 +27,7 @@ StaysUp turns breaks count old new = (failed : ℕ) × (failed < MOST_FAILURES) 
 -- It gives up: as many turns as that failed one after the other.
 abbrev pub GivesUp : {S X : Type 0} → (S → X → S → Type 0) → (S → S → Type 0) → (most : ℕ) → S → S → Type 0
 GivesUp turns breaks most old new = (count : ℕ) × (count ≤ most) × Goes turns breaks count MOST_FAILURES old new
+
+-- It is cut off by another turn, after fewer than `most` through which it stayed up.
+abbrev pub IsCutOff : {S X : Type 0} → (S → X → S → Type 0) → (S → S → Type 0) → (S → S → Type 0) → (most : ℕ) → S → S → Type 0
+IsCutOff {S = S} turns breaks cuts most old new = (count : ℕ) × (mid : S) × (count < most) × StaysUp turns breaks count old mid × cuts mid new

@@ -2,8 +2,7 @@
 
 ghost use Rattle.std.specs.Prelude.{◌≡◌, ◌≢◌, IfOk, IfErr};
 
-use crate::fault::Fault;
-use nbt_engine::{Cause, Clock, MachineCall, MachineClock};
+use nbt_engine::{Cause, Clock, Fault, MachineCall, MachineClock};
 use nbt_name::Addr;
 use std::io::Write;
 use std::{io, time};

@@ -3,13 +3,11 @@
 #![tactic(auto)]
 
 mod clock;
-mod fault;
 mod limits;
 mod node;
 mod port;
 mod serve;
 mod staying;
 
-pub use fault::Fault;
 pub use node::{NodeArguments, run_node};
 pub use serve::{ServeArguments, run_server};

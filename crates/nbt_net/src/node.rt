@@ -1,17 +1,16 @@
 //! An end node over UDP and the machine's clock.
 
-ghost use Rattle.std.specs.Prelude.{◌≡◌, ℕ, ◌+◌, ◌<◌, ◌≤◌, ◌^◌, OnOk, IfOk};
+ghost use Rattle.std.specs.Prelude.{◌≡◌, ◌≢◌, ℕ, ◌+◌, ◌<◌, ◌≤◌, ◌^◌, OnOk, IfOk, IsOk};
 ghost use Rattle.std.specs.Io.KnownBytes.{Appends};
 ghost use Rattle.nbt_node.specs.Calls.{started};
 ghost use Rattle.nbt_node.specs.Node.{holds};
-ghost use Rattle.nbt_net.specs.Node.{Turns, BreaksTurns, TakesTurns, FailsTurns, RunsFor, NodeFailsFor, RunsNode, NodeFails, RunsNodeHere, NodeFailsHere, seen_text, held_text};
+ghost use Rattle.nbt_net.specs.Node.{Turns, BreaksTurns, CutsTurn, TakesTurns, EndsTurns, RunsFor, NodeFailsFor, NodeIsCutFor, RunsNode, NodeFails, NodeIsCut, RunsNodeHere, NodeFailsHere, NodeIsCutHere, seen_text, held_text};
 
 use crate::clock::readable_clock;
-use crate::fault::Fault;
 use crate::limits::FOREVER;
 use crate::port::bound_port;
 use crate::staying::{node_on, tell_end_of};
-use nbt_engine::{Clock, MachineClock, Port, Seen, Want, node_turn};
+use nbt_engine::{Clock, Fault, MachineClock, Port, Seen, Want, node_turn};
 use nbt_lease::{Config, Moment};
 use nbt_name::Addr;
 use nbt_node::Node;
@@ -41,9 +40,10 @@ pub struct NodeArguments {
 /// the last turn whether the name is held. Where there is no end, it stays up for 2^61 turns, also where the port fails: it says
 /// so in `errors`, waits 100 ms after each turn that failed, and goes on from where the call that failed left the node.
 /// Refused: `NoPort` where the port can't be had; `NoClock` where the clock can't be read at first; `Device` where the port
-/// fails, with a number of turns at the first call that does, and with no end at the hundredth turn in a row; `Output` where
-/// `writer` fails. Of each but the last a line in `errors` says which call of the machine failed, for which address, and why. What can't
-/// be written to `errors` is passed over.
+/// fails, with a number of turns at the first call that does, and with no end at the hundredth turn in a row that fails;
+/// `Output` where a line can't be written to `writer`: at once after the turn in which the event was seen, or after all turns. Of
+/// each but the last a line in `errors` says which call of the machine failed, for which address, and why. What can't be
+/// written to `errors` is passed over. It takes no memory, and isn't refused with `Memory`.
 pub fn run_node<M: Net + time::Clock, W: Write, E: Write>(
     machine: &M,
     arguments: &NodeArguments,
@@ -52,6 +52,8 @@ pub fn run_node<M: Net + time::Clock, W: Write, E: Write>(
 ) -> Result<(), Fault>
     ensures ok { OnOk result (RunsNodeHere arguments.now (W.contents writer.old) (W.contents writer.new)) }
     ensures device { result ≡ Err Fault.Device → NodeFailsHere arguments.now (W.contents writer.old) (W.contents writer.new) }
+    ensures output { result ≡ Err Fault.Output → NodeIsCutHere arguments.now (W.contents writer.old) (W.contents writer.new) }
+    ensures memory { result ≢ Err Fault.Memory }
 {
     let mut port = bound_port(machine, arguments.bind, errors)?;
     let mut clock = readable_clock(machine, arguments.bind, errors)?;
@@ -74,6 +76,9 @@ pub fn run_turns<P: Port, M: time::Clock, W: Write, E: Write>(
         port.old clock.old (W.contents writer.old) port.new clock.new (W.contents writer.new)) }
     ensures device { result ≡ Err Fault.Device → NodeFails P.does arguments.now
         port.old clock.old (W.contents writer.old) port.new clock.new (W.contents writer.new) }
+    ensures output { result ≡ Err Fault.Output → NodeIsCut P.does arguments.now
+        port.old clock.old (W.contents writer.old) port.new clock.new (W.contents writer.new) }
+    ensures memory { result ≢ Err Fault.Memory }
 {
     let mut node = start_node(clock, arguments);
     run_for(port, clock, &mut node, arguments, writer, machine, errors)?;
@@ -104,6 +109,9 @@ fn run_for<P: Port, C: Clock, W: Write, M: time::Clock, E: Write>(
         (record { port = port.new; clock = clock.new; node = node.new; text = W.contents writer.new })) }
     ensures device { result ≡ Err Fault.Device → NodeFailsFor P.does C.tells arguments.now.turns arguments.now.server arguments.now.want (record { port = port.old; clock = clock.old; node = node.old; text = W.contents writer.old })
         (record { port = port.new; clock = clock.new; node = node.new; text = W.contents writer.new }) }
+    ensures output { result ≡ Err Fault.Output → NodeIsCutFor P.does C.tells arguments.now.turns arguments.now.server arguments.now.want (record { port = port.old; clock = clock.old; node = node.old; text = W.contents writer.old })
+        (record { port = port.new; clock = clock.new; node = node.new; text = W.contents writer.new }) }
+    ensures memory { result ≢ Err Fault.Memory }
 {
     match arguments.turns {
         Some(turns) => take_turns(port, clock, node, arguments, turns, writer),
@@ -125,8 +133,11 @@ fn take_turns<P: Port, C: Clock, W: Write>(
     requires few { P.failures port.old < 2 ^ 62 }
     ensures ok { OnOk result (TakesTurns P.does C.tells arguments.now.server arguments.now.want turns
         (record { port = port.old; clock = clock.old; node = node.old; text = W.contents writer.old }) (record { port = port.new; clock = clock.new; node = node.new; text = W.contents writer.new })) }
-    ensures device { result ≡ Err Fault.Device → FailsTurns P.does C.tells arguments.now.server arguments.now.want turns
+    ensures device { result ≡ Err Fault.Device → EndsTurns P.does C.tells arguments.now.server arguments.now.want (BreaksTurns P.does C.tells arguments.now.server arguments.now.want) turns
         (record { port = port.old; clock = clock.old; node = node.old; text = W.contents writer.old }) (record { port = port.new; clock = clock.new; node = node.new; text = W.contents writer.new }) }
+    ensures output { result ≡ Err Fault.Output → EndsTurns P.does C.tells arguments.now.server arguments.now.want (CutsTurn P.does C.tells arguments.now.server arguments.now.want) turns
+        (record { port = port.old; clock = clock.old; node = node.old; text = W.contents writer.old }) (record { port = port.new; clock = clock.new; node = node.new; text = W.contents writer.new }) }
+    ensures memory { result ≢ Err Fault.Memory }
 {
     for _ in 0..turns {
         take_turn(port, clock, node, arguments, writer)?;
@@ -147,6 +158,9 @@ pub fn take_turn<P: Port, C: Clock, W: Write>(
         (record { port = port.old; clock = clock.old; node = node.old; text = W.contents writer.old }) seen (record { port = port.new; clock = clock.new; node = node.new; text = W.contents writer.new })) }
     ensures device { result ≡ Err Fault.Device → BreaksTurns P.does C.tells arguments.now.server arguments.now.want
         (record { port = port.old; clock = clock.old; node = node.old; text = W.contents writer.old }) (record { port = port.new; clock = clock.new; node = node.new; text = W.contents writer.new }) }
+    ensures output { result ≡ Err Fault.Output → CutsTurn P.does C.tells arguments.now.server arguments.now.want
+        (record { port = port.old; clock = clock.old; node = node.old; text = W.contents writer.old }) (record { port = port.new; clock = clock.new; node = node.new; text = W.contents writer.new }) }
+    ensures memory { result ≢ Err Fault.Memory }
     ensures same { OnOk result (P.failures port.new ≡ P.failures port.old) }
     ensures count { P.failures port.new ≤ P.failures port.old + 1 }
 {
@@ -157,7 +171,8 @@ pub fn take_turn<P: Port, C: Clock, W: Write>(
 
 /// Prints an event, if it is one, at once.
 fn tell<W: Write>(seen: Seen, writer: &mut W) -> io::Result<()>
-    ensures { OnOk result (Appends (W.contents writer.old) (W.contents writer.new) (seen_text seen)) }
+    ensures told { OnOk result (Appends (W.contents writer.old) (W.contents writer.new) (seen_text seen)) }
+    ensures nothing { seen ≡ Seen.Nothing → IsOk result }
 {
     match seen {
         Seen::Nothing => return Ok(()),

@@ -2,8 +2,7 @@
 
 ghost use Rattle.std.specs.Prelude.{◌≡◌, IfOk, IfErr};
 
-use crate::fault::Fault;
-use nbt_engine::{Cause, MachineCall, UdpPort};
+use nbt_engine::{Cause, Fault, MachineCall, UdpPort};
 use nbt_name::Addr;
 use std::io::Write;
 use std::net::Net;

@@ -1,15 +1,14 @@
 //! A name server over UDP and the machine's clock.
 
-ghost use Rattle.std.specs.Prelude.{◌≡◌, ◌≤◌, ◌^◌, OnOk};
+ghost use Rattle.std.specs.Prelude.{◌≡◌, ◌≢◌, ◌≤◌, ◌^◌, OnOk};
 ghost use Rattle.std.specs.Io.KnownBytes.{Appends};
 ghost use Rattle.nbt_net.specs.Serve.{RunsServer, ServerFails, ServerIsCut, RunsServerHere, ServerFailsHere, ServerIsCutHere, ServesFor, FailsFor, IsCutFor, counts_text};
 
 use crate::clock::readable_clock;
-use crate::fault::Fault;
 use crate::limits::FOREVER;
 use crate::port::bound_port;
 use crate::staying::{serve_on, tell_end_of};
-use nbt_engine::{Clock, Counts, Port, serve_turns};
+use nbt_engine::{Clock, Counts, Fault, Port, serve_turns};
 use nbt_lease::Config;
 use nbt_name::Addr;
 use nbt_server::Server;
@@ -34,8 +33,10 @@ pub struct ServeArguments {
 /// up for 2^61 turns, also where the port fails: it says so in `errors`, waits 100 ms after each turn that failed, and goes on
 /// with the leases that it has. Refused: `NoPort` where the port can't be had; `NoClock` where the clock can't be read at
 /// first; `Device` where the port fails, with a number of turns at the first call that does, and with no end at the hundredth
-/// turn in a row; `Output` where `writer` fails. Of each but the last a line in `errors` says which call of the machine failed, for
-/// which address, and why. What can't be written to `errors` is passed over.
+/// turn in a row that fails; `Output` where the line can't be written to `writer`, with a number of turns after the last of
+/// them, and with no end before the first. Of each but the last a line in `errors` says which call of the machine failed, for
+/// which address, and why. What can't be written to `errors` is passed over. Refused memory costs a datagram, and is no reason to
+/// end: it isn't refused with `Memory`.
 pub fn run_server<M: Net + time::Clock, W: Write, E: Write>(
     machine: &M,
     alloc: Global,
@@ -46,6 +47,7 @@ pub fn run_server<M: Net + time::Clock, W: Write, E: Write>(
     ensures ok { OnOk result (RunsServerHere arguments.now (W.contents writer.old) (W.contents writer.new)) }
     ensures device { result ≡ Err Fault.Device → ServerFailsHere arguments.now (W.contents writer.old) (W.contents writer.new) }
     ensures output { result ≡ Err Fault.Output → ServerIsCutHere arguments.now }
+    ensures memory { result ≢ Err Fault.Memory }
 {
     let mut port = bound_port(machine, arguments.bind, errors)?;
     let mut clock = readable_clock(machine, arguments.bind, errors)?;
@@ -72,6 +74,7 @@ pub fn serve<P: Port, C: Clock, W: Write, M: time::Clock, E: Write>(
     ensures device { result ≡ Err Fault.Device → ServerFails P.does C.tells arguments.now
         port.old clock.old (W.contents writer.old) port.new clock.new (W.contents writer.new) }
     ensures output { result ≡ Err Fault.Output → ServerIsCut P.does C.tells arguments.now port.old clock.old port.new clock.new }
+    ensures memory { result ≢ Err Fault.Memory }
 {
     let start = clock.now();
     let mut server = Server::start(alloc, arguments.config, start);
@@ -95,6 +98,7 @@ fn serve_for<P: Port, C: Clock, W: Write, M: time::Clock, E: Write>(
         (record { port = port.new; clock = clock.new; server = server.new }) (W.contents writer.new) }
     ensures output { result ≡ Err Fault.Output → IsCutFor P.does C.tells arguments.now.turns (record { port = port.old; clock = clock.old; server = server.old })
         (record { port = port.new; clock = clock.new; server = server.new }) }
+    ensures memory { result ≢ Err Fault.Memory }
 {
     match arguments.turns {
         Some(turns) => {

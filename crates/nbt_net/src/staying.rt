@@ -1,23 +1,18 @@
 //! What stays up when its port fails.
 
-ghost use Rattle.std.specs.Prelude.{◌≡◌, ◌+◌, ◌<◌, ◌≤◌, ◌^◌, OnOk, OnErr};
-ghost use Rattle.nbt_net.specs.Node.{Turns, BreaksTurns};
+ghost use Rattle.std.specs.Prelude.{◌≡◌, ◌≢◌, ◌+◌, ◌<◌, ◌≤◌, ◌^◌, OnOk, OnErr};
+ghost use Rattle.nbt_net.specs.Node.{Turns, BreaksTurns, CutsTurn};
 ghost use Rattle.nbt_net.specs.Serve.{ServesTurn, BreaksServing};
-ghost use Rattle.nbt_net.specs.Staying.{StaysUp, GivesUp};
+ghost use Rattle.nbt_net.specs.Staying.{StaysUp, GivesUp, IsCutOff};
 
-use crate::fault::Fault;
 use crate::limits::MOST_FAILURES;
 use crate::node::{NodeArguments, SLOTS, take_turn};
-use nbt_engine::{Cause, Clock, Device, Port, serve_turns};
+use nbt_engine::{Cause, Clock, Device, Fault, Port, RECEIVE_WAIT, serve_turns};
 use nbt_node::Node;
 use nbt_server::Server;
 use std::io::Write;
 use std::time::Duration;
 use std::{io, thread, time};
-
-/// How long an end waits after a turn that failed, in milliseconds: as long as a turn takes in which nothing comes (our
-/// profile).
-const WAIT: u64 = 100;
 
 /// How many turns in a row have failed.
 #[derive(Debug, Drop)]
@@ -43,8 +38,8 @@ impl Row {
         self.failed = 0;
     }
 
-    /// A turn failed, for this cause. At the first of a row that is said in `errors`. It waits 100 ms by the machine's clock,
-    /// and the end goes on. Refused with `Device` at the hundredth in a row, at once.
+    /// A turn failed, for this cause. At the first of a row that is said in `errors`. It waits 100 ms by the machine's clock, as
+    /// long as a turn takes in which nothing comes, and the end goes on. Refused with `Device` at the hundredth in a row, at once.
     pub fn goes_on<M: time::Clock, E: Write>(
         &mut self,
         cause: Option<Cause>,
@@ -63,7 +58,7 @@ impl Row {
         if self.failed == 1 {
             tell_failure(cause, errors);
         }
-        thread::sleep(machine, Duration::from_millis(WAIT));
+        thread::sleep(machine, Duration::from_millis(RECEIVE_WAIT));
         Ok(())
     }
 }
@@ -97,7 +92,7 @@ pub fn serve_on<P: Port, C: Clock, M: time::Clock, E: Write>(
 }
 
 /// The node takes `turns` turns, prints what is seen in each, and stays up when the port fails, as [`serve_on`] does. Refused
-/// with `Device` at the hundredth failure in a row, at once, and with `Output` where `writer` fails.
+/// with `Device` at the hundredth failure in a row, at once, and with `Output` after a turn whose event can't be written, at once.
 pub fn node_on<P: Port, C: Clock, W: Write, M: time::Clock, E: Write>(
     port: &mut P,
     clock: &mut C,
@@ -113,6 +108,10 @@ pub fn node_on<P: Port, C: Clock, W: Write, M: time::Clock, E: Write>(
         (record { port = port.old; clock = clock.old; node = node.old; text = W.contents writer.old }) (record { port = port.new; clock = clock.new; node = node.new; text = W.contents writer.new })) }
     ensures device { result ≡ Err Fault.Device → GivesUp (Turns P.does C.tells arguments.now.server arguments.now.want) (BreaksTurns P.does C.tells arguments.now.server arguments.now.want) turns
         (record { port = port.old; clock = clock.old; node = node.old; text = W.contents writer.old }) (record { port = port.new; clock = clock.new; node = node.new; text = W.contents writer.new }) }
+    ensures output { result ≡ Err Fault.Output → IsCutOff (Turns P.does C.tells arguments.now.server arguments.now.want) (BreaksTurns P.does C.tells arguments.now.server arguments.now.want)
+        (CutsTurn P.does C.tells arguments.now.server arguments.now.want) turns
+        (record { port = port.old; clock = clock.old; node = node.old; text = W.contents writer.old }) (record { port = port.new; clock = clock.new; node = node.new; text = W.contents writer.new }) }
+    ensures memory { result ≢ Err Fault.Memory }
 {
     let mut row = Row::new();
     for _ in 0..turns {

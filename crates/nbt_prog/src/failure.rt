@@ -3,6 +3,7 @@
 ghost use Rattle.std.specs.Prelude.{◌≡◌, ◌≤◌};
 
 use hex::FromHexError;
+use nbt_engine::Fault;
 use nbt_usage::{Refusal, Text};
 use std::alloc::{AllocError, AllocFailed};
 use std::io;
@@ -20,15 +21,9 @@ pub enum Failure {
     /// An address, a hexadecimal text or the input can't be read.
     #[error("unreadable")]
     Unreadable,
-    /// A read failed, a socket did, or a clock.
-    #[error("device")]
-    Device,
-    /// A write failed, so nothing more can be told.
-    #[error("output")]
-    Output,
-    /// An allocation was refused.
-    #[error("memory")]
-    Memory,
+    /// The machine failed, or the output, or an allocation was refused.
+    #[error("{0}")]
+    Fault(Fault),
 }
 
 impl Failure {
@@ -44,42 +39,49 @@ impl Failure {
             Failure::Help(_) => 0,
             Failure::Unreadable => 1,
             Failure::Usage(_) => 2,
-            Failure::Device | Failure::Output => 3,
-            Failure::Memory => 4,
+            Failure::Fault(fault) => fault.status(),
         }
     }
 
-    /// The line that is printed alone, with its end; of help and wrong usage nothing, since they have a text of their own,
-    /// and nothing where the output failed.
+    /// The line that is printed alone, with its end; of help and wrong usage nothing, since they have a text of their own.
     pub fn line(&self) -> &'static str
         ensures { IfSome (failure_text self.now) (λ text. result.now ≡ text) }
     {
         match self {
-            Failure::Help(_) | Failure::Usage(_) | Failure::Output => "",
+            Failure::Help(_) | Failure::Usage(_) => "",
             Failure::Unreadable => "unreadable\n",
-            Failure::Device => "device\n",
-            Failure::Memory => "memory\n",
+            Failure::Fault(fault) => fault.line(),
         }
     }
 }
 
-impl<T: Drop> From<AllocFailed<T>> for Failure {
-    ghost use Rattle.nbt_prog.specs.declared.failure.Failure.TheVariants.{Memory};
+impl From<Fault> for Failure {
+    ghost use Rattle.nbt_prog.specs.declared.failure.Failure.TheVariants as failure;
 
-    ghost from_gives = { λ _ failure. failure ≡ Memory };
+    ghost from_gives = { λ fault result. result ≡ failure.Fault fault };
+
+    fn from(fault: Fault) -> Failure {
+        Failure::Fault(fault)
+    }
+}
+
+impl<T: Drop> From<AllocFailed<T>> for Failure {
+    ghost use Rattle.nbt_prog.specs.Inner.Failure.{out_of_memory};
+
+    ghost from_gives = { λ _ failure. failure ≡ out_of_memory };
 
     fn from(_error: AllocFailed<T>) -> Failure {
-        Failure::Memory
+        Failure::Fault(Fault::Memory)
     }
 }
 
 impl From<AllocError> for Failure {
-    ghost use Rattle.nbt_prog.specs.declared.failure.Failure.TheVariants.{Memory};
+    ghost use Rattle.nbt_prog.specs.Inner.Failure.{out_of_memory};
 
-    ghost from_gives = { λ _ failure. failure ≡ Memory };
+    ghost from_gives = { λ _ failure. failure ≡ out_of_memory };
 
     fn from(_error: AllocError) -> Failure {
-        Failure::Memory
+        Failure::Fault(Fault::Memory)
     }
 }
 
@@ -92,7 +94,7 @@ impl From<Refusal> for Failure {
         match refusal {
             Refusal::Help(text) => Failure::Help(text),
             Refusal::Wrong(text) => Failure::Usage(text),
-            Refusal::Memory => Failure::Memory,
+            Refusal::Memory => Failure::Fault(Fault::Memory),
         }
     }
 }
@@ -104,35 +106,19 @@ impl From<FromHexError> for Failure {
 
     fn from(error: FromHexError) -> Failure {
         match error {
-            FromHexError::OutOfMemory => Failure::Memory,
+            FromHexError::OutOfMemory => Failure::Fault(Fault::Memory),
             _ => Failure::Unreadable,
         }
     }
 }
 
 impl From<io::Error> for Failure {
-    ghost use Rattle.nbt_prog.specs.Inner.Failure.{failure_of_io};
+    ghost use Rattle.nbt_engine.specs.Faults.{fault_of_io};
+    ghost use Rattle.nbt_prog.specs.declared.failure.Failure.TheVariants as failure;
 
-    ghost from_gives = { λ error failure. failure ≡ failure_of_io error };
+    ghost from_gives = { λ error result. result ≡ failure.Fault (fault_of_io error) };
 
     fn from(error: io::Error) -> Failure {
-        match error.kind() {
-            io::ErrorKind::OutOfMemory => Failure::Memory,
-            _ => Failure::Device,
-        }
-    }
-}
-
-impl From<nbt_loop::Fault> for Failure {
-    ghost use Rattle.nbt_prog.specs.Inner.Failure.{failure_of_loop};
-
-    ghost from_gives = { λ fault failure. failure ≡ failure_of_loop fault };
-
-    fn from(fault: nbt_loop::Fault) -> Failure {
-        match fault {
-            nbt_loop::Fault::Device => Failure::Device,
-            nbt_loop::Fault::Output => Failure::Output,
-            nbt_loop::Fault::Memory => Failure::Memory,
-        }
+        Failure::Fault(Fault::from(error))
     }
 }

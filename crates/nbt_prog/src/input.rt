@@ -12,7 +12,7 @@ const MOST: usize = 1_048_576;
 /// Reads the input to its end. Refused: more than 1,048,576 octets are `Unreadable` (our profile), a reader that
 /// fails is `Device`.
 pub fn read_input<R: Read>(alloc: Global, reader: &mut R) -> Result<Vec<u8>, Failure>
-    ensures { IfOk result (λ octets. vec_len octets ≤ 1048576) }
+    ensures { IfOk result (λ octets. vec_len octets ≤ MOST) }
 {
     let mut octets = Vec::new(alloc);
     reader

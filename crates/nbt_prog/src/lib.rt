@@ -21,7 +21,8 @@ mod printed;
 
 use arguments::Request;
 use failure::Failure;
-use nbt_net::{Fault, NodeArguments, ServeArguments};
+use nbt_engine::Fault;
+use nbt_net::{NodeArguments, ServeArguments};
 use printed::Printed;
 use std::alloc::Global;
 use std::convert::AsStr;
@@ -126,30 +127,26 @@ fn node_on<M: Net + time::Clock, W: Write, E: Write>(
     }
 }
 
-/// Returns the status of a server or a node that ended early.
+/// Returns the status of a server or a node that ended early, and prints its line.
 fn conclude_fault<W: Write>(fault: Fault, writer: &mut W) -> u8
-    ensures { result ≡ 3 }
+    ensures bound { result ≤ 4 }
+    ensures failed { 3 ≤ result }
 {
-    match fault {
-        Fault::NoPort | Fault::NoClock | Fault::Device => {
-            conclude_written(Err(Failure::Device), writer)
-        }
-        Fault::Output => conclude_written(Err(Failure::Output), writer),
-    }
+    conclude_written(Err(Failure::Fault(fault)), writer)
 }
 
 /// Returns the status of a command that has written its output. Of a failure it prints the text, but to a writer that
 /// failed nothing more.
 fn conclude_written<W: Write>(outcome: Result<(), Failure>, writer: &mut W) -> u8
     ensures done { OnOk outcome ((result ≡ 0) × (writer.new ≡ writer.old)) }
-    ensures output { outcome ≡ Err Failure.Output → (result ≡ 3) × (writer.new ≡ writer.old) }
+    ensures output { outcome ≡ Err (Failure.Fault Fault.Output) → (result ≡ 3) × (writer.new ≡ writer.old) }
     ensures told { IfErr outcome (λ failure. (result ≡ 3) ⊎ ((result ≡ failure_status failure)
         × IfSome (failure_text failure) (Appends (W.contents writer.old) (W.contents writer.new)))) }
     ensures bound { result ≤ 4 }
 {
     match outcome {
         Ok(()) => 0,
-        Err(Failure::Output) => Failure::Output.status(),
+        Err(Failure::Fault(Fault::Output)) => Fault::Output.status(),
         Err(failure) => conclude(Err(failure), writer),
     }
 }
@@ -200,7 +197,9 @@ fn run_request<R: Read>(
         Request::Show(arguments) => commands::show::run(alloc, &arguments),
         Request::Check => commands::check::run(alloc, reader),
         Request::Sim => commands::sim::run(alloc, reader),
-        Request::Serve(_) | Request::Node(_) | Request::Loop(_) => Err(Failure::Device),
+        Request::Serve(_) | Request::Node(_) | Request::Loop(_) => Err(Failure::Fault(
+            Fault::Device,
+        )),
     }
 }
 
@@ -217,7 +216,7 @@ fn conclude<W: Write>(outcome: Result<Printed, Failure>, writer: &mut W) -> u8
     };
     match print(&outcome, writer) {
         Ok(()) => status,
-        Err(_) => Failure::Output.status(),
+        Err(_) => Fault::Output.status(),
     }
 }
 

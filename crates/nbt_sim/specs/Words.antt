@@ -3,6 +3,7 @@ use Rattle.std.specs.Prelude.{◌≡◌, ℕ, ◌≤◌, ◌<◌, ◌^◌, Bool,
 use Rattle.std.specs.Fmt.{decimal}
 use Rattle.nbt_name.specs.declared.addr.Kind.{Kind}
 use Rattle.nbt_name.specs.declared.addr.Kind.TheVariants.{Unique, Group}
+use Rattle.nbt_lease.specs.Config.{last_moment}
 use Rattle.nbt_node.specs.declared.fault.AskFault.{AskFault}
 use Rattle.nbt_node.specs.declared.fault.AskFault.TheVariants as asks
 use Rattle.nbt_node.specs.declared.fault.ReleaseFault.{ReleaseFault}
@@ -52,10 +53,10 @@ pub record SpellsSeconds (word : List ℕ) (seconds : ℕ) : Type 0 where
   pub number : SpellsNumber word seconds
   pub fits : seconds < 2 ^ 32
 
--- a moment is at most 2^60 ms
+-- a moment is no later than the last one
 pub record SpellsMoment (word : List ℕ) (moment : ℕ) : Type 0 where
   pub number : SpellsNumber word moment
-  pub fits : moment ≤ 2 ^ 60
+  pub fits : moment ≤ last_moment
 
 -- each word a number
 pub data SpellsNumbers : List (List ℕ) → List ℕ → Type 0 where

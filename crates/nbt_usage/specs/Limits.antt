@@ -1,5 +1,6 @@
 -- The limits of the numbers that `serve` and `node` take, as the help says them (our profile).
-use Rattle.std.specs.Prelude.{ℕ, ◌^◌, ◌-◌}
+use Rattle.std.specs.Prelude.{ℕ}
+use Rattle.nbt_lease.specs.Config.{life_most, longest_most}
 use Rattle.nbt_usage.specs.declared.network.NumberArgument.{NumberArgument}
 use Rattle.nbt_usage.specs.declared.network.NumberArgument.TheVariants.{Life, Longest, Ttl, Turns}
 
@@ -10,7 +11,7 @@ least_of _ = 1
 
 -- the most that it may be: milliseconds of a datagram's life, seconds of a lease, the seconds asked for, turns
 abbrev pub most_of : NumberArgument → ℕ
-most_of Life = 60000
-most_of Longest = 1000000
+most_of Life = life_most
+most_of Longest = longest_most
 most_of Ttl = 4294967295
 most_of Turns = 1000000

@@ -1,5 +1,5 @@
 -- What a port makes of the answers of the machine's sockets (our profile).
-use Rattle.std.specs.Prelude.{◌≡◌, ◌⊎◌, ℕ, List, [], Option, None, Some, Result, Ok, Err, take}
+use Rattle.std.specs.Prelude.{◌≡◌, ℕ, List, [], Option, None, Some, Result, Ok, Err, take}
 use Rattle.std.specs.IoError.{error_kind}
 use Rattle.std.specs.Net.Addr.{ipv4_bits}
 use Rattle.std.specs.Net.Socket.{v4_ip, v4_port}

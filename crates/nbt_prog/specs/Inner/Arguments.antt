@@ -5,11 +5,11 @@ use Rattle.nbt_lease.specs.Config.{last_moment}
 use Rattle.nbt_text.specs.Address.{SpellsAddress}
 use Rattle.nbt_text.specs.Number.{SpellsNumber}
 use Rattle.nbt_usage.specs.declared.words.AnswerWords.{AnswerWords}
-use Rattle.nbt_prog.specs.Inner.Failure.{failure_status}
+use Rattle.nbt_prog.specs.Inner.Failure.{failure_status, out_of_memory}
 use Rattle.nbt_name.specs.declared.addr.Addr.{Addr}
 use Rattle.nbt_prog.specs.declared.commands.answer.AnswerArguments.{AnswerArguments}
 use Rattle.nbt_prog.specs.declared.failure.Failure.{Failure}
-use Rattle.nbt_prog.specs.declared.failure.Failure.TheVariants.{Unreadable, Memory}
+use Rattle.nbt_prog.specs.declared.failure.Failure.TheVariants.{Unreadable}
 
 -- The text is a number, in digits alone, of milliseconds up to the last moment.
 abbrev pub SpellsTime : List ℕ → ℕ → Type 0
@@ -43,10 +43,10 @@ AreReadable words = IsAddress words.from.now × IsHexadecimal words.hex.now
 
 -- What ought to hold of the words does not, which is wrong usage; or memory was refused, which may be at any step.
 abbrev pub IsUsageFailure : (Holds : Type 0) → Failure → Type 0
-IsUsageFailure Holds failure = (failure ≡ Memory) ⊎ (¬ Holds × (failure_status failure ≡ 2))
+IsUsageFailure Holds failure = (failure ≡ out_of_memory) ⊎ (¬ Holds × (failure_status failure ≡ 2))
 
 -- a wrong time is wrong usage, and is told before an argument that can't be read; memory may be short at any step
 abbrev pub IsFailureOf : AnswerWords → Failure → Type 0
-IsFailureOf words failure = (failure ≡ Memory)
+IsFailureOf words failure = (failure ≡ out_of_memory)
     ⊎ ((¬ (IsTime words.at.now) × (failure_status failure ≡ 2))
     ⊎ (IsTime words.at.now × ¬ (AreReadable words) × (failure ≡ Unreadable)))

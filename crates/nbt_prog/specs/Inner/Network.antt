@@ -3,7 +3,7 @@ use Rattle.std.specs.Prelude.{◌≡◌, ◌≤◌, ◌↔◌, ◌⊎◌, ℕ, L
 use Rattle.std.specs.Borrow.{Bor}
 use Rattle.nbt_name.specs.Wire.{NameValue, IsStar}
 use Rattle.nbt_name.specs.declared.addr.Kind.TheVariants.{Group}
-use Rattle.nbt_lease.specs.Config.{ConfigValue}
+use Rattle.nbt_lease.specs.Config.{ConfigValue, rows_most}
 use Rattle.nbt_text.specs.Address.{SpellsAddress}
 use Rattle.nbt_text.specs.NameText.{SpellsName}
 use Rattle.nbt_text.specs.Number.{SpellsNumber}
@@ -15,9 +15,9 @@ use Rattle.nbt_usage.specs.declared.network.NumberArgument.TheVariants.{Life, Lo
 use Rattle.nbt_usage.specs.declared.words.NodeWords.{NodeWords}
 use Rattle.nbt_usage.specs.declared.words.ServeWords.{ServeWords}
 use Rattle.nbt_prog.specs.Inner.Arguments.{IsAddress}
-use Rattle.nbt_prog.specs.Inner.Failure.{failure_status}
+use Rattle.nbt_prog.specs.Inner.Failure.{failure_status, out_of_memory}
 use Rattle.nbt_prog.specs.declared.failure.Failure.{Failure}
-use Rattle.nbt_prog.specs.declared.failure.Failure.TheVariants.{Unreadable, Memory}
+use Rattle.nbt_prog.specs.declared.failure.Failure.TheVariants.{Unreadable}
 
 -- The text is a number, in digits alone, within the limits that the help says.
 abbrev pub SpellsWithin : NumberArgument → List ℕ → ℕ → Type 0
@@ -39,7 +39,7 @@ IsHeld text = (name : NameValue) × SpellsHeld text name
 pub record IsConfigOf (life longest : List ℕ) (config : ConfigValue) : Type 0 where
   pub life_is : SpellsWithin Life life config.life
   pub longest_is : SpellsWithin Longest longest config.longest
-  pub rows_are : config.rows ≡ 4096
+  pub rows_are : config.rows ≡ rows_most
 
 abbrev pub AreLimits : (life longest : List ℕ) → Type 0
 AreLimits life longest = IsWithin Life life × IsWithin Longest longest
@@ -67,7 +67,7 @@ ServeNumbers words = AreLimits words.life.now words.longest.now × AreTurns word
 -- A number out of its limits is wrong usage, and is told before an address that can't be read; memory may be short at any
 -- step.
 abbrev pub ServeFails : ServeWords → Failure → Type 0
-ServeFails words failure = (failure ≡ Memory)
+ServeFails words failure = (failure ≡ out_of_memory)
     ⊎ ((¬ ServeNumbers words × (failure_status failure ≡ 2))
     ⊎ (ServeNumbers words × ¬ IsAddress words.bind.now × (failure ≡ Unreadable)))
 
@@ -92,6 +92,6 @@ NodeTexts words = IsAddress words.bind.now × IsAddress words.server.now × IsHe
 
 -- as of `serve`
 abbrev pub NodeFails : NodeWords → Failure → Type 0
-NodeFails words failure = (failure ≡ Memory)
+NodeFails words failure = (failure ≡ out_of_memory)
     ⊎ ((¬ NodeNumbers words × (failure_status failure ≡ 2))
     ⊎ (NodeNumbers words × ¬ NodeTexts words × (failure ≡ Unreadable)))

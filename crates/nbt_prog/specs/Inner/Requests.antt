@@ -5,13 +5,14 @@ use Rattle.nbt_usage.specs.declared.words.ShowWords.{ShowWords}
 use Rattle.nbt_usage.specs.declared.words.Words.{Words}
 use Rattle.nbt_usage.specs.declared.words.Words.TheVariants as words
 use Rattle.nbt_prog.specs.Inner.Arguments.{AreGiven, IsFailureOf, IsHexadecimal, IsPort, IsUsageFailure, SpellsPort}
+use Rattle.nbt_prog.specs.Inner.Failure.{out_of_memory}
 use Rattle.nbt_prog.specs.Inner.Network.{ServeGiven, ServeFails, NodeGiven, NodeFails}
 use Rattle.nbt_prog.specs.declared.arguments.Request.{Request}
 use Rattle.nbt_prog.specs.declared.arguments.Request.TheVariants as request
 use Rattle.nbt_prog.specs.declared.commands.show.Service.TheVariants.{Dgram, Session}
 use Rattle.nbt_prog.specs.declared.commands.show.ShowArguments.{ShowArguments}
 use Rattle.nbt_prog.specs.declared.failure.Failure.{Failure}
-use Rattle.nbt_prog.specs.declared.failure.Failure.TheVariants.{Unreadable, Memory}
+use Rattle.nbt_prog.specs.declared.failure.Failure.TheVariants.{Unreadable}
 
 -- the arguments of `show` are those that the words give
 pub record ShowGiven (words : ShowWords) (a : ShowArguments) : Type 0 where
@@ -20,7 +21,7 @@ pub record ShowGiven (words : ShowWords) (a : ShowArguments) : Type 0 where
   pub session : (a.service ≡ Session) ↔ (words.kind.now ≡ codes "session")
 
 abbrev pub ShowFails : ShowWords → Failure → Type 0
-ShowFails words failure = (failure ≡ Memory) ⊎ (¬ IsHexadecimal words.hex.now × (failure ≡ Unreadable))
+ShowFails words failure = (failure ≡ out_of_memory) ⊎ (¬ IsHexadecimal words.hex.now × (failure ≡ Unreadable))
 
 -- the command is the one of these words, with their arguments
 abbrev pub AsksFor : Words → Request → Type 0

@@ -6,11 +6,13 @@ ghost use Rattle.hex.specs.Hex.{encode_lower};
 ghost use Rattle.nbt_packet.specs.Message.{MessageValue};
 ghost use Rattle.nbt_server.specs.Serving.{ServerValue};
 ghost use Rattle.nbt_server.specs.Calls.{ServerTakes};
+ghost use Rattle.nbt_prog.specs.Inner.Failure.{out_of_memory};
 ghost use Rattle.nbt_prog.specs.Inner.Answer.{new_server as fresh, answer_text};
 
 use crate::failure::Failure;
 use crate::printed::{Ending, Printed};
 use arrayvec::ArrayVec;
+use nbt_engine::Fault;
 use nbt_lease::{Config, Moment};
 use nbt_name::Addr;
 use nbt_server::Server;
@@ -42,13 +44,13 @@ pub fn run(alloc: Global, arguments: &AnswerArguments) -> Result<Printed, Failur
     ensures reply { IfOk result (λ printed. (reply : Option MessageValue) × (after : ServerValue)
         × ServerTakes fresh arguments.now.at arguments.now.from.ip arguments.now.octets.items reply after
         × (string_bytes printed.text ≡ answer_text reply) × (printed.ending ≡ Ending.Done)) }
-    ensures failure { IfErr result (λ failure. failure ≡ Failure.Memory) }
+    ensures failure { IfErr result (λ failure. failure ≡ out_of_memory) }
 {
     let mut server = new_server(alloc);
     let mut reply = ArrayVec::<u8, REPLY_ROOM>::new();
     let octets = arguments.octets.as_slice();
     let Ok(is_reply) = server.on_datagram(arguments.at, arguments.from, octets, &mut reply) else {
-        return Err(Failure::Memory);
+        return Err(Failure::Fault(Fault::Memory));
     };
     let text = if is_reply {
         hexadecimal_line(alloc, reply.as_slice())?

@@ -3,6 +3,7 @@
 ghost use Rattle.std.specs.Prelude.{◌≡◌, IfOk, IfErr};
 ghost use Rattle.std.specs.String.{string_bytes};
 ghost use Rattle.nbt_show.specs.Verdicts.{PrintsChecked};
+ghost use Rattle.nbt_prog.specs.Inner.Failure.{out_of_memory};
 ghost use Rattle.nbt_prog.specs.Inner.Printed.{is_done};
 
 use crate::failure::Failure;
@@ -23,7 +24,7 @@ pub fn run<R: Read>(alloc: Global, reader: &mut R) -> Result<Printed, Failure> {
 fn check_input(alloc: Global, input: &[u8]) -> Result<Printed, Failure>
     ensures checked { IfOk result (λ printed.
         PrintsChecked input.now (is_done printed.ending) (string_bytes printed.text)) }
-    ensures failure { IfErr result (λ failure. failure ≡ Failure.Memory) }
+    ensures failure { IfErr result (λ failure. failure ≡ out_of_memory) }
 {
     let mut text = String::new(alloc);
     let ending = if write_verdicts(input, &mut text)? {

@@ -3,6 +3,7 @@
 
 ghost use Rattle.std.specs.Prelude.{◌≡◌, IfOk, IfErr};
 ghost use Rattle.std.specs.String.{string_bytes};
+ghost use Rattle.nbt_prog.specs.Inner.Failure.{out_of_memory};
 ghost use Rattle.nbt_prog.specs.Inner.Printed.{is_done};
 ghost use Rattle.nbt_prog.specs.Inner.Show.{Shows};
 
@@ -35,7 +36,7 @@ pub struct ShowArguments {
 pub fn run(alloc: Global, arguments: &ShowArguments) -> Result<Printed, Failure>
     ensures shown { IfOk result (λ printed.
         Shows arguments.now.service arguments.now.octets.items (is_done printed.ending) (string_bytes printed.text)) }
-    ensures failure { IfErr result (λ failure. failure ≡ Failure.Memory) }
+    ensures failure { IfErr result (λ failure. failure ≡ out_of_memory) }
 {
     let mut text = String::new(alloc);
     let octets = arguments.octets.as_slice();

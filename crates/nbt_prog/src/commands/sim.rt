@@ -4,6 +4,7 @@ ghost use Rattle.std.specs.Prelude.{◌≡◌, None, IfOk, IfErr};
 ghost use Rattle.std.specs.String.{string_bytes};
 ghost use Rattle.nbt_text.specs.Lines.{lines};
 ghost use Rattle.nbt_sim.specs.Script.{Plays};
+ghost use Rattle.nbt_prog.specs.Inner.Failure.{out_of_memory};
 ghost use Rattle.nbt_prog.specs.Inner.Printed.{is_done};
 
 use crate::failure::Failure;
@@ -22,7 +23,7 @@ pub fn run<R: Read>(alloc: Global, reader: &mut R) -> Result<Printed, Failure> {
 /// What the lines of a script print, in order, as far as they can be read. The ending is `Refused` where one can't.
 fn play_input(alloc: Global, input: &[u8]) -> Result<Printed, Failure>
     ensures played { IfOk result (λ printed. Plays 1 None (lines input.now) (is_done printed.ending) (string_bytes printed.text)) }
-    ensures failure { IfErr result (λ failure. failure ≡ Failure.Memory) }
+    ensures failure { IfErr result (λ failure. failure ≡ out_of_memory) }
 {
     let mut text = String::new(alloc);
     let ending = if play(input, &mut text)? {

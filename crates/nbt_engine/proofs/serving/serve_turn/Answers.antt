@@ -1,4 +1,4 @@
-use Rattle.std.proofs.Common.{refl, ◌≤◌, arith, true, false, subst}
+use Rattle.std.proofs.Common.{refl, true, false, subst}
 use Rattle.std.proofs.lemmas.Result.{err_from_is_err_and}
 use Rattle.nbt_engine.specs.PortCalls.{receive_failed, sent, send_failed}
 use Rattle.nbt_engine.specs.Serving.{of_receive}

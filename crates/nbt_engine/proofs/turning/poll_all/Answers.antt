@@ -1,6 +1,7 @@
-use Rattle.std.proofs.Common.{[], ◌∷◌, ◌∙◌, refl}
+use Rattle.std.proofs.Common.{[], ◌∷◌, ◌++◌, ◌∙◌, refl}
 use Rattle.std.proofs.lemmas.Result.{err_from_is_err_and}
 use Rattle.nbt_engine.specs.PortCalls.{send_failed}
+use Rattle.nbt_engine.specs.Turning.{at_send}
 use Rattle.nbt_engine.proofs.Chains.{chain_one, chain-append}
 use Rattle.nbt_engine.proofs.Dues.{polls_fewer}
 use Rattle.nbt_engine.proofs.Sending.{polls_ended, polls_on}
@@ -14,12 +15,8 @@ returns-in_err-send-clause-err g c =
     let f = c.as_slice.ensures.value in
     let lost = send_failed c.in-Some.to c.next_due.new.out.items in
     rw p.1 (
-      so_far.0,
-      c.loop-to.node,
-      c.in-Some.to,
-      c.next_due.new.out.items,
-      so_far.1,
-      c.in-Some.ensures.due,
+      so_far.0 ++ lost ∷ [],
+      at_send so_far.0 c.loop-to.node c.next_due.new.node c.in-Some.to c.next_due.new.out.items so_far.1 c.in-Some.ensures.due,
       chain-append g.P.Port.does c.args.port.now c.loop-to.port c.send.new.self so_far.0 (lost ∷ []) so_far.2 (chain_one g.P.Port.does c.loop-to.port lost c.send.new.self (rw f at d)),
     )
 

@@ -1,6 +1,7 @@
-use Rattle.std.proofs.Common.{arith, ◌≡◌, ◌+◌, ◌≤◌, Err, sym, subst, ◌∙◌}
+use Rattle.std.proofs.Common.{arith, ◌≡◌, ◌+◌, ◌≤◌, Err, refl, sym, subst, ◌∙◌}
 use Rattle.nbt_net.specs.Node.{Turns, BreaksTurns}
-use Rattle.nbt_net.specs.declared.fault.Fault.{Fault}
+use Rattle.nbt_engine.specs.declared.fault.Fault.{Fault}
+use Rattle.nbt_net.proofs.Beginning.{passed_on}
 use Rattle.nbt_net.proofs.Outcomes.{goes_none, row_over, row_longer}
 use Rattle.nbt_net.proofs.staying.node_on.Goals as goal
 use Rattle.nbt_net.proofs.staying.node_on.Goals.{in-Ok, in-Err-Device+in_ok-goes_on-in-Err-Device}
@@ -28,6 +29,18 @@ returns-in_err-goes_on-in-Err-Device-clause-device g c =
           (sym c.in_err-goes_on-in-Err-Device.ensures.err ∙ c.goes_on.ensures.count) c.loop.invariant.few c.loop.invariant.run
           (c.take_turn.ensures.device (subst (λ (f : Fault). c.take_turn.result ≡ Err f) c.in-Err-Device.field-0-is c.in-Err-Device.is)),
     )
+
+pub returns-in-Err-clause-output : goal.returns-in-Err-clause-output
+returns-in-Err-clause-output g c = λ same. (
+  c.loop.counter,
+  record { port = c.loop.port; clock = c.loop.clock; node = c.loop.node; text = g.W.Write.contents c.loop.writer },
+  c.loop-test.true,
+  (c.loop.row.failed, c.loop.invariant.few, c.loop.invariant.run),
+  c.take_turn.ensures.output (passed_on (Err c.in-Err.fault) c.take_turn.result c.in-Err.fault c.in-Err.fault _ refl refl c.in-Err.is same),
+)
+
+pub returns-in-Err-clause-memory : goal.returns-in-Err-clause-memory
+returns-in-Err-clause-memory g c = λ same. c.take_turn.ensures.memory (passed_on (Err c.in-Err.fault) c.take_turn.result c.in-Err.fault c.in-Err.fault _ refl refl c.in-Err.is same)
 
 pub loop-preserved : goal.loop-preserved
 loop-preserved g c =

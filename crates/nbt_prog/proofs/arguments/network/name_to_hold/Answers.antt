@@ -1,4 +1,4 @@
-use Rattle.std.proofs.Common.{◌≡◌, refl}
+use Rattle.std.proofs.Common.{refl}
 use Rattle.std.specs.Prelude.{◌≢◌, slice_index}
 use Rattle.nbt_text.specs.NameText.{SpellsName}
 use Rattle.nbt_prog.proofs.Reading.{both, some, none}

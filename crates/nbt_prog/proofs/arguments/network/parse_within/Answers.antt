@@ -1,4 +1,4 @@
-use Rattle.std.proofs.Common.{◌≡◌, ◌≤◌, ℕ, refl}
+use Rattle.std.proofs.Common.{◌≤◌, refl}
 use Rattle.nbt_text.specs.Number.{SpellsNumber}
 use Rattle.nbt_usage.specs.Limits.{least_of, most_of}
 use Rattle.nbt_prog.proofs.Reading.{both, some, none}
