@@ -7,10 +7,10 @@ ghost use Rattle.nbt_show.specs.DgramText.{PrintsBody, PrintsDgram, PrintsPart, 
 ghost use Rattle.nbt_text.specs.NameText.{PrintsName};
 ghost use Rattle.nbt_show.specs.Words.{dgram_fault_word};
 
-use crate::packet_text::{end_line, write_data, write_word};
+use crate::packet_text::{write_data, write_word};
 use nbt_dgram::{Body, Dgram, DgramFaultKind, Fragment, Part, decode};
 use nbt_name::Name;
-use nbt_text::{write_address, write_hexadecimal, write_name};
+use nbt_text::{end_line, write_address, write_hexadecimal, write_name};
 use std::alloc::AllocError;
 
 /// Where FLAGS stands (RFC 1002 section 4.4.1).

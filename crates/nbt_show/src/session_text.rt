@@ -9,11 +9,11 @@ ghost use Rattle.nbt_show.specs.SessionText.{PrintsPacketLine, PrintsSession, me
 ghost use Rattle.nbt_show.specs.Words.{session_fault_word};
 
 use crate::dgram_text::write_octet;
-use crate::packet_text::{end_line, write_data};
+use crate::packet_text::write_data;
 use crate::session_packet::{Whole, next_packet};
 use nbt_name::Name;
 use nbt_session::{Fault, FaultKind, Packet, Pieces, StreamFault};
-use nbt_text::{write_address, write_name};
+use nbt_text::{end_line, write_address, write_name};
 use std::alloc::AllocError;
 
 /// Appends a line for each packet that the octets begin with, one after the other, and one for how many octets are

@@ -15,7 +15,7 @@ ghost use Rattle.nbt_show.specs.Words.{dgram_fault_word, fault_word};
 use nbt_dgram::{DgramFault, DgramFaultKind};
 use nbt_name::NameFaultKind;
 use nbt_packet::{Fault, FaultKind};
-use nbt_text::{is_remark, octets_of, parse_number, words_of};
+use nbt_text::{octets_of, parse_number, words_said};
 use std::alloc::{AllocError, Global};
 
 /// What stands in a line.
@@ -97,13 +97,9 @@ fn dgram_holds(octets: &[u8], expected: &Result<usize, DgramFault>) -> bool
 pub fn parse_line(alloc: Global, line: &[u8]) -> Result<Line, AllocError>
     ensures { IfOk result (LineIs line.now) }
 {
-    if is_remark(line) {
+    let Some(words) = words_said(alloc, line)? else {
         return Ok(Line::Blank);
-    }
-    let words = words_of(alloc, line)?;
-    if words.is_empty() {
-        return Ok(Line::Blank);
-    }
+    };
     match vector_of(alloc, words.as_slice())? {
         Some(vector) => Ok(Line::Vector(vector)),
         None => Ok(Line::Unreadable),

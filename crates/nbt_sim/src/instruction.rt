@@ -16,7 +16,7 @@ use crate::words::{address_of, count_of, end_of, kind_of, moment_of, node_of, se
 use arrayvec::ArrayVec;
 use nbt_lease::{Config, Moment};
 use nbt_name::Name;
-use nbt_text::{is_remark, octets_of, parse_name, parse_number, words_of};
+use nbt_text::{octets_of, parse_name, parse_number, words_said};
 use nbt_world::Event;
 use std::alloc::{AllocError, Global};
 
@@ -57,13 +57,9 @@ pub enum Line {
 pub fn parse_line(alloc: Global, line: &[u8]) -> Result<Line, AllocError>
     ensures { IfOk result (LineIs line.now) }
 {
-    if is_remark(line) {
+    let Some(words) = words_said(alloc, line)? else {
         return Ok(Line::Blank);
-    }
-    let words = words_of(alloc, line)?;
-    if words.is_empty() {
-        return Ok(Line::Blank);
-    }
+    };
     match instruction_of(alloc, words.as_slice())? {
         Some(instruction) => Ok(Line::Says(instruction)),
         None => Ok(Line::Unreadable),

@@ -1,5 +1,5 @@
 -- What each failure means for the program, and which failure an error of a library is.
-use Rattle.std.specs.Prelude.{ℕ, List, [], ◌∷◌, ◌++◌, Option, Some, None, codes}
+use Rattle.std.specs.Prelude.{ℕ, List, [], Option, Some, None, codes}
 use Rattle.std.specs.IoError.{error_kind}
 use Rattle.std.specs.declared.io.Error.{Error as IoError}
 use Rattle.std.specs.declared.io.ErrorKind.{ErrorKind as IoErrorKind}
@@ -10,6 +10,7 @@ use Rattle.hex.specs.declared.error.FromHexError.{FromHexError}
 use Rattle.hex.specs.declared.error.FromHexError.TheVariants as hex_error
 use Rattle.nbt_loop.specs.declared.fault.Fault.{Fault as LoopFault}
 use Rattle.nbt_loop.specs.declared.fault.Fault.TheVariants as loop
+use Rattle.nbt_text.specs.Lines.{one_line}
 use Rattle.nbt_prog.specs.declared.failure.Failure.{Failure}
 use Rattle.nbt_prog.specs.declared.failure.Failure.TheVariants.{Help, Usage, Unreadable, Device, Output, Memory}
 
@@ -46,10 +47,6 @@ abbrev pub failure_of_loop : LoopFault → Failure
 failure_of_loop loop.Device = Device
 failure_of_loop loop.Output = Output
 failure_of_loop loop.Memory = Memory
-
--- a word on a line of its own
-abbrev pub one_line : List ℕ → List ℕ
-one_line word = word ++ (10 ∷ [])
 
 -- all that is printed at a failure: nothing where the output failed; of help and wrong usage a text of which nothing is said
 abbrev pub failure_text : Failure → Option (List ℕ)
