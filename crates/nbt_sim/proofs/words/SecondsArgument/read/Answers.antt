@@ -1,5 +1,5 @@
 use Rattle.nbt_sim.proofs.Spelled.{no_seconds, one_number_of_seconds}
-use Rattle.nbt_sim.proofs.words.seconds_of.Goals as goal
+use Rattle.nbt_sim.proofs.words.SecondsArgument.read.Goals as goal
 
 pub returns-in_err-parse_number : goal.returns-in_err-parse_number
 returns-in_err-parse_number c = λ n. no_seconds c.args.word.now c.parse_number.result c.from_residual.result n c.parse_number.ensures c.in_err-parse_number.was c.from_residual.ensures

@@ -2,7 +2,7 @@ use Rattle.std.proofs.Common.{◌≡◌, ◌+◌, ℕ, List, length, drop, sym, 
 use Rattle.nbt_text.specs.Texts.{texts}
 use Rattle.nbt_sim.proofs.Texts.{lost, texts_from, no_texts_left}
 use Rattle.nbt_sim.proofs.Spelled.{AreSpelled, none_spelled, one_spelled, no_number, too_many, all_spelled}
-use Rattle.nbt_sim.proofs.instruction.moves_of.Goals as goal
+use Rattle.nbt_sim.proofs.words.MovesArguments.read_all.Goals as goal
 
 pub returns-then-words-gt-ENDS_MOST : goal.returns-then-words-gt-ENDS_MOST
 returns-then-words-gt-ENDS_MOST c = λ m. too_many c.args.words.now m (omega (arith, c.if-words-gt-ENDS_MOST.true))

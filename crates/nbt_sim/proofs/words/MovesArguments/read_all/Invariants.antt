@@ -1,7 +1,7 @@
 use Rattle.std.proofs.Common.{◌≡◌, ◌≤◌, drop, length}
 use Rattle.nbt_text.specs.Texts.{texts}
 use Rattle.nbt_sim.proofs.Spelled.{AreSpelled}
-use Rattle.nbt_sim.proofs.instruction.moves_of.Given as goal
+use Rattle.nbt_sim.proofs.words.MovesArguments.read_all.Given as goal
 
 abbrev pub invariant-loop-word : goal.invariant-loop-word
 invariant-loop-word l = record {

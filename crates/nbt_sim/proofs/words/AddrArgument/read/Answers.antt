@@ -1,5 +1,5 @@
 use Rattle.nbt_sim.proofs.Spelled.{no_address}
-use Rattle.nbt_sim.proofs.words.address_of.Goals as goal
+use Rattle.nbt_sim.proofs.words.AddrArgument.read.Goals as goal
 
 pub returns-in_err-ok : goal.returns-in_err-ok
 returns-in_err-ok c = λ a. (

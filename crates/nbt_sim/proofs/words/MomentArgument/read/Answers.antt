@@ -1,5 +1,5 @@
 use Rattle.nbt_sim.proofs.Spelled.{no_moment, one_moment}
-use Rattle.nbt_sim.proofs.words.moment_of.Goals as goal
+use Rattle.nbt_sim.proofs.words.MomentArgument.read.Goals as goal
 
 pub returns-in_err-parse_number : goal.returns-in_err-parse_number
 returns-in_err-parse_number c = λ n. no_moment c.args.word.now c.parse_number.result c.from_residual.result n c.parse_number.ensures c.in_err-parse_number.was c.from_residual.ensures
