@@ -10,7 +10,7 @@ ghost use Rattle.nbt_sim.specs.Inner.Line.{LineIs};
 
 use crate::argument::{Argument, Arguments};
 use crate::verb::{Verb, verb_of};
-use crate::words::{End, Moves, Node, Seconds, World};
+use crate::words::{End, Moves, NewWorld, Node, Seconds};
 use arrayvec::ArrayVec;
 use nbt_lease::{Config, Moment};
 use nbt_name::{Addr, Kind, Name};
@@ -87,7 +87,7 @@ fn arguments_of(verb: Verb, words: &[&[u8]]) -> Option<Instruction>
     ensures { (i : Instruction) → (result ≡ Some i) ↔ SaysOf verb (texts words.now) i }
 {
     match verb {
-        Verb::Config => World::read_all(words).map(|(config, nodes)| {
+        Verb::Config => NewWorld::read_all(words).map(|(config, nodes)| {
             Instruction::Config(config, nodes)
         }),
         Verb::At => <(Moment, ())>::read_all(words).map(|(moment, ())| Instruction::At(moment)),

@@ -12,7 +12,7 @@ use nbt_name::{Addr, Kind, Name};
 use nbt_text::{parse_address, parse_name, parse_number};
 
 /// The number of a node, `n1` to `n8`.
-pub fn node_of(word: &[u8]) -> Option<usize>
+fn node_of(word: &[u8]) -> Option<usize>
     ensures { (number : ℕ) → (result ≡ Some number) ↔ SpellsNode word.now number }
 {
     let [b'n', digit] = word else {
@@ -25,7 +25,7 @@ pub fn node_of(word: &[u8]) -> Option<usize>
 }
 
 /// The number of an end: 0 for `s`, the server, or a node's.
-pub fn end_of(word: &[u8]) -> Option<usize>
+fn end_of(word: &[u8]) -> Option<usize>
     ensures { (number : ℕ) → (result ≡ Some number) ↔ SpellsEnd word.now number }
 {
     if word == b"s".as_slice() {
@@ -180,9 +180,9 @@ impl Arguments for Moves {
 }
 
 /// `LIFE LONGEST ROWS NODES`.
-pub struct World;
+pub struct NewWorld;
 
-impl Arguments for World {
+impl Arguments for NewWorld {
     ghost use Rattle.nbt_sim.specs.Arguments.{SpellsWorld};
 
     type Values = (Config, usize);

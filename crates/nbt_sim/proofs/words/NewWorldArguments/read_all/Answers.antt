@@ -1,5 +1,5 @@
 use Rattle.nbt_sim.proofs.Reading.{no_numbers, no_limits, world_read}
-use Rattle.nbt_sim.proofs.words.WorldArguments.read_all.Goals as goal
+use Rattle.nbt_sim.proofs.words.NewWorldArguments.read_all.Goals as goal
 
 pub returns-in_err-life : goal.returns-in_err-life
 returns-in_err-life c = λ w. no_numbers _ c.read_all.result c.read_all.ensures c.from_residual.result w c.in_err-life.was c.from_residual.ensures
