@@ -1,7 +1,6 @@
 //! Vectors: octets, and what the reader of packets, or of datagrams, has to say of them (our profile).
 
 ghost use Rattle.std.specs.Prelude.{◌≡◌, ◌↔◌, ℕ, [], ◌∷◌, List, IsTrue, Some, IfOk, MatchOption, codes};
-ghost use Rattle.nbt_dgram.specs.declared.fault.DgramFaultKind.{DgramFaultKind};
 ghost use Rattle.nbt_packet.specs.declared.fault.FaultKind.{FaultKind};
 ghost use Rattle.nbt_show.specs.declared.vector.Expected.{Expected};
 ghost use Rattle.nbt_show.specs.declared.vector.Expected.TheVariants as expects;
@@ -10,7 +9,7 @@ ghost use Rattle.nbt_text.specs.Number.{SpellsNumber};
 ghost use Rattle.nbt_text.specs.Texts.{texts};
 ghost use Rattle.nbt_show.specs.Inner.Line.{LineIs};
 ghost use Rattle.nbt_show.specs.Vector.{Says, SpellsExpected, SpellsVector, service_word};
-ghost use Rattle.nbt_show.specs.Words.{dgram_fault_word, fault_word};
+ghost use Rattle.nbt_show.specs.Words.{fault_word};
 
 use nbt_dgram::{DgramFault, DgramFaultKind};
 use nbt_name::NameFaultKind;
@@ -182,7 +181,7 @@ fn expected_fault(service: Service, word: &[u8], place: &[u8]) -> Option<Expecte
             Some(Expected::Name(Err(Fault { kind, place })))
         }
         Service::Dgram => {
-            let kind = dgram_kind_of(word)?;
+            let kind = DgramFaultKind::from_word(word)?;
             Some(Expected::Dgram(Err(DgramFault { kind, place })))
         }
     }
@@ -209,23 +208,6 @@ fn kind_of(word: &[u8]) -> Option<FaultKind>
         b"BadPointer" => Some(FaultKind::Name(NameFaultKind::BadPointer)),
         b"Long" => Some(FaultKind::Name(NameFaultKind::Long)),
         b"TooMany" => Some(FaultKind::TooMany),
-        _ => None,
-    }
-}
-
-/// The kind of a datagram's fault that the word names.
-fn dgram_kind_of(word: &[u8]) -> Option<DgramFaultKind>
-    ensures { (kind : DgramFaultKind) → (result ≡ Some kind) ↔ (word.now ≡ dgram_fault_word kind) }
-{
-    match word {
-        b"Short" => Some(DgramFaultKind::Short),
-        b"BadLabel" => Some(DgramFaultKind::BadLabel),
-        b"BadHalf" => Some(DgramFaultKind::BadHalf),
-        b"BadPointer" => Some(DgramFaultKind::BadPointer),
-        b"Long" => Some(DgramFaultKind::Long),
-        b"BadType" => Some(DgramFaultKind::BadType),
-        b"BadOffset" => Some(DgramFaultKind::BadOffset),
-        b"BadLength" => Some(DgramFaultKind::BadLength),
         _ => None,
     }
 }
