@@ -1,5 +1,5 @@
 -- Message types, and faults with their numbers and places: RFC 1002 section 4.4.1; the faults are our profile's.
-use Rattle.std.specs.Prelude.{ℕ, List, length}
+use Rattle.std.specs.Prelude.{ℕ, List, length, codes}
 use Rattle.nbt_name.specs.declared.fault.NameFault.{NameFault}
 use Rattle.nbt_name.specs.declared.fault.NameFaultKind.{NameFaultKind}
 use Rattle.nbt_name.specs.declared.fault.NameFaultKind.TheVariants as names
@@ -39,6 +39,17 @@ fault_number kinds.Long = 5
 fault_number kinds.BadType = 6
 fault_number kinds.BadOffset = 7
 fault_number kinds.BadLength = 8
+
+-- the word by which a fault is printed and read
+abbrev pub fault_word : DgramFaultKind → List ℕ
+fault_word kinds.Short = codes "Short"
+fault_word kinds.BadLabel = codes "BadLabel"
+fault_word kinds.BadHalf = codes "BadHalf"
+fault_word kinds.BadPointer = codes "BadPointer"
+fault_word kinds.Long = codes "Long"
+fault_word kinds.BadType = codes "BadType"
+fault_word kinds.BadOffset = codes "BadOffset"
+fault_word kinds.BadLength = codes "BadLength"
 
 abbrev pub dropped_number : Dropped → ℕ
 dropped_number reasons.TooLong = 1

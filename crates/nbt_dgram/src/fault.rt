@@ -1,6 +1,6 @@
 //! What a datagram's octets can have wrong, and where; and why a datagram is not written, split or joined.
 
-ghost use Rattle.std.specs.Prelude.{◌≡◌};
+ghost use Rattle.std.specs.Prelude.{◌≡◌, ◌↔◌, Some};
 ghost use Rattle.nbt_dgram.specs.declared.fault.DgramFaultKind.{DgramFaultKind};
 
 use nbt_name::{NameFault, NameFaultKind};
@@ -36,7 +36,7 @@ pub enum DgramFaultKind {
 }
 
 impl DgramFaultKind {
-    ghost use Rattle.nbt_dgram.specs.Numbers.{fault_number};
+    ghost use Rattle.nbt_dgram.specs.Numbers.{fault_number, fault_word};
 
     /// The number of the fault, 1 to 8 (our profile).
     pub fn number(self) -> u8
@@ -51,6 +51,39 @@ impl DgramFaultKind {
             DgramFaultKind::BadType => 6,
             DgramFaultKind::BadOffset => 7,
             DgramFaultKind::BadLength => 8,
+        }
+    }
+
+    /// The word by which the fault is printed and read: its name (our profile).
+    pub fn word(self) -> &'static str
+        ensures { result.now ≡ fault_word self }
+    {
+        match self {
+            DgramFaultKind::Short => "Short",
+            DgramFaultKind::BadLabel => "BadLabel",
+            DgramFaultKind::BadHalf => "BadHalf",
+            DgramFaultKind::BadPointer => "BadPointer",
+            DgramFaultKind::Long => "Long",
+            DgramFaultKind::BadType => "BadType",
+            DgramFaultKind::BadOffset => "BadOffset",
+            DgramFaultKind::BadLength => "BadLength",
+        }
+    }
+
+    /// The kind of fault that a word names; `None` where it names none.
+    pub fn from_word(word: &[u8]) -> Option<DgramFaultKind>
+        ensures { (kind : DgramFaultKind) → (result ≡ Some kind) ↔ (word.now ≡ fault_word kind) }
+    {
+        match word {
+            b"Short" => Some(DgramFaultKind::Short),
+            b"BadLabel" => Some(DgramFaultKind::BadLabel),
+            b"BadHalf" => Some(DgramFaultKind::BadHalf),
+            b"BadPointer" => Some(DgramFaultKind::BadPointer),
+            b"Long" => Some(DgramFaultKind::Long),
+            b"BadType" => Some(DgramFaultKind::BadType),
+            b"BadOffset" => Some(DgramFaultKind::BadOffset),
+            b"BadLength" => Some(DgramFaultKind::BadLength),
+            _ => None,
         }
     }
 }

@@ -39,7 +39,3 @@ outcome_text (outcome.Octets count) = codes " " ++ decimal count ++ codes " octe
 outcome_text outcome.Open = codes " open"
 outcome_text (outcome.Failed f) = failure_text f
 outcome_text outcome.Nothing = codes " none"
-
--- what ends a line
-abbrev pub newline : List ℕ
-newline = 10 ∷ []

@@ -3,7 +3,8 @@
 ghost use Rattle.std.specs.Prelude.{◌≡◌, [], ◌++◌, OnOk, codes};
 ghost use Rattle.std.specs.Io.KnownBytes.{Appends};
 ghost use Rattle.nbt_name.specs.Wire.{name_of};
-ghost use Rattle.nbt_loop.specs.Texts.{newline, outcome_text};
+ghost use Rattle.nbt_text.specs.Lines.{one_line};
+ghost use Rattle.nbt_loop.specs.Texts.{outcome_text};
 
 use crate::datagrams::send_data;
 use crate::end_node::{EndNode, NameServer};
@@ -17,6 +18,7 @@ use nbt_engine::{Cause, Fault, MachineCall, Port, UdpPort};
 use nbt_lease::{Config, Moment};
 use nbt_name::{Addr, Kind, Name};
 use nbt_node::{Event, Node};
+use nbt_text::end_line;
 use std::alloc::Global;
 use std::io;
 use std::io::Write;
@@ -362,11 +364,11 @@ fn tell<W: Write>(
     step: &str,
     outcome: Outcome<'_>,
 ) -> Result<(), Fault>
-    ensures { OnOk result (Appends (W.contents writer.old) (W.contents writer.new) (step.now ++ outcome_text outcome.entry ++ newline)) }
+    ensures { OnOk result (Appends (W.contents writer.old) (W.contents writer.new) (one_line (step.now ++ outcome_text outcome.entry))) }
 {
     let mut line = String::from_str(alloc, step)?;
     write_outcome(outcome, &mut line)?;
-    line.push('\n')?;
+    end_line(&mut line)?;
     tell_line(writer, line.as_str())
 }
 

@@ -1,5 +1,4 @@
 pub mod Here
-pub mod Line
 pub mod Node
 pub mod Serve
 pub mod Staying

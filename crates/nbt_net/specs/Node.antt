@@ -13,7 +13,7 @@ use Rattle.nbt_engine.specs.declared.turning.Seen.TheVariants as s
 use Rattle.nbt_engine.specs.declared.turning.Want.{Want}
 use Rattle.nbt_engine.specs.Udp.{UdpDoes, MachineTells}
 use Rattle.nbt_net.specs.Here.{Here}
-use Rattle.nbt_net.specs.Line.{one_line}
+use Rattle.nbt_text.specs.Lines.{one_line}
 use Rattle.nbt_net.specs.Staying.{StaysUp, GivesUp, IsCutOff}
 use Rattle.nbt_net.specs.declared.limits.TheConstants.{FOREVER}
 use Rattle.nbt_net.specs.declared.node.NodeArguments.{NodeArguments}

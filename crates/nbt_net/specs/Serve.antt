@@ -10,7 +10,7 @@ use Rattle.nbt_engine.specs.Serving.{Runs, Breaks}
 use Rattle.nbt_engine.specs.Udp.{UdpDoes, MachineTells}
 use Rattle.nbt_engine.specs.declared.serving.Counts.{Counts}
 use Rattle.nbt_net.specs.Here.{Here}
-use Rattle.nbt_net.specs.Line.{one_line}
+use Rattle.nbt_text.specs.Lines.{one_line}
 use Rattle.nbt_net.specs.Staying.{StaysUp, GivesUp}
 use Rattle.nbt_net.specs.declared.limits.TheConstants.{FOREVER}
 use Rattle.nbt_net.specs.declared.serve.ServeArguments.{ServeArguments}

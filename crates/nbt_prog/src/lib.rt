@@ -4,12 +4,13 @@
 //! with the status that it returns.
 #![tactic(auto)]
 
-ghost use Rattle.std.specs.Prelude.{◌≡◌, ◌≢◌, ◌≤◌, ◌⊎◌, ◌++◌, ◌∷◌, [], OnOk, IfErr, IfSome, codes};
+ghost use Rattle.std.specs.Prelude.{◌≡◌, ◌≢◌, ◌≤◌, ◌⊎◌, OnOk, IfErr, IfSome, codes};
 ghost use Rattle.std.specs.IoError.{error_kind};
 ghost use Rattle.std.specs.declared.io.ErrorKind.TheVariants.{InvalidData};
 ghost use Rattle.std.specs.Io.KnownBytes.{Appends};
 ghost use Rattle.nbt_net.specs.Node.{RunsNodeHere};
 ghost use Rattle.nbt_net.specs.Serve.{RunsServerHere};
+ghost use Rattle.nbt_text.specs.Lines.{one_line};
 ghost use Rattle.nbt_prog.specs.Inner.Failure.{failure_status, failure_text};
 ghost use Rattle.nbt_prog.specs.Inner.Outcome.{status_of_outcome, text_of_outcome};
 
@@ -49,7 +50,7 @@ pub fn command<S: AsStr, R: Read, W: Write>(
 ) -> u8
     ensures bound { result ≤ 4 }
     ensures memory { result ≡ 4
-        → Appends (W.contents writer.old) (W.contents writer.new) (codes "memory" ++ 10 ∷ []) }
+        → Appends (W.contents writer.old) (W.contents writer.new) (one_line (codes "memory")) }
 {
     conclude_read(alloc, arguments::parse_words(alloc, words), reader, writer)
 }
@@ -158,7 +159,7 @@ pub fn command_without_words<W: Write>(alloc: Global, error: io::Error, writer: 
     ensures usage { error_kind error ≡ InvalidData → (result ≡ 2) ⊎ (3 ≤ result) }
     ensures failed { error_kind error ≢ InvalidData → 3 ≤ result }
     ensures memory { result ≡ 4
-        → Appends (W.contents writer.old) (W.contents writer.new) (codes "memory" ++ 10 ∷ []) }
+        → Appends (W.contents writer.old) (W.contents writer.new) (one_line (codes "memory")) }
 {
     let failure = match error.kind() {
         io::ErrorKind::InvalidData => nbt_usage::no_text(alloc).into(),
@@ -177,7 +178,7 @@ fn conclude_read<R: Read, W: Write>(
 ) -> u8
     ensures bound { result ≤ 4 }
     ensures memory { result ≡ 4
-        → Appends (W.contents writer.old) (W.contents writer.new) (codes "memory" ++ 10 ∷ []) }
+        → Appends (W.contents writer.old) (W.contents writer.new) (one_line (codes "memory")) }
 {
     let outcome = match asked {
         Ok(request) => run_request(alloc, request, reader),

@@ -1,5 +1,5 @@
 -- The numbers of faults and refusals (our profile).
-use Rattle.std.specs.Prelude.{ℕ}
+use Rattle.std.specs.Prelude.{ℕ, List, codes}
 use Rattle.nbt_session.specs.declared.caller.Failure.{Failure}
 use Rattle.nbt_session.specs.declared.caller.Failure.TheVariants as failures
 use Rattle.nbt_session.specs.declared.fault.FaultKind.{FaultKind}
@@ -14,6 +14,13 @@ kind_number BadType = 1
 kind_number BadFlags = 2
 kind_number BadLength = 3
 kind_number BadName = 4
+
+-- the word by which a fault is printed
+abbrev pub kind_word : FaultKind → List ℕ
+kind_word BadType = codes "BadType"
+kind_word BadFlags = codes "BadFlags"
+kind_word BadLength = codes "BadLength"
+kind_word BadName = codes "BadName"
 
 abbrev pub stream_fault_number : StreamFault → ℕ
 stream_fault_number (streams.Malformed fault) = kind_number fault.kind

@@ -1,7 +1,7 @@
 //! What a session's stream can have wrong, and where; and what hinders that a packet is written.
 
 ghost use Rattle.std.specs.Prelude.{◌≡◌};
-ghost use Rattle.nbt_session.specs.Numbers.{kind_number, stream_fault_number, encode_fault_number};
+ghost use Rattle.nbt_session.specs.Numbers.{kind_number, kind_word, stream_fault_number, encode_fault_number};
 
 use std::alloc::AllocError;
 use thiserror::Error;
@@ -33,6 +33,18 @@ impl FaultKind {
             FaultKind::BadFlags => 2,
             FaultKind::BadLength => 3,
             FaultKind::BadName => 4,
+        }
+    }
+
+    /// The word by which the fault is printed: its name (our profile).
+    pub fn word(self) -> &'static str
+        ensures { result.now ≡ kind_word self }
+    {
+        match self {
+            FaultKind::BadType => "BadType",
+            FaultKind::BadFlags => "BadFlags",
+            FaultKind::BadLength => "BadLength",
+            FaultKind::BadName => "BadName",
         }
     }
 }

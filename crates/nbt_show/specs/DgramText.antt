@@ -10,13 +10,12 @@ use Rattle.nbt_dgram.specs.declared.fault.DgramFault.{DgramFault}
 use Rattle.nbt_dgram.specs.declared.msg_type.Lookup.{Lookup}
 use Rattle.nbt_dgram.specs.Dgram.{FragmentValue, BodyValue, fragment, error, lookup, DgramValue, DgramIs, FaultIs, type_of}
 use Rattle.nbt_dgram.specs.Fields.{octet_at}
-use Rattle.nbt_dgram.specs.Numbers.{type_number}
+use Rattle.nbt_dgram.specs.Numbers.{type_number, fault_word}
 use Rattle.nbt_dgram.specs.Text.{offset_of}
 use Rattle.nbt_text.specs.Address.{address_text}
 use Rattle.nbt_text.specs.NameText.{PrintsName}
 use Rattle.nbt_show.specs.PacketText.{data_text, four_digits}
 use Rattle.nbt_text.specs.Lines.{newline}
-use Rattle.nbt_show.specs.Words.{dgram_fault_word}
 
 -- an octet, in two hexadecimal digits
 abbrev pub two_digits : ℕ → List ℕ
@@ -57,4 +56,4 @@ pub data PrintsDgram (octets : List ℕ) : Bool → List ℕ → Type 0 where
   dgram_stands : (d : DgramValue) (taken : ℕ) (body : List ℕ) → DgramIs octets d taken → PrintsBody d.body body
       → PrintsDgram octets true (head_line (octet_at octets 1) d ++ body ++ length_line taken)
   fault_stands : (fault : DgramFault) → FaultIs octets fault
-      → PrintsDgram octets false (codes "fault " ++ dgram_fault_word fault.kind ++ codes " at " ++ decimal fault.place ++ newline)
+      → PrintsDgram octets false (codes "fault " ++ fault_word fault.kind ++ codes " at " ++ decimal fault.place ++ newline)

@@ -4,6 +4,7 @@ use Rattle.std.specs.Fmt.{decimal}
 use Rattle.nbt_name.specs.declared.addr.Addr.{Addr}
 use Rattle.nbt_name.specs.Wire.{NameValue}
 use Rattle.nbt_session.specs.declared.fault.Fault.{Fault}
+use Rattle.nbt_session.specs.Numbers.{kind_word}
 use Rattle.nbt_session.specs.Packet.{PacketValue, message, request, positive, negative, retarget, keep_alive}
 use Rattle.nbt_session.specs.Stream.{StreamIs, HasFault}
 use Rattle.nbt_text.specs.Address.{address_text}
@@ -11,7 +12,6 @@ use Rattle.nbt_show.specs.DgramText.{two_digits}
 use Rattle.nbt_text.specs.NameText.{PrintsName}
 use Rattle.nbt_show.specs.PacketText.{data_text}
 use Rattle.nbt_text.specs.Lines.{newline}
-use Rattle.nbt_show.specs.Words.{session_fault_word}
 
 -- the line of a message: how many octets of data it has, and which
 abbrev pub message_line : List ℕ → List ℕ
@@ -41,7 +41,7 @@ abbrev pub rest_line : List ℕ → List ℕ
 rest_line rest = codes "rest " ++ decimal (length rest) ++ newline
 
 abbrev pub session_fault_line : Fault → List ℕ
-session_fault_line fault = codes "fault " ++ session_fault_word fault.kind ++ codes " at " ++ decimal fault.place ++ newline
+session_fault_line fault = codes "fault " ++ kind_word fault.kind ++ codes " at " ++ decimal fault.place ++ newline
 
 -- What is printed of octets, and whether they have no fault: the lines of the packets, and how many octets are left,
 -- or the fault that they begin with, whose place is counted from there.

@@ -2,6 +2,7 @@
 use Rattle.std.specs.Prelude.{ℕ, List, [], ◌∷◌, Ok, Err, codes}
 use Rattle.nbt_dgram.specs.declared.fault.DgramFault.{DgramFault}
 use Rattle.nbt_dgram.specs.Dgram.{DgramValue, DgramIs, FaultIs}
+use Rattle.nbt_dgram.specs.Numbers.{fault_word as dgram_fault_word}
 use Rattle.nbt_packet.specs.declared.fault.Fault.{Fault}
 use Rattle.nbt_packet.specs.Packet.{PacketValue, PacketIs, PacketFault}
 use Rattle.nbt_show.specs.declared.vector.Expected.{Expected}
@@ -10,7 +11,7 @@ use Rattle.nbt_show.specs.declared.vector.Service.{Service}
 use Rattle.nbt_show.specs.declared.vector.Service.TheVariants as services
 use Rattle.nbt_text.specs.Lines.{SpellsOctets}
 use Rattle.nbt_text.specs.Number.{SpellsNumber}
-use Rattle.nbt_show.specs.Words.{dgram_fault_word, fault_word}
+use Rattle.nbt_show.specs.Words.{fault_word}
 
 -- the reader of packets, or of datagrams, says what is expected: how many octets are taken, or the fault
 abbrev pub Says : List ℕ → Expected → Type 0

@@ -1,10 +1,6 @@
--- The words for messages and for faults (our profile).
+-- The words for messages and for the faults of packets (our profile).
 use Rattle.std.specs.Prelude.{ℕ, List, codes}
 use Rattle.nbt_name.specs.declared.fault.NameFaultKind.TheVariants.{Short, BadLabel, BadHalf, BadPointer, Long}
-use Rattle.nbt_dgram.specs.declared.fault.DgramFaultKind.{DgramFaultKind}
-use Rattle.nbt_dgram.specs.declared.fault.DgramFaultKind.TheVariants as dgram
-use Rattle.nbt_session.specs.declared.fault.FaultKind.{FaultKind as SessionFaultKind}
-use Rattle.nbt_session.specs.declared.fault.FaultKind.TheVariants as session
 use Rattle.nbt_packet.specs.declared.fault.FaultKind.{FaultKind}
 use Rattle.nbt_packet.specs.declared.fault.FaultKind.TheVariants.{Name, TooMany}
 use Rattle.nbt_packet.specs.Message.{MessageValue, registration, overwrite, refresh, release, query, status_request, registered, released, found, not_found, status, wait}
@@ -30,19 +26,3 @@ fault_word (Name BadHalf) = codes "BadHalf"
 fault_word (Name BadPointer) = codes "BadPointer"
 fault_word (Name Long) = codes "Long"
 fault_word TooMany = codes "TooMany"
-
-abbrev pub dgram_fault_word : DgramFaultKind → List ℕ
-dgram_fault_word dgram.Short = codes "Short"
-dgram_fault_word dgram.BadLabel = codes "BadLabel"
-dgram_fault_word dgram.BadHalf = codes "BadHalf"
-dgram_fault_word dgram.BadPointer = codes "BadPointer"
-dgram_fault_word dgram.Long = codes "Long"
-dgram_fault_word dgram.BadType = codes "BadType"
-dgram_fault_word dgram.BadOffset = codes "BadOffset"
-dgram_fault_word dgram.BadLength = codes "BadLength"
-
-abbrev pub session_fault_word : SessionFaultKind → List ℕ
-session_fault_word session.BadType = codes "BadType"
-session_fault_word session.BadFlags = codes "BadFlags"
-session_fault_word session.BadLength = codes "BadLength"
-session_fault_word session.BadName = codes "BadName"

@@ -5,12 +5,11 @@ ghost use Rattle.std.specs.String.{string_bytes};
 ghost use Rattle.nbt_dgram.specs.Dgram.{body_of, dgram_of, fragment_of};
 ghost use Rattle.nbt_show.specs.DgramText.{PrintsBody, PrintsDgram, PrintsPart, data_line, head_line, name_line, two_digits};
 ghost use Rattle.nbt_text.specs.NameText.{PrintsName};
-ghost use Rattle.nbt_show.specs.Words.{dgram_fault_word};
 
-use crate::packet_text::{end_line, write_data, write_word};
-use nbt_dgram::{Body, Dgram, DgramFaultKind, Fragment, Part, decode};
+use crate::packet_text::{write_data, write_word};
+use nbt_dgram::{Body, Dgram, Fragment, Part, decode};
 use nbt_name::Name;
-use nbt_text::{write_address, write_hexadecimal, write_name};
+use nbt_text::{end_line, write_address, write_hexadecimal, write_name};
 use std::alloc::AllocError;
 
 /// Where FLAGS stands (RFC 1002 section 4.4.1).
@@ -31,7 +30,7 @@ pub fn write_dgram(octets: &[u8], out: &mut String) -> Result<bool, AllocError>
             Ok(true)
         }
         Err(fault) => {
-            let word = word_of_fault(fault.kind);
+            let word = fault.kind.word();
             let place = fault.place;
             writeln!(out, "fault {word} at {place}")?;
             Ok(false)
@@ -110,20 +109,4 @@ pub fn write_octet(octet: u8, out: &mut String) -> Result<(), AllocError>
     ensures { OnOk result (string_bytes out.new ≡ string_bytes out.old ++ two_digits octet) }
 {
     write_hexadecimal(&[octet], out)
-}
-
-/// The word for a fault.
-fn word_of_fault(kind: DgramFaultKind) -> &'static str
-    ensures { result.now ≡ dgram_fault_word kind }
-{
-    match kind {
-        DgramFaultKind::Short => "Short",
-        DgramFaultKind::BadLabel => "BadLabel",
-        DgramFaultKind::BadHalf => "BadHalf",
-        DgramFaultKind::BadPointer => "BadPointer",
-        DgramFaultKind::Long => "Long",
-        DgramFaultKind::BadType => "BadType",
-        DgramFaultKind::BadOffset => "BadOffset",
-        DgramFaultKind::BadLength => "BadLength",
-    }
 }

@@ -11,7 +11,7 @@ ghost use Rattle.nbt_show.specs.Words.{fault_word, message_word};
 
 use nbt_name::NameFaultKind;
 use nbt_packet::{FaultKind, Message, Packet, Question, Record, classify, decode};
-use nbt_text::{write_hexadecimal, write_name};
+use nbt_text::{end_line, write_hexadecimal, write_name};
 use std::alloc::AllocError;
 
 /// Appends a line for each part of the packet that the octets begin with, for the message that it spells, and for how
@@ -110,13 +110,6 @@ pub fn write_word(number: u16, out: &mut String) -> Result<(), AllocError>
     ensures { OnOk result (string_bytes out.new ≡ string_bytes out.old ++ four_digits number) }
 {
     write_hexadecimal(&number.to_be_bytes(), out)
-}
-
-/// Appends what ends a line.
-pub fn end_line(out: &mut String) -> Result<(), AllocError>
-    ensures { OnOk result (string_bytes out.new ≡ string_bytes out.old ++ newline) }
-{
-    out.push_str("\n")
 }
 
 /// Appends the octets in hexadecimal, or `-` where there are none.

@@ -6,14 +6,13 @@ ghost use Rattle.nbt_session.specs.Packet.{packet_of};
 ghost use Rattle.nbt_text.specs.NameText.{PrintsName};
 ghost use Rattle.nbt_show.specs.Inner.Whole.{whole_of};
 ghost use Rattle.nbt_show.specs.SessionText.{PrintsPacketLine, PrintsSession, message_line, request_line, rest_line, session_fault_line};
-ghost use Rattle.nbt_show.specs.Words.{session_fault_word};
 
 use crate::dgram_text::write_octet;
-use crate::packet_text::{end_line, write_data};
+use crate::packet_text::write_data;
 use crate::session_packet::{Whole, next_packet};
 use nbt_name::Name;
-use nbt_session::{Fault, FaultKind, Packet, Pieces, StreamFault};
-use nbt_text::{write_address, write_name};
+use nbt_session::{Fault, Packet, Pieces, StreamFault};
+use nbt_text::{end_line, write_address, write_name};
 use std::alloc::AllocError;
 
 /// Appends a line for each packet that the octets begin with, one after the other, and one for how many octets are
@@ -114,19 +113,7 @@ fn write_rest(rest: &[u8], out: &mut String) -> Result<(), AllocError>
 fn write_fault(fault: Fault, out: &mut String) -> Result<(), AllocError>
     ensures { OnOk result (string_bytes out.new ≡ string_bytes out.old ++ session_fault_line fault) }
 {
-    let word = word_of_fault(fault.kind);
+    let word = fault.kind.word();
     let place = fault.place;
     writeln!(out, "fault {word} at {place}")
-}
-
-/// The word for a fault.
-fn word_of_fault(kind: FaultKind) -> &'static str
-    ensures { result.now ≡ session_fault_word kind }
-{
-    match kind {
-        FaultKind::BadType => "BadType",
-        FaultKind::BadFlags => "BadFlags",
-        FaultKind::BadLength => "BadLength",
-        FaultKind::BadName => "BadName",
-    }
 }

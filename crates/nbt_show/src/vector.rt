@@ -1,7 +1,6 @@
 //! Vectors: octets, and what the reader of packets, or of datagrams, has to say of them (our profile).
 
 ghost use Rattle.std.specs.Prelude.{◌≡◌, ◌↔◌, ℕ, [], ◌∷◌, List, IsTrue, Some, IfOk, MatchOption, codes};
-ghost use Rattle.nbt_dgram.specs.declared.fault.DgramFaultKind.{DgramFaultKind};
 ghost use Rattle.nbt_packet.specs.declared.fault.FaultKind.{FaultKind};
 ghost use Rattle.nbt_show.specs.declared.vector.Expected.{Expected};
 ghost use Rattle.nbt_show.specs.declared.vector.Expected.TheVariants as expects;
@@ -10,12 +9,12 @@ ghost use Rattle.nbt_text.specs.Number.{SpellsNumber};
 ghost use Rattle.nbt_text.specs.Texts.{texts};
 ghost use Rattle.nbt_show.specs.Inner.Line.{LineIs};
 ghost use Rattle.nbt_show.specs.Vector.{Says, SpellsExpected, SpellsVector, service_word};
-ghost use Rattle.nbt_show.specs.Words.{dgram_fault_word, fault_word};
+ghost use Rattle.nbt_show.specs.Words.{fault_word};
 
 use nbt_dgram::{DgramFault, DgramFaultKind};
 use nbt_name::NameFaultKind;
 use nbt_packet::{Fault, FaultKind};
-use nbt_text::{is_remark, octets_of, parse_number, words_of};
+use nbt_text::{octets_of, parse_number, words_said};
 use std::alloc::{AllocError, Global};
 
 /// What stands in a line.
@@ -97,13 +96,9 @@ fn dgram_holds(octets: &[u8], expected: &Result<usize, DgramFault>) -> bool
 pub fn parse_line(alloc: Global, line: &[u8]) -> Result<Line, AllocError>
     ensures { IfOk result (LineIs line.now) }
 {
-    if is_remark(line) {
+    let Some(words) = words_said(alloc, line)? else {
         return Ok(Line::Blank);
-    }
-    let words = words_of(alloc, line)?;
-    if words.is_empty() {
-        return Ok(Line::Blank);
-    }
+    };
     match vector_of(alloc, words.as_slice())? {
         Some(vector) => Ok(Line::Vector(vector)),
         None => Ok(Line::Unreadable),
@@ -186,7 +181,7 @@ fn expected_fault(service: Service, word: &[u8], place: &[u8]) -> Option<Expecte
             Some(Expected::Name(Err(Fault { kind, place })))
         }
         Service::Dgram => {
-            let kind = dgram_kind_of(word)?;
+            let kind = DgramFaultKind::from_word(word)?;
             Some(Expected::Dgram(Err(DgramFault { kind, place })))
         }
     }
@@ -213,23 +208,6 @@ fn kind_of(word: &[u8]) -> Option<FaultKind>
         b"BadPointer" => Some(FaultKind::Name(NameFaultKind::BadPointer)),
         b"Long" => Some(FaultKind::Name(NameFaultKind::Long)),
         b"TooMany" => Some(FaultKind::TooMany),
-        _ => None,
-    }
-}
-
-/// The kind of a datagram's fault that the word names.
-fn dgram_kind_of(word: &[u8]) -> Option<DgramFaultKind>
-    ensures { (kind : DgramFaultKind) → (result ≡ Some kind) ↔ (word.now ≡ dgram_fault_word kind) }
-{
-    match word {
-        b"Short" => Some(DgramFaultKind::Short),
-        b"BadLabel" => Some(DgramFaultKind::BadLabel),
-        b"BadHalf" => Some(DgramFaultKind::BadHalf),
-        b"BadPointer" => Some(DgramFaultKind::BadPointer),
-        b"Long" => Some(DgramFaultKind::Long),
-        b"BadType" => Some(DgramFaultKind::BadType),
-        b"BadOffset" => Some(DgramFaultKind::BadOffset),
-        b"BadLength" => Some(DgramFaultKind::BadLength),
         _ => None,
     }
 }

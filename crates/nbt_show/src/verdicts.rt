@@ -5,11 +5,8 @@ ghost use Rattle.std.specs.String.{string_bytes};
 ghost use Rattle.nbt_show.specs.Verdicts.{PrintsChecked, PrintsVerdict};
 
 use crate::vector::{Line, parse_line};
-use nbt_text::split_at_first;
+use nbt_text::{NEWLINE, split_at_first};
 use std::alloc::AllocError;
-
-/// What ends a line.
-const NEWLINE: u8 = b'\n';
 
 /// Appends a verdict on each line of the input that isn't blank, with the line's number, counted from 1 and with the
 /// blank ones among them; last how many passed and how many did not. Returns whether no line failed.

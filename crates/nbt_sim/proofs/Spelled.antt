@@ -13,7 +13,8 @@ use Rattle.nbt_text.specs.Address.{SpellsAddress, address_text}
 use Rattle.nbt_text.specs.Texts.{texts}
 use Rattle.nbt_text.specs.Number.{SpellsNumber}
 use Rattle.nbt_sim.proofs.Texts.{count_texts}
-use Rattle.nbt_sim.specs.Words.{SpellsNode, SpellsEnd, the_server, a_node, SpellsSeconds, SpellsMoment, SpellsNumbers, no_more, one_more, SpellsMoves}
+use Rattle.nbt_sim.specs.Arguments.{SpellsNumbers, no_more, one_more, SpellsMoves}
+use Rattle.nbt_sim.specs.Words.{SpellsNode, SpellsEnd, the_server, a_node, SpellsSeconds, SpellsMoment}
 
 -- ---- nodes and ends
 
@@ -136,7 +137,7 @@ one_spelled word left all numbers read n so_far reads there = record {
 }
 
 pub no_number : (word : List ℕ) (left all : List (List ℕ)) (numbers : List ℕ) (read : Option ℕ) (r : Option (ArrayVec ℕ)) (m : ArrayVec ℕ) → AreSpelled (word ∷ left) all numbers → ReadsNumber word read → read ≡ None → r ≡ None
-    → (r ≡ Some m) ↔ SpellsMoves all m.items
+    → (r ≡ Some m) ↔ SpellsMoves all m
 no_number word left all numbers read r m so_far reads none e = (
   λ there. absurd cc,
   λ s.
@@ -149,7 +150,7 @@ as_many : (words : List (List ℕ)) (numbers : List ℕ) → SpellsNumbers words
 as_many _ _ no_more = refl
 as_many _ _ (one_more word words n ns s rest) = ap suc (as_many words ns rest)
 
-pub too_many : (words : List (Bor (List ℕ))) (m : ArrayVec ℕ) → 9 < length words → (◌≡◌ {A = Option (ArrayVec ℕ)} None (Some m)) ↔ SpellsMoves (texts words) m.items
+pub too_many : (words : List (Bor (List ℕ))) (m : ArrayVec ℕ) → 9 < length words → (◌≡◌ {A = Option (ArrayVec ℕ)} None (Some m)) ↔ SpellsMoves (texts words) m
 too_many words m many = (
   λ e. absurd cc,
   λ s.
@@ -160,7 +161,7 @@ too_many words m many = (
 )
 
 pub all_spelled : (left all : List (List ℕ)) (read m : ArrayVec ℕ) → AreSpelled left all read.items → left ≡ [] → length read.items ≤ 9
-    → (◌≡◌ {A = Option (ArrayVec ℕ)} (Some read) (Some m)) ↔ SpellsMoves all m.items
+    → (◌≡◌ {A = Option (ArrayVec ℕ)} (Some read) (Some m)) ↔ SpellsMoves all m
 all_spelled left all read m so_far none few = (
   λ e.
       let same : read ≡ m = cc in

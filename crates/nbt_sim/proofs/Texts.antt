@@ -10,32 +10,12 @@ pub no_texts : (words : List (Bor (List ℕ))) → length words ≡ 0 → texts 
 no_texts [] e = refl
 no_texts (w ∷ ws) e = absurd (omega arith)
 
-pub one_text : (words : List (Bor (List ℕ))) → length words ≡ 1 → texts words ≡ (get_or words 0 lost).now ∷ []
-one_text [] h = absurd (omega arith)
-one_text (a ∷ []) h = refl
-one_text (a ∷ b ∷ ws) h = absurd (omega arith)
-
-pub two_texts : (words : List (Bor (List ℕ))) → length words ≡ 2 → texts words ≡ (get_or words 0 lost).now ∷ (get_or words 1 lost).now ∷ []
-two_texts [] h = absurd (omega arith)
-two_texts (a ∷ []) h = absurd (omega arith)
-two_texts (a ∷ b ∷ []) h = refl
-two_texts (a ∷ b ∷ c ∷ ws) h = absurd (omega arith)
-
 pub three_texts : (words : List (Bor (List ℕ))) → length words ≡ 3 → texts words ≡ (get_or words 0 lost).now ∷ (get_or words 1 lost).now ∷ (get_or words 2 lost).now ∷ []
 three_texts [] h = absurd (omega arith)
 three_texts (a ∷ []) h = absurd (omega arith)
 three_texts (a ∷ b ∷ []) h = absurd (omega arith)
 three_texts (a ∷ b ∷ c ∷ []) h = refl
 three_texts (a ∷ b ∷ c ∷ d ∷ ws) h = absurd (omega arith)
-
-pub four_texts : (words : List (Bor (List ℕ))) → length words ≡ 4
-    → texts words ≡ (get_or words 0 lost).now ∷ (get_or words 1 lost).now ∷ (get_or words 2 lost).now ∷ (get_or words 3 lost).now ∷ []
-four_texts [] h = absurd (omega arith)
-four_texts (a ∷ []) h = absurd (omega arith)
-four_texts (a ∷ b ∷ []) h = absurd (omega arith)
-four_texts (a ∷ b ∷ c ∷ []) h = absurd (omega arith)
-four_texts (a ∷ b ∷ c ∷ d ∷ []) h = refl
-four_texts (a ∷ b ∷ c ∷ d ∷ e ∷ ws) h = absurd (omega arith)
 
 -- the first of those that are left, and none
 pub texts_from : (words : List (Bor (List ℕ))) (i : ℕ) (d : Bor (List ℕ)) → i < length words → texts (drop i words) ≡ (get_or words i d).now ∷ texts (drop (i + 1) words)

@@ -1,8 +1,6 @@
 -- Lines that are written one after another, and lists of holders.
 use Rattle.std.proofs.Common.{◌≡◌, ◌∙◌, ℕ, ◌+◌, ◌<◌, List, [], ◌∷◌, ◌++◌, length, get_or, take, Some, Result, Ok, Err, refl, sym, ap, append_assoc, add-one}
 use Rattle.std.specs.Prelude.{OnOk, codes}
-use Rattle.std.specs.Bool.{if◌then◌else◌}
-use Rattle.std.specs.Result.{is_ok}
 use Rattle.std.proofs.Math.Seq.{take-suc}
 use Rattle.std.proofs.lemmas.List.{append-nil}
 use Rattle.nbt_name.specs.declared.addr.Kind.TheVariants.{Unique}
@@ -33,11 +31,6 @@ nobody = record { node = 0; kind = Unique }
 
 regrouped : (a b c d : List ℕ) → a ++ b ++ c ++ d ≡ a ++ (b ++ (c ++ d ++ []))
 regrouped a b c d = simp (append_assoc, append-nil)
-
--- where a push was the last
-pub pushed : {E : Type 0} (r : Result (Unit {0}) E) (new a b : List ℕ) → new ≡ (if is_ok r then a else b) → OnOk r (new ≡ a)
-pushed (Ok u) new a b e = e
-pushed (Err x) new a b e = tt
 
 pub one_holder_more : (others : List Holder) (i : ℕ) (d : Holder) (old now comma new : List ℕ) → i < length others → now ≡ old ++ other_holders_text (take i others) → comma ≡ now ++ codes ", " → new ≡ comma ++ holder_text (get_or others i d)
     → new ≡ old ++ other_holders_text (take (i + 1) others)

@@ -1,3 +1,4 @@
+pub mod Arguments
 pub mod Inner
 pub mod Line
 pub mod Script

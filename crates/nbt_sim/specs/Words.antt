@@ -48,6 +48,9 @@ abbrev pub kind_word : Kind → List ℕ
 kind_word Unique = codes "unique"
 kind_word Group = codes "group"
 
+abbrev pub SpellsKind : List ℕ → Kind → Type 0
+SpellsKind word kind = word ≡ kind_word kind
+
 -- seconds are a number of 32 bits
 pub record SpellsSeconds (word : List ℕ) (seconds : ℕ) : Type 0 where
   pub number : SpellsNumber word seconds
@@ -57,16 +60,6 @@ pub record SpellsSeconds (word : List ℕ) (seconds : ℕ) : Type 0 where
 pub record SpellsMoment (word : List ℕ) (moment : ℕ) : Type 0 where
   pub number : SpellsNumber word moment
   pub fits : moment ≤ last_moment
-
--- each word a number
-pub data SpellsNumbers : List (List ℕ) → List ℕ → Type 0 where
-  no_more : SpellsNumbers [] []
-  one_more : (word : List ℕ) (words : List (List ℕ)) (number : ℕ) (numbers : List ℕ) → SpellsNumber word number → SpellsNumbers words numbers → SpellsNumbers (word ∷ words) (number ∷ numbers)
-
--- by how many milliseconds the ends' clocks go on: no world has more than nine ends
-pub record SpellsMoves (words : List (List ℕ)) (moves : List ℕ) : Type 0 where
-  pub numbers : SpellsNumbers words moves
-  pub few : length moves ≤ 9
 
 -- ---- the words of what is printed
 

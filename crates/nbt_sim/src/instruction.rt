@@ -1,22 +1,20 @@
 //! What a line of a script asks for.
 
 ghost use Rattle.std.specs.Prelude.{◌≡◌, ◌↔◌, ℕ, Some, IfOk, MatchOption};
-ghost use Rattle.arrayvec.specs.ArrayVec.{ArrayVec as Moves};
-ghost use Rattle.nbt_lease.specs.Config.{ConfigValue, IsConfig, config_of as limits_of};
 ghost use Rattle.nbt_text.specs.Texts.{texts};
 ghost use Rattle.nbt_sim.specs.declared.instruction.Instruction.{Instruction};
+ghost use Rattle.nbt_sim.specs.declared.instruction.Instruction.TheVariants as instruction;
 ghost use Rattle.nbt_sim.specs.declared.verb.Verb.TheVariants as verbs;
 ghost use Rattle.nbt_sim.specs.Line.{Says, SaysOf};
-ghost use Rattle.nbt_sim.specs.Words.{SpellsMoves};
 ghost use Rattle.nbt_sim.specs.Inner.Line.{LineIs};
 
-use crate::script_world::ENDS_MOST;
+use crate::argument::{Argument, Arguments};
 use crate::verb::{Verb, verb_of};
-use crate::words::{address_of, count_of, end_of, kind_of, moment_of, node_of, seconds_of};
+use crate::words::{End, Moves, NewWorld, Node, Seconds};
 use arrayvec::ArrayVec;
 use nbt_lease::{Config, Moment};
-use nbt_name::Name;
-use nbt_text::{is_remark, octets_of, parse_name, parse_number, words_of};
+use nbt_name::{Addr, Kind, Name};
+use nbt_text::{octets_of, words_said};
 use nbt_world::Event;
 use std::alloc::{AllocError, Global};
 
@@ -57,13 +55,9 @@ pub enum Line {
 pub fn parse_line(alloc: Global, line: &[u8]) -> Result<Line, AllocError>
     ensures { IfOk result (LineIs line.now) }
 {
-    if is_remark(line) {
+    let Some(words) = words_said(alloc, line)? else {
         return Ok(Line::Blank);
-    }
-    let words = words_of(alloc, line)?;
-    if words.is_empty() {
-        return Ok(Line::Blank);
-    }
+    };
     match instruction_of(alloc, words.as_slice())? {
         Some(instruction) => Ok(Line::Says(instruction)),
         None => Ok(Line::Unreadable),
@@ -93,197 +87,54 @@ fn arguments_of(verb: Verb, words: &[&[u8]]) -> Option<Instruction>
     ensures { (i : Instruction) → (result ≡ Some i) ↔ SaysOf verb (texts words.now) i }
 {
     match verb {
-        Verb::Config => config_of(words),
-        Verb::At => at_of(words),
-        Verb::Advance => advance_of(words),
-        Verb::Start => start_of(words),
-        Verb::Crash => crash_of(words),
+        Verb::Config => NewWorld::read_all(words).map(|(config, nodes)| {
+            Instruction::Config(config, nodes)
+        }),
+        Verb::At => <(Moment, ())>::read_all(words).map(|(moment, ())| Instruction::At(moment)),
+        Verb::Advance => <(u64, Moves)>::read_all(words).map(|(ms, moves)| {
+            Instruction::Advance { ms, moves }
+        }),
+        Verb::Start => <(End, ())>::read_all(words).map(|(end, ())| happens(Event::Start(end))),
+        Verb::Crash => <(End, ())>::read_all(words).map(|(end, ())| happens(Event::Crash(end))),
         Verb::Ask => ask_of(words),
-        Verb::Release => release_of(words),
-        Verb::Resolve => resolve_of(words),
-        Verb::Status => status_of(words),
-        Verb::Poll => poll_of(words),
-        Verb::Deliver => deliver_of(words),
+        Verb::Release => <(Node, (Name, ()))>::read_all(words).map(|(node, (name, ()))| {
+            happens(Event::Release { node, name })
+        }),
+        Verb::Resolve => <(Node, (Name, ()))>::read_all(words).map(|(node, (name, ()))| {
+            happens(Event::Resolve { node, name })
+        }),
+        Verb::Status => {
+            let asked = <(Node, (Addr, (Name, ())))>::read_all(words);
+            asked.map(|(node, (to, (name, ())))| happens(Event::NameStatus { node, to, name }))
+        }
+        Verb::Poll => <(Node, ())>::read_all(words).map(|(node, ())| happens(Event::Poll(node))),
+        Verb::Deliver => <(usize, ())>::read_all(words).map(|(k, ())| happens(Event::Deliver(k))),
         Verb::Stranger => unreachable!(),
-        Verb::Holders => holders_of(words),
-        Verb::Kept => kept_of(words),
+        Verb::Holders => <(Name, ())>::read_all(words).map(|(name, ())| Instruction::Holders(name)),
+        Verb::Kept => <()>::read_all(words).map(|()| Instruction::Kept),
     }
-}
-
-/// `LIFE LONGEST ROWS NODES`.
-fn config_of(words: &[&[u8]]) -> Option<Instruction>
-    ensures { (i : Instruction) → (result ≡ Some i) ↔ SaysOf verbs.Config (texts words.now) i }
-{
-    let [life, longest, rows, nodes] = words else {
-        return None;
-    };
-    let life = parse_number(life)?;
-    let longest = parse_number(longest)?;
-    let rows = count_of(rows)?;
-    let nodes = count_of(nodes)?;
-    let config = limits(life, longest, rows)?;
-    Some(Instruction::Config(config, nodes))
-}
-
-/// The limits of these numbers, of which `longest` may be too large for one.
-fn limits(life: u64, longest: u64, rows: usize) -> Option<Config>
-    ensures { (config : ConfigValue) → (result ≡ Some config)
-        ↔ (IsConfig (limits_of life longest rows) × (config ≡ limits_of life longest rows)) }
-{
-    Config::new(life, u32::try_from(longest).ok()?, rows).ok()
-}
-
-/// `MS`.
-fn at_of(words: &[&[u8]]) -> Option<Instruction>
-    ensures { (i : Instruction) → (result ≡ Some i) ↔ SaysOf verbs.At (texts words.now) i }
-{
-    let [moment] = words else {
-        return None;
-    };
-    Some(Instruction::At(moment_of(moment)?))
-}
-
-/// `MS S N1 ..`.
-fn advance_of(words: &[&[u8]]) -> Option<Instruction>
-    ensures { (i : Instruction) → (result ≡ Some i) ↔ SaysOf verbs.Advance (texts words.now) i }
-{
-    let Some((ms, moves)) = words.split_first() else {
-        return None;
-    };
-    let ms = parse_number(ms)?;
-    let moves = moves_of(moves)?;
-    Some(Instruction::Advance { ms, moves })
-}
-
-/// A number for each word, and nine at most.
-fn moves_of(words: &[&[u8]]) -> Option<ArrayVec<u64, 9>>
-    ensures { (moves : Moves ℕ) → (result ≡ Some moves) ↔ SpellsMoves (texts words.now) moves.items }
-{
-    if words.len() > ENDS_MOST {
-        return None;
-    }
-    let mut moves = ArrayVec::new();
-    for word in words {
-        moves.push(parse_number(word)?);
-    }
-    Some(moves)
-}
-
-/// `E`, which starts.
-fn start_of(words: &[&[u8]]) -> Option<Instruction>
-    ensures { (i : Instruction) → (result ≡ Some i) ↔ SaysOf verbs.Start (texts words.now) i }
-{
-    let [end] = words else {
-        return None;
-    };
-    Some(Instruction::Happens(Event::Start(end_of(end)?)))
-}
-
-/// `E`, which crashes.
-fn crash_of(words: &[&[u8]]) -> Option<Instruction>
-    ensures { (i : Instruction) → (result ≡ Some i) ↔ SaysOf verbs.Crash (texts words.now) i }
-{
-    let [end] = words else {
-        return None;
-    };
-    Some(Instruction::Happens(Event::Crash(end_of(end)?)))
 }
 
 /// `NODE NAME KIND TTL`.
 fn ask_of(words: &[&[u8]]) -> Option<Instruction>
     ensures { (i : Instruction) → (result ≡ Some i) ↔ SaysOf verbs.Ask (texts words.now) i }
 {
-    let [node, name, kind, ttl] = words else {
-        return None;
-    };
-    let node = node_of(node)?;
-    let name = parse_name(name)?;
-    let kind = kind_of(kind)?;
-    let ttl = seconds_of(ttl)?;
-    Some(Instruction::Happens(Event::Ask {
-        node,
-        name,
-        kind,
-        ttl,
-    }))
+    let asked = <(Node, (Name, (Kind, (Seconds, ()))))>::read_all(words);
+    asked.map(|(node, (name, (kind, (ttl, ()))))| {
+        happens(Event::Ask {
+            node,
+            name,
+            kind,
+            ttl,
+        })
+    })
 }
 
-/// `NODE NAME`, which is given back.
-fn release_of(words: &[&[u8]]) -> Option<Instruction>
-    ensures { (i : Instruction) → (result ≡ Some i) ↔ SaysOf verbs.Release (texts words.now) i }
+/// An event is to happen.
+fn happens(event: Event) -> Instruction
+    ensures { result ≡ instruction.Happens event }
 {
-    let [node, name] = words else {
-        return None;
-    };
-    let node = node_of(node)?;
-    let name = parse_name(name)?;
-    Some(Instruction::Happens(Event::Release { node, name }))
-}
-
-/// `NODE NAME`, whose holders are asked for.
-fn resolve_of(words: &[&[u8]]) -> Option<Instruction>
-    ensures { (i : Instruction) → (result ≡ Some i) ↔ SaysOf verbs.Resolve (texts words.now) i }
-{
-    let [node, name] = words else {
-        return None;
-    };
-    let node = node_of(node)?;
-    let name = parse_name(name)?;
-    Some(Instruction::Happens(Event::Resolve { node, name }))
-}
-
-/// `NODE ADDRESS NAME`.
-fn status_of(words: &[&[u8]]) -> Option<Instruction>
-    ensures { (i : Instruction) → (result ≡ Some i) ↔ SaysOf verbs.Status (texts words.now) i }
-{
-    let [node, to, name] = words else {
-        return None;
-    };
-    let node = node_of(node)?;
-    let to = address_of(to)?;
-    let name = parse_name(name)?;
-    Some(Instruction::Happens(Event::NameStatus { node, to, name }))
-}
-
-/// `NODE`.
-fn poll_of(words: &[&[u8]]) -> Option<Instruction>
-    ensures { (i : Instruction) → (result ≡ Some i) ↔ SaysOf verbs.Poll (texts words.now) i }
-{
-    let [node] = words else {
-        return None;
-    };
-    Some(Instruction::Happens(Event::Poll(node_of(node)?)))
-}
-
-/// `K`.
-fn deliver_of(words: &[&[u8]]) -> Option<Instruction>
-    ensures { (i : Instruction) → (result ≡ Some i) ↔ SaysOf verbs.Deliver (texts words.now) i }
-{
-    let [k] = words else {
-        return None;
-    };
-    Some(Instruction::Happens(Event::Deliver(count_of(k)?)))
-}
-
-/// `NAME`.
-fn holders_of(words: &[&[u8]]) -> Option<Instruction>
-    ensures { (i : Instruction) → (result ≡ Some i) ↔ SaysOf verbs.Holders (texts words.now) i }
-{
-    let [name] = words else {
-        return None;
-    };
-    Some(Instruction::Holders(parse_name(name)?))
-}
-
-/// Nothing more.
-fn kept_of(words: &[&[u8]]) -> Option<Instruction>
-    ensures { (i : Instruction) → (result ≡ Some i) ↔ SaysOf verbs.Kept (texts words.now) i }
-{
-    if words.is_empty() {
-        Some(Instruction::Kept)
-    } else {
-        None
-    }
+    Instruction::Happens(event)
 }
 
 /// `ADDRESS E HEX`.
@@ -294,10 +145,10 @@ fn stranger_of(alloc: Global, words: &[&[u8]]) -> Result<Option<Instruction>, Al
     let [from, to, digits] = words else {
         return Ok(None);
     };
-    let Some(from) = address_of(from) else {
+    let Some(from) = Addr::read(from) else {
         return Ok(None);
     };
-    let Some(to) = end_of(to) else {
+    let Some(to) = End::read(to) else {
         return Ok(None);
     };
     match octets_of(alloc, digits)? {

@@ -4,6 +4,7 @@
 //! line.
 #![tactic(auto)]
 
+mod argument;
 mod instruction;
 mod printing;
 mod script;

@@ -14,7 +14,7 @@ ghost use Rattle.nbt_sim.specs.Script.{NamesRefusal, PrintsHolders, PrintsOutcom
 ghost use Rattle.nbt_sim.specs.Words.{ask_fault_word, kept_word, kind_word, lookup_fault_word, release_fault_word};
 
 use nbt_name::{Kind, Name};
-use nbt_text::write_name;
+use nbt_text::{end_line, write_name};
 use nbt_world::{Event, Holder, Outcome, World};
 use std::alloc::AllocError;
 
@@ -99,7 +99,7 @@ pub fn write_holders(world: &World, name: &Name, out: &mut String) -> Result<(),
     write_name(name, out)?;
     out.push_str(": ")?;
     write_list(world.holders(name).as_slice(), out)?;
-    out.push_str("\n")
+    end_line(out)
 }
 
 /// Appends the line of whether the clocks kept the drift bound so far.

@@ -2,13 +2,13 @@
 
 ghost use Rattle.std.specs.Prelude.{◌≡◌, ◌++◌, ℕ, List, [], None, MatchBool, IfOk};
 ghost use Rattle.std.specs.String.{string_bytes};
-ghost use Rattle.nbt_text.specs.Texts.{texts};
 ghost use Rattle.nbt_text.specs.Lines.{lines};
 ghost use Rattle.nbt_sim.specs.Script.{LineDoes, Fits, Plays};
 ghost use Rattle.nbt_sim.specs.Inner.ScriptWorld.{PlaysLine, world_of};
 
 use crate::instruction::{Instruction, Line, parse_line};
 use crate::script_world::ScriptWorld;
+use nbt_text::lines_of;
 use std::alloc::{AllocError, Global};
 
 /// Appends what the lines of a script print, in order; the first line that can't be read, or asks for what can't be done,
@@ -29,13 +29,6 @@ pub fn play(script: &[u8], out: &mut String) -> Result<bool, AllocError>
         }
     }
     Ok(true)
-}
-
-/// What stands between line feeds.
-fn lines_of(alloc: Global, script: &[u8]) -> Result<Vec<&[u8]>, AllocError>
-    ensures { IfOk result (λ found. texts found.items ≡ lines script.now) }
-{
-    script.split(|octet| *octet == b'\n').collect(alloc)
 }
 
 /// Does what a line says, and appends what it prints. Returns whether it can be read, and done.

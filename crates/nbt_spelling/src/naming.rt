@@ -1,8 +1,6 @@
 //! Names with their scope.
 
 ghost use Rattle.std.specs.Prelude.{◌≡◌, ℕ, List, ◌++◌, ◌≤◌, length, IfOk, IfErr, IfSome, IfNone, codes};
-ghost use Rattle.nbt_name.specs.Scope.{IsScope};
-ghost use Rattle.nbt_name.specs.Wire.{name_of, wire};
 ghost use Rattle.nbt_spelling.specs.Characters.{SpellsOctets, cased};
 ghost use Rattle.nbt_spelling.specs.Names.{dotted, SpellsScope, SpellsName, MisspellsName};
 
@@ -10,8 +8,8 @@ use crate::casing::Case;
 use crate::fault::Fault;
 use crate::reading::read_octets;
 use arrayvec::ArrayVec;
-use nbt_name::{Name, read_plain};
-use nbt_text::parse_name;
+use nbt_name::Name;
+use nbt_text::{parse_name, with_octets};
 
 /// The most characters of a scope's text (our profile).
 const SCOPE_MOST: usize = 1_000;
@@ -36,7 +34,7 @@ fn with_scope(case: Case, word: &[u8], octets: &[u8; 16], scope: &[u8]) -> Resul
     ensures fault { IfErr result (MisspellsName case word.now scope.now) }
 {
     match scoped(case, scope) {
-        Some(name) => Ok(name_from(octets, name.scope())),
+        Some(name) => Ok(with_octets(octets, &name)),
         None => Err(Fault::Scope),
     }
 }
@@ -67,32 +65,4 @@ fn with_a_name(case: Case, text: &[u8]) -> ArrayVec<u8, 1002>
     whole.try_extend_from_slice(text).unwrap();
     case.apply(whole.as_mut_slice());
     whole
-}
-
-/// The name of sixteen octets and a scope, also one that begins with `*`: read from its wire form.
-fn name_from(octets: &[u8; 16], scope: &[u8]) -> Name
-    requires labels { IsScope scope.now }
-    requires fits { length scope.now ≤ 221 }
-    ensures { result ≡ name_of octets.now scope.now }
-{
-    nbt_name::laws::wire_form_is_read();
-    let wire = wire_from(octets, scope);
-    let (name, _) = read_plain(wire.as_slice(), 0).unwrap();
-    name
-}
-
-/// The wire form (RFC 1001 section 14, RFC 1002 section 4.1).
-fn wire_from(octets: &[u8; 16], scope: &[u8]) -> ArrayVec<u8, 255>
-    requires { length scope.now ≤ 221 }
-    ensures { result.items ≡ wire (name_of octets.now scope.now) }
-{
-    let mut wire = ArrayVec::new();
-    wire.push(0x20);
-    for octet in octets {
-        wire.push(b'A' + *octet / 16);
-        wire.push(b'A' + *octet % 16);
-    }
-    wire.try_extend_from_slice(scope).unwrap();
-    wire.push(0);
-    wire
 }

@@ -10,6 +10,7 @@ use crate::casing::Case;
 use crate::fault::Fault;
 use crate::laws;
 use hex::FromHex;
+use nbt_text::digits_of;
 
 /// The most characters before the suffix (RFC 1001 section 14, our profile).
 const FRONT_MOST: usize = 15;
@@ -47,17 +48,6 @@ fn octets_of(case: Case, word: &[u8]) -> Result<[u8; 16], Fault>
     match suffix_of(blank(front), tail) {
         Some(suffix) => Ok(filled(case, front, suffix)),
         None => Err(Fault::Suffix),
-    }
-}
-
-/// The digits of a word in hexadecimal.
-fn digits_of(word: &[u8]) -> Option<&[u8]>
-    ensures digits { IfSome result (λ digits. word.now ≡ prefix ++ digits.now) }
-    ensures none { IfNone result (¬ IsPrefixed word.now) }
-{
-    match word {
-        [b'h', b'e', b'x', b':', digits @ ..] => Some(digits),
-        _ => None,
     }
 }
 

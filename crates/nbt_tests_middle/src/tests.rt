@@ -6,7 +6,9 @@ use nbt_text::octets_of;
 use std::test::Fail;
 
 mod engine;
+mod lines;
 mod lookups;
+mod memory;
 mod ports;
 mod printing;
 mod scripts;

@@ -4,13 +4,20 @@ use Rattle.std.specs.Fmt.{decimal}
 use Rattle.std.specs.List.{slice_split}
 use Rattle.hex.specs.Hex.{decode_of}
 
--- what ends a line
+-- what ends a line, as an octet and as a text
+abbrev pub line_feed : ℕ
+line_feed = 10
+
 abbrev pub newline : List ℕ
-newline = 10 ∷ []
+newline = line_feed ∷ []
+
+-- a text with the end of its line
+abbrev pub one_line : List ℕ → List ℕ
+one_line text = text ++ newline
 
 -- what stands between line feeds
 abbrev pub lines : List ℕ → List (List ℕ)
-lines input = slice_split (λ octet. octet == 10) input
+lines input = slice_split (λ octet. octet == line_feed) input
 
 -- the words of a line, between spaces
 abbrev pub words : List ℕ → List (List ℕ)
@@ -27,7 +34,7 @@ pub data SpellsOctets : List ℕ → List ℕ → Type 0 where
 
 -- what is printed of a line that has something to be said of it
 abbrev pub verdict_line : ℕ → List ℕ → List ℕ
-verdict_line number word = codes "line " ++ decimal number ++ codes ": " ++ word ++ newline
+verdict_line number word = one_line (codes "line " ++ decimal number ++ codes ": " ++ word)
 
 -- the mark isn't among the octets
 abbrev pub HasNo : ℕ → List ℕ → Type 0

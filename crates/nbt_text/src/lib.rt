@@ -14,7 +14,7 @@ mod pieces;
 
 pub use address::{parse_address, write_address};
 pub use hexadecimal::write_hexadecimal;
-pub use lines::{is_remark, octets_of, words_of};
-pub use name_text::{parse_name, write_name};
+pub use lines::{NEWLINE, end_line, lines_of, octets_of, words_of, words_said};
+pub use name_text::{digits_of, parse_name, with_octets, write_name};
 pub use number::parse_number;
 pub use pieces::split_at_first;

@@ -1,14 +1,49 @@
-//! The lines and words of an input (our profile).
+//! The lines and words of an input, and what ends a line (our profile).
 
-ghost use Rattle.std.specs.Prelude.{◌≡◌, ◌↔◌, ℕ, List, IsTrue, Some, IfOk, MatchOption, slice_get, codes};
-ghost use Rattle.nbt_text.specs.Lines.{SpellsOctets, words};
+ghost use Rattle.std.specs.Prelude.{◌≡◌, ◌↔◌, ℕ, List, IsTrue, Some, IfOk, OnOk, MatchOption, slice_get, codes};
+ghost use Rattle.std.specs.String.{string_bytes};
+ghost use Rattle.nbt_text.specs.Lines.{IsPassedOver, SpellsOctets, lines, one_line, words};
 ghost use Rattle.nbt_text.specs.Texts.{texts};
 
 use hex::FromHexError;
 use std::alloc::{AllocError, Global};
 
+/// What ends a line: a line feed.
+pub const NEWLINE: u8 = b'\n';
+
+/// Appends what ends a line.
+pub fn end_line(out: &mut String) -> Result<(), AllocError>
+    ensures { OnOk result (string_bytes out.new ≡ one_line (string_bytes out.old)) }
+{
+    out.push(char::from(NEWLINE))
+}
+
+/// The lines of an input: what stands between line feeds. So there is one at least, and the last one is empty where the
+/// input ends with a line feed.
+pub fn lines_of(alloc: Global, input: &[u8]) -> Result<Vec<&[u8]>, AllocError>
+    ensures { IfOk result (λ found. texts found.items ≡ lines input.now) }
+{
+    input.split(|octet| *octet == NEWLINE).collect(alloc)
+}
+
+/// The words that a line says; `None` where it is passed over, since it is a remark, whose first octet is `#`, or has spaces
+/// alone.
+pub fn words_said(alloc: Global, line: &[u8]) -> Result<Option<Vec<&[u8]>>, AllocError>
+    ensures { IfOk result (λ found. MatchOption found (IsPassedOver line.now)
+        (λ said. (¬ IsPassedOver line.now) × (texts said.items ≡ words line.now))) }
+{
+    if is_remark(line) {
+        return Ok(None);
+    }
+    let words = words_of(alloc, line)?;
+    if words.is_empty() {
+        return Ok(None);
+    }
+    Ok(Some(words))
+}
+
 /// Whether a line is a remark: its first octet is `#`.
-pub fn is_remark(line: &[u8]) -> bool
+fn is_remark(line: &[u8]) -> bool
     ensures { IsTrue result ↔ (slice_get line.now 0 ≡ Some 35) }
 {
     match line {

@@ -60,6 +60,13 @@ pub fn write_name(name: &Name, out: &mut String) -> Result<(), AllocError>
     Ok(())
 }
 
+/// The name of these sixteen octets, with the scope of `scoped`. It may begin with `*`.
+pub fn with_octets(octets: &[u8; 16], scoped: &Name) -> Name
+    ensures { result ≡ name_of octets.now scoped.now.scope }
+{
+    name_from(octets, scoped.scope())
+}
+
 /// The sixteen octets that the name's component spells.
 fn sixteen_of(component: &[u8]) -> Option<[u8; 16]>
     ensures read { IfSome result (Sixteen component.now) }
@@ -142,8 +149,8 @@ fn wire_from(octets: &[u8; 16], scope: &[u8]) -> ArrayVec<u8, 255>
     wire
 }
 
-/// The digits of a component in hexadecimal.
-fn digits_of(component: &[u8]) -> Option<&[u8]>
+/// What follows the `hex:` that a component in hexadecimal begins with; `None` where it doesn't begin so.
+pub fn digits_of(component: &[u8]) -> Option<&[u8]>
     ensures digits { IfSome result (λ digits. component.now ≡ prefix ++ digits.now) }
     ensures none { IfNone result (¬ IsPrefixed component.now) }
 {

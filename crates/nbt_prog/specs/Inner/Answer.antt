@@ -5,7 +5,7 @@ use Rattle.nbt_packet.specs.Message.{MessageValue}
 use Rattle.nbt_packet.specs.Text.{text}
 use Rattle.nbt_lease.specs.Config.{config_of, rows_most}
 use Rattle.nbt_server.specs.Serving.{ServerValue}
-use Rattle.nbt_prog.specs.Inner.Failure.{one_line}
+use Rattle.nbt_text.specs.Lines.{one_line}
 
 -- a new server: a datagram lives 1,000 ms, a lease at most 60 s, it keeps as many of them as a server may, and it started at 0
 abbrev pub new_server : ServerValue

@@ -1,11 +1,12 @@
 -- What each failure means for the program, and which failure an error of a library is.
-use Rattle.std.specs.Prelude.{ℕ, List, [], ◌∷◌, ◌++◌, Option, Some, None, codes}
+use Rattle.std.specs.Prelude.{ℕ, List, [], Option, Some, None, codes}
 use Rattle.nbt_usage.specs.declared.refusal.Refusal.{Refusal}
 use Rattle.nbt_usage.specs.declared.refusal.Refusal.TheVariants as refusal
 use Rattle.hex.specs.declared.error.FromHexError.{FromHexError}
 use Rattle.hex.specs.declared.error.FromHexError.TheVariants as hex_error
 use Rattle.nbt_engine.specs.Faults.{fault_status, fault_line}
 use Rattle.nbt_engine.specs.declared.fault.Fault.TheVariants.{Memory}
+use Rattle.nbt_text.specs.Lines.{one_line}
 use Rattle.nbt_prog.specs.declared.failure.Failure.{Failure}
 use Rattle.nbt_prog.specs.declared.failure.Failure.TheVariants.{Help, Usage, Unreadable, Fault}
 
@@ -30,10 +31,6 @@ failure_of_usage refusal.Memory = out_of_memory
 abbrev pub failure_of_hex : FromHexError → Failure
 failure_of_hex hex_error.OutOfMemory = out_of_memory
 failure_of_hex _ = Unreadable
-
--- a word on a line of its own
-abbrev pub one_line : List ℕ → List ℕ
-one_line word = word ++ (10 ∷ [])
 
 -- all that is printed at a failure: of help and wrong usage a text of which nothing is said
 abbrev pub failure_text : Failure → Option (List ℕ)

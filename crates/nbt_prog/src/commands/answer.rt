@@ -1,6 +1,6 @@
 //! The command `answer`: one packet in, the reply out.
 
-ghost use Rattle.std.specs.Prelude.{◌≡◌, ◌++◌, ◌∷◌, [], Option, IfOk, IfErr};
+ghost use Rattle.std.specs.Prelude.{◌≡◌, Option, IfOk, IfErr};
 ghost use Rattle.std.specs.String.{string_bytes};
 ghost use Rattle.hex.specs.Hex.{encode_lower};
 ghost use Rattle.nbt_packet.specs.Message.{MessageValue};
@@ -16,7 +16,7 @@ use nbt_engine::Fault;
 use nbt_lease::{Config, Moment};
 use nbt_name::Addr;
 use nbt_server::Server;
-use nbt_text::write_hexadecimal;
+use nbt_text::{end_line, write_hexadecimal};
 use std::alloc::{AllocError, Global};
 
 /// The most octets of a datagram of the name service.
@@ -71,10 +71,10 @@ fn new_server(alloc: Global) -> Server
 
 /// The octets in lower-case hexadecimal, and the end of the line.
 fn hexadecimal_line(alloc: Global, octets: &[u8]) -> Result<String, AllocError>
-    ensures { IfOk result (λ line. string_bytes line ≡ encode_lower octets.now ++ 10 ∷ []) }
+    ensures { IfOk result (λ line. string_bytes line ≡ one_line (encode_lower octets.now)) }
 {
     let mut line = String::new(alloc);
     write_hexadecimal(octets, &mut line)?;
-    line.push('\n')?;
+    end_line(&mut line)?;
     Ok(line)
 }

@@ -444,6 +444,29 @@ const WHOLE: &[(&[u8], &[(usize, u8)])] = &[
     (QUERY, &[(0, 0x16)]),
 ];
 
+const WORDS: [(DgramFaultKind, u8, &str); 8] = [
+    (DgramFaultKind::Short, 1, "Short"),
+    (DgramFaultKind::BadLabel, 2, "BadLabel"),
+    (DgramFaultKind::BadHalf, 3, "BadHalf"),
+    (DgramFaultKind::BadPointer, 4, "BadPointer"),
+    (DgramFaultKind::Long, 5, "Long"),
+    (DgramFaultKind::BadType, 6, "BadType"),
+    (DgramFaultKind::BadOffset, 7, "BadOffset"),
+    (DgramFaultKind::BadLength, 8, "BadLength"),
+];
+
+#[test]
+fn numbers_and_words_of_faults(rt: HostRuntime) {
+    for (kind, number, word) in WORDS {
+        assert_eq!(rt; kind.number(), number);
+        assert_eq!(rt; kind.word(), word);
+        assert_eq!(rt; DgramFaultKind::from_word(word.as_bytes()), Some(kind));
+    }
+    for word in ["", "short", "Shorter", "TooMany", "BadName"] {
+        assert_eq!(rt; DgramFaultKind::from_word(word.as_bytes()), None);
+    }
+}
+
 /// Each datagram that is cut short has its fault at its end.
 #[test]
 fn datagrams_cut_at_every_length(rt: HostRuntime) -> Result<(), Fail> {

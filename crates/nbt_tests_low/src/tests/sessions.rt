@@ -226,17 +226,18 @@ fn faults_where_they_are_seen(rt: HostRuntime) -> Result<(), Fail> {
     Ok(())
 }
 
-const NUMBERS: [(FaultKind, u8); 4] = [
-    (FaultKind::BadType, 1),
-    (FaultKind::BadFlags, 2),
-    (FaultKind::BadLength, 3),
-    (FaultKind::BadName, 4),
+const NUMBERS: [(FaultKind, u8, &str); 4] = [
+    (FaultKind::BadType, 1, "BadType"),
+    (FaultKind::BadFlags, 2, "BadFlags"),
+    (FaultKind::BadLength, 3, "BadLength"),
+    (FaultKind::BadName, 4, "BadName"),
 ];
 
 #[test]
-fn numbers_of_faults(rt: HostRuntime) {
-    for (kind, number) in NUMBERS {
+fn numbers_and_words_of_faults(rt: HostRuntime) {
+    for (kind, number, word) in NUMBERS {
         assert_eq!(rt; kind.number(), number);
+        assert_eq!(rt; kind.word(), word);
         let fault = StreamFault::Malformed(Fault { kind, place: 0 });
         assert_eq!(rt; fault.number(), number);
     }

@@ -1,5 +1,6 @@
 //! A server and a node over a port in memory: the life of a datagram 1,000 ms, the longest lease 60 s, all started at 0.
 
+use super::memory::{Row, clock, expect_sent, port};
 use super::{
     FOUND, GRANTED, NOT_FOUND, QUERY, REFRESH, REFUSED, REGISTRATION, RIVAL, config, moment,
     octets, one_of_many_in_words, started,
@@ -35,51 +36,6 @@ const SECOND: Addr = Addr {
 const STATUS_REQUEST: &str = "0009 0000 one-name STAR NBSTAT";
 
 const GRANTED_AGAIN: &str = "0002 ad80 reply FRED NB 60s unique 127.0.0.2";
-
-/// A datagram as words, with the end that it is from or for; nothing where there are no octets.
-type Row = (Addr, &'static str);
-
-/// A clock that tells these moments.
-fn clock<R: AllocGlobal>(rt: &R, moments: &[u64]) -> Result<MemoryClock, Fail> {
-    let mut told = VecDeque::new(rt.alloc());
-    for ms in moments {
-        told.push_back(moment(*ms)?)?;
-    }
-    Ok(MemoryClock::new(told))
-}
-
-/// A port that hands these out.
-fn port<R: AllocGlobal>(rt: &R, given: &[Row]) -> Result<MemoryPort, Fail> {
-    let mut incoming = VecDeque::new(rt.alloc());
-    for (addr, words) in given {
-        let octets = octets(rt, words)?;
-        let is_one = !octets.is_empty();
-        let datagram = Datagram {
-            addr: *addr,
-            octets,
-        };
-        incoming.push_back(if is_one { Some(datagram) } else { None })?;
-    }
-    Ok(MemoryPort::new(rt.alloc(), incoming))
-}
-
-/// These were sent, in order.
-fn expect_sent<R: Abort + AllocGlobal>(
-    rt: &R,
-    port: &MemoryPort,
-    sent: &[Row],
-) -> Result<(), Fail> {
-    assert_eq!(rt; port.sent().len(), sent.len());
-    for (got, (addr, words)) in port.sent().iter().zip(sent) {
-        assert_eq!(rt; got.addr, *addr, "{words}");
-        assert_eq!(rt;
-            got.octets.as_slice(),
-            octets(rt, words)?.as_slice(),
-            "{words}"
-        );
-    }
-    Ok(())
-}
 
 /// `serve_turns` at a port of which few calls have failed.
 fn serve<R: Abort>(

@@ -1,12 +1,12 @@
 //! Lookups of a node at 127.0.0.2 over a port in memory, at a server at 127.0.0.1.
 
+use super::memory::{Row, clock, expect_sent, port};
 use super::{config, moment, octets};
 use arrayvec::ArrayVec;
-use nbt_engine::{Datagram, MemoryClock, MemoryPort, Port};
+use nbt_engine::Port;
 use nbt_lookup::{Ending, Question, look_up};
 use nbt_name::{Addr, Name};
 use nbt_node::{LookupFault, Node};
-use std::collections::VecDeque;
 use std::process::Abort;
 use std::test::Fail;
 
@@ -39,9 +39,6 @@ const NOT_FOUND: &str = "0001 8583 reply FRED NULL 0s 0000";
 /// A status response with no name.
 const STATUS: &str = "0001 8400 reply STAR NBSTAT 0s 002f 00 statistics";
 
-/// A datagram as words, with the end that it is from or for; nothing where there are no octets.
-type Row = (Addr, &'static str);
-
 /// One lookup: the moments that the clock tells, what the port hands out, and for how long, and how often, it waits.
 struct Lookup {
     asks: &'static str,
@@ -59,28 +56,6 @@ fn question(asks: &str) -> Result<Question, Fail> {
         "*" => Question::Holders(SERVER, Name::any(b"")?),
         _ => Question::Names(PEER, Name::any(b"")?),
     })
-}
-
-fn clock<R: AllocGlobal>(rt: &R, moments: &[u64]) -> Result<MemoryClock, Fail> {
-    let mut told = VecDeque::new(rt.alloc());
-    for ms in moments {
-        told.push_back(moment(*ms)?)?;
-    }
-    Ok(MemoryClock::new(told))
-}
-
-fn port<R: AllocGlobal>(rt: &R, given: &[Row]) -> Result<MemoryPort, Fail> {
-    let mut incoming = VecDeque::new(rt.alloc());
-    for (addr, words) in given {
-        let octets = octets(rt, words)?;
-        let is_one = !octets.is_empty();
-        let datagram = Datagram {
-            addr: *addr,
-            octets,
-        };
-        incoming.push_back(if is_one { Some(datagram) } else { None })?;
-    }
-    Ok(MemoryPort::new(rt.alloc(), incoming))
 }
 
 /// Plays one lookup of a node that starts at 0. Where a reply ended it, the last datagram given is what is left in the
@@ -106,24 +81,6 @@ fn play<R: Abort + AllocGlobal>(rt: &R, lookup: &Lookup) -> Result<(), Fail> {
     if ending == Ending::Told {
         let (_, words) = lookup.given.last().ok_or("nothing given")?;
         assert_eq!(rt; left.as_slice(), octets(rt, words)?.as_slice(), "{words}");
-    }
-    Ok(())
-}
-
-/// These were sent, in order.
-fn expect_sent<R: Abort + AllocGlobal>(
-    rt: &R,
-    port: &MemoryPort,
-    sent: &[Row],
-) -> Result<(), Fail> {
-    assert_eq!(rt; port.sent().len(), sent.len());
-    for (got, (addr, words)) in port.sent().iter().zip(sent) {
-        assert_eq!(rt; got.addr, *addr, "{words}");
-        assert_eq!(rt;
-            got.octets.as_slice(),
-            octets(rt, words)?.as_slice(),
-            "{words}"
-        );
     }
     Ok(())
 }

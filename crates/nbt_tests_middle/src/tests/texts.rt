@@ -2,7 +2,7 @@
 
 use nbt_name::Name;
 use nbt_text::laws::printed_name_is_read;
-use nbt_text::{parse_name, write_name};
+use nbt_text::{parse_name, with_octets, write_name};
 use std::process::Abort;
 
 fn expect_printed<R: Abort + AllocGlobal>(rt: &R, name: &Name, text: &str) {
@@ -95,6 +95,30 @@ fn names_that_are_printed_otherwise(rt: HostRuntime) {
         match parse_name(text.as_bytes()) {
             None => panic!(rt; "{text:?} is no name"),
             Some(name) => expect_printed(&rt, &name, printed),
+        }
+    }
+}
+
+#[test]
+fn octets_with_the_scope_of_a_name(rt: HostRuntime) {
+    let rows: [(&str, &[u8; 16], &str); 4] = [
+        ("A.NETBIOS.COM", b"FILER           ", "FILER.NETBIOS.COM"),
+        ("A", b"FILER           ", "FILER"),
+        (
+            "FRED.hex:2e",
+            b"FILER          \0",
+            "hex:46494c45522020202020202020202000.hex:2e",
+        ),
+        (
+            "FRED.COM",
+            b"*\0\0\0\0\0\0\0\0\0\0\0\0\0\0\0",
+            "hex:2a000000000000000000000000000000.COM",
+        ),
+    ];
+    for (scoped, octets, printed) in rows {
+        match parse_name(scoped.as_bytes()) {
+            None => panic!(rt; "{scoped:?} is no name"),
+            Some(name) => expect_printed(&rt, &with_octets(octets, &name), printed),
         }
     }
 }

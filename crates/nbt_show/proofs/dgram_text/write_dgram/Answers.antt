@@ -5,7 +5,7 @@ use Rattle.nbt_dgram.specs.Dgram.{dgram_of, decoded}
 use Rattle.nbt_dgram.specs.Fields.{octet_at}
 use Rattle.nbt_show.specs.DgramText.{dgram_stands, fault_stands, head_line, length_line}
 use Rattle.nbt_text.specs.Lines.{newline}
-use Rattle.nbt_show.specs.Words.{dgram_fault_word}
+use Rattle.nbt_dgram.specs.Numbers.{fault_word}
 use Rattle.nbt_show.proofs.Datagrams.{dgram_there, flags_there}
 use Rattle.nbt_text.proofs.Joining.{two_parts}
 use Rattle.nbt_show.proofs.dgram_text.write_dgram.Goals as goal
@@ -30,8 +30,8 @@ returns-in_ok-writeln-in-Ok c =
 pub returns-in_ok-writeln-in-Err : goal.returns-in_ok-writeln-in-Err
 returns-in_ok-writeln-in-Err c =
     let line = c.in_ok-writeln-in-Err.ensures.bytes in
-    let word = c.word_of_fault-word.ensures in (
-      codes "fault " ++ dgram_fault_word c.in-Err.fault.kind ++ codes " at " ++ decimal c.in-Err.fault.place ++ newline,
+    let word = c.word-word.ensures in (
+      codes "fault " ++ fault_word c.in-Err.fault.kind ++ codes " at " ++ decimal c.in-Err.fault.place ++ newline,
       rw (line, word) (simp append_assoc),
       fault_stands c.in-Err.fault ((c.decode.ensures.fault c.in-Err.fault).0 (ap decoded c.in-Err.is)),
     )

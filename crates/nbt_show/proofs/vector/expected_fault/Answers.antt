@@ -11,5 +11,5 @@ returns-in_ok-kind-in-Name c = λ e.
 
 pub returns-in_ok-kind-in-Dgram : goal.returns-in_ok-kind-in-Dgram
 returns-in_ok-kind-in-Dgram c = λ e.
-    dgram_fault _ _ _ c.dgram_kind_of.result c.place_of.result c.in_ok-kind-in-Dgram.kind c.in_ok-place.place e c.in-Dgram.is
-    c.dgram_kind_of.ensures c.in_ok-kind-in-Dgram.was c.place_of.ensures c.in_ok-place.was
+    dgram_fault _ _ _ c.from_word.result c.place_of.result c.in_ok-kind-in-Dgram.kind c.in_ok-place.place e c.in-Dgram.is
+    c.from_word.ensures c.in_ok-kind-in-Dgram.was c.place_of.ensures c.in_ok-place.was

@@ -1,38 +1,17 @@
-use Rattle.std.proofs.Common.{◌≡◌, ◌∙◌, ℕ, List, [], ◌∷◌, Bool, false, Some, inl, inr, length, refl, sym, arith, rules}
-use Rattle.std.specs.Prelude.{IsTrue, ◌↔◌, slice_get}
-use denote.Ref.{Bor}
 use Rattle.nbt_show.specs.Inner.Line.{passed_over, vector_stands, unreadable}
-use Rattle.nbt_text.specs.Texts.{texts}
-use Rattle.nbt_text.specs.Lines.{IsPassedOver, words}
 use Rattle.nbt_show.proofs.vector.parse_line.Goals as goal
 
-no_texts : (found : List (Bor (List ℕ))) → length found ≡ 0 → texts found ≡ []
-no_texts [] e = refl
-no_texts (w ∷ ws) e = absurd (omega arith)
+pub returns-in_default : goal.returns-in_default
+returns-in_default c = passed_over (rw c.in_default.is at c.in_ok-words.ensures)
 
-not_passed_over : (line : List ℕ) (found : List (Bor (List ℕ))) (remark : Bool) → (IsTrue remark ↔ (slice_get line 0 ≡ Some 35)) → remark ≡ false → texts found ≡ words line → ¬ (length found ≡ 0) → ¬ (IsPassedOver line)
-not_passed_over line found remark tells other these some (inl e) = let bad = tells.1 e in cc
-not_passed_over line [] remark tells other these some (inr e) = some refl
-not_passed_over line (w ∷ ws) remark tells other these some (inr e) = let bad = these ∙ e in cc
-
-pub returns-then-is_remark : goal.returns-then-is_remark
-returns-then-is_remark c = passed_over (inl (c.is_remark.ensures.0 c.if-is_remark.true))
-
-pub returns-then-is_empty : goal.returns-then-is_empty
-returns-then-is_empty c =
-    let none : length c.in_ok-words.words.items ≡ 0 = search rules in
-    passed_over (inr (sym c.in_ok-words.ensures ∙ no_texts c.in_ok-words.words.items none))
-
-pub returns-in-Some : goal.returns-in-Some
-returns-in-Some c =
-    let spelled = rw c.in-Some.is at c.in_ok-vector.ensures in
-    vector_stands c.in-Some.vector
-    (not_passed_over c.args.line.now c.in_ok-words.words.items c.is_remark.result c.is_remark.ensures c.if-is_remark.false c.in_ok-words.ensures (λ e. search rules))
-    (rw (← c.in_ok-words.ensures, ← c.as_slice.ensures.value) spelled)
+pub returns-in-Some-2 : goal.returns-in-Some-2
+returns-in-Some-2 c =
+    let words = rw c.in-Some.is at c.in_ok-words.ensures in
+    let spelled = rw c.in-Some-2.is at c.in_ok-vector.ensures in
+    vector_stands c.in-Some-2.vector words.0 (rw (← words.1, ← c.as_slice.ensures.value) spelled)
 
 pub returns : goal.returns
 returns c =
+    let words = rw c.in-Some.is at c.in_ok-words.ensures in
     let none = rw c.in-None.is at c.in_ok-vector.ensures in
-    unreadable
-    (not_passed_over c.args.line.now c.in_ok-words.words.items c.is_remark.result c.is_remark.ensures c.if-is_remark.false c.in_ok-words.ensures (λ e. search rules))
-    (rw (← c.in_ok-words.ensures, ← c.as_slice.ensures.value) none)
+    unreadable words.0 (rw (← words.1, ← c.as_slice.ensures.value) none)

@@ -1,8 +1,0 @@
-use Rattle.std.proofs.Common.{arith}
-use Rattle.nbt_sim.proofs.Reading.{poll_read}
-use Rattle.nbt_sim.proofs.Texts.{one_text}
-use Rattle.nbt_sim.proofs.instruction.poll_of.Goals as goal
-
-pub returns : goal.returns
-returns c = λ i. poll_read _ _ c.node_of.result c.in_ok-node_of.field-0 i (one_text c.args.words.now (omega (arith, c.in-len1.len_at_least, c.in-len1.len_below)))
-    c.node_of.ensures c.in_ok-node_of.was
