@@ -12,8 +12,6 @@ pub mod OnePacket
 pub mod Deciding
 -- the parts that the writer puts together are a node status's written form
 pub mod Written
--- numbers, ranges and names that were put somewhere are read back there
-pub mod Words
 -- sections that were written stand where they were put, and make a packet
 pub mod Shapes
 -- so each written form is a packet that spells its message

@@ -2,7 +2,7 @@
 use Rattle.std.proofs.Common.{◌≡◌, ℕ, ◌+◌, List, Option, Some, None, refl, sym, ap, subst, ◌∙◌, arith}
 use Rattle.std.specs.Prelude.{slice_range}
 use Rattle.nbt_name.specs.Reading.{NameAt}
-use Rattle.nbt_packet.specs.Fields.{word_at, long_at}
+use Rattle.nbt_name.specs.Words.{word_at, long_at}
 use Rattle.nbt_packet.specs.Packet.{PacketValue, QuestionAt, RecordAt, SectionAt, PacketIs}
 use Rattle.nbt_packet.specs.Message.{MessageValue}
 use Rattle.nbt_packet.specs.Spelling.{Spells}

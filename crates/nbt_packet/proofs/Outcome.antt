@@ -9,7 +9,7 @@ use Rattle.nbt_packet.specs.declared.fault.Fault.{Fault}
 use Rattle.nbt_packet.specs.declared.packet.Packet.{Packet}
 use Rattle.nbt_packet.specs.declared.packet.Question.{Question}
 use Rattle.nbt_packet.specs.Numbers.{fault_of, short, too_many}
-use Rattle.nbt_packet.specs.Fields.{word_at, long_at}
+use Rattle.nbt_name.specs.Words.{word_at, long_at}
 use Rattle.nbt_packet.specs.Packet.{RecordValue, PacketValue, QuestionAt, RecordAt, SectionAt, Count, questions, answers, authorities, additionals, CountsFit, IsHeader, PacketIs, QuestionFault, question_name, question_cut, RecordFault, record_name, record_cut, rdata_cut, PacketFault, header_cut, count_great, question_bad, answer_bad, additional_bad, packet_of, decoded}
 
 -- at each place one name or one fault

@@ -41,11 +41,7 @@ pub fn written_form_is_read()
     ensures spells { (m : MessageValue) (rest : List ℕ) → HoldsNumbers m → Fits m → Spells (text m ++ rest) m }
     ensures whole { (m : MessageValue) (rest : List ℕ) → HoldsNumbers m → Fits m
         → (p : PacketValue) × PacketIs (text m ++ rest) p (length (text m)) × MessageIs p m }
-{
-    nbt_name::laws::wire_form_is_read();
-    nbt_name::laws::plain_name_is_a_name();
-    nbt_name::laws::pointer_is_the_name_it_leads_to();
-}
+{}
 
 /// What is read can be written: a message that octets spell holds numbers in their ranges and a name, and fits.
 pub fn spelled_message_fits()
