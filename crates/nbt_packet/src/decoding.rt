@@ -8,7 +8,6 @@ ghost use Rattle.nbt_packet.specs.Packet.{PacketValue, QuestionAt, RecordAt, Sec
 ghost use Rattle.nbt_packet.specs.Inner.Decoding.{IsHeaderOf, CountFault};
 
 use crate::fault::{Fault, FaultKind};
-use crate::laws;
 use crate::packet::{Packet, Question, Record};
 use crate::wire::{ANCOUNT, ARCOUNT, FLAGS, HEADER, NAME_TRN_ID, NSCOUNT, QDCOUNT};
 use nbt_name::{NameFaultKind, read_in, read_long, read_word};
@@ -22,7 +21,6 @@ pub fn decode(octets: &[u8]) -> Result<(Packet<'_>, usize), Fault>
     ensures fault { (fault : Fault) → (decoded result ≡ Err fault) ↔ PacketFault octets.now fault }
     ensures within { IfOk result (λ read. read.1 ≤ length octets.now) }
 {
-    laws::one_packet_or_fault();
     packet_at(octets)
 }
 

@@ -19,9 +19,7 @@ pub fn one_packet_or_fault()
         → PacketFault octets f → PacketFault octets g → f ≡ g }
     ensures not_both { (octets : List ℕ) (packet : PacketValue) (n : ℕ) (fault : Fault) → AreOctets octets
         → PacketIs octets packet n → PacketFault octets fault → ⊥ }
-{
-    nbt_name::laws::one_name_or_fault();
-}
+{}
 
 /// No packet meets two lines of the table of messages.
 pub fn one_message()
@@ -31,9 +29,7 @@ pub fn one_message()
 /// No octets spell two messages.
 pub fn one_message_spelled()
     ensures { (octets : List ℕ) (m n : MessageValue) → Spells octets m → Spells octets n → m ≡ n }
-{
-    nbt_name::laws::one_name_or_fault();
-}
+{}
 
 /// The written form of each message that fits, followed by any octets, spells that message, and the packet takes the
 /// written form's length.
