@@ -1,7 +1,5 @@
-use Rattle.std.proofs.Common.{◌≡◌, ℕ, List, inl, inr}
-use Rattle.std.specs.Prelude.{◌⊎◌}
-use Rattle.nbt_packet.specs.declared.fault.Fault.{Fault}
-use Rattle.nbt_packet.specs.Packet.{PacketValue, PacketIs, PacketFault}
+use Rattle.std.proofs.Common.{◌≡◌, ℕ, inl, inr}
+use Rattle.nbt_packet.specs.Packet.{PacketValue}
 use Rattle.nbt_packet.proofs.OnePacket.{reads_packet}
 use Rattle.nbt_packet.proofs.laws.one_packet_or_fault.Goals as goal
 
