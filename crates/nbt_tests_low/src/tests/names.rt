@@ -5,8 +5,8 @@ use arrayvec::ArrayVec;
 use indexmap::IndexMap;
 use nbt_name::laws::plain_name_is_its_wire_form;
 use nbt_name::{
-    Name, NameFault, NameFaultKind, NameRefusal, put_long, put_word, read_in, read_long, read_plain,
-    read_word,
+    Name, NameFault, NameFaultKind, NameRefusal, put_long, put_word, read_in, read_long,
+    read_plain, read_word,
 };
 use std::collections::BTreeSet;
 use std::process::Abort;
@@ -53,7 +53,10 @@ fn names_are_their_wire_forms(rt: HostRuntime) -> Result<(), Fail> {
         let mut packet: ArrayVec<u8, 257> = ArrayVec::new();
         put_word(&mut packet, 0x2900);
         name.put_wire(&mut packet);
-        assert_eq!(rt; packet.as_slice().split_at(2), (b"\x29\x00".as_slice(), *wire));
+        assert!(rt;
+            packet.as_slice().starts_with(b"\x29\x00") && packet.as_slice().ends_with(wire)
+        );
+        assert_eq!(rt; packet.len(), 2 + wire.len());
         let (read, next) = read_plain(wire, 0)?;
         assert!(rt; read == name && name.copy() == name);
         assert_eq!(rt; next, wire.len());
