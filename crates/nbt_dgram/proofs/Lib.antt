@@ -1,6 +1,5 @@
 pub mod Octets
 pub mod OneDatagram
-pub mod Words
 pub mod ReadBack
 pub mod Cutting
 pub mod Marks

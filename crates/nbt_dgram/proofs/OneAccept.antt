@@ -14,7 +14,7 @@ use Rattle.nbt_dgram.specs.Dgram.{FragmentValue, BodyValue, fragment, error, loo
 use Rattle.nbt_dgram.specs.Text.{text}
 use Rattle.nbt_dgram.specs.Joiner.{JoinedValue, whole, waiting, dropped, JoinerValue, Puts}
 use Rattle.nbt_dgram.specs.Accepting.{AcceptValue, up, reply, told, waits, nothing, not_present, Hands, handed_up, refused, silent, unfinished, was_dropped, Accepts, unreadable, error_told, lookup_ignored, broadcast_ignored, is_put}
-use Rattle.nbt_dgram.proofs.OneDatagram.{NameLaws, one_dgram, not_both}
+use Rattle.nbt_dgram.proofs.OneDatagram.{reads_dgram}
 use Rattle.nbt_dgram.proofs.OnePut.{one_fragment, one_put}
 
 -- ---- what a whole datagram leads to
@@ -54,9 +54,9 @@ module _ (node : NodeValue) (now : ℕ) (own : Addr) (d : DgramValue) (delivery 
 
 -- ---- octets
 
-module _ (old : JoinerValue) (now : ℕ) (node : NodeValue) (own : Addr) (octets : List ℕ) (laws : NameLaws octets) where
+module _ (old : JoinerValue) (now : ℕ) (node : NodeValue) (own : Addr) (octets : List ℕ) where
   same : (c d : DgramValue) (n m : ℕ) → DgramIs octets c n → DgramIs octets d m → c ≡ d
-  same c d n m a b = ap (λ (x : DgramValue × ℕ). x.0) (one_dgram octets laws c d n m a b)
+  same c d n m a b = ap (λ (x : DgramValue × ℕ). x.0) ((reads_dgram octets).one_value (c, n) (d, m) a b)
 
   -- the body of the one datagram
   body_of_one : (c d : DgramValue) (n m : ℕ) (b : BodyValue) → DgramIs octets c n → DgramIs octets d m → d.body ≡ b → c.body ≡ b
@@ -64,13 +64,13 @@ module _ (old : JoinerValue) (now : ℕ) (node : NodeValue) (own : Addr) (octets
 
   fault_is : (f : DgramFault) (v : AcceptValue) (p : List ℕ) (y : JoinerValue) → FaultIs octets f → Accepts old now node own octets v p y → (nothing ≡ v) × ([] ≡ p) × (old ≡ y)
   fault_is f _ _ _ bad (unreadable _ _) = (refl, refl, refl)
-  fault_is f _ _ _ bad (error_told d n code is _) = absurd (not_both octets laws d n f is bad)
-  fault_is f _ _ _ bad (lookup_ignored d n l name is _) = absurd (not_both octets laws d n f is bad)
-  fault_is f _ _ _ bad (broadcast_ignored d n g is _ _) = absurd (not_both octets laws d n f is bad)
-  fault_is f _ _ _ bad (is_put d n g joined outcome sent new is _ _ _ _) = absurd (not_both octets laws d n f is bad)
+  fault_is f _ _ _ bad (error_told d n code is _) = absurd ((reads_dgram octets).not_both (d, n) f is bad)
+  fault_is f _ _ _ bad (lookup_ignored d n l name is _) = absurd ((reads_dgram octets).not_both (d, n) f is bad)
+  fault_is f _ _ _ bad (broadcast_ignored d n g is _ _) = absurd ((reads_dgram octets).not_both (d, n) f is bad)
+  fault_is f _ _ _ bad (is_put d n g joined outcome sent new is _ _ _ _) = absurd ((reads_dgram octets).not_both (d, n) f is bad)
 
   error_is : (c : DgramValue) (m k : ℕ) (v : AcceptValue) (p : List ℕ) (y : JoinerValue) → DgramIs octets c m → c.body ≡ error k → Accepts old now node own octets v p y → (told c.id k ≡ v) × ([] ≡ p) × (old ≡ y)
-  error_is c m k _ _ _ at b (unreadable f bad) = absurd (not_both octets laws c m f at bad)
+  error_is c m k _ _ _ at b (unreadable f bad) = absurd ((reads_dgram octets).not_both (c, m) f at bad)
   error_is c m k _ _ _ at b (error_told d n code is body) =
       let e : error k ≡ error code = sym b ∙ body_of_one c d m n (error code) at is body in
       let codes : k ≡ code = cc in
@@ -98,7 +98,7 @@ module _ (old : JoinerValue) (now : ℕ) (node : NodeValue) (own : Addr) (octets
 
   put_is : (c : DgramValue) (m : ℕ) (f : FragmentValue) (j : JoinedValue) (u : AcceptValue) (o : List ℕ) (x : JoinerValue) (v : AcceptValue) (p : List ℕ) (y : JoinerValue) → DgramIs octets c m → c.body ≡ fragment f → (f.delivery ≡ Broadcast → ⊥)
       → Puts old now c j x → Hands node now own c f.delivery j u o → Accepts old now node own octets v p y → (u ≡ v) × (o ≡ p) × (x ≡ y)
-  put_is c m f j u o x _ _ _ at b some puts hands (unreadable g bad) = absurd (not_both octets laws c m g at bad)
+  put_is c m f j u o x _ _ _ at b some puts hands (unreadable g bad) = absurd ((reads_dgram octets).not_both (c, m) g at bad)
   put_is c m f j u o x _ _ _ at b some puts hands (error_told d n code is body) = absurd (let e : fragment f ≡ error code = sym b ∙ body_of_one c d m n (error code) at is body in cc)
   put_is c m f j u o x _ _ _ at b some puts hands (lookup_ignored d n l name is body) = absurd (let e : fragment f ≡ lookup l name = sym b ∙ body_of_one c d m n (lookup l name) at is body in cc)
   put_is c m f j u o x _ _ _ at b some puts hands (broadcast_ignored d n g is body all) =

@@ -1,117 +1,27 @@
--- What octets spell is determined: one datagram, or one fault. It is computed here from what each name's place gives.
-use Rattle.std.proofs.Common.{◌≡◌, ℕ, zero, suc, ◌<◌, ◌≤◌, Bool, true, false, cond, ltb, eqb, List, [], ◌∷◌, length, take, Result, Ok, Err, refl, sym, ap, subst, ◌∙◌, arith, inl, inr, lt-ltb, le-ltb}
-use Rattle.std.specs.Prelude.{◌⊎◌, ◌↔◌, IfOk, IfErr, slice_range}
+-- Octets begin with one datagram, or have one fault: the type, the head, and what stands after it.
+use Rattle.std.proofs.Common.{◌≡◌, ℕ, ◌<◌, ◌≤◌, Bool, true, false, cond, eqb, List, length, refl, sym, ap, subst, ◌∙◌, arith, inl, inr}
+use Rattle.std.specs.Prelude.{◌⊎◌, slice_range}
 use Rattle.std.proofs.lemmas.Bool.{cases_lt, cases_eq}
 use Rattle.nbt_name.specs.declared.fault.NameFault.{NameFault}
+use Rattle.nbt_name.specs.declared.form.Form.TheVariants.{Plain}
+use Rattle.nbt_name.specs.Words.{word_at, long_at}
 use Rattle.nbt_name.specs.Wire.{NameValue, AreOctets}
 use Rattle.nbt_name.specs.Reading.{PlainNameAt, PlainFaultAt}
+use Rattle.nbt_name.proofs.Fits.{octets_take}
+use Rattle.nbt_name.proofs.Readers.{Reads, reads_this, reads_up_to, reads_name, reads_same, reads_as, reads_then}
 use Rattle.nbt_dgram.specs.declared.fault.DgramFault.{DgramFault}
 use Rattle.nbt_dgram.specs.declared.msg_type.Delivery.{Delivery}
 use Rattle.nbt_dgram.specs.declared.msg_type.Delivery.TheVariants.{DirectUnique, DirectGroup, Broadcast}
+use Rattle.nbt_dgram.specs.declared.msg_type.Lookup.{Lookup}
 use Rattle.nbt_dgram.specs.declared.msg_type.Lookup.TheVariants.{Request, Positive, Negative}
 use Rattle.nbt_dgram.specs.declared.msg_type.MsgType.{MsgType}
 use Rattle.nbt_dgram.specs.declared.msg_type.MsgType.TheVariants as types
 use Rattle.nbt_dgram.specs.declared.dgram.Names.{Names}
 use Rattle.nbt_dgram.specs.declared.dgram.Part.{Part}
 use Rattle.nbt_dgram.specs.declared.dgram.Part.TheVariants.{First, Later}
-use Rattle.nbt_dgram.specs.declared.dgram.Dgram.{Dgram}
 use Rattle.nbt_dgram.specs.Numbers.{type_number, head_size, fault_of, fault_within, short, bad_type, bad_offset}
-use Rattle.nbt_dgram.specs.Fields.{octet_at, word_at, long_at, first_at, more_at, offset_at, end_at, within}
-use Rattle.nbt_dgram.specs.Dgram.{FragmentValue, BodyValue, fragment, error, lookup, DgramValue, type_of, IsTypeAt, NamesAt, PartAt, FragmentAt, BodyAt, DgramIs, NamesFault, source_bad, destination_bad, FragmentFault, offset_bad, fragment_cut, names_bad, FaultIs, nothing_there, type_bad, head_cut, fragment_bad, lookup_bad, dgram_of, decoded}
-
--- ---- the octets up to a place are octets
-
-pub take_fits : (n : ℕ) (octets : List ℕ) → AreOctets octets → AreOctets (take n octets)
-take_fits zero octets fits k = omega arith
-take_fits (suc n) [] fits k = omega arith
-take_fits (suc n) (x ∷ xs) fits zero = fits 0
-take_fits (suc n) (x ∷ xs) fits (suc k) = take_fits n xs (λ j. fits (suc j)) k
-
--- ---- each place gives one name or one fault
-
-pub record NameLaw (octets : List ℕ) : Type 0 where
-  pub found : (place : ℕ) → ((name : NameValue) × (next : ℕ) × PlainNameAt octets place name next) ⊎ ((fault : NameFault) × PlainFaultAt octets place fault)
-  pub one_name : (place : ℕ) (a b : NameValue) (x y : ℕ) → PlainNameAt octets place a x → PlainNameAt octets place b y → (a ≡ b) × (x ≡ y)
-  pub one_fault : (place : ℕ) (f g : NameFault) → PlainFaultAt octets place f → PlainFaultAt octets place g → f ≡ g
-  pub not_both : (place : ℕ) (name : NameValue) (next : ℕ) (fault : NameFault) → PlainNameAt octets place name next → PlainFaultAt octets place fault → ⊥
-
--- of a datagram's octets, and of those that DGM_LENGTH counts
-pub record NameLaws (octets : List ℕ) : Type 0 where
-  pub all : NameLaw octets
-  pub counted : NameLaw (within octets)
-
-Read : Type 0
-Read = Result (NameValue × ℕ) NameFault
-
-name_of : {octets : List ℕ} {place : ℕ} → ((name : NameValue) × (next : ℕ) × PlainNameAt octets place name next) ⊎ ((fault : NameFault) × PlainFaultAt octets place fault) → Result (NameValue × ℕ) NameFault
-name_of (inl (name, next, at)) = Ok (name, next)
-name_of (inr (fault, at)) = Err fault
-
--- names as their places give them
-record Gives (octets : List ℕ) (names : ℕ → Result (NameValue × ℕ) NameFault) : Type 0 where
-  name : (place : ℕ) (name : NameValue) (next : ℕ) → PlainNameAt octets place name next → names place ≡ Ok (name, next)
-  fault : (place : ℕ) (fault : NameFault) → PlainFaultAt octets place fault → names place ≡ Err fault
-
-name_given : (octets : List ℕ) (law : NameLaw octets) (place : ℕ) (name : NameValue) (next : ℕ) → PlainNameAt octets place name next → name_of (law.found place) ≡ Ok (name, next)
-unfolding name_of
-name_given octets law place name next at = by_cases (law.found place)
-  where
-    by_cases : (found : ((name : NameValue) × (next : ℕ) × PlainNameAt octets place name next) ⊎ ((fault : NameFault) × PlainFaultAt octets place fault)) → name_of found ≡ Ok (name, next)
-    by_cases (inl (other, end, there)) = let same = law.one_name place other name end next there at in λ i. Ok (same.0 i, same.1 i)
-    by_cases (inr (fault, there)) = absurd (law.not_both place name next fault at there)
-
-fault_given : (octets : List ℕ) (law : NameLaw octets) (place : ℕ) (fault : NameFault) → PlainFaultAt octets place fault → name_of (law.found place) ≡ Err fault
-unfolding name_of
-fault_given octets law place fault at = by_cases (law.found place)
-  where
-    by_cases : (found : ((name : NameValue) × (next : ℕ) × PlainNameAt octets place name next) ⊎ ((fault : NameFault) × PlainFaultAt octets place fault)) → name_of found ≡ Err fault
-    by_cases (inl (name, next, there)) = absurd (law.not_both place name next fault there at)
-    by_cases (inr (other, there)) = ap {B = Result (NameValue × ℕ) NameFault} Err (law.one_fault place other fault there at)
-
-gives_by : (octets : List ℕ) (law : NameLaw octets) → Gives octets (λ place. name_of (law.found place))
-gives_by octets law = record { name = name_given octets law; fault = fault_given octets law }
-
--- ---- what is computed
-
-then_read : {X Y : Type 0} → Result X DgramFault → (X → Result Y DgramFault) → Result Y DgramFault
-then_read (Ok x) next = next x
-then_read (Err fault) next = Err fault
-
--- after a name within what DGM_LENGTH counts, and after any other
-behind : {X : Type 0} → Result (NameValue × ℕ) NameFault → (NameValue → ℕ → Result X DgramFault) → Result X DgramFault
-behind (Ok read) next = next read.0 read.1
-behind (Err fault) next = Err (fault_within fault)
-
-after : {X : Type 0} → Result (NameValue × ℕ) NameFault → (NameValue → ℕ → Result X DgramFault) → Result X DgramFault
-after (Ok read) next = next read.0 read.1
-after (Err fault) next = Err (fault_of fault)
-
-names_given : (ℕ → Result (NameValue × ℕ) NameFault) → Result (Names × ℕ) DgramFault
-names_given names = behind (names 14) (λ source named. behind (names named) (λ destination next. Ok (record { source = source; destination = destination }, next)))
-
-value : List ℕ → Delivery → Part → ℕ → FragmentValue
-value octets delivery part begin = record { delivery = delivery; part = part; more = more_at octets; payload = slice_range octets begin (end_at octets) }
-
-counted : {Y : Type 0} → List ℕ → Result Y DgramFault → Result Y DgramFault
-counted octets next = cond (ltb (length octets) (end_at octets)) (Err (short octets)) next
-
-first_given : (ℕ → Result (NameValue × ℕ) NameFault) → List ℕ → Delivery → Result (FragmentValue × ℕ) DgramFault
-first_given names octets delivery =
-    cond (ltb 0 (offset_at octets)) (Err bad_offset) (counted octets (then_read (names_given names) (λ read. Ok (value octets delivery (First read.0) read.1, end_at octets))))
-
-fragment_given : (ℕ → Result (NameValue × ℕ) NameFault) → List ℕ → Delivery → Result (FragmentValue × ℕ) DgramFault
-fragment_given names octets delivery =
-    cond (first_at octets) (first_given names octets delivery) (counted octets (Ok (value octets delivery (Later (offset_at octets)) 14, end_at octets)))
-
-body_given : (counts all : ℕ → Result (NameValue × ℕ) NameFault) → List ℕ → MsgType → Result (BodyValue × ℕ) DgramFault
-body_given counts all octets (types.Data delivery) = then_read (fragment_given counts octets delivery) (λ read. Ok (fragment read.0, read.1))
-body_given counts all octets types.Error = Ok (error (octet_at octets 10), 11)
-body_given counts all octets (types.Lookup l) = after (all 10) (λ name next. Ok (lookup l name, next))
-
-headed : (counts all : ℕ → Result (NameValue × ℕ) NameFault) → List ℕ → MsgType → Result (DgramValue × ℕ) DgramFault
-headed counts all octets t =
-    cond (ltb (length octets) (head_size t)) (Err (short octets))
-    (then_read (body_given counts all octets t) (λ read. Ok (record { id = word_at octets 2; source = record { ip = long_at octets 4; port = word_at octets 8 }; body = read.0 }, read.1)))
+use Rattle.nbt_dgram.specs.Fields.{octet_at, first_at, more_at, offset_at, end_at, within}
+use Rattle.nbt_dgram.specs.Dgram.{FragmentValue, BodyValue, fragment, error, lookup, DgramValue, type_of, IsTypeAt, NamesAt, PartAt, FragmentAt, BodyAt, DgramIs, NamesFault, source_bad, destination_bad, FragmentFault, offset_bad, fragment_cut, names_bad, FaultIs, nothing_there, type_bad, head_cut, fragment_bad, lookup_bad}
 
 -- ---- the type that a number is
 
@@ -171,205 +81,213 @@ type_cases n =
     none n a b c d f g h (types.Lookup Positive) = g
     none n a b c d f g h (types.Lookup Negative) = h
 
-typed : (n : ℕ) → (counts all : ℕ → Result (NameValue × ℕ) NameFault) → List ℕ → IsOfType n → Result (DgramValue × ℕ) DgramFault
-unfolding IsOfType
-typed n counts all octets (inl (t, is)) = headed counts all octets t
-typed n counts all octets (inr none) = Err bad_type
+-- ---- the parts, from within
 
-dgram_given : (counts all : ℕ → Result (NameValue × ℕ) NameFault) → List ℕ → Result (DgramValue × ℕ) DgramFault
-dgram_given counts all octets = cond (ltb 0 (length octets)) (typed (octet_at octets 0) counts all octets (type_cases (octet_at octets 0))) (Err (short octets))
+module _ (octets : List ℕ) where
+  -- the names, in the octets that DGM_LENGTH counts
+  abbrev counted : List ℕ
+  counted = within octets
 
--- ---- what stands is what is computed
+  -- what may be wrong with them, and likewise below
+  abbrev NamesBad : DgramFault → Type 0
+  NamesBad f =
+      ((n : NameFault) × PlainFaultAt counted 14 n × (fault_within n ≡ f))
+      ⊎ ((x : NameValue × ℕ) × PlainNameAt counted 14 x.0 x.1 × (((n : NameFault) × PlainFaultAt counted x.1 n × (fault_within n ≡ f)) ⊎ ((y : NameValue × ℕ) × PlainNameAt counted x.1 y.0 y.1 × ⊥)))
 
-names_read : (octets : List ℕ) (names : ℕ → Result (NameValue × ℕ) NameFault) → Gives octets names → (ns : Names) (next : ℕ) → NamesAt octets ns next → names_given names ≡ Ok (ns, next)
-unfolding names_given behind
-names_read octets names gives ns next at = rw (gives.name 14 ns.source at.named at.source, gives.name at.named ns.destination next at.destination) refl
+  counted_name : (place : ℕ) → Reads {X = NameValue × ℕ} {F = DgramFault} (AreOctets octets) (λ x. PlainNameAt counted place x.0 x.1) (λ f. (n : NameFault) × PlainFaultAt counted place n × (fault_within n ≡ f))
+  counted_name place = reads_name Plain counted (λ fits. octets_take (end_at octets) octets fits) fault_within place
 
-names_fail : (octets : List ℕ) (names : ℕ → Result (NameValue × ℕ) NameFault) → Gives octets names → (fault : DgramFault) → NamesFault octets fault → names_given names ≡ Err fault
-unfolding names_given behind
-names_fail octets names gives _ (source_bad fault at) = rw (gives.fault 14 fault at) refl
-names_fail octets names gives _ (destination_bad name named fault source at) = rw (gives.name 14 name named source, gives.fault named fault at) refl
+  reads_names : Reads {X = Names × ℕ} {F = DgramFault} (AreOctets octets) (λ x. NamesAt counted x.0 x.1) (NamesFault counted)
+  reads_names =
+      reads_same
+      (reads_then (counted_name 14) (λ s at. reads_then (counted_name s.1) (λ d there. reads_this (record { source = s.0; destination = d.0 }, d.1))))
+      (λ y is. subst (λ (z : Names × ℕ). NamesAt counted z.0 z.1) (sym is.2.2) (record { named = is.0.1; source = is.1; destination = is.2.1 }))
+      (λ y n. ((y.0.source, n.named), n.source, ((y.0.destination, y.1), n.destination, refl)))
+      to_fault from_fault
+    where
+      to_fault : (f : DgramFault) → NamesBad f → NamesFault counted f
+      to_fault f (inl (n, at, e)) = subst (NamesFault counted) e (source_bad n at)
+      to_fault f (inr (x, source, inl (n, at, e))) = subst (NamesFault counted) e (destination_bad x.0 x.1 n source at)
+      to_fault f (inr (x, source, inr (y, at, never))) = absurd never
 
-counted_past : {Y : Type 0} (octets : List ℕ) (next : Result Y DgramFault) → end_at octets ≤ length octets → counted octets next ≡ next
-unfolding counted
-counted_past octets next whole = rw (le-ltb (length octets) (end_at octets) whole) refl
+      from_fault : (f : DgramFault) → NamesFault counted f → NamesBad f
+      from_fault _ (source_bad n at) = inl (n, at, refl)
+      from_fault _ (destination_bad name named n source at) = inr ((name, named), source, inl (n, at, refl))
 
-counted_cut : {Y : Type 0} (octets : List ℕ) (next : Result Y DgramFault) → length octets < end_at octets → counted octets next ≡ Err (short octets)
-unfolding counted
-counted_cut octets next cut = rw (lt-ltb (length octets) (end_at octets) cut) refl
+  -- ---- a fragment
 
-part_read : (octets : List ℕ) (names : ℕ → Result (NameValue × ℕ) NameFault) → Gives (within octets) names → (delivery : Delivery) (part : Part) (begin : ℕ) → end_at octets ≤ length octets → PartAt octets part begin
-    → fragment_given names octets delivery ≡ Ok (value octets delivery part begin, end_at octets)
-unfolding fragment_given first_given then_read
-part_read octets names gives delivery (First ns) begin whole at =
-    let zero : offset_at octets ≤ 0 = omega (arith, at.1) in
-    rw (at.0, le-ltb 0 (offset_at octets) zero, counted_past {Y = FragmentValue × ℕ} octets (then_read (names_given names) (λ read. Ok (value octets delivery (First read.0) read.1, end_at octets))) whole, names_read (within octets) names gives ns begin at.2) refl
-part_read octets names gives delivery (Later offset) begin whole at =
-    rw (at.0, counted_past {Y = FragmentValue × ℕ} octets (Ok (value octets delivery (Later (offset_at octets)) 14, end_at octets)) whole, at.1, at.2) refl
+  abbrev fragment_value : Delivery → Part → ℕ → FragmentValue × ℕ
+  fragment_value delivery part begin = (record { delivery = delivery; part = part; more = more_at octets; payload = slice_range octets begin (end_at octets) }, end_at octets)
 
-fragment_read : (octets : List ℕ) (names : ℕ → Result (NameValue × ℕ) NameFault) → Gives (within octets) names → (f : FragmentValue) (next : ℕ) → FragmentAt octets f next → fragment_given names octets f.delivery ≡ Ok (f, next)
-unfolding value
-fragment_read octets names gives f next at = part_read octets names gives f.delivery f.part at.begin at.whole at.part ∙ same f (sym at.more) (sym at.payload) (sym at.next_is)
-  where
-    same : (f : FragmentValue) {m : Bool} {p : List ℕ} {n : ℕ} → m ≡ f.more → p ≡ f.payload → n ≡ next
-        → ◌≡◌ {A = Result (FragmentValue × ℕ) DgramFault} (Ok (record { delivery = f.delivery; part = f.part; more = m; payload = p }, n)) (Ok (f, next))
-    same f e g h = λ i. Ok (record { delivery = f.delivery; part = f.part; more = e i; payload = g i }, h i)
+  abbrev IsFragment : Delivery → FragmentValue × ℕ → Type 0
+  IsFragment delivery x = (x.0.delivery ≡ delivery) × FragmentAt octets x.0 x.1
 
-fragment_fails : (octets : List ℕ) (names : ℕ → Result (NameValue × ℕ) NameFault) → Gives (within octets) names → (delivery : Delivery) (fault : DgramFault) → FragmentFault octets fault → fragment_given names octets delivery ≡ Err fault
-unfolding fragment_given first_given then_read
-fragment_fails octets names gives delivery _ (offset_bad first more) =
-    let above : 0 < offset_at octets = omega (arith, more) in
-    rw (first, lt-ltb 0 (offset_at octets) above) refl
-fragment_fails octets names gives delivery _ (fragment_cut at_zero cut) = by_first (first_at octets) refl
-  where
-    by_first : (b : Bool) → first_at octets ≡ b → fragment_given names octets delivery ≡ Err (short octets)
-    by_first true first =
-        let zero : offset_at octets ≤ 0 = omega (arith, at_zero first) in
-        rw (first, le-ltb 0 (offset_at octets) zero) (counted_cut octets _ cut)
-    by_first false first = rw first (counted_cut octets _ cut)
-fragment_fails octets names gives delivery _ (names_bad fault first at_zero whole bad) =
-    let none : offset_at octets ≤ 0 = omega (arith, at_zero) in
-    rw (first, le-ltb 0 (offset_at octets) none, counted_past {Y = FragmentValue × ℕ} octets (then_read (names_given names) (λ read. Ok (value octets delivery (First read.0) read.1, end_at octets))) whole, names_fail (within octets) names gives fault bad) refl
+  -- the first one, after F
+  abbrev FirstIs : Delivery → FragmentValue × ℕ → Type 0
+  FirstIs delivery x = (u : Unit {0}) × (offset_at octets ≤ 0) × ((v : Unit {0}) × (end_at octets ≤ length octets) × ((n : Names × ℕ) × NamesAt counted n.0 n.1 × (x ≡ fragment_value delivery (First n.0) n.1)))
 
-body_read : (octets : List ℕ) (counts all : ℕ → Result (NameValue × ℕ) NameFault) → Gives (within octets) counts → Gives octets all → (body : BodyValue) (next : ℕ) → BodyAt octets body next
-    → body_given counts all octets (type_of body) ≡ Ok (body, next)
-unfolding body_given then_read after
-body_read octets counts all inner outer (fragment f) next at = rw (fragment_read octets counts inner f next at) refl
-body_read octets counts all inner outer (error code) next at = rw (at.0, at.1) refl
-body_read octets counts all inner outer (lookup l name) next at = rw (outer.name 10 name next at) refl
+  abbrev FirstBad : DgramFault → Type 0
+  FirstBad f =
+      ((f ≡ bad_offset) × (0 < offset_at octets)) ⊎ ((u : Unit {0}) × (offset_at octets ≤ 0) × (((f ≡ short octets) × (length octets < end_at octets)) ⊎ ((v : Unit {0}) × (end_at octets ≤ length octets)
+      × (NamesFault counted f ⊎ ((n : Names × ℕ) × NamesAt counted n.0 n.1 × ⊥)))))
 
-typed_known : (octets : List ℕ) (counts all : ℕ → Result (NameValue × ℕ) NameFault) (t : MsgType) → IsTypeAt octets t → dgram_given counts all octets ≡ headed counts all octets t
-unfolding dgram_given typed IsOfType
-typed_known octets counts all t is = rw (lt-ltb 0 (length octets) is.0) (by_cases (type_cases (octet_at octets 0)))
-  where
-    by_cases : (found : IsOfType (octet_at octets 0)) → typed (octet_at octets 0) counts all octets found ≡ headed counts all octets t
-    by_cases (inl (u, e)) = ap (headed counts all octets) (one_type u t (sym e ∙ is.1))
-    by_cases (inr none) = absurd (none t is.1)
+  first_fragment : (delivery : Delivery) → first_at octets ≡ true → Reads {X = FragmentValue × ℕ} {F = DgramFault} (AreOctets octets) (IsFragment delivery) (FragmentFault octets)
+  first_fragment delivery first =
+      reads_same
+      (reads_then (reads_up_to (offset_at octets) 0 bad_offset) (λ u none. reads_then (reads_up_to (end_at octets) (length octets) (short octets)) (λ v whole.
+      reads_then reads_names (λ n at. reads_this (fragment_value delivery (First n.0) n.1)))))
+      to_value (λ x is. from_value x is.0 is.1 x.0.part refl is.1.part) to_fault from_fault
+    where
+      to_value : (x : FragmentValue × ℕ) → FirstIs delivery x → IsFragment delivery x
+      to_value x (u, none, (v, whole, (n, at, e))) =
+          subst (IsFragment delivery) (sym e) (refl, record { begin = n.1; whole = whole; part = (first, omega arith, at); more = refl; payload = refl; next_is = refl })
 
-dgram_read : (octets : List ℕ) (counts all : ℕ → Result (NameValue × ℕ) NameFault) → Gives (within octets) counts → Gives octets all → (d : DgramValue) (n : ℕ) → DgramIs octets d n → dgram_given counts all octets ≡ Ok (d, n)
-unfolding headed then_read
-dgram_read octets counts all inner outer d n is =
-    typed_known octets counts all (type_of d.body) is.type
-    ∙ rw (le-ltb (length octets) (head_size (type_of d.body)) is.head, body_read octets counts all inner outer d.body n is.body) (same d (sym is.id) (sym is.ip) (sym is.port))
-  where
-    same : (d : DgramValue) {a b c : ℕ} → a ≡ d.id → b ≡ d.source.ip → c ≡ d.source.port
-        → ◌≡◌ {A = Result (DgramValue × ℕ) DgramFault} (Ok (record { id = a; source = record { ip = b; port = c }; body = d.body }, n)) (Ok (d, n))
-    same d e f g = λ i. Ok (record { id = e i; source = record { ip = f i; port = g i }; body = d.body }, n)
+      from_value : (x : FragmentValue × ℕ) → x.0.delivery ≡ delivery → (f : FragmentAt octets x.0 x.1) → (part : Part) → x.0.part ≡ part → PartAt octets part f.begin → FirstIs delivery x
+      from_value x same f (First names) e at =
+          (tt, omega (arith, at.1), (tt, f.whole, ((names, f.begin), at.2, λ i. (record { delivery = same i; part = e i; more = f.more i; payload = f.payload i }, f.next_is i))))
+      from_value x same f (Later offset) e at = absurd (let clash : true ≡ false = sym first ∙ at.0 in cc)
 
-dgram_fails : (octets : List ℕ) (counts all : ℕ → Result (NameValue × ℕ) NameFault) → Gives (within octets) counts → Gives octets all → (fault : DgramFault) → FaultIs octets fault → dgram_given counts all octets ≡ Err fault
-unfolding dgram_given headed body_given then_read after typed IsOfType
-dgram_fails octets counts all inner outer _ (nothing_there none) =
-    let empty : length octets ≤ 0 = omega (arith, none) in
-    rw (le-ltb 0 (length octets) empty) refl
-dgram_fails octets counts all inner outer _ (type_bad some none) = rw (lt-ltb 0 (length octets) some) (by_cases (type_cases (octet_at octets 0)))
-  where
-    by_cases : (found : IsOfType (octet_at octets 0)) → typed (octet_at octets 0) counts all octets found ≡ Err bad_type
-    by_cases (inl (u, e)) = absurd (none u e)
-    by_cases (inr other) = refl
-dgram_fails octets counts all inner outer _ (head_cut t is cut) = typed_known octets counts all t is ∙ rw (lt-ltb (length octets) (head_size t) cut) refl
-dgram_fails octets counts all inner outer fault (fragment_bad delivery _ is head bad) =
-    typed_known octets counts all (types.Data delivery) is ∙ rw (le-ltb (length octets) 14 head, fragment_fails octets counts inner delivery fault bad) refl
-dgram_fails octets counts all inner outer _ (lookup_bad l fault is head bad) =
-    typed_known octets counts all (types.Lookup l) is ∙ rw (le-ltb (length octets) 10 head, outer.fault 10 fault bad) refl
+      to_fault : (f : DgramFault) → FirstBad f → FragmentFault octets f
+      to_fault f (inl (e, more)) = subst (FragmentFault octets) (sym e) (offset_bad first (λ zero_there. omega (arith, more, zero_there)))
+      to_fault f (inr (u, none, inl (e, less))) = subst (FragmentFault octets) (sym e) (fragment_cut (λ f. omega (arith, none)) less)
+      to_fault f (inr (u, none, inr (v, whole, inl bad))) = names_bad f first (omega (arith, none)) whole bad
+      to_fault f (inr (u, none, inr (v, whole, inr (n, at, never)))) = absurd never
 
--- ---- so it is one
+      from_fault : (f : DgramFault) → FragmentFault octets f → FirstBad f
+      from_fault _ (offset_bad f other) = inl (refl, omega (arith, other))
+      from_fault _ (fragment_cut none less) = inr (tt, omega (arith, none first), inl (refl, less))
+      from_fault f (names_bad _ is none whole bad) = inr (tt, omega (arith, none), inr (tt, whole, inl bad))
 
-pub one_dgram : (octets : List ℕ) → NameLaws octets → (c d : DgramValue) (n m : ℕ) → DgramIs octets c n → DgramIs octets d m → ◌≡◌ {A = DgramValue × ℕ} (c, n) (d, m)
-one_dgram octets laws c d n m a b =
-    let e = sym (dgram_read octets _ _ (gives_by (within octets) laws.counted) (gives_by octets laws.all) c n a)
-    ∙ dgram_read octets _ _ (gives_by (within octets) laws.counted) (gives_by octets laws.all) d m b in cc
+  -- a later one, without F
+  later_fragment : (delivery : Delivery) → first_at octets ≡ false → Reads {X = FragmentValue × ℕ} {F = DgramFault} (AreOctets octets) (IsFragment delivery) (FragmentFault octets)
+  later_fragment delivery later =
+      reads_same
+      (reads_then (reads_up_to (end_at octets) (length octets) (short octets)) (λ v whole. reads_this (fragment_value delivery (Later (offset_at octets)) 14)))
+      (λ x is. subst (IsFragment delivery) (sym is.2) (refl, record { begin = 14; whole = is.1; part = (later, refl, refl); more = refl; payload = refl; next_is = refl }))
+      (λ x is. from_value x is.0 is.1 x.0.part refl is.1.part)
+      (λ f bad. elim bad [ inl b ↦ subst (FragmentFault octets) (sym b.0) (fragment_cut (λ first. absurd (clash first)) b.1) | inr b ↦ absurd b.2 ]) from_fault
+    where
+      clash : first_at octets ≡ true → ⊥
+      clash first = let e : true ≡ false = sym first ∙ later in cc
 
-pub one_fault : (octets : List ℕ) → NameLaws octets → (f g : DgramFault) → FaultIs octets f → FaultIs octets g → f ≡ g
-one_fault octets laws f g a b =
-    let e = sym (dgram_fails octets _ _ (gives_by (within octets) laws.counted) (gives_by octets laws.all) f a)
-    ∙ dgram_fails octets _ _ (gives_by (within octets) laws.counted) (gives_by octets laws.all) g b in cc
+      from_value : (x : FragmentValue × ℕ) → x.0.delivery ≡ delivery → (f : FragmentAt octets x.0 x.1) → (part : Part) → x.0.part ≡ part → PartAt octets part f.begin
+          → (v : Unit {0}) × (end_at octets ≤ length octets) × (x ≡ fragment_value delivery (Later (offset_at octets)) 14)
+      from_value x same f (First names) e at = absurd (clash at.0)
+      from_value x same f (Later offset) e at =
+          let part : x.0.part ≡ Later (offset_at octets) = e ∙ ap Later at.1 in
+          let payload : x.0.payload ≡ slice_range octets 14 (end_at octets) = f.payload ∙ ap (λ (k : ℕ). slice_range octets k (end_at octets)) at.2 in
+          (tt, f.whole, λ i. (record { delivery = same i; part = part i; more = f.more i; payload = payload i }, f.next_is i))
 
-pub not_both : (octets : List ℕ) → NameLaws octets → (d : DgramValue) (n : ℕ) (f : DgramFault) → DgramIs octets d n → FaultIs octets f → ⊥
-not_both octets laws d n f a b =
-    let e = sym (dgram_read octets _ _ (gives_by (within octets) laws.counted) (gives_by octets laws.all) d n a)
-    ∙ dgram_fails octets _ _ (gives_by (within octets) laws.counted) (gives_by octets laws.all) f b in cc
+      from_fault : (f : DgramFault) → FragmentFault octets f → ((f ≡ short octets) × (length octets < end_at octets)) ⊎ ((v : Unit {0}) × (end_at octets ≤ length octets) × ⊥)
+      from_fault _ (offset_bad first other) = absurd (clash first)
+      from_fault _ (fragment_cut none less) = inl (refl, less)
+      from_fault f (names_bad _ first none whole bad) = absurd (clash first)
 
--- ---- and there is one
+  reads_fragment : (delivery : Delivery) → Reads {X = FragmentValue × ℕ} {F = DgramFault} (AreOctets octets) (IsFragment delivery) (FragmentFault octets)
+  reads_fragment delivery = by_first (first_at octets) refl
+    where
+      by_first : (b : Bool) → first_at octets ≡ b → Reads {X = FragmentValue × ℕ} {F = DgramFault} (AreOctets octets) (IsFragment delivery) (FragmentFault octets)
+      by_first true first = first_fragment delivery first
+      by_first false later = later_fragment delivery later
 
-fragment_found : (octets : List ℕ) → NameLaw (within octets) → 14 ≤ length octets → (delivery : Delivery)
-    → ((f : FragmentValue) × (next : ℕ) × (f.delivery ≡ delivery) × FragmentAt octets f next) ⊎ ((fault : DgramFault) × FragmentFault octets fault)
-fragment_found octets law head delivery = by_first (first_at octets) refl
-  where
-    at_part : (part : Part) (begin : ℕ) → end_at octets ≤ length octets → PartAt octets part begin
-        → ((f : FragmentValue) × (next : ℕ) × (f.delivery ≡ delivery) × FragmentAt octets f next) ⊎ ((fault : DgramFault) × FragmentFault octets fault)
-    at_part part begin whole at =
-        inl (record { delivery = delivery; part = part; more = more_at octets; payload = slice_range octets begin (end_at octets) }, end_at octets, refl, record { begin = begin; whole = whole; part = at; more = refl; payload = refl; next_is = refl })
+  -- ---- what stands after the head
 
-    by_names : first_at octets ≡ true → offset_at octets ≡ 0 → end_at octets ≤ length octets
-        → ((f : FragmentValue) × (next : ℕ) × (f.delivery ≡ delivery) × FragmentAt octets f next) ⊎ ((fault : DgramFault) × FragmentFault octets fault)
-    by_names first zero_offset whole =
-        elim (law.found 14) [
-          | inr bad ↦ inr (fault_within bad.0, names_bad (fault_within bad.0) first zero_offset whole (source_bad bad.0 bad.1))
-          | inl source ↦ elim (law.found source.1) [
-            | inr bad ↦ inr (fault_within bad.0, names_bad (fault_within bad.0) first zero_offset whole (destination_bad source.0 source.1 bad.0 source.2 bad.1))
-            | inl destination ↦ at_part (First (record { source = source.0; destination = destination.0 })) destination.1 whole (first, zero_offset, record { named = source.1; source = source.2; destination = destination.2 })
-          ]
-        ]
+  abbrev IsBody : MsgType → BodyValue × ℕ → Type 0
+  IsBody t x = (type_of x.0 ≡ t) × BodyAt octets x.0 x.1
 
-    by_first : (b : Bool) → first_at octets ≡ b
-        → ((f : FragmentValue) × (next : ℕ) × (f.delivery ≡ delivery) × FragmentAt octets f next) ⊎ ((fault : DgramFault) × FragmentFault octets fault)
-    by_first true first =
-        elim (cases_eq (offset_at octets) 0) [
-          | inr other ↦ inr (bad_offset, offset_bad first other)
-          | inl none ↦ elim (cases_lt (length octets) (end_at octets)) [
-            | inl cut ↦ inr (short octets, fragment_cut (λ _. none) cut)
-            | inr whole ↦ by_names first none whole
-          ]
-        ]
-    by_first false first =
-        elim (cases_lt (length octets) (end_at octets)) [
-          | inl cut ↦ inr (short octets, fragment_cut (λ e. absurd (let f : true ≡ false = sym e ∙ first in cc)) cut)
-          | inr whole ↦ at_part (Later (offset_at octets)) 14 whole (first, refl, refl)
-        ]
+  abbrev BodyFault : MsgType → DgramFault → Type 0
+  BodyFault (types.Data delivery) f = FragmentFault octets f
+  BodyFault types.Error f = ⊥
+  BodyFault (types.Lookup l) f = (n : NameFault) × PlainFaultAt octets 10 n × (fault_of n ≡ f)
 
-pub dgram_found : (octets : List ℕ) → NameLaws octets → ((d : DgramValue) × (n : ℕ) × DgramIs octets d n) ⊎ ((fault : DgramFault) × FaultIs octets fault)
-unfolding IsOfType
-dgram_found octets laws =
-    elim (cases_lt 0 (length octets)) [
-      | inr none ↦ inr (short octets, nothing_there (omega (arith, none)))
-      | inl some ↦ by_type some (type_cases (octet_at octets 0))
-    ]
-  where
-    with_body : (body : BodyValue) (n : ℕ) → IsTypeAt octets (type_of body) → head_size (type_of body) ≤ length octets → BodyAt octets body n → ((d : DgramValue) × (n : ℕ) × DgramIs octets d n) ⊎ ((fault : DgramFault) × FaultIs octets fault)
-    with_body body n is head at =
-        inl (record { id = word_at octets 2; source = record { ip = long_at octets 4; port = word_at octets 8 }; body = body }, n, record { type = is; head = head; id = refl; ip = refl; port = refl; body = at })
+  reads_body : (t : MsgType) → Reads {X = BodyValue × ℕ} {F = DgramFault} (AreOctets octets) (IsBody t) (BodyFault t)
+  reads_body (types.Data delivery) =
+      reads_as (λ (x : FragmentValue × ℕ). (fragment x.0, x.1)) (reads_fragment delivery) (λ x is. (ap (λ (d : Delivery). types.Data d) is.0, is.1)) (λ y is. from_value y.0 y.1 is.0 is.1) (λ f bad. bad) (λ f bad. bad)
+    where
+      from_value : (b : BodyValue) (n : ℕ) → type_of b ≡ types.Data delivery → BodyAt octets b n → (x : FragmentValue × ℕ) × IsFragment delivery x × ◌≡◌ {A = BodyValue × ℕ} (fragment x.0, x.1) (b, n)
+      from_value (fragment f) n same at = ((f, n), (let e : f.delivery ≡ delivery = cc in e, at), refl)
+      from_value (error code) n same at = absurd cc
+      from_value (lookup l name) n same at = absurd cc
+  reads_body types.Error =
+      reads_same (reads_this (error (octet_at octets 10), 11)) (λ x is. subst (IsBody types.Error) (sym is) (refl, (refl, refl))) (λ x is. from_value x.0 x.1 is.0 is.1) (λ f bad. bad) (λ f bad. bad)
+    where
+      from_value : (b : BodyValue) (n : ℕ) → type_of b ≡ types.Error → BodyAt octets b n → ◌≡◌ {A = BodyValue × ℕ} (b, n) (error (octet_at octets 10), 11)
+      from_value (error code) n same at = let code_is : code ≡ octet_at octets 10 = at.0 in let n_is : n ≡ 11 = at.1 in λ i. (error (code_is i), n_is i)
+      from_value (fragment f) n same at = absurd cc
+      from_value (lookup l name) n same at = absurd cc
+  reads_body (types.Lookup l) =
+      reads_as (λ (x : NameValue × ℕ). (lookup l x.0, x.1)) (reads_name Plain octets (λ fits. fits) fault_of 10) (λ x is. (refl, is)) (λ y is. from_value y.0 y.1 is.0 is.1) (λ f bad. bad) (λ f bad. bad)
+    where
+      from_value : (b : BodyValue) (n : ℕ) → type_of b ≡ types.Lookup l → BodyAt octets b n → (x : NameValue × ℕ) × PlainNameAt octets 10 x.0 x.1 × ◌≡◌ {A = BodyValue × ℕ} (lookup l x.0, x.1) (b, n)
+      from_value (lookup k name) n same at = ((name, n), at, (let e : l ≡ k = cc in λ i. (lookup (e i) name, n)))
+      from_value (fragment f) n same at = absurd cc
+      from_value (error code) n same at = absurd cc
 
-    by_head : (t : MsgType) → IsTypeAt octets t → head_size t ≤ length octets → ((d : DgramValue) × (n : ℕ) × DgramIs octets d n) ⊎ ((fault : DgramFault) × FaultIs octets fault)
-    by_head (types.Data delivery) is head =
-        elim (fragment_found octets laws.counted head delivery) [
-          | inl f ↦ with_body (fragment f.0) f.1 (is.0, is.1 ∙ ap (λ (d : Delivery). type_number (types.Data d)) (sym f.2)) head f.3
-          | inr bad ↦ inr (bad.0, fragment_bad delivery bad.0 is head bad.1)
-        ]
-    by_head types.Error is head = with_body (error (octet_at octets 10)) 11 is head (refl, refl)
-    by_head (types.Lookup l) is head =
-        elim (laws.all.found 10) [
-          | inl name ↦ with_body (lookup l name.0) name.1 is head name.2
-          | inr bad ↦ inr (fault_of bad.0, lookup_bad l bad.0 is head bad.1)
-        ]
+  -- ---- the type
 
-    by_type : 0 < length octets → IsOfType (octet_at octets 0) → ((d : DgramValue) × (n : ℕ) × DgramIs octets d n) ⊎ ((fault : DgramFault) × FaultIs octets fault)
-    by_type some (inr none) = inr (bad_type, type_bad some none)
-    by_type some (inl (t, e)) =
-        elim (cases_lt (length octets) (head_size t)) [
-          | inl cut ↦ inr (short octets, head_cut t (some, e) cut)
-          | inr head ↦ by_head t (some, e) head
-        ]
+  abbrev TypeFault : DgramFault → Type 0
+  TypeFault f = ((f ≡ short octets) × (length octets ≡ 0)) ⊎ ((f ≡ bad_type) × (0 < length octets) × ((t : MsgType) → octet_at octets 0 ≡ type_number t → ⊥))
 
-pub dgram_iff : (octets : List ℕ) → NameLaws octets → (r : Result (Dgram × ℕ) DgramFault) → IfOk r (λ read. DgramIs octets (dgram_of read.0) read.1) → IfErr r (FaultIs octets)
-    → (d : DgramValue) (n : ℕ) → (decoded r ≡ Ok (d, n)) ↔ DgramIs octets d n
-dgram_iff octets laws (Ok read) a b d n = (
-  λ e. let same : ◌≡◌ {A = DgramValue × ℕ} (dgram_of read.0, read.1) (d, n) = cc in subst (λ (x : DgramValue × ℕ). DgramIs octets x.0 x.1) same a,
-  λ is. ap {B = Result (DgramValue × ℕ) DgramFault} Ok (one_dgram octets laws (dgram_of read.0) d read.1 n a is),
-)
-dgram_iff octets laws (Err fault) a b d n = (λ e. absurd cc, λ is. absurd (not_both octets laws d n fault is b))
+  reads_type : Reads {X = MsgType} {F = DgramFault} (AreOctets octets) (IsTypeAt octets) TypeFault
+  unfolding IsOfType
+  reads_type = record {
+    found = λ fits. elim (cases_lt 0 (length octets)) [
+      | inr none ↦ inr (short octets, inl (refl, omega (arith, none)))
+      | inl some ↦ elim (type_cases (octet_at octets 0)) [ inl t ↦ inl (t.0, (some, t.1)) | inr other ↦ inr (bad_type, inr (refl, some, other)) ]
+    ];
+    one_value = λ t u a b. one_type t u (sym a.1 ∙ b.1);
+    one_fault = one_bad;
+    not_both = both;
+  }
+    where
+      one_bad : (f g : DgramFault) → TypeFault f → TypeFault g → f ≡ g
+      one_bad f g (inl a) (inl b) = a.0 ∙ sym b.0
+      one_bad f g (inl a) (inr b) = absurd (omega (arith, a.1, b.1))
+      one_bad f g (inr a) (inl b) = absurd (omega (arith, a.1, b.1))
+      one_bad f g (inr a) (inr b) = a.0 ∙ sym b.0
 
-pub fault_iff : (octets : List ℕ) → NameLaws octets → (r : Result (Dgram × ℕ) DgramFault) → IfOk r (λ read. DgramIs octets (dgram_of read.0) read.1) → IfErr r (FaultIs octets)
-    → (fault : DgramFault) → (decoded r ≡ Err fault) ↔ FaultIs octets fault
-fault_iff octets laws (Ok read) a b fault = (λ e. absurd cc, λ is. absurd (not_both octets laws (dgram_of read.0) read.1 fault a is))
-fault_iff octets laws (Err other) a b fault =
-    (λ e. let same : other ≡ fault = cc in subst (FaultIs octets) same b, λ is. ap {B = Result (DgramValue × ℕ) DgramFault} Err (one_fault octets laws other fault b is))
+      both : (t : MsgType) (f : DgramFault) → IsTypeAt octets t → TypeFault f → ⊥
+      both t f is (inl a) = omega (arith, is.0, a.1)
+      both t f is (inr a) = a.2 t is.1
+
+  -- ---- the datagram
+
+  abbrev dgram_value : BodyValue × ℕ → DgramValue × ℕ
+  dgram_value b = (record { id = word_at octets 2; source = record { ip = long_at octets 4; port = word_at octets 8 }; body = b.0 }, b.1)
+
+  abbrev DgramBad : DgramFault → Type 0
+  DgramBad f =
+      TypeFault f
+      ⊎ ((t : MsgType) × IsTypeAt octets t × (((f ≡ short octets) × (length octets < head_size t)) ⊎ ((u : Unit {0}) × (head_size t ≤ length octets) × (BodyFault t f ⊎ ((b : BodyValue × ℕ) × IsBody t b × ⊥)))))
+
+  pub reads_dgram : Reads {X = DgramValue × ℕ} {F = DgramFault} (AreOctets octets) (λ x. DgramIs octets x.0 x.1) (FaultIs octets)
+  reads_dgram =
+      reads_same
+      (reads_then reads_type (λ t is. reads_then (reads_up_to (head_size t) (length octets) (short octets)) (λ u head. reads_then (reads_body t) (λ b at. reads_this (dgram_value b)))))
+      to_value
+      (λ x d. (type_of x.0.body, d.type, (tt, d.head, ((x.0.body, x.1), (refl, d.body), λ i. (record { id = d.id i; source = record { ip = d.ip i; port = d.port i }; body = x.0.body }, x.1)))))
+      to_fault from_fault
+    where
+      to_value : (x : DgramValue × ℕ) → ((t : MsgType) × IsTypeAt octets t × ((u : Unit {0}) × (head_size t ≤ length octets) × ((b : BodyValue × ℕ) × IsBody t b × (x ≡ dgram_value b)))) → DgramIs octets x.0 x.1
+      to_value x (t, is, (u, head, (b, (same, at), e))) =
+          subst (λ (z : DgramValue × ℕ). DgramIs octets z.0 z.1) (sym e)
+          (record { type = subst (IsTypeAt octets) (sym same) is; head = subst (λ (k : MsgType). head_size k ≤ length octets) (sym same) head; id = refl; ip = refl; port = refl; body = at })
+
+      body_bad : (t : MsgType) (f : DgramFault) → IsTypeAt octets t → head_size t ≤ length octets → BodyFault t f → FaultIs octets f
+      body_bad (types.Data delivery) f is head bad = fragment_bad delivery f is head bad
+      body_bad types.Error f is head bad = absurd bad
+      body_bad (types.Lookup l) f is head (n, at, e) = subst (FaultIs octets) e (lookup_bad l n is head at)
+
+      to_fault : (f : DgramFault) → DgramBad f → FaultIs octets f
+      to_fault f (inl (inl (e, none))) = subst (FaultIs octets) (sym e) (nothing_there none)
+      to_fault f (inl (inr (e, some, other))) = subst (FaultIs octets) (sym e) (type_bad some other)
+      to_fault f (inr (t, is, inl (e, less))) = subst (FaultIs octets) (sym e) (head_cut t is less)
+      to_fault f (inr (t, is, inr (u, head, inl bad))) = body_bad t f is head bad
+      to_fault f (inr (t, is, inr (u, head, inr (b, at, never)))) = absurd never
+
+      from_fault : (f : DgramFault) → FaultIs octets f → DgramBad f
+      from_fault _ (nothing_there none) = inl (inl (refl, none))
+      from_fault _ (type_bad some other) = inl (inr (refl, some, other))
+      from_fault _ (head_cut t is less) = inr (t, is, inl (refl, less))
+      from_fault f (fragment_bad delivery _ is head bad) = inr (types.Data delivery, is, inr (tt, head, inl bad))
+      from_fault _ (lookup_bad l n is head at) = inr (types.Lookup l, is, inr (tt, head, inl (n, at, refl)))

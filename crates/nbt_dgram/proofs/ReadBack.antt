@@ -3,7 +3,6 @@ use Rattle.std.proofs.Common.{◌≡◌, ℕ, ◌+◌, ◌^◌, ◌<◌, ◌≤�
 use Rattle.std.specs.Prelude.{slice_range, slice_index}
 use Rattle.std.proofs.Common.{get_or-drop}
 use Rattle.std.proofs.lemmas.List.{length-append, take_at}
-use Rattle.byteorder.specs.Numbers.{big_number-reads_back}
 use Rattle.nbt_name.specs.declared.addr.Addr.{Addr}
 use Rattle.nbt_name.specs.Wire.{wire}
 use Rattle.nbt_name.specs.Reading.{PlainNameAt}
@@ -11,10 +10,11 @@ use Rattle.nbt_dgram.specs.declared.msg_type.MsgType.{MsgType}
 use Rattle.nbt_dgram.specs.declared.dgram.Part.{Part}
 use Rattle.nbt_dgram.specs.declared.dgram.Part.TheVariants.{First, Later}
 use Rattle.nbt_dgram.specs.Numbers.{head_size}
-use Rattle.nbt_dgram.specs.Fields.{octet_at, word, long, word_at, long_at, first_at, more_at, offset_at, length_at, end_at, within}
+use Rattle.nbt_name.specs.Words.{word, long, word_at, long_at}
+use Rattle.nbt_dgram.specs.Fields.{octet_at, first_at, more_at, offset_at, length_at, end_at, within}
 use Rattle.nbt_dgram.specs.Dgram.{FragmentValue, BodyValue, fragment, error, lookup, DgramValue, type_of, IsTypeAt, NamesAt, PartAt, FragmentAt, BodyAt, DgramIs}
 use Rattle.nbt_dgram.specs.Text.{offset_of, names_text, dgm_length, flags_by, flags_of, head, body_text, text, IsPart, BodyHolds, BodyFits, HoldsNumbers, Fits}
-use Rattle.nbt_dgram.proofs.Words.{NameIsRead, Behind, onward, word_there, range_there, name_there}
+use Rattle.nbt_name.proofs.Behind.{Behind, onward, word_back, long_back, word_there, range_there, plain_there}
 
 -- ---- the ten octets that each datagram begins with
 
@@ -30,9 +30,9 @@ head_there : (t : MsgType) (flags id : ℕ) (source : Addr) (xs : List ℕ) → 
 head_there t flags id source xs id_fits ip_fits port_fits = record {
   type_is = (omega arith, refl);
   flags_are = refl;
-  id_is = big_number-reads_back 2 id (long source.ip ++ (word source.port ++ xs)) id_fits;
-  ip_is = big_number-reads_back 4 source.ip (word source.port ++ xs) ip_fits;
-  port_is = big_number-reads_back 2 source.port xs port_fits;
+  id_is = word_back id (long source.ip ++ (word source.port ++ xs)) id_fits;
+  ip_is = long_back source.ip (word source.port ++ xs) ip_fits;
+  port_is = word_back source.port xs port_fits;
   behind = record { is = refl; within = omega arith };
 }
 
@@ -61,10 +61,10 @@ offset_small (First names) is = omega arith
 offset_small (Later offset) is = is
 
 -- the names, where there are some, in the octets up to the fragment's end
-part_there : NameIsRead → (octets counted : List ℕ) (part : Part) (payload : List ℕ) → IsPart part → first_at octets ≡ first_of part → offset_at octets ≡ offset_of part → within octets ≡ counted
+part_there : (octets counted : List ℕ) (part : Part) (payload : List ℕ) → IsPart part → first_at octets ≡ first_of part → offset_at octets ≡ offset_of part → within octets ≡ counted
     → Behind counted 14 (names_text part ++ payload) → PartAt octets part (14 + length (names_text part))
 unfolding first_of
-part_there law octets counted (First names) payload is first zero same b =
+part_there octets counted (First names) payload is first zero same b =
     let s : List ℕ = wire names.source in
     let d : List ℕ = wire names.destination in
     let b0 : Behind counted 14 (s ++ (d ++ payload)) = subst (Behind counted 14) (append_assoc s d payload) b in
@@ -72,15 +72,15 @@ part_there law octets counted (First names) payload is first zero same b =
     let next : 14 + length s + length d ≡ 14 + length (s ++ d) = omega (arith, length-append s d) in
     let there : NamesAt counted names (14 + length (s ++ d)) = record {
       named = 14 + length s;
-      source = name_there law names.source (d ++ payload) is.0 b0;
-      destination = subst (λ (k : ℕ). PlainNameAt counted (14 + length s) names.destination k) next (name_there law names.destination payload is.1 b1);
+      source = plain_there names.source (d ++ payload) is.0 b0;
+      destination = subst (λ (k : ℕ). PlainNameAt counted (14 + length s) names.destination k) next (plain_there names.destination payload is.1 b1);
     } in
     (first, zero, subst (λ (xs : List ℕ). NamesAt xs names (14 + length (s ++ d))) (sym same) there)
-part_there law octets counted (Later offset) payload is first at same b = (first, sym at, refl)
+part_there octets counted (Later offset) payload is first at same b = (first, sym at, refl)
 
-fragment_there : NameIsRead → (octets counted : List ℕ) (f : FragmentValue) (rest : List ℕ) → octets ≡ counted ++ rest → IsPart f.part → dgm_length f < 2 ^ 16 → octet_at octets 1 ≡ flags_by f.part f.more
+fragment_there : (octets counted : List ℕ) (f : FragmentValue) (rest : List ℕ) → octets ≡ counted ++ rest → IsPart f.part → dgm_length f < 2 ^ 16 → octet_at octets 1 ≡ flags_by f.part f.more
     → Behind octets 10 (body_text (fragment f) ++ rest) → Behind counted 10 (body_text (fragment f)) → FragmentAt octets f (length counted)
-fragment_there law octets counted f rest whole is fits flags b c =
+fragment_there octets counted f rest whole is fits flags b c =
     let names : List ℕ = names_text f.part in
     let size : length (body_text (fragment f)) ≡ 4 + length names + length f.payload =
     omega (arith, length-append (word (dgm_length f) ++ word (offset_of f.part) ++ names) f.payload, length-append (word (dgm_length f) ++ word (offset_of f.part)) names) in
@@ -101,7 +101,7 @@ fragment_there law octets counted f rest whole is fits flags b c =
     record {
       begin = 14 + length names;
       whole = omega (arith, end_is, b.within, c.within, length-append (body_text (fragment f)) rest);
-      part = part_there law octets counted f.part f.payload is (first_flag octets f.part f.more flags) offset_is counted_is c4;
+      part = part_there octets counted f.part f.payload is (first_flag octets f.part f.more flags) offset_is counted_is c4;
       more = sym (more_flag octets f.part f.more flags);
       payload = sym (ap (λ (k : ℕ). slice_range octets (14 + length names) k) end_at_payload ∙ range_there f.payload rest begin);
       next_is = sym end_is;
@@ -109,19 +109,19 @@ fragment_there law octets counted f rest whole is fits flags b c =
 
 -- ---- a datagram
 
-body_there : NameIsRead → (octets counted : List ℕ) (body : BodyValue) (rest : List ℕ) → octets ≡ counted ++ rest → BodyHolds body → BodyFits body → octet_at octets 1 ≡ flags_of body
+body_there : (octets counted : List ℕ) (body : BodyValue) (rest : List ℕ) → octets ≡ counted ++ rest → BodyHolds body → BodyFits body → octet_at octets 1 ≡ flags_of body
     → Behind octets 10 (body_text body ++ rest) → Behind counted 10 (body_text body) → BodyAt octets body (length counted)
-body_there law octets counted (fragment f) rest whole is fits flags b c = fragment_there law octets counted f rest whole is fits flags b c
-body_there law octets counted (error code) rest whole is fits flags b c = (sym (ap (λ (xs : List ℕ). slice_index xs 0) b.is) ∙ get_or-drop 10 octets 0 0, omega (arith, c.within))
-body_there law octets counted (lookup l name) rest whole is fits flags b c = subst (λ (k : ℕ). PlainNameAt octets 10 name k) c.within (name_there law name rest is b)
+body_there octets counted (fragment f) rest whole is fits flags b c = fragment_there octets counted f rest whole is fits flags b c
+body_there octets counted (error code) rest whole is fits flags b c = (sym (ap (λ (xs : List ℕ). slice_index xs 0) b.is) ∙ get_or-drop 10 octets 0 0, omega (arith, c.within))
+body_there octets counted (lookup l name) rest whole is fits flags b c = subst (λ (k : ℕ). PlainNameAt octets 10 name k) c.within (plain_there name rest is b)
 
 type_size : (octets : List ℕ) (body : BodyValue) (rest : List ℕ) → Behind octets 10 (body_text body ++ rest) → head_size (type_of body) ≤ length octets
 type_size octets (fragment f) rest b = omega (arith, b.within)
 type_size octets (error code) rest b = omega (arith, b.within)
 type_size octets (lookup l name) rest b = omega (arith, b.within)
 
-pub text_is_read : NameIsRead → (d : DgramValue) (rest : List ℕ) → HoldsNumbers d → Fits d → DgramIs (text d ++ rest) d (length (text d))
-text_is_read law d rest holds fits =
+pub text_is_read : (d : DgramValue) (rest : List ℕ) → HoldsNumbers d → Fits d → DgramIs (text d ++ rest) d (length (text d))
+text_is_read d rest holds fits =
     let t : MsgType = type_of d.body in
     let h = head_there t (flags_of d.body) d.id d.source (body_text d.body ++ rest) holds.0 holds.1 holds.2 in
     let c = head_there t (flags_of d.body) d.id d.source (body_text d.body) holds.0 holds.1 holds.2 in
@@ -131,5 +131,5 @@ text_is_read law d rest holds fits =
       id = sym h.id_is;
       ip = sym h.ip_is;
       port = sym h.port_is;
-      body = body_there law (text d ++ rest) (text d) d.body rest refl holds.3 fits h.flags_are h.behind c.behind;
+      body = body_there (text d ++ rest) (text d) d.body rest refl holds.3 fits h.flags_are h.behind c.behind;
     }

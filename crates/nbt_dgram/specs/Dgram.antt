@@ -18,7 +18,8 @@ use Rattle.nbt_dgram.specs.declared.dgram.Body.{Body}
 use Rattle.nbt_dgram.specs.declared.dgram.Body.TheVariants as bodies
 use Rattle.nbt_dgram.specs.declared.dgram.Dgram.{Dgram}
 use Rattle.nbt_dgram.specs.Numbers.{type_number, head_size, fault_of, fault_within, short, bad_type, bad_offset}
-use Rattle.nbt_dgram.specs.Fields.{octet_at, word_at, long_at, first_at, more_at, offset_at, end_at, within}
+use Rattle.nbt_name.specs.Words.{word_at, long_at}
+use Rattle.nbt_dgram.specs.Fields.{octet_at, first_at, more_at, offset_at, end_at, within}
 
 -- A fragment of a datagram, or a whole one, without where its octets lie in memory: the names stand in the first
 -- alone, and a later one says how many octets of data stand before it.

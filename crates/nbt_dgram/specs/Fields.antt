@@ -1,23 +1,10 @@
--- Numbers in octets, most significant octet first, and the flags' octet: RFC 1002 section 4.4.1.
-use Rattle.std.specs.Prelude.{ℕ, ◌+◌, ◌/◌, ◌%◌, Bool, nat_eq, List, drop, take, slice_index}
-use Rattle.byteorder.specs.Endian.{big_number, big_bytes}
+-- The octets of a datagram's head: the flags, and how far a fragment reaches. RFC 1002 sections 4.4.1 and 4.4.2.
+use Rattle.std.specs.Prelude.{ℕ, ◌+◌, ◌/◌, ◌%◌, Bool, nat_eq, List, take, slice_index}
+use Rattle.nbt_name.specs.Words.{word_at}
 
--- the octet, the word of two octets, and the number of four, at a place
+-- the octet at a place
 abbrev pub octet_at : List ℕ → ℕ → ℕ
 octet_at octets place = slice_index octets place
-
-abbrev pub word_at : List ℕ → ℕ → ℕ
-word_at octets place = big_number 2 (drop place octets)
-
-abbrev pub long_at : List ℕ → ℕ → ℕ
-long_at octets place = big_number 4 (drop place octets)
-
--- a number's two octets, and its four
-abbrev pub word : ℕ → List ℕ
-word x = big_bytes 2 x
-
-abbrev pub long : ℕ → List ℕ
-long x = big_bytes 4 x
 
 -- F, the first fragment, and M, more fragments follow
 abbrev pub first_at : List ℕ → Bool

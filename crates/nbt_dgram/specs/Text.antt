@@ -6,7 +6,7 @@ use Rattle.nbt_dgram.specs.declared.dgram.Part.{Part}
 use Rattle.nbt_dgram.specs.declared.dgram.Part.TheVariants.{First, Later}
 use Rattle.nbt_dgram.specs.declared.msg_type.MsgType.{MsgType}
 use Rattle.nbt_dgram.specs.Numbers.{type_number}
-use Rattle.nbt_dgram.specs.Fields.{word, long}
+use Rattle.nbt_name.specs.Words.{word, long}
 use Rattle.nbt_dgram.specs.Dgram.{FragmentValue, BodyValue, fragment, error, lookup, DgramValue, type_of}
 
 -- how many octets of data stand before a fragment's, its names, and how many octets these and its data are: what

@@ -5,7 +5,7 @@ ghost use Rattle.nbt_name.specs.Wire.{NameValue};
 ghost use Rattle.nbt_name.specs.Reading.{PlainNameAt, PlainFaultAt};
 ghost use Rattle.nbt_dgram.specs.declared.fault.DgramFault.{DgramFault};
 ghost use Rattle.nbt_dgram.specs.Numbers.{fault_within as name_fault, short, bad_offset, head_size};
-ghost use Rattle.nbt_dgram.specs.Fields.{octet_at, word_at, long_at, first_at, more_at, offset_at, end_at, within as counted};
+ghost use Rattle.nbt_dgram.specs.Fields.{octet_at, first_at, more_at, offset_at, end_at, within as counted};
 ghost use Rattle.nbt_dgram.specs.Text.{Fits};
 ghost use Rattle.nbt_dgram.specs.Inner.Decoding.{NameFaultAt, IsReadPart};
 ghost use Rattle.nbt_dgram.specs.Dgram.{DgramValue, IsTypeAt, NamesAt, PartAt, FragmentAt, BodyAt, DgramIs, NamesFault, FragmentFault, FaultIs, type_of, fragment_of, body_of, dgram_of, decoded};
@@ -13,8 +13,7 @@ ghost use Rattle.nbt_dgram.specs.Dgram.{DgramValue, IsTypeAt, NamesAt, PartAt, F
 use crate::dgram::{Body, Dgram, Fragment, Names, Part};
 use crate::fault::{DgramFault, DgramFaultKind};
 use crate::msg_type::{Delivery, Lookup, MsgType};
-use byteorder::{BigEndian, ByteOrder};
-use nbt_name::{Addr, Name, NameFault, NameFaultKind, read_plain};
+use nbt_name::{Addr, Name, NameFault, NameFaultKind, read_long, read_plain, read_word};
 
 /// How many octets each datagram begins with: up to SOURCE_PORT.
 const HEAD: usize = 10;
@@ -39,7 +38,6 @@ pub fn decode(octets: &[u8]) -> Result<(Dgram<'_>, usize), DgramFault>
     // What was read can be written.
     ensures fits { IfOk result (λ read. Fits (dgram_of read.0)) }
 {
-    nbt_name::laws::one_name_or_fault();
     dgram_at(octets)
 }
 
@@ -52,10 +50,10 @@ fn dgram_at(octets: &[u8]) -> Result<(Dgram<'_>, usize), DgramFault>
     let msg_type = type_at(octets)?;
     let (body, end) = body_at(octets, msg_type)?;
     let source = Addr {
-        ip: long_number_at(octets, 4),
-        port: number_at(octets, 8),
+        ip: read_long(octets, 4),
+        port: read_word(octets, 8),
     };
-    let id = number_at(octets, 2);
+    let id = read_word(octets, 2);
     Ok((Dgram { id, source, body }, end))
 }
 
@@ -139,7 +137,7 @@ fn offset_if(octets: &[u8], first: bool) -> Result<u16, DgramFault>
     ensures offset { IfOk result (λ offset. (offset ≡ offset_at octets.now) × (first ≡ true → offset ≡ 0)) }
     ensures fault { IfErr result (λ fault. (first ≡ true) × (offset_at octets.now ≢ 0) × (fault ≡ bad_offset)) }
 {
-    let offset = number_at(octets, OFFSET);
+    let offset = read_word(octets, OFFSET);
     if first && offset != 0 {
         return Err(DgramFault {
             kind: DgramFaultKind::BadOffset,
@@ -155,7 +153,7 @@ fn end_of(octets: &[u8]) -> Result<usize, DgramFault>
     ensures end { IfOk result (λ end. (end ≡ end_at octets.now) × (end ≤ length octets.now)) }
     ensures fault { IfErr result (λ fault. (length octets.now < end_at octets.now) × (fault ≡ short octets.now)) }
 {
-    let end = FRAGMENT_HEAD + usize::from(number_at(octets, LENGTH));
+    let end = FRAGMENT_HEAD + usize::from(read_word(octets, LENGTH));
     if octets.len() < end {
         return Err(short_of(octets));
     }
@@ -231,20 +229,4 @@ fn short_of(octets: &[u8]) -> DgramFault
         kind: DgramFaultKind::Short,
         place: octets.len(),
     }
-}
-
-/// The word of two octets at a place, most significant octet first.
-fn number_at(octets: &[u8], place: usize) -> u16
-    requires { place + 2 ≤ length octets.now }
-    ensures { result ≡ word_at octets.now place }
-{
-    BigEndian::read_u16(&octets[place..])
-}
-
-/// The number of four octets at a place, most significant octet first.
-fn long_number_at(octets: &[u8], place: usize) -> u32
-    requires { place + 4 ≤ length octets.now }
-    ensures { result ≡ long_at octets.now place }
-{
-    BigEndian::read_u32(&octets[place..])
 }

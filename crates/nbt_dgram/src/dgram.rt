@@ -20,9 +20,6 @@
 //! RFC 1002 sections 4.4.1 to 4.4.5. DGM_LENGTH counts what stands after PACKET_OFFSET. PACKET_OFFSET counts octets
 //! of data, and names stand in the first fragment alone: our profile's choices.
 
-ghost use Rattle.std.specs.Prelude.{◌≡◌, ◌≤◌, length};
-ghost use Rattle.nbt_name.specs.Wire.{wire};
-
 use crate::msg_type::{Delivery, Lookup, MsgType};
 use nbt_name::{Addr, Name};
 
@@ -135,9 +132,6 @@ pub struct Dgram<'a> {
 /// The most octets that DGM_LENGTH counts.
 const LENGTH_MOST: usize = 65535;
 
-/// How many octets a name's wire form has beside its scope (RFC 1002 section 4.1).
-const NAME_WITHOUT_SCOPE: usize = 34;
-
 impl Part {
     ghost use Rattle.std.specs.Prelude.{◌≡◌, ◌≤◌, length};
     ghost use Rattle.nbt_dgram.specs.Text.{offset_of, names_text};
@@ -158,18 +152,10 @@ impl Part {
         ensures bound { result ≤ 510 }
     {
         match self {
-            Part::First(names) => name_len(&names.source) + name_len(&names.destination),
+            Part::First(names) => names.source.wire_len() + names.destination.wire_len(),
             Part::Later(_) => 0,
         }
     }
-}
-
-/// How many octets a name's wire form has: 34 to 255.
-fn name_len(name: &Name) -> usize
-    ensures value { result ≡ length (wire name.now) }
-    ensures bound { result ≤ 255 }
-{
-    NAME_WITHOUT_SCOPE + name.scope().len()
 }
 
 impl Dgram<'_> {

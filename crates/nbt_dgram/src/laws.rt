@@ -26,18 +26,14 @@ pub fn one_datagram_or_fault()
         → FaultIs octets f → FaultIs octets g → f ≡ g }
     ensures not_both { (octets : List ℕ) (d : DgramValue) (n : ℕ) (fault : DgramFault) → AreOctets octets
         → DgramIs octets d n → FaultIs octets fault → ⊥ }
-{
-    nbt_name::laws::one_name_or_fault();
-}
+{}
 
 /// The written form of each datagram that fits, followed by any octets, is read as that datagram, and takes its own
 /// length.
 pub fn written_form_is_read()
     ensures { (d : DgramValue) (rest : List ℕ) → HoldsNumbers d → Fits d
         → DgramIs (text d ++ rest) d (length (text d)) }
-{
-    nbt_name::laws::wire_form_is_read();
-}
+{}
 
 /// What is read can be written: each datagram that octets begin with fits.
 pub fn what_is_read_fits()
@@ -90,6 +86,4 @@ pub fn octets_mean_one_thing()
         → (u v : AcceptValue) (o p : List ℕ) (x y : JoinerValue)
         → Accepts old now node own octets u o x → Accepts old now node own octets v p y
         → (u ≡ v) × (o ≡ p) × (x ≡ y) }
-{
-    nbt_name::laws::one_name_or_fault();
-}
+{}

@@ -1,8 +1,6 @@
 //! Writing a datagram's one written form (RFC 1002 section 4.4).
 
 ghost use Rattle.std.specs.Prelude.{◌≡◌, ◌+◌, ◌<◌, ◌≤◌, ◌^◌, ◌↔◌, [], ◌∷◌, ◌++◌, length, OnOk, OnErr, IsErr};
-ghost use Rattle.nbt_name.specs.Wire.{wire};
-ghost use Rattle.nbt_dgram.specs.Fields.{word, long};
 ghost use Rattle.nbt_dgram.specs.Dgram.{type_of, fragment, fragment_of, body_of, dgram_of};
 ghost use Rattle.nbt_dgram.specs.Text as spec;
 ghost use Rattle.nbt_dgram.specs.Text.{offset_of, names_text, dgm_length, flags_of, body_text, text, BodyFits, Fits};
@@ -10,8 +8,7 @@ ghost use Rattle.nbt_dgram.specs.Text.{offset_of, names_text, dgm_length, flags_
 use crate::dgram::{Body, Dgram, Fragment, Part};
 use crate::fault::Full;
 use arrayvec::ArrayVec;
-use byteorder::{BigEndian, ByteOrder};
-use nbt_name::Name;
+use nbt_name::{put_long, put_word};
 
 /// SNT of FLAGS: a P node (RFC 1002 section 4.4.1).
 const P_NODE: u8 = 0x04;
@@ -37,7 +34,7 @@ pub fn encode(dgram: &Dgram<'_>, out: &mut ArrayVec<u8, 576>) -> Result<(), Full
             Ok(())
         }
         Body::Lookup(_, name) => {
-            put_name(out, name);
+            name.put_wire(out);
             Ok(())
         }
     }
@@ -99,38 +96,7 @@ fn put_names(out: &mut ArrayVec<u8, 576>, part: &Part)
     ensures fits { length (names_text part.now) ≤ 510 }
 {
     if let Part::First(names) = part {
-        put_name(out, &names.source);
-        put_name(out, &names.destination);
+        names.source.put_wire(out);
+        names.destination.put_wire(out);
     }
-}
-
-/// A name's wire form (RFC 1002 section 4.1).
-fn put_name(out: &mut ArrayVec<u8, 576>, name: &Name)
-    requires { length out.old.items ≤ 300 }
-    ensures form { out.new.items ≡ out.old.items ++ wire name.now }
-    ensures fits { length (wire name.now) ≤ 255 }
-{
-    let mut form = ArrayVec::new();
-    name.to_wire(&mut form);
-    out.try_extend_from_slice(form.as_slice()).unwrap();
-}
-
-/// Two octets, most significant octet first.
-fn put_word(out: &mut ArrayVec<u8, 576>, x: u16)
-    requires { length out.old.items ≤ 574 }
-    ensures { out.new.items ≡ out.old.items ++ word x }
-{
-    let mut octets = [0; 2];
-    BigEndian::write_u16(&mut octets, x);
-    out.try_extend_from_slice(&octets).unwrap();
-}
-
-/// Four octets, most significant octet first.
-fn put_long(out: &mut ArrayVec<u8, 576>, x: u32)
-    requires { length out.old.items ≤ 572 }
-    ensures { out.new.items ≡ out.old.items ++ long x }
-{
-    let mut octets = [0; 4];
-    BigEndian::write_u32(&mut octets, x);
-    out.try_extend_from_slice(&octets).unwrap();
 }

@@ -26,3 +26,9 @@ pub mod ReadBack
 pub mod PlainForms
 -- two names are one, or they are told apart
 pub mod Same
+-- octets, numbers and wire forms have their ranges and sizes
+pub mod Fits
+-- words, ranges and names that were put somewhere are read back there
+pub mod Behind
+-- a reader that is put together from others finds one value or one fault
+pub mod Readers

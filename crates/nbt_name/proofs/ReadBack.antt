@@ -11,7 +11,7 @@ use Rattle.nbt_name.proofs.Passing.{same_spot}
 use Rattle.nbt_name.proofs.Letters.{length-letters, letters_are}
 
 -- what a place has is the front of what is dropped to there
-found_in : (xs : List ℕ) (p x : ℕ) (ys : List ℕ) → drop p xs ≡ x ∷ ys → slice_get xs p ≡ Some x
+pub found_in : (xs : List ℕ) (p x : ℕ) (ys : List ℕ) → drop p xs ≡ x ∷ ys → slice_get xs p ≡ Some x
 found_in [] zero x ys e = absurd cc
 found_in [] (suc p) x ys e = absurd cc
 found_in (z ∷ zs) zero x ys e = cc

@@ -1,3 +1,4 @@
+pub mod Words
 pub mod Scope
 pub mod Wire
 pub mod Numbers

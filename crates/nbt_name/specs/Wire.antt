@@ -42,3 +42,7 @@ letters octets = flat_map (λ o. (0x41 + o / 16) ∷ (0x41 + o % 16) ∷ []) oct
 -- The wire form: a label of 32 letters, the scope's labels, and the closing zero.
 abbrev pub wire : NameValue → List ℕ
 wire name = 0x20 ∷ letters name.octets ++ name.scope ++ 0 ∷ []
+
+-- how many octets it has
+abbrev pub wire_size : NameValue → ℕ
+wire_size name = 34 + length name.scope

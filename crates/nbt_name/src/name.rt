@@ -5,7 +5,7 @@ ghost use Rattle.nbt_name.specs.Scope.{IsScope};
 ghost use Rattle.nbt_name.specs.Wire.{IsName, IsStar, name_of, wire};
 
 use crate::fault::NameRefusal;
-use crate::wire::{LABEL_MOST, LETTERS, SCOPE_MOST};
+use crate::wire::{LABEL_MOST, LETTERS, SCOPE_MOST, WIRE_WITHOUT_SCOPE};
 use arrayvec::ArrayVec;
 use std::marker::Model;
 
@@ -127,12 +127,32 @@ impl Name {
         }
     }
 
+    /// How many octets the wire form has: 34 to 255 (RFC 1002 section 4.1).
+    pub fn wire_len(&self) -> usize
+        ensures value { result ≡ length (wire self.now) }
+        ensures bounds { (34 ≤ result) × (result ≤ 255) }
+        ensures name { IsName self.now }
+    {
+        WIRE_WITHOUT_SCOPE + self.scope.len()
+    }
+
     /// Leaves in `out` the wire form and nothing else: 34 to 255 octets (RFC 1001 section 14, RFC 1002 section 4.1).
     pub fn to_wire(&self, out: &mut ArrayVec<u8, 255>)
         ensures form { out.new.items ≡ wire self.now }
         ensures name { IsName self.now }
     {
         out.clear();
+        self.put_wire(out);
+    }
+
+    /// Appends the wire form, 34 to 255 octets. That 255 have room is the caller's (RFC 1001 section 14, RFC 1002
+    /// section 4.1).
+    pub fn put_wire<const CAP: usize>(&self, out: &mut ArrayVec<u8, CAP>)
+        requires { length out.old.items + 255 ≤ CAP }
+        ensures form { out.new.items ≡ out.old.items ++ wire self.now }
+        ensures fits { length (wire self.now) ≤ 255 }
+        ensures name { IsName self.now }
+    {
         out.push(LETTERS);
         for octet in &self.octets {
             out.push(b'A' + *octet / 16);

@@ -18,5 +18,8 @@ pub const POINTER: u8 = 0xC0;
 /// The most octets of a wire form (RFC 1002 section 4.1, RFC 883).
 pub const WIRE_MOST: usize = 255;
 
+/// How many octets a wire form has beside its scope: the first label and the closing zero.
+pub const WIRE_WITHOUT_SCOPE: usize = 34;
+
 /// The most octets of a scope: with the first label and the closing zero, the wire form has 255.
 pub const SCOPE_MOST: usize = 221;

@@ -1,7 +1,7 @@
 -- The counts that stand before a place.
 use Rattle.std.proofs.Common.{◌≡◌, ℕ, ◌≤◌, List, length, arith, Option, subst}
 use Rattle.nbt_packet.specs.declared.fault.Fault.{Fault}
-use Rattle.nbt_packet.specs.Fields.{word_at}
+use Rattle.nbt_name.specs.Words.{word_at}
 use Rattle.nbt_packet.specs.Inner.Decoding.{CountFault, cut, great, IsHeaderOf}
 use Rattle.nbt_packet.specs.declared.decoding.Header.{Header}
 use Rattle.nbt_packet.specs.Packet.{Count, questions, answers, authorities, additionals, CountsFit, SectionAt, PacketFault, header_cut, count_great}

@@ -2,18 +2,12 @@
 
 -- the counts of a header, one by one
 pub mod Header
--- no octets have two faults, or a packet and a fault
-pub mod Outcome
 -- no packet meets two lines of the table of messages
 pub mod OneMessage
--- no octets begin with two packets, or spell two messages
+-- all octets begin with one packet or have one fault, and no octets spell two messages
 pub mod OnePacket
--- all octets begin with a packet or have a fault
-pub mod Deciding
 -- the parts that the writer puts together are a node status's written form
 pub mod Written
--- numbers, ranges and names that were put somewhere are read back there
-pub mod Words
 -- sections that were written stand where they were put, and make a packet
 pub mod Shapes
 -- so each written form is a packet that spells its message

@@ -2,7 +2,6 @@
 use Rattle.std.proofs.Common.{◌≡◌, true, false, ℕ, ◌+◌, ◌*◌, ◌-◌, ◌/◌, ◌%◌, ◌<◌, ◌≤◌, ◌^◌, List, [], ◌∷◌, ◌++◌, length, replicate, Some, None, refl, sym, arith, inl}
 use Rattle.std.specs.Prelude.{slice_range}
 use Rattle.std.proofs.lemmas.List.{length-append, take_at}
-use Rattle.byteorder.specs.Numbers.{big_number-reads_back}
 use Rattle.nbt_name.specs.declared.addr.Kind.{Kind}
 use Rattle.nbt_name.specs.declared.addr.Kind.TheVariants.{Unique, Group}
 use Rattle.nbt_name.specs.Wire.{NameValue}
@@ -10,14 +9,14 @@ use Rattle.nbt_packet.specs.declared.message.Registration.{Registration}
 use Rattle.nbt_packet.specs.Packet.{PacketValue, PacketIs}
 use Rattle.nbt_packet.specs.Message.{MessageValue, registration, overwrite, refresh, release, query, status_request, registered, released, found, not_found, status, wait, nb, nbstat, null, internet_record, opcode_of, rcode_of, IsUnicast, Responds, IsChallenge, IsEntry, Answers, ClaimsEntry, AnswersEntry, HoldsNumbers, Fits, MessageIs}
 use Rattle.nbt_packet.specs.Text.{entry, text}
-use Rattle.nbt_packet.proofs.Words.{NameLaws}
+use Rattle.nbt_name.proofs.Behind.{long_back}
 use Rattle.nbt_packet.proofs.Shapes.{asked_packet, bare_packet, answer_packet, claim_packet, asking_is, bare_is, answering_is, claiming_is}
 
 -- ---- the parts of the table
 
 entry_is : (kind : Kind) (addr : ℕ) → addr < 2 ^ 32 → IsEntry (entry kind addr) kind addr
-entry_is Unique addr fits = record { six = refl; kind_is = refl; addr_is = sym (big_number-reads_back 4 addr [] fits) }
-entry_is Group addr fits = record { six = refl; kind_is = refl; addr_is = sym (big_number-reads_back 4 addr [] fits) }
+entry_is Unique addr fits = record { six = refl; kind_is = refl; addr_is = sym (long_back addr [] fits) }
+entry_is Group addr fits = record { six = refl; kind_is = refl; addr_is = sym (long_back addr [] fits) }
 
 entry_short : (kind : Kind) (addr : ℕ) → length (entry kind addr) < 2 ^ 16
 entry_short Unique addr = omega arith
@@ -80,74 +79,74 @@ names_are names whole =
 
 -- ---- the table
 
-pub text_is_read : NameLaws → (m : MessageValue) (rest : List ℕ) → HoldsNumbers m → Fits m → (p : PacketValue) × PacketIs (text m ++ rest) p (length (text m)) × MessageIs p m
+pub text_is_read : (m : MessageValue) (rest : List ℕ) → HoldsNumbers m → Fits m → (p : PacketValue) × PacketIs (text m ++ rest) p (length (text m)) × MessageIs p m
 unfolding names_of
-text_is_read names (registration r) rest (id, name, addr, ttl) fits = (
+text_is_read (registration r) rest (id, name, addr, ttl) fits = (
   claim_packet 0x2900 r,
-  claiming_is names 0x2900 r rest id (omega arith) name ttl (entry_short r.kind r.addr),
+  claiming_is 0x2900 r rest id (omega arith) name ttl (entry_short r.kind r.addr),
   (record { request = omega arith; opcode_is = refl; unicast = refl }, refl, claims_it 0x2900 r addr),
 )
-text_is_read names (overwrite r) rest (id, name, addr, ttl) fits = (
+text_is_read (overwrite r) rest (id, name, addr, ttl) fits = (
   claim_packet 0x2800 r,
-  claiming_is names 0x2800 r rest id (omega arith) name ttl (entry_short r.kind r.addr),
+  claiming_is 0x2800 r rest id (omega arith) name ttl (entry_short r.kind r.addr),
   (record { request = omega arith; opcode_is = refl; unicast = refl }, λ desired. omega arith, claims_it 0x2800 r addr),
 )
-text_is_read names (refresh r) rest (id, name, addr, ttl) fits = (
+text_is_read (refresh r) rest (id, name, addr, ttl) fits = (
   claim_packet 0x4000 r,
-  claiming_is names 0x4000 r rest id (omega arith) name ttl (entry_short r.kind r.addr),
+  claiming_is 0x4000 r rest id (omega arith) name ttl (entry_short r.kind r.addr),
   (inl (record { request = omega arith; opcode_is = refl; unicast = refl }), claims_it 0x4000 r addr),
 )
-text_is_read names (release id name kind addr) rest (id_fits, is_name, addr_fits) fits =
+text_is_read (release id name kind addr) rest (id_fits, is_name, addr_fits) fits =
     let r : Registration = record { id = id; name = name; kind = kind; addr = addr; ttl = 0 } in
-    (claim_packet 0x3000 r, claiming_is names 0x3000 r rest id_fits (omega arith) is_name (omega arith) (entry_short kind addr), (record { request = omega arith; opcode_is = refl; unicast = refl }, 0, claims_it 0x3000 r addr_fits))
-text_is_read names (query id name) rest (id_fits, is_name) fits = (
+    (claim_packet 0x3000 r, claiming_is 0x3000 r rest id_fits (omega arith) is_name (omega arith) (entry_short kind addr), (record { request = omega arith; opcode_is = refl; unicast = refl }, 0, claims_it 0x3000 r addr_fits))
+text_is_read (query id name) rest (id_fits, is_name) fits = (
   asked_packet id 0x0100 nb name,
-  asking_is names id 0x0100 nb name rest id_fits (omega arith) (omega arith) is_name,
+  asking_is id 0x0100 nb name rest id_fits (omega arith) (omega arith) is_name,
   (refl, record { request = omega arith; opcode_is = refl; unicast = refl }, record { question_is = refl; no_answer = refl; no_additional = refl }),
 )
-text_is_read names (status_request id name) rest (id_fits, is_name) fits = (
+text_is_read (status_request id name) rest (id_fits, is_name) fits = (
   asked_packet id 0 nbstat name,
-  asking_is names id 0 nbstat name rest id_fits (omega arith) (omega arith) is_name,
+  asking_is id 0 nbstat name rest id_fits (omega arith) (omega arith) is_name,
   (refl, omega arith, refl, record { question_is = refl; no_answer = refl; no_additional = refl }),
 )
-text_is_read names (registered rcode r) rest (id, name, addr, ttl) fits =
+text_is_read (registered rcode r) rest (id, name, addr, ttl) fits =
     let flags = registered_flags rcode fits in
     let p : PacketValue = answer_packet r.id (0xAD80 + rcode) r.name nb r.ttl (entry r.kind r.addr) in (
       p,
-      answering_is names r.id (0xAD80 + rcode) r.name nb r.ttl (entry r.kind r.addr) rest id flags.small name (omega arith) ttl (entry_short r.kind r.addr),
+      answering_is r.id (0xAD80 + rcode) r.name nb r.ttl (entry r.kind r.addr) rest id flags.small name (omega arith) ttl (entry_short r.kind r.addr),
       (inl (responds (0xAD80 + rcode) 5 rcode flags), no_challenge rcode fits, flags.rcode_is, answers_entry (0xAD80 + rcode) r addr),
     )
-text_is_read names (released id rcode name kind addr) rest (id_fits, is_name, addr_fits) fits =
+text_is_read (released id rcode name kind addr) rest (id_fits, is_name, addr_fits) fits =
     let flags = released_flags rcode fits in
     let p : PacketValue = answer_packet id (0xB400 + rcode) name nb 0 (entry kind addr) in (
       p,
-      answering_is names id (0xB400 + rcode) name nb 0 (entry kind addr) rest id_fits flags.small is_name (omega arith) (omega arith) (entry_short kind addr),
+      answering_is id (0xB400 + rcode) name nb 0 (entry kind addr) rest id_fits flags.small is_name (omega arith) (omega arith) (entry_short kind addr),
       (responds (0xB400 + rcode) 6 rcode flags, flags.rcode_is, 0, answers_entry (0xB400 + rcode) (record { id = id; name = name; kind = kind; addr = addr; ttl = 0 }) addr_fits),
     )
-text_is_read names (found id name ttl entries false) rest (id_fits, is_name, ttl_fits, octets) (some, most, whole) = (
+text_is_read (found id name ttl entries false) rest (id_fits, is_name, ttl_fits, octets) (some, most, whole) = (
   answer_packet id 0x8580 name nb ttl entries,
-  answering_is names id 0x8580 name nb ttl entries rest id_fits (omega arith) is_name (omega arith) ttl_fits (omega arith),
+  answering_is id 0x8580 name nb ttl entries rest id_fits (omega arith) is_name (omega arith) ttl_fits (omega arith),
   (refl, record { response = omega arith; opcode_is = refl; unicast = refl }, refl, (λ e. absurd cc, λ e. absurd (omega (arith, e))), answers_it id 0x8580 name nb ttl entries, (some, whole)),
 )
-text_is_read names (found id name ttl entries true) rest (id_fits, is_name, ttl_fits, octets) (some, most, whole) = (
+text_is_read (found id name ttl entries true) rest (id_fits, is_name, ttl_fits, octets) (some, most, whole) = (
   answer_packet id 0x8780 name nb ttl entries,
-  answering_is names id 0x8780 name nb ttl entries rest id_fits (omega arith) is_name (omega arith) ttl_fits (omega arith),
+  answering_is id 0x8780 name nb ttl entries rest id_fits (omega arith) is_name (omega arith) ttl_fits (omega arith),
   (refl, record { response = omega arith; opcode_is = refl; unicast = refl }, refl, (λ e. refl, λ e. refl), answers_it id 0x8780 name nb ttl entries, (some, whole)),
 )
-text_is_read names (not_found id rcode None) rest id_fits (low, most) =
+text_is_read (not_found id rcode None) rest id_fits (low, most) =
     let flags = queried_flags rcode most in
     let p : PacketValue = bare_packet id (0x8580 + rcode) in
     (p, bare_is id (0x8580 + rcode) rest id_fits flags.small, (refl, responds (0x8580 + rcode) 0 rcode flags, flags.rcode_is, λ none. omega arith, record { no_question = refl; no_answer = refl; no_additional = refl }))
-text_is_read names (not_found id rcode (Some name)) rest (id_fits, is_name) (low, most) =
+text_is_read (not_found id rcode (Some name)) rest (id_fits, is_name) (low, most) =
     let flags = queried_flags rcode most in
     let p : PacketValue = answer_packet id (0x8580 + rcode) name null 0 [] in (
       p,
-      answering_is names id (0x8580 + rcode) name null 0 [] rest id_fits flags.small is_name (omega arith) (omega arith) (omega arith),
+      answering_is id (0x8580 + rcode) name null 0 [] rest id_fits flags.small is_name (omega arith) (omega arith) (omega arith),
       (refl, responds (0x8580 + rcode) 0 rcode flags, flags.rcode_is, λ none. omega arith, (_, record { no_question = refl; answer_is = refl; no_additional = refl }, refl)),
     )
-text_is_read names (status id name entries) rest (id_fits, is_name, octets) (most, whole) = (
+text_is_read (status id name entries) rest (id_fits, is_name, octets) (most, whole) = (
   answer_packet id 0x8400 name nbstat 0 (names_of entries),
-  answering_is names id 0x8400 name nbstat 0 (names_of entries) rest id_fits (omega arith) is_name (omega arith) (omega arith) (names_short entries most),
+  answering_is id 0x8400 name nbstat 0 (names_of entries) rest id_fits (omega arith) is_name (omega arith) (omega arith) (names_short entries most),
   (
     refl,
     record { response = omega arith; opcode_is = refl; unicast = refl },
@@ -158,8 +157,8 @@ text_is_read names (status id name entries) rest (id_fits, is_name, octets) (mos
     record { counted = omega arith; whole = names_within entries whole; names_are = names_are entries whole },
   ),
 )
-text_is_read names (wait id name ttl) rest (id_fits, is_name, ttl_fits) fits = (
+text_is_read (wait id name ttl) rest (id_fits, is_name, ttl_fits) fits = (
   answer_packet id 0xBC00 name nb ttl (0x29 ∷ 0x00 ∷ []),
-  answering_is names id 0xBC00 name nb ttl (0x29 ∷ 0x00 ∷ []) rest id_fits (omega arith) is_name (omega arith) ttl_fits (omega arith),
+  answering_is id 0xBC00 name nb ttl (0x29 ∷ 0x00 ∷ []) rest id_fits (omega arith) is_name (omega arith) ttl_fits (omega arith),
   (refl, record { response = omega arith; opcode_is = refl; unicast = refl }, _, record { no_question = refl; answer_is = refl; no_additional = refl }, refl, refl),
 )

@@ -2,15 +2,15 @@
 use Rattle.std.proofs.Common.{◌≡◌, ℕ, ◌+◌, ◌<◌, ◌≤◌, ◌^◌, List, [], ◌∷◌, ◌++◌, length, Some, None, refl, sym, ap, subst, ◌∙◌, arith, append_assoc}
 use Rattle.std.specs.Prelude.{slice_range}
 use Rattle.std.proofs.lemmas.List.{length-append}
-use Rattle.byteorder.specs.Numbers.{big_number-reads_back}
 use Rattle.nbt_name.specs.Wire.{NameValue, IsName, wire}
 use Rattle.nbt_name.specs.Reading.{NameAt}
 use Rattle.nbt_packet.specs.declared.message.Registration.{Registration}
-use Rattle.nbt_packet.specs.Fields.{word, long, word_at}
+use Rattle.nbt_name.specs.Words.{word, long, word_at}
 use Rattle.nbt_packet.specs.Packet.{PacketValue, QuestionAt, RecordAt, CountsFit, IsHeader, PacketIs, questions, answers, authorities, additionals}
 use Rattle.nbt_packet.specs.Message.{internet, nb}
 use Rattle.nbt_packet.specs.Text.{header, record_fields, entry, question_octets, claim_octets, answer_octets}
-use Rattle.nbt_packet.proofs.Words.{NameLaws, Behind, onward, word_there, long_there, range_there, octet_there, name_there}
+use Rattle.nbt_name.proofs.ReadBack.{pointer_is_read}
+use Rattle.nbt_name.proofs.Behind.{Behind, onward, word_back, word_there, long_there, range_there, octet_there, name_there}
 
 -- ---- the header
 
@@ -32,12 +32,12 @@ record HeaderThere (octets : List ℕ) (id flags qs ans ads : ℕ) (body : List 
 header_there : (id flags qs ans ads : ℕ) (body : List ℕ) → id < 2 ^ 16 → flags < 2 ^ 16 → qs ≤ 1 → ans ≤ 1 → ads ≤ 1 → HeaderThere (header id flags qs ans ads ++ body) id flags qs ans ads body
 header_there id flags qs ans ads body id_fits flags_fit one_q one_a one_ad =
     let octets : List ℕ = header id flags qs ans ads ++ body in
-    let id_is : word_at octets 0 ≡ id = big_number-reads_back 2 id (word flags ++ (word qs ++ (word ans ++ (word 0 ++ (word ads ++ body))))) id_fits in
-    let flags_is : word_at octets 2 ≡ flags = big_number-reads_back 2 flags (word qs ++ (word ans ++ (word 0 ++ (word ads ++ body)))) flags_fit in
-    let qs_are : word_at octets 4 ≡ qs = big_number-reads_back 2 qs (word ans ++ (word 0 ++ (word ads ++ body))) (omega arith) in
-    let ans_are : word_at octets 6 ≡ ans = big_number-reads_back 2 ans (word 0 ++ (word ads ++ body)) (omega arith) in
+    let id_is : word_at octets 0 ≡ id = word_back id (word flags ++ (word qs ++ (word ans ++ (word 0 ++ (word ads ++ body))))) id_fits in
+    let flags_is : word_at octets 2 ≡ flags = word_back flags (word qs ++ (word ans ++ (word 0 ++ (word ads ++ body)))) flags_fit in
+    let qs_are : word_at octets 4 ≡ qs = word_back qs (word ans ++ (word 0 ++ (word ads ++ body))) (omega arith) in
+    let ans_are : word_at octets 6 ≡ ans = word_back ans (word 0 ++ (word ads ++ body)) (omega arith) in
     let none : word_at octets 8 ≡ 0 = refl in
-    let ads_are : word_at octets 10 ≡ ads = big_number-reads_back 2 ads body (omega arith) in
+    let ads_are : word_at octets 10 ≡ ads = word_back ads body (omega arith) in
     record {
       whole = (omega arith, counts_fit octets (rw qs_are one_q) (rw ans_are one_a) (omega (arith, none)) (rw ads_are one_ad));
       id_is = sym id_is;
@@ -50,9 +50,9 @@ header_there id flags qs ans ads body id_fits flags_fit one_q one_a one_ad =
 
 -- ---- a question, and a record's fields after its name
 
-question_there : NameLaws → {octets : List ℕ} {p : ℕ} (name : NameValue) (rtype : ℕ) (rest : List ℕ) → IsName name → rtype < 2 ^ 16 → Behind octets p ((wire name ++ word rtype ++ word internet) ++ rest)
+question_there : {octets : List ℕ} {p : ℕ} (name : NameValue) (rtype : ℕ) (rest : List ℕ) → IsName name → rtype < 2 ^ 16 → Behind octets p ((wire name ++ word rtype ++ word internet) ++ rest)
     → QuestionAt octets p (record { name = name; rtype = rtype; class = internet }) (p + length (wire name ++ word rtype ++ word internet))
-question_there names {octets} {p} name rtype rest is_name fits b =
+question_there {octets} {p} name rtype rest is_name fits b =
     let w : List ℕ = wire name in
     let regroup : (w ++ word rtype ++ word internet) ++ rest ≡ w ++ (word rtype ++ (word internet ++ rest)) = append_assoc (w ++ word rtype) (word internet) rest ∙ append_assoc w (word rtype) (word internet ++ rest) in
     let b0 : Behind octets p (w ++ (word rtype ++ (word internet ++ rest))) = subst (Behind octets p) regroup b in
@@ -60,7 +60,7 @@ question_there names {octets} {p} name rtype rest is_name fits b =
     let b2 : Behind octets (p + length w + 2) (word internet ++ rest) = onward 2 (word rtype) (word internet ++ rest) refl b1 in
     record {
       named = p + length w;
-      name = name_there names name (word rtype ++ (word internet ++ rest)) is_name b0;
+      name = name_there name (word rtype ++ (word internet ++ rest)) is_name b0;
       fits = omega (arith, b1.within);
       rtype = sym (word_there rtype (word internet ++ rest) fits b1);
       class = sym (word_there internet rest (omega arith) b2);
@@ -115,9 +115,9 @@ claim_packet flags r = record {
   additional = Some (record { name = r.name; rtype = nb; class = internet; ttl = r.ttl; rdata = entry r.kind r.addr });
 }
 
-pub asking_is : NameLaws → (id flags rtype : ℕ) (name : NameValue) (rest : List ℕ) → id < 2 ^ 16 → flags < 2 ^ 16 → rtype < 2 ^ 16 → IsName name
+pub asking_is : (id flags rtype : ℕ) (name : NameValue) (rest : List ℕ) → id < 2 ^ 16 → flags < 2 ^ 16 → rtype < 2 ^ 16 → IsName name
     → PacketIs (question_octets id flags rtype name ++ rest) (asked_packet id flags rtype name) (length (question_octets id flags rtype name))
-asking_is names id flags rtype name rest id_fits flags_fit rtype_fits is_name =
+asking_is id flags rtype name rest id_fits flags_fit rtype_fits is_name =
     let q : List ℕ = wire name ++ word rtype ++ word internet in
     let h = header_there id flags 1 0 0 (q ++ rest) id_fits flags_fit (omega arith) (omega arith) (omega arith) in
     record {
@@ -126,7 +126,7 @@ asking_is names id flags rtype name rest id_fits flags_fit rtype_fits is_name =
       header = h.whole;
       id = h.id_is;
       flags = h.flags_is;
-      question = (h.questions_are, question_there names name rtype rest is_name rtype_fits h.behind);
+      question = (h.questions_are, question_there name rtype rest is_name rtype_fits h.behind);
       answer = (h.answers_are, refl);
       additional = (h.additionals_are, omega arith);
     }
@@ -146,9 +146,9 @@ bare_is id flags rest id_fits flags_fit =
       additional = (h.additionals_are, refl);
     }
 
-pub answering_is : NameLaws → (id flags : ℕ) (name : NameValue) (rtype ttl : ℕ) (rdata rest : List ℕ) → id < 2 ^ 16 → flags < 2 ^ 16 → IsName name → rtype < 2 ^ 16 → ttl < 2 ^ 32 → length rdata < 2 ^ 16
+pub answering_is : (id flags : ℕ) (name : NameValue) (rtype ttl : ℕ) (rdata rest : List ℕ) → id < 2 ^ 16 → flags < 2 ^ 16 → IsName name → rtype < 2 ^ 16 → ttl < 2 ^ 32 → length rdata < 2 ^ 16
     → PacketIs (answer_octets id flags name rtype ttl rdata ++ rest) (answer_packet id flags name rtype ttl rdata) (length (answer_octets id flags name rtype ttl rdata))
-answering_is names id flags name rtype ttl rdata rest id_fits flags_fit is_name rtype_fits ttl_fits rdata_fits =
+answering_is id flags name rtype ttl rdata rest id_fits flags_fit is_name rtype_fits ttl_fits rdata_fits =
     let octets : List ℕ = answer_octets id flags name rtype ttl rdata ++ rest in
     let w : List ℕ = wire name in
     let f : List ℕ = record_fields rtype ttl rdata in
@@ -162,14 +162,14 @@ answering_is names id flags name rtype ttl rdata rest id_fits flags_fit is_name 
       id = h.id_is;
       flags = h.flags_is;
       question = (h.questions_are, refl);
-      answer = (h.answers_are, record_there name rtype ttl rdata rest (name_there names name (f ++ rest) is_name b) rtype_fits ttl_fits rdata_fits b2);
+      answer = (h.answers_are, record_there name rtype ttl rdata rest (name_there name (f ++ rest) is_name b) rtype_fits ttl_fits rdata_fits b2);
       additional = (h.additionals_are, omega (arith, length-append w f));
     }
 
 -- a question, and a record whose name is a pointer to the question's
-pub claiming_is : NameLaws → (flags : ℕ) (r : Registration) (rest : List ℕ) → r.id < 2 ^ 16 → flags < 2 ^ 16 → IsName r.name → r.ttl < 2 ^ 32 → length (entry r.kind r.addr) < 2 ^ 16
+pub claiming_is : (flags : ℕ) (r : Registration) (rest : List ℕ) → r.id < 2 ^ 16 → flags < 2 ^ 16 → IsName r.name → r.ttl < 2 ^ 32 → length (entry r.kind r.addr) < 2 ^ 16
     → PacketIs (claim_octets flags r ++ rest) (claim_packet flags r) (length (claim_octets flags r))
-claiming_is names flags r rest id_fits flags_fit is_name ttl_fits rdata_fits =
+claiming_is flags r rest id_fits flags_fit is_name ttl_fits rdata_fits =
     let octets : List ℕ = claim_octets flags r ++ rest in
     let w : List ℕ = wire r.name in
     let q : List ℕ = w ++ word nb ++ word internet in
@@ -182,16 +182,16 @@ claiming_is names flags r rest id_fits flags_fit is_name ttl_fits rdata_fits =
     let c1 : Behind octets (p + 1) (0x0C ∷ (f ++ rest)) = onward 1 (0xC0 ∷ []) (0x0C ∷ (f ++ rest)) refl c in
     let c2 : Behind octets (p + 2) (f ++ rest) = onward 2 (0xC0 ∷ 0x0C ∷ []) (f ++ rest) refl c in
     let regroup : q ++ (add ++ rest) ≡ w ++ (word nb ++ (word internet ++ (add ++ rest))) = append_assoc (w ++ word nb) (word internet) (add ++ rest) ∙ append_assoc w (word nb) (word internet ++ (add ++ rest)) in
-    let asked_name : NameAt octets 12 r.name (12 + length w) = name_there names r.name (word nb ++ (word internet ++ (add ++ rest))) is_name (subst (Behind octets 12) regroup b) in
+    let asked_name : NameAt octets 12 r.name (12 + length w) = name_there r.name (word nb ++ (word internet ++ (add ++ rest))) is_name (subst (Behind octets 12) regroup b) in
     let beyond : 12 < p = omega (arith, length-append (w ++ word nb) (word internet)) in
-    let same_name : NameAt octets p r.name (p + 2) = names.pointer_is octets p 0xC0 0x0C r.name (12 + length w) (octet_there 0xC0 (0x0C ∷ (f ++ rest)) c) (omega arith) (octet_there 0x0C (f ++ rest) c1) beyond asked_name in
+    let same_name : NameAt octets p r.name (p + 2) = pointer_is_read octets p 0xC0 0x0C r.name (12 + length w) (octet_there 0xC0 (0x0C ∷ (f ++ rest)) c) (omega arith) (octet_there 0x0C (f ++ rest) c1) beyond asked_name in
     record {
       asked = p;
       answered = p;
       header = h.whole;
       id = h.id_is;
       flags = h.flags_is;
-      question = (h.questions_are, question_there names r.name nb (add ++ rest) is_name (omega arith) b);
+      question = (h.questions_are, question_there r.name nb (add ++ rest) is_name (omega arith) b);
       answer = (h.answers_are, refl);
       additional = (h.additionals_are, subst (RecordAt octets p _) (omega (arith, length-append q add)) (record_there r.name nb r.ttl (entry r.kind r.addr) rest same_name (omega arith) ttl_fits rdata_fits c2));
     }

@@ -1,22 +1,16 @@
 -- How long written forms are.
-use Rattle.std.proofs.Common.{◌≡◌, ◌≤◌, ℕ, ◌+◌, ◌*◌, ◌/◌, List, [], ◌∷◌, ◌++◌, length, Some, None, refl, arith}
+use Rattle.std.proofs.Common.{◌≡◌, ◌≤◌, ℕ, ◌+◌, ◌/◌, List, [], ◌∷◌, ◌++◌, length, Some, None, refl, arith}
 use Rattle.std.specs.Prelude.{replicate}
 use Rattle.std.proofs.lemmas.List.{length-append}
 use Rattle.nbt_name.specs.declared.addr.Kind.{Kind}
 use Rattle.nbt_name.specs.declared.addr.Kind.TheVariants.{Unique, Group}
-use Rattle.nbt_name.specs.Wire.{NameValue, IsName, letters, wire}
+use Rattle.nbt_name.specs.Wire.{NameValue, IsName, wire, wire_size}
+use Rattle.nbt_name.proofs.Fits.{length-wire}
 use Rattle.nbt_packet.specs.declared.message.Registration.{Registration}
-use Rattle.nbt_packet.specs.Fields.{word}
+use Rattle.nbt_name.specs.Words.{word}
 use Rattle.nbt_packet.specs.Message.{MessageValue, HoldsNumbers, registration, overwrite, refresh, release, query, status_request, registered, released, found, not_found, status, wait, nb, nbstat, null, internet}
-use Rattle.nbt_packet.specs.Text.{header, record_fields, entry, question_octets, claim_octets, answer_octets, found_flags, text, wire_size, size_of}
+use Rattle.nbt_packet.specs.Text.{header, record_fields, entry, question_octets, claim_octets, answer_octets, found_flags, text, size_of}
 use Rattle.nbt_packet.specs.Spelling.{HasFewRows}
-
-length-letters : (os : List ℕ) → length (letters os) ≡ 2 * length os
-length-letters [] = refl
-length-letters (o ∷ os) = omega (arith, length-letters os)
-
-pub length-wire : (n : NameValue) → IsName n → length (wire n) ≡ wire_size n
-length-wire n is = omega (arith, length-append (letters n.octets ++ n.scope) (0 ∷ []), length-append (letters n.octets) n.scope, length-letters n.octets, is.sixteen)
 
 length-entry : (kind : Kind) (addr : ℕ) → length (entry kind addr) ≡ 6
 length-entry Unique addr = refl

@@ -1,39 +1,16 @@
 -- A message that octets spell holds numbers in their ranges, and has a written form.
-use Rattle.std.proofs.Common.{◌≡◌, ℕ, ◌+◌, ◌-◌, ◌*◌, ◌^◌, ◌<◌, ◌≤◌, List, length, take, drop, Option, Some, None, ap, subst, ◌∙◌, arith, inl, inr}
+use Rattle.std.proofs.Common.{◌≡◌, ℕ, ◌+◌, ◌-◌, ◌*◌, ◌^◌, ◌<◌, List, length, drop, Option, Some, None, ap, subst, ◌∙◌, arith}
 use Rattle.std.specs.Prelude.{slice_index, slice_range}
-use Rattle.std.proofs.lemmas.Bool.{cases_lt}
-use Rattle.std.proofs.lemmas.List.{length-take, length-take-le, length-drop, get_or-drop, get_or-take}
-use Rattle.std.proofs.Math.ListN.{get_or-eq_default}
+use Rattle.std.proofs.lemmas.List.{length-take-le, length-drop}
 use Rattle.nbt_name.specs.declared.addr.Kind.{Kind}
 use Rattle.nbt_name.specs.Wire.{NameValue, IsName, AreOctets}
+use Rattle.nbt_name.proofs.Fits.{octets_range, word_fits, long_fits}
 use Rattle.nbt_packet.specs.declared.message.Registration.{Registration}
 use Rattle.nbt_packet.specs.declared.packet.Question.{Question}
-use Rattle.nbt_packet.specs.Fields.{word_at, long_at}
+use Rattle.nbt_name.specs.Words.{word_at}
 use Rattle.nbt_packet.specs.Packet.{RecordValue, PacketValue, QuestionAt, RecordAt, SectionAt, PacketIs}
 use Rattle.nbt_packet.specs.Message.{MessageValue, registration, overwrite, refresh, release, query, status_request, registered, released, found, not_found, status, wait, IsEntry, ClaimsEntry, AnswersEntry, GivesName, MessageIs, IsRegistration, HoldsNumbers, Fits}
 use Rattle.nbt_packet.specs.Spelling.{Spells}
-
--- ---- octets and numbers
-
-octets_drop : (n : ℕ) (xs : List ℕ) → AreOctets xs → AreOctets (drop n xs)
-octets_drop n xs fits k = rw get_or-drop (fits (n + k))
-
-octets_take : (n : ℕ) (xs : List ℕ) → AreOctets xs → AreOctets (take n xs)
-octets_take n xs fits k =
-    elim (cases_lt k n) [ inl less ↦ rw (get_or-take n xs k 0 less) (fits k) | inr more ↦ rw (past k more) (omega arith) ]
-  where
-    past : (k : ℕ) → n ≤ k → slice_index (take n xs) k ≡ 0
-    past k more = get_or-eq_default (take n xs) 0 {n = k} (omega (arith, length-take n xs))
-
-octets_range : (xs : List ℕ) (a b : ℕ) → AreOctets xs → AreOctets (slice_range xs a b)
-octets_range xs a b fits = octets_take (b - a) (drop a xs) (octets_drop a xs fits)
-
-word_fits : (octets : List ℕ) (place : ℕ) → AreOctets octets → word_at octets place < 2 ^ 16
-word_fits octets place fits = omega (arith, octets_drop place octets fits 0, octets_drop place octets fits 1)
-
-long_fits : (octets : List ℕ) (place : ℕ) → AreOctets octets → long_at octets place < 2 ^ 32
-long_fits octets place fits =
-    omega (arith, octets_drop place octets fits 0, octets_drop place octets fits 1, octets_drop place octets fits 2, octets_drop place octets fits 3)
 
 -- ---- what stands in a packet
 

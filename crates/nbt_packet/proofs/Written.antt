@@ -1,7 +1,7 @@
 -- What the writer's steps put together is a message's written form.
 use Rattle.std.proofs.Common.{◌≡◌, ℕ, ◌+◌, ◌/◌, List, [], ◌∷◌, ◌++◌, length, replicate, arith, ap, ◌∙◌, append_assoc, length-append}
 use Rattle.nbt_name.specs.Wire.{NameValue, wire}
-use Rattle.nbt_packet.specs.Fields.{word, long}
+use Rattle.nbt_name.specs.Words.{word, long}
 use Rattle.nbt_packet.specs.Message.{status, nbstat, internet}
 use Rattle.nbt_packet.specs.Text.{header, text}
 

@@ -1,5 +1,4 @@
 pub mod Numbers
-pub mod Fields
 pub mod Packet
 pub mod Inner
 pub mod Message

@@ -7,7 +7,7 @@ use Rattle.nbt_packet.specs.declared.message.Message.{Message}
 use Rattle.nbt_packet.specs.declared.message.Message.TheVariants as m
 use Rattle.nbt_packet.specs.declared.message.Registration.{Registration}
 use Rattle.nbt_packet.specs.declared.packet.Question.{Question}
-use Rattle.nbt_packet.specs.Fields.{long_at}
+use Rattle.nbt_name.specs.Words.{long_at}
 use Rattle.nbt_packet.specs.Packet.{PacketValue, RecordValue}
 
 -- A message, without where its octets lie in memory.

@@ -8,7 +8,7 @@ use Rattle.nbt_packet.specs.declared.packet.Question.{Question}
 use Rattle.nbt_packet.specs.declared.packet.Record.{Record}
 use Rattle.nbt_packet.specs.declared.packet.Packet.{Packet}
 use Rattle.nbt_packet.specs.Numbers.{fault_of, short, too_many}
-use Rattle.nbt_packet.specs.Fields.{word_at, long_at}
+use Rattle.nbt_name.specs.Words.{word_at, long_at}
 
 -- A record, without where its RDATA lies in memory.
 pub record RecordValue : Type 0 where

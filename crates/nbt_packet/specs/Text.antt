@@ -2,9 +2,9 @@
 use Rattle.std.specs.Prelude.{ℕ, ◌+◌, ◌-◌, ◌/◌, Bool, true, false, List, [], ◌∷◌, ◌++◌, length, Some, None, replicate}
 use Rattle.nbt_name.specs.declared.addr.Kind.{Kind}
 use Rattle.nbt_name.specs.declared.addr.Kind.TheVariants.{Unique, Group}
-use Rattle.nbt_name.specs.Wire.{NameValue, wire}
+use Rattle.nbt_name.specs.Wire.{NameValue, wire, wire_size}
 use Rattle.nbt_packet.specs.declared.message.Registration.{Registration}
-use Rattle.nbt_packet.specs.Fields.{word, long}
+use Rattle.nbt_name.specs.Words.{word, long}
 use Rattle.nbt_packet.specs.Message.{MessageValue, registration, overwrite, refresh, release, query, status_request, registered, released, found, not_found, status, wait, nb, nbstat, null, internet}
 
 -- the six words
@@ -59,9 +59,6 @@ text (status id name names) = answer_octets id 0x8400 name nbstat 0 (length name
 text (wait id name ttl) = answer_octets id 0xBC00 name nb ttl (0x29 ∷ 0x00 ∷ [])
 
 -- ---- how long a written form is
-
-abbrev pub wire_size : NameValue → ℕ
-wire_size name = 34 + length name.scope
 
 abbrev pub size_of : MessageValue → ℕ
 size_of (registration r) = 34 + wire_size r.name

@@ -1,7 +1,7 @@
 //! Which message a packet spells (RFC 1002 sections 4.2.2 to 4.2.18).
 
 ghost use Rattle.std.specs.Prelude.{◌≡◌, ℕ, ◌+◌, ◌*◌, ◌<◌, ◌≤◌, ◌↔◌, Some, length, slice_index, IsTrue};
-ghost use Rattle.nbt_packet.specs.Fields.{long_at};
+ghost use Rattle.nbt_name.specs.Words.{long_at};
 ghost use Rattle.nbt_packet.specs.Packet.{record_of, packet_of};
 ghost use Rattle.nbt_packet.specs.Message.{MessageValue, MessageIs, Asks, Claims, Answers, IsBare, Responds, IsEntry, AreEntries, HoldsNames, nb, nbstat, internet, kind_in, message_if};
 ghost use Rattle.nbt_packet.specs.Inner.Classifying.{Classifies};

@@ -3,16 +3,14 @@
 ghost use Rattle.std.specs.Prelude.{◌≡◌, ℕ, ◌+◌, ◌<◌, ◌≤◌, ◌↔◌, Ok, Err, Some, None, length, drop, IfOk, IfErr, OnOk};
 ghost use Rattle.nbt_packet.specs.declared.fault.Fault.{Fault};
 ghost use Rattle.nbt_packet.specs.Numbers.{short, too_many};
-ghost use Rattle.nbt_packet.specs.Fields.{word_at, long_at};
+ghost use Rattle.nbt_name.specs.Words.{word_at, long_at};
 ghost use Rattle.nbt_packet.specs.Packet.{PacketValue, QuestionAt, RecordAt, SectionAt, IsHeader, PacketIs, QuestionFault, RecordFault, PacketFault, record_of, record_if, packet_of, decoded};
 ghost use Rattle.nbt_packet.specs.Inner.Decoding.{IsHeaderOf, CountFault};
 
 use crate::fault::{Fault, FaultKind};
-use crate::laws;
 use crate::packet::{Packet, Question, Record};
 use crate::wire::{ANCOUNT, ARCOUNT, FLAGS, HEADER, NAME_TRN_ID, NSCOUNT, QDCOUNT};
-use byteorder::{BigEndian, ByteOrder};
-use nbt_name::{NameFaultKind, read_in};
+use nbt_name::{NameFaultKind, read_in, read_long, read_word};
 
 /// Reads the packet that the octets begin with, and returns it with how many octets it took. The fault is the first
 /// one in reading order: `TooMany` (6) as soon as a count was read that is above 1 (NSCOUNT: above 0); a name's own
@@ -23,7 +21,6 @@ pub fn decode(octets: &[u8]) -> Result<(Packet<'_>, usize), Fault>
     ensures fault { (fault : Fault) → (decoded result ≡ Err fault) ↔ PacketFault octets.now fault }
     ensures within { IfOk result (λ read. read.1 ≤ length octets.now) }
 {
-    laws::one_packet_or_fault();
     packet_at(octets)
 }
 
@@ -86,7 +83,7 @@ fn word(octets: &[u8], place: usize) -> Result<u16, Fault>
     if octets.len() < place + 2 {
         return Err(short_of(octets));
     }
-    Ok(number_at(octets, place))
+    Ok(read_word(octets, place))
 }
 
 /// A count of the header, of which at most `most` are read.
@@ -156,8 +153,8 @@ fn question_at(octets: &[u8], place: usize) -> Result<(Question, usize), Fault>
     }
     let question = Question {
         name,
-        rtype: number_at(octets, named),
-        class: number_at(octets, named + 2),
+        rtype: read_word(octets, named),
+        class: read_word(octets, named + 2),
     };
     Ok((question, named + 4))
 }
@@ -174,35 +171,19 @@ fn record_at(octets: &[u8], place: usize) -> Result<(Record<'_>, usize), Fault>
         return Err(short_of(octets));
     }
     let begin = named + 10;
-    let rdlength = usize::from(number_at(octets, named + 8));
+    let rdlength = usize::from(read_word(octets, named + 8));
     if octets.len() - begin < rdlength {
         return Err(short_of(octets));
     }
     let end = begin + rdlength;
     let record = Record {
         name,
-        rtype: number_at(octets, named),
-        class: number_at(octets, named + 2),
-        ttl: long_number_at(octets, named + 4),
+        rtype: read_word(octets, named),
+        class: read_word(octets, named + 2),
+        ttl: read_long(octets, named + 4),
         rdata: &octets[begin..end],
     };
     Ok((record, end))
-}
-
-/// The word of two octets at a place, most significant octet first.
-fn number_at(octets: &[u8], place: usize) -> u16
-    requires { place + 2 ≤ length octets.now }
-    ensures { result ≡ word_at octets.now place }
-{
-    BigEndian::read_u16(&octets[place..])
-}
-
-/// The number of four octets at a place, most significant octet first.
-fn long_number_at(octets: &[u8], place: usize) -> u32
-    requires { place + 4 ≤ length octets.now }
-    ensures { result ≡ long_at octets.now place }
-{
-    BigEndian::read_u32(&octets[place..])
 }
 
 /// The octets end where one is missing.

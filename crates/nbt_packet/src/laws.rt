@@ -19,9 +19,7 @@ pub fn one_packet_or_fault()
         → PacketFault octets f → PacketFault octets g → f ≡ g }
     ensures not_both { (octets : List ℕ) (packet : PacketValue) (n : ℕ) (fault : Fault) → AreOctets octets
         → PacketIs octets packet n → PacketFault octets fault → ⊥ }
-{
-    nbt_name::laws::one_name_or_fault();
-}
+{}
 
 /// No packet meets two lines of the table of messages.
 pub fn one_message()
@@ -31,9 +29,7 @@ pub fn one_message()
 /// No octets spell two messages.
 pub fn one_message_spelled()
     ensures { (octets : List ℕ) (m n : MessageValue) → Spells octets m → Spells octets n → m ≡ n }
-{
-    nbt_name::laws::one_name_or_fault();
-}
+{}
 
 /// The written form of each message that fits, followed by any octets, spells that message, and the packet takes the
 /// written form's length.
@@ -41,11 +37,7 @@ pub fn written_form_is_read()
     ensures spells { (m : MessageValue) (rest : List ℕ) → HoldsNumbers m → Fits m → Spells (text m ++ rest) m }
     ensures whole { (m : MessageValue) (rest : List ℕ) → HoldsNumbers m → Fits m
         → (p : PacketValue) × PacketIs (text m ++ rest) p (length (text m)) × MessageIs p m }
-{
-    nbt_name::laws::wire_form_is_read();
-    nbt_name::laws::plain_name_is_a_name();
-    nbt_name::laws::pointer_is_the_name_it_leads_to();
-}
+{}
 
 /// What is read can be written: a message that octets spell holds numbers in their ranges and a name, and fits.
 pub fn spelled_message_fits()

@@ -20,9 +20,6 @@ pub const ARCOUNT: usize = 10;
 /// How many octets stand between a record's name and its RDATA: type, class, TTL and RDLENGTH (RFC 1002 section
 /// 4.2.1.3).
 pub const RECORD_FIELDS: usize = 10;
-/// How many octets a name's wire form has beside its scope: a label of 32 letters and the closing zero (RFC 1002 section
-/// 4.1).
-pub const WIRE_WITHOUT_SCOPE: usize = 34;
 
 /// Type NB, a name's entries (RFC 1002 section 4.2.1.3).
 pub const NB: u16 = 0x0020;

@@ -3,7 +3,7 @@
 ghost use Rattle.std.specs.Prelude.{◌≡◌, ◌+◌, ◌*◌, ◌<◌, ◌≤◌, ◌↔◌, [], ◌++◌, length, Some, OnOk, OnErr, IsErr};
 ghost use Rattle.std.specs.Option.{ForSome};
 ghost use Rattle.nbt_name.specs.Wire.{AreOctets, IsName, wire};
-ghost use Rattle.nbt_packet.specs.Fields.{word, long};
+ghost use Rattle.nbt_name.specs.Words.{word, long};
 ghost use Rattle.nbt_packet.specs.Message.{Fits, IsRegistration, HoldsNumbers, message_of, not_found, status, nb, internet};
 ghost use Rattle.nbt_packet.specs.Spelling.{HasFewRows, AreWritten};
 ghost use Rattle.nbt_packet.specs.Text as spec;
@@ -14,11 +14,11 @@ use crate::laws;
 use crate::message::{Message, Registration};
 use crate::wire::{
     ADDR_ENTRY, DATAGRAM_MOST, GROUP, HEADER, IN, NAME_FLAGS_P_ACTIVE, NB, NB_FLAGS_P, NBSTAT,
-    NODE_NAME, NULL, RECORD_FIELDS, STATISTICS, WIRE_WITHOUT_SCOPE,
+    NODE_NAME, NULL, RECORD_FIELDS, STATISTICS,
 };
 use arrayvec::ArrayVec;
 use byteorder::{BigEndian, ByteOrder};
-use nbt_name::{Kind, Name};
+use nbt_name::{Kind, Name, put_long, put_word};
 
 /// NAME REGISTRATION REQUEST: OPCODE 5, RD (RFC 1002 section 4.2.2).
 const REGISTRATION: u16 = 0x2900;
@@ -298,7 +298,7 @@ fn put_answer_head(
     ensures name { IsName name.now }
 {
     put_header(out, id, flags, 0, 1, 0);
-    put_name(out, name);
+    name.put_wire(out);
     put_record_fields(out, rtype, ttl, rdlength);
 }
 
@@ -329,7 +329,7 @@ fn put_question(out: &mut ArrayVec<u8, 576>, asked: &Name, rtype: u16)
     ensures fits { length (wire asked.now) ≤ 255 }
     ensures name { IsName asked.now }
 {
-    put_name(out, asked);
+    asked.put_wire(out);
     put_word(out, rtype);
     put_word(out, IN);
 }
@@ -352,7 +352,7 @@ pub fn entries_most(name: &Name) -> usize
     ensures bounds { (49 ≤ result) × (result ≤ 86) }
     ensures name { IsName name.now }
 {
-    let beside = HEADER + RECORD_FIELDS + WIRE_WITHOUT_SCOPE + name.scope().len();
+    let beside = HEADER + RECORD_FIELDS + name.wire_len();
     (DATAGRAM_MOST - beside) / ADDR_ENTRY
 }
 
@@ -382,36 +382,4 @@ pub fn status_name_octets(name: &[u8; 16], kind: Kind) -> [u8; 18]
         Kind::Group => NAME_FLAGS_P_ACTIVE + GROUP,
     };
     octets
-}
-
-/// A name's wire form (RFC 1002 section 4.1).
-fn put_name(out: &mut ArrayVec<u8, 576>, name: &Name)
-    requires { length out.old.items ≤ 300 }
-    ensures form { out.new.items ≡ out.old.items ++ wire name.now }
-    ensures fits { length (wire name.now) ≤ 255 }
-    ensures name { IsName name.now }
-{
-    let mut form = ArrayVec::new();
-    name.to_wire(&mut form);
-    out.try_extend_from_slice(form.as_slice()).unwrap();
-}
-
-/// Two octets, most significant octet first (RFC 1002 section 4.2.1).
-fn put_word(out: &mut ArrayVec<u8, 576>, x: u16)
-    requires { length out.old.items ≤ 574 }
-    ensures { out.new.items ≡ out.old.items ++ word x }
-{
-    let mut octets = [0; 2];
-    BigEndian::write_u16(&mut octets, x);
-    out.try_extend_from_slice(&octets).unwrap();
-}
-
-/// Four octets, most significant octet first (RFC 1002 section 4.2.1).
-fn put_long(out: &mut ArrayVec<u8, 576>, x: u32)
-    requires { length out.old.items ≤ 572 }
-    ensures { out.new.items ≡ out.old.items ++ long x }
-{
-    let mut octets = [0; 4];
-    BigEndian::write_u32(&mut octets, x);
-    out.try_extend_from_slice(&octets).unwrap();
 }

@@ -1,7 +1,6 @@
 -- Octets cell by cell, and the numbers that they spell.
-use Rattle.std.proofs.Common.{◌≡◌, ℕ, ◌+◌, ◌-◌, ◌*◌, ◌/◌, ◌%◌, ◌<◌, ◌≤◌, true, List, [], ◌∷◌, ◌++◌, length, take, drop, get_or, sym, ap, subst, ◌∙◌, arith, ltb}
-use Rattle.std.proofs.lemmas.List.{length-drop, take_all}
-use Rattle.byteorder.specs.Endian.{big_bytes, big_number}
+use Rattle.std.proofs.Common.{◌≡◌, ℕ, ◌+◌, ◌*◌, ◌/◌, ◌%◌, ◌<◌, ◌≤◌, true, List, [], ◌∷◌, ◌++◌, length, get_or, sym, ap, subst, ◌∙◌, arith, ltb}
+use Rattle.nbt_name.specs.Words.{word, long, word_at, long_at}
 use Rattle.nbt_name.specs.Wire.{AreOctets}
 use Rattle.nbt_session.specs.declared.fault.Fault.{Fault}
 use Rattle.nbt_session.specs.declared.fault.FaultKind.TheVariants.{BadLength}
@@ -30,7 +29,7 @@ pub record Spells (octet flags n : ℕ) (xs : List ℕ) : Type 0 where
   pub fits_high : high < 256
   pub fits_low : low < 256
 
-pub four_cells : (xs : List ℕ) (octet flags n : ℕ) (rest : List ℕ) → AreOctets xs → length xs ≡ 4 → xs ≡ octet ∷ flags ∷ rest → n ≡ flags * 65536 + big_number 2 (drop 2 xs) → Spells octet flags n xs
+pub four_cells : (xs : List ℕ) (octet flags n : ℕ) (rest : List ℕ) → AreOctets xs → length xs ≡ 4 → xs ≡ octet ∷ flags ∷ rest → n ≡ flags * 65536 + word_at xs 2 → Spells octet flags n xs
 four_cells (a ∷ b ∷ h ∷ l ∷ []) octet flags n rest fits four e is =
     let one : a ≡ octet = cc in
     let two : b ≡ flags = cc in
@@ -60,7 +59,7 @@ header_is xs kind flags n le s =
     low_of f h l n a b e = omega arith
 
 -- an address and a port, from their six octets
-pub addr_octets : (xs : List ℕ) (ip port : ℕ) → AreOctets xs → length xs ≡ 6 → ip ≡ big_number 4 xs → port ≡ big_number 2 (drop 4 xs) → big_bytes 4 ip ++ big_bytes 2 port ≡ xs
+pub addr_octets : (xs : List ℕ) (ip port : ℕ) → AreOctets xs → length xs ≡ 6 → ip ≡ long_at xs 0 → port ≡ word_at xs 4 → long ip ++ word port ≡ xs
 addr_octets (a ∷ b ∷ c ∷ d ∷ e ∷ f ∷ []) ip port fits six i p =
     let fa : a < 256 = fits 0 in
     let fb : b < 256 = fits 1 in
@@ -85,13 +84,11 @@ addr_octets (a ∷ b ∷ c ∷ d ∷ e ∷ f ∷ x ∷ xs) ip port fits six i p 
 
 -- a whole header, as it is read
 pub whole_header : (xs : List ℕ) (kind : PacketType) (octet flags high low : ℕ) → AreOctets xs → length xs ≡ 4 → true ≡ ltb 0 (length xs) → octet ≡ get_or xs 0 octet → true ≡ ltb 1 (length xs) → flags ≡ get_or xs 1 flags
-    → octet_of kind ≡ octet → high ≡ flags → low ≡ big_number 2 (take (length xs - 2) (drop 2 xs)) → Spells (octet_of kind) flags (high * 65536 + low) xs
+    → octet_of kind ≡ octet → high ≡ flags → low ≡ word_at xs 2 → Spells (octet_of kind) flags (high * 65536 + low) xs
 whole_header xs kind octet flags high low fits four some first some2 second kind_is high_is low_is =
     let cells = two_cells xs octet flags some first some2 second in
-    let all : take (length xs - 2) (drop 2 xs) ≡ drop 2 xs = take_all (length xs - 2) (drop 2 xs) (omega (arith, length-drop 2 xs)) in
-    let low_number : low ≡ big_number 2 (drop 2 xs) = low_is ∙ ap (big_number 2) all in
     four_cells xs (octet_of kind) flags (high * 65536 + low) cells.0 fits four
-    (cells.1 ∙ ap (λ (x : ℕ). x ∷ flags ∷ cells.0) (sym kind_is)) (ap (λ (k : ℕ). k * 65536 + low) high_is ∙ ap (λ (k : ℕ). flags * 65536 + k) low_number)
+    (cells.1 ∙ ap (λ (x : ℕ). x ∷ flags ∷ cells.0) (sym kind_is)) (ap (λ (k : ℕ). k * 65536 + low) high_is ∙ ap (λ (k : ℕ). flags * 65536 + k) low_is)
 
 pub length_wrong : (xs : List ℕ) (kind : PacketType) (flags n : ℕ) → flags ≤ 1 → Spells (octet_of kind) flags n xs → ¬ HasLength kind n → HasFault xs (bad BadLength 2)
 length_wrong xs kind flags n one s wrong = length_bad kind flags s.high s.low [] s.cells one (λ has. wrong (subst (HasLength kind) (sym s.counts) has))

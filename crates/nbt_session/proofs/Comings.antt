@@ -1,8 +1,9 @@
 -- What a piece makes of the packet that comes.
-use Rattle.std.proofs.Common.{◌≡◌, ◌≢◌, ℕ, zero, suc, ◌+◌, ◌-◌, ◌<◌, ◌≤◌, List, [], ◌∷◌, ◌++◌, length, take, drop, min, Option, Some, None, Ok, Err, refl, sym, ap, subst, ◌∙◌, arith, append_assoc}
+use Rattle.std.proofs.Common.{◌≡◌, ◌≢◌, ℕ, ◌+◌, ◌-◌, ◌<◌, ◌≤◌, List, [], ◌∷◌, ◌++◌, length, take, drop, min, Option, Some, None, Ok, Err, refl, sym, ap, subst, ◌∙◌, arith, append_assoc}
 use Rattle.std.proofs.Math.Seq.{take-add}
 use Rattle.std.proofs.lemmas.List.{length-append, length-take, length-drop, append-nil, take-append-drop, take_all}
 use Rattle.nbt_name.specs.Wire.{AreOctets}
+use Rattle.nbt_name.proofs.Fits.{octets_take}
 use Rattle.nbt_session.specs.declared.fault.Fault.{Fault}
 use Rattle.nbt_session.specs.declared.fault.StreamFault.TheVariants.{Malformed}
 use Rattle.nbt_session.specs.declared.header.Frame.{Frame}
@@ -148,12 +149,6 @@ cut_by held piece head body frame e is cut none = subst (λ (x : Option Frame). 
 
 -- ---- in a message
 
-take_fits : (n : ℕ) (octets : List ℕ) → AreOctets octets → AreOctets (take n octets)
-take_fits zero octets fits k = omega arith
-take_fits (suc n) [] fits k = omega arith
-take_fits (suc n) (x ∷ xs) fits zero = fits 0
-take_fits (suc n) (x ∷ xs) fits (suc k) = take_fits n xs (λ j. fits (suc j)) k
-
 empty_by : (piece : List ℕ) → length piece ≡ 0 → piece ≡ []
 empty_by [] none = refl
 empty_by (x ∷ xs) none = absurd (omega arith)
@@ -165,7 +160,7 @@ pub waits_at : (piece : List ℕ) (before : PiecesState) (missing n : ℕ) → b
 waits_at piece before missing n at some count none = rw at (message_waits missing some (empty_by piece (omega arith)))
 
 pub goes_on_at : (piece : List ℕ) (before : PiecesState) (missing n : ℕ) → before ≡ inside missing → n ≡ min missing (length piece) → 0 < n → AreOctets piece → TakesPart piece before (Ok (n, Some (message_data (take n piece)))) (inside (missing - n))
-goes_on_at piece before missing n at count some are = rw at (message_goes_on missing n count some (take_fits n piece are))
+goes_on_at piece before missing n at count some are = rw at (message_goes_on missing n count some (octets_take n piece are))
 
 pub stays_at : (piece : List ℕ) (before : PiecesState) (fault : Fault) → before ≡ faulty fault → TakesPart piece before (Err (Malformed fault)) before
 stays_at piece before fault at = rw at (fault_stays fault)

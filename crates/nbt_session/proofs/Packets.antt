@@ -1,11 +1,13 @@
 -- No packet's text begins another.
-use Rattle.std.proofs.Common.{◌≡◌, ℕ, ◌+◌, ◌*◌, ◌/◌, ◌%◌, ◌<◌, ◌≤◌, ◌^◌, List, [], ◌∷◌, ◌++◌, length, take, drop, refl, sym, ap, ◌∙◌, arith}
-use Rattle.std.proofs.lemmas.List.{length-append, take_at, drop_at}
-use Rattle.byteorder.specs.Endian.{big_bytes, big_number}
-use Rattle.byteorder.specs.Numbers.{big_number-reads_back}
+use Rattle.std.proofs.Common.{◌≡◌, ℕ, ◌+◌, ◌/◌, ◌%◌, ◌<◌, ◌≤◌, ◌^◌, List, [], ◌++◌, length, refl, sym, ap, ◌∙◌, arith}
+use Rattle.std.proofs.lemmas.List.{length-append}
+use Rattle.nbt_name.specs.Words.{word, long, word_at, long_at}
 use Rattle.nbt_name.specs.declared.addr.Addr.{Addr}
-use Rattle.nbt_name.specs.Wire.{NameValue, IsName, letters, wire}
+use Rattle.nbt_name.specs.Wire.{NameValue, IsName, wire}
 use Rattle.nbt_name.specs.Reading.{PlainNameAt}
+use Rattle.nbt_name.proofs.Behind.{word_back, long_back}
+use Rattle.nbt_name.proofs.Fits.{length-wire}
+use Rattle.nbt_name.proofs.WireForms.{split_front}
 use Rattle.nbt_session.specs.declared.packet.PacketType.{PacketType}
 use Rattle.nbt_session.specs.declared.packet.PacketType.TheVariants.{Message, Request, Positive, Negative, Retarget, KeepAlive}
 use Rattle.nbt_session.specs.Packet.{PacketValue, message, request, positive, negative, retarget, keep_alive, octet_of, most, HasLength, header, framed, type_of, body_of, text, IsPacket}
@@ -14,18 +16,6 @@ use Rattle.nbt_session.specs.Packet.{PacketValue, message, request, positive, ne
 pub record NameLaws : Type 0 where
   pub apart : (a b : NameValue) (x y : List ℕ) → IsName a → IsName b → wire a ++ x ≡ wire b ++ y → (a ≡ b) × (x ≡ y)
   pub wire_is : (name : NameValue) (front rest : List ℕ) → IsName name → PlainNameAt (front ++ wire name ++ rest) (length front) name (length front + length (wire name))
-
--- fronts of one length
-pub split_front : (us vs x y : List ℕ) → length us ≡ length vs → us ++ x ≡ vs ++ y → (us ≡ vs) × (x ≡ y)
-split_front us vs x y n e =
-    (sym (take_at us x (length us) refl) ∙ ap (take (length us)) e ∙ take_at vs y (length us) (sym n), sym (drop_at us x (length us) refl) ∙ ap (drop (length us)) e ∙ drop_at vs y (length us) (sym n))
-
-length-letters : (os : List ℕ) → length (letters os) ≡ 2 * length os
-length-letters [] = refl
-length-letters (o ∷ os) = omega (arith, length-letters os)
-
-pub length-wire : (n : NameValue) → IsName n → length (wire n) ≡ 34 + length n.scope
-length-wire n is = omega (arith, length-append (letters n.octets ++ n.scope) (0 ∷ []), length-append (letters n.octets) n.scope, length-letters n.octets, is.sixteen)
 
 -- no two types have one octet
 pub octet_apart : (a b : PacketType) → octet_of a ≡ octet_of b → a ≡ b
@@ -66,12 +56,12 @@ body_fits keep_alive is = (omega arith, omega arith)
 same_addr : (a b : Addr) → a.ip ≡ b.ip → a.port ≡ b.port → a ≡ b
 same_addr a b p q = λ i. record { ip = p i; port = q i }
 
-retarget_apart : (a b : Addr) → a.ip < 2 ^ 32 → a.port < 2 ^ 16 → b.ip < 2 ^ 32 → b.port < 2 ^ 16 → big_bytes 4 a.ip ++ big_bytes 2 a.port ≡ big_bytes 4 b.ip ++ big_bytes 2 b.port → a ≡ b
+retarget_apart : (a b : Addr) → a.ip < 2 ^ 32 → a.port < 2 ^ 16 → b.ip < 2 ^ 32 → b.port < 2 ^ 16 → long a.ip ++ word a.port ≡ long b.ip ++ word b.port → a ≡ b
 retarget_apart a b ai ap' bi bp e =
-    let parts = split_front (big_bytes 4 a.ip) (big_bytes 4 b.ip) (big_bytes 2 a.port) (big_bytes 2 b.port) refl e in
+    let parts = split_front (long a.ip) (long b.ip) (word a.port) (word b.port) refl e in
     same_addr a b
-    (sym (big_number-reads_back 4 a.ip [] ai) ∙ ap (λ (xs : List ℕ). big_number 4 (xs ++ [])) parts.0 ∙ big_number-reads_back 4 b.ip [] bi)
-    (sym (big_number-reads_back 2 a.port [] ap') ∙ ap (λ (xs : List ℕ). big_number 2 (xs ++ [])) parts.1 ∙ big_number-reads_back 2 b.port [] bp)
+    (sym (long_back a.ip [] ai) ∙ ap (λ (xs : List ℕ). long_at (xs ++ []) 0) parts.0 ∙ long_back b.ip [] bi)
+    (sym (word_back a.port [] ap') ∙ ap (λ (xs : List ℕ). word_at (xs ++ []) 0) parts.1 ∙ word_back b.port [] bp)
 
 requests_apart : NameLaws → (a b c d : NameValue) → IsName a → IsName b → IsName c → IsName d → wire a ++ wire b ≡ wire c ++ wire d → request a b ≡ request c d
 requests_apart names a b c d is_a is_b is_c is_d e =

@@ -1,6 +1,6 @@
 -- Session packets as octets: RFC 1002 section 4.3.
 use Rattle.std.specs.Prelude.{ℕ, ◌/◌, ◌%◌, ◌<◌, ◌≤◌, ◌^◌, List, [], ◌∷◌, ◌++◌, length}
-use Rattle.byteorder.specs.Endian.{big_bytes}
+use Rattle.nbt_name.specs.Words.{word, long}
 use Rattle.nbt_name.specs.declared.addr.Addr.{Addr}
 use Rattle.nbt_name.specs.Wire.{NameValue, IsName, AreOctets, wire}
 use Rattle.nbt_session.specs.declared.packet.Packet.{Packet}
@@ -67,7 +67,7 @@ body_of (message octets) = octets
 body_of (request called calling) = wire called ++ wire calling
 body_of positive = []
 body_of (negative code) = code ∷ []
-body_of (retarget to) = big_bytes 4 to.ip ++ big_bytes 2 to.port
+body_of (retarget to) = long to.ip ++ word to.port
 body_of keep_alive = []
 
 -- a packet's text

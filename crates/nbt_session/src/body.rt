@@ -1,7 +1,7 @@
 //! What stands after a packet's header (RFC 1002 sections 4.3.2 to 4.3.7).
 
 ghost use Rattle.std.specs.Prelude.{◌≡◌, ◌≢◌, ◌+◌, ◌<◌, ◌≤◌, ◌^◌, ◌++◌, length, IfOk, IfErr};
-ghost use Rattle.byteorder.specs.Endian.{big_bytes};
+ghost use Rattle.nbt_name.specs.Words.{word, long};
 ghost use Rattle.nbt_session.specs.declared.packet.PacketType.TheVariants.{Message, Request};
 ghost use Rattle.nbt_session.specs.Packet.{HasLength, IsPacket, type_of, body_of, packet_of};
 ghost use Rattle.nbt_session.specs.Stream.{RequestFault, name_fault};
@@ -9,8 +9,7 @@ ghost use Rattle.nbt_session.specs.Stream.{RequestFault, name_fault};
 use crate::fault::{Fault, FaultKind};
 use crate::header::HEADER;
 use crate::packet::{Packet, PacketType};
-use byteorder::{BigEndian, ByteOrder};
-use nbt_name::{Addr, NameFault, NameFaultKind, read_plain};
+use nbt_name::{Addr, NameFault, NameFaultKind, read_long, read_plain, read_word};
 
 /// The packet that these octets after a header are. It is no message.
 pub(crate) fn other_in(kind: PacketType, body: &[u8]) -> Result<Packet, Fault>
@@ -80,11 +79,11 @@ fn fault_of(fault: NameFault) -> Fault
 /// The address and the port of a retarget (RFC 1002 section 4.3.5).
 fn addr_in(body: &[u8]) -> Addr
     requires { length body.now ≡ 6 }
-    ensures octets { big_bytes 4 result.ip ++ big_bytes 2 result.port ≡ body.now }
+    ensures octets { long result.ip ++ word result.port ≡ body.now }
     ensures fits { (result.ip < 2 ^ 32) × (result.port < 2 ^ 16) }
 {
     Addr {
-        ip: BigEndian::read_u32(body),
-        port: BigEndian::read_u16(&body[4..]),
+        ip: read_long(body, 0),
+        port: read_word(body, 4),
     }
 }

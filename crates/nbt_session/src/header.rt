@@ -14,7 +14,7 @@ ghost use Rattle.nbt_session.specs.Stream.{HasFault};
 
 use crate::fault::{Fault, FaultKind};
 use crate::packet::PacketType;
-use byteorder::{BigEndian, ByteOrder};
+use nbt_name::read_word;
 
 /// How many octets a header has.
 pub(crate) const HEADER: usize = 4;
@@ -51,7 +51,7 @@ pub(crate) fn frame_of(header: &[u8]) -> Result<Option<Frame>, Fault>
     if header.len() < HEADER {
         return Ok(None);
     }
-    let count = usize::from(flags) * 0x10000 + usize::from(BigEndian::read_u16(&header[2..]));
+    let count = usize::from(flags) * 0x10000 + usize::from(read_word(header, 2));
     let (least, most) = kind.lengths();
     if count < least || count > most {
         return Err(bad(FaultKind::BadLength, 2));

@@ -1,7 +1,7 @@
 //! Writing a packet's text (RFC 1002 section 4.3).
 
 ghost use Rattle.std.specs.Prelude.{◌≡◌, ◌<◌, ◌≤◌, ◌↔◌, ◌^◌, ◌++◌, length, OnOk, OnErr, IsErrOf};
-ghost use Rattle.byteorder.specs.Endian.{big_bytes};
+ghost use Rattle.nbt_name.specs.Words.{word, long};
 ghost use Rattle.nbt_name.specs.Wire.{IsName, AreOctets, wire};
 ghost use Rattle.nbt_session.specs.declared.fault.EncodeFault.TheVariants.{TooLong};
 ghost use Rattle.nbt_session.specs.declared.packet.PacketType.TheVariants.{Message, Request, Retarget};
@@ -12,7 +12,7 @@ use crate::header::HEADER;
 use crate::packet::{MESSAGE_MOST, Packet, PacketType};
 use arrayvec::ArrayVec;
 use byteorder::{BigEndian, ByteOrder};
-use nbt_name::{Addr, Name};
+use nbt_name::{Addr, Name, put_long, put_word};
 use std::alloc::AllocError;
 
 /// Appends the packet's text (RFC 1002 section 4.3). Refused in this order, the octets then being as they were:
@@ -71,22 +71,19 @@ fn put_request(out: &mut Vec<u8>, called: &Name, calling: &Name) -> Result<(), A
     ensures err { OnErr result (out.new.items ≡ out.old.items) }
 {
     let mut body: ArrayVec<u8, 510> = ArrayVec::new();
-    let mut form: ArrayVec<u8, 255> = ArrayVec::new();
-    called.to_wire(&mut form);
-    body.try_extend_from_slice(form.as_slice()).unwrap();
-    calling.to_wire(&mut form);
-    body.try_extend_from_slice(form.as_slice()).unwrap();
+    called.put_wire(&mut body);
+    calling.put_wire(&mut body);
     put(out, PacketType::Request, body.as_slice())
 }
 
 /// Appends a retarget's text (RFC 1002 section 4.3.5).
 fn put_retarget(out: &mut Vec<u8>, to: Addr) -> Result<(), AllocError>
-    ensures ok { OnOk result (out.new.items ≡ out.old.items ++ framed Retarget (big_bytes 4 to.ip ++ big_bytes 2 to.port)) }
+    ensures ok { OnOk result (out.new.items ≡ out.old.items ++ framed Retarget (long to.ip ++ word to.port)) }
     ensures fits { (to.ip < 2 ^ 32) × (to.port < 2 ^ 16) }
     ensures err { OnErr result (out.new.items ≡ out.old.items) }
 {
-    let mut body = [0; 6];
-    BigEndian::write_u32(&mut body, to.ip);
-    BigEndian::write_u16(&mut body[4..], to.port);
-    put(out, PacketType::Retarget, &body)
+    let mut body: ArrayVec<u8, 6> = ArrayVec::new();
+    put_long(&mut body, to.ip);
+    put_word(&mut body, to.port);
+    put(out, PacketType::Retarget, body.as_slice())
 }

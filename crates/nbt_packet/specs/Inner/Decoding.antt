@@ -3,7 +3,7 @@ use Rattle.std.specs.Prelude.{◌≡◌, ℕ, ◌+◌, ◌<◌, ◌≤◌, List,
 use Rattle.nbt_packet.specs.declared.decoding.Header.{Header}
 use Rattle.nbt_packet.specs.declared.fault.Fault.{Fault}
 use Rattle.nbt_packet.specs.Numbers.{short, too_many}
-use Rattle.nbt_packet.specs.Fields.{word_at}
+use Rattle.nbt_name.specs.Words.{word_at}
 use Rattle.nbt_packet.specs.Packet.{IsHeader}
 
 -- the six words, as read

@@ -4,7 +4,10 @@ use super::{FRED, fred};
 use arrayvec::ArrayVec;
 use indexmap::IndexMap;
 use nbt_name::laws::plain_name_is_its_wire_form;
-use nbt_name::{Name, NameFault, NameFaultKind, NameRefusal, read_in, read_plain};
+use nbt_name::{
+    Name, NameFault, NameFaultKind, NameRefusal, put_long, put_word, read_in, read_long,
+    read_plain, read_word,
+};
 use std::collections::BTreeSet;
 use std::process::Abort;
 use std::test::Fail;
@@ -46,6 +49,14 @@ fn names_are_their_wire_forms(rt: HostRuntime) -> Result<(), Fail> {
         let mut out = ArrayVec::new();
         name.to_wire(&mut out);
         assert_eq!(rt; out.as_slice(), *wire);
+        assert_eq!(rt; name.wire_len(), wire.len());
+        let mut packet: ArrayVec<u8, 257> = ArrayVec::new();
+        put_word(&mut packet, 0x2900);
+        name.put_wire(&mut packet);
+        assert!(rt;
+            packet.as_slice().starts_with(b"\x29\x00") && packet.as_slice().ends_with(wire)
+        );
+        assert_eq!(rt; packet.len(), 2 + wire.len());
         let (read, next) = read_plain(wire, 0)?;
         assert!(rt; read == name && name.copy() == name);
         assert_eq!(rt; next, wire.len());
@@ -54,6 +65,26 @@ fn names_are_their_wire_forms(rt: HostRuntime) -> Result<(), Fail> {
         assert_eq!(rt; read.scope(), *scope);
     }
     Ok(())
+}
+
+/// A word, a long word, and the octets of both: flags and an address, a pointer and a TTL of 300,000 s, and the highest
+/// bits set.
+const NUMBERS: &[(u16, u32, &[u8])] = &[
+    (0x2900, 0x0A00_0001, b"\x29\x00\x0A\x00\x00\x01"),
+    (0xC00C, 300_000, b"\xC0\x0C\x00\x04\x93\xE0"),
+    (0xFFFE, 0xFEDC_BA98, b"\xFF\xFE\xFE\xDC\xBA\x98"),
+];
+
+#[test]
+fn numbers_most_significant_octet_first(rt: HostRuntime) {
+    for (word, long, octets) in NUMBERS {
+        let mut out: ArrayVec<u8, 6> = ArrayVec::new();
+        put_word(&mut out, *word);
+        put_long(&mut out, *long);
+        assert_eq!(rt; out.as_slice(), *octets);
+        assert_eq!(rt; read_word(out.as_slice(), 0), *word);
+        assert_eq!(rt; read_long(out.as_slice(), 2), *long);
+    }
 }
 
 #[test]

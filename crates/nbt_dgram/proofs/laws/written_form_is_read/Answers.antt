@@ -2,4 +2,4 @@ use Rattle.nbt_dgram.proofs.ReadBack.{text_is_read}
 use Rattle.nbt_dgram.proofs.laws.written_form_is_read.Goals as goal
 
 pub returns : goal.returns
-returns c = text_is_read (record { wire_is = c.wire_form_is_read.ensures })
+returns c = text_is_read

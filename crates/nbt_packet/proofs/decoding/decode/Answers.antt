@@ -1,17 +1,27 @@
-use Rattle.std.proofs.Common.{arith}
-use Rattle.nbt_name.specs.Wire.{AreOctets}
-use Rattle.nbt_packet.proofs.Outcome.{packet_iff, fault_iff}
+use Rattle.std.proofs.Common.{ℕ, List, Result, Ok, Err}
+use Rattle.std.specs.Prelude.{IfOk, IfErr}
+use Rattle.nbt_packet.specs.declared.fault.Fault.{Fault}
+use Rattle.nbt_packet.specs.declared.packet.Packet.{Packet}
+use Rattle.nbt_packet.specs.Packet.{PacketIs, PacketFault, packet_of, decoded}
+use Rattle.nbt_name.proofs.Readers.{value_iff, fault_iff}
+use Rattle.nbt_packet.proofs.OnePacket.{reads_packet}
 use Rattle.nbt_packet.proofs.decoding.decode.Goals as goal
 
-fits : (c : goal.After-packet_at) → AreOctets c.args.octets.now
-fits c = λ k. omega (arith, c.type_inv.octets k)
+-- what is found stands there, as a value
+value_found : (octets : List ℕ) (r : Result (Packet × ℕ) Fault) → IfOk r (λ read. PacketIs octets (packet_of read.0) read.1) → IfOk (decoded r) (λ x. PacketIs octets x.0 x.1)
+value_found octets (Ok read) is = is
+value_found octets (Err fault) is = tt
+
+fault_found : (octets : List ℕ) (r : Result (Packet × ℕ) Fault) → IfErr r (PacketFault octets) → IfErr (decoded r) (PacketFault octets)
+fault_found octets (Ok read) bad = tt
+fault_found octets (Err fault) bad = bad
 
 pub returns-clause-packet : goal.returns-clause-packet
-returns-clause-packet c =
-    let law = c.one_packet_or_fault.ensures in
-    packet_iff c.args.octets.now c.packet_at.result (law.one_packet c.args.octets.now) (λ p n f. law.not_both c.args.octets.now p n f (fits c)) c.packet_at.ensures.packet c.packet_at.ensures.fault
+returns-clause-packet c = λ packet n.
+    let octets = c.args.octets.now in
+    value_iff (reads_packet octets) (decoded c.packet_at.result) (value_found octets c.packet_at.result c.packet_at.ensures.packet) (fault_found octets c.packet_at.result c.packet_at.ensures.fault) (packet, n)
 
 pub returns-clause-fault : goal.returns-clause-fault
 returns-clause-fault c =
-    let law = c.one_packet_or_fault.ensures in
-    fault_iff c.args.octets.now c.packet_at.result (λ f g. law.one_fault c.args.octets.now f g (fits c)) (λ p n f. law.not_both c.args.octets.now p n f (fits c)) c.packet_at.ensures.packet c.packet_at.ensures.fault
+    let octets = c.args.octets.now in
+    fault_iff (reads_packet octets) (decoded c.packet_at.result) (value_found octets c.packet_at.result c.packet_at.ensures.packet) (fault_found octets c.packet_at.result c.packet_at.ensures.fault)

@@ -1,6 +1,6 @@
 use Rattle.std.proofs.Common.{◌≡◌, ◌+◌, arith, refl, ap, ◌∙◌, ℕ}
 use Rattle.std.specs.Prelude.{slice_range}
-use Rattle.nbt_packet.specs.Fields.{word_at}
+use Rattle.nbt_name.specs.Words.{word_at}
 use Rattle.std.proofs.lemmas.Result.{err_from_is_err_and}
 use Rattle.nbt_packet.specs.Packet.{record_name, record_cut, rdata_cut}
 use Rattle.nbt_packet.proofs.decoding.record_at.Goals as goal
@@ -20,14 +20,14 @@ returns-then-octets-begin-clause-fault c =
 
 pub returns-clause-record : goal.returns-clause-record
 returns-clause-record c =
-    let count : c.from-rdlength.result ≡ word_at c.args.octets.now (c.in_ok-name.named + 8) = c.from-rdlength.ensures ∙ c.number_at.ensures in
+    let count : c.from-rdlength.result ≡ word_at c.args.octets.now (c.in_ok-name.named + 8) = c.from-rdlength.ensures ∙ c.read_word.ensures in
     record {
       named = c.in_ok-name.named;
       name = (c.in_ok-name.ensures.name c.in_ok-name.name c.in_ok-name.named).0 refl;
       fits = omega (arith, c.in_ok-name.ensures.within);
-      rtype = c.number_at-2.ensures;
-      class = c.number_at-3.ensures;
-      ttl = c.long_number_at.ensures;
+      rtype = c.read_word-2.ensures;
+      class = c.read_word-3.ensures;
+      ttl = c.read_long.ensures;
       whole = rw (← count) (omega (arith, c.in_ok-name.ensures.within));
       rdata = ap (λ (k : ℕ). slice_range c.args.octets.now (c.in_ok-name.named + 10) (c.in_ok-name.named + 10 + k)) count;
       next_is = ap (λ (k : ℕ). c.in_ok-name.named + 10 + k) count;

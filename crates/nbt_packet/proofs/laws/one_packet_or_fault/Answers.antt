@@ -1,27 +1,16 @@
-use Rattle.std.proofs.Common.{ℕ, List}
-use Rattle.nbt_name.specs.declared.form.Form.TheVariants.{Compressed}
-use Rattle.nbt_name.specs.Wire.{AreOctets}
-use Rattle.nbt_packet.proofs.OnePacket.{one_packet}
-use Rattle.nbt_packet.proofs.Deciding.{packet_or_fault}
-use Rattle.nbt_packet.proofs.Outcome.{NameLaw, one_fault, not_both}
+use Rattle.std.proofs.Common.{◌≡◌, ℕ, inl, inr}
+use Rattle.nbt_packet.specs.Packet.{PacketValue}
+use Rattle.nbt_packet.proofs.OnePacket.{reads_packet}
 use Rattle.nbt_packet.proofs.laws.one_packet_or_fault.Goals as goal
 
-names : (c : goal.After-one_name_or_fault) (octets : List ℕ) → AreOctets octets → NameLaw octets
-names c octets fits = record {
-  found = λ place. c.one_name_or_fault.ensures.found Compressed octets place fits;
-  one_name = c.one_name_or_fault.ensures.one_name Compressed octets;
-  one_fault = c.one_name_or_fault.ensures.one_fault Compressed octets;
-  not_both = c.one_name_or_fault.ensures.not_both Compressed octets;
-}
-
 pub returns-clause-found : goal.returns-clause-found
-returns-clause-found c = λ octets fits. packet_or_fault octets (names c octets fits).found
+returns-clause-found c = λ octets fits. elim ((reads_packet octets).found fits) [ inl x ↦ inl (x.0.0, x.0.1, x.1) | inr f ↦ inr (f.0, f.1) ]
 
 pub returns-clause-one_packet : goal.returns-clause-one_packet
-returns-clause-one_packet c = λ octets. one_packet octets (c.one_name_or_fault.ensures.one_name Compressed octets)
+returns-clause-one_packet c = λ octets p q m n a b. let same : ◌≡◌ {A = PacketValue × ℕ} (p, m) (q, n) = (reads_packet octets).one_value (p, m) (q, n) a b in (λ i. (same i).0, λ i. (same i).1)
 
 pub returns-clause-one_fault : goal.returns-clause-one_fault
-returns-clause-one_fault c = λ octets f g fits. one_fault octets (names c octets fits) f g
+returns-clause-one_fault c = λ octets f g fits. (reads_packet octets).one_fault f g
 
 pub returns-clause-not_both : goal.returns-clause-not_both
-returns-clause-not_both c = λ octets packet n fault fits. not_both octets (names c octets fits) packet n fault
+returns-clause-not_both c = λ octets packet n fault fits. (reads_packet octets).not_both (packet, n) fault

@@ -18,17 +18,17 @@ returns-then-flags-gt-E-clause-fault c =
 pub returns-then-count-least-clause-fault : goal.returns-then-count-least-clause-fault
 returns-then-count-least-clause-fault c =
     let spells = whole_header c.args.header.now c.in-Some-of.kind c.in-Some.field-0.now c.in-Some-get.field-0.now c.from.result c.from-2.result (λ k. omega (arith, c.type_inv.header k)) (omega arith)
-    c.in-Some.ensures.lookup.0 c.in-Some.ensures.lookup.1 c.in-Some-get.ensures.lookup.0 c.in-Some-get.ensures.lookup.1 c.in-Some-of.ensures.found (omega arith) (c.from-2.ensures ∙ c.read_u16.ensures) in
+    c.in-Some.ensures.lookup.0 c.in-Some.ensures.lookup.1 c.in-Some-get.ensures.lookup.0 c.in-Some-get.ensures.lookup.1 c.in-Some-of.ensures.found (omega arith) (c.from-2.ensures ∙ c.read_word.ensures) in
     rw c.bad-then-count-least.ensures (length_wrong c.args.header.now c.in-Some-of.kind c.in-Some-get.field-0.now _ (omega arith) spells (λ has. elim c.then-count-least.branch [ then-count-least-via-then-count-least w ↦ omega (arith, has.0) | then-count-least-via-else-count-least+then-count-most w ↦ omega (arith, has.1) ]))
 
 pub returns-clause-frame : goal.returns-clause-frame
 returns-clause-frame c =
     let spells = whole_header c.args.header.now c.in-Some-of.kind c.in-Some.field-0.now c.in-Some-get.field-0.now c.from.result c.from-2.result (λ k. omega (arith, c.type_inv.header k)) (omega arith)
-    c.in-Some.ensures.lookup.0 c.in-Some.ensures.lookup.1 c.in-Some-get.ensures.lookup.0 c.in-Some-get.ensures.lookup.1 c.in-Some-of.ensures.found (omega arith) (c.from-2.ensures ∙ c.read_u16.ensures) in
+    c.in-Some.ensures.lookup.0 c.in-Some.ensures.lookup.1 c.in-Some-get.ensures.lookup.0 c.in-Some-get.ensures.lookup.1 c.in-Some-of.ensures.found (omega arith) (c.from-2.ensures ∙ c.read_word.ensures) in
     (header_is c.args.header.now c.in-Some-of.kind c.in-Some-get.field-0.now _ (omega arith) spells, (omega arith, omega arith))
 
 pub returns-clause-sound : goal.returns-clause-sound
 returns-clause-sound c =
     let spells = whole_header c.args.header.now c.in-Some-of.kind c.in-Some.field-0.now c.in-Some-get.field-0.now c.from.result c.from-2.result (λ k. omega (arith, c.type_inv.header k)) (omega arith)
-    c.in-Some.ensures.lookup.0 c.in-Some.ensures.lookup.1 c.in-Some-get.ensures.lookup.0 c.in-Some-get.ensures.lookup.1 c.in-Some-of.ensures.found (omega arith) (c.from-2.ensures ∙ c.read_u16.ensures) in
+    c.in-Some.ensures.lookup.0 c.in-Some.ensures.lookup.1 c.in-Some-get.ensures.lookup.0 c.in-Some-get.ensures.lookup.1 c.in-Some-of.ensures.found (omega arith) (c.from-2.ensures ∙ c.read_word.ensures) in
     header_sound c.args.header.now c.in-Some-of.kind c.in-Some-get.field-0.now _ (omega arith) spells (omega arith, omega arith)

@@ -1,19 +1,13 @@
 -- What stands in octets from a place on: words, ranges and names that were put there are read back.
-use Rattle.std.proofs.Common.{◌≡◌, ℕ, zero, suc, ◌+◌, ◌-◌, ◌^◌, ◌<◌, ◌≤◌, List, [], ◌∷◌, ◌++◌, length, take, drop, Some, refl, sym, ap, subst, ◌∙◌, arith, append_assoc}
+use Rattle.std.proofs.Common.{◌≡◌, ℕ, ◌+◌, ◌-◌, ◌^◌, ◌<◌, List, ◌∷◌, ◌++◌, length, take, drop, Some, refl, sym, ap, subst, ◌∙◌, arith, append_assoc}
 use Rattle.std.specs.Prelude.{slice_get, slice_range}
 use Rattle.std.proofs.lemmas.List.{length-append, length-take-le, take_at, drop_at, drop-drop, take-append-drop}
 use Rattle.byteorder.specs.Endian.{big_number}
 use Rattle.byteorder.specs.Numbers.{big_number-reads_back}
+use Rattle.nbt_name.specs.Words.{word, long, word_at, long_at}
 use Rattle.nbt_name.specs.Wire.{NameValue, IsName, wire}
-use Rattle.nbt_name.specs.Reading.{NameAt, PlainNameAt, target}
-use Rattle.nbt_packet.specs.Fields.{word, long, word_at, long_at}
-
--- the laws of names that are used
-pub record NameLaws : Type 0 where
-  pub wire_is : (name : NameValue) (front rest : List ℕ) → IsName name → PlainNameAt (front ++ wire name ++ rest) (length front) name (length front + length (wire name))
-  pub plain_is : (octets : List ℕ) (place : ℕ) (name : NameValue) (next : ℕ) → PlainNameAt octets place name next → NameAt octets place name next
-  pub pointer_is : (octets : List ℕ) (place high low : ℕ) (name : NameValue) (next : ℕ) → slice_get octets place ≡ Some high → 0xC0 ≤ high → slice_get octets (place + 1) ≡ Some low
-      → target high low < place → NameAt octets (target high low) name next → NameAt octets place name (place + 2)
+use Rattle.nbt_name.specs.Reading.{NameAt, PlainNameAt}
+use Rattle.nbt_name.proofs.ReadBack.{found_in, wire_is_read, plain_is_compressed}
 
 -- the octets from a place on
 pub record Behind (octets : List ℕ) (place : ℕ) (xs : List ℕ) : Type 0 where
@@ -26,31 +20,39 @@ onward {octets} {p} n xs ys count b = record {
   within = omega (arith, b.within, length-append xs ys);
 }
 
+-- ---- numbers
+
+pub word_back : (x : ℕ) (rest : List ℕ) → x < 2 ^ 16 → word_at (word x ++ rest) 0 ≡ x
+word_back x rest fits = big_number-reads_back 2 x rest fits
+
+pub long_back : (x : ℕ) (rest : List ℕ) → x < 2 ^ 32 → long_at (long x ++ rest) 0 ≡ x
+long_back x rest fits = big_number-reads_back 4 x rest fits
+
 pub word_there : {octets : List ℕ} {p : ℕ} (x : ℕ) (rest : List ℕ) → x < 2 ^ 16 → Behind octets p (word x ++ rest) → word_at octets p ≡ x
 word_there x rest fits b = ap (big_number 2) b.is ∙ big_number-reads_back 2 x rest fits
 
 pub long_there : {octets : List ℕ} {p : ℕ} (x : ℕ) (rest : List ℕ) → x < 2 ^ 32 → Behind octets p (long x ++ rest) → long_at octets p ≡ x
 long_there x rest fits b = ap (big_number 4) b.is ∙ big_number-reads_back 4 x rest fits
 
+-- ---- ranges and octets
+
 pub range_there : {octets : List ℕ} {p : ℕ} (xs ys : List ℕ) → Behind octets p (xs ++ ys) → slice_range octets p (p + length xs) ≡ xs
 range_there {octets} {p} xs ys b =
     let width : (p + length xs) - p ≡ length xs = omega arith in
     rw (width, b.is) (take_at xs ys (length xs) refl)
 
-found_in : (xs : List ℕ) (p x : ℕ) (ys : List ℕ) → drop p xs ≡ x ∷ ys → slice_get xs p ≡ Some x
-found_in [] zero x ys e = absurd cc
-found_in [] (suc p) x ys e = absurd cc
-found_in (z ∷ zs) zero x ys e = cc
-found_in (z ∷ zs) (suc p) x ys e = found_in zs p x ys e
-
 pub octet_there : {octets : List ℕ} {p : ℕ} (x : ℕ) (rest : List ℕ) → Behind octets p (x ∷ rest) → slice_get octets p ≡ Some x
 octet_there {octets} {p} x rest b = found_in octets p x rest b.is
 
-pub name_there : NameLaws → {octets : List ℕ} {p : ℕ} (name : NameValue) (rest : List ℕ) → IsName name → Behind octets p (wire name ++ rest) → NameAt octets p name (p + length (wire name))
-name_there names {octets} {p} name rest is_name b =
+-- ---- names
+
+pub plain_there : {octets : List ℕ} {p : ℕ} (name : NameValue) (rest : List ℕ) → IsName name → Behind octets p (wire name ++ rest) → PlainNameAt octets p name (p + length (wire name))
+plain_there {octets} {p} name rest is_name b =
     let front : List ℕ = take p octets in
     let count : length front ≡ p = length-take-le p octets (omega (arith, b.within)) in
     let same : front ++ wire name ++ rest ≡ octets = append_assoc front (wire name) rest ∙ ap (λ (xs : List ℕ). front ++ xs) (sym b.is) ∙ take-append-drop p octets in
-    names.plain_is octets p name (p + length (wire name))
-    (subst (λ (xs : List ℕ). PlainNameAt xs p name (p + length (wire name))) same
-    (subst (λ (k : ℕ). PlainNameAt (front ++ wire name ++ rest) k name (k + length (wire name))) count (names.wire_is name front rest is_name)))
+    subst (λ (xs : List ℕ). PlainNameAt xs p name (p + length (wire name))) same
+    (subst (λ (k : ℕ). PlainNameAt (front ++ wire name ++ rest) k name (k + length (wire name))) count (wire_is_read name front rest is_name))
+
+pub name_there : {octets : List ℕ} {p : ℕ} (name : NameValue) (rest : List ℕ) → IsName name → Behind octets p (wire name ++ rest) → NameAt octets p name (p + length (wire name))
+name_there {octets} {p} name rest is_name b = plain_is_compressed octets p name (p + length (wire name)) (plain_there name rest is_name b)

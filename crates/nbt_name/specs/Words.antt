@@ -2,7 +2,7 @@
 use Rattle.std.specs.Prelude.{ℕ, List, drop}
 use Rattle.byteorder.specs.Endian.{big_number, big_bytes}
 
--- the word of two octets, and of four, at a place
+-- the word of two octets, and the long word of four, at a place
 abbrev pub word_at : List ℕ → ℕ → ℕ
 word_at octets place = big_number 2 (drop place octets)
 

@@ -1,6 +1,0 @@
-use Rattle.std.proofs.Common.{◌≡◌, ◌∷◌, take}
-use Rattle.nbt_name.specs.Wire.{letters}
-use Rattle.nbt_name.proofs.name.Name.to_wire.Given as goal
-
-abbrev pub invariant-loop-octet : goal.invariant-loop-octet
-invariant-loop-octet l = l.out.items ≡ 0x20 ∷ letters (take l.octet-index l.self-inside.octets)

@@ -1,0 +1,8 @@
+use Rattle.std.proofs.Common.{length, ap, subst, arith}
+use Rattle.nbt_name.specs.Wire.{NameValue, IsName}
+use Rattle.nbt_name.proofs.Fits.{length-wire}
+use Rattle.nbt_name.proofs.name.Name.wire_len.Goals as goal
+
+pub returns-clause-value : goal.returns-clause-value
+returns-clause-value c =
+    omega (arith, c.len.ensures.value, ap (λ (n : NameValue). length n.scope) c.self.view_is, length-wire c.args.self.now (subst IsName c.self.view_is c.self.invariant))
