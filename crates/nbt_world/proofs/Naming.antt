@@ -17,7 +17,7 @@ use Rattle.nbt_node.specs.Moves.{NameEvent, hear, Told, NameMoves}
 use Rattle.nbt_world.specs.declared.clocks.Clocks.{Clocks}
 use Rattle.nbt_world.specs.declared.network.Datagram.{Datagram}
 use Rattle.nbt_world.specs.Drift.{reading}
-use Rattle.nbt_world.specs.World.{WorldValue, IsDeliverable, IsOfEnd, addr_of, node_of, with_node}
+use Rattle.nbt_world.specs.World.{WorldValue, IsDeliverable, addr_of, node_of, with_node}
 use Rattle.nbt_world.specs.Inner.Kept.{IsRequest, Asked, Replied, known, RequestsEnded, RepliesFresh, IsNodeOf, IsSeen, IsSent, Invariant}
 use Rattle.nbt_world.proofs.Knowing.{ArePast, past-more, fades, fades-heard, knows, ended-fades, ended-frame, ended-sent, is_sent, fresh-fades, fresh-frame, fresh-sent}
 use Rattle.nbt_world.proofs.Claiming.{NoNewClaim}
@@ -33,11 +33,6 @@ OneMessage = (octets : List ℕ) (m n : MessageValue) → Spells octets m → Sp
 pub record Laws : Type 0 where
   pub one_message : OneMessage
   pub rests : RestLaw
-
--- where a datagram comes from: it is one of the list that may still be delivered, or a stranger's
-pub data Origin (w : WorldValue) (from to : Addr) (octets : List ℕ) : Type 0 where
-  listed : (d : Datagram) → Contains w.sent d → d.from ≡ from → d.to ≡ to → d.octets.items ≡ octets → IsDeliverable w.config.life w.now.clock d.moment.clock → Origin w from to octets
-  strange : (IsOfEnd w.ends from.ip → ⊥) → Origin w from to octets
 
 -- ---- names
 
