@@ -56,7 +56,7 @@ read_on w v ms moves adv read = record {
 
 pub clock_changes : StaySound → LaterLive → HoldLaw → (w v : WorldValue) (ms : ℕ) (moves : ℕ → ℕ) → Advances w ms moves v → Invariant w → Invariant (record w { now = v.now; least = v.least; kept = v.kept })
 clock_changes law live holds w v ms moves adv kept = record {
-  ends = record { some = kept.ends.some; few = kept.ends.few; apart = kept.ends.apart };
+  ends = record { nodes_at_least = kept.ends.nodes_at_least; nodes_at_most = kept.ends.nodes_at_most; apart = kept.ends.apart };
   clocks = read_on w v ms moves adv kept.clocks;
   nodes = λ n a node p up.
       let k = kept.nodes n a node p up in

@@ -79,7 +79,7 @@ impl World {
     /// The clocks go on, and with them whether the readings keep the drift bound.
     fn go_on(&mut self, ms: u64, readings: &[u64; 9])
         ensures step { Advances self.old ms (slice_index readings.now) self.new }
-        ensures few { length self.old.ends.nodes.items ≤ 8 }
+        ensures nodes_at_most { length self.old.ends.nodes.items ≤ 8 }
     {
         nbt_lease::laws::leases_stay_sound();
         nbt_lease::laws::later_leases_live_now();
