@@ -1,6 +1,6 @@
 -- Along a run from a new world, `kept` says exactly whether the readings kept the drift bound between any two of its worlds;
 -- and where no event lets the clocks drift apart, all worlds are in step, and keep it.
-use Rattle.std.proofs.Common.{◌≡◌, ℕ, zero, suc, ◌+◌, ◌-◌, ◌*◌, ◌^◌, ◌<◌, ◌≤◌, Bool, true, List, [], ◌∷◌, ◌++◌, length, Some, None, refl, sym, ap, subst, ◌∙◌, arith, inl, inr}
+use Rattle.std.proofs.Common.{◌≡◌, ℕ, zero, suc, ◌+◌, ◌-◌, ◌*◌, ◌^◌, ◌<◌, ◌≤◌, List, [], ◌∷◌, ◌++◌, length, Some, refl, sym, ap, subst, ◌∙◌, arith, inl, inr}
 use Rattle.std.specs.Prelude.{IsTrue, ◌↔◌, ◌⊎◌, slice_get, min}
 use Rattle.std.proofs.lemmas.Bool.{cases_lt}
 use Rattle.std.proofs.lemmas.Option.{none-some, same_Some}
@@ -11,11 +11,9 @@ use Rattle.nbt_world.specs.declared.clocks.Clocks.{Clocks}
 use Rattle.nbt_world.specs.declared.clocks.Least.{Least}
 use Rattle.nbt_world.specs.Drift.{reading, IsBounded, ahead, behind, least_of, numbers_of, lesser, IsAllowed}
 use Rattle.nbt_world.specs.World.{WorldValue, IsEnd, addr_of, IsFresh}
-use Rattle.nbt_world.specs.Step.{Advances}
 use Rattle.nbt_world.specs.Inner.Kept.{IsSeen, AreRead}
 use Rattle.nbt_world.specs.Safety.{KeepDriftBound}
 use Rattle.nbt_world.proofs.Drifting.{bounded}
-use Rattle.nbt_world.proofs.Clock.{sees, sees_now, read_on, goes_up}
 
 -- ---- what a step makes of the clocks
 

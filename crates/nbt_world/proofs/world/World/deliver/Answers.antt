@@ -1,7 +1,6 @@
-use Rattle.std.proofs.Common.{◌≡◌, List, ℕ, Some, refl, sym, subst, ◌∙◌, arith}
+use Rattle.std.proofs.Common.{◌≡◌, Some, refl, sym, ◌∙◌, arith}
 use Rattle.std.specs.Prelude.{slice_get}
-use Rattle.nbt_world.specs.Drift.{reading}
-use Rattle.nbt_world.specs.Step.{EndTakes, no_datagram, no_end, too_late, delivered}
+use Rattle.nbt_world.specs.Step.{no_datagram, no_end, too_late, delivered}
 use Rattle.nbt_world.specs.World.{IsDeliverable}
 use Rattle.nbt_world.specs.Inner.Handing.{listed}
 use Rattle.nbt_world.proofs.Worlds.{hands_step, not_there_in, there_in, found_among}

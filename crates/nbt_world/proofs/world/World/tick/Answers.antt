@@ -1,4 +1,3 @@
-use Rattle.std.proofs.Common.{refl}
 use Rattle.nbt_world.specs.Step.{ticks}
 use Rattle.nbt_world.proofs.Advancing.{alike}
 use Rattle.nbt_world.proofs.world.World.tick.Goals as goal
