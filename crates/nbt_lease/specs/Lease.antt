@@ -4,6 +4,7 @@ use Rattle.std.specs.List.{AllByRecursion}
 use Rattle.nbt_name.specs.Wire.{NameValue, same_name}
 use Rattle.nbt_name.specs.declared.addr.Kind.TheVariants.{Unique, Group}
 use Rattle.nbt_lease.specs.declared.lease.Lease.{Lease}
+use Rattle.nbt_lease.specs.declared.standing.TheConstants.{MEMBERS_MOST}
 use Rattle.nbt_lease.specs.Config.{ConfigValue, milliseconds}
 
 -- a lease lives until its end, and no longer at its end
@@ -63,7 +64,7 @@ latest_end config moment = moment + milliseconds config.longest
 
 -- the most live members of a group
 abbrev pub members_most : ℕ
-members_most = 1000
+members_most = MEMBERS_MOST
 
 -- What holds of the live leases of a name: no more than a group has, no two of one address, all of a group or one
 -- unique, and none ends too late.

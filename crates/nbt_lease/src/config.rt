@@ -1,7 +1,7 @@
 //! The limits that a server and its nodes share.
 
 ghost use Rattle.std.specs.Prelude.{◌≡◌, ◌*◌, ◌<◌, ◌≤◌, ◌↔◌, IsOk, IfOk, IsErrOf};
-ghost use Rattle.nbt_lease.specs.Config.{IsConfig, IsLife, IsLongest, IsRows, config_of, granted};
+ghost use Rattle.nbt_lease.specs.Config.{IsConfig, IsLife, IsLongest, IsRows, config_of, granted, milliseconds};
 ghost use Rattle.nbt_lease.specs.Drift.{hold, quiet};
 
 use crate::fault::ConfigFault;
@@ -110,8 +110,8 @@ impl Config {
     /// before the lease. So 60 s are held for 59,878 ms. It is at least 996 where `seconds` is at least 1.
     pub fn hold(seconds: u32) -> u64
         ensures value { result ≡ hold seconds }
-        ensures some { 1 ≤ seconds → 996 ≤ result }
-        ensures bound { result ≤ 1000 * seconds }
+        ensures at_least { 1 ≤ seconds → 996 ≤ result }
+        ensures bound { result ≤ milliseconds seconds }
     {
         let less_than_granted = (1000 * u64::from(seconds)).saturating_sub(1);
         (less_than_granted * 999 / 1001).saturating_sub(1)

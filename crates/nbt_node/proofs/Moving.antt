@@ -33,8 +33,8 @@ keeps old new count life now xs ys zs name state is old_is new_is settles change
     let apart : AreDistinct xs = subst AreDistinct old_is is.apart in
     let apart_then : AreDistinct ys = rw settles (distinct-settled life now xs apart) in
     record {
-      few = is.few;
-      some = is.some;
+      slots_at_most = is.slots_at_most;
+      slots_at_least = is.slots_at_least;
       count_is = ap length (new_is ∙ changes) ∙ length-with_state ys name state ∙ ap length settles ∙ length-map xs (settled_slot life now) ∙ ap length (sym old_is) ∙ is.count_is;
       apart = subst AreDistinct (sym (new_is ∙ changes)) (distinct-with_state ys name state apart_then);
       awake = subst AreAwake (sym (new_is ∙ changes)) (awake-with_state ys name state (subst AreAwake (sym settles) (awake-settled life now xs)));
@@ -144,8 +144,8 @@ may_ask node now name e =
 pub settles : (old new : NodeValue) (count life now : ℕ) (xs ys : List (Option Slot)) → IsNode count old → old.slots ≡ xs → new.slots ≡ ys → ys ≡ map (settled_slot life now) xs
     → new.start ≡ old.start → new.last ≡ now → old.last ≤ now → IsNode count new
 settles old new count life now xs ys is old_is new_is settled_is start_is last_is later = record {
-  few = is.few;
-  some = is.some;
+  slots_at_most = is.slots_at_most;
+  slots_at_least = is.slots_at_least;
   count_is = ap length (new_is ∙ settled_is) ∙ length-map xs (settled_slot life now) ∙ ap length (sym old_is) ∙ is.count_is;
   apart = subst AreDistinct (sym (new_is ∙ settled_is)) (distinct-settled life now xs (subst AreDistinct old_is is.apart));
   awake = subst AreAwake (sym (new_is ∙ settled_is)) (awake-settled life now xs);

@@ -84,8 +84,8 @@ slots_most = 14
 -- What a node of `count` slots keeps. The last two: no name that has a slot is Idle, and the node's start isn't after its
 -- last moment.
 pub record IsNode (count : ℕ) (node : NodeValue) : Type 0 where
-  pub few : count ≤ slots_most
-  pub some : 1 ≤ count
+  pub slots_at_most : count ≤ slots_most
+  pub slots_at_least : 1 ≤ count
   pub count_is : length node.slots ≡ count
   pub apart : AreDistinct node.slots
   pub awake : AreAwake node.slots

@@ -9,6 +9,7 @@ use crate::fault::{AskFault, ClockBack, LookupFault, ReleaseFault};
 use crate::lookup::{Lookup, Wanted, is_same_end};
 use crate::polling::first_due;
 use crate::replies::{on_registered, on_released, on_wait};
+use crate::settling::is_resting;
 use crate::slots;
 use crate::state::{Slot, State};
 use crate::status::{listed, write_names};
@@ -55,8 +56,8 @@ impl<const N: usize> Node<N> {
     /// `Config::quiet()` has passed: two lives of a datagram, and what its clock may be fast by (our profile). All moments
     /// that a node is given are of its own clock. That `N` is 1 to 14 is the caller's.
     pub fn start(addr: Addr, server: Addr, config: Config, now: Moment) -> Node<N>
-        requires some { 1 ≤ N }
-        requires few { N ≤ slots_most }
+        requires slots_at_least { 1 ≤ N }
+        requires slots_at_most { N ≤ slots_most }
         ensures { result ≡ started N addr server config now }
     {
         let free = |_: usize| -> Option<Slot>
@@ -109,7 +110,7 @@ impl<const N: usize> Node<N> {
         if state.is_busy() {
             return Some(AskFault::Busy);
         }
-        if state.is_quiet() || now.get() <= self.start.get() + self.config.quiet() {
+        if state.is_quiet() || is_resting(self.start, self.config, now) {
             return Some(AskFault::Quiet);
         }
         if !slots::has_room(&self.slots, self.config, now) {

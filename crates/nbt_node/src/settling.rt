@@ -1,12 +1,21 @@
 //! What time alone makes of a name's state (our profile).
 
-ghost use Rattle.std.specs.Prelude.{◌≡◌};
+ghost use Rattle.std.specs.Prelude.{◌≡◌, ◌+◌, nat_le};
+ghost use Rattle.nbt_lease.specs.Drift.{quiet};
 ghost use Rattle.nbt_node.specs.Settling.{rested, pending_at, settled};
 
 use crate::state::State;
 use crate::transaction::{Transaction, is_over};
 use nbt_lease::{Config, Moment};
 use nbt_name::Kind;
+
+/// Whether no more than `Config::quiet()` has passed at `now` since a moment, so that a datagram of before it, or the reply to
+/// one, may still be on its way.
+pub fn is_resting(since: Moment, config: Config, now: Moment) -> bool
+    ensures { result ≡ nat_le now (since + quiet config.life) }
+{
+    now.get() <= since.get() + config.quiet()
+}
 
 /// A name rests until more than `Config::quiet()` has passed since the last sending about it: an old request may live
 /// one life, its reply one more, and the node's clock may be fast.

@@ -16,7 +16,7 @@ use nbt_packet::{Message, status_name_octets, write};
 pub fn listed(slots: &[Option<Slot>], scope: &[u8]) -> ArrayVec<u8, 252>
     requires { length slots.now ≤ slots_most }
     ensures names { result.items ≡ flat_map (listed scope.now) slots.now }
-    ensures most { length result.items ≤ 252 }
+    ensures octets_at_most { length result.items ≤ 252 }
     ensures whole { length result.items % 18 ≡ 0 }
 {
     let mut names = ArrayVec::new();
@@ -30,7 +30,7 @@ pub fn listed(slots: &[Option<Slot>], scope: &[u8]) -> ArrayVec<u8, 252>
 fn list(slot: &Option<Slot>, scope: &[u8], names: &mut ArrayVec<u8, 252>)
     requires room { length names.old.items ≤ 234 }
     ensures names { names.new.items ≡ names.old.items ++ listed scope.now slot.now }
-    ensures most { length (listed scope.now slot.now) ≤ 18 }
+    ensures octets_at_most { length (listed scope.now slot.now) ≤ 18 }
     ensures whole { length (listed scope.now slot.now) % 18 ≡ 0 }
 {
     let kept = match slot {
@@ -50,7 +50,7 @@ fn list(slot: &Option<Slot>, scope: &[u8], names: &mut ArrayVec<u8, 252>)
 
 /// Leaves in `out` the reply that lists these names, and nothing else.
 pub fn write_names(id: u16, name: &Name, names: &[u8], out: &mut ArrayVec<u8, 576>)
-    requires most { length names.now ≤ 252 }
+    requires octets_at_most { length names.now ≤ 252 }
     requires whole { length names.now % 18 ≡ 0 }
     ensures { AreWritten (Some (status id name.now names.now)) out.new.items }
 {

@@ -83,11 +83,6 @@ impl Server {
         ensures unchanged { IsErrOf result ServerFault.ClockBack → self.new ≡ self.old }
         ensures memory { IsErrOf result ServerFault.OutOfMemory → ServerForgets self.old now from.ip octets.now self.new }
         ensures empty { OnErr result (out.new.items ≡ []) }
-
-        // What the server is afterwards.
-        ensures last { self.old.last ≤ now → self.new.last ≡ now }
-        ensures start { self.new.start ≡ self.old.start }
-        ensures config { self.new.table.config ≡ self.old.table.config }
     {
         out.clear();
         if now.get() < self.last.get() {

@@ -103,8 +103,8 @@ counted others = length-map others end_of
 pub fresh_kept : (config : ConfigValue) (server : Addr) (others : List Addr) → AreAddrs (server ∷ others) → Invariant (fresh config server others)
 fresh_kept config server others are = record {
   ends = record {
-    some = let n = counted others in let some = are.some in omega arith;
-    few = let n = counted others in let few = are.few in omega arith;
+    nodes_at_least = let n = counted others in let least = are.ends_at_least in omega arith;
+    nodes_at_most = let n = counted others in let most = are.ends_at_most in omega arith;
     apart = λ i j a b p q same. are.apart i j a b (sym (addrs_at server others i) ∙ p) (sym (addrs_at server others j) ∙ q) same;
   };
   clocks = record {
@@ -126,7 +126,7 @@ fresh_kept config server others are = record {
 }
   where
     few : length others ≤ 8
-    few = let few = are.few in omega arith
+    few = let most = are.ends_at_most in omega arith
 
     no_claim : (n : ℕ) (a : Addr) (name : NameValue) (kind : Kind) (end : ℕ) → ClaimsIn (fresh config server others) n a name kind end → ⊥
     no_claim n a name kind end c =

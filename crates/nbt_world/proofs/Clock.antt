@@ -1,14 +1,12 @@
 -- What a world keeps when its clocks go on.
-use Rattle.std.proofs.Common.{◌≡◌, ℕ, ◌+◌, ◌^◌, ◌≤◌, Bool, List, Some, refl, sym, subst, arith}
-use Rattle.std.specs.Prelude.{IsTrue, Contains, min}
-use Rattle.nbt_name.specs.declared.addr.Addr.{Addr}
+use Rattle.std.proofs.Common.{ℕ, ◌^◌, ◌≤◌, refl, arith}
+use Rattle.std.specs.Prelude.{IsTrue, Contains}
 use Rattle.nbt_lease.specs.Config.{ConfigValue}
 use Rattle.nbt_lease.specs.Lease.{Rows, leases_at, IsSound}
 use Rattle.nbt_world.specs.declared.clocks.Clocks.{Clocks}
-use Rattle.nbt_world.specs.declared.clocks.Least.{Least}
 use Rattle.nbt_world.specs.declared.network.Datagram.{Datagram}
-use Rattle.nbt_world.specs.Drift.{reading, later, ahead, behind, least_of, numbers_of, lesser}
-use Rattle.nbt_world.specs.World.{WorldValue, IsEnd, addr_of, node_of}
+use Rattle.nbt_world.specs.Drift.{reading, later}
+use Rattle.nbt_world.specs.World.{WorldValue, IsEnd, node_of}
 use Rattle.nbt_world.specs.Step.{Advances}
 use Rattle.nbt_world.specs.Inner.Kept.{Asked, Replied, known, IsSeen, AreRead, IsSent, Invariant}
 use Rattle.nbt_world.proofs.Knowing.{ended-frame, fresh-frame}
@@ -56,7 +54,7 @@ read_on w v ms moves adv read = record {
 
 pub clock_changes : StaySound → LaterLive → HoldLaw → (w v : WorldValue) (ms : ℕ) (moves : ℕ → ℕ) → Advances w ms moves v → Invariant w → Invariant (record w { now = v.now; least = v.least; kept = v.kept })
 clock_changes law live holds w v ms moves adv kept = record {
-  ends = record { some = kept.ends.some; few = kept.ends.few; apart = kept.ends.apart };
+  ends = record { nodes_at_least = kept.ends.nodes_at_least; nodes_at_most = kept.ends.nodes_at_most; apart = kept.ends.apart };
   clocks = read_on w v ms moves adv kept.clocks;
   nodes = λ n a node p up.
       let k = kept.nodes n a node p up in

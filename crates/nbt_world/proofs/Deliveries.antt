@@ -33,7 +33,8 @@ use Rattle.nbt_world.proofs.Knowing.{Draws, fresh-reply}
 use Rattle.nbt_world.proofs.Claiming.{NoNewClaim, IsListed, claims_by_time, claims_hears}
 use Rattle.nbt_world.proofs.Keeping.{Grows, asked_still, asked_before, server_changes}
 use Rattle.nbt_name.proofs.Same.{names_apart}
-use Rattle.nbt_world.proofs.Naming.{OneMessage, Laws, Origin, listed, strange, Stays, stays_by_moves, is_new, nothing_new, name_by_time, name_hears, fresh_by_time, fresh_hears, grows_by, UpAt, up_at, node_moves}
+use Rattle.nbt_world.specs.Inner.Handing.{Origin, listed, strange}
+use Rattle.nbt_world.proofs.Naming.{Laws, Stays, stays_by_moves, is_new, nothing_new, name_by_time, name_hears, fresh_by_time, fresh_hears, grows_by, UpAt, up_at, node_moves}
 use Rattle.nbt_world.proofs.Granting.{LeaseLaws}
 use Rattle.nbt_world.proofs.Served.{Took, served_claims, forgotten_claims}
 use Rattle.nbt_world.proofs.Events.{stays_by_lookup, stays_by_time, time_kept, other_kept}

@@ -10,7 +10,7 @@ use Rattle.nbt_world.specs.declared.clocks.Clocks.{Clocks}
 use Rattle.nbt_world.specs.declared.clocks.Least.{Least}
 use Rattle.nbt_world.specs.declared.network.Datagram.{Datagram}
 use Rattle.nbt_world.specs.Drift.{reading, IsBounded, least_of, IsAllowed}
-use Rattle.nbt_world.specs.World.{WorldValue, addr_of, IsEnd}
+use Rattle.nbt_world.specs.World.{WorldValue, addr_of}
 use Rattle.nbt_world.specs.Inner.Kept.{Asked, Replied, IsSeen, AreRead, IsSent}
 use Rattle.nbt_world.proofs.Knowing.{IsPast, ArePast}
 

@@ -1,6 +1,6 @@
 -- Along a run from a new world, `kept` says exactly whether the readings kept the drift bound between any two of its worlds;
 -- and where no event lets the clocks drift apart, all worlds are in step, and keep it.
-use Rattle.std.proofs.Common.{◌≡◌, ℕ, zero, suc, ◌+◌, ◌-◌, ◌*◌, ◌^◌, ◌<◌, ◌≤◌, Bool, true, List, [], ◌∷◌, ◌++◌, length, Some, None, refl, sym, ap, subst, ◌∙◌, arith, inl, inr}
+use Rattle.std.proofs.Common.{◌≡◌, ℕ, zero, suc, ◌+◌, ◌-◌, ◌*◌, ◌^◌, ◌<◌, ◌≤◌, List, [], ◌∷◌, ◌++◌, length, Some, refl, sym, ap, subst, ◌∙◌, arith, inl, inr}
 use Rattle.std.specs.Prelude.{IsTrue, ◌↔◌, ◌⊎◌, slice_get, min}
 use Rattle.std.proofs.lemmas.Bool.{cases_lt}
 use Rattle.std.proofs.lemmas.Option.{none-some, same_Some}
@@ -11,11 +11,9 @@ use Rattle.nbt_world.specs.declared.clocks.Clocks.{Clocks}
 use Rattle.nbt_world.specs.declared.clocks.Least.{Least}
 use Rattle.nbt_world.specs.Drift.{reading, IsBounded, ahead, behind, least_of, numbers_of, lesser, IsAllowed}
 use Rattle.nbt_world.specs.World.{WorldValue, IsEnd, addr_of, IsFresh}
-use Rattle.nbt_world.specs.Step.{Advances}
 use Rattle.nbt_world.specs.Inner.Kept.{IsSeen, AreRead}
 use Rattle.nbt_world.specs.Safety.{KeepDriftBound}
 use Rattle.nbt_world.proofs.Drifting.{bounded}
-use Rattle.nbt_world.proofs.Clock.{sees, sees_now, read_on, goes_up}
 
 -- ---- what a step makes of the clocks
 
@@ -86,8 +84,8 @@ traced_more worlds w v goes t = record {
   read = goes.read;
   before = λ i x e. before x i (at_cases worlds v x i e);
   seen = λ i x e n end. seen x n end i (at_cases worlds v x i e);
-  ahead_at = λ n end. lower_ahead n end (cases_lt (least_of w.least n).ahead (ahead v.now n));
-  behind_at = λ n end. lower_behind n end (cases_lt (least_of w.least n).behind (behind v.now n));
+  ahead_at = λ n end. lower (λ x. ahead x.now n) (least_of w.least n).ahead (least_of v.least n).ahead (ap (λ (l : Least). l.ahead) (goes.least n (here n end))) (t.ahead_at n (here n end));
+  behind_at = λ n end. lower (λ x. behind x.now n) (least_of w.least n).behind (least_of v.least n).behind (ap (λ (l : Least). l.behind) (goes.least n (here n end))) (t.behind_at n (here n end));
   told = (λ on i j early late le p q n end. between on i j early late le p q n end, λ bound. (goes.kept).1 ((t.told).1 (shorter bound), λ n end. allowed bound n end));
 }
   where
@@ -105,21 +103,16 @@ traced_more worlds w v goes t = record {
     seen x n end i (inl e) = goes.seen n (here n end) x.now (t.seen i x e n (here n end))
     seen x n end i (inr e) = subst (λ (y : WorldValue). IsSeen v.least v.now y.now n) e ((goes.read).seen n end)
 
-    lower_ahead : (n : ℕ) → IsEnd v.ends n → ((least_of w.least n).ahead < ahead v.now n) ⊎ (ahead v.now n ≤ (least_of w.least n).ahead)
-        → (i : ℕ) × (x : WorldValue) × (slice_get (worlds ++ v ∷ []) i ≡ Some x) × (ahead x.now n ≤ (least_of v.least n).ahead)
-    lower_ahead n end (inl lt) =
-        let at = t.ahead_at n (here n end) in
-        let le = at.3 in
-        (at.0, at.1, old_at worlds v at.1 at.0 at.2, rw (goes.least n (here n end)) (omega arith))
-    lower_ahead n end (inr le) = (length worlds, v, new_at worlds v, rw (goes.least n (here n end)) (omega arith))
-
-    lower_behind : (n : ℕ) → IsEnd v.ends n → ((least_of w.least n).behind < behind v.now n) ⊎ (behind v.now n ≤ (least_of w.least n).behind)
-        → (i : ℕ) × (x : WorldValue) × (slice_get (worlds ++ v ∷ []) i ≡ Some x) × (behind x.now n ≤ (least_of v.least n).behind)
-    lower_behind n end (inl lt) =
-        let at = t.behind_at n (here n end) in
-        let le = at.3 in
-        (at.0, at.1, old_at worlds v at.1 at.0 at.2, rw (goes.least n (here n end)) (omega arith))
-    lower_behind n end (inr le) = (length worlds, v, new_at worlds v, rw (goes.least n (here n end)) (omega arith))
+    -- the least of an end's numbers is no less than that of one of the worlds, which is an old one or the new
+    lower : (number : WorldValue → ℕ) (was least : ℕ) → least ≡ min was (number v) → (i : ℕ) × (x : WorldValue) × (slice_get worlds i ≡ Some x) × (number x ≤ was)
+        → (i : ℕ) × (x : WorldValue) × (slice_get (worlds ++ v ∷ []) i ≡ Some x) × (number x ≤ least)
+    lower number was least is at = go (cases_lt was (number v))
+      where
+        go : (was < number v) ⊎ (number v ≤ was) → (i : ℕ) × (x : WorldValue) × (slice_get (worlds ++ v ∷ []) i ≡ Some x) × (number x ≤ least)
+        go (inl lt) =
+            let le = at.3 in
+            (at.0, at.1, old_at worlds v at.1 at.0 at.2, rw is (omega arith))
+        go (inr le) = (length worlds, v, new_at worlds v, rw is (omega arith))
 
     -- to the new world from each
     to_new : IsTrue v.kept → (i : ℕ) (x : WorldValue) → slice_get (worlds ++ v ∷ []) i ≡ Some x → (n : ℕ) → IsEnd v.ends n → IsBounded x.now v.now n

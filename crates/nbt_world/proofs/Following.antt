@@ -3,7 +3,6 @@ use Rattle.std.proofs.Common.{◌≡◌, ℕ, ◌+◌, ◌*◌, ◌<◌, ◌≤�
 use Rattle.nbt_name.specs.declared.addr.Addr.{Addr}
 use Rattle.nbt_name.specs.declared.addr.Kind.{Kind}
 use Rattle.nbt_name.specs.Wire.{NameValue}
-use Rattle.nbt_packet.specs.Message.{MessageValue}
 use Rattle.nbt_server.specs.Serving.{ServerValue}
 use Rattle.nbt_node.specs.declared.state.State.{State}
 use Rattle.nbt_node.specs.declared.state.State.TheVariants.{Idle, Asking, Held, Releasing, Resting}
@@ -14,7 +13,7 @@ use Rattle.nbt_world.specs.Drift.{reading}
 use Rattle.nbt_world.specs.World.{WorldValue, addr_of, node_of}
 use Rattle.nbt_world.proofs.Drifting.{RestLaw, asked_are_past}
 use Rattle.nbt_world.specs.Inner.Kept.{Known, known, last_sending, WantsIn, Wants, IsOpen, IsOpenIn, Covers, IsCoveredIn, Invariant}
-use Rattle.nbt_world.specs.Inner.Facts.{CoversIn, by_lease, by_silence, while_down, ClaimsAreCovered, IsRested, RepliedIn, OpenIsFresh, RequestsHaveEnded}
+use Rattle.nbt_world.specs.Inner.Facts.{CoversIn, by_lease, by_silence, while_down, ClaimsAreCovered, IsRested, OpenIsFresh, RequestsHaveEnded}
 
 pub claims_covered : (w : WorldValue) → Invariant w → IsTrue w.kept → ClaimsAreCovered w
 claims_covered w kept on n a name kind end p c lt = (is.moment, is.seconds, is.counted, go w.ends.server refl (is.backed))

@@ -1,29 +1,26 @@
 -- What each step makes of the clocks, and so what a run does: told where the bound is kept, and where no event moves the
 -- clocks apart, in step, and kept until a clock stops.
-use Rattle.std.proofs.Common.{◌≡◌, ℕ, zero, suc, ◌+◌, ◌-◌, ◌*◌, ◌^◌, ◌<◌, ◌≤◌, Bool, List, [], ◌∷◌, ◌++◌, length, take, get_or, Some, refl, sym, ap, subst, ◌∙◌, arith}
-use Rattle.std.specs.Prelude.{IsTrue, ◌↔◌, All, min}
+use Rattle.std.proofs.Common.{◌≡◌, ℕ, zero, suc, ◌+◌, ◌-◌, ◌*◌, ◌^◌, ◌<◌, ◌≤◌, List, [], ◌∷◌, ◌++◌, length, take, get_or, Some, refl, sym, subst, ◌∙◌, arith}
+use Rattle.std.specs.Prelude.{IsTrue, All, min}
 use Rattle.std.proofs.lemmas.List.{take_more, take_all}
 use Rattle.std.proofs.lemmas.List.Elements.{All-push, All-nil, All-cons, All-head, All-tail}
 use Rattle.nbt_name.specs.declared.addr.Addr.{Addr}
-use Rattle.nbt_packet.specs.Message.{MessageValue}
 use Rattle.nbt_lease.specs.Config.{ConfigValue}
-use Rattle.nbt_server.specs.Serving.{ServerValue}
 use Rattle.nbt_node.specs.Node.{NodeValue}
 use Rattle.std.specs.Prelude.{Option, None}
-use Rattle.nbt_world.specs.declared.clocks.Clocks.{Clocks}
 use Rattle.nbt_world.specs.declared.clocks.Least.{Least}
 use Rattle.nbt_world.specs.declared.ends.Ends.{Ends}
 use Rattle.nbt_packet.specs.Text.{text}
 use Rattle.nbt_world.specs.declared.network.Datagram.{Datagram}
 use Rattle.nbt_world.specs.declared.event.Event.{Event}
 use Rattle.nbt_world.specs.declared.event.Outcome.{Outcome}
-use Rattle.nbt_world.specs.Drift.{reading, later, ahead, behind, least_of, numbers_of, lesser, IsAllowed}
+use Rattle.nbt_world.specs.Drift.{reading, later, least_of, numbers_of, lesser, IsAllowed}
 use Rattle.nbt_world.specs.World.{WorldValue, IsEnd, addr_of, with_node, datagram, IsFresh}
 use Rattle.nbt_world.specs.Step.{Advances, Step, ticks, advances, starts, starts_nothing, crashes, crashes_nothing, node_does, node_is_down, no_datagram, no_end, too_late, delivered, from_an_end, to_no_end, from_a_stranger, CallOutcomeValue, nothing, refusal, octets_to, after, TakenValue, is_down, is_lost, takes, EndTakes, finds_down, by_server, by_node, after_taking, Starts, server_starts, node_starts, Crashes, server_crashes, node_crashes}
-use Rattle.nbt_world.specs.Inner.Kept.{IsSeen, AreRead}
+use Rattle.nbt_world.specs.Inner.Kept.{AreRead}
 use Rattle.nbt_world.specs.Safety.{IsSafe, AreSafe, AreSafeWhileKept, IsInStep, LetsClocksDrift, MoveClocksAlike, NoClockStopped, AreKeptUntilClocksStop, RunsSafely}
 use Rattle.nbt_world.proofs.Keeping.{addr_with, server_addr_with, read_with}
-use Rattle.nbt_world.proofs.Clock.{sees, sees_now, read_on, goes_up}
+use Rattle.nbt_world.proofs.Clock.{sees, read_on, goes_up}
 use Rattle.nbt_world.proofs.Exact.{Goes, Traced, traced_more, traced_first}
 
 -- ---- the clocks go on

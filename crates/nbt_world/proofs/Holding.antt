@@ -19,14 +19,14 @@ held_at_place nodes index name now = held_by (node_in (slice_get nodes index)) n
 
 -- these are the holders among the first nodes
 pub record AreHolders (nodes : List NodeEnd) (name : NameValue) (now : Clocks) (count : ℕ) (holders : List Holder) : Type 0 where
-  pub few : length holders ≤ count
+  pub holders_at_most : length holders ≤ count
   pub only : (h : Holder) → Contains holders h → (index : ℕ) × (index < count) × (h.node ≡ suc index) × (held_at_place nodes index name now ≡ Some h.kind)
   pub all : (index : ℕ) (kind : Kind) → index < count → held_at_place nodes index name now ≡ Some kind → Contains holders (record { node = suc index; kind = kind })
   pub in_order : (i j : ℕ) (d : Holder) → i < j → j < length holders → (get_or holders i d).node < (get_or holders j d).node
 
 pub no_holders : (nodes : List NodeEnd) (name : NameValue) (now : Clocks) → AreHolders nodes name now 0 []
 no_holders nodes name now = record {
-  few = omega arith;
+  holders_at_most = omega arith;
   only = λ h c. let lt = c.1 in absurd (omega arith);
   all = λ index kind lt is. absurd (omega arith);
   in_order = λ i j d lt within. absurd (omega arith);
@@ -35,7 +35,7 @@ no_holders nodes name now = record {
 -- one place more, which holds nothing
 pub passes_over : (nodes : List NodeEnd) (name : NameValue) (now : Clocks) (count : ℕ) (holders : List Holder) → held_at_place nodes count name now ≡ None → AreHolders nodes name now count holders → AreHolders nodes name now (count + 1) holders
 passes_over nodes name now count holders none are = record {
-  few = let few = are.few in omega arith;
+  holders_at_most = let most = are.holders_at_most in omega arith;
   only = λ h c. let o = are.only h c in (o.0, (let lt = o.1 in omega arith), o.2, o.3);
   all = λ index kind lt is. at index kind lt is (cases_eq index count);
   in_order = are.in_order;
@@ -49,7 +49,7 @@ passes_over nodes name now count holders none are = record {
 pub takes_in : (nodes : List NodeEnd) (name : NameValue) (now : Clocks) (count : ℕ) (holders : List Holder) (kind : Kind) → held_at_place nodes count name now ≡ Some kind → AreHolders nodes name now count holders
     → AreHolders nodes name now (count + 1) (holders ++ record { node = count + 1; kind = kind } ∷ [])
 takes_in nodes name now count holders kind held are = record {
-  few = let few = are.few in omega (arith, length_push holders (record { node = count + 1; kind = kind }));
+  holders_at_most = let most = are.holders_at_most in omega (arith, length_push holders (record { node = count + 1; kind = kind }));
   only = λ h c. only h (Contains-push_cases holders (record { node = count + 1; kind = kind }) h c);
   all = λ index k lt is. all index k lt is (cases_eq index count);
   in_order = λ i j d lt within. order i j d lt (cases_lt j (length holders)) (let e = length_push holders (record { node = count + 1; kind = kind }) in omega arith);

@@ -160,8 +160,8 @@ pub node_changes : (w : WorldValue) (i : ℕ) (addr : Addr) (x : Option NodeValu
     → Invariant (record w { ends = with_node w.ends (suc i) x; sent = sent })
 node_changes w i addr x sent kept at is new grows names replies claims = record {
   ends = record {
-    some = let e = put_length w.ends.nodes.items i x in let some = kept.ends.some in omega arith;
-    few = let e = put_length w.ends.nodes.items i x in let few = kept.ends.few in omega arith;
+    nodes_at_least = let e = put_length w.ends.nodes.items i x in let least = kept.ends.nodes_at_least in omega arith;
+    nodes_at_most = let e = put_length w.ends.nodes.items i x in let most = kept.ends.nodes_at_most in omega arith;
     apart = λ j k a b p q same. kept.ends.apart j k a b (sym (addr_with w.ends i x j) ∙ p) (sym (addr_with w.ends i x k) ∙ q) same;
   };
   clocks = read_with w (with_node w.ends (suc i) x) sent (addr_with w.ends i x) kept.clocks;
@@ -226,8 +226,8 @@ pub server_changes : (w : WorldValue) (x : Option ServerValue) (sent : List Data
     → Invariant (record w { ends = with_server w.ends x; sent = sent })
 server_changes w x sent kept is new replies claims = record {
   ends = record {
-    some = kept.ends.some;
-    few = kept.ends.few;
+    nodes_at_least = kept.ends.nodes_at_least;
+    nodes_at_most = kept.ends.nodes_at_most;
     apart = λ j k a b p q same. kept.ends.apart j k a b (sym (server_addr_with w.ends x j) ∙ p) (sym (server_addr_with w.ends x k) ∙ q) same;
   };
   clocks = read_with w (with_server w.ends x) sent (server_addr_with w.ends x) kept.clocks;

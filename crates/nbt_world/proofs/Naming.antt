@@ -1,5 +1,5 @@
 -- What a world keeps when one node has moved: each name by time alone, but one that asks, sends again or hears.
-use Rattle.std.proofs.Common.{◌≡◌, ◌≢◌, ℕ, suc, ◌≤◌, Bool, true, false, List, [], ◌∷◌, ◌++◌, Option, Some, None, sym, ap, subst, ◌∙◌, arith, inl, inr}
+use Rattle.std.proofs.Common.{◌≡◌, ◌≢◌, ℕ, suc, List, [], ◌∷◌, ◌++◌, Option, Some, None, sym, ap, subst, ◌∙◌, arith, inl, inr}
 use Rattle.std.specs.Prelude.{Contains, IsTrue, ◌⊎◌}
 use Rattle.std.proofs.lemmas.List.Elements.{Contains-push_cases, Contains-append_left}
 use Rattle.std.proofs.lemmas.Option.{same_Some}
@@ -17,8 +17,8 @@ use Rattle.nbt_node.specs.Moves.{NameEvent, hear, Told, NameMoves}
 use Rattle.nbt_world.specs.declared.clocks.Clocks.{Clocks}
 use Rattle.nbt_world.specs.declared.network.Datagram.{Datagram}
 use Rattle.nbt_world.specs.Drift.{reading}
-use Rattle.nbt_world.specs.World.{WorldValue, IsDeliverable, IsOfEnd, addr_of, node_of, with_node}
-use Rattle.nbt_world.specs.Inner.Kept.{IsRequest, Asked, Replied, known, RequestsEnded, RepliesFresh, IsNodeOf, IsSeen, IsSent, Invariant}
+use Rattle.nbt_world.specs.World.{WorldValue, addr_of, node_of, with_node}
+use Rattle.nbt_world.specs.Inner.Kept.{IsRequest, Asked, Replied, known, RequestsEnded, RepliesFresh, IsNodeOf, IsSent, Invariant}
 use Rattle.nbt_world.proofs.Knowing.{ArePast, past-more, fades, fades-heard, knows, ended-fades, ended-frame, ended-sent, is_sent, fresh-fades, fresh-frame, fresh-sent}
 use Rattle.nbt_world.proofs.Claiming.{NoNewClaim}
 use Rattle.nbt_world.proofs.Drifting.{RestLaw, asked_are_past}
@@ -33,11 +33,6 @@ OneMessage = (octets : List ℕ) (m n : MessageValue) → Spells octets m → Sp
 pub record Laws : Type 0 where
   pub one_message : OneMessage
   pub rests : RestLaw
-
--- where a datagram comes from: it is one of the list that may still be delivered, or a stranger's
-pub data Origin (w : WorldValue) (from to : Addr) (octets : List ℕ) : Type 0 where
-  listed : (d : Datagram) → Contains w.sent d → d.from ≡ from → d.to ≡ to → d.octets.items ≡ octets → IsDeliverable w.config.life w.now.clock d.moment.clock → Origin w from to octets
-  strange : (IsOfEnd w.ends from.ip → ⊥) → Origin w from to octets
 
 -- ---- names
 

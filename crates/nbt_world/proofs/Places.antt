@@ -28,7 +28,7 @@ place_from P n ne p = let e : suc (n - 1) ≡ n = omega arith in subst P e p
 -- The code has lent the nodes, as a list ys, and reads one of them, r.
 pub record Reads (ends : Ends) (n : ℕ) (ys : List NodeEnd) (r : NodeEnd) : Type 0 where
   pub lent : ys ≡ ends.nodes.items
-  pub some : n ≢ 0
+  pub is_node : n ≢ 0
   pub within : n ≤ length ends.nodes.items
   pub read : r ≡ get_or ys (n - 1) r
 
@@ -38,7 +38,7 @@ written_back ends n ys e = record ends { nodes = record { items = refill (length
 
 pub there : (ends : Ends) (n : ℕ) (ys : List NodeEnd) (r : NodeEnd) → Reads ends n ys r → slice_get ends.nodes.items (n - 1) ≡ Some (get_or ys (n - 1) r)
 there ends n ys r reads =
-    let some = reads.some in
+    let is_node = reads.is_node in
     let within = reads.within in
     let same : r ≡ get_or ends.nodes.items (n - 1) r = rw reads.lent at reads.read in
     let lt : n - 1 < length ends.nodes.items = omega arith in
@@ -57,7 +57,7 @@ refilled nodes ys i e same =
 pub written_node : (ends : Ends) (n : ℕ) (ys : List NodeEnd) (r : NodeEnd) (x : Option NodeValue) → Reads ends n ys r
     → written_back ends n ys (record (get_or ys (n - 1) r) { node = x }) ≡ with_node ends n x
 written_node ends n ys r x reads =
-    place_from (λ m. written_back ends n ys (record (get_or ys (n - 1) r) { node = x }) ≡ with_node ends m x) n reads.some
+    place_from (λ m. written_back ends n ys (record (get_or ys (n - 1) r) { node = x }) ≡ with_node ends m x) n reads.is_node
     (ap (λ (items : List NodeEnd). record ends { nodes = record { items = items } })
     (refilled ends.nodes.items ys (n - 1) _ reads.lent ∙ put_is_set ends.nodes.items (n - 1) _ x (there ends n ys r reads)))
 
@@ -73,11 +73,11 @@ written_same ends n ys r reads =
 
 pub node_read : (ends : Ends) (n : ℕ) (ys : List NodeEnd) (r : NodeEnd) → Reads ends n ys r → node_of ends n ≡ (get_or ys (n - 1) r).node
 node_read ends n ys r reads =
-    place_from (λ m. node_of ends m ≡ (get_or ys (n - 1) r).node) n reads.some (ap node_in (there ends n ys r reads))
+    place_from (λ m. node_of ends m ≡ (get_or ys (n - 1) r).node) n reads.is_node (ap node_in (there ends n ys r reads))
 
 pub addr_read : (ends : Ends) (n : ℕ) (ys : List NodeEnd) (r : NodeEnd) → Reads ends n ys r → addr_of ends n ≡ Some (get_or ys (n - 1) r).addr
 addr_read ends n ys r reads =
-    place_from (λ m. addr_of ends m ≡ Some (get_or ys (n - 1) r).addr) n reads.some
+    place_from (λ m. addr_of ends m ≡ Some (get_or ys (n - 1) r).addr) n reads.is_node
     (ap (λ (o : Option NodeEnd). addr_some o) (there ends n ys r reads))
   where
     addr_some : Option NodeEnd → Option Addr
@@ -135,13 +135,13 @@ node_crashed ends n ys r true e reads is =
     let node = is_there (get_or ys (n - 1) r).node is.0 in
     let left : written_back ends n ys e ≡ with_node ends n None = ap (λ (x : NodeEnd). written_back ends n ys x) is.1 ∙ written_node ends n ys r None reads in
     let up : node_of ends n ≡ Some node.0 = node_read ends n ys r reads ∙ node.1 in
-    subst (λ (x : Ends). Crashes ends n x) (sym left) (crashed n reads.some up)
+    subst (λ (x : Ends). Crashes ends n x) (sym left) (crashed n reads.is_node up)
   where
     crashed : (m : ℕ) → m ≢ 0 → {node : NodeValue} → node_of ends m ≡ Some node → Crashes ends m (with_node ends m None)
     crashed zero ne up = absurd (ne refl)
     crashed (suc i) ne {node} up = node_crashes i node up
 node_crashed ends n ys r false e reads is =
-    (up n reads.some (node_read ends n ys r reads ∙ is.0), ap (λ (x : NodeEnd). written_back ends n ys x) is.1 ∙ written_same ends n ys r reads)
+    (up n reads.is_node (node_read ends n ys r reads ∙ is.0), ap (λ (x : NodeEnd). written_back ends n ys x) is.1 ∙ written_same ends n ys r reads)
   where
     up : (m : ℕ) → m ≢ 0 → node_of ends m ≡ None → ¬ IsUp ends m
     up zero ne down = absurd (ne refl)
@@ -158,7 +158,7 @@ pub node_took : (now : ℕ) (ends : Ends) (from : Addr) (octets : List ℕ) (n :
     → (get_or ys (n - 1) r).node ≡ Some node → NodeHandles now node from octets reply new
     → EndTakes now ends from octets n (takes reply) (written_back ends n ys (record (get_or ys (n - 1) r) { node = Some new }))
 node_took now ends from octets n ys r node new reply reads is hears =
-    subst (λ (x : Ends). EndTakes now ends from octets n (takes reply) x) (sym (written_node ends n ys r (Some new) reads)) (took n reads.some (node_read ends n ys r reads ∙ is))
+    subst (λ (x : Ends). EndTakes now ends from octets n (takes reply) x) (sym (written_node ends n ys r (Some new) reads)) (took n reads.is_node (node_read ends n ys r reads ∙ is))
   where
     took : (m : ℕ) → m ≢ 0 → node_of ends m ≡ Some node → EndTakes now ends from octets m (takes reply) (with_node ends m (Some new))
     took zero ne up = absurd (ne refl)
@@ -167,7 +167,7 @@ node_took now ends from octets n ys r node new reply reads is hears =
 pub node_is_down : (now : ℕ) (ends : Ends) (from : Addr) (octets : List ℕ) (n : ℕ) (ys : List NodeEnd) (r : NodeEnd) → Reads ends n ys r → (get_or ys (n - 1) r).node ≡ None
     → EndTakes now ends from octets n is_down (written_back ends n ys (get_or ys (n - 1) r))
 node_is_down now ends from octets n ys r reads is =
-    subst (λ (x : Ends). EndTakes now ends from octets n is_down x) (sym (written_same ends n ys r reads)) (finds_down n (down n reads.some (addr_read ends n ys r reads) (node_read ends n ys r reads ∙ is)))
+    subst (λ (x : Ends). EndTakes now ends from octets n is_down x) (sym (written_same ends n ys r reads)) (finds_down n (down n reads.is_node (addr_read ends n ys r reads) (node_read ends n ys r reads ∙ is)))
   where
     down : (m : ℕ) → m ≢ 0 → {addr : Addr} → addr_of ends m ≡ Some addr → node_of ends m ≡ None → IsDown ends m
     down zero ne at is = absurd (ne refl)
@@ -196,14 +196,14 @@ pub node_started : (config : ConfigValue) (now : ℕ) (ends : Ends) (n : ℕ) (y
 node_started config now ends n ys r true e reads is =
     let left : written_back ends n ys e ≡ with_node ends n (Some (started 14 (get_or ys (n - 1) r).addr ends.server_addr config now)) =
     ap (λ (x : NodeEnd). written_back ends n ys x) is.1 ∙ written_node ends n ys r _ reads in
-    subst (λ (x : Ends). Starts config now ends n x) (sym left) (begun n reads.some (addr_read ends n ys r reads) (node_read ends n ys r reads ∙ is.0))
+    subst (λ (x : Ends). Starts config now ends n x) (sym left) (begun n reads.is_node (addr_read ends n ys r reads) (node_read ends n ys r reads ∙ is.0))
   where
     begun : (m : ℕ) → m ≢ 0 → {addr : Addr} → addr_of ends m ≡ Some addr → node_of ends m ≡ None → Starts config now ends m (with_node ends m (Some (started 14 addr ends.server_addr config now)))
     begun zero ne at down = absurd (ne refl)
     begun (suc i) ne {addr} at down = node_starts i addr at down
 node_started config now ends n ys r false e reads is =
     let node = is_there (get_or ys (n - 1) r).node is.0 in
-    (down n reads.some (node_read ends n ys r reads ∙ node.1), ap (λ (x : NodeEnd). written_back ends n ys x) is.1 ∙ written_same ends n ys r reads)
+    (down n reads.is_node (node_read ends n ys r reads ∙ node.1), ap (λ (x : NodeEnd). written_back ends n ys x) is.1 ∙ written_same ends n ys r reads)
   where
     down : (m : ℕ) → m ≢ 0 → {node : NodeValue} → node_of ends m ≡ Some node → ¬ IsDown ends m
     down zero ne up = absurd (ne refl)

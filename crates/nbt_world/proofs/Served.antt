@@ -25,7 +25,7 @@ use Rattle.nbt_world.proofs.Claiming.{claims_want}
 use Rattle.nbt_world.proofs.Drifting.{hold_over}
 use Rattle.nbt_world.proofs.Keeping.{Grows, server_addr_with, server_node_with}
 use Rattle.nbt_world.proofs.Covering.{replied_still, server_claims}
-use Rattle.nbt_world.proofs.Naming.{Origin, listed, strange}
+use Rattle.nbt_world.specs.Inner.Handing.{Origin, listed, strange}
 use Rattle.nbt_world.proofs.Granting.{LeaseLaws, Gives, granted_most, octets_keep, octets_give}
 
 -- what an end has asked with these octets, if it wants the name: the name, as its kind

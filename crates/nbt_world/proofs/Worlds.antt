@@ -1,6 +1,6 @@
 -- What each event makes of a world, as the code has found it: a line of the step, and a world that keeps what it kept.
-use Rattle.std.proofs.Common.{◌≡◌, ℕ, zero, suc, ◌+◌, ◌^◌, Bool, true, false, List, length, ltb, get_or, Some, None, refl, sym, ap, subst, ◌∙◌}
-use Rattle.std.specs.Prelude.{slice_get, Contains, MatchBool}
+use Rattle.std.proofs.Common.{◌≡◌, ℕ, zero, suc, Bool, true, false, List, length, ltb, get_or, Some, None, refl, sym, ap, subst, ◌∙◌}
+use Rattle.std.specs.Prelude.{slice_get, Contains, MatchBool, Result, Ok, Err, IfOk}
 use Rattle.std.proofs.lemmas.Bool.{ltb-true, ltb-false}
 use Rattle.std.proofs.lemmas.Option.{slice_get_read, slice_get_past, slice_get_within, get_or_from_slice_get, none-some}
 use Rattle.nbt_name.specs.declared.addr.Addr.{Addr}
@@ -14,6 +14,7 @@ use Rattle.nbt_world.specs.declared.ends.Taken.TheVariants as t
 use Rattle.nbt_world.specs.declared.network.Datagram.{Datagram}
 use Rattle.nbt_world.specs.declared.event.Event.{Event}
 use Rattle.nbt_world.specs.declared.event.Event.TheVariants as e
+use Rattle.nbt_world.specs.declared.event.OutOfMemory.{OutOfMemory}
 use Rattle.nbt_world.specs.declared.event.Outcome.{Outcome}
 use Rattle.nbt_world.specs.declared.event.Outcome.TheVariants as o
 use Rattle.nbt_world.specs.Drift.{reading}
@@ -21,7 +22,8 @@ use Rattle.nbt_world.specs.World.{WorldValue, addr_of, node_of, with_node}
 use Rattle.nbt_world.specs.Step.{number_in, CallOutcomeValue, NodeDoes, after, outcome_of, IsDown, IsUp, Starts, Crashes, TakenValue, takes, EndTakes, IsTaken, after_taking, outcome_of_taking, Step, starts, starts_nothing, crashes, crashes_nothing, node_does, node_is_down}
 use Rattle.nbt_world.specs.Inner.Kept.{IsNodeOf, Invariant}
 use Rattle.nbt_world.proofs.Keeping.{addr_there}
-use Rattle.nbt_world.proofs.Naming.{Laws, Origin}
+use Rattle.nbt_world.specs.Inner.Handing.{Origin, HandsOver}
+use Rattle.nbt_world.proofs.Naming.{Laws}
 use Rattle.nbt_world.proofs.Events.{does_kept}
 use Rattle.nbt_world.proofs.Deliveries.{GrantsSound, ReleasesSound, taking_kept}
 use Rattle.nbt_world.proofs.Granting.{LeaseLaws}
@@ -124,10 +126,17 @@ pub took_kept : Laws → GrantsSound → ReleasesSound → LeaseLaws → (w : Wo
 took_kept law g r laws w from to octets number ends sent outcome kept k =
     subst Invariant k.left (taking_kept law g r laws w from to octets number k.taken ends kept k.at k.origin k.does (λ m same. spells k.code k.out k.taken m k.is same))
 
-pub took_step : (w : WorldValue) (from to : Addr) (octets : List ℕ) (number : ℕ) (ends : Ends) (sent : List Datagram) (outcome : Outcome) (event : Event) (k : Took w from to octets number ends sent outcome)
-    → Step w event (outcome_of_taking w k.taken) (after_taking w ends to from k.taken) → Step w event outcome (record w { ends = ends; sent = sent })
-took_step w from to octets number ends sent outcome event k step =
-    subst (λ (x : Outcome). Step w event x (record w { ends = ends; sent = sent })) (sym k.outcome_is) (subst (λ (x : WorldValue). Step w event (outcome_of_taking w k.taken) x) k.left step)
+pub took_over : (w : WorldValue) (from to : Addr) (octets : List ℕ) (number : ℕ) (ends : Ends) (sent : List Datagram) (outcome : Outcome) → Took w from to octets number ends sent outcome
+    → HandsOver w number from to octets outcome (record w { ends = ends; sent = sent })
+took_over w from to octets number ends sent outcome k = record { taken = k.taken; ends = ends; takes = k.does; outcome_is = k.outcome_is; new_is = sym k.left }
+
+-- a delivery, and a stranger's datagram, is what handing it over makes of the world
+pub hands_step : (w new : WorldValue) (number : ℕ) (from to : Addr) (octets : List ℕ) (event : Event) (result : Result Outcome OutOfMemory) → IfOk result (λ outcome. HandsOver w number from to octets outcome new)
+    → ((taken : TakenValue) (ends : Ends) → EndTakes (reading w.now number) w.ends from octets number taken ends → Step w event (outcome_of_taking w taken) (after_taking w ends to from taken))
+    → IfOk result (λ outcome. Step w event outcome new)
+hands_step w new number from to octets event (Ok outcome) h step =
+    subst (λ (x : Outcome). Step w event x new) (sym h.outcome_is) (subst (λ (x : WorldValue). Step w event (outcome_of_taking w h.taken) x) (sym h.new_is) (step h.taken h.ends h.takes))
+hands_step w new number from to octets event (Err fault) h step = h
 
 -- ---- the datagrams of the list
 
@@ -142,10 +151,6 @@ not_there_in xs sent k same p = subst (λ (ys : List Datagram). slice_get ys k �
 
 pub there_in : (xs sent : List Datagram) (k : ℕ) (d : Datagram) → xs ≡ sent → true ≡ ltb k (length xs) → d ≡ get_or xs k d → slice_get sent k ≡ Some d
 there_in xs sent k d same p q = subst (λ (ys : List Datagram). slice_get ys k ≡ Some d) same (there_is xs k d p q)
-
--- only room was made for a datagram
-pub unchanged : (w : WorldValue) (sent : List Datagram) (event : Event) (outcome : Outcome) → sent ≡ w.sent → Step w event outcome w → Step w event outcome (record w { sent = sent })
-unchanged w sent event outcome same step = subst (λ (x : WorldValue). Step w event outcome x) (same_world w w.ends sent refl same) step
 
 pub found_among : (sent : List Datagram) (k : ℕ) (d : Datagram) → slice_get sent k ≡ Some d → Contains sent d
 found_among sent k d is = (k, slice_get_within sent k d is, get_or_from_slice_get sent k d d is)

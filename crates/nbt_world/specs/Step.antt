@@ -190,7 +190,7 @@ pub data Step (old : WorldValue) : Event → Outcome → WorldValue → Type 0 w
       → EndTakes (reading old.now number) old.ends from octets.items number taken ends
       → Step old (Stranger from number octets) (outcome_of_taking old taken) (after_taking old ends addr from taken)
 
--- room for a datagram is made for all other events
+-- room for a datagram may be made for all other events
 abbrev pub TakesNoMemory : Event → Type 0
 TakesNoMemory (Tick ms) = Unit {0}
 TakesNoMemory (Advance ms readings) = Unit {0}

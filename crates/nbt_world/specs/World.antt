@@ -88,8 +88,8 @@ nodes_most = 8
 
 -- The server's address and those of one node at least, no two of which are equal in their 32 bits.
 pub record AreAddrs (addrs : List Addr) : Type 0 where
-  pub some : 2 ≤ length addrs
-  pub few : length addrs ≤ nodes_most + 1
+  pub ends_at_least : 2 ≤ length addrs
+  pub ends_at_most : length addrs ≤ nodes_most + 1
   pub apart : AreApart addrs
 
 -- ends at these addresses, which are all down

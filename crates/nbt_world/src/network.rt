@@ -24,6 +24,17 @@ pub struct Datagram {
     pub octets: ArrayVec<u8, 576>,
 }
 
+impl Datagram {
+    /// Its octets once more.
+    pub fn copy_octets(&self) -> ArrayVec<u8, 576>
+        ensures { result.items ≡ self.now.octets.items }
+    {
+        let mut copy = ArrayVec::new();
+        copy.try_extend_from_slice(self.octets.as_slice()).unwrap();
+        copy
+    }
+}
+
 /// Sends a datagram, for which there is room, and returns its number.
 fn send(sent: &mut Vec<Datagram>, datagram: Datagram) -> usize
     requires { vec_len sent.old < vec_capacity sent.old }

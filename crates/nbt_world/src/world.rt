@@ -2,10 +2,11 @@
 
 ghost use Rattle.std.specs.Prelude.{◌≡◌, ◌≤◌, ◌<◌, ◌↔◌, ℕ, Some, None, List, length, take, slice_get, slice_index, slice_index_or, IsOk, IsTrue, IfSome, IfOk, OnOk, IfErr, OnErr, MatchResult, Contains};
 ghost use Rattle.nbt_name.specs.declared.addr.Kind.{Kind as KindValue};
-ghost use Rattle.nbt_world.specs.World.{WorldValue, AreAddrs, IsEnd, IsFresh};
+ghost use Rattle.nbt_world.specs.World.{WorldValue, AreAddrs, IsEnd, IsFresh, addr_of};
 ghost use Rattle.nbt_world.specs.Step.{Advances, Step, number_in, TakesNoMemory};
 ghost use Rattle.nbt_world.specs.Safety.{Run, holding, MayHold, IsSafe, RunsSafely};
 ghost use Rattle.nbt_world.specs.Inner.Kept.{AreRead};
+ghost use Rattle.nbt_world.specs.Inner.Handing.{Origin, HandsOver};
 ghost use Rattle.nbt_world.specs.declared.ends.Holder.{Holder as HolderValue};
 
 use crate::clocks::{Clocks, ENDS_MOST, Least, at_beginning, watch};
@@ -78,7 +79,7 @@ impl World {
     /// The clocks go on, and with them whether the readings keep the drift bound.
     fn go_on(&mut self, ms: u64, readings: &[u64; 9])
         ensures step { Advances self.old ms (slice_index readings.now) self.new }
-        ensures few { length self.old.ends.nodes.items ≤ 8 }
+        ensures nodes_at_most { length self.old.ends.nodes.items ≤ 8 }
     {
         nbt_lease::laws::leases_stay_sound();
         nbt_lease::laws::later_leases_live_now();
@@ -148,9 +149,18 @@ impl World {
         Ok(give(&mut self.sent, given, from, self.clocks, octets))
     }
 
-    /// A datagram of the list is delivered.
-    fn deliver(&mut self, k: usize) -> Result<Outcome, OutOfMemory>
-        ensures step { IfOk result (λ outcome. Step self.old (Event.Deliver k) outcome self.new) }
+    /// The end of this number, at the address `to`, takes octets from an address, and its reply is sent back. The octets are
+    /// those of a datagram of the list that may still be delivered, or a stranger's.
+    fn hand_over(
+        &mut self,
+        number: usize,
+        from: Addr,
+        to: Addr,
+        octets: &[u8],
+    ) -> Result<Outcome, OutOfMemory>
+        requires there { addr_of self.old.ends number ≡ Some to }
+        requires origin { Origin self.old from to octets.now }
+        ensures handed { IfOk result (λ outcome. HandsOver self.old number from to octets.now outcome self.new) }
         ensures refused { OnErr result (self.new ≡ self.old) }
     {
         nbt_packet::laws::one_message_spelled();
@@ -163,6 +173,17 @@ impl World {
         if self.sent.try_reserve(1).is_err() {
             return Err(OutOfMemory);
         }
+        let now = self.clocks.reading(number);
+        let mut out = ArrayVec::new();
+        let taken = self.ends.take(number, now, from, octets, &mut out);
+        Ok(reply(&mut self.sent, taken, to, from, self.clocks, out))
+    }
+
+    /// A datagram of the list is delivered.
+    fn deliver(&mut self, k: usize) -> Result<Outcome, OutOfMemory>
+        ensures step { IfOk result (λ outcome. Step self.old (Event.Deliver k) outcome self.new) }
+        ensures refused { OnErr result (self.new ≡ self.old) }
+    {
         let Some(datagram) = self.sent.as_slice().get(k) else {
             return Ok(Outcome::Nobody);
         };
@@ -174,12 +195,8 @@ impl World {
         if datagram.moment.clock.get() + self.config.life() < self.clocks.clock.get() {
             return Ok(Outcome::Lost);
         }
-        let now = self.clocks.reading(number);
-        let mut octets = ArrayVec::new();
-        let taken = self
-            .ends
-            .take(number, now, from, datagram.octets.as_slice(), &mut octets);
-        Ok(reply(&mut self.sent, taken, to, from, self.clocks, octets))
+        let octets = datagram.copy_octets();
+        self.hand_over(number, from, to, octets.as_slice())
     }
 
     /// A datagram comes from an address that is no end's.
@@ -192,28 +209,13 @@ impl World {
         ensures step { IfOk result (λ outcome. Step self.old (Event.Stranger from number octets.now) outcome self.new) }
         ensures refused { OnErr result (self.new ≡ self.old) }
     {
-        nbt_packet::laws::one_message_spelled();
-        nbt_lease::laws::leases_stay_sound();
-        nbt_lease::laws::one_name_changes();
-        nbt_lease::laws::leases_of_others_stay();
-        nbt_lease::laws::granted_lease_stands();
-        nbt_lease::laws::hold_ends_first();
-        nbt_lease::laws::rest_outlasts_datagrams();
-        if self.sent.try_reserve(1).is_err() {
-            return Err(OutOfMemory);
-        }
         if self.ends.has_ip(from.ip) {
             return Ok(Outcome::Nobody);
         }
-        let Some(addr) = self.ends.addr(number) else {
+        let Some(to) = self.ends.addr(number) else {
             return Ok(Outcome::Nobody);
         };
-        let now = self.clocks.reading(number);
-        let mut out = ArrayVec::new();
-        let taken = self
-            .ends
-            .take(number, now, from, octets.as_slice(), &mut out);
-        Ok(reply(&mut self.sent, taken, addr, from, self.clocks, out))
+        self.hand_over(number, from, to, octets.as_slice())
     }
 
     /// What happens next: the clocks go on, an end starts or crashes, a node does something of its own, a datagram of

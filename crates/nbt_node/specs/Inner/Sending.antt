@@ -15,4 +15,4 @@ pub record IsSending (life now own id : ℕ) (name : NameValue) (state : State) 
   pub name_is : sending.name ≡ name
   pub numbers : HoldsNumbers (message_of sending.message)
   pub fits : Fits (message_of sending.message)
-  pub few : HasFewRows (message_of sending.message)
+  pub rows_fit : HasFewRows (message_of sending.message)

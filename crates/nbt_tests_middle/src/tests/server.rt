@@ -206,9 +206,14 @@ const GROUP_IS_FULL: &str = "0001 ad82 reply TEAM NB 0s group";
 
 const TEAM_QUERY: &str = "0007 0100 one-name TEAM NB";
 
-const A_THOUSAND: [Step; 3] = [
-    Step::Join(1, 998, JOINING, JOINED),
-    Step::Join(999, 1_000, JOINING, GROUP_IS_FULL),
+const A_THOUSAND: [Step; 6] = [
+    Step::Join(1, 46, JOINING, JOINED),
+    // The 49th member.
+    Step::Join(47, 47, JOINING, JOINED),
+    Step::Join(48, 998, JOINING, JOINED),
+    // The 1,001st and a further one.
+    Step::Join(999, 999, JOINING, GROUP_IS_FULL),
+    Step::Join(1_000, 1_000, JOINING, GROUP_IS_FULL),
     Step::Join(998, 998, JOINING, JOINED),
 ];
 

@@ -2,7 +2,9 @@
 //! datagram 1,000 ms, the longest lease 60 s.
 
 use super::{EVERY_KIND, REGISTRATION, config, octets, one_of_many};
-use Does::{Ask, Crash, Deliver, Join, NameStatus, Poll, Release, Resolve, Start, Stranger, Tick};
+use Does::{
+    Advance, Ask, Crash, Deliver, Join, NameStatus, Poll, Release, Resolve, Start, Stranger, Tick,
+};
 use nbt_name::{Addr, Kind, Name};
 use nbt_world::Outcome::{self, Done, Down, Lost, Nobody, Nothing, Refused, Sent, Taken};
 use nbt_world::{Event, OutOfMemory, World};
@@ -46,6 +48,7 @@ const TEAM: &[u8; 16] = b"TEAM            ";
 #[derive(Clone, Copy)]
 enum Does {
     Tick(u64),
+    Advance(u64, [u64; 9]),
     Start(usize),
     Crash(usize),
     Ask(usize, &'static [u8; 16]),
@@ -77,6 +80,7 @@ fn asks(node: usize, name: &[u8; 16], kind: Kind) -> Result<Event, Fail> {
 fn event<R: AllocGlobal>(rt: &R, does: Does) -> Result<Event, Fail> {
     Ok(match does {
         Tick(ms) => Event::Tick(ms),
+        Advance(ms, readings) => Event::Advance { ms, readings },
         Start(end) => Event::Start(end),
         Crash(end) => Event::Crash(end),
         Ask(node, name) => asks(node, name, Kind::Unique)?,
@@ -212,6 +216,48 @@ fn an_early_ask_after_a_release_is_quiet_and_the_name_goes_to_another(
         &rt,
         &[(&ASKED, &[1]), (&RELEASED, &[2]), (&ASKED_AGAIN, &[2])],
     )
+}
+
+const IN_ITS_LAST_MOMENT: [Row; 1] = [(Tick(59_877), Done)];
+
+const AFTER_ITS_HOLD: [Row; 1] = [(Tick(1), Done)];
+
+/// The second node asks at 119,999, and the server refuses it.
+const BEFORE_THE_LEASE_ENDS: [Row; 4] = [
+    (Tick(121), Done),
+    (Ask(2, FRED), Sent(2)),
+    (Deliver(2), Sent(3)),
+    (Deliver(3), Taken),
+];
+
+/// The second node asks at 120,000, and is granted the name.
+const WHERE_THE_LEASE_ENDS: [Row; 4] = [
+    (Tick(122), Done),
+    (Ask(2, FRED), Sent(2)),
+    (Deliver(2), Sent(3)),
+    (Deliver(3), Taken),
+];
+
+#[test]
+fn a_hold_is_over_122_ms_before_its_lease_at_whose_end_another_is_granted(
+    rt: HostRuntime,
+) -> Result<(), Fail> {
+    let ends: [(&[Row], &[usize]); 2] = [
+        (&BEFORE_THE_LEASE_ENDS, &[]),
+        (&WHERE_THE_LEASE_ENDS, &[2]),
+    ];
+    for (rows, nodes) in ends {
+        play_all(
+            &rt,
+            &[
+                (&ASKED, &[1]),
+                (&IN_ITS_LAST_MOMENT, &[1]),
+                (&AFTER_ITS_HOLD, &[]),
+                (rows, nodes),
+            ],
+        )?;
+    }
+    Ok(())
 }
 
 /// What is polled 30 seconds after the last sending is the refresh; it goes there and back.
@@ -461,6 +507,50 @@ const NO_SUCH_NODES: [Row; 7] = [
 #[test]
 fn nodes_that_the_world_has_not(rt: HostRuntime) -> Result<(), Fail> {
     play_all(&rt, &[(&NO_SUCH_NODES, &[])])
+}
+
+/// The world has the ends 0, 1 and 2, which all read what the true clock shows.
+const READINGS_OF_ENDS_THAT_THE_WORLD_HAS_NOT: [Row; 6] = [
+    (
+        Advance(
+            30_000,
+            [30_000, 30_000, 30_000, 0, 1, 90_000, 60_000, 2, u64::MAX],
+        ),
+        Done,
+    ),
+    (Start(0), Done),
+    (Start(1), Done),
+    (
+        Advance(
+            60_000,
+            [60_000, 60_000, 60_000, u64::MAX, 0, 0, 1_000, 90_000, 0],
+        ),
+        Done,
+    ),
+    (Ask(1, FRED), Sent(0)),
+    (Deliver(0), Sent(1)),
+];
+
+const TAKEN_BY_THE_END_THAT_IS_THERE: [Row; 1] = [(Deliver(1), Taken)];
+
+/// The first node reads a second more than the true clock shows, and the server a second less.
+const READINGS_OF_ITS_ENDS: [Row; 1] = [(
+    Advance(1_000, [0, 2_000, 1_000, 0, 0, 0, 0, 0, 0]),
+    Done,
+)];
+
+#[test]
+fn readings_of_ends_that_the_world_has_not_are_not_looked_at(rt: HostRuntime) -> Result<(), Fail> {
+    let mut world = world(&rt)?;
+    play(&rt, &mut world, &READINGS_OF_ENDS_THAT_THE_WORLD_HAS_NOT)?;
+    play(&rt, &mut world, &TAKEN_BY_THE_END_THAT_IS_THERE)?;
+    holders(&rt, &world, FRED, &[1])?;
+    assert_eq!(&rt; world.clock().get(), 90_000);
+    assert!(&rt; world.kept());
+    play(&rt, &mut world, &READINGS_OF_ITS_ENDS)?;
+    assert_eq!(&rt; world.clock().get(), 91_000);
+    assert!(&rt; !world.kept());
+    Ok(())
 }
 
 const SAME: [Addr; 2] = [

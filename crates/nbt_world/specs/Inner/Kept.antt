@@ -177,8 +177,8 @@ pub record RepliesFresh (life number clock now : ℕ) (asked replied : Clocks �
 
 -- one server and one node at least, no two ends with one 32-bit address
 pub record AreEnds (ends : Ends) : Type 0 where
-  pub some : 1 ≤ length ends.nodes.items
-  pub few : length ends.nodes.items ≤ nodes_most
+  pub nodes_at_least : 1 ≤ length ends.nodes.items
+  pub nodes_at_most : length ends.nodes.items ≤ nodes_most
   pub apart : (i j : ℕ) (a b : Addr) → addr_of ends i ≡ Some a → addr_of ends j ≡ Some b → a.ip ≡ b.ip → i ≡ j
 
 -- a node that is up has the world's addresses and limits, and wasn't called later than it reads now

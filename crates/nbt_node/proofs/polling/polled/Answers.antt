@@ -10,7 +10,7 @@ returns-else-not-is_next-clause-sending c = record {
   name_is = c.copy.ensures;
   numbers = c.claim.ensures.whole;
   fits = tt;
-  few = tt;
+  rows_fit = tt;
 }
 
 pub returns-else-not-is_next-2-clause-sending : goal.returns-else-not-is_next-2-clause-sending
@@ -21,7 +21,7 @@ returns-else-not-is_next-2-clause-sending c = record {
   name_is = c.copy-in-Releasing.ensures;
   numbers = c.release.ensures.whole;
   fits = rw c.release.ensures.value tt;
-  few = rw c.release.ensures.value tt;
+  rows_fit = rw c.release.ensures.value tt;
 }
 
 pub returns-in-None-clause-due : goal.returns-in-None-clause-due
@@ -37,5 +37,5 @@ returns-in-Some-clause-sending c = record {
   name_is = c.copy-in-Held.ensures;
   numbers = c.claim-in-Held.ensures.whole;
   fits = tt;
-  few = tt;
+  rows_fit = tt;
 }

@@ -1,4 +1,4 @@
-use Rattle.std.proofs.Common.{◌≡◌, ◌++◌, ◌+◌, ◌∷◌, List, ℕ, length, length-append, take, ap, sym, ◌∙◌, subst, arith}
+use Rattle.std.proofs.Common.{◌≡◌, ◌++◌, ◌+◌, ◌∷◌, List, ℕ, length, length-append, take, ap, refl, sym, ◌∙◌, subst, arith}
 use Rattle.nbt_lease.specs.declared.lease.Lease.{Lease}
 use Rattle.nbt_lease.specs.Lease.{leases_at}
 use Rattle.nbt_lease.specs.Rules.{IsLeastEnd}
@@ -6,6 +6,10 @@ use Rattle.nbt_packet.specs.Text.{entry, entries_most}
 use Rattle.nbt_server.specs.Serving.{entries, listed}
 use Rattle.nbt_server.proofs.Rules.{lists_next, lists_no_more, lists_all, is_longer, is_no_longer}
 use Rattle.nbt_server.proofs.serving.list.Goals as goal
+
+pub loop-lease-init : goal.loop-lease-init
+loop-lease-init c =
+    rw (c.new-entries.ensures, c.entries_most-room.ensures.value, c.into_iter-lease-iterator.ensures.into_iter_gives, c.members-leases.ensures.members) (tt, tt, refl, omega arith, omega arith)
 
 pub loop-lease-preserved : goal.loop-lease-preserved
 loop-lease-preserved c =

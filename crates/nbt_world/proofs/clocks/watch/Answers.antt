@@ -1,5 +1,5 @@
-use Rattle.std.proofs.Common.{◌≡◌, ℕ, ◌+◌, ◌<◌, ◌≤◌, ◌↔◌, IsTrue, length, slice_index_or, slice_index, slice_set, arith, rules, inl, inr}
-use Rattle.nbt_world.specs.Drift.{reading, least_of, numbers_of, lesser, IsAllowed}
+use Rattle.std.proofs.Common.{◌≡◌, ◌<◌, ◌↔◌, IsTrue, length, rules, inl, inr}
+use Rattle.nbt_world.specs.Drift.{least_of, numbers_of, lesser, IsAllowed}
 use Rattle.nbt_world.proofs.Watching.{watched_next, allowed_there, kept_on}
 use Rattle.nbt_world.proofs.clocks.watch.Goals.{then-not-allows, else-not-allows}
 use Rattle.nbt_world.proofs.clocks.watch.Goals as goal

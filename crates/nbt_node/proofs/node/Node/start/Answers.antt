@@ -11,7 +11,7 @@ pub invariant_of-result : goal.invariant_of-result
 invariant_of-result g c =
     let count : length c.from_fn.result ≡ g.row.N = c.from_fn.ensures.items.long in
     let free : c.from_fn.result ≡ replicate g.row.N None = all_free c.from_fn.result g.row.N count (λ i within. (c.from_fn.ensures.items.at i None within).2.met.0) in
-    record { few = c.requires.few; some = c.requires.some; count_is = count; apart = distinct-none c.from_fn.result g.row.N free; awake = awake-none c.from_fn.result g.row.N free; since = le_refl c.args.now }
+    record { slots_at_most = c.requires.slots_at_most; slots_at_least = c.requires.slots_at_least; count_is = count; apart = distinct-none c.from_fn.result g.row.N free; awake = awake-none c.from_fn.result g.row.N free; since = le_refl c.args.now }
 
 pub returns : goal.returns
 returns g c =

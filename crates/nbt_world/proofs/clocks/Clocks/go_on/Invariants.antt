@@ -1,6 +1,6 @@
 -- The readings below the number went on, and the others are as they were.
-use Rattle.std.proofs.Common.{◌≡◌, ℕ, ◌<◌, ◌≤◌, List, slice_index, length}
-use Rattle.nbt_world.specs.Drift.{reading, later}
+use Rattle.std.proofs.Common.{◌≡◌, ℕ, ◌<◌, ◌≤◌, slice_index}
+use Rattle.nbt_world.specs.Drift.{later}
 use Rattle.nbt_world.proofs.clocks.Clocks.go_on.Given as goal
 
 abbrev pub invariant-loop-number : goal.invariant-loop-number

@@ -11,5 +11,5 @@ returns-then-number-len c = (up_past c.args.self.now c.args.number (omega arith)
 pub returns : goal.returns
 returns c =
     node_crashed c.args.self.now c.args.number c.deref_mut.result.now c.index-deref_mut-number.result c.crash_node.result c.crash_node.new.end
-    (record { lent = c.deref_mut.ensures.value; some = c.if-number-eq0.false; within = omega arith; read = c.index-deref_mut-number.is })
+    (record { lent = c.deref_mut.ensures.value; is_node = c.if-number-eq0.false; within = omega arith; read = c.index-deref_mut-number.is })
     c.crash_node.ensures

@@ -13,5 +13,5 @@ returns-then-number-len c = (down_past c.args.self.now c.args.number (omega arit
 pub returns : goal.returns
 returns c =
     node_started c.args.config c.args.now c.args.self.now c.args.number c.deref_mut.result.now c.index-deref_mut-number.result c.start_node.result c.start_node.new.end
-    (record { lent = c.deref_mut.ensures.value; some = c.if-number-eq0.false; within = omega arith; read = c.index-deref_mut-number.is })
+    (record { lent = c.deref_mut.ensures.value; is_node = c.if-number-eq0.false; within = omega arith; read = c.index-deref_mut-number.is })
     c.start_node.ensures

@@ -6,4 +6,4 @@ pub returns-clause-exactly : goal.returns-clause-exactly
 returns-clause-exactly c = rw (← c.self.view_is, c.len.ensures.value) (λ n. (count_ends c.self.inside.ends n, end_counts c.self.inside.ends n))
 
 pub returns-clause-within : goal.returns-clause-within
-returns-clause-within c = let some = c.self.invariant.ends.some in let few = c.self.invariant.ends.few in rw c.len.ensures.value (omega arith, omega arith)
+returns-clause-within c = let least = c.self.invariant.ends.nodes_at_least in let most = c.self.invariant.ends.nodes_at_most in rw c.len.ensures.value (omega arith, omega arith)

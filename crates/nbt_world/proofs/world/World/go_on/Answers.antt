@@ -1,4 +1,4 @@
-use Rattle.std.proofs.Common.{◌≡◌, Bool, ◌&&◌, refl, sym, ap, ◌∙◌, arith}
+use Rattle.std.proofs.Common.{◌≡◌, Bool, ◌&&◌, sym, ap, ◌∙◌}
 use Rattle.std.specs.Prelude.{slice_index}
 use Rattle.nbt_world.specs.Step.{Advances}
 use Rattle.nbt_world.proofs.Clock.{clock_changes}
@@ -16,10 +16,10 @@ still c =
 goes : (c : goal.After-self-1) → Advances (record { now = c.self.inside.clocks; config = c.self.inside.config; ends = c.self.inside.ends; sent = c.self.inside.sent.items; least = c.self.inside.least; kept = c.self.inside.kept }) c.args.ms (slice_index c.args.readings.now)
     (record { now = c.go_on.new.self; config = c.self.inside.config; ends = c.self.inside.ends; sent = c.self.inside.sent.items; least = c.watch-allowed.new.least; kept = c.if-self.self })
 goes c =
-    let few = c.self.invariant.ends.few in
+    let most = c.self.invariant.ends.nodes_at_most in
     let ends = c.len-ends.ensures.value in
     advanced (record { now = c.self.inside.clocks; config = c.self.inside.config; ends = c.self.inside.ends; sent = c.self.inside.sent.items; least = c.self.inside.least; kept = c.self.inside.kept }) c.go_on.new.self c.watch-allowed.new.least
-    c.watch-allowed.result c.if-self.self c.args.ms (slice_index c.args.readings.now) few c.go_on.ensures.clock c.go_on.ensures.readings (rw c.len-ends.ensures.value at c.watch-allowed.ensures.least) (rw c.len-ends.ensures.value at c.watch-allowed.ensures.allowed)
+    c.watch-allowed.result c.if-self.self c.args.ms (slice_index c.args.readings.now) most c.go_on.ensures.clock c.go_on.ensures.readings (rw c.len-ends.ensures.value at c.watch-allowed.ensures.least) (rw c.len-ends.ensures.value at c.watch-allowed.ensures.allowed)
     (still c)
 
 pub invariant_of-self : goal.invariant_of-self
@@ -28,5 +28,5 @@ invariant_of-self c = clock_changes c.leases_stay_sound.ensures.later c.later_le
 pub returns-clause-step : goal.returns-clause-step
 returns-clause-step c = rw (← c.self.view_is) (goes c)
 
-pub returns-clause-few : goal.returns-clause-few
-returns-clause-few c = rw (← c.self.view_is) (c.self.invariant.ends.few)
+pub returns-clause-nodes_at_most : goal.returns-clause-nodes_at_most
+returns-clause-nodes_at_most c = rw (← c.self.view_is) (c.self.invariant.ends.nodes_at_most)

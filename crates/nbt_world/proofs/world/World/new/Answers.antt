@@ -10,8 +10,8 @@ invariant_of-result c =
     let whole : c.args.addrs.now ≡ c.in-Some.server_addr.now ∷ c.in-Some.others.now = c.in-Some.ensures.cases.0 in
     let some = eqb-false (length c.in-Some.others.now) 0 (sym c.if-is_empty.ensures) in
     let are : AreAddrs (c.in-Some.server_addr.now ∷ c.in-Some.others.now) = record {
-      some = omega arith;
-      few = omega arith;
+      ends_at_least = omega arith;
+      ends_at_most = omega arith;
       apart = subst (λ (xs : List Addr). AreApart xs) whole (c.if-not-are_apart.ensures.0 refl);
     } in
     rw (c.zero.ensures.clock, c.zero.ensures.readings, c.new.ensures, c.new-2.ensures.items, c.at_beginning.ensures) (fresh_kept c.args.config c.in-Some.server_addr.now c.in-Some.others.now are)
