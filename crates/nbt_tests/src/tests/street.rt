@@ -7,6 +7,7 @@ use std::net::{
     IpAddr, Ipv4Addr, Net, OpenListener, OpenStream, SocketAddr, TcpListener, TcpStream, UdpSocket,
 };
 use std::os::fd::{AsRawFd, RawFd};
+use std::rc::Rc;
 use std::time::{Clock, Duration};
 
 /// A status request for the name `*`, which a node replies to.
@@ -34,6 +35,12 @@ pub enum Luck {
     Interrupted,
     /// A read gets one octet.
     Slow,
+    /// The accept of it is interrupted once.
+    Signalled,
+    /// How long its reads wait can't be set.
+    Untimed,
+    /// It doesn't tell its own address.
+    Nameless,
     /// All is well.
     Well,
 }
@@ -41,21 +48,36 @@ pub enum Luck {
 /// How long a read waits at most, in milliseconds (our profile).
 const WAIT: u64 = 1000;
 
-/// One end of a TCP connection, with its luck, and how long its reads wait. One that would wait otherwise fails.
-#[derive(Drop)]
+/// One end of a TCP connection, with its luck, and how long its reads wait. One that would wait otherwise fails. It counts among
+/// the open ones until it is closed.
 pub struct Line {
     socket: TcpStream,
     luck: Cell<Luck>,
     waits: Cell<Option<Duration>>,
+    open: Rc<Cell<usize>>,
 }
 
 impl Line {
-    fn new(socket: TcpStream, luck: Luck) -> Line {
+    fn new(socket: TcpStream, luck: Luck, open: Rc<Cell<usize>>) -> Line {
+        open.set(open.get().saturating_add(1));
         Line {
             socket,
             luck: Cell::new(luck),
             waits: Cell::new(None),
+            open,
         }
+    }
+}
+
+impl Drop for Line {
+    fn drop(self) {
+        let Line {
+            socket: _,
+            luck: _,
+            waits: _,
+            open,
+        } = self;
+        open.set(open.get().saturating_sub(1));
     }
 }
 
@@ -99,10 +121,16 @@ impl Write for Line {
 
 impl OpenStream for Line {
     fn local_addr(&self) -> io::Result<SocketAddr> {
-        self.socket.local_addr()
+        match self.luck.get() {
+            Luck::Nameless => Err(io::Error::from(io::ErrorKind::AddrNotAvailable)),
+            _ => self.socket.local_addr(),
+        }
     }
 
     fn set_read_timeout(&self, dur: Option<Duration>) -> io::Result<()> {
+        if self.luck.get() == Luck::Untimed {
+            return Err(io::Error::from(io::ErrorKind::InvalidInput));
+        }
         self.waits.set(dur);
         self.socket.set_read_timeout(dur)
     }
@@ -121,24 +149,35 @@ pub struct Door {
     socket: TcpListener,
     strangers: Cell<usize>,
     next: Cell<Luck>,
+    open: Rc<Cell<usize>>,
+}
+
+impl Door {
+    /// The luck of the connection that is accepted next.
+    fn next_luck(&self) -> Luck {
+        let strangers = self.strangers.get();
+        self.strangers.set(strangers.saturating_sub(1));
+        if strangers == 0 {
+            self.next.replace(Luck::Well)
+        } else {
+            Luck::Well
+        }
+    }
 }
 
 impl OpenListener for Door {
     type Stream = Line;
 
     fn accept(&self) -> io::Result<(Line, SocketAddr)> {
+        let luck = self.next_luck();
+        if luck == Luck::Signalled {
+            return Err(io::Error::from(io::ErrorKind::Interrupted));
+        }
         let (socket, from) = self.socket.accept()?;
-        let strangers = self.strangers.get();
-        self.strangers.set(strangers.saturating_sub(1));
-        let luck = if strangers == 0 {
-            self.next.replace(Luck::Well)
-        } else {
-            Luck::Well
-        };
         if luck == Luck::Refused {
             return Err(io::Error::from(io::ErrorKind::InvalidInput));
         }
-        Ok((Line::new(socket, luck), from))
+        Ok((Line::new(socket, luck, Rc::clone(&self.open)?), from))
     }
 }
 
@@ -149,15 +188,19 @@ impl AsRawFd for Door {
 }
 
 /// The network of `machine`. Strangers send to each socket as soon as it is bound. The first connection that is made has
-/// its luck at each end, and all others are well; how many are made is counted. Once the UDP port `last.0` is bound, it sends
-/// the octets `last.1` to `last.2`.
+/// its luck at each end, and all others are well; how many are made is counted, and how many ends of them are open. Once
+/// the UDP port `last.0` is bound, it sends the octets `last.1` to `last.2`. The socket of the UDP port `lent` is in `sender`
+/// too, once it is bound.
 #[derive(Drop)]
 pub struct Street<'a, N> {
     pub machine: &'a N,
     pub caller: Cell<Luck>,
     pub listener: Luck,
     pub connections: Cell<usize>,
+    pub open: Rc<Cell<usize>>,
     pub last: (SocketAddr, &'static [u8], SocketAddr),
+    pub lent: SocketAddr,
+    pub sender: Rc<Cell<Option<UdpSocket>>>,
 }
 
 impl<'a, N: Net<Stream = TcpStream, Listener = TcpListener>> Net for Street<'a, N> {
@@ -172,6 +215,7 @@ impl<'a, N: Net<Stream = TcpStream, Listener = TcpListener>> Net for Street<'a, 
             socket,
             strangers: Cell::new(1),
             next: Cell::new(self.listener),
+            open: Rc::clone(&self.open)?,
         })
     }
 
@@ -185,6 +229,9 @@ impl<'a, N: Net<Stream = TcpStream, Listener = TcpListener>> Net for Street<'a, 
         if addr == from {
             socket.send_to(octets, to)?;
         }
+        if addr == self.lent {
+            self.sender.set(Some(socket.try_clone()?));
+        }
         Ok(socket)
     }
 
@@ -196,7 +243,7 @@ impl<'a, N: Net<Stream = TcpStream, Listener = TcpListener>> Net for Street<'a, 
             return Err(io::Error::from(io::ErrorKind::ConnectionRefused));
         }
         let socket = self.machine.connect(addr)?;
-        Ok(Line::new(socket, luck))
+        Ok(Line::new(socket, luck, Rc::clone(&self.open)?))
     }
 }
 

@@ -223,16 +223,33 @@ fn names_at_a_place_and_their_faults(rt: HostRuntime) -> Result<(), Fail> {
     Ok(())
 }
 
+/// Names by what they stand in, where they begin and where they end: spelled out, by a pointer, and by a pointer to a
+/// pointer.
+const CUT: &[(By, &[u8], usize, usize)] = &[
+    (By::ReadPlain, FRED_IN_SCOPE, 0, 46),
+    (By::ReadIn, FRED_IN_SCOPE, 0, 46),
+    (By::ReadIn, POINTERS, 12, 46),
+    (By::ReadIn, POINTERS, 46, 48),
+    (By::ReadIn, POINTERS, 48, 50),
+];
+
+/// Each name that is cut short has its fault at its end.
 #[test]
 fn cut_at_every_length(rt: HostRuntime) {
-    for place in 0..46 {
-        let cut = &FRED_IN_SCOPE[..place];
-        let short = Some(NameFault {
-            kind: NameFaultKind::Short,
-            place,
-        });
-        assert_eq!(rt; read_plain(cut, 0).err(), short);
-        assert_eq!(rt; read_in(cut, 0).err(), short);
+    for (by, octets, start, end) in CUT {
+        assert!(rt; *end <= octets.len());
+        for place in *start..*end {
+            let cut = &octets[..place];
+            let read = match by {
+                By::ReadIn => read_in(cut, *start),
+                By::ReadPlain => read_plain(cut, *start),
+            };
+            let short = Some(NameFault {
+                kind: NameFaultKind::Short,
+                place,
+            });
+            assert_eq!(rt; read.err(), short, "{by:?} from {start}");
+        }
     }
 }
 

@@ -117,17 +117,67 @@ fn octets_packets_datagrams_sessions_and_vectors(rt: HostRuntime) -> Result<(), 
     play(&rt, &ROWS)
 }
 
-/// The packets of every kind, cut to each shorter length: the octets end where one is missing.
+/// Datagrams of each type, as their types and what follows: data with two names, a later fragment, an error and a query.
+const DATAGRAMS: [(&[u8], &[u8]); 4] = [
+    (
+        b"\x10\x11\x12",
+        b"\x06\x00\x01\x7F\x00\x00\x02\x00\x8A\x00\x49\x00\x00 EGFCEFEECACACACACACACACACACACACA\x00 FEEFEBENCACACACACACACACACACACACA\x00hello",
+    ),
+    (
+        b"\x11",
+        b"\x04\x00\x01\x7F\x00\x00\x02\x00\x8A\x00\x05\x00\x09hello",
+    ),
+    (b"\x13", b"\x06\x00\x01\x7F\x00\x00\x03\x00\x8A\x82"),
+    (
+        b"\x14\x15\x16",
+        b"\x06\x00\x01\x7F\x00\x00\x02\x00\x8A FEEFEBENCACACACACACACACACACACACA\x00",
+    ),
+];
+
+/// A session's packets of each kind.
+const SESSION_PACKETS: [&[u8]; 6] = [
+    b"\x81\x00\x00\x44 EGFCEFEECACACACACACACACACACACACA\x00 FEEFEBENCACACACACACACACACACACACA\x00",
+    b"\x82\x00\x00\x00",
+    b"\x83\x00\x00\x01\x82",
+    b"\x84\x00\x00\x06\x7F\x00\x00\x03\x00\x8B",
+    b"\x00\x00\x00\x02hi",
+    b"\x85\x00\x00\x00",
+];
+
+/// Whole octets, cut to each shorter length: of a packet or a datagram the octets end where one is missing, and of a
+/// session so many are left.
+fn expect_cut<R: Abort + AllocGlobal>(rt: &R, prints: Prints, whole: &[u8]) -> Result<(), Fail> {
+    let (well, words) = match prints {
+        Prints::Session => (true, "rest"),
+        _ => (false, "fault Short at"),
+    };
+    for length in 0..whole.len() {
+        let mut text = String::new(rt.alloc());
+        assert_eq!(rt;
+            print(prints, &whole[..length], &mut text)?,
+            well,
+            "{length}"
+        );
+        let wanted = format!(in rt.alloc(); "{words} {length}\n")?;
+        assert!(rt; text == wanted, "{text}");
+    }
+    Ok(())
+}
+
 #[test]
 fn packets_cut_at_every_length(rt: HostRuntime) -> Result<(), Fail> {
     for words in EVERY_KIND {
-        let whole = octets(&rt, words)?;
-        for length in 0..whole.len() {
-            let mut text = String::new(rt.alloc());
-            assert!(&rt; !write_packet(&whole[..length], &mut text)?);
-            let wanted = format!(in rt.alloc(); "fault Short at {length}\n")?;
-            assert!(&rt; text == wanted, "{text}");
+        expect_cut(&rt, Prints::Packet, octets(&rt, words)?.as_slice())?;
+    }
+    for (types, tail) in DATAGRAMS {
+        for kind in types {
+            let mut whole = Vec::from_slice(rt.alloc(), &[*kind])?;
+            whole.extend_from_slice(tail)?;
+            expect_cut(&rt, Prints::Datagram, whole.as_slice())?;
         }
+    }
+    for whole in SESSION_PACKETS {
+        expect_cut(&rt, Prints::Session, whole)?;
     }
     Ok(())
 }

@@ -815,3 +815,66 @@ fn refused_memory_is_told_and_the_same_request_is_granted_later(
     }
     Ok(())
 }
+
+/// Each growth of a server: a new name, a group's members, and renewals that move an end. FRED's lease lasts until 121,000.
+const EACH_GROWTH: [Row; 7] = [
+    (60_000, FIRST, REGISTRATION, GRANTED),
+    (
+        60_000,
+        FIRST,
+        "0001 2900 two-parts TEAM NB again NB 60s group 127.0.0.2",
+        "0001 ad80 reply TEAM NB 60s group 127.0.0.2",
+    ),
+    (
+        60_000,
+        SECOND,
+        "0001 2900 two-parts TEAM NB again NB 60s group 127.0.0.3",
+        "0001 ad80 reply TEAM NB 60s group 127.0.0.3",
+    ),
+    (60_500, FIRST, REGISTRATION, GRANTED),
+    (61_000, FIRST, REFRESH, GRANTED),
+    (
+        61_000,
+        SECOND,
+        "0001 2900 two-parts TEAM NB again NB 60s group 127.0.0.3",
+        "0001 ad80 reply TEAM NB 60s group 127.0.0.3",
+    ),
+    (120_000, SECOND, QUERY, FOUND),
+];
+
+/// The reply to these octets, which are given once more where memory was refused. Then the buffer was empty.
+fn expect_at_last<R: Abort>(
+    rt: &R,
+    server: &mut Server,
+    at: u64,
+    ip: u32,
+    asks: &[u8],
+    gives: &[u8],
+) -> Result<(), Fail> {
+    let from = Addr { ip, port: 137 };
+    let mut out = ArrayVec::new();
+    if let Err(fault) = server.on_datagram(moment(at)?, from, asks, &mut out) {
+        assert_eq!(rt; fault, ServerFault::OutOfMemory, "{asks:?} at {at}");
+        assert!(rt; out.is_empty(), "{asks:?} at {at}");
+        return expect(rt, server, at, ip, asks, gives);
+    }
+    assert_eq!(rt; out.as_slice(), gives, "{asks:?} at {at}");
+    Ok(())
+}
+
+/// The server takes the datagrams, some of them twice, and each reply is that of its row.
+fn play_growing<R: Abort + AllocGlobal>(rt: &R, server: &mut Server) -> Result<(), Fail> {
+    for (at, ip, asks, gives) in EACH_GROWTH {
+        let asks = octets(rt, asks)?;
+        let gives = octets(rt, gives)?;
+        expect_at_last(rt, server, at, ip, asks.as_slice(), gives.as_slice())?;
+    }
+    Ok(())
+}
+
+/// With `rt try --test --fail-alloc N` the Nth allocation is refused: where it is one of the server's, the same datagram
+/// has its reply when it comes again.
+#[test]
+fn refused_memory_at_each_growth_of_a_server(rt: HostRuntime) -> Result<(), Fail> {
+    play_growing(&rt, &mut started(&rt, 4096, 0)?)
+}

@@ -718,3 +718,62 @@ fn refused_memory_stops_a_run_before_its_event_or_loses_a_datagram(
     assert_eq!(&rt; taken, Taken);
     holders(&rt, &world, FRED, &[1])
 }
+
+/// Each growth of a world: what is sent, and the leases of its server.
+const EACH_GROWTH: [Row; 15] = [
+    (Start(0), Done),
+    (Start(1), Done),
+    (Start(2), Done),
+    (Tick(60_000), Done),
+    (Ask(1, FRED), Sent(0)),
+    (Deliver(0), Sent(1)),
+    (Deliver(1), Taken),
+    (Join(1, TEAM), Sent(2)),
+    (Join(2, TEAM), Sent(3)),
+    (Deliver(2), Sent(4)),
+    (Deliver(3), Sent(5)),
+    (Deliver(4), Taken),
+    (Deliver(5), Taken),
+    (Resolve(2, FRED), Sent(6)),
+    (
+        Stranger(
+            STRANGER,
+            0,
+            "0001 2900 two-parts TEAM NB again NB 60s group 0a000001",
+        ),
+        Sent(7),
+    ),
+];
+
+/// An event's outcome. Where memory was refused to the world, or to its server, which lost the datagram, the event happens
+/// once more.
+fn expect_at_last<R: Abort + AllocGlobal>(
+    rt: &R,
+    world: &mut World,
+    does: Does,
+    outcome: Outcome,
+) -> Result<(), Fail> {
+    let happens = event(rt, does)?;
+    let mut got = world.step(&happens);
+    if got == Err(OutOfMemory) || got == Ok(Lost) {
+        got = world.step(&happens);
+    }
+    assert_eq!(rt; got, Ok(outcome));
+    Ok(())
+}
+
+/// Each event in turn has its outcome, some of them at the second time.
+fn play_growing<R: Abort + AllocGlobal>(rt: &R, world: &mut World) -> Result<(), Fail> {
+    for (does, outcome) in EACH_GROWTH {
+        expect_at_last(rt, world, does, outcome)?;
+    }
+    holders(rt, world, FRED, &[1])?;
+    holders(rt, world, TEAM, &[1, 2])
+}
+
+/// `rt try --test --fail-alloc N` refuses the Nth allocation: where it is one of the world's, the same event has its
+/// outcome when it happens again.
+#[test]
+fn refused_memory_at_each_growth_of_a_world(rt: HostRuntime) -> Result<(), Fail> {
+    play_growing(&rt, &mut world(&rt)?)
+}
