@@ -40,7 +40,7 @@ const GRANTED_AGAIN: &str = "0002 ad80 reply FRED NB 60s unique 127.0.0.2";
 type Row = (Addr, &'static str);
 
 /// A clock that tells these moments.
-fn clock<R: AllocGlobal>(rt: &R, moments: &[u64]) -> Result<MemoryClock, Fail> {
+pub fn clock<R: AllocGlobal>(rt: &R, moments: &[u64]) -> Result<MemoryClock, Fail> {
     let mut told = VecDeque::new(rt.alloc());
     for ms in moments {
         told.push_back(moment(*ms)?)?;
@@ -49,7 +49,7 @@ fn clock<R: AllocGlobal>(rt: &R, moments: &[u64]) -> Result<MemoryClock, Fail> {
 }
 
 /// A port that hands these out.
-fn port<R: AllocGlobal>(rt: &R, given: &[Row]) -> Result<MemoryPort, Fail> {
+pub fn port<R: AllocGlobal>(rt: &R, given: &[Row]) -> Result<MemoryPort, Fail> {
     let mut incoming = VecDeque::new(rt.alloc());
     for (addr, words) in given {
         let octets = octets(rt, words)?;
@@ -64,7 +64,7 @@ fn port<R: AllocGlobal>(rt: &R, given: &[Row]) -> Result<MemoryPort, Fail> {
 }
 
 /// These were sent, in order.
-fn expect_sent<R: Abort + AllocGlobal>(
+pub fn expect_sent<R: Abort + AllocGlobal>(
     rt: &R,
     port: &MemoryPort,
     sent: &[Row],
