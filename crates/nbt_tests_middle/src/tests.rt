@@ -11,6 +11,7 @@ mod lookups;
 mod memory;
 mod ports;
 mod printing;
+mod samba;
 mod scripts;
 mod server;
 mod spelling;
@@ -25,8 +26,9 @@ const SECOND: u32 = 0x7F000003;
 /// is a pointer to the question's; the longest scope is three labels of 63 octets and one of 28, so that the name has 255.
 /// `NB`, `NULL` and `NBSTAT` are a type and the class; `one-name` and `two-parts` are the counts of a request, `reply` those
 /// of a response; `unique` and `group` are the length of an address entry and its NB_FLAGS, and `statistics` those of a
-/// status response; `-` is nothing.
-const PIECES: [(&str, &str); 23] = [
+/// status response; `-` is nothing. `NODEB`, `WINSB`, `SPY01` and `LAB4` are names of real programs, `H-unique` the length of an
+/// entry and the NB_FLAGS of nmbd.
+const PIECES: [(&str, &str); 32] = [
     ("-", ""),
     (
         "FRED",
@@ -65,6 +67,30 @@ const PIECES: [(&str, &str); 23] = [
     ("127.0.0.1", "7f000001"),
     ("127.0.0.2", "7f000002"),
     ("127.0.0.3", "7f000003"),
+    (
+        "NODEB",
+        "20454f45504545454645434341434143414341434143414341434143414341434100",
+    ),
+    (
+        "NODEB-in-LAB.TEST",
+        "20454f455045454546454343414341434143414341434143414341434143414341034c4142045445535400",
+    ),
+    (
+        "WINSB",
+        "204648454a454f464445434341434143414341434143414341434143414341414100",
+    ),
+    (
+        "SPY01",
+        "2046444641464a444144424341434143414341434143414341434143414341414100",
+    ),
+    (
+        "LAB4",
+        "20454d45424543444543414341434143414341434143414341434143414341424d00",
+    ),
+    ("20s", "00000014"),
+    ("H-unique", "00066000"),
+    ("198.18.137.2", "c6128902"),
+    ("198.18.137.3", "c6128903"),
 ];
 
 const REGISTRATION: &str = "0001 2900 two-parts FRED NB again NB 60s unique 127.0.0.2";

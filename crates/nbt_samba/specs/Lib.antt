@@ -1,0 +1,3 @@
+pub mod Handing
+pub mod Inner
+pub mod Taking
