@@ -9,6 +9,7 @@ mod engine;
 mod lookups;
 mod ports;
 mod printing;
+mod replies;
 mod scripts;
 mod server;
 mod spelling;
