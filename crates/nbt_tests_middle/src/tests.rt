@@ -11,6 +11,7 @@ mod lookups;
 mod memory;
 mod ports;
 mod printing;
+mod replies;
 mod samba;
 mod scripts;
 mod server;

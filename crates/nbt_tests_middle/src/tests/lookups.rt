@@ -3,6 +3,7 @@
 use super::memory::{Row, clock, expect_sent, port};
 use super::{config, moment, octets};
 use arrayvec::ArrayVec;
+use nbt_ask::{Answer, ask};
 use nbt_engine::Port;
 use nbt_lookup::{Ending, Question, look_up};
 use nbt_name::{Addr, Name};
@@ -35,6 +36,10 @@ const FOUND: &str = "0001 8580 reply FRED NB 1s unique 127.0.0.3";
 const FOUND_BY_ANOTHER_ID: &str = "0002 8580 reply FRED NB 1s unique 127.0.0.3";
 
 const NOT_FOUND: &str = "0001 8583 reply FRED NULL 0s 0000";
+
+/// A status response with FRED, which is active.
+const STATUS_OF_FRED: &str =
+    "0001 8400 reply STAR NBSTAT 0s 0041 01 46524544202020202020202020202020 2400 statistics";
 
 /// A status response with no name.
 const STATUS: &str = "0001 8400 reply STAR NBSTAT 0s 002f 00 statistics";
@@ -183,6 +188,100 @@ fn lookups_that_are_not(rt: HostRuntime) -> Result<(), Fail> {
         },
     ] {
         play(&rt, told)?;
+    }
+    Ok(())
+}
+
+/// One question as a command asks it: the moments that the clock tells, what the port hands out, for how long it waits, and what is
+/// told.
+struct Asked {
+    asks: &'static str,
+    moments: &'static [u64],
+    given: &'static [Row],
+    patience: u32,
+    answer: Answer,
+    text: &'static str,
+    sent: &'static [Row],
+}
+
+fn play_asked<R: Abort + AllocGlobal>(rt: &R, asked: &Asked) -> Result<(), Fail> {
+    let mut port = port(rt, asked.given)?;
+    let mut clock = clock(rt, asked.moments)?;
+    let mut text = String::from_str(rt.alloc(), "> ")?;
+    assert!(rt; port.failures() < 1 << 62);
+    let answer = ask(
+        &mut port,
+        &mut clock,
+        OWN,
+        &question(asked.asks)?,
+        asked.patience,
+        &mut text,
+    )?;
+    assert_eq!(rt; answer, asked.answer);
+    assert_eq!(rt; text.as_str().strip_prefix("> "), Some(asked.text));
+    expect_sent(rt, &port, asked.sent)
+}
+
+#[test]
+fn questions_as_commands_ask_them(rt: HostRuntime) -> Result<(), Fail> {
+    for asked in &[
+        Asked {
+            asks: "FRED",
+            moments: &[0, 0, 0, 10],
+            given: &[(SERVER, FOUND)],
+            patience: 15_000,
+            answer: Answer::Found,
+            text: "127.0.0.3 unique\n",
+            sent: &[(SERVER, QUERY)],
+        },
+        // Another end's reply is passed over.
+        Asked {
+            asks: "FRED",
+            moments: &[0, 0, 0, 10, 10, 20],
+            given: &[(PEER, FOUND), (SERVER, NOT_FOUND)],
+            patience: 15_000,
+            answer: Answer::NotFound,
+            text: "not found: no such name (3)\n",
+            sent: &[(SERVER, QUERY)],
+        },
+        Asked {
+            asks: "names",
+            moments: &[0, 0, 0, 10],
+            given: &[(PEER, STATUS_OF_FRED)],
+            patience: 15_000,
+            answer: Answer::Found,
+            text: "FRED#20 unique active  file server\n",
+            sent: &[(PEER, STATUS_REQUEST)],
+        },
+        // Two tries, and the reply comes too late.
+        Asked {
+            asks: "FRED",
+            moments: &[0, 0, 0, 5_000, 5_000, 10_000, 10_000],
+            given: &[(SERVER, ""), (SERVER, ""), (SERVER, FOUND)],
+            patience: 10_000,
+            answer: Answer::NoReply,
+            text: "no reply\n",
+            sent: &[(SERVER, QUERY), (SERVER, QUERY)],
+        },
+        // A server can't be asked for all names.
+        Asked {
+            asks: "*",
+            moments: &[0, 0],
+            given: &[],
+            patience: 15_000,
+            answer: Answer::NoReply,
+            text: "no reply\n",
+            sent: &[],
+        },
+    ] {
+        play_asked(&rt, asked)?;
+    }
+    for (answer, status) in [
+        (Answer::Found, 0),
+        (Answer::NotFound, 1),
+        (Answer::NoReply, 5),
+    ] {
+        assert_eq!(rt; answer.status(), status);
     }
     Ok(())
 }

@@ -1,0 +1,1 @@
+-- The proof of a function is in the folder of its module and its name.

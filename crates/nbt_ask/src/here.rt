@@ -1,0 +1,74 @@
+//! A lookup over this machine's UDP and its clock.
+
+ghost use Rattle.std.specs.Prelude.{◌≡◌, ◌++◌, ℕ, List, IfOk};
+ghost use Rattle.std.specs.String.{string_bytes};
+ghost use Rattle.nbt_ask.specs.Asking.{AsksHere};
+
+use crate::answer::Answer;
+use crate::asking::{Fault, ask};
+use crate::clock::SteadyClock;
+use nbt_engine::{Cause, MachineCall, Port, UdpPort};
+use nbt_lookup::Question;
+use nbt_name::Addr;
+use std::io::Write;
+use std::net::Net;
+use std::time;
+
+/// Asks from the address `own` of this machine, as `ask` does; for 0.0.0.0:0 the machine chooses both. Refused with `Device` also
+/// where the port or the clock can't be had. Of each `Device` a line in `errors` says which call of the machine failed, for which
+/// address, and why. What can't be written to `errors` is passed over.
+pub fn ask_here<M: Net + time::Clock, E: Write>(
+    machine: &M,
+    own: Addr,
+    question: &Question,
+    patience: u32,
+    out: &mut String,
+    errors: &mut E,
+) -> Result<Answer, Fault>
+    ensures { IfOk result (λ answer. (text : List ℕ) × AsksHere own question.now patience answer text × (string_bytes out.new ≡ string_bytes out.old ++ text)) }
+{
+    let mut port = bound_port(machine, own, errors)?;
+    let mut clock = steady_clock(machine, own, errors)?;
+    let asked = ask(&mut port, &mut clock, own, question, patience, out);
+    if asked == Err(Fault::Device) {
+        tell(port.cause(), errors);
+    }
+    asked
+}
+
+/// The port at an address of this machine, where it can be had. Else it says why in `errors`.
+fn bound_port<M: Net, E: Write>(machine: &M, own: Addr, errors: &mut E) -> Result<UdpPort, Fault>
+    ensures { IfOk result (λ port. port ≡ record { addr = own; failures = 0 }) }
+{
+    match UdpPort::bind(machine, own) {
+        Ok(port) => Ok(port),
+        Err(error) => {
+            Cause::new(MachineCall::Bind, own, error).tell("", errors);
+            Err(Fault::Device)
+        }
+    }
+}
+
+/// The clock, where it can be read. Else it says why in `errors`.
+fn steady_clock<'a, M: time::Clock, E: Write>(
+    machine: &'a M,
+    own: Addr,
+    errors: &mut E,
+) -> Result<SteadyClock<'a, M>, Fault>
+    ensures { IfOk result (λ clock. clock ≡ 0) }
+{
+    match SteadyClock::begin(machine) {
+        Ok(clock) => Ok(clock),
+        Err(error) => {
+            Cause::new(MachineCall::Clock, own, error).tell("", errors);
+            Err(Fault::Device)
+        }
+    }
+}
+
+/// Says why a call failed, where the port knows it.
+fn tell<E: Write>(cause: Option<Cause>, errors: &mut E) {
+    if let Some(cause) = cause {
+        cause.tell("", errors);
+    }
+}

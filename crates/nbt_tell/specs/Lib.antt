@@ -1,0 +1,5 @@
+pub mod Holders
+pub mod Names
+pub mod Rcodes
+pub mod Replies
+pub mod Rows

@@ -1,0 +1,26 @@
+# Completion of nbt for bash.
+
+_nbt() {
+    local word=${COMP_WORDS[COMP_CWORD]} before=${COMP_WORDS[COMP_CWORD - 1]} words='' reply
+    case $before in
+    --at) return ;;
+    esac
+    if ((COMP_CWORD == 1)); then
+        words='answer show check sim serve node loop help --help --version'
+    else
+        case ${COMP_WORDS[1]} in
+        answer) words='--at --help' ;;
+        show) words='name dgram session --help' ;;
+        serve) words='--forever --help' ;;
+        node) words='unique group --forever --help' ;;
+        check | sim | loop) words='--help' ;;
+        help) words='answer show check sim serve node loop' ;;
+        esac
+    fi
+    COMPREPLY=()
+    while IFS= read -r reply; do
+        COMPREPLY+=("$reply")
+    done < <(compgen -W "$words" -- "$word")
+}
+
+complete -F _nbt nbt
