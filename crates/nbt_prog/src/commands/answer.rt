@@ -6,6 +6,7 @@ ghost use Rattle.hex.specs.Hex.{encode_lower};
 ghost use Rattle.nbt_packet.specs.Message.{MessageValue};
 ghost use Rattle.nbt_server.specs.Serving.{ServerValue};
 ghost use Rattle.nbt_server.specs.Calls.{ServerTakes};
+ghost use Rattle.nbt_text.specs.Lines.{one_line};
 ghost use Rattle.nbt_prog.specs.Inner.Answer.{new_server as fresh, answer_text};
 
 use crate::failure::Failure;
