@@ -7,6 +7,7 @@ ghost use Rattle.nbt_packet.specs.Message.{MessageValue};
 ghost use Rattle.nbt_server.specs.Serving.{ServerValue};
 ghost use Rattle.nbt_server.specs.Calls.{ServerTakes};
 ghost use Rattle.nbt_prog.specs.Inner.Failure.{out_of_memory};
+ghost use Rattle.nbt_text.specs.Lines.{one_line};
 ghost use Rattle.nbt_prog.specs.Inner.Answer.{new_server as fresh, answer_text};
 
 use crate::failure::Failure;
