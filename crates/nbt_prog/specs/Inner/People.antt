@@ -42,9 +42,12 @@ pub record SpellsPatience (tries wait : List ℕ) (patience : ℕ) : Type 0 wher
 
 -- ---- whom, and by which name
 
+abbrev pub IsEnd : List ℕ → Type 0
+IsEnd text = (end : Addr) × SpellsEnd text end
+
 -- an address that can't be read
 abbrev pub EndFails : List ℕ → Failure → Type 0
-EndFails text failure = (failure ≡ out_of_memory) ⊎ ((¬ ((end : Addr) × SpellsEnd text end)) × TellsWord text w.Address failure)
+EndFails text failure = (failure ≡ out_of_memory) ⊎ (¬ IsEnd text × TellsWord text w.Address failure)
 
 abbrev pub case_of : Bool → Case
 case_of true = Exact
@@ -85,9 +88,6 @@ pub record StatusGiven (words : AskWords) (a : AskArguments) : Type 0 where
   pub spells_name : SpellsAsked words name
   pub spells_bind : SpellsEnd words.bind.now a.bind
   pub patience : SpellsPatience words.tries.now words.wait.now a.patience
-
-abbrev pub IsEnd : List ℕ → Type 0
-IsEnd text = (end : Addr) × SpellsEnd text end
 
 -- A time out of its limits is wrong usage, and is told first of all; then the words in their order. Memory may be short at any
 -- step.
