@@ -137,7 +137,7 @@ fn conclude_told<W: Write>(told: &Told, writer: &mut W) -> u8
 {
     match write_told(told, writer) {
         Ok(()) => told.answer.status(),
-        Err(_) => Fault::Output.status(),
+        Err(_error) => Fault::Output.status(),
     }
 }
 

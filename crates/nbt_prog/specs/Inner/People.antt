@@ -1,6 +1,5 @@
 -- What the commands for people who run a network take as their arguments, and which failure tells what is wrong with them.
 use Rattle.std.specs.Prelude.{◌≡◌, ◌≤◌, ◌↔◌, ◌⊎◌, ℕ, Bool, true, false, List, Option, codes}
-use Rattle.std.specs.String.{string_bytes}
 use Rattle.std.specs.Io.KnownBytes.{Appends}
 use Rattle.nbt_name.specs.Wire.{NameValue, IsStar}
 use Rattle.nbt_name.specs.declared.addr.Addr.{Addr}
@@ -9,6 +8,7 @@ use Rattle.nbt_spelling.specs.declared.casing.Case.TheVariants.{Folded, Exact}
 use Rattle.nbt_spelling.specs.declared.fault.Fault.{Fault as NameFault}
 use Rattle.nbt_spelling.specs.Names.{SpellsName, MisspellsName}
 use Rattle.nbt_spelling.specs.Others.{SpellsEnd, SpellsTime}
+use Rattle.nbt_lookup.specs.declared.question.Question.{Question}
 use Rattle.nbt_lookup.specs.declared.question.Question.TheVariants as q
 use Rattle.nbt_ask.specs.Answers.{answer_status}
 use Rattle.nbt_ask.specs.Asking.{patience_of, AsksHere}
@@ -70,23 +70,25 @@ SoughtFails words failure = NameFails words failure ⊎ ((name : NameValue) × S
 
 -- ---- the whole
 
+-- A server is asked for who holds a name.
+abbrev pub AsksServer : AskWords → Question → Type 0
+AsksServer words (q.Holders server name) = SpellsEnd words.to.now server × SpellsSought words name
+AsksServer words (q.Names to name) = ⊥
+
+-- A host is asked for its names.
+abbrev pub AsksHost : AskWords → Question → Type 0
+AsksHost words (q.Holders server name) = ⊥
+AsksHost words (q.Names host name) = SpellsEnd words.to.now host × SpellsAsked words name
+
 -- the arguments are those that the words give
 pub record LookupGiven (words : AskWords) (a : AskArguments) : Type 0 where
-  pub server : Addr
-  pub name : NameValue
-  pub question_is : a.question ≡ q.Holders server name
-  pub spells_server : SpellsEnd words.to.now server
-  pub spells_name : SpellsSought words name
-  pub spells_bind : SpellsEnd words.bind.now a.bind
+  pub question : AsksServer words a.question
+  pub bind : SpellsEnd words.bind.now a.bind
   pub patience : SpellsPatience words.tries.now words.wait.now a.patience
 
 pub record StatusGiven (words : AskWords) (a : AskArguments) : Type 0 where
-  pub host : Addr
-  pub name : NameValue
-  pub question_is : a.question ≡ q.Names host name
-  pub spells_host : SpellsEnd words.to.now host
-  pub spells_name : SpellsAsked words name
-  pub spells_bind : SpellsEnd words.bind.now a.bind
+  pub question : AsksHost words a.question
+  pub bind : SpellsEnd words.bind.now a.bind
   pub patience : SpellsPatience words.tries.now words.wait.now a.patience
 
 -- A time out of its limits is wrong usage, and is told first of all; then the words in their order. Memory may be short at any

@@ -1,15 +1,13 @@
 //! What the words ask of the commands for people who run a network.
 
-ghost use Rattle.std.specs.Prelude.{◌≡◌, ◌≤◌, ◌↔◌, true, false, IfOk, IfErr, IsSome, IfSome, codes};
-ghost use Rattle.nbt_ask.specs.declared.patience.TheConstants.{TRIES_MOST, TRY};
+ghost use Rattle.std.specs.Prelude.{◌≡◌, ◌≤◌, ◌↔◌, IfOk, IfErr, IsSome, IfSome, codes};
 ghost use Rattle.nbt_spelling.specs.Others.{SpellsEnd};
-ghost use Rattle.nbt_spelling.specs.declared.casing.Case.TheVariants.{Folded, Exact};
 ghost use Rattle.nbt_prog.specs.Inner.Arguments.{IsUsageFailure};
 ghost use Rattle.nbt_prog.specs.Inner.People.{case_of, IsWait, SpellsWait, SpellsPatience, EndFails, SpellsAsked, NameFails, SpellsSought, SoughtFails, LookupGiven, StatusGiven, AskFails};
 
 use crate::commands::ask::AskArguments;
 use crate::failure::{Failure, WordFault};
-use nbt_ask::{TRY, patience_of};
+use nbt_ask::{TRIES_MOST, TRY, patience_of};
 use nbt_lookup::Question;
 use nbt_name::{Addr, Name};
 use nbt_spelling::{Case, read_address, read_duration, read_name};
@@ -78,7 +76,7 @@ fn tries_of(text: &str) -> u32
     match text {
         nbt_usage::ONCE => 1,
         nbt_usage::TWICE => 2,
-        _ => 3,
+        _ => TRIES_MOST,
     }
 }
 
