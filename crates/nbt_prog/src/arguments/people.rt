@@ -50,12 +50,7 @@ pub fn status_arguments(alloc: Global, words: &AskWords<'_>) -> Result<AskArgume
 }
 
 /// For how many milliseconds a lookup is waited for.
-fn patience(
-    alloc: Global,
-    which: PeopleCommand,
-    tries: &str,
-    wait: &str,
-) -> Result<u32, Failure>
+fn patience(alloc: Global, which: PeopleCommand, tries: &str, wait: &str) -> Result<u32, Failure>
     ensures read { IfOk result (SpellsPatience tries.now wait.now) }
     ensures limits { IfOk result (λ _. IsWait wait.now) }
     ensures failure { IfErr result (IsUsageFailure (IsWait wait.now)) }

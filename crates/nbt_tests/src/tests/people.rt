@@ -307,7 +307,9 @@ const STATUSES: [Row; 3] = [
     Row {
         about: "no reply",
         words: "nbt status 127.42.22.3:20139 --bind 127.42.22.2:20138 --tries 1 --wait 1ms",
-        moments: &[1_000_000, 1_000_000, 1_000_000, 1_000_000, 1_000_000, 1_000_001],
+        moments: &[
+            1_000_000, 1_000_000, 1_000_000, 1_000_000, 1_000_000, 1_000_001,
+        ],
         sends: &[],
         breaks_at: 0,
         status: 5,
@@ -387,14 +389,7 @@ fn questions_over_this_machine(rt: HostRuntime) -> Result<(), Fail> {
         "not found: no such name (3)\n",
         "",
     )?;
-    expect_answer(
-        &rt,
-        &LOOKUPS[3],
-        OWN,
-        Ok(Answer::NoReply),
-        "no reply\n",
-        "",
-    )?;
+    expect_answer(&rt, &LOOKUPS[3], OWN, Ok(Answer::NoReply), "no reply\n", "")?;
     expect_answer(&rt, &PORT_FAILS, OWN, Err(Fault::Device), "", FAILED)?;
     expect_answer(&rt, &CLOCK_FAILS, OWN, Err(Fault::NoClock), "", NO_CLOCK)?;
     expect_answer(&rt, &PORT_FAILS, NOBODY, Err(Fault::NoPort), "", NO_ADDRESS)
