@@ -1,0 +1,39 @@
+-- The requests of names, one after the other.
+use Rattle.std.proofs.Common.{◌≡◌, ℕ, suc, ◌+◌, ◌<◌, List, [], ◌∷◌, ◌++◌, length, take, drop, get_or, refl, sym, subst, ◌∙◌, ap}
+use Rattle.std.specs.Prelude.{Option, Some}
+use Rattle.std.proofs.lemmas.List.{take_more, take_all}
+use Rattle.nbt_name.specs.declared.addr.Addr.{Addr}
+use Rattle.nbt_node.specs.Node.{NodeValue}
+use Rattle.nbt_engine.specs.PortCalls.{PortCall, send_failed, Chain}
+use Rattle.nbt_engine.proofs.Chains.{chain_one, chain-append}
+use Rattle.nbt_host.specs.declared.goal.Goal.{Goal}
+use Rattle.nbt_host.specs.Hosting.{sending_to, Requests, RequestsAll, of_none, of_next, BreaksRequests, at_request}
+
+abbrev pub Requested : {P : Type 0} → (P → PortCall → P → Type 0) → Addr → ℕ → P → NodeValue → List Goal → P → NodeValue → Type 0
+Requested does server now p s goals q t = (acts : List PortCall) × RequestsAll server now s goals acts t × Chain does p acts q
+
+pub requested_none : {P : Type 0} (does : P → PortCall → P → Type 0) (server : Addr) (now : ℕ) (p : P) (s : NodeValue) → Requested does server now p s [] p s
+requested_none does server now p s = ([], of_none, refl)
+
+-- one more
+pub requested_on : {P : Type 0} (does : P → PortCall → P → Type 0) (server : Addr) (now : ℕ) (p q r : P) (s t u : NodeValue) (goals : List Goal) (i : ℕ) (goal : Goal) → i < length goals → goal ≡ get_or goals i goal
+    → Requested does server now p s (take i goals) q t → ((request : Option (List ℕ)) × Requests now t goal request u × Chain does q (sending_to server request) r)
+    → Requested does server now p s (take (i + 1) goals) r u
+requested_on does server now p q r s t u goals i goal lt is x y = (
+  x.0 ++ sending_to server y.0,
+  subst (λ gs. RequestsAll server now s gs (x.0 ++ sending_to server y.0) u) (ap (λ g. take i goals ++ g ∷ []) is ∙ sym (take_more goals i goal lt)) (of_next (take i goals) goal x.0 y.0 t u x.1 y.1),
+  chain-append does p q r x.0 (sending_to server y.0) x.2 y.2,
+)
+
+pub requested_all : {P : Type 0} (does : P → PortCall → P → Type 0) (server : Addr) (now : ℕ) (p q : P) (s t : NodeValue) (goals : List Goal) (i : ℕ) → i ≡ length goals
+    → Requested does server now p s (take i goals) q t → Requested does server now p s goals q t
+requested_all does server now p q s t goals i end x = (x.0, subst (λ gs. RequestsAll server now s gs x.0 t) (take_all i goals (omega end)) x.1, x.2)
+
+pub requests_broken : {P : Type 0} (does : P → PortCall → P → Type 0) (server : Addr) (now : ℕ) (p q r : P) (s t u : NodeValue) (goals : List Goal) (i : ℕ) (goal : Goal) → goals ≡ take i goals ++ goal ∷ drop (i + 1) goals
+    → Requested does server now p s (take i goals) q t → ((octets : List ℕ) × Requests now t goal (Some octets) u × does q (send_failed server octets) r)
+    → (acts : List PortCall) × BreaksRequests server now s goals acts u × Chain does p acts r
+requests_broken does server now p q r s t u goals i goal parts x y = (
+  x.0 ++ send_failed server y.0 ∷ [],
+  subst (λ gs. BreaksRequests server now s gs (x.0 ++ send_failed server y.0 ∷ []) u) (sym parts) (at_request (take i goals) (drop (i + 1) goals) goal x.0 y.0 t u x.1 y.1),
+  chain-append does p q r x.0 (send_failed server y.0 ∷ []) x.2 (chain_one does q (send_failed server y.0) r y.2),
+)
