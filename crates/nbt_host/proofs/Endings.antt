@@ -1,14 +1,14 @@
 -- Turns of a host that gives its names back, up to the end.
 use Rattle.std.proofs.Common.{◌≡◌, ℕ, ◌+◌, Bool, true, false, List, [], ◌∷◌, ◌++◌, length, refl, sym, ◌∙◌, subst, arith, length-append}
 use Rattle.std.specs.Prelude.{◌<◌, IsTrue, ◌↔◌}
-use Rattle.std.specs.List.{flat_map}
+use Rattle.std.specs.List.{flat_map, list_any}
 use Rattle.std.proofs.lemmas.List.{append-nil}
 use Rattle.std.proofs.lemmas.List.Concat.{flat_map-append}
 use Rattle.nbt_name.specs.declared.addr.Addr.{Addr}
 use Rattle.nbt_engine.specs.PortCalls.{PortCall, Chain}
 use Rattle.nbt_engine.proofs.Chains.{chain_one, chain-append}
-use Rattle.nbt_host.specs.Hosting.{HostBreaks}
-use Rattle.nbt_host.specs.Ending.{HostValue, EndTurn, acts_in, moments_in, TurnsOn, GoesOn, is_over, is_spent, Ended, Broken}
+use Rattle.nbt_host.specs.Hosting.{HostTurn, HostBreaks}
+use Rattle.nbt_host.specs.Ending.{HostValue, EndTurn, is_goal_open, acts_in, moments_in, TurnsOn, GoesOn, is_over, is_spent, Ended, Broken}
 use Rattle.nbt_host.specs.Inner.Parts.{EndTurnIs, Passed}
 
 module _ {P C : Type 0} (does : P → PortCall → P → Type 0) (tells : C → ℕ → C → Type 0) (server : Addr) (limit : ℕ) where
@@ -61,4 +61,15 @@ module _ {P C : Type 0} (does : P → PortCall → P → Type 0) (tells : C → 
     fewer = omega (arith, x.count_is, less);
     port_did = chain-append does p q r (flat_map acts_in x.turns) y.0 x.port_did y.3;
     clock_told = chain-append tells c d b (flat_map moments_in x.turns) y.1 x.clock_told y.4;
+  }
+
+  -- a turn, and whether it goes on after it
+  pub end_turned : (p q : P) (c d e : C) (s t : HostValue) (any on : Bool) (at : ℕ) → ((acts : List PortCall) × (moments : List ℕ) × HostTurn server s.goals s.node acts moments t.goals t.node × Chain does p acts q × Chain tells c moments d)
+      → any ≡ list_any is_goal_open t.goals → tells d at e → (IsTrue on ↔ ((any ≡ true) × (at < limit))) → EndTurnIs does tells server limit on p c s q e t
+  end_turned p q c d e s t any on at x is told both = record {
+    turn = record { acts = x.0; moments = x.1; at = at };
+    turns = x.2;
+    goes_on = (λ yet. let b = both.0 yet in record { waits = sym is ∙ b.0; early = b.1 }, λ h. both.1 (is ∙ h.waits, h.early));
+    port_did = x.3;
+    clock_told = chain-append tells c d e x.1 (at ∷ []) x.4 (chain_one tells d at e told);
   }

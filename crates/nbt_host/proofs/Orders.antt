@@ -1,10 +1,11 @@
 -- The requests of names, one after the other.
-use Rattle.std.proofs.Common.{◌≡◌, ℕ, suc, ◌+◌, ◌<◌, List, [], ◌∷◌, ◌++◌, length, take, drop, get_or, refl, sym, subst, ◌∙◌, ap}
-use Rattle.std.specs.Prelude.{Option, Some}
+use Rattle.std.proofs.Common.{◌≡◌, ℕ, ◌+◌, ◌<◌, Bool, true, false, List, [], ◌∷◌, ◌++◌, length, take, drop, get_or, refl, sym, subst, ◌∙◌, ap, arith, Some, None, Ok, Err}
+use Rattle.std.specs.Prelude.{Option, Result, OnOk, OnErr, if◌then◌else◌}
 use Rattle.std.proofs.lemmas.List.{take_more, take_all}
 use Rattle.nbt_name.specs.declared.addr.Addr.{Addr}
 use Rattle.nbt_node.specs.Node.{NodeValue}
-use Rattle.nbt_engine.specs.PortCalls.{PortCall, send_failed, Chain}
+use Rattle.nbt_engine.specs.declared.port.Device.{Device}
+use Rattle.nbt_engine.specs.PortCalls.{PortCall, sent, send_failed, sending, Chain}
 use Rattle.nbt_engine.proofs.Chains.{chain_one, chain-append}
 use Rattle.nbt_host.specs.declared.goal.Goal.{Goal}
 use Rattle.nbt_host.specs.Hosting.{sending_to, Requests, RequestsAll, of_none, of_next, BreaksRequests, at_request}
@@ -27,7 +28,7 @@ requested_on does server now p q r s t u goals i goal lt is x y = (
 
 pub requested_all : {P : Type 0} (does : P → PortCall → P → Type 0) (server : Addr) (now : ℕ) (p q : P) (s t : NodeValue) (goals : List Goal) (i : ℕ) → i ≡ length goals
     → Requested does server now p s (take i goals) q t → Requested does server now p s goals q t
-requested_all does server now p q s t goals i end x = (x.0, subst (λ gs. RequestsAll server now s gs x.0 t) (take_all i goals (omega end)) x.1, x.2)
+requested_all does server now p q s t goals i end x = (x.0, subst (λ gs. RequestsAll server now s gs x.0 t) (take_all i goals (omega (arith, end))) x.1, x.2)
 
 pub requests_broken : {P : Type 0} (does : P → PortCall → P → Type 0) (server : Addr) (now : ℕ) (p q r : P) (s t u : NodeValue) (goals : List Goal) (i : ℕ) (goal : Goal) → goals ≡ take i goals ++ goal ∷ drop (i + 1) goals
     → Requested does server now p s (take i goals) q t → ((octets : List ℕ) × Requests now t goal (Some octets) u × does q (send_failed server octets) r)
@@ -37,3 +38,22 @@ requests_broken does server now p q r s t u goals i goal parts x y = (
   subst (λ gs. BreaksRequests server now s gs (x.0 ++ send_failed server y.0 ∷ []) u) (sym parts) (at_request (take i goals) (drop (i + 1) goals) goal x.0 y.0 t u x.1 y.1),
   chain-append does p q r x.0 (send_failed server y.0 ∷ []) x.2 (chain_one does q (send_failed server y.0) r y.2),
 )
+
+-- ---- one request, by whether there is one, and by what its sending returned
+
+pub request_none : {P : Type 0} (does : P → PortCall → P → Type 0) (server : Addr) (now : ℕ) (p : P) (s t : NodeValue) (goal : Goal) (out : List ℕ) (due : Bool) → due ≡ false → Requests now s goal (if due then Some out else None) t
+    → (request : Option (List ℕ)) × Requests now s goal request t × Chain does p (sending_to server request) p
+request_none does server now p s t goal out true none x = absurd cc
+request_none does server now p s t goal out false none x = (None, x, refl)
+
+pub request_sent : {P A : Type 0} (does : P → PortCall → P → Type 0) (server : Addr) (now : ℕ) (p q : P) (s t : NodeValue) (goal : Goal) (out : List ℕ) (due : Bool) (result : Result A Device) → due ≡ true → Requests now s goal (if due then Some out else None) t
+    → does p (sending server out result) q → OnOk result ((request : Option (List ℕ)) × Requests now s goal request t × Chain does p (sending_to server request) q)
+request_sent does server now p q s t goal out false result is x did = absurd cc
+request_sent does server now p q s t goal out true (Ok done) is x did = (Some out, x, chain_one does p (sent server out) q did)
+request_sent does server now p q s t goal out true (Err failure) is x did = tt
+
+pub request_lost : {P A : Type 0} (does : P → PortCall → P → Type 0) (server : Addr) (now : ℕ) (p q : P) (s t : NodeValue) (goal : Goal) (out : List ℕ) (due : Bool) (result : Result A Device) → due ≡ true → Requests now s goal (if due then Some out else None) t
+    → does p (sending server out result) q → OnErr result ((octets : List ℕ) × Requests now s goal (Some octets) t × does p (send_failed server octets) q)
+request_lost does server now p q s t goal out false result is x did = absurd cc
+request_lost does server now p q s t goal out true (Ok done) is x did = tt
+request_lost does server now p q s t goal out true (Err failure) is x did = (out, x, did)
