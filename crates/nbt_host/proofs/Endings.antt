@@ -1,14 +1,17 @@
 -- Turns of a host that gives its names back, up to the end.
-use Rattle.std.proofs.Common.{◌≡◌, ℕ, ◌+◌, Bool, true, false, List, [], ◌∷◌, ◌++◌, length, refl, sym, ◌∙◌, subst, arith, length-append}
-use Rattle.std.specs.Prelude.{◌<◌, IsTrue, ◌↔◌}
-use Rattle.std.specs.List.{flat_map, list_any}
+use Rattle.std.proofs.Common.{◌≡◌, ℕ, ◌+◌, Bool, true, false, List, [], ◌∷◌, ◌++◌, length, map, Ok, Err, refl, sym, ◌∙◌, subst, arith, length-append}
+use Rattle.std.specs.Prelude.{◌<◌, IsTrue, ◌↔◌, Result, OnOk, OnErr}
+use Rattle.std.specs.List.{flat_map}
 use Rattle.std.proofs.lemmas.List.{append-nil}
 use Rattle.std.proofs.lemmas.List.Concat.{flat_map-append}
 use Rattle.nbt_name.specs.declared.addr.Addr.{Addr}
 use Rattle.nbt_engine.specs.PortCalls.{PortCall, Chain}
 use Rattle.nbt_engine.proofs.Chains.{chain_one, chain-append}
+use Rattle.nbt_node.specs.Node.{NodeValue}
+use Rattle.nbt_host.specs.declared.goal.Goal.{Goal}
+use Rattle.nbt_host.specs.declared.ending.TheConstants.{GIVING_BACK}
 use Rattle.nbt_host.specs.Hosting.{HostTurn, HostBreaks}
-use Rattle.nbt_host.specs.Ending.{HostValue, EndTurn, is_goal_open, acts_in, moments_in, TurnsOn, GoesOn, is_over, is_spent, Ended, Broken}
+use Rattle.nbt_host.specs.Ending.{HostValue, EndTurn, acts_in, moments_in, TurnsOn, GoesOn, leaving, is_over, is_spent, Ended, Broken, GivesAllBack, FailsToGiveBack}
 use Rattle.nbt_host.specs.Inner.Parts.{EndTurnIs, Passed}
 
 module _ {P C : Type 0} (does : P → PortCall → P → Type 0) (tells : C → ℕ → C → Type 0) (server : Addr) (limit : ℕ) where
@@ -64,12 +67,24 @@ module _ {P C : Type 0} (does : P → PortCall → P → Type 0) (tells : C → 
   }
 
   -- a turn, and whether it goes on after it
-  pub end_turned : (p q : P) (c d e : C) (s t : HostValue) (any on : Bool) (at : ℕ) → ((acts : List PortCall) × (moments : List ℕ) × HostTurn server s.goals s.node acts moments t.goals t.node × Chain does p acts q × Chain tells c moments d)
-      → any ≡ list_any is_goal_open t.goals → tells d at e → (IsTrue on ↔ ((any ≡ true) × (at < limit))) → EndTurnIs does tells server limit on p c s q e t
-  end_turned p q c d e s t any on at x is told both = record {
+  pub end_turned : (p q : P) (c d e : C) (s t : HostValue) (on : Bool) (at : ℕ) → ((acts : List PortCall) × (moments : List ℕ) × HostTurn server s.goals s.node acts moments t.goals t.node × Chain does p acts q × Chain tells c moments d)
+      → tells d at e → (IsTrue on ↔ GoesOn limit t.goals at) → EndTurnIs does tells server limit on p c s q e t
+  end_turned p q c d e s t on at x told goes_on = record {
     turn = record { acts = x.0; moments = x.1; at = at };
     turns = x.2;
-    goes_on = (λ yet. let b = both.0 yet in record { waits = sym is ∙ b.0; early = b.1 }, λ h. both.1 (is ∙ h.waits, h.early));
+    goes_on = goes_on;
     port_did = x.3;
     clock_told = chain-append tells c d e x.1 (at ∷ []) x.4 (chain_one tells d at e told);
   }
+
+-- ---- the whole
+
+pub gave_back : {P C A E : Type 0} (does : P → PortCall → P → Type 0) (tells : C → ℕ → C → Type 0) (server : Addr) (most : ℕ) (p q : P) (c d e : C) (goals left : List Goal) (node : NodeValue) (new : HostValue) (now got : ℕ) (result : Result A E)
+    → tells c now d → left ≡ map leaving goals → got ≡ now → OnOk result (Ended does tells server (got + GIVING_BACK) most p d (record { goals = left; node = node }) q e new) → OnOk result (GivesAllBack does tells server most p c goals node q e new)
+gave_back does tells server most p q c d e goals left node new now got (Ok done) told leaves gets ended = record { now = now; read = d; told = told; ended = rw (← leaves, ← gets) ended }
+gave_back does tells server most p q c d e goals left node new now got (Err failure) told leaves gets ended = tt
+
+pub failed_to : {P C A E : Type 0} (does : P → PortCall → P → Type 0) (tells : C → ℕ → C → Type 0) (server : Addr) (most : ℕ) (p q : P) (c d e : C) (goals left : List Goal) (node : NodeValue) (new : HostValue) (now got : ℕ) (result : Result A E)
+    → tells c now d → left ≡ map leaving goals → got ≡ now → OnErr result (Broken does tells server (got + GIVING_BACK) most p d (record { goals = left; node = node }) q e new) → OnErr result (FailsToGiveBack does tells server most p c goals node q e new)
+failed_to does tells server most p q c d e goals left node new now got (Ok done) told leaves gets broken = tt
+failed_to does tells server most p q c d e goals left node new now got (Err failure) told leaves gets broken = record { now = now; read = d; told = told; broken = rw (← leaves, ← gets) broken }

@@ -1,14 +1,20 @@
 -- The requests of names, one after the other.
-use Rattle.std.proofs.Common.{◌≡◌, ℕ, ◌+◌, ◌<◌, Bool, true, false, List, [], ◌∷◌, ◌++◌, length, take, drop, get_or, refl, sym, subst, ◌∙◌, ap, arith, Some, None, Ok, Err}
-use Rattle.std.specs.Prelude.{Option, Result, OnOk, OnErr, if◌then◌else◌}
+use Rattle.std.proofs.Common.{◌≡◌, ℕ, ◌+◌, ◌<◌, true, false, List, [], ◌∷◌, ◌++◌, length, take, drop, get_or, refl, sym, subst, ◌∙◌, ap, arith, None, Ok, Err, Some}
+use Rattle.std.specs.Prelude.{Option, Result, OnOk, OnErr, is_ok, if◌then◌else◌}
+use Rattle.std.specs.Result.{result_err}
 use Rattle.std.proofs.lemmas.List.{take_more, take_all}
 use Rattle.nbt_name.specs.declared.addr.Addr.{Addr}
+use Rattle.nbt_node.specs.declared.fault.AskFault.{AskFault}
+use Rattle.nbt_node.specs.declared.fault.ReleaseFault.{ReleaseFault}
 use Rattle.nbt_node.specs.Node.{NodeValue}
+use Rattle.nbt_node.specs.Moves.{ask, give_back}
+use Rattle.nbt_node.specs.Calls.{ask_refusal, release_refusal, Sends}
 use Rattle.nbt_engine.specs.declared.port.Device.{Device}
 use Rattle.nbt_engine.specs.PortCalls.{PortCall, sent, send_failed, sending, Chain}
 use Rattle.nbt_engine.proofs.Chains.{chain_one, chain-append}
 use Rattle.nbt_host.specs.declared.goal.Goal.{Goal}
-use Rattle.nbt_host.specs.Hosting.{sending_to, Requests, RequestsAll, of_none, of_next, BreaksRequests, at_request}
+use Rattle.nbt_host.specs.Goals.{may_ask}
+use Rattle.nbt_host.specs.Hosting.{sending_to, is_wanted, Requests, asks, may_not_ask, gives_back, may_not_give_back, RequestsAll, of_none, of_next, BreaksRequests, at_request}
 
 abbrev pub Requested : {P : Type 0} → (P → PortCall → P → Type 0) → Addr → ℕ → P → NodeValue → List Goal → P → NodeValue → Type 0
 Requested does server now p s goals q t = (acts : List PortCall) × RequestsAll server now s goals acts t × Chain does p acts q
@@ -39,21 +45,26 @@ requests_broken does server now p q r s t u goals i goal parts x y = (
   chain-append does p q r x.0 (send_failed server y.0 ∷ []) x.2 (chain_one does q (send_failed server y.0) r y.2),
 )
 
--- ---- one request, by whether there is one, and by what its sending returned
+-- ---- one request, by what its sending returned
 
-pub request_none : {P : Type 0} (does : P → PortCall → P → Type 0) (server : Addr) (now : ℕ) (p : P) (s t : NodeValue) (goal : Goal) (out : List ℕ) (due : Bool) → due ≡ false → Requests now s goal (if due then Some out else None) t
-    → (request : Option (List ℕ)) × Requests now s goal request t × Chain does p (sending_to server request) p
-request_none does server now p s t goal out true none x = absurd cc
-request_none does server now p s t goal out false none x = (None, x, refl)
-
-pub request_sent : {P A : Type 0} (does : P → PortCall → P → Type 0) (server : Addr) (now : ℕ) (p q : P) (s t : NodeValue) (goal : Goal) (out : List ℕ) (due : Bool) (result : Result A Device) → due ≡ true → Requests now s goal (if due then Some out else None) t
+pub request_sent : {P A : Type 0} (does : P → PortCall → P → Type 0) (server : Addr) (now : ℕ) (p q : P) (s t : NodeValue) (goal : Goal) (out : List ℕ) (result : Result A Device) → Requests now s goal (Some out) t
     → does p (sending server out result) q → OnOk result ((request : Option (List ℕ)) × Requests now s goal request t × Chain does p (sending_to server request) q)
-request_sent does server now p q s t goal out false result is x did = absurd cc
-request_sent does server now p q s t goal out true (Ok done) is x did = (Some out, x, chain_one does p (sent server out) q did)
-request_sent does server now p q s t goal out true (Err failure) is x did = tt
+request_sent does server now p q s t goal out (Ok done) x did = (Some out, x, chain_one does p (sent server out) q did)
+request_sent does server now p q s t goal out (Err failure) x did = tt
 
-pub request_lost : {P A : Type 0} (does : P → PortCall → P → Type 0) (server : Addr) (now : ℕ) (p q : P) (s t : NodeValue) (goal : Goal) (out : List ℕ) (due : Bool) (result : Result A Device) → due ≡ true → Requests now s goal (if due then Some out else None) t
+pub request_lost : {P A : Type 0} (does : P → PortCall → P → Type 0) (server : Addr) (now : ℕ) (p q : P) (s t : NodeValue) (goal : Goal) (out : List ℕ) (result : Result A Device) → Requests now s goal (Some out) t
     → does p (sending server out result) q → OnErr result ((octets : List ℕ) × Requests now s goal (Some octets) t × does p (send_failed server octets) q)
-request_lost does server now p q s t goal out false result is x did = absurd cc
-request_lost does server now p q s t goal out true (Ok done) is x did = tt
-request_lost does server now p q s t goal out true (Err failure) is x did = (out, x, did)
+request_lost does server now p q s t goal out (Ok done) x did = tt
+request_lost does server now p q s t goal out (Err failure) x did = (out, x, did)
+
+-- ---- the request about one name, by what the node returned
+
+pub asked_by : (now : ℕ) (old new : NodeValue) (goal : Goal) (out : List ℕ) (result : Result (Unit {0}) AskFault) → is_wanted goal.stage ≡ true → may_ask now goal.refusal ≡ true → result_err result ≡ ask_refusal old now goal.want.name
+    → OnOk result (Sends old now goal.want.name (ask goal.want.kind goal.want.ttl) new out) → OnErr result ((new ≡ old) × (out ≡ [])) → Requests now old goal (if is_ok result then Some out else None) new
+asked_by now old new goal out (Ok done) wanted may refused sends same = asks out new wanted may (record { may = sym refused; sends = sends })
+asked_by now old new goal out (Err fault) wanted may refused sends same = subst (λ n. Requests now old goal None n) (sym same.0) (may_not_ask fault wanted may (sym refused))
+
+pub released_by : (now : ℕ) (old new : NodeValue) (goal : Goal) (out : List ℕ) (result : Result (Unit {0}) ReleaseFault) → is_wanted goal.stage ≡ false → result_err result ≡ release_refusal old now goal.want.name
+    → OnOk result (Sends old now goal.want.name give_back new out) → OnErr result ((new ≡ old) × (out ≡ [])) → Requests now old goal (if is_ok result then Some out else None) new
+released_by now old new goal out (Ok done) other refused sends same = gives_back out new other (sym refused) sends
+released_by now old new goal out (Err fault) other refused sends same = subst (λ n. Requests now old goal None n) (sym same.0) (may_not_give_back fault other (sym refused))

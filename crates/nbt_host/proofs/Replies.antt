@@ -11,11 +11,12 @@ use Rattle.nbt_node.specs.Node.{NodeValue}
 use Rattle.nbt_node.specs.Moves.{Told}
 use Rattle.nbt_node.specs.Datagrams.{Handles}
 use Rattle.nbt_engine.specs.declared.port.Device.{Device}
-use Rattle.nbt_engine.specs.PortCalls.{PortCall, came, sent, send_failed, sending, Chain}
+use Rattle.nbt_engine.specs.PortCalls.{PortCall, came, sent, send_failed, sending, receiving, Chain}
 use Rattle.nbt_engine.proofs.Chains.{chain_one}
 use Rattle.nbt_host.specs.declared.news.Notice.{Notice}
 use Rattle.nbt_host.specs.Answering.{Says, own_reply, sent_back, notice_of}
-use Rattle.nbt_host.specs.Hosting.{sending_to, HostHears, hears, hears_back, LosesReply, loses_reply}
+use Rattle.nbt_host.specs.Hosting.{sending_to, HostHears, hears_nothing, hears, hears_back, LosesReply, loses_reply}
+use Rattle.nbt_host.specs.Inner.Parts.{Listens, LosesListening, loses_send}
 
 -- the message that was read is the one that the octets spell
 pub says_read : (found : Option Message) (octets : List ℕ) → ((message : MessageValue) → (message_if found ≡ Some message) ↔ Spells octets message) → Says octets (message_if found)
@@ -38,39 +39,56 @@ sent_back_other node now (m.NotFound id rcode name) told reply none = refl
 sent_back_other node now (m.Status id name names) told reply none = refl
 sent_back_other node now (m.Wait id name ttl) told reply none = refl
 
--- ---- what is sent back, by whether there is something, and by what its sending returned
+-- ---- what is sent back, by what its sending returned
 
-pub back_none : {P : Type 0} (does : P → PortCall → P → Type 0) (p : P) (to : Addr) (what : Option (List ℕ)) (out : List ℕ) (due : Bool) → due ≡ false → what ≡ (if due then Some out else None)
-    → Chain does p (sending_to to what) p
-back_none does p to what out true none is = absurd cc
-back_none does p to what out false none is = rw is refl
+pub back_sent : {P A : Type 0} (does : P → PortCall → P → Type 0) (p q : P) (to : Addr) (what : Option (List ℕ)) (out : List ℕ) (result : Result A Device) → what ≡ Some out → does p (sending to out result) q → OnOk result (Chain does p (sending_to to what) q)
+back_sent does p q to what out (Ok done) is did = rw is (chain_one does p (sent to out) q did)
+back_sent does p q to what out (Err failure) is did = tt
 
-pub back_sent : {P A : Type 0} (does : P → PortCall → P → Type 0) (p q : P) (to : Addr) (what : Option (List ℕ)) (out : List ℕ) (due : Bool) (result : Result A Device) → due ≡ true → what ≡ (if due then Some out else None)
-    → does p (sending to out result) q → OnOk result (Chain does p (sending_to to what) q)
-back_sent does p q to what out false result yet is did = absurd cc
-back_sent does p q to what out true (Ok done) yet is did = rw is (chain_one does p (sent to out) q did)
-back_sent does p q to what out true (Err failure) yet is did = tt
-
-pub back_lost : {P A : Type 0} (does : P → PortCall → P → Type 0) (p q : P) (to : Addr) (what : Option (List ℕ)) (out : List ℕ) (due : Bool) (result : Result A Device) → due ≡ true → what ≡ (if due then Some out else None)
-    → does p (sending to out result) q → OnErr result ((lost : List ℕ) × (what ≡ Some lost) × does p (send_failed to lost) q)
-back_lost does p q to what out false result yet is did = absurd cc
-back_lost does p q to what out true (Ok done) yet is did = tt
-back_lost does p q to what out true (Err failure) yet is did = (out, is, did)
+pub back_lost : {P A : Type 0} (does : P → PortCall → P → Type 0) (p q : P) (to : Addr) (what : Option (List ℕ)) (out : List ℕ) (result : Result A Device) → what ≡ Some out → does p (sending to out result) q
+    → OnErr result ((lost : List ℕ) × (what ≡ Some lost) × does p (send_failed to lost) q)
+back_lost does p q to what out (Ok done) is did = tt
+back_lost does p q to what out (Err failure) is did = (out, is, did)
 
 -- ---- what is heard
 
-pub heard_back : {P : Type 0} (does : P → PortCall → P → Type 0) (p : P) (now : ℕ) (old new : NodeValue) (from : Addr) (octets : List ℕ) → now < old.last → new ≡ old
-    → (acts : List PortCall) × HostHears now old (came from octets ∷ acts) None new × Chain does p acts p
-heard_back does p now old new from octets back same = ([], subst (λ n. HostHears now old (came from octets ∷ []) None n) (sym same) (hears_back from octets back), refl)
+abbrev pub Heard_by : {P : Type 0} → (P → PortCall → P → Type 0) → ℕ → NodeValue → PortCall → Option Notice → NodeValue → P → P → Type 0
+Heard_by does now old hearing notice new p q = (acts : List PortCall) × HostHears now old (hearing ∷ acts) notice new × Chain does p acts q
 
-pub heard_one : {P : Type 0} (does : P → PortCall → P → Type 0) (p q : P) (now : ℕ) (old new : NodeValue) (from : Addr) (octets reply : List ℕ) (message : Option MessageValue) (told : Told) (notice : Option Notice)
+abbrev pub Lost_by : {P : Type 0} → (P → PortCall → P → Type 0) → ℕ → NodeValue → PortCall → NodeValue → P → P → Type 0
+Lost_by does now old hearing new p q = (to : Addr) × (lost : List ℕ) × LosesReply now old (hearing ∷ send_failed to lost ∷ []) new × does p (send_failed to lost) q
+
+pub heard_none : {P : Type 0} (does : P → PortCall → P → Type 0) (p : P) (now : ℕ) (old : NodeValue) (found : Option Addr) (octets : List ℕ) → found ≡ None → Heard_by does now old (receiving (Ok found) octets) None old p p
+heard_none does p now old found octets none = rw none ([], hears_nothing, refl)
+
+pub heard_back : {P : Type 0} (does : P → PortCall → P → Type 0) (p : P) (now : ℕ) (old new : NodeValue) (found : Option Addr) (from : Addr) (octets : List ℕ) → found ≡ Some from → now < old.last → new ≡ old
+    → Heard_by does now old (receiving (Ok found) octets) None new p p
+heard_back does p now old new found from octets some back same = rw (some, same) ([], hears_back from octets back, refl)
+
+pub heard_one : {P : Type 0} (does : P → PortCall → P → Type 0) (p q : P) (now : ℕ) (old new : NodeValue) (found : Option Addr) (from : Addr) (octets reply : List ℕ) (message : Option MessageValue) (told : Told) (notice : Option Notice) → found ≡ Some from
     → Handles old now from octets new told reply → Says octets message → notice ≡ notice_of message told → Chain does p (sending_to from (sent_back new now message told reply)) q
-    → (acts : List PortCall) × HostHears now old (came from octets ∷ acts) notice new × Chain does p acts q
-heard_one does p q now old new from octets reply message told notice handles says is did =
+    → Heard_by does now old (receiving (Ok found) octets) notice new p q
+heard_one does p q now old new found from octets reply message told notice some handles says is did =
     let acts = sending_to from (sent_back new now message told reply) in
-    (acts, subst (λ x. HostHears now old (came from octets ∷ acts) x new) (sym is) (hears from octets reply message told new handles says), did)
+    rw some (acts, subst (λ x. HostHears now old (came from octets ∷ acts) x new) (sym is) (hears from octets reply message told new handles says), did)
 
-pub reply_lost : {P : Type 0} (does : P → PortCall → P → Type 0) (p q : P) (now : ℕ) (old new : NodeValue) (from : Addr) (octets reply : List ℕ) (message : Option MessageValue) (told : Told)
+pub reply_lost : {P : Type 0} (does : P → PortCall → P → Type 0) (p q : P) (now : ℕ) (old new : NodeValue) (found : Option Addr) (from : Addr) (octets reply : List ℕ) (message : Option MessageValue) (told : Told) → found ≡ Some from
     → Handles old now from octets new told reply → Says octets message → ((lost : List ℕ) × (sent_back new now message told reply ≡ Some lost) × does p (send_failed from lost) q)
-    → (lost : List ℕ) × LosesReply now old (came from octets ∷ send_failed from lost ∷ []) new × does p (send_failed from lost) q
-reply_lost does p q now old new from octets reply message told handles says x = (x.0, loses_reply from octets reply x.0 message told new handles says x.1, x.2)
+    → Lost_by does now old (receiving (Ok found) octets) new p q
+reply_lost does p q now old new found from octets reply message told some handles says x = rw some (from, x.0, loses_reply from octets reply x.0 message told new handles says x.1, x.2)
+
+-- ---- a receive, and what is heard
+
+pub listened : {P C : Type 0} (does : P → PortCall → P → Type 0) (tells : C → ℕ → C → Type 0) (p q r : P) (c d : C) (s t : NodeValue) (found : Option Addr) (octets given : List ℕ) (at : ℕ) (notice : Option Notice)
+    → does p (receiving (Ok found) octets) q → tells c at d → given ≡ octets → Heard_by does at s (receiving (Ok found) given) notice t q r → Listens does tells (record { at = at; notice = notice }) p c s r d t
+listened does tells p q r c d s t found octets given at notice did told same h = record {
+  hearing = receiving (Ok found) given ∷ h.0;
+  hears = h.1;
+  port_did = (q, subst (λ xs. does p (receiving (Ok found) xs) q) (sym same) did, h.2);
+  clock_told = told;
+}
+
+pub listening_lost : {P C : Type 0} (does : P → PortCall → P → Type 0) (tells : C → ℕ → C → Type 0) (p q r : P) (c d : C) (s t : NodeValue) (found : Option Addr) (octets given : List ℕ) (at : ℕ)
+    → does p (receiving (Ok found) octets) q → tells c at d → given ≡ octets → Lost_by does at s (receiving (Ok found) given) t q r → LosesListening does tells p c s r d t
+listening_lost does tells p q r c d s t found octets given at did told same h =
+    loses_send at (receiving (Ok found) given ∷ send_failed h.0 h.1 ∷ []) h.2 (q, subst (λ xs. does p (receiving (Ok found) xs) q) (sym same) did, chain_one does q (send_failed h.0 h.1) r h.3) told

@@ -15,12 +15,12 @@ abbrev pub leaving : Goal → Goal
 leaving goal = record goal { stage = Leaving }
 
 -- it is given back, and no reply has come
-abbrev pub is_open : Stage → Bool
-is_open Released = true
-is_open stage = false
-
-abbrev pub is_goal_open : Goal → Bool
-is_goal_open goal = is_open goal.stage
+abbrev pub is_open : Goal → Bool
+is_open goal = waits goal.stage
+  where
+    waits : Stage → Bool
+    waits Released = true
+    waits stage = false
 
 -- a host's names and its node
 pub record HostValue : Type 0 where
@@ -42,18 +42,18 @@ moments_in turn = turn.moments ++ turn.at ∷ []
 abbrev pub TurnsTo : Addr → HostValue → EndTurn → HostValue → Type 0
 TurnsTo server old turn new = HostTurn server old.goals old.node turn.acts turn.moments new.goals new.node
 
--- The ending goes on after a turn while a reply to a release is waited for and the moment is before the limit.
-pub record GoesOn (limit : ℕ) (turn : EndTurn) (new : HostValue) : Type 0 where
-  pub waits : list_any is_goal_open new.goals ≡ true
-  pub early : turn.at < limit
+-- The ending goes on while a reply to a release is waited for and the moment is before the limit.
+pub record GoesOn (limit : ℕ) (goals : List Goal) (at : ℕ) : Type 0 where
+  pub early : at < limit
+  pub waits : list_any is_open goals ≡ true
 
 pub record TurnsOn (server : Addr) (limit : ℕ) (old : HostValue) (turn : EndTurn) (new : HostValue) : Type 0 where
   pub turns : TurnsTo server old turn new
-  pub on : GoesOn limit turn new
+  pub on : GoesOn limit new.goals turn.at
 
 -- What ends it, after so many turns: one after which it doesn't go on, or that it had all of them.
 pub data EndsBy (server : Addr) (limit most count : ℕ) (old : HostValue) : List EndTurn → HostValue → Type 0 where
-  is_over : (turn : EndTurn) (new : HostValue) → TurnsTo server old turn new → ¬ GoesOn limit turn new → EndsBy server limit most count old (turn ∷ []) new
+  is_over : (turn : EndTurn) (new : HostValue) → TurnsTo server old turn new → ¬ GoesOn limit new.goals turn.at → EndsBy server limit most count old (turn ∷ []) new
   is_spent : count ≡ most → EndsBy server limit most count old [] old
 
 -- Turns after which the ending goes on, and then its end.

@@ -4,12 +4,13 @@ ghost use Rattle.std.specs.Prelude.{◌≡◌, ◌<◌, ◌^◌, ◌↔◌, map,
 ghost use Rattle.std.specs.List.{list_any};
 ghost use Rattle.nbt_engine.specs.PortCalls.{PortCall, Chain, CountsFailure};
 ghost use Rattle.nbt_host.specs.Hosting.{HostBreaks};
-ghost use Rattle.nbt_host.specs.Ending.{leaving, is_open, is_goal_open, Ended, Broken, GivesAllBack, FailsToGiveBack};
+ghost use Rattle.nbt_host.specs.Ending.{leaving, is_open, GoesOn, Ended, Broken, GivesAllBack, FailsToGiveBack};
 ghost use Rattle.nbt_host.specs.Inner.Parts.{EndTurnIs};
 
 use crate::goal::{Goal, Stage};
 use crate::turning::host_turn;
 use nbt_engine::{Clock, Device, Port};
+use nbt_lease::Moment;
 use nbt_name::Addr;
 use nbt_node::Node;
 
@@ -67,7 +68,8 @@ fn wait<P: Port, C: Clock, const N: usize>(
     ensures device { CountsFailure (P.failures port.old) (P.failures port.new) result }
 {
     for _ in 0..most {
-        if !end_turn(port, clock, node, server, goals, limit)? {
+        let goes_on = end_turn(port, clock, node, server, goals, limit)?;
+        if !goes_on {
             return Ok(());
         }
     }
@@ -91,12 +93,31 @@ fn end_turn<P: Port, C: Clock, const N: usize>(
 {
     host_turn(port, clock, node, server, goals)?;
     let now = clock.now();
-    Ok(is_any_open(goals) && now.get() < limit)
+    Ok(goes_on(goals, limit, now))
+}
+
+/// Whether the ending goes on after a turn.
+fn goes_on(goals: &[Goal], limit: u64, now: Moment) -> bool
+    ensures { IsTrue result ↔ GoesOn limit goals.now now }
+{
+    now.get() < limit && is_any_open(goals)
 }
 
 /// Whether a reply to a release is waited for.
 fn is_any_open(goals: &[Goal]) -> bool
-    ensures { result ≡ list_any is_goal_open goals.now }
+    ensures { result ≡ list_any is_open goals.now }
 {
-    goals.iter().any(|goal| goal.stage == Stage::Released)
+    for goal in goals {
+        if is_open(goal) {
+            return true;
+        }
+    }
+    false
+}
+
+/// Whether a reply to the release of this name is waited for.
+fn is_open(goal: &Goal) -> bool
+    ensures { result ≡ is_open goal.now }
+{
+    matches!(goal.stage, Stage::Released)
 }

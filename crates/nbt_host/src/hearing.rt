@@ -1,9 +1,10 @@
 //! One receive of a host, and what it makes of what came.
 
-ghost use Rattle.std.specs.Prelude.{◌≡◌, ◌<◌, ◌^◌, List, [], ◌∷◌, ℕ, Some, IfOk, OnOk, OnErr};
+ghost use Rattle.std.specs.Prelude.{◌≡◌, ◌<◌, ◌^◌, List, [], ◌∷◌, ℕ, Some, Ok, IfOk, OnOk, OnErr};
+ghost use Rattle.nbt_name.specs.declared.addr.Addr.{Addr as End};
 ghost use Rattle.nbt_packet.specs.Message.{message_if};
 ghost use Rattle.nbt_node.specs.Moves.{told_of};
-ghost use Rattle.nbt_engine.specs.PortCalls.{PortCall, came, send_failed, Chain, CountsFailure};
+ghost use Rattle.nbt_engine.specs.PortCalls.{PortCall, send_failed, receiving, Chain, CountsFailure};
 ghost use Rattle.nbt_host.specs.Answering.{sent_back};
 ghost use Rattle.nbt_host.specs.Hosting.{sending_to, HostHears, LosesReply};
 ghost use Rattle.nbt_host.specs.Inner.Parts.{Listens, LosesListening};
@@ -39,29 +40,27 @@ pub fn listen<P: Port, C: Clock, const N: usize>(
     let mut octets = ArrayVec::new();
     let from = port.receive(&mut octets)?;
     let at = clock.now();
-    match from {
-        Some(from) => {
-            let notice = hear(port, node, at, from, octets.as_slice(), out)?;
-            Ok(Heard { at, notice })
-        }
-        None => Ok(Heard { at, notice: None }),
-    }
+    let notice = hear(port, node, at, from, octets.as_slice(), out)?;
+    Ok(Heard { at, notice })
 }
 
-/// The node takes a datagram, and what there is to say is sent to its sender. Returns what it says of a name.
+/// The node takes a datagram, if one came, and what there is to say is sent to its sender. Returns what it says of a name.
 fn hear<P: Port, const N: usize>(
     port: &mut P,
     node: &mut Node<N>,
     now: Moment,
-    from: Addr,
+    from: Option<Addr>,
     octets: &[u8],
     out: &mut ArrayVec<u8, 576>,
 ) -> Result<Option<Notice>, Device>
     requires few { P.failures port.old < 2 ^ 62 }
-    ensures ok { IfOk result (λ notice. (acts : List PortCall) × HostHears now node.old (came from octets.now ∷ acts) notice node.new × Chain P.does port.old acts port.new) }
-    ensures err { OnErr result ((lost : List ℕ) × LosesReply now node.old (came from octets.now ∷ send_failed from lost ∷ []) node.new × P.does port.old (send_failed from lost) port.new) }
+    ensures ok { IfOk result (λ notice. (acts : List PortCall) × HostHears now node.old (receiving (Ok from) octets.now ∷ acts) notice node.new × Chain P.does port.old acts port.new) }
+    ensures err { OnErr result ((to : End) × (lost : List ℕ) × LosesReply now node.old (receiving (Ok from) octets.now ∷ send_failed to lost ∷ []) node.new × P.does port.old (send_failed to lost) port.new) }
     ensures device { CountsFailure (P.failures port.old) (P.failures port.new) result }
 {
+    let Some(from) = from else {
+        return Ok(None);
+    };
     let Ok(event) = node.on_datagram(now, from, octets, out) else {
         return Ok(None);
     };

@@ -24,7 +24,7 @@ pub data LosesListening {P C : Type 0} (does : P → PortCall → P → Type 0) 
 pub record EndTurnIs {P C : Type 0} (does : P → PortCall → P → Type 0) (tells : C → ℕ → C → Type 0) (server : Addr) (limit : ℕ) (on : Bool) (p : P) (c : C) (s : HostValue) (q : P) (d : C) (t : HostValue) : Type 0 where
   pub turn : EndTurn
   pub turns : TurnsTo server s turn t
-  pub goes_on : IsTrue on ↔ GoesOn limit turn t
+  pub goes_on : IsTrue on ↔ GoesOn limit t.goals turn.at
   pub port_did : Chain does p (acts_in turn) q
   pub clock_told : Chain tells c (moments_in turn) d
 
