@@ -1,5 +1,6 @@
 -- What a host keeps of each name that it wants, and what it tells of it (our profile).
 use Rattle.std.specs.Prelude.{ℕ, ◌+◌, ◌-◌, ◌*◌, ◌^◌, Bool, true, false, ◌&&◌, not, nat_eq, nat_le, is_some, min, if◌then◌else◌, Option, Some, None}
+use Rattle.std.specs.Bool.{then_some}
 use Rattle.nbt_lease.specs.Config.{milliseconds}
 use Rattle.nbt_name.specs.Wire.{same_name}
 use Rattle.nbt_node.specs.Node.{NodeValue, holds}
@@ -67,10 +68,10 @@ seen node now goal = seen_at (is_held node now goal) goal
 -- A grant ends the refusals; it is told only where the name is held, and so is a renewal. A refusal is told once, and again
 -- where its RCODE changes.
 abbrev pub heard : (now : ℕ) → (is_held : Bool) → News → Goal → Goal
-heard now is_held (Granted seconds) goal = record goal { refusal = None; held = is_held; news = if is_held then Some (Granted seconds) else None }
-heard now is_held (Renewed seconds) goal = record goal { news = if is_held then Some (Renewed seconds) else None }
+heard now is_held (Granted seconds) goal = record goal { refusal = None; held = is_held; news = then_some is_held (Granted seconds) }
+heard now is_held (Renewed seconds) goal = record goal { news = then_some is_held (Renewed seconds) }
 heard now is_held (Refused rcode) goal =
-    record goal { refusal = Some (record { rcode = rcode; times = times_after goal.refusal; at = now }); news = if is_known rcode goal.refusal then None else Some (Refused rcode) }
+    record goal { refusal = Some (record { rcode = rcode; times = times_after goal.refusal; at = now }); news = then_some (not (is_known rcode goal.refusal)) (Refused rcode) }
 heard now is_held Lost goal = record goal { held = false; news = Some Lost }
 heard now is_held (Freed rcode) goal = record goal { stage = Left rcode; news = Some (Freed rcode) }
 

@@ -147,26 +147,30 @@ impl Goal {
     fn hear(&mut self, now: Moment, is_held: bool, news: News)
         ensures { self.new ≡ heard now is_held news self.old }
     {
-        let mut is_told = true;
         match news {
             News::Granted(_) => {
                 self.refusal = None;
                 self.held = is_held;
-                is_told = is_held;
+                self.news = is_held.then_some(news);
             }
-            News::Renewed(_) => is_told = is_held,
+            News::Renewed(_) => self.news = is_held.then_some(news),
             News::Refused(rcode) => {
-                is_told = !is_known(rcode, self.refusal);
+                self.news = (!is_known(rcode, self.refusal)).then_some(news);
                 self.refusal = Some(Refusal {
                     rcode,
                     times: times_after(self.refusal),
                     at: now,
                 });
             }
-            News::Lost => self.held = false,
-            News::Freed(rcode) => self.stage = Stage::Left(rcode),
+            News::Lost => {
+                self.held = false;
+                self.news = Some(news);
+            }
+            News::Freed(rcode) => {
+                self.stage = Stage::Left(rcode);
+                self.news = Some(news);
+            }
         }
-        self.news = if is_told { Some(news) } else { None };
     }
 }
 
