@@ -70,7 +70,7 @@ pub heard_one : {P : Type 0} (does : P → PortCall → P → Type 0) (p q : P) 
     → Heard_by does now old (receiving (Ok found) octets) notice new p q
 heard_one does p q now old new found from octets reply message told notice some handles says is did =
     let acts = sending_to from (sent_back new now message told reply) in
-    rw some (acts, subst (λ x. HostHears now old (came from octets ∷ acts) x new) (sym is) (hears from octets reply message told new handles says), did)
+    rw some (acts, subst (λ (x : Option Notice). HostHears now old (came from octets ∷ acts) x new) (sym is) (hears from octets reply message told new handles says), did)
 
 pub reply_lost : {P : Type 0} (does : P → PortCall → P → Type 0) (p q : P) (now : ℕ) (old new : NodeValue) (found : Option Addr) (from : Addr) (octets reply : List ℕ) (message : Option MessageValue) (told : Told) → found ≡ Some from
     → Handles old now from octets new told reply → Says octets message → ((lost : List ℕ) × (sent_back new now message told reply ≡ Some lost) × does p (send_failed from lost) q)
@@ -84,11 +84,11 @@ pub listened : {P C : Type 0} (does : P → PortCall → P → Type 0) (tells : 
 listened does tells p q r c d s t found octets given at notice did told same h = record {
   hearing = receiving (Ok found) given ∷ h.0;
   hears = h.1;
-  port_did = (q, subst (λ xs. does p (receiving (Ok found) xs) q) (sym same) did, h.2);
+  port_did = (q, subst (λ (xs : List ℕ). does p (receiving (Ok found) xs) q) (sym same) did, h.2);
   clock_told = told;
 }
 
 pub listening_lost : {P C : Type 0} (does : P → PortCall → P → Type 0) (tells : C → ℕ → C → Type 0) (p q r : P) (c d : C) (s t : NodeValue) (found : Option Addr) (octets given : List ℕ) (at : ℕ)
     → does p (receiving (Ok found) octets) q → tells c at d → given ≡ octets → Lost_by does at s (receiving (Ok found) given) t q r → LosesListening does tells p c s r d t
 listening_lost does tells p q r c d s t found octets given at did told same h =
-    loses_send at (receiving (Ok found) given ∷ send_failed h.0 h.1 ∷ []) h.2 (q, subst (λ xs. does p (receiving (Ok found) xs) q) (sym same) did, chain_one does q (send_failed h.0 h.1) r h.3) told
+    loses_send at (receiving (Ok found) given ∷ send_failed h.0 h.1 ∷ []) h.2 (q, subst (λ (xs : List ℕ). does p (receiving (Ok found) xs) q) (sym same) did, chain_one does q (send_failed h.0 h.1) r h.3) told

@@ -41,7 +41,7 @@ module _ {P C : Type 0} (does : P → PortCall → P → Type 0) (tells : C → 
       → LosesListening does tells r d polled t e new → Broke t e new
   broke_at_listening q r t e requested polled new x y (loses_receive did same same_clock) =
       broke t e new (x.0 ++ (y.0 ++ receive_failed ∷ [])) []
-      (subst (λ n. BreaksCalls server first seen_goals old (x.0 ++ (y.0 ++ receive_failed ∷ [])) [] n) (sym same) (at_receive x.0 y.0 requested polled x.1 y.1))
+      (subst (λ (n : NodeValue). BreaksCalls server first seen_goals old (x.0 ++ (y.0 ++ receive_failed ∷ [])) [] n) (sym same) (at_receive x.0 y.0 requested polled x.1 y.1))
       (behind q r t requested polled x y (receive_failed ∷ []) (chain_one does r receive_failed t did)) same_clock
   broke_at_listening q r t e requested polled new x y (loses_send second hearing loses did told_later) =
       broke t e new (x.0 ++ (y.0 ++ hearing)) (second ∷ []) (at_reply second x.0 y.0 hearing requested polled new x.1 y.1 loses)
@@ -61,7 +61,7 @@ module _ {P C : Type 0} (does : P → PortCall → P → Type 0) (tells : C → 
       requested = requested;
       polled = polled;
       notice = heard.notice;
-      requests = subst (λ gs. RequestsAll server first old gs x.0 requested) looks x.1;
+      requests = subst (λ (gs : List Goal). RequestsAll server first old gs x.0 requested) looks x.1;
       polls = y.1;
       hears = z.hears;
       acts_are = refl;

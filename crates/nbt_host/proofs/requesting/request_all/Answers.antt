@@ -16,3 +16,9 @@ loop-goal-preserved g c = record {
 pub returns-clause-ok : goal.returns-clause-ok
 returns-clause-ok g c =
     requested_all g.P.Port.does c.args.server c.args.now c.args.port.now c.loop-goal.port c.args.node.now c.loop-goal.node c.args.goals.now c.loop-goal.goal-index (omega arith) c.loop-goal.invariant.requested
+
+pub returns-in_err-request-clause-err : goal.returns-in_err-request-clause-err
+returns-in_err-request-clause-err g c =
+    let p = err_from_is_err_and c.from_residual.result c.from_residual.ensures.1 in
+    rw p.1 (requests_broken g.P.Port.does c.args.server c.args.now c.args.port.now c.loop-goal.port c.request.new.port c.args.node.now c.loop-goal.node c.request.new.node c.args.goals.now c.loop-goal.goal-index c.goal-item.result.now
+    c.loop-goal-test.true c.goal-item.is c.loop-goal.invariant.requested c.in_err-request.ensures.err)
