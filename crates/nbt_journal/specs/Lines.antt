@@ -31,15 +31,26 @@ pub record IsHead (second : ℕ) (verb : List ℕ) (claim : Claim) (head : List 
   pub word_is : PrintsWord claim.name word
   pub head_is : head ≡ time ++ verb ++ word ++ place claim
 
--- the lines of a lease, with its seconds; of a refusal, with its reason; and of a lease that was given back
+-- what it ends with: the seconds of a lease, or the reason of a refusal
+abbrev pub seconds_text : ℕ → List ℕ
+seconds_text seconds = codes " " ++ decimal seconds ++ codes " s" ++ newline
+
+abbrev pub reason_text : (rcode : ℕ) → List ℕ
+reason_text rcode = codes ": " ++ rcode_words rcode ++ codes " (" ++ decimal rcode ++ codes ")" ++ newline
+
+-- the lines of a lease, of a refusal, and of a lease that was given back
 abbrev pub IsLeaseLine : (second : ℕ) → List ℕ → Claim → (seconds : ℕ) → List ℕ → Type 0
-IsLeaseLine second verb claim seconds line = (head : List ℕ) × IsHead second verb claim head × (line ≡ head ++ (codes " " ++ decimal seconds ++ codes " s" ++ newline))
+IsLeaseLine second verb claim seconds line = (head : List ℕ) × IsHead second verb claim head × (line ≡ head ++ seconds_text seconds)
 
 abbrev pub IsRefusalLine : (second : ℕ) → List ℕ → Claim → (rcode : ℕ) → List ℕ → Type 0
-IsRefusalLine second verb claim rcode line = (head : List ℕ) × IsHead second verb claim head × (line ≡ head ++ (codes ": " ++ rcode_words rcode ++ codes " (" ++ decimal rcode ++ codes ")" ++ newline))
+IsRefusalLine second verb claim rcode line = (head : List ℕ) × IsHead second verb claim head × (line ≡ head ++ reason_text rcode)
 
 abbrev pub IsReleaseLine : (second : ℕ) → Claim → List ℕ → Type 0
 IsReleaseLine second claim line = (head : List ℕ) × IsHead second (codes " released ") claim head × (line ≡ head ++ newline)
+
+-- how many octets there were
+abbrev pub count_text : ℕ → List ℕ
+count_text count = codes ": " ++ decimal count ++ codes " octets"
 
 -- how many lines were left out, if any were, and the end of the line
 abbrev pub left_text : (left_out : ℕ) → List ℕ
@@ -47,7 +58,7 @@ left_text left_out = if nat_eq left_out 0 then newline else codes ", " ++ decima
 
 -- the line of a datagram that was no request to a server: where it came from, and how long it was
 abbrev pub IsStrangerLine : (second : ℕ) → List ℕ → Addr → (count left_out : ℕ) → List ℕ → Type 0
-IsStrangerLine second verb from count left_out line = (time : List ℕ) × IsTimeText second time × (line ≡ time ++ verb ++ address_text from ++ (codes ": " ++ decimal count ++ codes " octets") ++ left_text left_out)
+IsStrangerLine second verb from count left_out line = (time : List ℕ) × IsTimeText second time × (line ≡ time ++ verb ++ address_text from ++ count_text count ++ left_text left_out)
 
 abbrev pub IsLine : (second left_out : ℕ) → Told → List ℕ → Type 0
 IsLine second left_out (t.Granted claim seconds) line = IsLeaseLine second (codes " granted ") claim seconds line

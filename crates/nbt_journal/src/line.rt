@@ -2,7 +2,7 @@
 
 ghost use Rattle.std.specs.Prelude.{◌≡◌, ◌++◌, ℕ, List, OnOk};
 ghost use Rattle.std.specs.String.{string_bytes};
-ghost use Rattle.nbt_journal.specs.Lines.{place, left_text, IsHead, IsLeaseLine, IsRefusalLine, IsReleaseLine, IsStrangerLine, IsLine};
+ghost use Rattle.nbt_journal.specs.Lines.{place, seconds_text, reason_text, count_text, left_text, IsHead, IsLeaseLine, IsRefusalLine, IsReleaseLine, IsStrangerLine, IsLine};
 
 use crate::time::write_time;
 use crate::told::{Claim, Told};
@@ -44,7 +44,7 @@ fn write_lease(
     ensures { OnOk result ((line : List ℕ) × IsLeaseLine second verb.now claim.now seconds line × (string_bytes out.new ≡ string_bytes out.old ++ line)) }
 {
     write_head(second, verb, claim, out)?;
-    writeln!(out, " {seconds} s")
+    write_seconds(seconds, out)
 }
 
 /// Appends the line of a refusal, with its reason.
@@ -58,8 +58,7 @@ fn write_refusal(
     ensures { OnOk result ((line : List ℕ) × IsRefusalLine second verb.now claim.now rcode line × (string_bytes out.new ≡ string_bytes out.old ++ line)) }
 {
     write_head(second, verb, claim, out)?;
-    let words = rcode_words(rcode);
-    writeln!(out, ": {words} ({rcode})")
+    write_reason(rcode, out)
 }
 
 /// Appends the line of a lease that was given back.
@@ -68,6 +67,21 @@ fn write_release(second: u64, claim: &Claim, out: &mut String) -> Result<(), All
 {
     write_head(second, " released ", claim, out)?;
     out.push_str("\n")
+}
+
+/// Appends for how many seconds a lease is, and the end of the line.
+fn write_seconds(seconds: u32, out: &mut String) -> Result<(), AllocError>
+    ensures { OnOk result (string_bytes out.new ≡ string_bytes out.old ++ seconds_text seconds) }
+{
+    writeln!(out, " {seconds} s")
+}
+
+/// Appends the reason of a refusal, in words and as a number, and the end of the line.
+fn write_reason(rcode: u8, out: &mut String) -> Result<(), AllocError>
+    ensures { OnOk result (string_bytes out.new ≡ string_bytes out.old ++ reason_text rcode) }
+{
+    let words = rcode_words(rcode);
+    writeln!(out, ": {words} ({rcode})")
 }
 
 /// Appends what the line of a claim begins with: the time, what was made of it, and whose it is.
@@ -104,8 +118,15 @@ fn write_stranger(
     write_time(second, out)?;
     out.push_str(verb)?;
     write_address(from, out)?;
-    write!(out, ": {count} octets")?;
+    write_count(count, out)?;
     write_left_out(left_out, out)
+}
+
+/// Appends how many octets there were.
+fn write_count(count: usize, out: &mut String) -> Result<(), AllocError>
+    ensures { OnOk result (string_bytes out.new ≡ string_bytes out.old ++ count_text count) }
+{
+    write!(out, ": {count} octets")
 }
 
 /// Appends how many lines were left out, if any were, and the end of the line.
