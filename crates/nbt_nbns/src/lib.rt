@@ -3,6 +3,7 @@
 #![tactic(auto)]
 
 mod begin;
+mod journal;
 mod keeper;
 mod limits;
 mod logger;
@@ -11,6 +12,7 @@ mod staying;
 mod turn;
 
 pub use begin::write_begin;
+pub use journal::Journal;
 pub use keeper::{Keeper, Kept};
 pub use limits::{HOLDS_LEAST, Judged, LIVES_LEAST, LONGEST_QUIET, judge, write_refusal, write_warning};
 pub use logger::Logger;

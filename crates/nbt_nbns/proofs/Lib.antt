@@ -1,0 +1,4 @@
+-- What several proofs share; the proof of a function is in the folder of its module and its name.
+
+-- one turn, by what its port, its clock and its server returned
+mod OneTurn
