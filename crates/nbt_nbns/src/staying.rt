@@ -53,7 +53,7 @@ pub fn watch_on<P: Port, C: Clock, V: Watcher, M: time::Clock, E: Write>(
                 row.ends(errors);
                 watcher.see(server, &told, now, errors);
                 if until.get() <= now.get() {
-                    break;
+                    return Ok(());
                 }
             }
             Err(_) => row.goes_on(port.cause(), machine, errors)?,
