@@ -47,7 +47,7 @@ impl Limiter {
         ensures { Limits self.old now result self.new }
     {
         if self.told.is_full() {
-            if now.get() < self.told[0] + SECOND {
+            if now.get() < self.told.as_slice()[0] + SECOND {
                 self.left_out = self.left_out.saturating_add(1);
                 return None;
             }
