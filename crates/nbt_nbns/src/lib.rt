@@ -3,6 +3,7 @@
 #![tactic(auto)]
 
 mod begin;
+mod here;
 mod journal;
 mod keeper;
 mod limits;
@@ -12,6 +13,7 @@ mod staying;
 mod turn;
 
 pub use begin::write_begin;
+pub use here::{NbnsArguments, run_nbns};
 pub use journal::Journal;
 pub use keeper::{Keeper, Kept};
 pub use limits::{HOLDS_LEAST, Judged, LIVES_LEAST, LONGEST_QUIET, judge, write_refusal, write_warning};
