@@ -1,5 +1,5 @@
 -- Why a packet spells no message, in a sentence (our profile).
-use Rattle.std.specs.Prelude.{ℕ, nat_eq, nat_lt, ◌&&◌, not, if◌then◌else◌, List, ◌++◌, codes}
+use Rattle.std.specs.Prelude.{ℕ, nat_eq, nat_lt, ◌&&◌, not, if◌then◌else◌, List, [], ◌++◌, codes}
 use Rattle.std.specs.Fmt.{decimal}
 use Rattle.nbt_packet.specs.Message.{MessageValue, MessageIs, opcode_of, rcode_of}
 use Rattle.nbt_packet.specs.Packet.{PacketValue}
@@ -40,6 +40,6 @@ sentence OtherName flags = codes "the additional record is of another name than 
 
 -- A line where the packet spells no message.
 pub data PrintsReason (p : PacketValue) : List ℕ → Type 0 where
-  spelled : (message : MessageValue) → MessageIs p message → PrintsReason p (codes "")
+  spelled : (message : MessageValue) → MessageIs p message → PrintsReason p []
   unspelled : (reason : Reason) → ((message : MessageValue) → ¬ MessageIs p message) → IsReason p reason
       → PrintsReason p (codes "No message: " ++ sentence reason p.flags ++ newline)

@@ -1,13 +1,14 @@
 //! Why a packet spells no message.
 
-ghost use Rattle.std.specs.Prelude.{◌≡◌, ◌+◌, ◌*◌, ◌≤◌, ◌↔◌, IsTrue, IsSome, IfSome, IfNone, OnSome, length, slice_index};
+ghost use Rattle.std.specs.Prelude.{◌≡◌, ◌↔◌, IsTrue, IsSome, IsSomeAnd, IfSome, IfNone, OnSome};
 ghost use Rattle.std.specs.List.{AllByRecursion};
-ghost use Rattle.nbt_packet.specs.Message.{AreEntries, MessageIs, MessageValue};
+ghost use Rattle.nbt_packet.specs.Message.{AreEntries, MessageIs, MessageValue, nbstat};
 ghost use Rattle.nbt_packet.specs.Packet.{packet_of, record_of, record_if};
-ghost use Rattle.nbt_explain.specs.Reasons.{AsksStatus, HasClass, HasLength, HasOneName, HasSections, HasShape, HasType, HoldsAll, IsFirst, IsReason, IsRight, OfEach, respects};
+ghost use Rattle.nbt_explain.specs.Reasons.{AsksStatus, HasClass, HasLength, HasOneName, HasSections, HasShape, HasType, HoldsAll, IsFirst, IsNoChallenge, IsReason, IsRight, OfEach, respects};
 
 use crate::header;
 use crate::shape::{Shape, shape_of};
+use nbt_name::Name;
 use nbt_packet::{Packet, Question, Record, classify};
 
 /// Type NB, a name's entries (RFC 1002 section 4.2.1.3).
@@ -105,7 +106,7 @@ fn is_right(shape: Shape, packet: &Packet<'_>, respect: Reason) -> bool
     match respect {
         Reason::Opcode => true,
         Reason::Broadcast => header::is_unicast(packet.flags) || asks_status(shape, packet),
-        Reason::Challenge => shape != Shape::Confirming || !header::is_challenge(packet.flags),
+        Reason::Challenge => is_no_challenge(shape, packet.flags),
         Reason::Sections => has_sections(shape, packet),
         Reason::OtherType => has_types(shape, packet),
         Reason::OtherClass => has_classes(shape, packet),
@@ -114,13 +115,35 @@ fn is_right(shape: Shape, packet: &Packet<'_>, respect: Reason) -> bool
     }
 }
 
-/// Whether a question asks for a status.
+/// Whether the packet asks for a status.
 fn asks_status(shape: Shape, packet: &Packet<'_>) -> bool
     ensures { IsTrue result ↔ AsksStatus shape (packet_of packet.now) }
 {
-    match (shape, &packet.question) {
-        (Shape::Asking, Some(question)) => question.rtype == NBSTAT,
-        _ => false,
+    match shape {
+        Shape::Asking => is_of_status(&packet.question),
+        Shape::Claiming | Shape::Confirming | Shape::Telling | Shape::Denying | Shape::Waiting => {
+            false
+        }
+    }
+}
+
+/// Whether a question is there, and of type NBSTAT.
+fn is_of_status(section: &Option<Question>) -> bool
+    ensures { IsTrue result ↔ IsSomeAnd section.now (λ q. q.rtype ≡ nbstat) }
+{
+    match section {
+        Some(question) => question.rtype == NBSTAT,
+        None => false,
+    }
+}
+
+/// Whether the packet is no end node's challenge.
+fn is_no_challenge(shape: Shape, flags: u16) -> bool
+    ensures { IsTrue result ↔ IsNoChallenge shape flags }
+{
+    match shape {
+        Shape::Confirming => !header::is_challenge(flags),
+        Shape::Asking | Shape::Claiming | Shape::Telling | Shape::Denying | Shape::Waiting => true,
     }
 }
 
@@ -280,8 +303,18 @@ fn holds_all(rdata: &[u8]) -> bool
 fn has_one_name(packet: &Packet<'_>) -> bool
     ensures { IsTrue result ↔ HasOneName (packet_of packet.now) }
 {
-    match (&packet.question, &packet.additional) {
-        (Some(question), Some(additional)) => question.name == additional.name,
-        _ => true,
+    match &packet.question {
+        Some(question) => is_of_name(&question.name, &packet.additional),
+        None => true,
+    }
+}
+
+/// Whether the record, if it is there, is of this name.
+fn is_of_name(name: &Name, section: &Option<Record<'_>>) -> bool
+    ensures { IsTrue result ↔ IfSome (record_if section.now) (λ r. name.now ≡ r.name) }
+{
+    match section {
+        Some(resource) => *name == resource.name,
+        None => true,
     }
 }
