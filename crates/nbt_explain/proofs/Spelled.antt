@@ -45,6 +45,13 @@ the_record r t e f = λ i. record { name = r.name; rtype = e i; class = f i; ttl
 abbrev said : (id : ℕ) → RecordValue → Registration
 said id r = record { id = id; name = r.name; kind = kind_in r.rdata; addr = long_at r.rdata 2; ttl = r.ttl }
 
+-- one of four OPCODEs
+which : {A : Type 0} (opcode : ℕ) → IsOfEntry opcode → (opcode ≡ 5 → A) → (opcode ≡ 6 → A) → (opcode ≡ 8 → A) → (opcode ≡ 9 → A) → A
+which opcode (inl e) five six eight nine = five e
+which opcode (inr (inl e)) five six eight nine = six e
+which opcode (inr (inr (inl e))) five six eight nine = eight e
+which opcode (inr (inr (inr e))) five six eight nine = nine e
+
 -- ---- shape by shape
 
 asking : (p : PacketValue) → HasShape p.flags Asking → AllRight Asking p → Spells p
@@ -98,15 +105,14 @@ claiming p shape all =
       entry = record { six = six; kind_is = refl; addr_is = refl };
     } in
     let requests : (opcode : ℕ) → opcode_of p.flags ≡ opcode → Requests p.flags opcode = λ opcode e. record { request = shape.0; opcode_is = e; unicast = unicast } in
-    elim shape.1 [
-      | inl five ↦ elim (cases_eq (p.flags / 0x100 % 2) 1) [
-        | inl desires ↦ (registration (said p.id r), (requests 5 five, desires, claims))
-        | inr clear ↦ (overwrite (said p.id r), (requests 5 five, clear, claims))
-      ]
-      | inr (inl six') ↦ (release p.id r.name (kind_in r.rdata) (long_at r.rdata 2), (requests 6 six', r.ttl, claims))
-      | inr (inr (inl eight)) ↦ (refresh (said p.id r), (inl (requests 8 eight), claims))
-      | inr (inr (inr nine)) ↦ (refresh (said p.id r), (inr (requests 9 nine), claims))
-    ]
+    let as_registration : opcode_of p.flags ≡ 5 → Spells p = λ e. elim (cases_eq (p.flags / 0x100 % 2) 1) [
+      | inl desires ↦ (registration (said p.id r), (requests 5 e, desires, claims))
+      | inr clear ↦ (overwrite (said p.id r), (requests 5 e, clear, claims))
+    ] in
+    which {A = Spells p} (opcode_of p.flags) shape.1 as_registration
+    (λ e. (release p.id r.name (kind_in r.rdata) (long_at r.rdata 2), (requests 6 e, r.ttl, claims)))
+    (λ e. (refresh (said p.id r), (inl (requests 8 e), claims)))
+    (λ e. (refresh (said p.id r), (inr (requests 9 e), claims)))
 
 confirming : (p : PacketValue) → HasShape p.flags Confirming → AllRight Confirming p → Spells p
 confirming p shape all =
@@ -129,13 +135,12 @@ confirming p shape all =
       entry = record { six = six; kind_is = refl; addr_is = refl };
     } in
     let responds : (opcode : ℕ) → opcode_of p.flags ≡ opcode → Responds p.flags opcode = λ opcode e. record { response = shape.0; opcode_is = e; unicast = unicast } in
-    let as_registered : (Responds p.flags 5 ⊎ (Responds p.flags 8 ⊎ Responds p.flags 9)) → Spells p = λ which. (registered (rcode_of p.flags) (said p.id r), (which, challenge, refl, answers)) in
-    elim shape.1 [
-      | inl five ↦ as_registered (inl (responds 5 five))
-      | inr (inl six') ↦ (released p.id (rcode_of p.flags) r.name (kind_in r.rdata) (long_at r.rdata 2), (responds 6 six', refl, r.ttl, answers))
-      | inr (inr (inl eight)) ↦ as_registered (inr (inl (responds 8 eight)))
-      | inr (inr (inr nine)) ↦ as_registered (inr (inr (responds 9 nine)))
-    ]
+    let as_registered : (Responds p.flags 5 ⊎ (Responds p.flags 8 ⊎ Responds p.flags 9)) → Spells p = λ responded. (registered (rcode_of p.flags) (said p.id r), (responded, challenge, refl, answers)) in
+    which {A = Spells p} (opcode_of p.flags) shape.1
+    (λ e. as_registered (inl (responds 5 e)))
+    (λ e. (released p.id (rcode_of p.flags) r.name (kind_in r.rdata) (long_at r.rdata 2), (responds 6 e, refl, r.ttl, answers)))
+    (λ e. as_registered (inr (inl (responds 8 e))))
+    (λ e. as_registered (inr (inr (responds 9 e))))
 
 telling : (p : PacketValue) → HasShape p.flags Telling → AllRight Telling p → Spells p
 telling p shape all =
