@@ -106,7 +106,11 @@ fn write_reply(flags: u16, out: &mut String) -> Result<(), AllocError>
 fn reply_words(rcode: u8) -> &'static str
     ensures { result.now ≡ reply_words rcode }
 {
-    if rcode == 0 { "no error" } else { rcode_words(rcode) }
+    if rcode == 0 {
+        "no error"
+    } else {
+        rcode_words(rcode)
+    }
 }
 
 /// Appends the line of the counts.

@@ -80,16 +80,28 @@ fn wanted_sections(flags: u16) -> &'static str
 {
     let queries = header::opcode(flags) == 0;
     if flags < 0x8000 {
-        return if queries { "a question alone" } else { "a question and an additional record" };
+        return if queries {
+            "a question alone"
+        } else {
+            "a question and an additional record"
+        };
     }
-    if queries && header::rcode(flags) != 0 { "an answer alone or nothing" } else { "an answer alone" }
+    if queries && header::rcode(flags) != 0 {
+        "an answer alone or nothing"
+    } else {
+        "an answer alone"
+    }
 }
 
 /// Which types a message with this header has.
 fn wanted_type(flags: u16) -> &'static str
     ensures { result.now ≡ wanted_type flags }
 {
-    if header::opcode(flags) == 0 { "NB or NBSTAT" } else { "NB" }
+    if header::opcode(flags) == 0 {
+        "NB or NBSTAT"
+    } else {
+        "NB"
+    }
 }
 
 /// What the RDATA of a message with this header is.

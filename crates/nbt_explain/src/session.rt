@@ -55,7 +55,10 @@ fn write_message(octets: &[u8], out: &mut String) -> Result<(), AllocError>
     ensures { OnOk result (string_bytes out.new ≡ string_bytes out.old ++ message_lines octets.now) }
 {
     let count = octets.len();
-    writeln!(out, "Message type: Session message (0x00)\nData: {count} octets")
+    writeln!(
+        out,
+        "Message type: Session message (0x00)\nData: {count} octets"
+    )
 }
 
 /// Appends the lines of a request.
@@ -75,7 +78,10 @@ fn write_negative(code: u8, out: &mut String) -> Result<(), AllocError>
     ensures { OnOk result (string_bytes out.new ≡ string_bytes out.old ++ negative_lines code) }
 {
     let words = error_words(code);
-    write!(out, "Message type: Negative session response (0x83)\nError code: {words} (")?;
+    write!(
+        out,
+        "Message type: Negative session response (0x83)\nError code: {words} ("
+    )?;
     write_two_digits(code, out)?;
     out.push_str(")\n")
 }

@@ -1,6 +1,7 @@
 //! The shapes of messages: what a header says of the sections.
 
-ghost use Rattle.std.specs.Prelude.{◌↔◌, IsTrue, IfSome, IfNone};
+ghost use Rattle.std.specs.Prelude.{◌≡◌, ◌↔◌, IsTrue, IfSome, IfNone};
+ghost use Rattle.nbt_packet.specs.Message.{opcode_of};
 ghost use Rattle.nbt_explain.specs.declared.shape.Shape.{Shape as Form};
 ghost use Rattle.nbt_explain.specs.Reasons.{HasShape, IsOfEntry};
 
@@ -48,7 +49,11 @@ pub(crate) fn shape_of(flags: u16) -> Option<Shape>
 {
     let opcode = header::opcode(flags);
     if is_of_entry(opcode) {
-        return Some(if header::is_request(flags) { Shape::Claiming } else { Shape::Confirming });
+        return Some(if header::is_request(flags) {
+            Shape::Claiming
+        } else {
+            Shape::Confirming
+        });
     }
     if opcode == OPCODE_QUERY {
         return Some(query_shape(flags));
