@@ -1,0 +1,14 @@
+//! The library for programs in C, whose header is `include/nbt.h`: each export calls a crate's function, and states its
+//! clauses again.
+//!
+//! Octets and moments go in, octets come out: no socket, no clock, no thread, no global. A slice is passed as a pointer and a
+//! length. What C can get wrong with its numbers is tested. What it can get wrong with its pointers is its own condition,
+//! and stands in the header.
+#![tactic(auto)]
+
+pub mod name;
+pub mod naming;
+pub mod room;
+pub mod wire;
+
+pub use name::CName;
