@@ -29,7 +29,9 @@ extern "C" {
 enum {
     NBT_DONE = 0,
     NBT_NO_NAME = 255, /* a struct nbt_name holds no name */
-    NBT_NO_ROOM = 254  /* the caller's octets are too few */
+    NBT_NO_ROOM = 254,   /* the caller's octets are too few */
+    NBT_NO_MOMENT = 253, /* a moment is above 2^60 ms */
+    NBT_NO_KIND = 252    /* a kind is neither NBT_UNIQUE nor NBT_GROUP */
 };
 
 /* ---- names */
@@ -95,6 +97,119 @@ enum {
  */
 uint8_t nbt_name_from_wire(const uint8_t *octets, size_t size, size_t place, struct nbt_name *out, size_t *next);
 uint8_t nbt_name_in_packet(const uint8_t *octets, size_t size, size_t place, struct nbt_name *out, size_t *next);
+
+/* ---- ends and limits */
+
+/* An end of the network, 8 octets: numbers in the machine's own order, so that 10.0.0.1 is 0x0A000001. */
+struct nbt_addr {
+    uint32_t ip;
+    uint16_t port;
+};
+
+/* The limits that a server and its nodes share (our profile). */
+struct nbt_config {
+    uint64_t life;    /* the greatest life of one datagram, 1 to 60,000 milliseconds */
+    uint32_t longest; /* the longest lease, 1 to 1,000,000 seconds */
+    uint32_t rows;    /* the most live leases of a server, 1 to 4,096 */
+};
+
+enum {
+    NBT_CONFIG_LIFE = 1,
+    NBT_CONFIG_LONGEST = 2,
+    NBT_CONFIG_ROWS = 3
+};
+
+/* Who may hold a name (RFC 1001 section 5.2). */
+enum {
+    NBT_UNIQUE = 0, /* one machine at a time */
+    NBT_GROUP = 1   /* any number of machines */
+};
+
+/* The most octets of a packet over UDP (RFC 1002 section 6). */
+#define NBT_PACKET 576
+
+/* ---- an end node of 14 slots (RFC 1001 section 15): it takes no memory but what the program lends */
+
+/*
+ * A node: `memory` leads to nbt_node_size() octets, aligned to nbt_node_align(), which are the node's from its start on and which
+ * no one else reads or writes. The program sets `memory` before the start, copies no struct nbt_node, and may let the memory go at
+ * any time, once it calls nothing more with the node. All other calls are for a node that was started.
+ *
+ * Moments, `now`, are milliseconds of a clock that no one sets, as CLOCK_MONOTONIC: 0 to 2^60.
+ */
+struct nbt_node {
+    void *memory;
+};
+
+size_t nbt_node_size(void);
+size_t nbt_node_align(void);
+
+/* A node at `own` whose name server is at `server`. NBT_CONFIG_*; NBT_NO_MOMENT. */
+uint8_t nbt_node_start(struct nbt_node *node, struct nbt_addr own, struct nbt_addr server, struct nbt_config config, uint64_t now);
+
+/* Why a name isn't asked for, given back or looked up (our profile). They are tried in this order: CLOCK_BACK, BAD_NAME, BUSY or
+ * NOT_HELD, QUIET, FULL. */
+enum {
+    NBT_ASK_QUIET = 1,        /* the name is being given back, or rests */
+    NBT_ASK_BUSY = 2,         /* it was asked for already, or is held */
+    NBT_ASK_FULL = 3,         /* no slot is free */
+    NBT_ASK_CLOCK_BACK = 4,   /* `now` is before the start, or before an earlier call that wasn't refused */
+    NBT_ASK_BAD_NAME = 5,     /* the name begins with '*' */
+    NBT_RELEASE_NOT_HELD = 1,
+    NBT_RELEASE_CLOCK_BACK = 4,
+    NBT_LOOKUP_BUSY = 2,      /* a lookup is open */
+    NBT_LOOKUP_CLOCK_BACK = 4,
+    NBT_LOOKUP_BAD_NAME = 5,
+    NBT_CLOCK_BACK = 4
+};
+
+/*
+ * Each of these writes *size: how many octets of `out` are a packet to be sent, 0 where the result isn't 0. The packet is for the
+ * server; that of nbt_node_name_status is for `to`. `ttl` is in seconds, 0 for as long as may be. Also NBT_NO_MOMENT, NBT_NO_NAME,
+ * NBT_NO_KIND, in this order, before the node's own.
+ */
+uint8_t nbt_node_ask(struct nbt_node *node, uint64_t now, const struct nbt_name *name, uint8_t kind, uint32_t ttl,
+                     uint8_t out[NBT_PACKET], size_t *size);
+uint8_t nbt_node_release(struct nbt_node *node, uint64_t now, const struct nbt_name *name, uint8_t out[NBT_PACKET], size_t *size);
+uint8_t nbt_node_resolve(struct nbt_node *node, uint64_t now, const struct nbt_name *name, uint8_t out[NBT_PACKET], size_t *size);
+uint8_t nbt_node_name_status(struct nbt_node *node, uint64_t now, struct nbt_addr to, const struct nbt_name *name,
+                             uint8_t out[NBT_PACKET], size_t *size);
+
+/* What a datagram was to a node. A field that its kind doesn't name is 0. */
+struct nbt_event {
+    uint8_t kind;
+    uint8_t rcode;    /* of REFUSED and FREED (RFC 1002 section 4.2.6) */
+    bool cut;         /* of FOUND: the name has more entries than these */
+    uint32_t seconds; /* of GRANTED and RENEWED */
+    size_t size;      /* of FOUND: the octets of its entries, 6 each; of STATUS: of its names, 18 each */
+};
+
+enum {
+    NBT_EVENT_NOTHING = 0,   /* nothing that the node waited for */
+    NBT_EVENT_REPLY = 1,     /* a status request: the reply to its sender stands in `out` */
+    NBT_EVENT_GRANTED = 2,
+    NBT_EVENT_RENEWED = 3,
+    NBT_EVENT_REFUSED = 4,
+    NBT_EVENT_LOST = 5,
+    NBT_EVENT_FREED = 6,
+    NBT_EVENT_WAIT = 7,
+    NBT_EVENT_FOUND = 8,
+    NBT_EVENT_NOT_FOUND = 9,
+    NBT_EVENT_STATUS = 10
+};
+
+/*
+ * Takes a datagram that came from `from`. Writes *event; the first octets of its entries or names, as many as have room, to `lent`;
+ * and *size: how many octets of `out` are a reply to `from`, or 0. NBT_NO_MOMENT; NBT_CLOCK_BACK.
+ */
+uint8_t nbt_node_on_datagram(struct nbt_node *node, uint64_t now, struct nbt_addr from, const uint8_t *octets, size_t octets_size,
+                             struct nbt_event *event, uint8_t *lent, size_t lent_room, uint8_t out[NBT_PACKET], size_t *size);
+
+/* Sends at most one datagram that is due: *size octets of `out`, for *to. Call it until *size is 0. NBT_NO_MOMENT; NBT_CLOCK_BACK. */
+uint8_t nbt_node_poll(struct nbt_node *node, uint64_t now, struct nbt_addr *to, uint8_t out[NBT_PACKET], size_t *size);
+
+/* Writes *held: 0 where the node doesn't hold the name, 1 as one machine's, 2 as a group's. NBT_NO_MOMENT; NBT_NO_NAME. */
+uint8_t nbt_node_holds(struct nbt_node *node, uint64_t now, const struct nbt_name *name, uint8_t *held);
 
 #ifdef __cplusplus
 }

@@ -1,3 +1,10 @@
+pub mod Ends
+pub mod Events
+pub mod Hearing
+pub mod Lending
+pub mod Memory
 pub mod Names
 pub mod Naming
+pub mod Sending
+pub mod Starting
 pub mod Writing

@@ -6,9 +6,19 @@
 //! and stands in the header.
 #![tactic(auto)]
 
+pub mod ends;
+pub mod event;
+pub mod hearing;
+pub mod held;
 pub mod name;
 pub mod naming;
+pub mod results;
 pub mod room;
+pub mod sending;
+pub mod starting;
 pub mod wire;
 
+pub use ends::{CAddr, CConfig};
+pub use event::CEvent;
+pub use held::CNode;
 pub use name::CName;

@@ -9,15 +9,10 @@ ghost use Rattle.nbt_c.specs.Names.{stored};
 ghost use Rattle.nbt_c.specs.Writing.{Writes};
 
 use crate::name::CName;
+use crate::results::{NO_NAME, NO_ROOM};
 use crate::room::put_front;
 use arrayvec::ArrayVec;
 use nbt_name::{NameFault, NameFaultKind, read_in, read_plain};
-
-/// What a call returns where a `CName` holds no name (our profile).
-const NO_NAME: u8 = 255;
-
-/// What a call returns where its octets have no room (our profile).
-const NO_ROOM: u8 = 254;
 
 /// `nbt_name::Name::to_wire`: the name's wire form, 34 to 255 octets (RFC 1002 section 4.1). 0, and it stands at the front of
 /// `out`, `size` being how many octets it has. Else nothing is written: 255 where `name` holds no name, 254 where `out` has
