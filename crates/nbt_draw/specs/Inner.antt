@@ -1,0 +1,2 @@
+-- What only private functions cite: a reader can skip it.
+pub mod Replies

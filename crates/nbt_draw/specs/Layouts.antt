@@ -1,0 +1,101 @@
+-- Where the columns and rows of a chart are, in pixels, and which lines and words show what stands in them (our profile).
+use Rattle.std.specs.Prelude.{ℕ, ◌+◌, ◌-◌, ◌*◌, ◌/◌, nat_le, if◌then◌else◌, List, ◌++◌}
+use Rattle.std.specs.String.{string_bytes}
+use Rattle.nbt_draw.specs.declared.style.Style.{Style}
+use Rattle.nbt_draw.specs.declared.style.Style.TheVariants as s
+use Rattle.nbt_draw.specs.declared.style.Tint.TheVariants.{Plain, Vermilion}
+use Rattle.nbt_draw.specs.declared.shape.Place.{Place}
+use Rattle.nbt_draw.specs.declared.chart.Bar.{Bar}
+use Rattle.nbt_draw.specs.declared.chart.Note.{Note}
+use Rattle.nbt_draw.specs.declared.chart.Tick.{Tick}
+use Rattle.nbt_draw.specs.declared.chart.Side.{Side}
+use Rattle.nbt_draw.specs.declared.chart.Side.TheVariants.{Edge, Column}
+use Rattle.nbt_draw.specs.declared.chart.Fate.{Fate}
+use Rattle.nbt_draw.specs.declared.chart.Fate.TheVariants.{Comes, Dies, Never}
+use Rattle.nbt_draw.specs.declared.chart.Arrow.{Arrow}
+use Rattle.nbt_draw.specs.Shapes.{line, words, shape_text}
+
+-- ---- columns and rows
+
+abbrev pub at : (x y : ℕ) → Place
+at x y = record { x = x; y = y }
+
+-- up to four nodes have wide columns: a page is at most 1,200 wide either way
+abbrev pub column_x : (nodes column : ℕ) → ℕ
+column_x nodes column = if nat_le nodes 4 then 140 + 200 * column else 140 + 116 * column
+
+abbrev pub row_y : (row : ℕ) → ℕ
+row_y row = 64 + 24 * row
+
+abbrev pub page_width : (nodes : ℕ) → ℕ
+page_width nodes = column_x nodes nodes + 132
+
+abbrev pub page_height : (rows : ℕ) → ℕ
+page_height rows = row_y rows + 24
+
+abbrev pub side_x : (nodes : ℕ) → Side → ℕ
+side_x nodes Edge = 8
+side_x nodes (Column column) = column_x nodes column
+
+-- ---- moments, words and bars
+
+-- a dotted line over the whole page, and the moment
+abbrev pub tick_text : (nodes : ℕ) → Tick → List ℕ
+tick_text nodes tick =
+    shape_text (line s.Gap Plain (at 0 (row_y tick.row)) (at (page_width nodes) (row_y tick.row)))
+    ++ shape_text (words s.Moment (at 8 (row_y tick.row - 3)) (string_bytes tick.words))
+
+-- words to the left of a column
+abbrev pub note_text : (nodes : ℕ) → Note → List ℕ
+note_text nodes note = shape_text (words note.style (at (column_x nodes note.column - 6) (row_y note.row + 4)) (string_bytes note.words))
+
+-- a line to the right of a column, further out by its slot, and what it is beside its beginning
+abbrev pub bar_x : (nodes : ℕ) → Bar → ℕ
+bar_x nodes bar = column_x nodes bar.column + 10 * bar.slot
+
+abbrev pub bar_text : (nodes : ℕ) → Bar → List ℕ
+bar_text nodes bar =
+    shape_text (line bar.style bar.tint (at (bar_x nodes bar) (row_y bar.from)) (at (bar_x nodes bar) (row_y bar.to)))
+    ++ shape_text (words s.Label (at (bar_x nodes bar + 6) (row_y bar.from + 12)) (string_bytes bar.words))
+
+-- ---- arrows
+
+abbrev pub start_of : (nodes : ℕ) → Arrow → Place
+start_of nodes arrow = at (side_x nodes arrow.from) (row_y arrow.sent)
+
+-- where an arrow ends: at its delivery, or, where there is none, half a row below its sending and half way
+abbrev pub tip_at : (nodes : ℕ) → Arrow → Fate → Place
+tip_at nodes arrow Never = at ((side_x nodes arrow.from + side_x nodes arrow.to) / 2) (row_y arrow.sent + 12)
+tip_at nodes arrow _ = at (side_x nodes arrow.to) (row_y arrow.came)
+
+abbrev pub tip_of : (nodes : ℕ) → Arrow → Place
+tip_of nodes arrow = tip_at nodes arrow arrow.fate
+
+-- the two lines of a head, behind the tip
+abbrev pub behind : (start tip : Place) → ℕ
+behind start tip = if nat_le start.x tip.x then tip.x - 8 else tip.x + 8
+
+abbrev pub head_text : (start tip : Place) → List ℕ
+head_text start tip =
+    shape_text (line s.Arrow Plain (at (behind start tip) (tip.y - 4)) tip)
+    ++ shape_text (line s.Arrow Plain (at (behind start tip) (tip.y + 4)) tip)
+
+abbrev pub cross_text : (tip : Place) → List ℕ
+cross_text tip =
+    shape_text (line s.Cross Vermilion (at (tip.x - 5) (tip.y - 5)) (at (tip.x + 5) (tip.y + 5)))
+    ++ shape_text (line s.Cross Vermilion (at (tip.x - 5) (tip.y + 5)) (at (tip.x + 5) (tip.y - 5)))
+
+-- a head where it is delivered, and a cross where it isn't
+abbrev pub end_text : Fate → (start tip : Place) → List ℕ
+end_text Comes start tip = head_text start tip
+end_text _ start tip = cross_text tip
+
+-- what a datagram says stands above its middle
+abbrev pub middle : (start tip : Place) → Place
+middle start tip = at ((start.x + tip.x) / 2) ((start.y + tip.y) / 2 - 4)
+
+abbrev pub arrow_text : (nodes : ℕ) → Arrow → List ℕ
+arrow_text nodes arrow =
+    shape_text (line s.Arrow Plain (start_of nodes arrow) (tip_of nodes arrow))
+    ++ end_text arrow.fate (start_of nodes arrow) (tip_of nodes arrow)
+    ++ shape_text (words s.Label (middle (start_of nodes arrow) (tip_of nodes arrow)) (string_bytes arrow.words))

@@ -1,0 +1,13 @@
+//! What holds of what is written, whatever the code does: laws over the definitions alone.
+
+ghost use Rattle.std.specs.Prelude.{◌≡◌, ℕ, List, All};
+ghost use Rattle.nbt_name.specs.Wire.{AreOctets};
+ghost use Rattle.nbt_draw.specs.Escape.{escaped, Reads, IsQuiet};
+
+/// What is written of octets is read as these octets, and as no others; and whatever is read as octets has no control octet,
+/// no `<`, no `>` and no quote.
+pub fn escaped_text_is_read()
+    ensures read_back { (text : List ℕ) → AreOctets text → Reads (escaped text) text }
+    ensures one_reading { (xml a b : List ℕ) → Reads xml a → Reads xml b → a ≡ b }
+    ensures quiet { (xml text : List ℕ) → Reads xml text → All IsQuiet xml }
+{}
