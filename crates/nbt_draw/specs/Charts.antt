@@ -4,7 +4,7 @@ use Rattle.std.specs.Fmt.{decimal}
 use Rattle.nbt_text.specs.Lines.{newline}
 use Rattle.nbt_draw.specs.declared.chart.Chart.{Chart}
 use Rattle.nbt_draw.specs.Shapes.{attribute, element, sheet}
-use Rattle.nbt_draw.specs.Layouts.{page_width, page_height, tick_text, bar_text, note_text, arrow_text}
+use Rattle.nbt_draw.specs.Layouts.{page_width, page_height, tick_text, bar_text, note_text, delivery_text, sent_text}
 
 abbrev pub page_attributes : (nodes rows : ℕ) → List ℕ
 page_attributes nodes rows =
@@ -14,7 +14,8 @@ page_attributes nodes rows =
 abbrev pub parts_text : Chart → List ℕ
 parts_text chart =
     flat_map (tick_text chart.nodes) chart.ticks.items ++ flat_map (bar_text chart.nodes) chart.bars.items
-    ++ flat_map (note_text chart.nodes) chart.notes.items ++ flat_map (arrow_text chart.nodes) chart.arrows.items
+    ++ flat_map (note_text chart.nodes) chart.notes.items ++ flat_map (sent_text chart.nodes) chart.sent.items
+    ++ flat_map (delivery_text chart.nodes chart.sent.items) chart.deliveries.items
 
 abbrev pub chart_text : Chart → List ℕ
 chart_text chart = element (codes "svg") (page_attributes chart.nodes chart.rows) (newline ++ element (codes "style") [] sheet ++ newline ++ parts_text chart) ++ newline

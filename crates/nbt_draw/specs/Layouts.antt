@@ -1,5 +1,5 @@
 -- Where the columns and rows of a chart are, in pixels, and which lines and words show what stands in them (our profile).
-use Rattle.std.specs.Prelude.{ℕ, ◌+◌, ◌-◌, ◌*◌, ◌/◌, nat_le, if◌then◌else◌, List, ◌++◌}
+use Rattle.std.specs.Prelude.{ℕ, ◌+◌, ◌-◌, ◌*◌, ◌/◌, nat_le, if◌then◌else◌, List, [], ◌++◌, slice_get, Option, Some, None}
 use Rattle.std.specs.String.{string_bytes}
 use Rattle.nbt_draw.specs.declared.style.Style.{Style}
 use Rattle.nbt_draw.specs.declared.style.Style.TheVariants as s
@@ -10,9 +10,10 @@ use Rattle.nbt_draw.specs.declared.chart.Note.{Note}
 use Rattle.nbt_draw.specs.declared.chart.Tick.{Tick}
 use Rattle.nbt_draw.specs.declared.chart.Side.{Side}
 use Rattle.nbt_draw.specs.declared.chart.Side.TheVariants.{Edge, Column}
-use Rattle.nbt_draw.specs.declared.chart.Fate.{Fate}
-use Rattle.nbt_draw.specs.declared.chart.Fate.TheVariants.{Comes, Dies, Never}
-use Rattle.nbt_draw.specs.declared.chart.Arrow.{Arrow}
+use Rattle.nbt_draw.specs.declared.chart.Sent.{Sent}
+use Rattle.nbt_draw.specs.declared.chart.Arrival.{Arrival}
+use Rattle.nbt_draw.specs.declared.chart.Arrival.TheVariants.{Taken, Lost}
+use Rattle.nbt_draw.specs.declared.chart.Delivery.{Delivery}
 use Rattle.nbt_draw.specs.Shapes.{line, words, shape_text}
 
 -- ---- columns and rows
@@ -56,20 +57,19 @@ bar_x nodes bar = column_x nodes bar.column + 10 * bar.slot
 abbrev pub bar_text : (nodes : ℕ) → Bar → List ℕ
 bar_text nodes bar =
     shape_text (line bar.style bar.tint (at (bar_x nodes bar) (row_y bar.from)) (at (bar_x nodes bar) (row_y bar.to)))
-    ++ shape_text (words s.Label (at (bar_x nodes bar + 6) (row_y bar.from + 12)) (string_bytes bar.words))
+    ++ shape_text (words s.Name (at (bar_x nodes bar + 6) (row_y bar.from + 12)) (string_bytes bar.words))
 
 -- ---- arrows
 
-abbrev pub start_of : (nodes : ℕ) → Arrow → Place
-start_of nodes arrow = at (side_x nodes arrow.from) (row_y arrow.sent)
+abbrev pub start_of : (nodes : ℕ) → Sent → Place
+start_of nodes sent = at (side_x nodes sent.from) (row_y sent.row)
 
--- where an arrow ends: at its delivery, or, where there is none, half a row below its sending and half way
-abbrev pub tip_at : (nodes : ℕ) → Arrow → Fate → Place
-tip_at nodes arrow Never = at ((side_x nodes arrow.from + side_x nodes arrow.to) / 2) (row_y arrow.sent + 12)
-tip_at nodes arrow _ = at (side_x nodes arrow.to) (row_y arrow.came)
+-- where a datagram is that is delivered in a row, and one that never is: half way, and half a row below its sending
+abbrev pub end_of : (nodes : ℕ) → Sent → (row : ℕ) → Place
+end_of nodes sent row = at (side_x nodes sent.to) (row_y row)
 
-abbrev pub tip_of : (nodes : ℕ) → Arrow → Place
-tip_of nodes arrow = tip_at nodes arrow arrow.fate
+abbrev pub half_way : (nodes : ℕ) → Sent → Place
+half_way nodes sent = at ((side_x nodes sent.from + side_x nodes sent.to) / 2) (row_y sent.row + 12)
 
 -- the two lines of a head, behind the tip
 abbrev pub behind : (start tip : Place) → ℕ
@@ -85,17 +85,28 @@ cross_text tip =
     shape_text (line s.Cross Vermilion (at (tip.x - 5) (tip.y - 5)) (at (tip.x + 5) (tip.y + 5)))
     ++ shape_text (line s.Cross Vermilion (at (tip.x - 5) (tip.y + 5)) (at (tip.x + 5) (tip.y - 5)))
 
--- a head where it is delivered, and a cross where it isn't
-abbrev pub end_text : Fate → (start tip : Place) → List ℕ
-end_text Comes start tip = head_text start tip
-end_text _ start tip = cross_text tip
+-- a head where it is taken, and a cross where it is lost
+abbrev pub tip_text : Arrival → (start tip : Place) → List ℕ
+tip_text Taken start tip = head_text start tip
+tip_text Lost start tip = cross_text tip
 
 -- what a datagram says stands above its middle
 abbrev pub middle : (start tip : Place) → Place
 middle start tip = at ((start.x + tip.x) / 2) ((start.y + tip.y) / 2 - 4)
 
-abbrev pub arrow_text : (nodes : ℕ) → Arrow → List ℕ
-arrow_text nodes arrow =
-    shape_text (line s.Arrow Plain (start_of nodes arrow) (tip_of nodes arrow))
-    ++ end_text arrow.fate (start_of nodes arrow) (tip_of nodes arrow)
-    ++ shape_text (words s.Label (middle (start_of nodes arrow) (tip_of nodes arrow)) (string_bytes arrow.words))
+abbrev pub arrow_text : (nodes : ℕ) → Sent → Arrival → (tip : Place) → List ℕ
+arrow_text nodes sent arrival tip =
+    shape_text (line s.Arrow Plain (start_of nodes sent) tip)
+    ++ tip_text arrival (start_of nodes sent) tip
+    ++ shape_text (words s.Label (middle (start_of nodes sent) tip) (string_bytes sent.words))
+
+-- an arrow for each delivery, and one for each datagram that has none
+abbrev pub delivered_text : (nodes : ℕ) → Option Sent → Delivery → List ℕ
+delivered_text nodes None delivery = []
+delivered_text nodes (Some sent) delivery = arrow_text nodes sent delivery.arrival (end_of nodes sent delivery.row)
+
+abbrev pub delivery_text : (nodes : ℕ) → List Sent → Delivery → List ℕ
+delivery_text nodes all delivery = delivered_text nodes (slice_get all delivery.number) delivery
+
+abbrev pub sent_text : (nodes : ℕ) → Sent → List ℕ
+sent_text nodes sent = if sent.came then [] else arrow_text nodes sent Lost (half_way nodes sent)

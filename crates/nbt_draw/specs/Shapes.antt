@@ -4,7 +4,7 @@ use Rattle.std.specs.Prelude.{ℕ, List, ◌++◌, flat_map, codes}
 use Rattle.std.specs.Fmt.{decimal}
 use Rattle.nbt_text.specs.Lines.{newline}
 use Rattle.nbt_draw.specs.declared.style.Style.{Style}
-use Rattle.nbt_draw.specs.declared.style.Style.TheVariants.{Up, Silence, Hold, Group, Lease, Gap, Arrow, Cross, Head, Moment, Mark, Label}
+use Rattle.nbt_draw.specs.declared.style.Style.TheVariants.{Up, Silence, Hold, Group, Lease, Gap, Arrow, Cross, Head, Moment, Mark, Name, Label}
 use Rattle.nbt_draw.specs.declared.style.Tint.{Tint}
 use Rattle.nbt_draw.specs.declared.style.Tint.TheVariants.{Plain, Orange, Sky, Green, Yellow, Blue, Vermilion, Purple}
 use Rattle.nbt_draw.specs.declared.shape.Place.{Place}
@@ -40,6 +40,7 @@ style_word Cross = codes "cross"
 style_word Head = codes "head"
 style_word Moment = codes "moment"
 style_word Mark = codes "mark"
+style_word Name = codes "name"
 style_word Label = codes "label"
 
 abbrev pub tint_word : Tint → List ℕ
@@ -53,7 +54,7 @@ tint_word Vermilion = codes "vermilion"
 tint_word Purple = codes "purple"
 
 unfoldable pub sheet : List ℕ
-sheet = codes "svg{background:#fff;color:#222;font:11px sans-serif}text{fill:currentColor}line{stroke:currentColor}.up{stroke-width:2}.silence{stroke:#999;stroke-width:12}.hold,.group{stroke-width:8}.group{stroke-dasharray:3 3}.lease{stroke-width:3}.gap{stroke:#999;stroke-dasharray:1 5}.cross{stroke-width:2}.head{font-weight:bold;text-anchor:middle}.mark{text-anchor:end}line.orange{stroke:#e69f00}line.sky{stroke:#56b4e9}line.green{stroke:#009e73}line.yellow{stroke:#f0e442}line.blue{stroke:#0072b2}line.vermilion{stroke:#d55e00}line.purple{stroke:#cc79a7}@media(prefers-color-scheme:dark){svg{background:#161616;color:#e6e6e6}}"
+sheet = codes "svg{background:#fff;color:#222;font:11px sans-serif}text{fill:currentColor}line{stroke:currentColor}.up{stroke-width:2}.silence{stroke:#999;stroke-width:12}.hold,.group{stroke-width:8}.group{stroke-dasharray:3 3}.lease{stroke-width:3}.gap{stroke:#999;stroke-dasharray:1 5}.cross{stroke-width:2}.head{font-weight:bold;text-anchor:middle}.mark{text-anchor:end}.label{text-anchor:middle;paint-order:stroke;stroke:#fff;stroke-width:3}line.orange{stroke:#e69f00}line.sky{stroke:#56b4e9}line.green{stroke:#009e73}line.yellow{stroke:#f0e442}line.blue{stroke:#0072b2}line.vermilion{stroke:#d55e00}line.purple{stroke:#cc79a7}@media(prefers-color-scheme:dark){svg{background:#161616;color:#e6e6e6}.label{stroke:#161616}}"
 
 -- ---- shapes as elements, each on a line of its own
 

@@ -1,6 +1,9 @@
 //! A chart: what a picture of a run shows, in columns and rows.
 
+ghost use Rattle.std.specs.Prelude.{◌≡◌, []};
+
 use crate::style::{Style, Tint};
+use std::alloc::Global;
 
 /// What stands beside a column over some rows: an end while it is up, the server's silence, a hold, a lease.
 #[derive(Debug, Drop)]
@@ -52,32 +55,39 @@ pub enum Side {
     Column(u8),
 }
 
-/// What becomes of a datagram.
-#[derive(Clone, Copy, Debug, PartialEq, Eq)]
-pub enum Fate {
-    /// It is delivered.
-    Comes,
-    /// It comes too late, or to an end that is down or has no memory for it.
-    Dies,
-    /// It is never delivered.
-    Never,
-}
-
-/// A datagram: from its sending to one of its deliveries, or to none.
+/// A datagram that was sent.
 #[derive(Debug, Drop)]
-pub struct Arrow {
+pub struct Sent {
     /// Where it is from.
     pub from: Side,
-    /// The row of its sending.
-    pub sent: u32,
     /// Where it is for.
     pub to: Side,
-    /// The row of its delivery; says nothing where it is never delivered.
-    pub came: u32,
-    /// What becomes of it.
-    pub fate: Fate,
+    /// The row of its sending.
+    pub row: u32,
     /// What it says, as `registration FRED 60 s`.
     pub words: String,
+    /// Whether it was ever delivered, in time or not.
+    pub came: bool,
+}
+
+/// What becomes of a datagram where it is delivered.
+#[derive(Clone, Copy, Debug, PartialEq, Eq)]
+pub enum Arrival {
+    /// An end takes it.
+    Taken,
+    /// It comes too late, or to an end that is down or has no memory for it.
+    Lost,
+}
+
+/// A delivery of a datagram, of which there may be several.
+#[derive(Clone, Copy, Debug, PartialEq, Eq)]
+pub struct Delivery {
+    /// The datagram's number, counted from 0 in the order of sending.
+    pub number: usize,
+    /// The row.
+    pub row: u32,
+    /// What becomes of it.
+    pub arrival: Arrival,
 }
 
 /// What a picture shows.
@@ -93,6 +103,27 @@ pub struct Chart {
     pub bars: Vec<Bar>,
     /// Words at columns.
     pub notes: Vec<Note>,
-    /// Datagrams.
-    pub arrows: Vec<Arrow>,
+    /// Every datagram that was sent, in order.
+    pub sent: Vec<Sent>,
+    /// Every delivery, in order.
+    pub deliveries: Vec<Delivery>,
+}
+
+impl Chart {
+    /// A chart that shows nothing, of a server and `nodes` nodes.
+    pub fn new(alloc: Global, nodes: u8) -> Chart
+        ensures size { (result.nodes ≡ nodes) × (result.rows ≡ 0) }
+        ensures empty { (result.ticks.items ≡ []) × (result.bars.items ≡ []) × (result.notes.items ≡ []) }
+        ensures nothing_sent { (result.sent.items ≡ []) × (result.deliveries.items ≡ []) }
+    {
+        Chart {
+            nodes,
+            rows: 0,
+            ticks: Vec::new(alloc),
+            bars: Vec::new(alloc),
+            notes: Vec::new(alloc),
+            sent: Vec::new(alloc),
+            deliveries: Vec::new(alloc),
+        }
+    }
 }

@@ -90,11 +90,11 @@ fn write_claim(front: &str, r: &Registration, out: &mut String) -> Result<(), Al
 fn write_registered(rcode: u8, r: &Registration, out: &mut String) -> Result<(), AllocError>
     ensures { OnOk result (string_bytes out.new ≡ string_bytes out.old ++ registered_words rcode r.now) }
 {
-    if rcode != 0 {
-        return write_refusal(rcode, out);
+    if rcode == 0 {
+        out.push_str("positive")?;
+        return write_seconds(r.ttl, out);
     }
-    out.push_str("positive")?;
-    write_seconds(r.ttl, out)
+    write_refusal(rcode, out)
 }
 
 /// Appends whether a name was released.

@@ -3,9 +3,9 @@
 ghost use Rattle.std.specs.Prelude.{◌≡◌, ◌≤◌, ◌<◌, ◌^◌, ◌++◌, OnOk, flat_map};
 ghost use Rattle.std.specs.String.{string_bytes};
 ghost use Rattle.nbt_draw.specs.Charts.{chart_text, parts_text};
-ghost use Rattle.nbt_draw.specs.Layouts.{column_x, row_y, page_width, page_height, side_x, tick_text, note_text, bar_text, start_of, tip_of, behind, head_text, cross_text, end_text, middle, arrow_text};
+ghost use Rattle.nbt_draw.specs.Layouts.{column_x, row_y, page_width, page_height, side_x, tick_text, note_text, bar_text, start_of, end_of, half_way, head_text, cross_text, tip_text, middle, arrow_text, delivery_text, sent_text};
 
-use crate::chart::{Arrow, Bar, Chart, Fate, Note, Side, Tick};
+use crate::chart::{Arrival, Bar, Chart, Delivery, Note, Sent, Side, Tick};
 use crate::shape::{Place, write_line, write_words};
 use crate::style::{Style, Tint, sheet};
 use std::alloc::AllocError;
@@ -104,35 +104,42 @@ fn write_bar(nodes: u8, bar: &Bar, out: &mut String) -> Result<(), AllocError>
     let from = row_y(bar.from);
     let to = row_y(bar.to);
     write_line(bar.style, bar.tint, Place { x, y: from }, Place { x, y: to }, out)?;
-    write_words(Style::Label, Place { x: x + 6, y: from + 12 }, bar.words.as_bytes(), out)
+    write_words(Style::Name, Place { x: x + 6, y: from + 12 }, bar.words.as_bytes(), out)
 }
 
 /// Where an arrow begins.
-fn start_of(nodes: u8, arrow: &Arrow) -> Place
-    ensures exactly { result ≡ start_of nodes arrow.now }
-    ensures within { (8 ≤ result.x) × (result.x ≤ 60000) × (64 ≤ result.y) × (result.y < 2 ^ 41) }
+fn start_of(nodes: u8, sent: &Sent) -> Place
+    ensures exactly { result ≡ start_of nodes sent.now }
+    ensures x { (8 ≤ result.x) × (result.x ≤ 60000) }
+    ensures y { (64 ≤ result.y) × (result.y < 2 ^ 41) }
 {
     Place {
-        x: side_x(nodes, arrow.from),
-        y: row_y(arrow.sent),
+        x: side_x(nodes, sent.from),
+        y: row_y(sent.row),
     }
 }
 
-/// Where an arrow ends.
-fn tip_of(nodes: u8, arrow: &Arrow) -> Place
-    ensures exactly { result ≡ tip_of nodes arrow.now }
-    ensures within { (8 ≤ result.x) × (result.x ≤ 60000) × (64 ≤ result.y) × (result.y < 2 ^ 41) }
+/// Where an arrow ends whose datagram is delivered in a row.
+fn end_of(nodes: u8, sent: &Sent, row: u32) -> Place
+    ensures exactly { result ≡ end_of nodes sent.now row }
+    ensures x { (8 ≤ result.x) × (result.x ≤ 60000) }
+    ensures y { (64 ≤ result.y) × (result.y < 2 ^ 41) }
 {
-    let to = side_x(nodes, arrow.to);
-    match arrow.fate {
-        Fate::Never => Place {
-            x: (side_x(nodes, arrow.from) + to) / 2,
-            y: row_y(arrow.sent) + 12,
-        },
-        _ => Place {
-            x: to,
-            y: row_y(arrow.came),
-        },
+    Place {
+        x: side_x(nodes, sent.to),
+        y: row_y(row),
+    }
+}
+
+/// Where an arrow ends whose datagram is never delivered.
+fn half_way(nodes: u8, sent: &Sent) -> Place
+    ensures exactly { result ≡ half_way nodes sent.now }
+    ensures x { (8 ≤ result.x) × (result.x ≤ 60000) }
+    ensures y { (64 ≤ result.y) × (result.y < 2 ^ 41) }
+{
+    Place {
+        x: (side_x(nodes, sent.from) + side_x(nodes, sent.to)) / 2,
+        y: row_y(sent.row) + 12,
     }
 }
 
@@ -162,14 +169,19 @@ fn write_cross(tip: Place, out: &mut String) -> Result<(), AllocError>
 }
 
 /// Appends what stands at an arrow's end.
-fn write_end(fate: Fate, start: Place, tip: Place, out: &mut String) -> Result<(), AllocError>
+fn write_tip(
+    arrival: Arrival,
+    start: Place,
+    tip: Place,
+    out: &mut String,
+) -> Result<(), AllocError>
     requires x { (8 ≤ tip.x) × (tip.x ≤ 60000) }
     requires y { (64 ≤ tip.y) × (tip.y < 2 ^ 41) }
-    ensures { OnOk result (string_bytes out.new ≡ string_bytes out.old ++ end_text fate start tip) }
+    ensures { OnOk result (string_bytes out.new ≡ string_bytes out.old ++ tip_text arrival start tip) }
 {
-    match fate {
-        Fate::Comes => write_head(start, tip, out),
-        _ => write_cross(tip, out),
+    match arrival {
+        Arrival::Taken => write_head(start, tip, out),
+        Arrival::Lost => write_cross(tip, out),
     }
 }
 
@@ -185,15 +197,47 @@ fn middle(start: Place, tip: Place) -> Place
     }
 }
 
-/// Appends an arrow.
-fn write_arrow(nodes: u8, arrow: &Arrow, out: &mut String) -> Result<(), AllocError>
-    ensures { OnOk result (string_bytes out.new ≡ string_bytes out.old ++ arrow_text nodes arrow.now) }
+/// Appends an arrow to a place.
+fn write_arrow(
+    nodes: u8,
+    sent: &Sent,
+    arrival: Arrival,
+    tip: Place,
+    out: &mut String,
+) -> Result<(), AllocError>
+    requires x { (8 ≤ tip.x) × (tip.x ≤ 60000) }
+    requires y { (64 ≤ tip.y) × (tip.y < 2 ^ 41) }
+    ensures { OnOk result (string_bytes out.new ≡ string_bytes out.old ++ arrow_text nodes sent.now arrival tip) }
 {
-    let start = start_of(nodes, arrow);
-    let tip = tip_of(nodes, arrow);
+    let start = start_of(nodes, sent);
     write_line(Style::Arrow, Tint::Plain, start, tip, out)?;
-    write_end(arrow.fate, start, tip, out)?;
-    write_words(Style::Label, middle(start, tip), arrow.words.as_bytes(), out)
+    write_tip(arrival, start, tip, out)?;
+    write_words(Style::Label, middle(start, tip), sent.words.as_bytes(), out)
+}
+
+/// Appends the arrow of a delivery.
+fn write_delivery(
+    nodes: u8,
+    all: &[Sent],
+    delivery: &Delivery,
+    out: &mut String,
+) -> Result<(), AllocError>
+    ensures { OnOk result (string_bytes out.new ≡ string_bytes out.old ++ delivery_text nodes all.now delivery.now) }
+{
+    let Some(sent) = all.get(delivery.number) else {
+        return Ok(());
+    };
+    write_arrow(nodes, sent, delivery.arrival, end_of(nodes, sent, delivery.row), out)
+}
+
+/// Appends the arrow of a datagram that is never delivered, if it is one.
+fn write_sent(nodes: u8, sent: &Sent, out: &mut String) -> Result<(), AllocError>
+    ensures { OnOk result (string_bytes out.new ≡ string_bytes out.old ++ sent_text nodes sent.now) }
+{
+    if sent.came {
+        return Ok(());
+    }
+    write_arrow(nodes, sent, Arrival::Lost, half_way(nodes, sent), out)
 }
 
 /// Appends moments.
@@ -226,12 +270,27 @@ fn write_notes(nodes: u8, notes: &[Note], out: &mut String) -> Result<(), AllocE
     Ok(())
 }
 
-/// Appends arrows.
-fn write_arrows(nodes: u8, arrows: &[Arrow], out: &mut String) -> Result<(), AllocError>
-    ensures { OnOk result (string_bytes out.new ≡ string_bytes out.old ++ flat_map (arrow_text nodes) arrows.now) }
+/// Appends the arrows of what is never delivered.
+fn write_all_sent(nodes: u8, all: &[Sent], out: &mut String) -> Result<(), AllocError>
+    ensures { OnOk result (string_bytes out.new ≡ string_bytes out.old ++ flat_map (sent_text nodes) all.now) }
 {
-    for arrow in arrows {
-        write_arrow(nodes, arrow, out)?;
+    for sent in all {
+        write_sent(nodes, sent, out)?;
+    }
+    Ok(())
+}
+
+/// Appends the arrows of deliveries.
+fn write_deliveries(
+    nodes: u8,
+    all: &[Sent],
+    deliveries: &[Delivery],
+    out: &mut String,
+) -> Result<(), AllocError>
+    ensures { OnOk result (string_bytes out.new ≡ string_bytes out.old ++ flat_map (delivery_text nodes all.now) deliveries.now) }
+{
+    for delivery in deliveries {
+        write_delivery(nodes, all, delivery, out)?;
     }
     Ok(())
 }
@@ -243,7 +302,8 @@ fn write_parts(chart: &Chart, out: &mut String) -> Result<(), AllocError>
     write_ticks(chart.nodes, chart.ticks.as_slice(), out)?;
     write_bars(chart.nodes, chart.bars.as_slice(), out)?;
     write_notes(chart.nodes, chart.notes.as_slice(), out)?;
-    write_arrows(chart.nodes, chart.arrows.as_slice(), out)
+    write_all_sent(chart.nodes, chart.sent.as_slice(), out)?;
+    write_deliveries(chart.nodes, chart.sent.as_slice(), chart.deliveries.as_slice(), out)
 }
 
 /// Appends a chart as one SVG (SVG 1.1): no script, and nothing from elsewhere. A page of up to eight nodes is at most 1,200

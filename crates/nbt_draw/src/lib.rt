@@ -13,7 +13,7 @@ mod layout;
 mod shape;
 mod style;
 
-pub use chart::{Arrow, Bar, Chart, Fate, Note, Side, Tick};
+pub use chart::{Arrival, Bar, Chart, Delivery, Note, Sent, Side, Tick};
 pub use escape::write_escaped;
 pub use label::write_label;
 pub use layout::write_chart;

@@ -28,7 +28,9 @@ pub enum Style {
     Moment,
     /// What happens at an end.
     Mark,
-    /// What a datagram or a bar is.
+    /// What a bar is.
+    Name,
+    /// What a datagram says.
     Label,
 }
 
@@ -63,6 +65,7 @@ impl Style {
             Style::Head => "head",
             Style::Moment => "moment",
             Style::Mark => "mark",
+            Style::Name => "name",
             Style::Label => "label",
         }
     }
@@ -90,5 +93,5 @@ impl Tint {
 pub fn sheet() -> &'static str
     ensures { result.now ≡ sheet }
 {
-    "svg{background:#fff;color:#222;font:11px sans-serif}text{fill:currentColor}line{stroke:currentColor}.up{stroke-width:2}.silence{stroke:#999;stroke-width:12}.hold,.group{stroke-width:8}.group{stroke-dasharray:3 3}.lease{stroke-width:3}.gap{stroke:#999;stroke-dasharray:1 5}.cross{stroke-width:2}.head{font-weight:bold;text-anchor:middle}.mark{text-anchor:end}line.orange{stroke:#e69f00}line.sky{stroke:#56b4e9}line.green{stroke:#009e73}line.yellow{stroke:#f0e442}line.blue{stroke:#0072b2}line.vermilion{stroke:#d55e00}line.purple{stroke:#cc79a7}@media(prefers-color-scheme:dark){svg{background:#161616;color:#e6e6e6}}"
+    "svg{background:#fff;color:#222;font:11px sans-serif}text{fill:currentColor}line{stroke:currentColor}.up{stroke-width:2}.silence{stroke:#999;stroke-width:12}.hold,.group{stroke-width:8}.group{stroke-dasharray:3 3}.lease{stroke-width:3}.gap{stroke:#999;stroke-dasharray:1 5}.cross{stroke-width:2}.head{font-weight:bold;text-anchor:middle}.mark{text-anchor:end}.label{text-anchor:middle;paint-order:stroke;stroke:#fff;stroke-width:3}line.orange{stroke:#e69f00}line.sky{stroke:#56b4e9}line.green{stroke:#009e73}line.yellow{stroke:#f0e442}line.blue{stroke:#0072b2}line.vermilion{stroke:#d55e00}line.purple{stroke:#cc79a7}@media(prefers-color-scheme:dark){svg{background:#161616;color:#e6e6e6}.label{stroke:#161616}}"
 }

@@ -5,6 +5,7 @@ use nbt_server::Server;
 use nbt_text::octets_of;
 use std::test::Fail;
 
+mod draw;
 mod engine;
 mod lines;
 mod lookups;
