@@ -4,5 +4,9 @@
 pub mod Reading
 -- what is read has no octet that XML would take otherwise
 pub mod Quiet
+-- words that are read as they stand, and names
+pub mod Plain
+-- a chart's picture is one element
+pub mod WellFormed
 -- texts written one after another
 pub mod Joining

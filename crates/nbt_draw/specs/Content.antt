@@ -12,7 +12,7 @@ abbrev pub IsDigit : ℕ → Type 0
 IsDigit c = (0x30 ≤ c) × (c ≤ 0x39)
 
 pub data IsName : List ℕ → Type 0 where
-  name : (letter : ℕ) (others : List ℕ) → IsLetter letter → All (λ c. IsLetter c ⊎ IsDigit c) others → IsName (letter ∷ others)
+  named : (letter : ℕ) (others : List ℕ) → IsLetter letter → All (λ c. IsLetter c ⊎ IsDigit c) others → IsName (letter ∷ others)
 
 -- each attribute has a name, and a value that is read as a text
 pub data AreAttributes : List ℕ → Type 0 where

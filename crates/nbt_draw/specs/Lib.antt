@@ -4,4 +4,6 @@ pub mod Escape
 pub mod Inner
 pub mod Labels
 pub mod Layouts
+pub mod Marks
+pub mod Records
 pub mod Shapes

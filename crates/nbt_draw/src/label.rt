@@ -69,7 +69,7 @@ fn write_reply(message: &Message<'_>, out: &mut String) -> Result<(), AllocError
 }
 
 /// Appends words, a name, and words.
-fn write_named(front: &str, name: &Name, back: &str, out: &mut String) -> Result<(), AllocError>
+pub fn write_named(front: &str, name: &Name, back: &str, out: &mut String) -> Result<(), AllocError>
     ensures { OnOk result ((label : List ℕ) × (string_bytes out.new ≡ string_bytes out.old ++ label) × Named front.now name.now back.now label) }
 {
     out.push_str(front)?;
@@ -116,14 +116,14 @@ fn write_refusal(rcode: u8, out: &mut String) -> Result<(), AllocError>
 }
 
 /// Appends some seconds.
-fn write_seconds(seconds: u32, out: &mut String) -> Result<(), AllocError>
+pub fn write_seconds(seconds: u32, out: &mut String) -> Result<(), AllocError>
     ensures { OnOk result (string_bytes out.new ≡ string_bytes out.old ++ seconds_words seconds) }
 {
     write!(out, " {seconds} s")
 }
 
 /// The word for a group.
-fn kind_words(kind: Kind) -> &'static str
+pub fn kind_words(kind: Kind) -> &'static str
     ensures { result.now ≡ kind_words kind }
 {
     match kind {

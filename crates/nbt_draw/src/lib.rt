@@ -10,6 +10,8 @@ mod escape;
 mod label;
 pub mod laws;
 mod layout;
+mod mark;
+mod record;
 mod shape;
 mod style;
 
@@ -17,5 +19,6 @@ pub use chart::{Arrival, Bar, Chart, Delivery, Note, Sent, Side, Tick};
 pub use escape::write_escaped;
 pub use label::write_label;
 pub use layout::write_chart;
+pub use mark::{delivery_of, end_of, write_mark};
 pub use shape::{Place, write_line, write_words};
 pub use style::{Style, Tint};

@@ -25,7 +25,7 @@ const LABELS: [&str; 12] = [
     "refresh FRED 60 s",
     "release FRED",
     "query FRED",
-    "status request *",
+    "status request hex:2a000000000000000000000000000000",
     "positive 60 s",
     "positive",
     "found 2",
