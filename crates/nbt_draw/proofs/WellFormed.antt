@@ -1,5 +1,5 @@
 -- A chart's picture is one element, whose parts are elements in turn.
-use Rattle.std.proofs.Common.{◌≡◌, ℕ, zero, suc, List, [], ◌∷◌, ◌++◌, All, Option, Some, None, Bool, true, false, flat_map, append_assoc, refl, sym, subst}
+use Rattle.std.proofs.Common.{◌≡◌, ℕ, zero, suc, List, [], ◌∷◌, ◌++◌, All, Option, Some, None, Bool, true, false, if◌then◌else◌, flat_map, append_assoc, refl, sym, subst}
 use Rattle.std.specs.Prelude.{codes, slice_get}
 use Rattle.std.specs.Fmt.{decimal}
 use Rattle.std.specs.String.{string_bytes}
@@ -23,7 +23,7 @@ use Rattle.nbt_draw.specs.declared.style.Tint.TheVariants.{Plain, Vermilion}
 use Rattle.nbt_draw.specs.Charts.{page_attributes, parts_text, chart_text, HasOctets}
 use Rattle.nbt_draw.specs.Content.{IsName, AreAttributes, no_attribute, one_attribute, IsContent, nothing, text, line_end, empty, enclosed, IsDocument}
 use Rattle.nbt_draw.specs.Escape.{escaped, Reads}
-use Rattle.nbt_draw.specs.Layouts.{at, row_y, page_width, page_height, column_x, bar_x, start_of, end_of, half_way, behind, middle, tick_text, note_text, bar_text, head_text, cross_text, tip_text, arrow_text, delivered_text, delivery_text, sent_text}
+use Rattle.nbt_draw.specs.Layouts.{spot, row_y, page_width, page_height, column_x, bar_x, start_of, end_of, half_way, behind, middle, tick_text, note_text, bar_text, head_text, cross_text, tip_text, arrow_text, delivered_text, delivery_text, sent_text}
 use Rattle.nbt_draw.specs.Shapes.{attribute, empty_element, element, style_word, tint_word, sheet, line, words, line_attributes, words_attributes, shape_text}
 use Rattle.nbt_draw.proofs.Plain.{word_read, style_read, tint_read, join_read, sheet_read, number_read, name_is}
 use Rattle.nbt_draw.proofs.Reading.{read_back}

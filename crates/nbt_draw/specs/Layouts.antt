@@ -18,8 +18,8 @@ use Rattle.nbt_draw.specs.Shapes.{line, words, shape_text}
 
 -- ---- columns and rows
 
-abbrev pub at : (x y : ℕ) → Place
-at x y = record { x = x; y = y }
+abbrev pub spot : (x y : ℕ) → Place
+spot x y = record { x = x; y = y }
 
 -- up to four nodes have wide columns: a page is at most 1,200 wide either way
 abbrev pub column_x : (nodes column : ℕ) → ℕ
@@ -43,12 +43,12 @@ side_x nodes (Column column) = column_x nodes column
 -- a dotted line over the whole page, and the moment
 abbrev pub tick_text : (nodes : ℕ) → Tick → List ℕ
 tick_text nodes tick =
-    shape_text (line s.Gap Plain (at 0 (row_y tick.row)) (at (page_width nodes) (row_y tick.row)))
-    ++ shape_text (words s.Moment (at 8 (row_y tick.row - 3)) (string_bytes tick.words))
+    shape_text (line s.Gap Plain (spot 0 (row_y tick.row)) (spot (page_width nodes) (row_y tick.row)))
+    ++ shape_text (words s.Moment (spot 8 (row_y tick.row - 3)) (string_bytes tick.words))
 
 -- words to the left of a column
 abbrev pub note_text : (nodes : ℕ) → Note → List ℕ
-note_text nodes note = shape_text (words note.style (at (column_x nodes note.column - 6) (row_y note.row + 4)) (string_bytes note.words))
+note_text nodes note = shape_text (words note.style (spot (column_x nodes note.column - 6) (row_y note.row + 4)) (string_bytes note.words))
 
 -- a line to the right of a column, further out by its slot, and what it is beside its beginning
 abbrev pub bar_x : (nodes : ℕ) → Bar → ℕ
@@ -56,20 +56,20 @@ bar_x nodes bar = column_x nodes bar.column + 10 * bar.slot
 
 abbrev pub bar_text : (nodes : ℕ) → Bar → List ℕ
 bar_text nodes bar =
-    shape_text (line bar.style bar.tint (at (bar_x nodes bar) (row_y bar.from)) (at (bar_x nodes bar) (row_y bar.to)))
-    ++ shape_text (words s.Name (at (bar_x nodes bar + 6) (row_y bar.from + 12)) (string_bytes bar.words))
+    shape_text (line bar.style bar.tint (spot (bar_x nodes bar) (row_y bar.from)) (spot (bar_x nodes bar) (row_y bar.to)))
+    ++ shape_text (words s.Name (spot (bar_x nodes bar + 6) (row_y bar.from + 12)) (string_bytes bar.words))
 
 -- ---- arrows
 
 abbrev pub start_of : (nodes : ℕ) → Sent → Place
-start_of nodes sent = at (side_x nodes sent.from) (row_y sent.row)
+start_of nodes sent = spot (side_x nodes sent.from) (row_y sent.row)
 
 -- where a datagram is that is delivered in a row, and one that never is: half way, and half a row below its sending
 abbrev pub end_of : (nodes : ℕ) → Sent → (row : ℕ) → Place
-end_of nodes sent row = at (side_x nodes sent.to) (row_y row)
+end_of nodes sent row = spot (side_x nodes sent.to) (row_y row)
 
 abbrev pub half_way : (nodes : ℕ) → Sent → Place
-half_way nodes sent = at ((side_x nodes sent.from + side_x nodes sent.to) / 2) (row_y sent.row + 12)
+half_way nodes sent = spot ((side_x nodes sent.from + side_x nodes sent.to) / 2) (row_y sent.row + 12)
 
 -- the two lines of a head, behind the tip
 abbrev pub behind : (start tip : Place) → ℕ
@@ -77,13 +77,13 @@ behind start tip = if nat_le start.x tip.x then tip.x - 8 else tip.x + 8
 
 abbrev pub head_text : (start tip : Place) → List ℕ
 head_text start tip =
-    shape_text (line s.Arrow Plain (at (behind start tip) (tip.y - 4)) tip)
-    ++ shape_text (line s.Arrow Plain (at (behind start tip) (tip.y + 4)) tip)
+    shape_text (line s.Arrow Plain (spot (behind start tip) (tip.y - 4)) tip)
+    ++ shape_text (line s.Arrow Plain (spot (behind start tip) (tip.y + 4)) tip)
 
 abbrev pub cross_text : (tip : Place) → List ℕ
 cross_text tip =
-    shape_text (line s.Cross Vermilion (at (tip.x - 5) (tip.y - 5)) (at (tip.x + 5) (tip.y + 5)))
-    ++ shape_text (line s.Cross Vermilion (at (tip.x - 5) (tip.y + 5)) (at (tip.x + 5) (tip.y - 5)))
+    shape_text (line s.Cross Vermilion (spot (tip.x - 5) (tip.y - 5)) (spot (tip.x + 5) (tip.y + 5)))
+    ++ shape_text (line s.Cross Vermilion (spot (tip.x - 5) (tip.y + 5)) (spot (tip.x + 5) (tip.y - 5)))
 
 -- a head where it is taken, and a cross where it is lost
 abbrev pub tip_text : Arrival → (start tip : Place) → List ℕ
@@ -92,7 +92,7 @@ tip_text Lost start tip = cross_text tip
 
 -- what a datagram says stands above its middle
 abbrev pub middle : (start tip : Place) → Place
-middle start tip = at ((start.x + tip.x) / 2) ((start.y + tip.y) / 2 - 4)
+middle start tip = spot ((start.x + tip.x) / 2) ((start.y + tip.y) / 2 - 4)
 
 abbrev pub arrow_text : (nodes : ℕ) → Sent → Arrival → (tip : Place) → List ℕ
 arrow_text nodes sent arrival tip =

@@ -13,16 +13,22 @@ use std::alloc::AllocError;
 /// Where the server's column is.
 const LEFT: u32 = 140;
 
-/// From one column to the next, where there are up to four nodes, and where there are more.
+/// From one column to the next, where there are up to four nodes.
 const WIDE: u32 = 200;
-const NARROW: u32 = 116;
+
+/// The most nodes with wide columns.
 const WIDE_MOST: u8 = 4;
+
+/// From one column to the next, where there are more.
+const NARROW: u32 = 116;
 
 /// What stands to the right of the last column.
 const RIGHT: u32 = 132;
 
-/// Where the first row is, and from one row to the next.
+/// Where the first row is.
 const TOP: u64 = 64;
+
+/// From one row to the next.
 const ROW: u64 = 24;
 
 /// From one bar to the next.

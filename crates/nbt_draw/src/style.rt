@@ -39,12 +39,19 @@ pub enum Style {
 pub enum Tint {
     /// That of the text.
     Plain,
+    /// Orange.
     Orange,
+    /// Sky blue.
     Sky,
+    /// Bluish green.
     Green,
+    /// Yellow.
     Yellow,
+    /// Blue.
     Blue,
+    /// Vermilion.
     Vermilion,
+    /// Reddish purple.
     Purple,
 }
 
