@@ -1,11 +1,13 @@
 //! A chart that grows by a row for each event of a run.
 
 ghost use Rattle.std.specs.Prelude.{◌≡◌, ◌+◌, ◌-◌, ◌^◌, min, false, [], ◌∷◌, ◌++◌, OnOk, OnErr};
-ghost use Rattle.nbt_draw.specs.Records.{came_at, number_tint, hold_style, hold_bar};
+ghost use Rattle.nbt_draw.specs.Records.{came_at, number_tint, hold_style, hold_bar, column_in, AddsMark, Takes};
 
 use crate::chart::{Bar, Chart, Delivery, Note, Sent, Side, Tick};
+use crate::mark::{delivery_of, end_of, write_mark};
 use crate::style::{Style, Tint};
 use nbt_name::Kind;
+use nbt_world::{Event, Outcome};
 use std::alloc::AllocError;
 
 /// How many names have a colour and a place beside a column of their own (our profile).
@@ -102,6 +104,40 @@ impl Chart {
             words,
         })
     }
+
+    /// What an end does, and what came of it, stands at its column, where it has one.
+    fn add_mark(&mut self, event: &Event, outcome: Outcome) -> Result<(), AllocError>
+        ensures ok { OnOk result (AddsMark self.old event.now outcome self.new.notes.items) }
+        ensures others { self.new ≡ record self.old { notes = self.new.notes } }
+    {
+        let Some(column) = column_of(self.nodes, event) else {
+            return Ok(());
+        };
+        let mut words = String::new(*self.notes.allocator());
+        write_mark(event, outcome, &mut words)?;
+        self.add_note(Style::Mark, column, words)
+    }
+
+    /// An event takes the next row: its words stand at its end's column, and a delivery is one of a datagram that was sent.
+    /// With `AllocError` nothing is said of the chart.
+    pub fn take(&mut self, event: &Event, outcome: Outcome) -> Result<(), AllocError>
+        ensures { OnOk result (Takes self.old event.now outcome self.new) }
+    {
+        self.begin_row();
+        self.add_mark(event, outcome)?;
+        match delivery_of(self.rows, event, outcome) {
+            Some(delivery) => self.add_delivery(delivery),
+            None => Ok(()),
+        }
+    }
+}
+
+/// The column of the end that does something, where a chart of so many nodes has it.
+fn column_of(nodes: u8, event: &Event) -> Option<u8>
+    ensures { result ≡ column_in nodes event.now }
+{
+    let number = end_of(event)?;
+    if number <= usize::from(nodes) { Some(number as u8) } else { None }
 }
 
 /// What a hold looks like.
