@@ -23,7 +23,7 @@ use Rattle.nbt_draw.specs.declared.style.Tint.TheVariants.{Plain, Vermilion}
 use Rattle.nbt_draw.specs.Charts.{page_attributes, parts_text, chart_text, HasOctets}
 use Rattle.nbt_draw.specs.Content.{IsName, AreAttributes, no_attribute, one_attribute, IsContent, nothing, text, line_end, empty, enclosed, IsDocument}
 use Rattle.nbt_draw.specs.Escape.{escaped, Reads}
-use Rattle.nbt_draw.specs.Layouts.{spot, row_y, page_width, page_height, column_x, bar_x, start_of, end_of, half_way, behind, middle, tick_text, note_text, bar_text, head_text, cross_text, tip_text, arrow_text, delivered_text, delivery_text, sent_text}
+use Rattle.nbt_draw.specs.Layouts.{spot, row_y, page_width, page_height, column_x, bar_x, start_of, end_of, half_way, behind, middle, tick_text, note_text, name_text, bar_text, head_text, cross_text, tip_text, arrow_text, delivered_text, delivery_text, sent_text}
 use Rattle.nbt_draw.specs.Shapes.{attribute, empty_element, element, style_word, tint_word, sheet, line, words, line_attributes, words_attributes, shape_text}
 use Rattle.nbt_draw.proofs.Plain.{word_read, style_read, tint_read, join_read, sheet_read, number_read, name_is}
 use Rattle.nbt_draw.proofs.Reading.{read_back}
@@ -92,8 +92,12 @@ tick_content nodes tick fits = join _ _ (line_content s.Gap Plain _ _) (words_co
 note_content : (nodes : ℕ) (note : Note) → AreOctets (string_bytes note.words) → IsContent (note_text nodes note)
 note_content nodes note fits = words_content note.style _ (string_bytes note.words) fits
 
+name_content : (place : Place) (octets : List ℕ) → AreOctets octets → IsContent (name_text place octets)
+name_content place [] fits = nothing
+name_content place (letter ∷ letters) fits = words_content s.Name place (letter ∷ letters) fits
+
 bar_content : (nodes : ℕ) (bar : Bar) → AreOctets (string_bytes bar.words) → IsContent (bar_text nodes bar)
-bar_content nodes bar fits = join _ _ (line_content bar.style bar.tint _ _) (words_content s.Name _ (string_bytes bar.words) fits)
+bar_content nodes bar fits = join _ _ (line_content bar.style bar.tint _ _) (name_content _ (string_bytes bar.words) fits)
 
 tip_content : (arrival : Arrival) (start tip : Place) → IsContent (tip_text arrival start tip)
 tip_content Taken start tip = join _ _ (line_content s.Arrow Plain _ _) (line_content s.Arrow Plain _ _)

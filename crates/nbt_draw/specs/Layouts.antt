@@ -1,5 +1,5 @@
 -- Where the columns and rows of a chart are, in pixels, and which lines and words show what stands in them (our profile).
-use Rattle.std.specs.Prelude.{ℕ, ◌+◌, ◌-◌, ◌*◌, ◌/◌, nat_le, if◌then◌else◌, List, [], ◌++◌, slice_get, Option, Some, None}
+use Rattle.std.specs.Prelude.{ℕ, ◌+◌, ◌-◌, ◌*◌, ◌/◌, nat_le, if◌then◌else◌, List, [], ◌∷◌, ◌++◌, slice_get, Option, Some, None}
 use Rattle.std.specs.String.{string_bytes}
 use Rattle.nbt_draw.specs.declared.style.Style.{Style}
 use Rattle.nbt_draw.specs.declared.style.Style.TheVariants as s
@@ -50,6 +50,11 @@ tick_text nodes tick =
 abbrev pub note_text : (nodes : ℕ) → Note → List ℕ
 note_text nodes note = shape_text (words note.style (spot (column_x nodes note.column - 6) (row_y note.row + 4)) (string_bytes note.words))
 
+-- what a bar is, where that is to be said
+abbrev pub name_text : Place → List ℕ → List ℕ
+name_text place [] = []
+name_text place (letter ∷ letters) = shape_text (words s.Name place (letter ∷ letters))
+
 -- a line to the right of a column, further out by its slot, and what it is beside its beginning
 abbrev pub bar_x : (nodes : ℕ) → Bar → ℕ
 bar_x nodes bar = column_x nodes bar.column + 10 * bar.slot
@@ -57,7 +62,7 @@ bar_x nodes bar = column_x nodes bar.column + 10 * bar.slot
 abbrev pub bar_text : (nodes : ℕ) → Bar → List ℕ
 bar_text nodes bar =
     shape_text (line bar.style bar.tint (spot (bar_x nodes bar) (row_y bar.from)) (spot (bar_x nodes bar) (row_y bar.to)))
-    ++ shape_text (words s.Name (spot (bar_x nodes bar + 6) (row_y bar.from + 12)) (string_bytes bar.words))
+    ++ name_text (spot (bar_x nodes bar + 6) (row_y bar.from + 12)) (string_bytes bar.words)
 
 -- ---- arrows
 

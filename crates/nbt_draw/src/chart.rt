@@ -20,7 +20,7 @@ pub struct Bar {
     pub from: u32,
     /// The row that it ends in.
     pub to: u32,
-    /// What it is, as `FRED`.
+    /// What it is, as `FRED`; empty where that is said above.
     pub words: String,
 }
 

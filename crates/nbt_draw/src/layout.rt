@@ -3,7 +3,7 @@
 ghost use Rattle.std.specs.Prelude.{◌≡◌, ◌≤◌, ◌<◌, ◌^◌, ◌++◌, OnOk, flat_map};
 ghost use Rattle.std.specs.String.{string_bytes};
 ghost use Rattle.nbt_draw.specs.Charts.{chart_text, parts_text};
-ghost use Rattle.nbt_draw.specs.Layouts.{column_x, row_y, page_width, page_height, side_x, tick_text, note_text, bar_text, start_of, end_of, half_way, head_text, cross_text, tip_text, middle, arrow_text, delivery_text, sent_text};
+ghost use Rattle.nbt_draw.specs.Layouts.{column_x, row_y, page_width, page_height, side_x, tick_text, note_text, name_text, bar_text, start_of, end_of, half_way, head_text, cross_text, tip_text, middle, arrow_text, delivery_text, sent_text};
 
 use crate::chart::{Arrival, Bar, Chart, Delivery, Note, Sent, Side, Tick};
 use crate::shape::{Place, write_line, write_words};
@@ -102,6 +102,16 @@ fn write_note(nodes: u8, note: &Note, out: &mut String) -> Result<(), AllocError
     write_words(note.style, Place { x, y }, note.words.as_bytes(), out)
 }
 
+/// Appends what a bar is, where it says so.
+fn write_bar_name(place: Place, words: &[u8], out: &mut String) -> Result<(), AllocError>
+    ensures { OnOk result (string_bytes out.new ≡ string_bytes out.old ++ name_text place words.now) }
+{
+    if words.is_empty() {
+        return Ok(());
+    }
+    write_words(Style::Name, place, words, out)
+}
+
 /// Appends a bar.
 fn write_bar(nodes: u8, bar: &Bar, out: &mut String) -> Result<(), AllocError>
     ensures { OnOk result (string_bytes out.new ≡ string_bytes out.old ++ bar_text nodes bar.now) }
@@ -110,7 +120,7 @@ fn write_bar(nodes: u8, bar: &Bar, out: &mut String) -> Result<(), AllocError>
     let from = row_y(bar.from);
     let to = row_y(bar.to);
     write_line(bar.style, bar.tint, Place { x, y: from }, Place { x, y: to }, out)?;
-    write_words(Style::Name, Place { x: x + 6, y: from + 12 }, bar.words.as_bytes(), out)
+    write_bar_name(Place { x: x + 6, y: from + 12 }, bar.words.as_bytes(), out)
 }
 
 /// Where an arrow begins.
