@@ -108,9 +108,12 @@ onto_plain (suc k) n acc all =
       | inr e ↦ rw e (onto_plain k (n / 10) (digit_glyph false (n % 10) ∷ acc) more)
     ]
 
-pub number_read : (n : ℕ) → Reads (decimal n) (decimal n)
+decimal_plain : (n : ℕ) → All IsPlain (decimal n)
 unfolding digits
-number_read n = plain_read (decimal n) (onto_plain 64 n [] (All-nil IsPlain))
+decimal_plain n = onto_plain 64 n [] (All-nil IsPlain)
+
+pub number_read : (n : ℕ) → Reads (decimal n) (decimal n)
+number_read n = plain_read (decimal n) (decimal_plain n)
 
 -- ---- names
 

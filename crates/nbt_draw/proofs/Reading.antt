@@ -1,5 +1,5 @@
 -- What is written of octets is read as these octets, and as no others.
-use Rattle.std.proofs.Common.{◌≡◌, ℕ, zero, suc, ◌+◌, ◌*◌, ◌/◌, ◌%◌, ◌<◌, ◌≤◌, nat_eq, nat_lt, ◌||◌, if◌then◌else◌, List, [], ◌∷◌, ◌++◌, drop, flat_map, unwrap_or, Some, inl, inr, refl, sym, ap, ap₂, ◌∙◌, subst, arith}
+use Rattle.std.proofs.Common.{◌≡◌, ℕ, zero, suc, ◌+◌, ◌*◌, ◌/◌, ◌%◌, ◌<◌, ◌≤◌, nat_eq, nat_lt, ◌||◌, if◌then◌else◌, List, [], ◌∷◌, ◌++◌, drop, flat_map, unwrap_or, Option, Some, inl, inr, refl, sym, ap, ap₂, ◌∙◌, subst, arith}
 use Rattle.std.specs.Prelude.{slice_index}
 use Rattle.std.proofs.lemmas.Bool.{ne_eqb, le-ltb, lt-ltb, cases_eq, cases_lt}
 use Rattle.hex.specs.Hex.{encode_with, encode_lower, hex_digit_value, lower_digits}
@@ -74,7 +74,9 @@ digits_are octet fits =
     let high : octet / 16 < 16 = omega arith in
     let low : octet % 16 < 16 = omega arith in
     let whole : octet / 16 * 16 + octet % 16 ≡ octet = omega arith in
-    rw (IsDigits-lower_digits (octet / 16) high, IsDigits-lower_digits (octet % 16) low) whole
+    let first : digit_of (slice_index lower_digits (octet / 16)) ≡ octet / 16 = ap (λ (o : Option ℕ). unwrap_or o 0) (IsDigits-lower_digits (octet / 16) high) in
+    let second : digit_of (slice_index lower_digits (octet % 16)) ≡ octet % 16 = ap (λ (o : Option ℕ). unwrap_or o 0) (IsDigits-lower_digits (octet % 16) low) in
+    ap₂ (λ (x y : ℕ). x * 16 + y) first second ∙ whole
 
 first_is : (first xml : List ℕ) (octet : ℕ) → Stands first octet → parted (first ++ xml) ≡ (octet, xml)
 unfolding encode_with
