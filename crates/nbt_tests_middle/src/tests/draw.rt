@@ -129,12 +129,32 @@ fn add_datagrams<R: AllocGlobal>(rt: &R, chart: &mut Chart) -> Result<(), Fail> 
     Ok(())
 }
 
+/// Whether each element is closed where it was opened.
+fn is_balanced(text: &str) -> bool {
+    let mut depth: u64 = 0;
+    for piece in text.split('<').skip(1) {
+        let Some((tag, _)) = piece.split_once('>') else {
+            return false;
+        };
+        if tag.strip_prefix("/").is_some() {
+            if depth == 0 {
+                return false;
+            }
+            depth -= 1;
+        } else if tag.strip_suffix("/").is_none() {
+            depth = depth.saturating_add(1);
+        }
+    }
+    depth == 0
+}
+
 #[test]
 fn a_small_chart_word_for_word(rt: HostRuntime) -> Result<(), Fail> {
     let mut chart = small_chart(&rt)?;
     add_datagrams(&rt, &mut chart)?;
     let mut text = String::new(rt.alloc());
     write_chart(&chart, &mut text)?;
+    assert!(&rt; is_balanced(text.as_str()));
     let (head, rest) = text.as_str().split_once("<style>").ok_or("no sheet")?;
     let (_, parts) = rest.split_once("</style>").ok_or("no end of the sheet")?;
     assert_eq!(&rt; HEAD.strip_suffix("<style>"), Some(head));
