@@ -55,14 +55,18 @@ const PARTS: &str = "</style>
 </svg>
 ";
 
-#[test]
-fn octets_of_any_value_are_escaped(rt: HostRuntime) -> Result<(), Fail> {
-    for (octets, expected) in &ESCAPED {
+fn expect_escaped<R: Abort + AllocGlobal>(rt: &R, rows: &[(&[u8], &str)]) -> Result<(), Fail> {
+    for (octets, expected) in rows {
         let mut text = String::from_str(rt.alloc(), "> ")?;
         write_escaped(*octets, &mut text)?;
-        assert_eq!(&rt; text.as_str().strip_prefix("> "), Some(*expected), "{expected}");
+        assert_eq!(rt; text.as_str().strip_prefix("> "), Some(*expected), "{expected}");
     }
     Ok(())
+}
+
+#[test]
+fn octets_of_any_value_are_escaped(rt: HostRuntime) -> Result<(), Fail> {
+    expect_escaped(&rt, &ESCAPED)
 }
 
 fn expect_label<R: Abort + AllocGlobal>(rt: &R, words: &str, expected: &str) -> Result<(), Fail> {
@@ -148,16 +152,20 @@ fn is_balanced(text: &str) -> bool {
     depth == 0
 }
 
+fn expect_picture<R: Abort + AllocGlobal>(rt: &R, chart: &Chart) -> Result<(), Fail> {
+    let mut text = String::new(rt.alloc());
+    write_chart(chart, &mut text)?;
+    assert!(rt; is_balanced(text.as_str()));
+    let (head, rest) = text.as_str().split_once("<style>").ok_or("no sheet")?;
+    let (_, parts) = rest.split_once("</style>").ok_or("no end of the sheet")?;
+    assert_eq!(rt; HEAD.strip_suffix("<style>"), Some(head));
+    assert_eq!(rt; PARTS.strip_prefix("</style>"), Some(parts));
+    Ok(())
+}
+
 #[test]
 fn a_small_chart_word_for_word(rt: HostRuntime) -> Result<(), Fail> {
     let mut chart = small_chart(&rt)?;
     add_datagrams(&rt, &mut chart)?;
-    let mut text = String::new(rt.alloc());
-    write_chart(&chart, &mut text)?;
-    assert!(&rt; is_balanced(text.as_str()));
-    let (head, rest) = text.as_str().split_once("<style>").ok_or("no sheet")?;
-    let (_, parts) = rest.split_once("</style>").ok_or("no end of the sheet")?;
-    assert_eq!(&rt; HEAD.strip_suffix("<style>"), Some(head));
-    assert_eq!(&rt; PARTS.strip_prefix("</style>"), Some(parts));
-    Ok(())
+    expect_picture(&rt, &chart)
 }
