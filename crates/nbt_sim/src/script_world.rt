@@ -23,10 +23,11 @@ const SERVER: u32 = 0x7F00_0001;
 /// The port of the name service (RFC 1002 section 6).
 const PORT: u16 = 137;
 
-/// A world.
+/// The world of a script.
 #[derive(Drop)]
 pub struct ScriptWorld {
-    world: World,
+    /// The world.
+    pub world: World,
 }
 
 impl ScriptWorld {

@@ -1,7 +1,9 @@
 //! The world: its events, one at a time and in a row.
 
-ghost use Rattle.std.specs.Prelude.{◌≡◌, ◌≤◌, ◌<◌, ◌↔◌, ℕ, Some, None, List, length, take, slice_get, slice_index, slice_index_or, IsOk, IsTrue, IfSome, IfOk, OnOk, IfErr, OnErr, MatchResult, Contains};
+ghost use Rattle.std.specs.Option.{option_copied};
+ghost use Rattle.std.specs.Prelude.{◌≡◌, ◌≢◌, IsNone, ◌≤◌, ◌<◌, ◌↔◌, ℕ, Some, None, List, length, take, slice_get, slice_index, slice_index_or, IsOk, IsTrue, IfSome, IfOk, OnOk, IfErr, OnErr, MatchResult, Contains};
 ghost use Rattle.nbt_name.specs.declared.addr.Kind.{Kind as KindValue};
+ghost use Rattle.nbt_world.specs.Drift.{reading};
 ghost use Rattle.nbt_world.specs.World.{WorldValue, AreAddrs, IsEnd, IsFresh, addr_of};
 ghost use Rattle.nbt_world.specs.Step.{Advances, Step, number_in, TakesNoMemory};
 ghost use Rattle.nbt_world.specs.Safety.{Run, holding, MayHold, IsSafe, RunsSafely};
@@ -305,6 +307,29 @@ impl World {
         ensures { result ≡ self.now.now.clock }
     {
         self.clocks.clock
+    }
+
+    /// What the end of this number reads, also while it is down: 0 is the server, and the nodes are numbered from 1. Takes no
+    /// memory.
+    pub fn reading(&self, number: usize) -> Moment
+        ensures { result ≡ reading self.now.now number }
+    {
+        self.clocks.reading(number)
+    }
+
+    /// The datagram of this number, counted from 0 in the order of sending. Takes no memory.
+    pub fn datagram(&self, number: usize) -> Option<&Datagram>
+        ensures { option_copied result ≡ slice_get self.now.sent number }
+    {
+        self.sent.as_slice().get(number)
+    }
+
+    /// The number of the end at this address and port, if there is one. Takes no memory.
+    pub fn end_at(&self, addr: Addr) -> Option<usize>
+        ensures found { IfSome result (λ number. addr_of self.now.ends number ≡ Some addr) }
+        ensures none { IsNone result → (number : ℕ) → addr_of self.now.ends number ≢ Some addr }
+    {
+        self.ends.find(addr)
     }
 
     /// How many ends the world has, the server among them: 2 to 9. Takes no memory.
