@@ -270,7 +270,7 @@ impl Run {
         else {
             return Ok(());
         };
-        if stage.world.reading(0).get() >= started.get() + config.quiet() {
+        if stage.world.reading(0).get() >= started.get() + 1000 * u64::from(config.longest()) {
             return Ok(());
         }
         let from = self.chart.rows;
