@@ -5,7 +5,6 @@
 mod clock;
 mod limits;
 mod node;
-mod port;
 mod serve;
 mod staying;
 

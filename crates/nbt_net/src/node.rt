@@ -8,9 +8,8 @@ ghost use Rattle.nbt_net.specs.Node.{Turns, BreaksTurns, CutsTurn, TakesTurns, E
 
 use crate::clock::readable_clock;
 use crate::limits::FOREVER;
-use crate::port::bound_port;
 use crate::staying::{node_on, tell_end_of};
-use nbt_engine::{Clock, Fault, MachineClock, Port, Seen, Want, node_turn};
+use nbt_engine::{Clock, Fault, MachineClock, Port, Seen, Want, bound_port, node_turn};
 use nbt_lease::{Config, Moment};
 use nbt_name::Addr;
 use nbt_node::Node;
@@ -36,14 +35,15 @@ pub struct NodeArguments {
     pub turns: Option<u64>,
 }
 
-/// Runs an end node on a UDP port of this machine, over its clock. It prints a line for each event as it comes, and after
-/// the last turn whether the name is held. Where there is no end, it stays up for 2^61 turns, also where the port fails: it says
-/// so in `errors`, waits 100 ms after each turn that failed, and goes on from where the call that failed left the node.
-/// Refused: `NoPort` where the port can't be had; `NoClock` where the clock can't be read at first; `Device` where the port
-/// fails, with a number of turns at the first call that does, and with no end at the hundredth turn in a row that fails;
-/// `Output` where a line can't be written to `writer`: at once after the turn in which the event was seen, or after all turns. Of
-/// each but the last a line in `errors` says which call of the machine failed, for which address, and why. What can't be
-/// written to `errors` is passed over. It takes no memory, and isn't refused with `Memory`.
+/// Runs an end node on a UDP port of this machine, over its clock. It prints a line for each event as it comes, and
+/// after the last turn whether the name is held. Where there is no end, it stays up for 2^61 turns, also where the port
+/// fails: it says so in `errors`, waits 100 ms after each turn that failed, and goes on from where the call that failed
+/// left the node. Refused: `NoPort` where the port can't be bound, but `Memory` where the machine has no memory for it,
+/// and nothing is printed then; `NoClock` where the clock can't be read at first; `Device` where the port fails, with a
+/// number of turns at the first call that does, and with no end at the hundredth turn in a row that fails; `Output`
+/// where a line can't be written to `writer`: at once after the turn in which the event was seen, or after all turns.
+/// Of each but the last a line in `errors` says which call of the machine failed, for which address, and why. What
+/// can't be written to `errors` is passed over. The node takes no memory.
 pub fn run_node<M: Net + time::Clock, W: Write, E: Write>(
     machine: &M,
     arguments: &NodeArguments,
@@ -53,7 +53,7 @@ pub fn run_node<M: Net + time::Clock, W: Write, E: Write>(
     ensures ok { OnOk result (RunsNodeHere arguments.now (W.contents writer.old) (W.contents writer.new)) }
     ensures device { result ≡ Err Fault.Device → NodeFailsHere arguments.now (W.contents writer.old) (W.contents writer.new) }
     ensures output { result ≡ Err Fault.Output → NodeIsCutHere arguments.now (W.contents writer.old) (W.contents writer.new) }
-    ensures memory { result ≢ Err Fault.Memory }
+    ensures memory { result ≡ Err Fault.Memory → W.contents writer.new ≡ W.contents writer.old }
 {
     let mut port = bound_port(machine, arguments.bind, errors)?;
     let mut clock = readable_clock(machine, arguments.bind, errors)?;

@@ -6,9 +6,8 @@ ghost use Rattle.nbt_net.specs.Serve.{RunsServer, ServerFails, ServerIsCut, Runs
 
 use crate::clock::readable_clock;
 use crate::limits::FOREVER;
-use crate::port::bound_port;
 use crate::staying::{serve_on, tell_end_of};
-use nbt_engine::{Clock, Counts, Fault, Port, serve_turns};
+use nbt_engine::{Clock, Counts, Fault, Port, bound_port, serve_turns};
 use nbt_lease::Config;
 use nbt_name::Addr;
 use nbt_server::Server;
@@ -28,15 +27,16 @@ pub struct ServeArguments {
     pub turns: Option<u64>,
 }
 
-/// Runs a name server on a UDP port of this machine, over its clock. With a number of turns it goes through them, and prints
-/// what was done, after the last. Where there is no end, it first prints a line that says that it has begun, and then stays
-/// up for 2^61 turns, also where the port fails: it says so in `errors`, waits 100 ms after each turn that failed, and goes on
-/// with the leases that it has. Refused: `NoPort` where the port can't be had; `NoClock` where the clock can't be read at
-/// first; `Device` where the port fails, with a number of turns at the first call that does, and with no end at the hundredth
-/// turn in a row that fails; `Output` where the line can't be written to `writer`, with a number of turns after the last of
-/// them, and with no end before the first. Of each but the last a line in `errors` says which call of the machine failed, for
-/// which address, and why. What can't be written to `errors` is passed over. Refused memory costs a datagram, and is no reason to
-/// end: it isn't refused with `Memory`.
+/// Runs a name server on a UDP port of this machine, over its clock. With a number of turns it goes through them, and
+/// prints what was done, after the last. Where there is no end, it first prints a line that says that it has begun, and
+/// then stays up for 2^61 turns, also where the port fails: it says so in `errors`, waits 100 ms after each turn that
+/// failed, and goes on with the leases that it has. Refused: `NoPort` where the port can't be bound, but `Memory` where
+/// the machine has no memory for it, and nothing is printed then; `NoClock` where the clock can't be read at first;
+/// `Device` where the port fails, with a number of turns at the first call that does, and with no end at the hundredth
+/// turn in a row that fails; `Output` where the line can't be written to `writer`, with a number of turns after the
+/// last of them, and with no end before the first. Of each but the last a line in `errors` says which call of the
+/// machine failed, for which address, and why. What can't be written to `errors` is passed over. Memory that is refused
+/// later costs a datagram, and is no reason to end.
 pub fn run_server<M: Net + time::Clock, W: Write, E: Write>(
     machine: &M,
     alloc: Global,
@@ -47,7 +47,7 @@ pub fn run_server<M: Net + time::Clock, W: Write, E: Write>(
     ensures ok { OnOk result (RunsServerHere arguments.now (W.contents writer.old) (W.contents writer.new)) }
     ensures device { result ≡ Err Fault.Device → ServerFailsHere arguments.now (W.contents writer.old) (W.contents writer.new) }
     ensures output { result ≡ Err Fault.Output → ServerIsCutHere arguments.now }
-    ensures memory { result ≢ Err Fault.Memory }
+    ensures memory { result ≡ Err Fault.Memory → W.contents writer.new ≡ W.contents writer.old }
 {
     let mut port = bound_port(machine, arguments.bind, errors)?;
     let mut clock = readable_clock(machine, arguments.bind, errors)?;
