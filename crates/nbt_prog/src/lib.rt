@@ -78,8 +78,8 @@ pub fn command_on<M: Net + time::Clock, S: AsStr, R: Read, W: Write>(
 /// `serve`, `node` and `loop`. The last three write to `writer` as they go on; the first two at their end, with the status 0, 1 where
 /// the name isn't found, or 5 where no reply came. Where a word of these two can't be read, a line in `errors` says which, and why.
 /// Status 3 is also that of a port that can't be bound, of a clock that can't be read at the start, and of a socket that failed. Then
-/// a line in `errors` says which call of the machine failed, for which address, and why. With `--forever` a socket that fails is said in `errors` too, and only
-/// the hundredth turn in a row that fails ends the command. What can't be written to `errors` is passed over.
+/// a line in `errors` says which call of the machine failed, for which address, and why. With `--forever` a socket that fails is said
+/// in `errors` too, and only the hundredth turn in a row that fails ends the command. What can't be written to `errors` is passed over.
 pub fn command_telling<M: Net + time::Clock, S: AsStr, R: Read, W: Write, E: Write>(
     machine: &M,
     alloc: Global,
@@ -182,7 +182,7 @@ fn node_on<M: Net + time::Clock, W: Write, E: Write>(
     }
 }
 
-/// Returns the status of a server or a node that ended early, and prints its line.
+/// Returns the status of what was done on this machine and ended early, and prints its line.
 fn conclude_fault<W: Write>(fault: Fault, writer: &mut W) -> u8
     ensures bound { result ≤ 4 }
     ensures failed { 3 ≤ result }
