@@ -15,7 +15,7 @@ use crate::sessions::{Call, Session};
 use arrayvec::ArrayVec;
 use nbt_dgram::Joiner;
 use nbt_engine::{Cause, Fault, MachineCall, Port, UdpPort};
-use nbt_lease::{Config, Moment};
+use nbt_lease::{Config, Moment, ROWS_MOST};
 use nbt_name::{Addr, Kind, Name};
 use nbt_node::{Event, Node};
 use nbt_text::end_line;
@@ -35,8 +35,6 @@ const SECOND: u32 = 0x7F00_0003;
 const LIFE: u64 = 1000;
 /// The longest lease, in seconds.
 const LONGEST: u32 = 60;
-/// How many leases the server keeps.
-const ROWS: usize = 4096;
 
 /// What is sent, in the datagram and in the message.
 const HELLO: &[u8] = b"hello";
@@ -80,7 +78,7 @@ impl Ends {
         ports: Ports,
         errors: &mut E,
     ) -> Result<Ends, Fault> {
-        let config = Config::new(LIFE, LONGEST, ROWS).unwrap();
+        let config = Config::new(LIFE, LONGEST, ROWS_MOST).unwrap();
         let at = Addr {
             ip: SERVER,
             port: ports.names(),
