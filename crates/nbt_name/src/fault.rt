@@ -1,7 +1,8 @@
 //! What a name's octets can have wrong, and where.
 
-ghost use Rattle.std.specs.Prelude.{◌≡◌};
-ghost use Rattle.nbt_name.specs.Numbers.{fault_number, refusal_number};
+ghost use Rattle.std.specs.Prelude.{◌≡◌, ◌↔◌, Some};
+ghost use Rattle.nbt_name.specs.declared.fault.NameFaultKind.{NameFaultKind};
+ghost use Rattle.nbt_name.specs.Numbers.{fault_number, fault_word, refusal_number};
 
 use thiserror::Error;
 
@@ -36,6 +37,33 @@ impl NameFaultKind {
             NameFaultKind::BadHalf => 3,
             NameFaultKind::BadPointer => 4,
             NameFaultKind::Long => 5,
+        }
+    }
+
+    /// The word by which the fault is printed and read: its name (our profile).
+    pub fn word(self) -> &'static str
+        ensures { result.now ≡ fault_word self }
+    {
+        match self {
+            NameFaultKind::Short => "Short",
+            NameFaultKind::BadLabel => "BadLabel",
+            NameFaultKind::BadHalf => "BadHalf",
+            NameFaultKind::BadPointer => "BadPointer",
+            NameFaultKind::Long => "Long",
+        }
+    }
+
+    /// The kind of fault that a word names; `None` where it names none.
+    pub fn from_word(word: &[u8]) -> Option<NameFaultKind>
+        ensures { (kind : NameFaultKind) → (result ≡ Some kind) ↔ (word.now ≡ fault_word kind) }
+    {
+        match word {
+            b"Short" => Some(NameFaultKind::Short),
+            b"BadLabel" => Some(NameFaultKind::BadLabel),
+            b"BadHalf" => Some(NameFaultKind::BadHalf),
+            b"BadPointer" => Some(NameFaultKind::BadPointer),
+            b"Long" => Some(NameFaultKind::Long),
+            _ => None,
         }
     }
 }

@@ -1,7 +1,10 @@
 //! Why a node refuses a call.
 
-ghost use Rattle.std.specs.Prelude.{◌≡◌};
-ghost use Rattle.nbt_node.specs.Numbers.{ask_fault_number, release_fault_number, lookup_fault_number};
+ghost use Rattle.std.specs.Prelude.{◌≡◌, ◌↔◌, Some};
+ghost use Rattle.nbt_node.specs.declared.fault.AskFault.{AskFault};
+ghost use Rattle.nbt_node.specs.declared.fault.ReleaseFault.{ReleaseFault};
+ghost use Rattle.nbt_node.specs.declared.fault.LookupFault.{LookupFault};
+ghost use Rattle.nbt_node.specs.Numbers.{ask_fault_number, ask_fault_word, release_fault_number, release_fault_word, lookup_fault_number, lookup_fault_word};
 
 use thiserror::Error;
 
@@ -40,6 +43,33 @@ impl AskFault {
             AskFault::BadName => 5,
         }
     }
+
+    /// The fault with this number; `None` where none has it.
+    pub fn of(number: u8) -> Option<AskFault>
+        ensures { (fault : AskFault) → (result ≡ Some fault) ↔ (number ≡ ask_fault_number fault) }
+    {
+        match number {
+            1 => Some(AskFault::Quiet),
+            2 => Some(AskFault::Busy),
+            3 => Some(AskFault::Full),
+            4 => Some(AskFault::ClockBack),
+            5 => Some(AskFault::BadName),
+            _ => None,
+        }
+    }
+
+    /// The word by which the fault is printed: its name (our profile).
+    pub fn word(self) -> &'static str
+        ensures { result.now ≡ ask_fault_word self }
+    {
+        match self {
+            AskFault::Quiet => "Quiet",
+            AskFault::Busy => "Busy",
+            AskFault::Full => "Full",
+            AskFault::ClockBack => "ClockBack",
+            AskFault::BadName => "BadName",
+        }
+    }
 }
 
 /// Why a name isn't given back (our profile's numbers). `ClockBack` is tried first.
@@ -61,6 +91,27 @@ impl ReleaseFault {
         match self {
             ReleaseFault::NotHeld => 1,
             ReleaseFault::ClockBack => 4,
+        }
+    }
+
+    /// The fault with this number; `None` where none has it.
+    pub fn of(number: u8) -> Option<ReleaseFault>
+        ensures { (fault : ReleaseFault) → (result ≡ Some fault) ↔ (number ≡ release_fault_number fault) }
+    {
+        match number {
+            1 => Some(ReleaseFault::NotHeld),
+            4 => Some(ReleaseFault::ClockBack),
+            _ => None,
+        }
+    }
+
+    /// The word by which the fault is printed: its name (our profile).
+    pub fn word(self) -> &'static str
+        ensures { result.now ≡ release_fault_word self }
+    {
+        match self {
+            ReleaseFault::NotHeld => "NotHeld",
+            ReleaseFault::ClockBack => "ClockBack",
         }
     }
 }
@@ -88,6 +139,29 @@ impl LookupFault {
             LookupFault::Busy => 2,
             LookupFault::ClockBack => 4,
             LookupFault::BadName => 5,
+        }
+    }
+
+    /// The fault with this number; `None` where none has it.
+    pub fn of(number: u8) -> Option<LookupFault>
+        ensures { (fault : LookupFault) → (result ≡ Some fault) ↔ (number ≡ lookup_fault_number fault) }
+    {
+        match number {
+            2 => Some(LookupFault::Busy),
+            4 => Some(LookupFault::ClockBack),
+            5 => Some(LookupFault::BadName),
+            _ => None,
+        }
+    }
+
+    /// The word by which the fault is printed: its name (our profile).
+    pub fn word(self) -> &'static str
+        ensures { result.now ≡ lookup_fault_word self }
+    {
+        match self {
+            LookupFault::Busy => "Busy",
+            LookupFault::ClockBack => "ClockBack",
+            LookupFault::BadName => "BadName",
         }
     }
 }

@@ -290,8 +290,28 @@ fn faults_and_their_places(rt: HostRuntime) -> Result<(), Fail> {
         };
         assert_eq!(rt; decode(&octets).err(), Some(fault), "{patches:?}");
     }
-    assert_eq!(rt; FaultKind::TooMany.number(), 6);
     Ok(())
+}
+
+const WORDS: [(FaultKind, u8, &str); 6] = [
+    (FaultKind::Name(NameFaultKind::Short), 1, "Short"),
+    (FaultKind::Name(NameFaultKind::BadLabel), 2, "BadLabel"),
+    (FaultKind::Name(NameFaultKind::BadHalf), 3, "BadHalf"),
+    (FaultKind::Name(NameFaultKind::BadPointer), 4, "BadPointer"),
+    (FaultKind::Name(NameFaultKind::Long), 5, "Long"),
+    (FaultKind::TooMany, 6, "TooMany"),
+];
+
+#[test]
+fn numbers_and_words_of_a_packets_faults(rt: HostRuntime) {
+    for (kind, number, word) in WORDS {
+        assert_eq!(rt; kind.number(), number);
+        assert_eq!(rt; kind.word(), word);
+        assert_eq!(rt; FaultKind::from_word(word.as_bytes()), Some(kind));
+    }
+    for word in ["", "TooMan", "toomany", "Full", "BadType"] {
+        assert_eq!(rt; FaultKind::from_word(word.as_bytes()), None);
+    }
 }
 
 /// A registration of FRED whose additional record spells its name out, as TEAM.
