@@ -8,21 +8,17 @@ use thiserror::Error;
 
 /// What is wrong at a place where a name was due (RFC 1002 section 4.1; the numbers are our profile's).
 #[derive(Clone, Copy, Debug, PartialEq, Eq, Error)]
+#[error("{}", self.word())]
 pub enum NameFaultKind {
     /// 1: the octets end within the name. The place is their length.
-    #[error("Short")]
     Short,
     /// 2: no label begins with this octet. The place is the octet's.
-    #[error("BadLabel")]
     BadLabel,
     /// 3: one of the 32 letters is outside `A` to `P`. The place is the letter's.
-    #[error("BadHalf")]
     BadHalf,
     /// 4: a pointer that doesn't lead to a smaller place, or one in a plain name. The place is the pointer's.
-    #[error("BadPointer")]
     BadPointer,
     /// 5: with this label the wire form would pass 255 octets. The place is that of the label's length octet.
-    #[error("Long")]
     Long,
 }
 

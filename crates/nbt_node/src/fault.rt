@@ -11,22 +11,18 @@ use thiserror::Error;
 /// Why a name isn't asked for (our profile's numbers). They are tried in this order: `ClockBack`, `BadName`, `Busy`,
 /// `Quiet`, `Full`.
 #[derive(Clone, Copy, Debug, PartialEq, Eq, Error)]
+#[error("{}", self.word())]
 pub enum AskFault {
     /// 1: the name is being given back, or rests: since the node's start, or since the last sending about it, no more
     /// than `Config::quiet()` has passed by the node's clock, so that an old datagram may still be on its way.
-    #[error("Quiet")]
     Quiet,
     /// 2: the name was asked for already, or is held.
-    #[error("Busy")]
     Busy,
     /// 3: no slot is free.
-    #[error("Full")]
     Full,
     /// 4: the moment is before the node's start, or before that of an earlier call that wasn't refused.
-    #[error("ClockBack")]
     ClockBack,
     /// 5: the name begins with `*`.
-    #[error("BadName")]
     BadName,
 }
 
@@ -74,12 +70,11 @@ impl AskFault {
 
 /// Why a name isn't given back (our profile's numbers). `ClockBack` is tried first.
 #[derive(Clone, Copy, Debug, PartialEq, Eq, Error)]
+#[error("{}", self.word())]
 pub enum ReleaseFault {
     /// 1: the name isn't held.
-    #[error("NotHeld")]
     NotHeld,
     /// 4: the moment is before the node's start, or before that of an earlier call that wasn't refused.
-    #[error("ClockBack")]
     ClockBack,
 }
 
@@ -118,15 +113,13 @@ impl ReleaseFault {
 
 /// Why nothing is looked up (our profile's numbers). They are tried in this order: `ClockBack`, `BadName`, `Busy`.
 #[derive(Clone, Copy, Debug, PartialEq, Eq, Error)]
+#[error("{}", self.word())]
 pub enum LookupFault {
     /// 2: a lookup is open.
-    #[error("Busy")]
     Busy,
     /// 4: the moment is before the node's start, or before that of an earlier call that wasn't refused.
-    #[error("ClockBack")]
     ClockBack,
     /// 5: the name to be resolved begins with `*`.
-    #[error("BadName")]
     BadName,
 }
 

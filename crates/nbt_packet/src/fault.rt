@@ -8,13 +8,12 @@ use thiserror::Error;
 
 /// What is wrong at a place of a packet (RFC 1002 section 4.2; the numbers are our profile's).
 #[derive(Clone, Copy, Debug, PartialEq, Eq, Error)]
+#[error("{}", self.word())]
 pub enum FaultKind {
     /// 1 to 5, the kinds of a name's fault, with their places. `Short` (1) stands for octets that end anywhere in the
     /// packet, at their length.
-    #[error("{0}")]
     Name(NameFaultKind),
     /// 6: a count is above 1, or NSCOUNT above 0. The place is the count's.
-    #[error("TooMany")]
     TooMany,
 }
 

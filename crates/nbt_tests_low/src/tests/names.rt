@@ -231,8 +231,10 @@ const WORDS: [(NameFaultKind, u8, &str); 5] = [
 ];
 
 #[test]
-fn numbers_and_words_of_a_names_faults(rt: HostRuntime) {
+fn numbers_and_words_of_a_names_faults(rt: HostRuntime) -> Result<(), Fail> {
     for (kind, number, word) in WORDS {
+        let text = format!(in rt.alloc(); "{kind}")?;
+        assert_eq!(rt; text.as_str(), word);
         assert_eq!(rt; kind.number(), number);
         assert_eq!(rt; kind.word(), word);
         assert_eq!(rt; NameFaultKind::from_word(word.as_bytes()), Some(kind));
@@ -240,6 +242,7 @@ fn numbers_and_words_of_a_names_faults(rt: HostRuntime) {
     for word in ["", "long", "Shor", "TooMany", "BadType"] {
         assert_eq!(rt; NameFaultKind::from_word(word.as_bytes()), None);
     }
+    Ok(())
 }
 
 /// Names by what they stand in, where they begin and where they end: spelled out, by a pointer, and by a pointer to a

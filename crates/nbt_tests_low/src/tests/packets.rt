@@ -303,8 +303,10 @@ const WORDS: [(FaultKind, u8, &str); 6] = [
 ];
 
 #[test]
-fn numbers_and_words_of_a_packets_faults(rt: HostRuntime) {
+fn numbers_and_words_of_a_packets_faults(rt: HostRuntime) -> Result<(), Fail> {
     for (kind, number, word) in WORDS {
+        let text = format!(in rt.alloc(); "{kind}")?;
+        assert_eq!(rt; text.as_str(), word);
         assert_eq!(rt; kind.number(), number);
         assert_eq!(rt; kind.word(), word);
         assert_eq!(rt; FaultKind::from_word(word.as_bytes()), Some(kind));
@@ -312,6 +314,7 @@ fn numbers_and_words_of_a_packets_faults(rt: HostRuntime) {
     for word in ["", "TooMan", "toomany", "Full", "BadType"] {
         assert_eq!(rt; FaultKind::from_word(word.as_bytes()), None);
     }
+    Ok(())
 }
 
 /// A registration of FRED whose additional record spells its name out, as TEAM.
