@@ -27,7 +27,7 @@ pub const TURNS_MOST: u64 = 1 << 40;
 /// Why a lookup is told nothing of.
 #[derive(Clone, Copy, Debug, PartialEq, Eq, Error)]
 pub enum Fault {
-    /// The port can't be had, or failed, or the clock can't be read.
+    /// The port can't be bound, or failed, or the clock can't be read.
     #[error("device")]
     Device,
     /// An allocation was refused.

@@ -7,7 +7,7 @@ ghost use Rattle.nbt_ask.specs.Asking.{AsksHere};
 use crate::answer::Answer;
 use crate::asking::{Fault, ask};
 use crate::clock::SteadyClock;
-use nbt_engine::{Cause, MachineCall, Port, UdpPort};
+use nbt_engine::{Cause, MachineCall, Port, UdpPort, bound_port};
 use nbt_lookup::Question;
 use nbt_name::Addr;
 use std::io::Write;
@@ -15,8 +15,8 @@ use std::net::Net;
 use std::time;
 
 /// Asks from the address `own` of this machine, as `ask` does; for 0.0.0.0:0 the machine chooses both. Refused with `Device` also
-/// where the port or the clock can't be had. Of each `Device` a line in `errors` says which call of the machine failed, for which
-/// address, and why. What can't be written to `errors` is passed over.
+/// where the port can't be bound or the clock can't be read. Of each `Device` a line in `errors` says which call of the machine
+/// failed, for which address, and why. What can't be written to `errors` is passed over.
 pub fn ask_here<M: Net + time::Clock, E: Write>(
     machine: &M,
     own: Addr,
@@ -27,7 +27,7 @@ pub fn ask_here<M: Net + time::Clock, E: Write>(
 ) -> Result<Answer, Fault>
     ensures { IfOk result (λ answer. (text : List ℕ) × AsksHere own question.now patience answer text × (string_bytes out.new ≡ string_bytes out.old ++ text)) }
 {
-    let mut port = bound_port(machine, own, errors)?;
+    let mut port = port_at(machine, own, errors)?;
     let mut clock = steady_clock(machine, own, errors)?;
     let asked = ask(&mut port, &mut clock, own, question, patience, out);
     if asked == Err(Fault::Device) {
@@ -36,16 +36,13 @@ pub fn ask_here<M: Net + time::Clock, E: Write>(
     asked
 }
 
-/// The port at an address of this machine, where it can be had. Else it says why in `errors`.
-fn bound_port<M: Net, E: Write>(machine: &M, own: Addr, errors: &mut E) -> Result<UdpPort, Fault>
+/// The port at an address of this machine, as [`bound_port`] binds it. Where it can't be bound it is `Device`.
+fn port_at<M: Net, E: Write>(machine: &M, own: Addr, errors: &mut E) -> Result<UdpPort, Fault>
     ensures { IfOk result (λ port. port ≡ record { addr = own; failures = 0 }) }
 {
-    match UdpPort::bind(machine, own) {
+    match bound_port(machine, own, errors) {
         Ok(port) => Ok(port),
-        Err(error) => {
-            Cause::new(MachineCall::Bind, own, error).tell("", errors);
-            Err(Fault::Device)
-        }
+        Err(_) => Err(Fault::Device),
     }
 }
 
