@@ -55,8 +55,8 @@ fn without_a_network(rt: HostRuntime) {
     assert_eq!(rt; status, 3);
 }
 
-/// Commands whose port can't be had, since another program has it or since its address is no address of this machine, and what is
-/// said of it.
+/// Commands whose port can't be bound, since another program has it or since its address is no address of this machine,
+/// and what is said of it.
 const NOT_BOUND: [(&str, &str); 6] = [
     (
         "nbt serve 127.42.24.1:22337 1000 60 1",
@@ -293,7 +293,7 @@ impl Write for Watcher {
 }
 
 /// Plays `loop` where the first connection has this luck at its two ends, and TEAM at this port sends to nobody. Both calls
-/// are made with so many connections.
+/// are made with as many connections.
 fn expect_all_told<R: Abort + AllocGlobal + Net<Stream = TcpStream, Listener = TcpListener>>(
     rt: &R,
     caller: Luck,
