@@ -9,7 +9,9 @@ mod program;
 mod refusal;
 mod words;
 
-pub use network::{GROUP, NetworkCommand, NumberArgument, bad_number, bad_port};
+pub use network::{
+    GROUP, NetworkCommand, NumberArgument, TTL_MOST, TURNS_MOST, bad_number, bad_port,
+};
 pub use program::{DGRAM, SESSION, bad_time, no_text};
 pub use refusal::{Refusal, Text};
 pub use words::{AnswerWords, NodeWords, ServeWords, ShowWords, Words, read};
