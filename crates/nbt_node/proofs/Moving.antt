@@ -21,6 +21,7 @@ use Rattle.nbt_node.specs.Moves.{NameEvent, ask, poll, hear, nothing, Told, Move
 use Rattle.nbt_packet.specs.Spelling.{AreWritten}
 use Rattle.nbt_node.specs.Calls.{is_busy, is_quiet, ask_refusal, question, LooksUp, slot_due, lookup_due, due_lookup, Polls, polls_name, polls_lookup, polls_nothing}
 use Rattle.nbt_node.specs.Datagrams.{same_end, NodeHears, from_server, from_stranger, ends, Ends, is_answered, is_unanswered}
+use Rattle.nbt_node.specs.EachName.{ByTimeAlone, OthersByTimeAlone}
 use Rattle.nbt_node.specs.Inner.Sending.{IsSending}
 use Rattle.nbt_node.proofs.Due.{known_due}
 use Rattle.nbt_node.proofs.Awake.{awake-settled, awake-with_state}
@@ -42,13 +43,6 @@ keeps old new count life now xs ys zs name state is old_is new_is settles change
     }
 
 -- ---- what becomes of each name
-
--- only time has passed: for every name, and every name but one
-abbrev pub ByTimeAlone : NodeValue → ℕ → NodeValue → Type 0
-ByTimeAlone old now new = (q : NameValue) → state_of new q ≡ state_at old now q
-
-abbrev pub OthersByTimeAlone : NodeValue → ℕ → NameValue → NodeValue → Type 0
-OthersByTimeAlone old now name new = (q : NameValue) → q ≢ name → state_of new q ≡ state_at old now q
 
 -- a name that is Idle stays so, unless it is asked for
 from_idle : (node : NodeValue) (now : ℕ) (name : NameValue) (before : State) (event : NameEvent) (after : State) (sent : Option MessageValue) (told : Told) (next : ℕ) → Move node now name before event after sent told next
@@ -169,23 +163,16 @@ settles old new count life now xs ys is old_is new_is settled_is start_is last_i
 }
 
 -- every name, where only time has passed; and no name has two slots
-pub by_time : (old new : NodeValue) (now : ℕ) → Passes old now new → AreDistinct old.slots → ByTimeAlone old now new
-by_time old new now is apart q = ap (λ (n : NodeValue). state_in n.slots q) is ∙ state_in-settled old.config.life now old.slots q apart
+pub by_time : (old new : NodeValue) (now : ℕ) → new.slots ≡ (settled_node old now).slots → AreDistinct old.slots → ByTimeAlone old now new
+by_time old new now is apart q = ap (λ (xs : List (Option Slot)). state_in xs q) is ∙ state_in-settled old.config.life now old.slots q apart
 
-pub passed_apart : (old new : NodeValue) (now : ℕ) → Passes old now new → AreDistinct old.slots → AreDistinct new.slots
-passed_apart old new now is apart = subst AreDistinct (sym (ap (λ (n : NodeValue). n.slots) is)) (distinct-settled old.config.life now old.slots apart)
+pub settled_apart : (old new : NodeValue) (now : ℕ) → new.slots ≡ (settled_node old now).slots → AreDistinct old.slots → AreDistinct new.slots
+settled_apart old new now is apart = subst AreDistinct (sym is) (distinct-settled old.config.life now old.slots apart)
 
 -- ---- lookups
 
 pub looks_up : (old mid new : NodeValue) (now : ℕ) (lookup : Option Lookup) (next : ℕ) → mid ≡ settled_node old now → new ≡ record mid { lookup = lookup; next_id = next } → LooksUp old now lookup next new
 looks_up old mid new now lookup next mid_is new_is = new_is ∙ ap (λ (n : NodeValue). let m : NodeValue = record n { lookup = lookup; next_id = next } in m) mid_is
-
--- every name, where a lookup opens, goes on or ends; and no name has two slots
-pub by_lookup : (old new : NodeValue) (now : ℕ) (lookup : Option Lookup) (next : ℕ) → LooksUp old now lookup next new → AreDistinct old.slots → ByTimeAlone old now new
-by_lookup old new now lookup next is apart q = ap (λ (n : NodeValue). state_in n.slots q) is ∙ state_in-settled old.config.life now old.slots q apart
-
-pub looked_apart : (old new : NodeValue) (now : ℕ) (lookup : Option Lookup) (next : ℕ) → LooksUp old now lookup next new → AreDistinct old.slots → AreDistinct new.slots
-looked_apart old new now lookup next is apart = subst AreDistinct (sym (ap (λ (n : NodeValue). n.slots) is)) (distinct-settled old.config.life now old.slots apart)
 
 module _ (old mid new : NodeValue) (now : ℕ) (before after : Option Lookup) (to : Option Addr) (octets : List ℕ) (mid_is : mid ≡ settled_node old now) (before_is : mid.lookup ≡ before)
     (new_is : new ≡ record mid { lookup = after }) (no_slot : slot_due old now ≡ None) where

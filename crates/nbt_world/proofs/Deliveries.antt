@@ -14,7 +14,7 @@ use Rattle.nbt_lease.specs.Config.{ConfigValue}
 use Rattle.nbt_lease.specs.Lease.{Leases, TableValue, leases_at, IsSound}
 use Rattle.nbt_node.specs.Node.{NodeValue, state_of, Passes}
 use Rattle.nbt_node.specs.Settling.{settled}
-use Rattle.nbt_node.proofs.Moving.{by_time, by_lookup, others_by_time, known_is}
+use Rattle.nbt_node.proofs.Moving.{by_time, others_by_time, known_is}
 use Rattle.nbt_node.specs.Moves.{hear, Told, NameMoves}
 use Rattle.nbt_node.specs.Datagrams.{same_end, NodeHears, from_server, from_stranger, Lists, lists_names, lists_nothing, names_listed, Ends as LookupEnds, is_answered, is_unanswered, Idles, idles, NodeTakes, NodeTakesOctets, spelled, unspelled}
 use Rattle.nbt_lease.specs.declared.fault.GrantFault.{GrantFault}
@@ -87,7 +87,7 @@ replied_world w i new to None = record w { ends = with_node w.ends (suc i) (Some
 replied_world w i new to (Some m) = record w { ends = with_node w.ends (suc i) (Some new); sent = w.sent ++ datagram new.addr to w.now (text m) ∷ [] }
 
 passes_kept : Laws → (w : WorldValue) (i : ℕ) (node new : NodeValue) → Invariant w → node_of w.ends (suc i) ≡ Some node → Passes node (reading w.now (suc i)) new → Invariant (record w { ends = with_node w.ends (suc i) (Some new) })
-passes_kept law w i node new kept up passes = time_kept law w i node new kept up (stays_by_time (reading w.now (suc i)) node new passes) (by_time node new (reading w.now (suc i)) passes)
+passes_kept law w i node new kept up passes = time_kept law w i node new kept up (stays_by_time (reading w.now (suc i)) node new passes) (by_time node new (reading w.now (suc i)) (ap (λ (n : NodeValue). n.slots) passes))
 
 -- where octets from this end come from, and what they spell
 pub record IsHeard (w : WorldValue) (i : ℕ) (from : Addr) (m : MessageValue) : Type 0 where
@@ -132,12 +132,12 @@ heard_kept law w i node new from to name m sent told kept up (from_stranger n ot
 lists_kept : Laws → (w : WorldValue) (i : ℕ) (node new : NodeValue) (to : Addr) (id : ℕ) (name : NameValue) (sent : Option MessageValue) (told : Told) (out : List ℕ) → Invariant w → node_of w.ends (suc i) ≡ Some node
     → Lists node (reading w.now (suc i)) id name new sent told → AreWritten sent out → Invariant (replied_world w i new to sent)
 lists_kept law w i node new to id name sent told out kept up (lists_names n is passes) written =
-    other_kept law w i node new to _ (status id name (names_listed node (reading w.now (suc i)) name)) kept up (stays_by_time (reading w.now (suc i)) node new passes) (by_time node new (reading w.now (suc i)) passes) (refl, subst (λ (xs : List ℕ). Spells xs (status id name (names_listed node (reading w.now (suc i)) name))) written.0 written.1) (λ q r. r) (λ r e. cc)
+    other_kept law w i node new to _ (status id name (names_listed node (reading w.now (suc i)) name)) kept up (stays_by_time (reading w.now (suc i)) node new passes) (by_time node new (reading w.now (suc i)) (ap (λ (n : NodeValue). n.slots) passes)) (refl, subst (λ (xs : List ℕ). Spells xs (status id name (names_listed node (reading w.now (suc i)) name))) written.0 written.1) (λ q r. r) (λ r e. cc)
 lists_kept law w i node new to id name sent told out kept up (lists_nothing n is passes) written = passes_kept law w i node new kept up passes
 
 ended_kept : Laws → (w : WorldValue) (i : ℕ) (node new : NodeValue) (from to : Addr) (m : MessageValue) (sent : Option MessageValue) (t told : Told) → Invariant w → node_of w.ends (suc i) ≡ Some node
     → LookupEnds node (reading w.now (suc i)) from m t new sent told → Invariant (replied_world w i new to sent)
-ended_kept law w i node new from to m sent t told kept up (is_answered n is looks) = time_kept law w i node new kept up (stays_by_lookup (reading w.now (suc i)) node new _ _ looks) (by_lookup node new (reading w.now (suc i)) _ _ looks)
+ended_kept law w i node new from to m sent t told kept up (is_answered n is looks) = time_kept law w i node new kept up (stays_by_lookup (reading w.now (suc i)) node new _ _ looks) (by_time node new (reading w.now (suc i)) (ap (λ (n : NodeValue). n.slots) looks))
 ended_kept law w i node new from to m sent t told kept up (is_unanswered n is passes) = passes_kept law w i node new kept up passes
 
 idles_kept : Laws → (w : WorldValue) (i : ℕ) (node new : NodeValue) (to : Addr) (sent : Option MessageValue) (told : Told) → Invariant w → node_of w.ends (suc i) ≡ Some node

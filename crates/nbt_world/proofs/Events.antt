@@ -13,7 +13,8 @@ use Rattle.nbt_node.specs.Node.{NodeValue, AreDistinct, state_of, Passes}
 use Rattle.nbt_node.specs.Settling.{settled}
 use Rattle.nbt_node.specs.Transaction.{next_due}
 use Rattle.nbt_node.specs.Moves.{NameEvent, poll, give_back}
-use Rattle.nbt_node.proofs.Moving.{ByTimeAlone, by_time, passed_apart, by_lookup, looked_apart, others_by_time, asked_is, known_is, may_ask}
+use Rattle.nbt_node.specs.EachName.{ByTimeAlone}
+use Rattle.nbt_node.proofs.Moving.{by_time, settled_apart, others_by_time, asked_is, known_is, may_ask}
 use Rattle.nbt_packet.specs.Spelling.{AreWritten}
 use Rattle.nbt_node.specs.Calls.{Sends, LooksUp, question, Opens, Polls, polls_name, polls_lookup, polls_nothing as nothing_due}
 use Rattle.nbt_world.specs.declared.event.Event.{Event}
@@ -103,7 +104,7 @@ stays_by_lookup now old new lookup next looks = record {
   config_is = ap (λ (n : NodeValue). n.config) looks;
   start_is = ap (λ (n : NodeValue). n.start) looks;
   last_is = ap (λ (n : NodeValue). n.last) looks;
-  distinct_still = looked_apart old new now lookup next looks;
+  distinct_still = settled_apart old new now (ap (λ (n : NodeValue). n.slots) looks);
 }
 
 pub stays_by_time : (now : ℕ) (old new : NodeValue) → Passes old now new → Stays old now new
@@ -113,7 +114,7 @@ stays_by_time now old new passes = record {
   config_is = ap (λ (n : NodeValue). n.config) passes;
   start_is = ap (λ (n : NodeValue). n.start) passes;
   last_is = ap (λ (n : NodeValue). n.last) passes;
-  distinct_still = passed_apart old new now passes;
+  distinct_still = settled_apart old new now (ap (λ (n : NodeValue). n.slots) passes);
 }
 
 pub time_kept : Laws → (w : WorldValue) (i : ℕ) (node new : NodeValue) → Invariant w → node_of w.ends (suc i) ≡ Some node → Stays node (reading w.now (suc i)) new → (AreDistinct node.slots → ByTimeAlone node (reading w.now (suc i)) new)
@@ -177,7 +178,7 @@ question_off l q = go l.wanted
 opens_kept : Laws → (w : WorldValue) (i : ℕ) (node new : NodeValue) (name : NameValue) (to : Addr) (wanted : Wanted) (octets : List ℕ) → Invariant w → node_of w.ends (suc i) ≡ Some node
     → Opens node (reading w.now (suc i)) name to wanted new octets → Invariant (record w { ends = with_node w.ends (suc i) (Some new); sent = w.sent ++ datagram new.addr to w.now octets ∷ [] })
 opens_kept law w i node new name to wanted octets kept up opens =
-    other_kept law w i node new to octets _ kept up (stays_by_lookup (reading w.now (suc i)) node new _ _ opens.opens) (by_lookup node new (reading w.now (suc i)) _ _ opens.opens) opens.written
+    other_kept law w i node new to octets _ kept up (stays_by_lookup (reading w.now (suc i)) node new _ _ opens.opens) (by_time node new (reading w.now (suc i)) (ap (λ (n : NodeValue). n.slots) opens.opens)) opens.written
     (question_off (record { id = node.next_id; name = name; to = to; wanted = wanted; tries = 1; due = next_due (reading w.now (suc i)) }))
     (question_no_overwrite (record { id = node.next_id; name = name; to = to; wanted = wanted; tries = 1; due = next_due (reading w.now (suc i)) }))
 
@@ -186,14 +187,14 @@ polls_kept : Laws → (w : WorldValue) (i : ℕ) (node new : NodeValue) (x : Opt
 polls_kept law w i node new x octets kept up (polls_name slot n o due sends) to e =
     sends_kept law w i node new slot.name _ to octets kept up sends (λ apart. known_is node new (reading w.now (suc i)) slot.name poll _ _ sends.moves apart (λ kind ttl e. cc))
 polls_kept law w i node new x octets kept up (polls_lookup l n o none due looks written) to e =
-    other_kept law w i node new to octets (question l) kept up (stays_by_lookup (reading w.now (suc i)) node new _ _ looks) (by_lookup node new (reading w.now (suc i)) _ _ looks) written (question_off l) (question_no_overwrite l)
+    other_kept law w i node new to octets (question l) kept up (stays_by_lookup (reading w.now (suc i)) node new _ _ looks) (by_time node new (reading w.now (suc i)) (ap (λ (n : NodeValue). n.slots) looks)) written (question_off l) (question_no_overwrite l)
 polls_kept law w i node new x octets kept up (nothing_due n none no_lookup passes) to e = absurd (none-some to e)
 
 idle_kept : Laws → (w : WorldValue) (i : ℕ) (node new : NodeValue) (x : Option Addr) (octets : List ℕ) → Invariant w → node_of w.ends (suc i) ≡ Some node → Polls node (reading w.now (suc i)) new x octets → x ≡ None
     → Invariant (record w { ends = with_node w.ends (suc i) (Some new) })
 idle_kept law w i node new x octets kept up (polls_name slot n o due sends) e = absurd (none-some node.server (sym e))
 idle_kept law w i node new x octets kept up (polls_lookup l n o none due looks written) e = absurd (none-some l.to (sym e))
-idle_kept law w i node new x octets kept up (nothing_due n none no_lookup passes) e = time_kept law w i node new kept up (stays_by_time (reading w.now (suc i)) node new passes) (by_time node new (reading w.now (suc i)) passes)
+idle_kept law w i node new x octets kept up (nothing_due n none no_lookup passes) e = time_kept law w i node new kept up (stays_by_time (reading w.now (suc i)) node new passes) (by_time node new (reading w.now (suc i)) (ap (λ (n : NodeValue). n.slots) passes))
 
 pub does_kept : Laws → (w : WorldValue) (i : ℕ) (node new : NodeValue) (event : Event) (given : CallOutcomeValue) → Invariant w → node_of w.ends (suc i) ≡ Some node → NodeDoes node (reading w.now (suc i)) event new given
     → Invariant (after w (suc i) new given)
