@@ -15,7 +15,7 @@ use Rattle.nbt_node.specs.declared.state.State.{State}
 use Rattle.nbt_node.specs.declared.state.State.TheVariants.{Idle, Asking, Held, Releasing, Resting}
 use Rattle.nbt_node.specs.declared.state.Slot.{Slot}
 use Rattle.nbt_node.specs.Settling.{settled}
-use Rattle.nbt_node.specs.Node.{NodeValue, IsNode, is_in, has_room, AreDistinct, AreAwake, state_in, state_of, with_state, settled_slot, state_at, changed, Passes, settled_node}
+use Rattle.nbt_node.specs.Node.{NodeValue, IsNode, is_in, has_room, AreDistinct, AreAwake, state_in, state_of, with_state, settled_slot, state_at, changed, settled_node}
 use Rattle.nbt_node.specs.Transaction.{next_due}
 use Rattle.nbt_node.specs.Moves.{NameEvent, ask, poll, hear, nothing, Told, Move, NameMoves, asks, gives_back, asks_again, gives_back_again, refreshes_again, refreshes, granted_to, renewed_to, refused_to, loses_asked, loses_held, freed, asking_waits, giving_back_waits, refresh_waits, unmoved}
 use Rattle.nbt_packet.specs.Spelling.{AreWritten}
