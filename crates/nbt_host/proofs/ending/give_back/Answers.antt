@@ -1,0 +1,16 @@
+use Rattle.std.proofs.Common.{◌≡◌, ◌+◌, ℕ, List, ap, subst}
+use Rattle.std.specs.Prelude.{map}
+use Rattle.nbt_host.specs.declared.goal.Goal.{Goal}
+use Rattle.nbt_host.specs.Ending.{leaving, Ended, Broken}
+use Rattle.nbt_host.proofs.Endings.{gave_back, failed_to}
+use Rattle.nbt_host.proofs.ending.give_back.Goals as goal
+
+pub returns-clause-ok : goal.returns-clause-ok
+returns-clause-ok g c =
+    gave_back g.P.Port.does g.C.Clock.tells c.args.server c.args.most c.args.port.now c.wait.new.port c.args.clock.now c.now-now.new.self c.wait.new.clock c.args.goals.now c.leave_all.new.goals c.args.node.now
+    (record { goals = c.wait.new.goals; node = c.wait.new.node }) c.now-now.result c.get.result c.wait.result c.now-now.ensures c.leave_all.ensures c.get.ensures.value c.wait.ensures.ok
+
+pub returns-clause-err : goal.returns-clause-err
+returns-clause-err g c =
+    failed_to g.P.Port.does g.C.Clock.tells c.args.server c.args.most c.args.port.now c.wait.new.port c.args.clock.now c.now-now.new.self c.wait.new.clock c.args.goals.now c.leave_all.new.goals c.args.node.now
+    (record { goals = c.wait.new.goals; node = c.wait.new.node }) c.now-now.result c.get.result c.wait.result c.now-now.ensures c.leave_all.ensures c.get.ensures.value c.wait.ensures.err
