@@ -58,7 +58,7 @@ stage_at is_held stage = stage
 
 -- A hold that was told of, was not given back, and is over at the moment, has lapsed.
 abbrev pub seen_at : (is_held : Bool) → Goal → Goal
-seen_at is_held goal = record goal { stage = stage_at is_held goal.stage; held = goal.held && is_held; lapsed = goal.held && (not is_held && is_kept goal.stage); news = None }
+seen_at is_held goal = record goal { stage = stage_at is_held goal.stage; held = is_held; lapsed = goal.held && (not is_held && is_kept goal.stage); news = None }
 
 abbrev pub seen : NodeValue → (now : ℕ) → Goal → Goal
 seen node now goal = seen_at (is_held node now goal) goal

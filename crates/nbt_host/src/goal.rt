@@ -139,7 +139,7 @@ impl Goal {
     {
         self.lapsed = self.held && !is_held && self.stage.is_kept();
         self.stage = self.stage.at(is_held);
-        self.held = self.held && is_held;
+        self.held = is_held;
         self.news = None;
     }
 

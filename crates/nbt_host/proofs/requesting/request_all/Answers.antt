@@ -8,7 +8,7 @@ loop-goal-init g c = record { requested = requested_none g.P.Port.does c.args.se
 
 pub loop-goal-preserved : goal.loop-goal-preserved
 loop-goal-preserved g c = record {
-  requested = requested_on g.P.Port.does c.args.server c.args.now c.args.port.now c.loop-goal.port c.request.new.port c.args.node.now c.loop-goal.node c.request.new.node c.args.goals.now c.loop-goal.goal-index c.goal-item.result.now
+  requested = requested_on g.P.Port.does c.args.server c.args.now c.args.port.now c.loop-goal.port c.request.new.port c.args.node.now c.loop-goal.node c.request.new.node c.args.goals.now c.loop-goal.goal-index c.goal-item.result
       c.loop-goal-test.true c.goal-item.is c.loop-goal.invariant.requested c.in_ok-request.ensures.ok;
   count = c.in_ok-request.ensures.device ∙ c.loop-goal.invariant.count;
 }
@@ -20,5 +20,5 @@ returns-clause-ok g c =
 pub returns-in_err-request-clause-err : goal.returns-in_err-request-clause-err
 returns-in_err-request-clause-err g c =
     let p = err_from_is_err_and c.from_residual.result c.from_residual.ensures.1 in
-    rw p.1 (requests_broken g.P.Port.does c.args.server c.args.now c.args.port.now c.loop-goal.port c.request.new.port c.args.node.now c.loop-goal.node c.request.new.node c.args.goals.now c.loop-goal.goal-index c.goal-item.result.now
+    rw p.1 (requests_broken g.P.Port.does c.args.server c.args.now c.args.port.now c.loop-goal.port c.request.new.port c.args.node.now c.loop-goal.node c.request.new.node c.args.goals.now c.loop-goal.goal-index c.goal-item.result
     c.loop-goal-test.true c.goal-item.is c.loop-goal.invariant.requested c.in_err-request.ensures.err)
