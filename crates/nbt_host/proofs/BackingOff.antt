@@ -1,5 +1,5 @@
 -- From the seventh refusal in a row on it is five minutes.
-use Rattle.std.proofs.Common.{◌≡◌, ℕ, ◌+◌, ◌-◌, ◌*◌, ◌^◌, ◌≤◌, ◌<◌, sym, arith}
+use Rattle.std.proofs.Common.{◌≡◌, ℕ, ◌-◌, ◌*◌, ◌^◌, ◌≤◌, sym, arith}
 use Rattle.std.proofs.Math.Nat.{min-eq_right, pow-le-pow_right}
 use Rattle.nbt_host.specs.Goals.{back_off}
 

@@ -1,5 +1,5 @@
 -- Turns of a host that gives its names back, up to the end.
-use Rattle.std.proofs.Common.{◌≡◌, ℕ, ◌+◌, Bool, true, false, List, [], ◌∷◌, ◌++◌, length, map, Ok, Err, refl, sym, ◌∙◌, subst, arith, length-append}
+use Rattle.std.proofs.Common.{◌≡◌, ℕ, ◌+◌, Bool, true, false, List, [], ◌∷◌, ◌++◌, map, Ok, Err, refl, sym, ◌∙◌, subst, arith, length-append}
 use Rattle.std.specs.Prelude.{◌<◌, IsTrue, ◌↔◌, Result, OnOk, OnErr}
 use Rattle.std.specs.List.{flat_map}
 use Rattle.std.proofs.lemmas.List.{append-nil}
@@ -11,7 +11,7 @@ use Rattle.nbt_node.specs.Node.{NodeValue}
 use Rattle.nbt_host.specs.declared.goal.Goal.{Goal}
 use Rattle.nbt_host.specs.declared.ending.TheConstants.{GIVING_BACK}
 use Rattle.nbt_host.specs.Hosting.{HostTurn, HostBreaks}
-use Rattle.nbt_host.specs.Ending.{HostValue, EndTurn, acts_in, moments_in, TurnsOn, GoesOn, leaving, is_over, is_spent, Ended, Broken, GivesAllBack, FailsToGiveBack}
+use Rattle.nbt_host.specs.Ending.{HostValue, acts_in, moments_in, TurnsOn, GoesOn, leaving, is_over, is_spent, Ended, Broken, GivesAllBack, FailsToGiveBack}
 use Rattle.nbt_host.specs.Inner.Parts.{EndTurnIs, Passed}
 
 module _ {P C : Type 0} (does : P → PortCall → P → Type 0) (tells : C → ℕ → C → Type 0) (server : Addr) (limit : ℕ) where

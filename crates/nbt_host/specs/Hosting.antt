@@ -12,7 +12,7 @@ use Rattle.nbt_engine.specs.PortCalls.{PortCall, nothing_came, came, receive_fai
 use Rattle.nbt_engine.specs.Turning.{AsksFor, PollsAll, BreaksPolls}
 use Rattle.nbt_host.specs.declared.goal.Goal.{Goal}
 use Rattle.nbt_host.specs.declared.goal.Stage.{Stage}
-use Rattle.nbt_host.specs.declared.goal.Stage.TheVariants.{Wanted, Leaving, Released, Left}
+use Rattle.nbt_host.specs.declared.goal.Stage.TheVariants.{Wanted}
 use Rattle.nbt_host.specs.declared.news.Notice.{Notice}
 use Rattle.nbt_host.specs.Goals.{may_ask, seen, heard_by}
 use Rattle.nbt_host.specs.Answering.{Says, sent_back, notice_of}

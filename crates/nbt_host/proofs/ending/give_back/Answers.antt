@@ -1,7 +1,3 @@
-use Rattle.std.proofs.Common.{◌≡◌, ◌+◌, ℕ, List, ap, subst}
-use Rattle.std.specs.Prelude.{map}
-use Rattle.nbt_host.specs.declared.goal.Goal.{Goal}
-use Rattle.nbt_host.specs.Ending.{leaving, Ended, Broken}
 use Rattle.nbt_host.proofs.Endings.{gave_back, failed_to}
 use Rattle.nbt_host.proofs.ending.give_back.Goals as goal
 

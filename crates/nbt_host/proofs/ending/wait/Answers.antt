@@ -1,4 +1,4 @@
-use Rattle.std.proofs.Common.{◌∙◌, ◌≡◌, refl, Bool, subst, arith}
+use Rattle.std.proofs.Common.{◌∙◌, refl, Bool, subst, arith}
 use Rattle.std.proofs.lemmas.Result.{err_from_is_err_and}
 use Rattle.nbt_host.specs.Inner.Parts.{EndTurnIs}
 use Rattle.nbt_host.proofs.Endings.{passed_none, passed_on, over_at_last, spent_at_last, broken_at_last}
