@@ -17,6 +17,10 @@ use Rattle.nbt_host.specs.declared.news.Notice.{Notice}
 abbrev pub fresh : Want → Goal
 fresh want = record { want = want; stage = Wanted; refusal = None; held = false; lapsed = false; news = None }
 
+-- what is wanted stays, and all else is forgotten
+abbrev pub anew : Goal → Goal
+anew goal = fresh goal.want
+
 -- ---- refusals
 
 -- After so many refusals in a row a name is asked for again: after 5 s, after twice as long with each further one, but after
@@ -56,7 +60,7 @@ abbrev pub stage_at : (is_held : Bool) → Stage → Stage
 stage_at true Leaving = Released
 stage_at is_held stage = stage
 
--- A hold that was told of, was not given back, and is over at the moment, has lapsed.
+-- A name that was held at the last look, was not given back, and isn't held at the moment, has lapsed.
 abbrev pub seen_at : (is_held : Bool) → Goal → Goal
 seen_at is_held goal = record goal { stage = stage_at is_held goal.stage; held = is_held; lapsed = goal.held && (not is_held && is_kept goal.stage); news = None }
 

@@ -2,5 +2,6 @@ pub mod Goals
 pub mod Answering
 pub mod Hosting
 pub mod Ending
-pub mod Inner
 pub mod Sleeping
+pub mod Waking
+pub mod Inner

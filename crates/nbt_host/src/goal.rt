@@ -1,7 +1,7 @@
 //! A wanted name, and what its host keeps of it.
 
 ghost use Rattle.std.specs.Prelude.{◌≡◌, ◌≤◌, map};
-ghost use Rattle.nbt_host.specs.Goals.{fresh, back_off, times_after, may_ask, is_known, is_kept, stage_at, seen_at, seen, heard, heard_by};
+ghost use Rattle.nbt_host.specs.Goals.{fresh, anew, back_off, times_after, may_ask, is_known, is_kept, stage_at, seen_at, seen, heard, heard_by};
 
 use crate::news::{News, Notice};
 use nbt_engine::Want;
@@ -41,7 +41,7 @@ pub struct Goal {
     pub stage: Stage,
     /// The last refusal since the last grant, if one came.
     pub refusal: Option<Refusal>,
-    /// Whether it was told that the name is held, and that isn't known to be over.
+    /// Whether the name was held when the host looked last.
     pub held: bool,
     /// What the last turn told first: whether that hold was over by time at the turn's first moment.
     pub lapsed: bool,
@@ -133,6 +133,17 @@ impl Goal {
         }
     }
 
+    /// What is wanted alone stays.
+    fn forget(&mut self)
+        ensures { self.new ≡ anew self.old }
+    {
+        self.stage = Stage::Wanted;
+        self.refusal = None;
+        self.held = false;
+        self.lapsed = false;
+        self.news = None;
+    }
+
     /// A look at the name at a moment at which it is held, or isn't.
     fn see(&mut self, is_held: bool)
         ensures { self.new ≡ seen_at is_held self.old }
@@ -171,6 +182,15 @@ impl Goal {
                 self.news = Some(news);
             }
         }
+    }
+}
+
+/// Of every goal what is wanted alone stays.
+pub fn forget_all(goals: &mut [Goal])
+    ensures { goals.new ≡ map anew goals.old }
+{
+    for goal in goals.iter_mut() {
+        goal.forget();
     }
 }
 

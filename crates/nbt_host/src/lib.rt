@@ -2,8 +2,8 @@
 //! sections 5.1.2 and 4.2.13).
 //!
 //! A [`Goal`] is a wanted name with what its host keeps of it. [`host_turn`] asks for the names, refreshes them, takes what
-//! comes and answers queries for what is held; [`give_back`] gives all of them back. [`Reading`] tells whether the machine
-//! slept, after which a host begins anew by [`start_again`]. No call takes memory, but what a port may take.
+//! comes and answers queries for what is held; [`waking_turn`] does so on a machine that may sleep, after which the host starts
+//! again; [`give_back`] gives all names back. No call takes memory, but what a port may take.
 #![tactic(auto)]
 
 mod answering;
@@ -14,9 +14,11 @@ mod news;
 mod requesting;
 mod sleeping;
 mod turning;
+mod waking;
 
 pub use ending::{GIVING_BACK, give_back};
 pub use goal::{Goal, Refusal, Stage};
 pub use news::News;
-pub use sleeping::{Reading, SLEEP, start_again};
+pub use sleeping::{Clocks, Reading, SLEEP};
 pub use turning::host_turn;
+pub use waking::waking_turn;

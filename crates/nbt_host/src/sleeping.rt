@@ -1,20 +1,36 @@
-//! A machine that slept, and a host that begins anew.
+//! When a machine slept, by its two clocks.
 
-ghost use Rattle.std.specs.Prelude.{◌≡◌, ◌≤◌, ◌↔◌, IsTrue, map};
-ghost use Rattle.nbt_node.specs.Node.{slots_most};
-ghost use Rattle.nbt_node.specs.Calls.{started};
-ghost use Rattle.nbt_host.specs.Sleeping.{HasSlept, anew};
+ghost use Rattle.std.specs.Prelude.{◌↔◌, IsTrue};
+ghost use Rattle.nbt_host.specs.Sleeping.{HasSlept, Reads};
 
-use crate::goal::{Goal, Stage};
-use nbt_lease::{Config, Moment};
-use nbt_name::Addr;
-use nbt_node::Node;
+use nbt_engine::Clock;
+use nbt_lease::Moment;
 
 /// By how many milliseconds the time of day may go beyond a steady clock between two readings (our profile).
 pub const SLEEP: u64 = 200;
 
-/// Both clocks of a machine: the time of day, read between two readings of the steady clock, which nobody sets, and which may stand
-/// while the machine sleeps. All are milliseconds since a beginning of their own.
+/// A machine's two clocks. Each tells milliseconds since a beginning of its own.
+#[derive(Drop)]
+pub struct Clocks<C, D> {
+    /// The steady clock, which nobody sets, and which may stand while the machine sleeps.
+    pub steady: C,
+    /// The time of day.
+    pub day: D,
+}
+
+impl<C: Clock, D: Clock> Clocks<C, D> {
+    /// Reads the steady clock, the time of day, and the steady clock again.
+    pub fn read(&mut self) -> Reading
+        ensures { Reads C.tells D.tells self.old.steady self.old.day result self.new.steady self.new.day }
+    {
+        let before = self.steady.now();
+        let day = self.day.now();
+        let after = self.steady.now();
+        Reading { before, day, after }
+    }
+}
+
+/// What both clocks of a machine told: the time of day, read between two readings of the steady clock.
 #[derive(Clone, Copy, Debug, PartialEq, Eq)]
 pub struct Reading {
     /// The steady clock before it.
@@ -34,35 +50,4 @@ impl Reading {
     {
         earlier.day.get() + self.after.get() + SLEEP < self.day.get() + earlier.before.get()
     }
-}
-
-/// The host is as that of a machine that crashed and starts at `now`: the node knows nothing and rests first, and of each goal
-/// what is wanted alone stays. That `N` is 1 to 14 is the caller's.
-pub fn start_again<const N: usize>(
-    node: &mut Node<N>,
-    server: Addr,
-    config: Config,
-    now: Moment,
-    goals: &mut [Goal],
-)
-    requires slots_at_least { 1 ≤ N }
-    requires slots_at_most { N ≤ slots_most }
-    ensures node { node.new ≡ started N node.old.addr server config now }
-    ensures goals { goals.new ≡ map anew goals.old }
-{
-    *node = Node::start(node.addr(), server, config, now);
-    for goal in goals.iter_mut() {
-        forget(goal);
-    }
-}
-
-/// Of a goal what is wanted alone stays.
-fn forget(goal: &mut Goal)
-    ensures { goal.new ≡ anew goal.old }
-{
-    goal.stage = Stage::Wanted;
-    goal.refusal = None;
-    goal.held = false;
-    goal.lapsed = false;
-    goal.news = None;
 }

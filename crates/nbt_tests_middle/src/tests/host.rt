@@ -5,7 +5,7 @@ use super::memory::{Row, clock, expect_sent, port};
 use super::{config, moment, octets, started};
 use arrayvec::ArrayVec;
 use nbt_engine::{Datagram, Device, MemoryClock, MemoryPort, Port, Want};
-use nbt_host::{Goal, News, Reading, Stage, give_back, host_turn, start_again};
+use nbt_host::{Clocks, Goal, News, Reading, Stage, give_back, host_turn, waking_turn};
 use nbt_lease::Moment;
 use nbt_name::{Addr, Kind, Name};
 use nbt_node::Node;
@@ -485,23 +485,68 @@ fn a_sleep_is_seen_from_201_ms_on(rt: HostRuntime) -> Result<(), Fail> {
     Ok(())
 }
 
-#[test]
-fn a_host_that_starts_again_rests_and_asks_anew(rt: HostRuntime) -> Result<(), Fail> {
-    let mut port = port(&rt, &[GRANTED, NOTHING, NOTHING])?;
-    let moments = [3_000, 3_010, 7_004, 7_004, 7_005, 7_005];
-    let mut clock = clock(&rt, &moments)?;
+/// A turn on a machine that may sleep: what the steady clock tells in it, what the time of day is, what comes, and whether the
+/// machine slept.
+type Waking = ([u64; 4], u64, Row, bool);
+
+/// FRED is granted, and a query answered, the time of day having gone 200 ms beyond the steady clock. Then it goes 201 ms beyond: the
+/// host starts at 5,000, answers no query, and asks anew more than 2,004 ms later, with the first id.
+const WAKING: [Waking; 5] = [
+    ([2_990, 3_000, 3_000, 3_010], 1_002_995, GRANTED, false),
+    ([3_020, 3_030, 3_040, 3_050], 1_003_235, QUERY, false),
+    ([4_990, 5_000, 5_000, 5_010], 1_005_416, QUERY, true),
+    ([7_004, 7_004, 7_004, 7_004], 1_007_400, NOTHING, false),
+    ([7_005, 7_005, 7_005, 7_005], 1_007_401, NOTHING, false),
+];
+
+/// `waking_turn` at a port of which few calls have failed.
+fn waking<R: Abort>(
+    rt: &R,
+    port: &mut MemoryPort,
+    clocks: &mut Clocks<MemoryClock, MemoryClock>,
+    node: &mut Node<3>,
+    goals: &mut [Goal],
+    last: &mut Reading,
+) -> Result<bool, Fail> {
+    assert!(rt; port.failures() < 1 << 62);
+    let config = config(4096)?;
+    Ok(waking_turn(port, clocks, node, SERVER, config, goals, last)?)
+}
+
+fn play_waking<R: Abort>(
+    rt: &R,
+    port: &mut MemoryPort,
+    clocks: &mut Clocks<MemoryClock, MemoryClock>,
+    goals: &mut [Goal],
+) -> Result<(), Fail> {
     let mut node = node()?;
-    let mut goals = [fred()?];
-    turn(&rt, &mut port, &mut clock, &mut node, &mut goals)?;
-    start_again(
-        &mut node,
-        SERVER,
-        config(4096)?,
-        moment(5_000)?,
-        &mut goals,
-    );
-    turn(&rt, &mut port, &mut clock, &mut node, &mut goals)?;
-    expect_sent(&rt, &port, &[ASK])?;
-    turn(&rt, &mut port, &mut clock, &mut node, &mut goals)?;
-    expect_sent(&rt, &port, &[ASK, ASK])
+    let mut last = reading(0, 1_000_000, 0)?;
+    for (moments, day, _, slept) in &WAKING {
+        let woke = waking(rt, port, clocks, &mut node, goals, &mut last)?;
+        assert_eq!(rt; woke, *slept, "{day}");
+        assert_eq!(rt; last, reading(moments[0], *day, moments[1])?);
+        for goal in goals.iter() {
+            assert!(rt; !goal.lapsed, "{day}");
+        }
+    }
+    Ok(())
+}
+
+#[test]
+fn a_host_that_slept_rests_and_asks_anew(rt: HostRuntime) -> Result<(), Fail> {
+    let mut given = Vec::new(rt.alloc());
+    let mut steady = Vec::new(rt.alloc());
+    let mut days = Vec::new(rt.alloc());
+    for (moments, day, row, _) in &WAKING {
+        given.push(*row)?;
+        steady.extend_from_slice(moments)?;
+        days.push(*day)?;
+    }
+    let mut port = port(&rt, given.as_slice())?;
+    let mut clocks = Clocks {
+        steady: clock(&rt, steady.as_slice())?,
+        day: clock(&rt, days.as_slice())?,
+    };
+    play_waking(&rt, &mut port, &mut clocks, &mut [fred()?])?;
+    expect_sent(&rt, &port, &[ASK, ANSWER, ASK])
 }
