@@ -19,7 +19,7 @@ use nbt_node::{Event, Node};
 use nbt_packet::{Message, read};
 
 /// What was heard, and when.
-#[derive(Debug, Drop)]
+#[derive(Drop)]
 pub struct Heard {
     pub at: Moment,
     pub notice: Option<Notice>,

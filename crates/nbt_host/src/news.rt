@@ -25,7 +25,7 @@ pub enum News {
 }
 
 /// What came for a name.
-#[derive(Debug, Drop)]
+#[derive(Drop)]
 pub struct Notice {
     pub name: Name,
     pub news: News,
