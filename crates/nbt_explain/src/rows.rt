@@ -1,20 +1,17 @@
 //! What the RDATA of a record holds: entries, or the names of an end.
 
-ghost use Rattle.std.specs.Prelude.{◌≡◌, ◌/◌, ◌%◌, ℕ, List, [], ◌∷◌, ◌++◌, OnOk, if◌then◌else◌};
+ghost use Rattle.std.specs.Prelude.{◌≡◌, ℕ, List, ◌++◌, OnOk};
 ghost use Rattle.std.specs.String.{string_bytes};
-ghost use Rattle.nbt_packet.specs.Message.{kind_in};
 ghost use Rattle.nbt_packet.specs.Packet.{record_of};
-ghost use Rattle.nbt_tell.specs.Holders.{dotted, kind_word};
-ghost use Rattle.nbt_tell.specs.Names.{flag_words, pair, unit_line, unit_text};
+ghost use Rattle.nbt_tell.specs.Names.{unit_text};
 ghost use Rattle.nbt_tell.specs.Rows.{PrintsRows};
 ghost use Rattle.nbt_explain.specs.Rows.{IsEntryLine, IsNameLine, PrintsData, after_names, after_word, entry_line, names_in, node_in};
 
 use crate::naming::write_in_brackets;
 use crate::words::node_word;
-use nbt_name::Kind;
 use nbt_packet::Record;
 use nbt_spelling::{suffix_words, write_octets};
-use nbt_text::write_hexadecimal;
+use nbt_tell::{kind_of, kind_word, write_dotted, write_name_flags, write_unit_id};
 use std::alloc::AllocError;
 
 /// Type NB, a name's entries (RFC 1002 section 4.2.1.3).
@@ -22,9 +19,6 @@ const NB: u16 = 0x0020;
 
 /// Type NBSTAT, a node's status (RFC 1002 section 4.2.1.3).
 const NBSTAT: u16 = 0x0021;
-
-/// G in the first octet of NB_FLAGS and of NAME_FLAGS (RFC 1002 sections 4.2.1.3 and 4.2.18).
-const GROUP: u8 = 0x80;
 
 /// How many octets a name of a node status has (RFC 1002 section 4.2.18).
 const NODE_NAME: usize = 18;
@@ -66,40 +60,11 @@ fn write_entry(entry: &[u8; 6], out: &mut String) -> Result<(), AllocError>
     writeln!(out, ", {node}, {kind}")
 }
 
-/// Appends the address of an entry, after its two octets of flags.
-fn write_dotted(entry: &[u8; 6], out: &mut String) -> Result<(), AllocError>
-    ensures { OnOk result (string_bytes out.new ≡ string_bytes out.old ++ dotted entry.now) }
-{
-    let [_, _, a, b, c, d] = *entry;
-    write!(out, "{a}.{b}.{c}.{d}")
-}
-
 /// The type of node in the first octet of flags.
 fn node_in(flags: u8) -> &'static str
     ensures { result.now ≡ node_in flags }
 {
     node_word(flags / 0x20 % 4)
-}
-
-/// Whose a name with these flags is.
-fn kind_of(flags: u8) -> Kind
-    ensures { result ≡ kind_in (flags ∷ []) }
-{
-    if flags < GROUP {
-        Kind::Unique
-    } else {
-        Kind::Group
-    }
-}
-
-/// The word for who may hold a name.
-fn kind_word(kind: Kind) -> &'static str
-    ensures { result.now ≡ kind_word kind }
-{
-    match kind {
-        Kind::Unique => "unique",
-        Kind::Group => "group",
-    }
 }
 
 /// Appends a line for each name that RDATA counts, as far as they are there, and one for the unit id.
@@ -109,7 +74,7 @@ fn write_status(rdata: &[u8], out: &mut String) -> Result<(), AllocError>
 {
     let (names, statistics) = names_of(rdata);
     write_names(names, out)?;
-    write_unit(statistics, out)
+    write_unit_id(statistics, out)
 }
 
 /// The names that RDATA counts, as far as they are there, and what stands after them.
@@ -159,56 +124,6 @@ fn write_after(name: &[u8; 18], out: &mut String) -> Result<(), AllocError>
     let node = node_in(flags);
     let word = kind_word(kind);
     write!(out, ", {node}, {word}")?;
-    write_flags(flags, out)?;
+    write_name_flags(flags, out)?;
     out.push_str("\n")
-}
-
-/// Appends the words of the flags that are set: DRG, CNF, ACT and PRM (RFC 1002 section 4.2.18).
-fn write_flags(flags: u8, out: &mut String) -> Result<(), AllocError>
-    ensures { OnOk result (string_bytes out.new ≡ string_bytes out.old ++ flag_words flags) }
-{
-    let deregistering = word_if(flags / 0x10 % 2 == 1, " deregistering");
-    let conflict = word_if(flags / 0x08 % 2 == 1, " conflict");
-    let active = word_if(flags / 0x04 % 2 == 1, " active");
-    let permanent = word_if(flags / 0x02 % 2 == 1, " permanent");
-    write!(out, "{deregistering}{conflict}{active}{permanent}")
-}
-
-/// A word, where it is wanted.
-fn word_if(is: bool, word: &str) -> &str
-    ensures { result.now ≡ (if is then word.now else []) }
-{
-    if is { word } else { "" }
-}
-
-/// Appends the line of the unit id, the first six octets of the statistics, where it is there and isn't zero.
-fn write_unit(statistics: &[u8], out: &mut String) -> Result<(), AllocError>
-    ensures { OnOk result (string_bytes out.new ≡ string_bytes out.old ++ unit_text statistics.now) }
-{
-    match statistics.first_chunk::<6>() {
-        Some(unit) if *unit != [0; 6] => write_digits(unit, out),
-        _ => Ok(()),
-    }
-}
-
-/// Appends the line of a unit id.
-fn write_digits(unit: &[u8; 6], out: &mut String) -> Result<(), AllocError>
-    ensures { OnOk result (string_bytes out.new ≡ string_bytes out.old ++ unit_line unit.now) }
-{
-    out.push_str("unit id ")?;
-    write_hexadecimal(&[unit[0]], out)?;
-    write_pair(unit[1], out)?;
-    write_pair(unit[2], out)?;
-    write_pair(unit[3], out)?;
-    write_pair(unit[4], out)?;
-    write_pair(unit[5], out)?;
-    out.push_str("\n")
-}
-
-/// Appends an octet after a colon, in two digits.
-fn write_pair(octet: u8, out: &mut String) -> Result<(), AllocError>
-    ensures { OnOk result (string_bytes out.new ≡ string_bytes out.old ++ pair octet) }
-{
-    out.push_str(":")?;
-    write_hexadecimal(&[octet], out)
 }

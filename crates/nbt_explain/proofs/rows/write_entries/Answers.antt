@@ -2,7 +2,7 @@ use Rattle.std.proofs.Common.{◌≡◌, ◌++◌, ◌≤◌, length, sym, refl,
 use Rattle.std.proofs.lemmas.List.{take-append-drop, length-take-le}
 use Rattle.std.specs.String.{string_bytes}
 use Rattle.nbt_explain.specs.Rows.{IsEntryLine, entry_line}
-use Rattle.nbt_explain.proofs.Printing.{one_more, all_told}
+use Rattle.nbt_tell.proofs.Printing.{one_more, all_told}
 use Rattle.nbt_explain.proofs.rows.write_entries.Goals as goal
 
 pub entries-preserved : goal.entries-preserved

@@ -1,7 +1,7 @@
 use Rattle.std.proofs.Common.{length}
 use Rattle.std.specs.String.{string_bytes}
 use Rattle.nbt_explain.specs.Rows.{IsEntryLine}
-use Rattle.nbt_explain.proofs.Printing.{IsTold}
+use Rattle.nbt_tell.proofs.Printing.{IsTold}
 use Rattle.nbt_explain.proofs.rows.write_entries.Given as goal
 
 abbrev pub invariant-entries : goal.invariant-entries
