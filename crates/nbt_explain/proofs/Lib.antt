@@ -4,3 +4,5 @@
 pub mod Spelled
 -- the lines of a session's packets so far
 pub mod Told
+-- a text that is written at once
+pub mod Written

@@ -2,6 +2,7 @@
 use Rattle.std.specs.Prelude.{◌≡◌, ℕ, ◌-◌, ◌/◌, ◌%◌, nat_eq, if◌then◌else◌, List, [], ◌∷◌, ◌++◌, length, codes}
 use Rattle.std.specs.Fmt.{decimal}
 use Rattle.nbt_name.specs.Wire.{NameValue}
+use Rattle.nbt_name.specs.declared.addr.Addr.{Addr}
 use Rattle.nbt_dgram.specs.declared.dgram.Names.{Names}
 use Rattle.nbt_dgram.specs.declared.dgram.Part.{Part}
 use Rattle.nbt_dgram.specs.declared.dgram.Part.TheVariants.{First, Later}
@@ -18,7 +19,7 @@ use Rattle.nbt_dgram.specs.Text.{offset_of}
 use Rattle.nbt_text.specs.Address.{address_text}
 use Rattle.nbt_text.specs.Lines.{newline}
 use Rattle.nbt_explain.specs.Parts.{PrintsNamed}
-use Rattle.nbt_explain.specs.Words.{flag_line, in_four_digits, in_two_digits, node_word, with_number}
+use Rattle.nbt_explain.specs.Words.{code_line, flag_line, in_four_digits, node_word, with_number}
 
 -- ---- the octets that each datagram begins with (RFC 1002 section 4.4.1)
 
@@ -35,12 +36,24 @@ type_words (types.Lookup Negative) = codes "Datagram negative query response"
 abbrev pub sender_word : (bits : ℕ) → List ℕ
 sender_word bits = if nat_eq bits 3 then codes "NBDD" else node_word bits
 
+abbrev pub type_line : MsgType → List ℕ
+type_line t = codes "Message type: " ++ with_number (type_words t) (type_number t) ++ newline
+
+abbrev pub node_line : (bits : ℕ) → List ℕ
+node_line bits = codes "Node type: " ++ sender_word bits ++ newline
+
+-- F, M and SNT
 abbrev pub flag_lines : (flags : ℕ) → List ℕ
-flag_lines flags = flag_line (codes "First fragment") flags 2 ++ flag_line (codes "More fragments") flags 1 ++ codes "Node type: " ++ sender_word (flags / 4 % 4) ++ newline
+flag_lines flags = flag_line (codes "First fragment") flags 2 ++ flag_line (codes "More fragments") flags 1 ++ node_line (flags / 4 % 4)
+
+abbrev pub id_line : (id : ℕ) → List ℕ
+id_line id = codes "Datagram ID: " ++ in_four_digits id ++ newline
+
+abbrev pub source_line : Addr → List ℕ
+source_line source = codes "Source: " ++ address_text source ++ newline
 
 abbrev pub head_lines : (flags : ℕ) → DgramValue → List ℕ
-head_lines flags d = codes "Message type: " ++ with_number (type_words (type_of d.body)) (type_number (type_of d.body)) ++ newline ++ flag_lines flags
-    ++ codes "Datagram ID: " ++ in_four_digits d.id ++ newline ++ codes "Source: " ++ address_text d.source ++ newline
+head_lines flags d = type_line (type_of d.body) ++ flag_lines flags ++ id_line d.id ++ source_line d.source
 
 -- ---- what follows them
 
@@ -66,14 +79,11 @@ error_words code =
     else (if nat_eq code 0x83 then codes "Invalid source name format"
     else (if nat_eq code 0x84 then codes "Invalid destination name format" else codes "unknown"))
 
-abbrev pub error_line : (code : ℕ) → List ℕ
-error_line code = codes "Error code: " ++ error_words code ++ codes " (" ++ in_two_digits code ++ codes ")" ++ newline
-
 -- A fragment has its length, which the octets after PACKET_OFFSET are, its offset, its names and its data; an error its code; a
 -- lookup its name.
 pub data PrintsBody (counted : ℕ) : BodyValue → List ℕ → Type 0 where
   of_fragment : (f : FragmentValue) (names : List ℕ) → PrintsPart f.part names → PrintsBody counted (fragment f) (offset_line counted f ++ names ++ data_line f)
-  of_error : (code : ℕ) → PrintsBody counted (error code) (error_line code)
+  of_error : (code : ℕ) → PrintsBody counted (error code) (code_line (error_words code) code)
   of_lookup : (l : Lookup) (n : NameValue) (name : List ℕ) → PrintsNamed n name → PrintsBody counted (lookup l n) (name_line (codes "Destination name: ") name)
 
 -- The octets begin with a datagram, or with none. A fragment's head has fourteen octets.

@@ -31,9 +31,12 @@ opcode_line opcode = codes "Opcode: " ++ with_number (opcode_words opcode) opcod
 abbrev pub reply_words : (rcode : ℕ) → List ℕ
 reply_words rcode = if nat_eq rcode 0 then codes "no error" else rcode_words rcode
 
+abbrev pub rcode_line : (rcode : ℕ) → List ℕ
+rcode_line rcode = codes "Reply code: " ++ with_number (reply_words rcode) rcode ++ newline
+
 -- a response has one
 abbrev pub reply_line : (flags : ℕ) → List ℕ
-reply_line flags = if nat_lt flags 0x8000 then [] else codes "Reply code: " ++ with_number (reply_words (rcode_of flags)) (rcode_of flags) ++ newline
+reply_line flags = if nat_lt flags 0x8000 then [] else rcode_line (rcode_of flags)
 
 abbrev pub flag_lines : (flags : ℕ) → List ℕ
 flag_lines flags = flag_line (codes "Response") flags 0x8000 ++ opcode_line (opcode_of flags) ++ flag_line (codes "Authoritative") flags 0x400 ++ flag_line (codes "Truncated") flags 0x200

@@ -8,7 +8,7 @@ use Rattle.nbt_session.specs.Stream.{StreamIs}
 use Rattle.nbt_text.specs.Address.{address_text}
 use Rattle.nbt_text.specs.Lines.{newline}
 use Rattle.nbt_explain.specs.Parts.{PrintsNamed}
-use Rattle.nbt_explain.specs.Words.{in_two_digits}
+use Rattle.nbt_explain.specs.Words.{code_line}
 
 -- ---- a packet's lines
 
@@ -31,7 +31,7 @@ error_words code =
     else (if nat_eq code 0x8F then codes "Unspecified error" else codes "unknown"))))
 
 abbrev pub negative_lines : (code : ℕ) → List ℕ
-negative_lines code = codes "Message type: Negative session response (0x83)" ++ newline ++ codes "Error code: " ++ error_words code ++ codes " (" ++ in_two_digits code ++ codes ")" ++ newline
+negative_lines code = codes "Message type: Negative session response (0x83)" ++ newline ++ code_line (error_words code) code
 
 abbrev pub retarget_lines : Addr → List ℕ
 retarget_lines to = codes "Message type: Retarget session response (0x84)" ++ newline ++ codes "Retarget address: " ++ address_text to ++ newline

@@ -26,6 +26,10 @@ state bit = if nat_eq bit 1 then codes "set" else codes "clear"
 abbrev pub flag_line : (label : List ℕ) (flags place : ℕ) → List ℕ
 flag_line label flags place = label ++ codes ": " ++ state (flags / place % 2) ++ newline
 
+-- the line of an error's code, as `Error code: Unspecified error (0x8f)`
+abbrev pub code_line : (words : List ℕ) (code : ℕ) → List ℕ
+code_line words code = codes "Error code: " ++ words ++ codes " (" ++ in_two_digits code ++ codes ")" ++ newline
+
 -- the two bits of a node type: 11 is reserved in RFC 1002 section 4.2.1.3, and an H node's since
 abbrev pub node_word : (bits : ℕ) → List ℕ
 node_word bits =

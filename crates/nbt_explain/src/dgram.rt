@@ -3,13 +3,13 @@
 ghost use Rattle.std.specs.Prelude.{◌≡◌, ◌/◌, ◌%◌, ℕ, List, ◌++◌, OnOk};
 ghost use Rattle.std.specs.String.{string_bytes};
 ghost use Rattle.nbt_dgram.specs.Dgram.{body_of, dgram_of, fragment_of};
-ghost use Rattle.nbt_explain.specs.Dgrams.{ExplainsDgram, PrintsBody, PrintsPart, data_line, error_line, error_words, flag_lines, head_lines, name_line, offset_line, sender_word, type_words};
+ghost use Rattle.nbt_explain.specs.Dgrams.{ExplainsDgram, PrintsBody, PrintsPart, data_line, error_words, flag_lines, head_lines, id_line, name_line, node_line, offset_line, sender_word, source_line, type_line, type_words};
 ghost use Rattle.nbt_explain.specs.Parts.{PrintsNamed};
 
 use crate::naming::write_named;
-use crate::words::{node_word, write_flag, write_four_digits, write_numbered, write_two_digits};
+use crate::words::{node_word, write_code_line, write_flag, write_four_digits, write_numbered};
 use nbt_dgram::{Body, Delivery, Dgram, Fragment, Lookup, MsgType, Part, decode};
-use nbt_name::Name;
+use nbt_name::{Addr, Name};
 use nbt_text::{end_line, write_address};
 use std::alloc::AllocError;
 
@@ -38,16 +38,18 @@ pub fn explain_dgram(octets: &[u8], out: &mut String) -> Result<(), AllocError>
 fn write_head(flags: u8, dgram: &Dgram<'_>, out: &mut String) -> Result<(), AllocError>
     ensures { OnOk result (string_bytes out.new ≡ string_bytes out.old ++ head_lines flags (dgram_of dgram.now)) }
 {
-    let msg_type = dgram.msg_type();
+    write_type(dgram.msg_type(), out)?;
+    write_flags(flags, out)?;
+    write_id(dgram.id, out)?;
+    write_source(dgram.source, out)
+}
+
+/// Appends the line of the type.
+fn write_type(msg_type: MsgType, out: &mut String) -> Result<(), AllocError>
+    ensures { OnOk result (string_bytes out.new ≡ string_bytes out.old ++ type_line msg_type) }
+{
     out.push_str("Message type: ")?;
     write_numbered(type_words(msg_type), u16::from(msg_type.number()), out)?;
-    out.push_str("\n")?;
-    write_flags(flags, out)?;
-    out.push_str("Datagram ID: ")?;
-    write_four_digits(dgram.id, out)?;
-    out.push_str("\n")?;
-    out.push_str("Source: ")?;
-    write_address(dgram.source, out)?;
     end_line(out)
 }
 
@@ -57,7 +59,14 @@ fn write_flags(flags: u8, out: &mut String) -> Result<(), AllocError>
 {
     write_flag("First fragment", u16::from(flags), 2, out)?;
     write_flag("More fragments", u16::from(flags), 1, out)?;
-    let node = sender_word(flags / 4 % 4);
+    write_node(flags / 4 % 4, out)
+}
+
+/// Appends the line of the sender's type of node.
+fn write_node(bits: u8, out: &mut String) -> Result<(), AllocError>
+    ensures { OnOk result (string_bytes out.new ≡ string_bytes out.old ++ node_line bits) }
+{
+    let node = sender_word(bits);
     writeln!(out, "Node type: {node}")
 }
 
@@ -66,6 +75,24 @@ fn sender_word(bits: u8) -> &'static str
     ensures { result.now ≡ sender_word bits }
 {
     if bits == 3 { "NBDD" } else { node_word(bits) }
+}
+
+/// Appends the line of the id.
+fn write_id(id: u16, out: &mut String) -> Result<(), AllocError>
+    ensures { OnOk result (string_bytes out.new ≡ string_bytes out.old ++ id_line id) }
+{
+    out.push_str("Datagram ID: ")?;
+    write_four_digits(id, out)?;
+    end_line(out)
+}
+
+/// Appends the line of the source.
+fn write_source(source: Addr, out: &mut String) -> Result<(), AllocError>
+    ensures { OnOk result (string_bytes out.new ≡ string_bytes out.old ++ source_line source) }
+{
+    out.push_str("Source: ")?;
+    write_address(source, out)?;
+    end_line(out)
 }
 
 /// The type in words (RFC 1002 section 4.4.1).
@@ -90,7 +117,7 @@ fn write_body(body: &Body<'_>, counted: usize, out: &mut String) -> Result<(), A
 {
     match body {
         Body::Fragment(fragment) => write_fragment(fragment, counted, out),
-        Body::Error(code) => write_error(*code, out),
+        Body::Error(code) => write_code_line(error_words(*code), *code, out),
         Body::Lookup(_, name) => write_name_line("Destination name: ", name, out),
     }
 }
@@ -105,9 +132,27 @@ fn write_fragment(
         × (string_bytes out.new ≡ string_bytes out.old
         ++ (offset_line counted (fragment_of fragment.now) ++ names ++ data_line (fragment_of fragment.now)))) }
 {
-    let offset = fragment.part.offset();
-    writeln!(out, "Datagram length: {counted}, packet offset: {offset}")?;
+    write_lengths(fragment, counted, out)?;
     write_part(&fragment.part, out)?;
+    write_data(fragment, out)
+}
+
+/// Appends the line of a fragment's length and offset.
+fn write_lengths(
+    fragment: &Fragment<'_>,
+    counted: usize,
+    out: &mut String,
+) -> Result<(), AllocError>
+    ensures { OnOk result (string_bytes out.new ≡ string_bytes out.old ++ offset_line counted (fragment_of fragment.now)) }
+{
+    let offset = fragment.part.offset();
+    writeln!(out, "Datagram length: {counted}, packet offset: {offset}")
+}
+
+/// Appends the line of how many octets of data a fragment has.
+fn write_data(fragment: &Fragment<'_>, out: &mut String) -> Result<(), AllocError>
+    ensures { OnOk result (string_bytes out.new ≡ string_bytes out.old ++ data_line (fragment_of fragment.now)) }
+{
     let count = fragment.payload.len();
     writeln!(out, "Data: {count} octets")
 }
@@ -132,16 +177,6 @@ fn write_name_line(label: &str, name: &Name, out: &mut String) -> Result<(), All
     out.push_str(label)?;
     write_named(name, out)?;
     end_line(out)
-}
-
-/// Appends the line of an error's code.
-fn write_error(code: u8, out: &mut String) -> Result<(), AllocError>
-    ensures { OnOk result (string_bytes out.new ≡ string_bytes out.old ++ error_line code) }
-{
-    let words = error_words(code);
-    write!(out, "Error code: {words} (")?;
-    write_two_digits(code, out)?;
-    out.push_str(")\n")
 }
 
 /// ERROR_CODE in words (RFC 1002 section 4.4.3).

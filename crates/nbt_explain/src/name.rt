@@ -3,7 +3,7 @@
 ghost use Rattle.std.specs.Prelude.{◌≡◌, ℕ, List, ◌++◌, OnOk};
 ghost use Rattle.std.specs.String.{string_bytes};
 ghost use Rattle.nbt_packet.specs.Packet.{packet_of, record_if, record_of};
-ghost use Rattle.nbt_explain.specs.Packets.{ExplainsPacket, PrintsPacket, PrintsQuestion, PrintsRecord, count_of, counts_line, flag_lines, header_lines, opcode_line, opcode_words, record_fields, reply_line, reply_words};
+ghost use Rattle.nbt_explain.specs.Packets.{ExplainsPacket, PrintsPacket, PrintsQuestion, PrintsRecord, count_of, counts_line, flag_lines, header_lines, opcode_line, opcode_words, rcode_line, record_fields, reply_line, reply_words};
 
 use crate::header;
 use crate::naming::{write_named, write_type_and_class};
@@ -93,13 +93,19 @@ fn opcode_words(opcode: u16) -> &'static str
 fn write_reply(flags: u16, out: &mut String) -> Result<(), AllocError>
     ensures { OnOk result (string_bytes out.new ≡ string_bytes out.old ++ reply_line flags) }
 {
-    if flags < 0x8000 {
+    if header::is_request(flags) {
         return Ok(());
     }
-    let rcode = header::rcode(flags);
+    write_rcode(header::rcode(flags), out)
+}
+
+/// Appends the line of an RCODE.
+fn write_rcode(rcode: u8, out: &mut String) -> Result<(), AllocError>
+    ensures { OnOk result (string_bytes out.new ≡ string_bytes out.old ++ rcode_line rcode) }
+{
     out.push_str("Reply code: ")?;
     write_numbered(reply_words(rcode), u16::from(rcode), out)?;
-    out.push_str("\n")
+    end_line(out)
 }
 
 /// RCODE in words.

@@ -7,7 +7,7 @@ ghost use Rattle.nbt_explain.specs.Parts.{PrintsNamed};
 ghost use Rattle.nbt_explain.specs.Sessions.{ExplainsSession, PrintsOne, error_words, message_lines, negative_lines, request_lines, retarget_lines};
 
 use crate::naming::write_named;
-use crate::words::write_two_digits;
+use crate::words::write_code_line;
 use nbt_name::{Addr, Name};
 use nbt_session::{Packet, Stream, StreamFault};
 use nbt_text::{end_line, write_address};
@@ -29,7 +29,8 @@ pub fn explain_session(octets: &[u8], out: &mut String) -> Result<(), AllocError
                 let (_, others) = rest.split_at(taken);
                 rest = others;
             }
-            Ok((_, None)) | Err(StreamFault::Malformed(_)) => return Ok(()),
+            Ok((_, None)) => return Ok(()),
+            Err(StreamFault::Malformed(_)) => return Ok(()),
             Err(StreamFault::OutOfMemory) => return Err(AllocError),
         }
     }
@@ -77,13 +78,8 @@ fn write_request(called: &Name, calling: &Name, out: &mut String) -> Result<(), 
 fn write_negative(code: u8, out: &mut String) -> Result<(), AllocError>
     ensures { OnOk result (string_bytes out.new ≡ string_bytes out.old ++ negative_lines code) }
 {
-    let words = error_words(code);
-    write!(
-        out,
-        "Message type: Negative session response (0x83)\nError code: {words} ("
-    )?;
-    write_two_digits(code, out)?;
-    out.push_str(")\n")
+    out.push_str("Message type: Negative session response (0x83)\n")?;
+    write_code_line(error_words(code), code, out)
 }
 
 /// The code of a negative response in words (RFC 1002 section 4.3.4).

@@ -2,9 +2,9 @@
 
 ghost use Rattle.std.specs.Prelude.{◌≡◌, ◌<◌, ◌/◌, ◌%◌, ◌++◌, OnOk};
 ghost use Rattle.std.specs.String.{string_bytes};
-ghost use Rattle.nbt_explain.specs.Words.{duration, flag_line, in_four_digits, in_two_digits, node_word, part, state, with_number};
+ghost use Rattle.nbt_explain.specs.Words.{code_line, duration, flag_line, in_four_digits, in_two_digits, node_word, part, state, with_number};
 
-use nbt_text::write_hexadecimal;
+use nbt_text::{end_line, write_hexadecimal};
 use std::alloc::AllocError;
 
 /// The seconds of a minute, an hour and a day.
@@ -23,7 +23,7 @@ pub(crate) fn write_four_digits(number: u16, out: &mut String) -> Result<(), All
 }
 
 /// Appends `0x` and two digits.
-pub(crate) fn write_two_digits(octet: u8, out: &mut String) -> Result<(), AllocError>
+fn write_two_digits(octet: u8, out: &mut String) -> Result<(), AllocError>
     ensures { OnOk result (string_bytes out.new ≡ string_bytes out.old ++ in_two_digits octet) }
 {
     out.push_str("0x")?;
@@ -49,6 +49,18 @@ pub(crate) fn write_flag(
 {
     let state = state(flags / place % 2);
     writeln!(out, "{label}: {state}")
+}
+
+/// Appends the line of an error's code: what it means, and `0x` and two digits.
+pub(crate) fn write_code_line(words: &str, code: u8, out: &mut String) -> Result<(), AllocError>
+    ensures { OnOk result (string_bytes out.new ≡ string_bytes out.old ++ code_line words.now code) }
+{
+    out.push_str("Error code: ")?;
+    out.push_str(words)?;
+    out.push_str(" (")?;
+    write_two_digits(code, out)?;
+    out.push_str(")")?;
+    end_line(out)
 }
 
 /// What a bit is.

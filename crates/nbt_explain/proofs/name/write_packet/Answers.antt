@@ -1,6 +1,7 @@
-use Rattle.std.proofs.Common.{◌++◌, append_assoc, refl}
+use Rattle.std.proofs.Common.{◌++◌, refl}
+use Rattle.std.specs.String.{string_bytes}
 use Rattle.nbt_packet.specs.Packet.{packet_of}
-use Rattle.nbt_text.proofs.Joining.{OnOk-map}
+use Rattle.nbt_text.proofs.Joining.{OnOk-map, five_parts}
 use Rattle.nbt_explain.specs.Packets.{header_lines}
 use Rattle.nbt_explain.proofs.name.write_packet.Goals as goal
 
@@ -22,5 +23,6 @@ returns c =
         reason_is = reason.1;
         text_is = refl;
       },
-      rw (reason.2, additional.2, answer.2, question.2, c.in_ok-write_header.ensures) (simp append_assoc),
+      five_parts (string_bytes c.args.out.now) (header_lines (packet_of c.args.packet.now)) question.0 answer.0 additional.0 reason.0 (string_bytes c.write_header.new.out) (string_bytes c.write_question.new.out)
+          (string_bytes c.write_record.new.out) (string_bytes c.write_record-2.new.out) (string_bytes c.write_reason.new.out) c.in_ok-write_header.ensures question.2 answer.2 additional.2 reason.2,
     ))

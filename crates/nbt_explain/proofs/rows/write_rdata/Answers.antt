@@ -5,11 +5,11 @@ use Rattle.nbt_text.proofs.Joining.{OnOk-map}
 use Rattle.nbt_explain.specs.Rows.{entries, names, others, after_names}
 use Rattle.nbt_explain.proofs.rows.write_rdata.Goals as goal
 
-pub returns-in-NB : goal.returns-in-NB
-returns-in-NB c = OnOk-map c.write_entries.result c.write_entries.ensures (λ told. (told.0, entries told.0 ? told.1, told.2))
+pub returns-in-32 : goal.returns-in-32
+returns-in-32 c = OnOk-map c.write_entries.result c.write_entries.ensures (λ told. (told.0, entries told.0 c.in-32.is told.1, told.2))
 
-pub returns-in-NBSTAT : goal.returns-in-NBSTAT
-returns-in-NBSTAT c = OnOk-map c.write_status.result c.write_status.ensures (λ told. (told.0 ++ unit_text (after_names c.args.resource.now.rdata.now), names told.0 ? told.1, told.2))
+pub returns-in-33 : goal.returns-in-33
+returns-in-33 c = OnOk-map c.write_status.result c.write_status.ensures (λ told. (told.0 ++ unit_text (after_names c.args.resource.now.rdata.now), names told.0 c.in-33.is told.1, told.2))
 
 pub returns-in_default : goal.returns-in_default
-returns-in_default c = ([], others ? ?, sym (append-nil _))
+returns-in_default c = ([], others (λ e. ?) (λ e. ?), sym (append-nil _))

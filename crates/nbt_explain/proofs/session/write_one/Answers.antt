@@ -1,18 +1,9 @@
-use Rattle.std.proofs.Common.{◌≡◌, ◌++◌, ℕ, List, Result, Ok, Err, codes, refl}
-use Rattle.std.specs.Bool.{if◌then◌else◌}
-use Rattle.std.specs.Prelude.{OnOk}
-use Rattle.std.specs.Result.{is_ok}
-use Rattle.std.specs.declared.alloc.AllocError.{AllocError}
+use Rattle.std.proofs.Common.{refl}
 use Rattle.std.specs.String.{string_bytes}
-use Rattle.nbt_session.specs.Packet.{packet_of}
-use Rattle.nbt_explain.specs.Sessions.{PrintsOne, message_lines, request_lines, positive_line, negative_lines, retarget_lines, keep_alive_line, of_message, of_request, of_positive, of_negative, of_retarget, of_keep_alive}
+use Rattle.nbt_explain.specs.Sessions.{message_lines, request_lines, positive_line, negative_lines, retarget_lines, keep_alive_line, of_message, of_request, of_positive, of_negative, of_retarget, of_keep_alive}
 use Rattle.nbt_text.proofs.Joining.{OnOk-map}
+use Rattle.nbt_explain.proofs.Written.{when_ok}
 use Rattle.nbt_explain.proofs.session.write_one.Goals as goal
-
--- a line that is written at once
-one_line : (P : List ℕ → Type 0) (old new : List ℕ) (r : Result (Unit {0}) AllocError) (line : List ℕ) → new ≡ (if is_ok r then old ++ line else old) → P line → OnOk r ((text : List ℕ) × P text × (new ≡ old ++ text))
-one_line P old new (Ok u) line written is = (line, is, written)
-one_line P old new (Err e) line written is = tt
 
 pub returns-in-Message : goal.returns-in-Message
 returns-in-Message c = OnOk-map c.write_message.result c.write_message.ensures (λ e. (
@@ -29,7 +20,8 @@ returns-in-Request c = OnOk-map c.write_request.result c.write_request.ensures (
 ))
 
 pub returns-in-Positive : goal.returns-in-Positive
-returns-in-Positive c = one_line (PrintsOne (packet_of c.args.packet.now)) (string_bytes c.args.out.now) (string_bytes c.push_str.new.self) c.push_str.result positive_line c.push_str.ensures.bytes (rw c.in-Positive.is of_positive)
+returns-in-Positive c =
+    OnOk-map c.push_str.result (when_ok (string_bytes c.args.out.now) (string_bytes c.push_str.new.self) positive_line c.push_str.result c.push_str.ensures.bytes) (λ e. (positive_line, rw c.in-Positive.is of_positive, e))
 
 pub returns-in-Negative : goal.returns-in-Negative
 returns-in-Negative c = OnOk-map c.write_negative.result c.write_negative.ensures (λ e. (negative_lines c.in-Negative.code, rw c.in-Negative.is (of_negative c.in-Negative.code), e))
@@ -38,4 +30,9 @@ pub returns-in-Retarget : goal.returns-in-Retarget
 returns-in-Retarget c = OnOk-map c.write_retarget.result c.write_retarget.ensures (λ e. (retarget_lines c.in-Retarget.to, rw c.in-Retarget.is (of_retarget c.in-Retarget.to), e))
 
 pub returns-in-KeepAlive : goal.returns-in-KeepAlive
-returns-in-KeepAlive c = one_line (PrintsOne (packet_of c.args.packet.now)) (string_bytes c.args.out.now) (string_bytes c.push_str-in-KeepAlive.new.self) c.push_str-in-KeepAlive.result keep_alive_line c.push_str-in-KeepAlive.ensures.bytes (rw c.in-KeepAlive.is of_keep_alive)
+returns-in-KeepAlive c =
+    OnOk-map c.push_str-in-KeepAlive.result (when_ok (string_bytes c.args.out.now) (string_bytes c.push_str-in-KeepAlive.new.self) keep_alive_line c.push_str-in-KeepAlive.result c.push_str-in-KeepAlive.ensures.bytes) (λ e. (
+      keep_alive_line,
+      rw c.in-KeepAlive.is of_keep_alive,
+      e,
+    ))
