@@ -143,14 +143,8 @@ fn packets_in_words(rt: HostRuntime) -> Result<(), Fail> {
                 "Transaction ID: 0x0001\nResponse: clear\nOpcode: unknown (1)\nAuthoritative: clear\nTruncated: clear\nRecursion desired: set\nRecursion available: clear\nBroadcast: clear\nQuestions: 1, answer RRs: 0, authority RRs: 0, additional RRs: 0\nQuestion: FRED#20 (file server), type A (1), class unknown (3)\nNo message: OPCODE 1, unknown: not in this profile\n",
             ),
             // No packet.
-            (
-                "-",
-                "",
-            ),
-            (
-                "0008 0100 one-name FRED",
-                "",
-            ),
+            ("-", ""),
+            ("0008 0100 one-name FRED", ""),
         ],
     )
 }
@@ -159,16 +153,8 @@ fn packets_in_words(rt: HostRuntime) -> Result<(), Fail> {
 type Wrong = (&'static str, Option<Reason>, &'static str);
 
 const WRONG: [Wrong; 25] = [
-    (
-        super::REGISTRATION,
-        None,
-        "",
-    ),
-    (
-        "0009 0010 one-name STAR NBSTAT",
-        None,
-        "",
-    ),
+    (super::REGISTRATION, None, ""),
+    ("0009 0010 one-name STAR NBSTAT", None, ""),
     (
         "0001 7900 two-parts FRED NB again NB 60s unique 127.0.0.2",
         Some(Reason::Opcode),
@@ -204,11 +190,7 @@ const WRONG: [Wrong; 25] = [
         Some(Reason::Challenge),
         "a positive response without RA, an end node's challenge: not in this profile",
     ),
-    (
-        "0001 ad06 reply FRED NB 60s unique 127.0.0.2",
-        None,
-        "",
-    ),
+    ("0001 ad06 reply FRED NB 60s unique 127.0.0.2", None, ""),
     (
         "0008 0100 two-parts FRED NB again NB 60s unique 127.0.0.2",
         Some(Reason::Sections),
@@ -356,10 +338,7 @@ fn datagrams_in_words(rt: HostRuntime) -> Result<(), Fail> {
                 "160e 0001 127.0.0.2 008a TEAM",
                 "Message type: Datagram negative query response (22)\nFirst fragment: set\nMore fragments: clear\nNode type: NBDD\nDatagram ID: 0x0001\nSource: 127.0.0.2:138\nDestination name: TEAM#20 (file server)\n",
             ),
-            (
-                "1706 0001 127.0.0.2 008a TEAM",
-                "",
-            ),
+            ("1706 0001 127.0.0.2 008a TEAM", ""),
         ],
     )
 }
@@ -378,10 +357,7 @@ fn sessions_in_words(rt: HostRuntime) -> Result<(), Fail> {
                 "83000001 80 83000001 81 83000001 83 83000001 8f 83000001 00 86",
                 "Message type: Negative session response (0x83)\nError code: Not listening on called name (0x80)\nMessage type: Negative session response (0x83)\nError code: Not listening for calling name (0x81)\nMessage type: Negative session response (0x83)\nError code: Called name present, but insufficient resources (0x83)\nMessage type: Negative session response (0x83)\nError code: Unspecified error (0x8f)\nMessage type: Negative session response (0x83)\nError code: unknown (0x00)\n",
             ),
-            (
-                "-",
-                "",
-            ),
+            ("-", ""),
         ],
     )
 }
@@ -402,8 +378,14 @@ const REFUSED: [(&[u8], FromHexError); 5] = [
     (b"0", FromHexError::OddLength),
     (b"00:0", FromHexError::OddLength),
     (b"00-01", FromHexError::OddLength),
-    (b"0g", FromHexError::InvalidHexCharacter { c: 'g', index: 1 }),
-    (b"00 :\t1", FromHexError::InvalidHexCharacter { c: '\t', index: 2 }),
+    (
+        b"0g",
+        FromHexError::InvalidHexCharacter { c: 'g', index: 1 },
+    ),
+    (
+        b"00 :\t1",
+        FromHexError::InvalidHexCharacter { c: '\t', index: 2 },
+    ),
 ];
 
 #[test]
@@ -413,7 +395,10 @@ fn digits_with_marks_between(rt: HostRuntime) -> Result<(), Fail> {
         assert_eq!(rt; octets.as_slice(), expected, "{text:?}");
     }
     for (text, error) in REFUSED {
-        assert!(rt; read_digits(rt.alloc(), text).err() == Some(error), "{text:?}");
+        assert!(rt;
+            read_digits(rt.alloc(), text).err() == Some(error),
+            "{text:?}"
+        );
     }
     Ok(())
 }

@@ -10,4 +10,4 @@ pub returns : goal.returns
 returns c =
     let number = rw (c.reply_words.ensures, c.from.ensures) at c.in_ok-write_numbered.ensures in
     OnOk-map c.end_line.result c.end_line.ensures (λ e. three_parts (string_bytes c.args.out.now) (codes "Reply code: ") (with_number (reply_words c.args.rcode) c.args.rcode) newline (string_bytes c.push_str.new.self) (string_bytes c.write_numbered.new.out) (string_bytes c.end_line.new.out)
-        c.in_ok-push_str.ensures.bytes number e)
+    c.in_ok-push_str.ensures.bytes number e)
