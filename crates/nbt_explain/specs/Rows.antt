@@ -10,13 +10,13 @@ use Rattle.nbt_tell.specs.Rows.{PrintsRows}
 use Rattle.nbt_text.specs.Lines.{newline}
 use Rattle.nbt_explain.specs.Words.{node_word}
 
--- the type of node in the first octet of NB_FLAGS and of NAME_FLAGS
-abbrev pub node_in : (flags : ℕ) → List ℕ
-node_in flags = node_word (flags / 0x20 % 4)
+-- the type of node, and who may hold the name, in the first octet of NB_FLAGS and of NAME_FLAGS
+abbrev pub holder_words : (flags : ℕ) → List ℕ
+holder_words flags = codes ", " ++ node_word (flags / 0x20 % 4) ++ codes ", " ++ kind_word (kind_in (flags ∷ []))
 
 -- an entry of six octets, as `Address: 192.0.2.7, P-node, unique`
 abbrev pub entry_line : List ℕ → List ℕ
-entry_line entry = codes "Address: " ++ dotted entry ++ codes ", " ++ node_in (slice_index entry 0) ++ codes ", " ++ kind_word (kind_in entry) ++ newline
+entry_line entry = codes "Address: " ++ dotted entry ++ holder_words (slice_index entry 0) ++ newline
 
 abbrev pub IsEntryLine : List ℕ → List ℕ → Type 0
 IsEntryLine entry line = line ≡ entry_line entry
@@ -28,8 +28,7 @@ in_brackets (letter ∷ letters) = codes " (" ++ letter ∷ letters ++ codes ")"
 
 -- what stands after the word in the line of a name of eighteen octets
 abbrev pub after_word : List ℕ → List ℕ
-after_word name = in_brackets (words_of (slice_index name 15) (kind_in (slice_index name 16 ∷ []))) ++ codes ", " ++ node_in (slice_index name 16) ++ codes ", "
-    ++ kind_word (kind_in (slice_index name 16 ∷ [])) ++ flag_words (slice_index name 16) ++ newline
+after_word name = in_brackets (words_of (slice_index name 15) (kind_in (slice_index name 16 ∷ []))) ++ holder_words (slice_index name 16) ++ flag_words (slice_index name 16) ++ newline
 
 -- as `Name: FILER#20 (file server), P-node, unique active`
 abbrev pub IsNameLine : List ℕ → List ℕ → Type 0

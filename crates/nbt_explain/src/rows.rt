@@ -5,12 +5,13 @@ ghost use Rattle.std.specs.String.{string_bytes};
 ghost use Rattle.nbt_packet.specs.Packet.{record_of};
 ghost use Rattle.nbt_tell.specs.Names.{unit_text};
 ghost use Rattle.nbt_tell.specs.Rows.{PrintsRows};
-ghost use Rattle.nbt_explain.specs.Rows.{IsEntryLine, IsNameLine, PrintsData, after_names, after_word, entry_line, names_in, node_in};
+ghost use Rattle.nbt_explain.specs.Rows.{IsEntryLine, IsNameLine, PrintsData, after_names, after_word, entry_line, holder_words, names_in};
 
 use crate::naming::write_in_brackets;
 use crate::words::node_word;
 use nbt_packet::Record;
 use nbt_spelling::{suffix_words, write_octets};
+use nbt_text::end_line;
 use nbt_tell::{kind_of, kind_word, write_dotted, write_name_flags, write_unit_id};
 use std::alloc::AllocError;
 
@@ -55,16 +56,17 @@ fn write_entry(entry: &[u8; 6], out: &mut String) -> Result<(), AllocError>
 {
     out.push_str("Address: ")?;
     write_dotted(entry, out)?;
-    let node = node_in(entry[0]);
-    let kind = kind_word(kind_of(entry[0]));
-    writeln!(out, ", {node}, {kind}")
+    write_holder(entry[0], out)?;
+    end_line(out)
 }
 
-/// The type of node in the first octet of flags.
-fn node_in(flags: u8) -> &'static str
-    ensures { result.now ≡ node_in flags }
+/// Appends the type of node, and who may hold the name, by the first octet of its flags.
+fn write_holder(flags: u8, out: &mut String) -> Result<(), AllocError>
+    ensures { OnOk result (string_bytes out.new ≡ string_bytes out.old ++ holder_words flags) }
 {
-    node_word(flags / 0x20 % 4)
+    let node = node_word(flags / 0x20 % 4);
+    let kind = kind_word(kind_of(flags));
+    write!(out, ", {node}, {kind}")
 }
 
 /// Appends a line for each name that RDATA counts, as far as they are there, and one for the unit id.
@@ -119,11 +121,9 @@ fn write_after(name: &[u8; 18], out: &mut String) -> Result<(), AllocError>
     ensures { OnOk result (string_bytes out.new ≡ string_bytes out.old ++ after_word name.now) }
 {
     let flags = name[16];
-    let kind = kind_of(flags);
-    write_in_brackets(suffix_words(name[15], kind), out)?;
-    let node = node_in(flags);
-    let word = kind_word(kind);
-    write!(out, ", {node}, {word}")?;
+    let suffix = suffix_words(name[15], kind_of(flags));
+    write_in_brackets(suffix, out)?;
+    write_holder(flags, out)?;
     write_name_flags(flags, out)?;
-    out.push_str("\n")
+    end_line(out)
 }
