@@ -1,7 +1,7 @@
 //! Which time of day it was at which moment.
 
-ghost use Rattle.std.specs.Prelude.{◌≡◌, if◌then◌else◌};
-ghost use Rattle.nbt_journal.specs.Dates.{second_at, is_near};
+ghost use Rattle.std.specs.Prelude.{◌≡◌};
+ghost use Rattle.nbt_journal.specs.Dates.{second_at, is_near, followed};
 
 use nbt_lease::Moment;
 
@@ -34,7 +34,7 @@ impl Dates {
     /// Takes this time of day at this moment, where it is more than 2,000 ms from what was thought: the clock was set. Else all
     /// is as before, so that the dates of leases stay.
     pub fn follow(&mut self, moment: Moment, time: Moment)
-        ensures { self.new ≡ (if is_near self.old moment time then self.old else record { moment = moment; time = time }) }
+        ensures { self.new ≡ followed self.old moment time }
     {
         if !self.is_near(moment, time) {
             *self = Dates { moment, time };

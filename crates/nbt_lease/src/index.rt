@@ -5,6 +5,7 @@ ghost use Rattle.std.specs.Bool.{OnFalse};
 ghost use Rattle.std.specs.List.{IsDistinct};
 ghost use Rattle.std.specs.Map.{keys_of};
 ghost use Rattle.nbt_name.specs.Wire.{NameValue};
+ghost use Rattle.nbt_lease.specs.Inner.Index.{rows_of};
 
 use crate::both::{begin_in, take_out};
 use crate::ends::Ends;
@@ -40,7 +41,7 @@ impl Model for Index {
 impl Index {
     ghost use Rattle.nbt_name.specs.Wire.{same_name};
     ghost use Rattle.nbt_lease.specs.Lease.{is_live, at_name, HasNone};
-    ghost use Rattle.nbt_lease.specs.Inner.Index.{members_of, rows_of, AreLive, Renewed, Moves, Ended};
+    ghost use Rattle.nbt_lease.specs.Inner.Index.{members_of, AreLive, Renewed, Moves, Ended};
 
     /// No leases. Takes no memory.
     pub fn new(alloc: Global) -> Index

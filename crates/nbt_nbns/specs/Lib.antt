@@ -1,4 +1,6 @@
 pub mod Begin
+pub mod Here
+pub mod Journaling
 pub mod Keeping
 pub mod Limits
 pub mod Logging

@@ -1,20 +1,28 @@
 //! A name server over this machine's UDP, its clocks and its files.
 
-ghost use Rattle.std.specs.Prelude.{◌≡◌, IfOk, IfErr};
+ghost use Rattle.std.specs.Prelude.{◌≡◌, ◌≢◌, ◌+◌, ◌≤◌, ◌^◌, ℕ, List, Err, OnOk, IfOk, IfErr, OnErr};
+ghost use Rattle.std.specs.Io.KnownBytes.{Appends};
+ghost use Rattle.nbt_lease.specs.Config.{milliseconds};
+ghost use Rattle.nbt_journal.specs.Dates.{second_at};
+ghost use Rattle.nbt_nbns.specs.Begin.{IsBegin};
+ghost use Rattle.nbt_nbns.specs.Here.{until_of, log_of, leases_of, RunsNbns, NbnsFails};
+ghost use Rattle.nbt_nbns.specs.Watching.{WatchesUntil, WatchFails};
 
 use crate::begin::write_begin;
 use crate::journal::Journal;
+use crate::keeper::Keeper;
+use crate::logger::Logger;
 use crate::place::FilePlace;
-use crate::staying::watch_on;
+use crate::staying::{Watcher, watch_on};
 use nbt_ask::SteadyClock;
-use nbt_engine::{Cause, Clock, Device, Fault, MachineCall, Port, UdpPort};
+use nbt_engine::{Cause, Clock, Fault, MachineCall, Port, UdpPort};
 use nbt_journal::Dates;
 use nbt_lease::{Config, Moment};
 use nbt_name::Addr;
-use nbt_net::{FOREVER, bound_port, readable_clock, tell_end_of};
+use nbt_net::{bound_port, readable_clock, tell_end_of};
 use nbt_samba::SambaPort;
 use nbt_server::Server;
-use std::alloc::Global;
+use std::alloc::{AllocError, Global};
 use std::io::Write;
 use std::net::Net;
 use std::rt::Files;
@@ -49,7 +57,10 @@ pub fn run_nbns<M: Net + time::Clock + Files, W: Write, E: Write>(
     arguments: &NbnsArguments,
     writer: &mut W,
     errors: &mut E,
-) -> Result<(), Fault> {
+) -> Result<(), Fault>
+    ensures ok { OnOk result (RunsNbns arguments.now (W.contents writer.old) (W.contents writer.new)) }
+    ensures device { result ≡ Err Fault.Device → NbnsFails arguments.now (W.contents writer.old) (W.contents writer.new) }
+{
     let port = bound_port(machine, arguments.bind, errors)?;
     let mut clock = steady_clock(machine, arguments.bind, errors)?;
     let mut day = readable_clock(machine, arguments.bind, errors)?;
@@ -58,23 +69,39 @@ pub fn run_nbns<M: Net + time::Clock + Files, W: Write, E: Write>(
         moment: start,
         time: day.now(),
     };
-    begin(alloc, &port, &dates, arguments.config, writer)?;
-    let place = match &arguments.leases {
-        Some(path) => Some(FilePlace::new(machine, alloc, path.as_str())?),
-        None => None,
+    tell_begin(alloc, local_of(&port), &dates, arguments.config, writer)?;
+    let mut journal = Journal {
+        dates,
+        day,
+        log: log_of(alloc, arguments.log),
+        leases: leases_of(machine, alloc, &arguments.leases)?,
     };
-    let log = if arguments.log { Some(writer) } else { None };
-    let mut journal = Journal::new(alloc, dates, day, log, place);
     let mut server = Server::start(alloc, arguments.config, start);
-    let until = end_of(start, arguments.time);
+    let until = until_of(start, arguments.time);
     if arguments.strict {
         let mut port = port;
-        let served = watch_on(&mut port, &mut clock, &mut server, &mut journal, FOREVER, until, machine, errors);
-        ended(served, port.cause(), errors)
+        watch_to_its_end(
+            &mut port,
+            &mut clock,
+            &mut server,
+            &mut journal,
+            until,
+            machine,
+            writer,
+            errors,
+        )
     } else {
         let mut port = SambaPort::new(port);
-        let served = watch_on(&mut port, &mut clock, &mut server, &mut journal, FOREVER, until, machine, errors);
-        ended(served, port.cause(), errors)
+        watch_to_its_end(
+            &mut port,
+            &mut clock,
+            &mut server,
+            &mut journal,
+            until,
+            machine,
+            writer,
+            errors,
+        )
     }
 }
 
@@ -96,15 +123,23 @@ fn steady_clock<'a, M: time::Clock, E: Write>(
     }
 }
 
+/// The address that a port really has, where the machine tells it; else the one that was asked for.
+fn local_of(port: &UdpPort) -> Addr {
+    port.local().unwrap_or(port.addr())
+}
+
 /// Prints where a server serves that starts now, for how long it is silent, and until when, at once.
-fn begin<W: Write>(
+fn tell_begin<W: Write>(
     alloc: Global,
-    port: &UdpPort,
+    at: Addr,
     dates: &Dates,
     config: Config,
     writer: &mut W,
-) -> Result<(), Fault> {
-    let at = port.local().unwrap_or(port.addr());
+) -> Result<(), Fault>
+    ensures ok { OnOk result ((line : List ℕ) × IsBegin at config.longest (second_at dates.now (dates.now.moment + milliseconds config.longest)) line
+        × Appends (W.contents writer.old) (W.contents writer.new) line) }
+    ensures err { IfErr result (λ fault. fault ≢ Fault.Device) }
+{
     let silent = config.longest();
     let until = dates.second_at(dates.moment.get() + 1000 * u64::from(silent));
     let mut line = String::new(alloc);
@@ -112,32 +147,70 @@ fn begin<W: Write>(
     print(line.as_str(), writer).map_err(|_| Fault::Output)
 }
 
-fn print<W: Write>(text: &str, writer: &mut W) -> io::Result<()> {
+fn print<W: Write>(text: &str, writer: &mut W) -> io::Result<()>
+    ensures { OnOk result (Appends (W.contents writer.old) (W.contents writer.new) text.now) }
+{
     writer.write_all(text.as_bytes())?;
     writer.flush()
 }
 
-/// The moment at which it ends: the last one where it has no end.
-fn end_of(start: Moment, time: Option<u64>) -> Moment {
-    let end = match time {
-        Some(time) => start.get().saturating_add(time),
-        None => u64::MAX,
+/// The log, if there is to be one.
+fn log_of(alloc: Global, is_wanted: bool) -> Option<Logger>
+    ensures { result ≡ log_of is_wanted }
+{
+    if is_wanted {
+        Some(Logger::new(alloc))
+    } else {
+        None
+    }
+}
+
+/// The list of leases in the file of this path, if there is to be one.
+fn leases_of<'a, M: Files>(
+    machine: &'a M,
+    alloc: Global,
+    path: &Option<String>,
+) -> Result<Option<Keeper<FilePlace<'a, M>>>, AllocError>
+    ensures { IfOk result (λ leases. leases ≡ leases_of path.now) }
+{
+    let Some(path) = path else {
+        return Ok(None);
     };
-    Moment::new(end).unwrap_or(last_moment())
+    let place = FilePlace::new(machine, alloc, path.as_str())?;
+    Ok(Some(Keeper::new(alloc, place)))
 }
 
-/// The last moment.
-fn last_moment() -> Moment {
-    Moment::new(1 << 60).unwrap()
+/// The moment at which it ends that starts at this one; none where it has no end.
+fn until_of(start: Moment, time: Option<u64>) -> Option<Moment>
+    ensures { result ≡ until_of start time }
+{
+    Moment::new(start.get().saturating_add(time?))
 }
 
-/// What a server that ended is refused with; why its port failed is said in `errors`.
-fn ended<E: Write>(
-    served: Result<(), Device>,
-    cause: Option<Cause>,
+/// Watches a server until it ends, as [`watch_on`] does. Where the port failed for good, it says why in `errors`.
+fn watch_to_its_end<P: Port, C: Clock, V: Watcher, M: time::Clock, W: Write, E: Write>(
+    port: &mut P,
+    clock: &mut C,
+    server: &mut Server,
+    watcher: &mut V,
+    until: Option<Moment>,
+    machine: &M,
+    writer: &mut W,
     errors: &mut E,
-) -> Result<(), Fault> {
-    let ended = served.map_err(|failure| Fault::from(failure));
-    tell_end_of(ended, cause, errors);
+) -> Result<(), Fault>
+    requires few { P.failures port.old ≤ 2 ^ 61 }
+    ensures ok { OnOk result (WatchesUntil P.does C.tells V.sees until
+        (record { port = port.old; clock = clock.old; server = server.old; watcher = watcher.old; text = W.contents writer.old })
+        (record { port = port.new; clock = clock.new; server = server.new; watcher = watcher.new; text = W.contents writer.new })) }
+    ensures err { OnErr result (WatchFails P.does C.tells V.sees until
+        (record { port = port.old; clock = clock.old; server = server.old; watcher = watcher.old; text = W.contents writer.old })
+        (record { port = port.new; clock = clock.new; server = server.new; watcher = watcher.new; text = W.contents writer.new })) }
+{
+    let watched = watch_on(port, clock, server, watcher, until, machine, writer, errors);
+    let ended = match watched {
+        Ok(()) => Ok(()),
+        Err(failure) => Err(Fault::from(failure)),
+    };
+    tell_end_of(ended, port.cause(), errors);
     ended
 }

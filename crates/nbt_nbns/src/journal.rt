@@ -1,61 +1,76 @@
 //! The log and the list of leases of a name server, turn by turn.
 
+ghost use Rattle.nbt_nbns.specs.Journaling.{LogsIn, KeepsIn};
+
 use crate::keeper::Keeper;
 use crate::logger::Logger;
 use crate::place::Place;
-use crate::staying::Watcher;
+use crate::staying::{Shown, Watcher};
 use nbt_engine::Clock;
-use nbt_journal::{Dates, Told};
+use nbt_journal::Dates;
 use nbt_lease::Moment;
 use nbt_server::Server;
-use std::alloc::Global;
 use std::io::Write;
 
 /// Logs what each turn of a server was, and keeps the list of its leases in a place, each where it is wanted. It dates moments by the
 /// time of day, anew where that clock was set.
 #[derive(Drop)]
-pub struct Journal<'a, D, W, L> {
-    dates: Dates,
-    day: D,
-    log: Option<(Logger, &'a mut W)>,
-    leases: Option<(Keeper, L)>,
+pub struct Journal<D, L> {
+    /// Which time of day it was at which moment.
+    pub dates: Dates,
+    /// The clock that tells the time of day.
+    pub day: D,
+    /// The log, if there is one.
+    pub log: Option<Logger>,
+    /// The list of live leases, if it is kept.
+    pub leases: Option<Keeper<L>>,
 }
 
-impl<'a, D: Clock, W: Write, L: Place> Journal<'a, D, W, L> {
-    /// It dates moments so, and by what `day` tells of the time of day; it logs to a writer and keeps the leases in a place, if
-    /// there are such.
-    pub fn new(
-        alloc: Global,
-        dates: Dates,
-        day: D,
-        writer: Option<&'a mut W>,
-        place: Option<L>,
-    ) -> Journal<'a, D, W, L> {
-        let log = match writer {
-            Some(writer) => Some((Logger::new(alloc), writer)),
-            None => None,
-        };
-        let leases = match place {
-            Some(place) => Some((Keeper::new(alloc), place)),
-            None => None,
-        };
-        Journal {
-            dates,
-            day,
-            log,
-            leases,
-        }
+impl<D: Clock, L: Place> Watcher for Journal<D, L> {
+    ghost use Rattle.nbt_nbns.specs.Journaling.{Journals};
+
+    ghost sees = { Journals D.tells L.puts };
+
+    fn see<W: Write, E: Write>(
+        &mut self,
+        server: &Server,
+        shown: &Shown,
+        writer: &mut W,
+        errors: &mut E,
+    ) {
+        let time = self.day.now();
+        self.dates.follow(shown.now, time);
+        log_in(&mut self.log, self.dates, shown, writer, errors);
+        keep_in(&mut self.leases, self.dates, server, shown.now, errors);
     }
 }
 
-impl<'a, D: Clock, W: Write, L: Place> Watcher for Journal<'a, D, W, L> {
-    fn see<E: Write>(&mut self, server: &Server, told: &Told, now: Moment, errors: &mut E) {
-        self.dates.follow(now, self.day.now());
-        if let Some((logger, writer)) = &mut self.log {
-            logger.log(&self.dates, now, told, *writer, errors);
-        }
-        if let Some((keeper, place)) = &mut self.leases {
-            keeper.keep(server, &self.dates, now, place, errors);
-        }
+/// Logs what is shown, if there is a log.
+fn log_in<W: Write, E: Write>(
+    log: &mut Option<Logger>,
+    dates: Dates,
+    shown: &Shown,
+    writer: &mut W,
+    errors: &mut E,
+)
+    ensures { LogsIn dates shown.now (W.contents writer.old) log.old log.new (W.contents writer.new) }
+{
+    if let Some(logger) = log {
+        logger.log(&dates, shown, writer, errors);
+    }
+}
+
+/// Looks at the leases, if their list is kept.
+fn keep_in<L: Place, E: Write>(
+    leases: &mut Option<Keeper<L>>,
+    dates: Dates,
+    server: &Server,
+    now: Moment,
+    errors: &mut E,
+)
+    ensures { KeepsIn L.puts dates now server.now.table.rows leases.old leases.new }
+{
+    if let Some(keeper) = leases {
+        keeper.keep(server, &dates, now, errors);
     }
 }

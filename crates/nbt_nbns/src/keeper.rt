@@ -1,10 +1,11 @@
 //! The list of live leases, kept in a place.
 
-ghost use Rattle.std.specs.Prelude.{◌≡◌, ◌↔◌, Some, None, IsTrue, IfOk};
+ghost use Rattle.std.specs.Prelude.{◌≡◌, ◌↔◌, Some, IsTrue, IfOk, MatchResult};
 ghost use Rattle.std.specs.String.{string_bytes};
 ghost use Rattle.nbt_journal.specs.Leases.{PrintsLeases};
-ghost use Rattle.nbt_nbns.specs.Keeping.{IsDue, Keeps, text_of};
+ghost use Rattle.nbt_nbns.specs.Keeping.{IsDue, Keeps, new_keeper, text_of};
 
+use crate::complaint::Complaint;
 use crate::place::Place;
 use nbt_journal::{Dates, write_leases};
 use nbt_lease::{Lease, Moment};
@@ -31,93 +32,108 @@ pub enum Kept {
     Failed,
 }
 
-/// Keeps the list of live leases in a place. A contract sees when it looked at the leases last, and which list the place has, if it
-/// was given one.
+/// Keeps the list of live leases in a place. A contract sees when it looked at the leases last, which list the place has, if it was
+/// given one, and the place.
 #[derive(Drop)]
-pub struct Keeper {
+pub struct Keeper<L> {
     alloc: Global,
     looked: Option<Moment>,
     text: Option<String>,
-    is_failing: bool,
+    complaint: Complaint,
+    place: L,
 }
 
-impl Model for Keeper {
+impl<L> Model for Keeper<L> {
     ghost use Rattle.nbt_nbns.specs.Keeping.{KeeperValue, text_of};
 
-    ghost Value = { KeeperValue };
+    ghost Value = { KeeperValue L };
 
-    ghost view = { λ k. record { looked = k.looked; text = text_of k.text } };
+    ghost view = { λ k. record { looked = k.looked; text = text_of k.text; place = k.place } };
 }
 
-impl Keeper {
-    /// It looked at no leases yet, and gave the place none.
-    pub fn new(alloc: Global) -> Keeper
-        ensures { result ≡ record { looked = None; text = None } }
+impl<L> Keeper<L> {
+    /// It looked at no leases yet, and gave this place none.
+    pub fn new(alloc: Global, place: L) -> Keeper<L>
+        ensures { result ≡ new_keeper place }
     {
         Keeper {
             alloc,
             looked: None,
             text: None,
-            is_failing: false,
+            complaint: Complaint::new("the list of leases can't be written"),
+            place,
         }
     }
 
+    /// The place.
+    pub fn place(&self) -> &L
+        ensures { result.now ≡ self.now.place }
+    {
+        &self.place
+    }
+}
+
+impl<L: Place> Keeper<L> {
     /// Looks at the leases that live at `now`, at most once in a second, and gives the place their list where it has another one.
     /// Where that can't be done, that is said in `errors`, the first time of a row, and the next look tries again.
-    pub fn keep<L: Place, E: Write>(
+    pub fn keep<E: Write>(
         &mut self,
         server: &Server,
         dates: &Dates,
         now: Moment,
-        place: &mut L,
         errors: &mut E,
     ) -> Kept
-        ensures { Keeps L.puts dates.now now server.now.table.rows self.old place.old result self.new place.new }
+        ensures { Keeps L.puts dates.now now server.now.table.rows self.old result self.new }
     {
-        if !self.is_due(now) {
+        if !is_due(self.looked, now) {
             return Kept::Early;
         }
-        self.looked = Some(now);
-        let Ok(text) = listed(self.alloc, server, dates, now) else {
-            return Kept::Failed;
-        };
-        if self.has(text.as_str()) {
-            return Kept::Same;
-        }
-        match place.replace(text.as_str()) {
-            Ok(()) => {
-                self.text = Some(text);
-                self.is_failing = false;
-                Kept::Written
+        match self.look(server, dates, now) {
+            Ok(kept) => {
+                self.complaint.end();
+                kept
             }
             Err(error) => {
-                if !self.is_failing {
-                    let _ = say(error, errors);
-                }
-                self.is_failing = true;
+                self.complaint.tell(error, errors);
                 Kept::Failed
             }
         }
     }
 
-    /// Whether a second has passed since the last look, if there was one.
-    fn is_due(&self, now: Moment) -> bool
-        ensures { IsTrue result ↔ IsDue self.now.looked now }
+    /// Looks at the leases that live at `now`, and gives the place their list where it has another one.
+    fn look(&mut self, server: &Server, dates: &Dates, now: Moment) -> io::Result<Kept>
+        requires due { IsDue self.old.looked now }
+        ensures { MatchResult result (λ kept. Keeps L.puts dates.now now server.now.table.rows self.old kept self.new)
+            (λ error. Keeps L.puts dates.now now server.now.table.rows self.old Kept.Failed self.new) }
     {
-        match self.looked {
-            Some(looked) => looked.get() + SECOND <= now.get(),
-            None => true,
+        self.looked = Some(now);
+        let text = listed(self.alloc, server, dates, now)?;
+        if has(&self.text, text.as_str()) {
+            return Ok(Kept::Same);
         }
+        self.place.replace(text.as_str())?;
+        self.text = Some(text);
+        Ok(Kept::Written)
     }
+}
 
-    /// Whether the place has this list.
-    fn has(&self, text: &str) -> bool
-        ensures { IsTrue result ↔ (self.now.text ≡ Some text.now) }
-    {
-        match &self.text {
-            Some(before) => before.as_str() == text,
-            None => false,
-        }
+/// Whether a second has passed since the last look, if there was one.
+fn is_due(looked: Option<Moment>, now: Moment) -> bool
+    ensures { IsTrue result ↔ IsDue looked now }
+{
+    match looked {
+        Some(looked) => looked.get() + SECOND <= now.get(),
+        None => true,
+    }
+}
+
+/// Whether the place has this list.
+fn has(text: &Option<String>, list: &str) -> bool
+    ensures { IsTrue result ↔ (text_of text.now ≡ Some list.now) }
+{
+    match text {
+        Some(text) => text.as_str() == list,
+        None => false,
     }
 }
 
@@ -135,9 +151,4 @@ fn listed(
     let mut text = String::new(alloc);
     write_leases(dates, now, rows.as_slice(), &mut text)?;
     Ok(text)
-}
-
-fn say<E: Write>(error: io::Error, errors: &mut E) -> io::Result<()> {
-    writeln!(errors, "nbt: the list of leases can't be written: {error}")?;
-    errors.flush()
 }

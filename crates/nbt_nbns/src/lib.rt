@@ -3,6 +3,7 @@
 #![tactic(auto)]
 
 mod begin;
+mod complaint;
 mod here;
 mod journal;
 mod keeper;
@@ -19,5 +20,5 @@ pub use keeper::{Keeper, Kept};
 pub use limits::{HOLDS_LEAST, Judged, LIVES_LEAST, LONGEST_QUIET, judge, write_refusal, write_warning};
 pub use logger::Logger;
 pub use place::{FilePlace, MemoryPlace, Place};
-pub use staying::{Watcher, watch_on};
+pub use staying::{Shown, Watcher, watch_on};
 pub use turn::watched_turn;

@@ -5,8 +5,9 @@ ghost use Rattle.std.specs.String.{string_bytes};
 ghost use Rattle.std.specs.Io.KnownBytes.{Appends};
 ghost use Rattle.nbt_nbns.specs.Logging.{is_stranger, Logs};
 
+use crate::complaint::Complaint;
+use crate::staying::Shown;
 use nbt_journal::{Dates, Limiter, Told, write_told};
-use nbt_lease::Moment;
 use std::alloc::{AllocError, Global};
 use std::io;
 use std::io::Write;
@@ -18,7 +19,7 @@ use std::marker::Model;
 pub struct Logger {
     alloc: Global,
     limiter: Limiter,
-    is_failing: bool,
+    complaint: Complaint,
 }
 
 impl Model for Logger {
@@ -37,39 +38,47 @@ impl Logger {
         Logger {
             alloc,
             limiter: Limiter::new(),
-            is_failing: false,
+            complaint: Complaint::new("the log can't be written"),
         }
     }
 
-    /// Prints the line of what a server made of a datagram at a moment, at once. Returns whether that was done: not where memory was
-    /// refused or the line can't be written, which is said in `errors`, the first time of a row.
+    /// Prints the line of what a server made of a datagram, at once, where it may be printed. Returns whether that was done: not
+    /// where memory was refused or the line can't be written, which is said in `errors`, the first time of a row.
     pub fn log<W: Write, E: Write>(
         &mut self,
         dates: &Dates,
-        now: Moment,
-        told: &Told,
+        shown: &Shown,
         writer: &mut W,
         errors: &mut E,
     ) -> bool
-        ensures { IsTrue result → (line : List ℕ) × Logs self.old dates.now now told.now line self.new × Appends (W.contents writer.old) (W.contents writer.new) line }
+        ensures { IsTrue result → (line : List ℕ) × Logs self.old dates.now shown.now.now shown.now.told line self.new × Appends (W.contents writer.old) (W.contents writer.new) line }
     {
-        let mut line = String::new(self.alloc);
-        if write_limited(&mut self.limiter, dates, now, told, &mut line).is_err() {
-            return false;
-        }
-        match print(line.as_str(), writer) {
-            Ok(()) => {
-                self.is_failing = false;
+        match self.print_line(dates, shown, writer) {
+            Ok(is_printed) => {
+                if is_printed {
+                    self.complaint.end();
+                }
                 true
             }
             Err(error) => {
-                if !self.is_failing {
-                    let _ = say(error, errors);
-                }
-                self.is_failing = true;
+                self.complaint.tell(error, errors);
                 false
             }
         }
+    }
+
+    /// Prints the line, where it may be printed. Returns whether there was one.
+    fn print_line<W: Write>(
+        &mut self,
+        dates: &Dates,
+        shown: &Shown,
+        writer: &mut W,
+    ) -> io::Result<bool>
+        ensures { OnOk result ((line : List ℕ) × Logs self.old dates.now shown.now.now shown.now.told line self.new × Appends (W.contents writer.old) (W.contents writer.new) line) }
+    {
+        let mut line = String::new(self.alloc);
+        write_limited(&mut self.limiter, dates, shown, &mut line)?;
+        print(line.as_str(), writer)
     }
 }
 
@@ -77,17 +86,17 @@ impl Logger {
 fn write_limited(
     limiter: &mut Limiter,
     dates: &Dates,
-    now: Moment,
-    told: &Told,
+    shown: &Shown,
     out: &mut String,
 ) -> Result<(), AllocError>
-    ensures { OnOk result ((line : List ℕ) × Logs limiter.old dates.now now told.now line limiter.new × (string_bytes out.new ≡ string_bytes out.old ++ line)) }
+    ensures { OnOk result ((line : List ℕ) × Logs limiter.old dates.now shown.now.now shown.now.told line limiter.new × (string_bytes out.new ≡ string_bytes out.old ++ line)) }
 {
-    let second = dates.second_at(now.get());
+    let told = &shown.told;
+    let second = dates.second_at(shown.now.get());
     if !is_stranger(told) {
         return write_told(second, told, 0, out);
     }
-    match limiter.take(now) {
+    match limiter.take(shown.now) {
         Some(left_out) => write_told(second, told, left_out, out),
         None => Ok(()),
     }
@@ -103,18 +112,14 @@ fn is_stranger(told: &Told) -> bool
     }
 }
 
-/// Writes a text, if it has any octet, at once.
-fn print<W: Write>(text: &str, writer: &mut W) -> io::Result<()>
+/// Writes a text, if it has any octet, at once. Returns whether it has.
+fn print<W: Write>(text: &str, writer: &mut W) -> io::Result<bool>
     ensures { OnOk result (Appends (W.contents writer.old) (W.contents writer.new) text.now) }
 {
     if text.is_empty() {
-        return Ok(());
+        return Ok(false);
     }
     writer.write_all(text.as_bytes())?;
-    writer.flush()
-}
-
-fn say<E: Write>(error: io::Error, errors: &mut E) -> io::Result<()> {
-    writeln!(errors, "nbt: the log can't be written: {error}")?;
-    errors.flush()
+    writer.flush()?;
+    Ok(true)
 }

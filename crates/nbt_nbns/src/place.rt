@@ -1,9 +1,10 @@
 //! Where the list of leases is kept.
 
-ghost use Rattle.std.specs.Prelude.{◌≡◌, ℕ, List, [], ◌∷◌, ◌++◌, OnOk, map};
+ghost use Rattle.std.specs.Prelude.{◌≡◌, ℕ, List, [], IfOk, OnOk, map};
 ghost use Rattle.std.specs.String.{string_bytes};
+ghost use Rattle.nbt_nbns.specs.Places.{file_of};
 
-use std::alloc::Global;
+use std::alloc::{AllocError, Global};
 use std::marker::Model;
 use std::rt::Files;
 use std::{fs, io};
@@ -19,12 +20,12 @@ pub trait Place {
         ensures { OnOk result (puts self.old text.now self.new) };
 }
 
-/// A place over memory, which keeps each text that it was given. A contract sees them in order.
+/// A place over memory, which keeps each text that it took. A contract sees them in order.
 #[derive(Drop)]
 pub struct MemoryPlace {
     alloc: Global,
     texts: Vec<String>,
-    is_full: bool,
+    refusals: u64,
 }
 
 impl Model for MemoryPlace {
@@ -44,18 +45,18 @@ impl MemoryPlace {
         MemoryPlace {
             alloc,
             texts: Vec::new(alloc),
-            is_full: false,
+            refusals: 0,
         }
     }
 
-    /// From now on it refuses each text, or takes them again.
-    pub fn set_full(&mut self, is_full: bool)
+    /// It refuses as many texts as that, and takes them again afterwards.
+    pub fn refuse(&mut self, count: u64)
         ensures { self.new ≡ self.old }
     {
-        self.is_full = is_full;
+        self.refusals = count;
     }
 
-    /// The texts that it was given.
+    /// The texts that it took.
     pub fn texts(&self) -> &[String]
         ensures { map string_bytes result.now ≡ self.now }
     {
@@ -69,7 +70,8 @@ impl Place for MemoryPlace {
     ghost puts = { Adds };
 
     fn replace(&mut self, text: &str) -> io::Result<()> {
-        if self.is_full {
+        if self.refusals > 0 {
+            self.refusals -= 1;
             return Err(io::Error::other("the place is full"));
         }
         let text = String::from_str(self.alloc, text)?;
@@ -78,7 +80,8 @@ impl Place for MemoryPlace {
     }
 }
 
-/// A file of this machine. The text is written to a new file beside it, which is then renamed over it.
+/// A file of this machine. The text is written to a new file beside it, which is then renamed over it. A contract sees the two
+/// paths.
 #[derive(Drop)]
 pub struct FilePlace<'a, R: Files> {
     machine: &'a R,
@@ -86,13 +89,20 @@ pub struct FilePlace<'a, R: Files> {
     beside: String,
 }
 
+impl<'a, R: Files> Model for FilePlace<'a, R> {
+    ghost use Rattle.std.specs.String.{string_bytes};
+    ghost use Rattle.nbt_nbns.specs.Places.{FileValue};
+
+    ghost Value = { FileValue };
+
+    ghost view = { λ p. record { path = string_bytes p.path; beside = string_bytes p.beside } };
+}
+
 impl<'a, R: Files> FilePlace<'a, R> {
-    /// The file of this path, and the one beside it whose path is the same with `.new` after it.
-    pub fn new(
-        machine: &'a R,
-        alloc: Global,
-        path: &str,
-    ) -> Result<FilePlace<'a, R>, std::alloc::AllocError> {
+    /// The file of this path. The new file beside it has the same path with `.new` after it.
+    pub fn new(machine: &'a R, alloc: Global, path: &str) -> Result<FilePlace<'a, R>, AllocError>
+        ensures { IfOk result (λ place. place ≡ file_of path.now) }
+    {
         let beside = format!(in alloc; "{path}.new")?;
         let path = String::from_str(alloc, path)?;
         Ok(FilePlace {
@@ -104,9 +114,9 @@ impl<'a, R: Files> FilePlace<'a, R> {
 }
 
 impl<'a, R: Files> Place for FilePlace<'a, R> {
-    ghost use Rattle.std.specs.Prelude.{⊤};
+    ghost use Rattle.nbt_nbns.specs.Places.{Stays};
 
-    ghost puts = { λ _ _ _. ⊤ };
+    ghost puts = { Stays };
 
     fn replace(&mut self, text: &str) -> io::Result<()> {
         fs::write(self.machine, self.beside.as_str(), text)?;

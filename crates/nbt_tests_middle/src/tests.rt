@@ -10,6 +10,7 @@ mod journal;
 mod lines;
 mod lookups;
 mod memory;
+mod nbns;
 mod ports;
 mod printing;
 mod replies;
