@@ -10,6 +10,7 @@ use crate::word::{write_dotted, write_word};
 use nbt_lease::{Lease, Moment};
 use nbt_name::Name;
 use nbt_tell::kind_word;
+use nbt_text::end_line;
 use std::alloc::AllocError;
 
 /// Appends a line for each of the rows whose lease lives at `now`, in their order: the name, its kind, the address, and when the
@@ -59,7 +60,7 @@ fn write_lease(
     write_word(name, out)?;
     write_machine(lease, out)?;
     write_time(dates.second_at(lease.end), out)?;
-    out.push_str("\n")
+    end_line(out)
 }
 
 /// Appends of which kind a lease is, and which machine has it.

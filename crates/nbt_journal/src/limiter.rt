@@ -1,7 +1,7 @@
 //! How many lines of strangers' datagrams are printed.
 
-ghost use Rattle.std.specs.Prelude.{◌≡◌, [], ◌≤◌, length};
-ghost use Rattle.nbt_journal.specs.Limiting.{LimiterValue, Limits};
+ghost use Rattle.std.specs.Prelude.{◌≡◌, ◌<◌, [], length};
+ghost use Rattle.nbt_journal.specs.Limiting.{Limits, told_at};
 
 use arrayvec::ArrayVec;
 use nbt_lease::Moment;
@@ -17,12 +17,11 @@ const SECOND: u64 = 1_000;
 /// left out since.
 #[derive(Debug, Drop)]
 pub struct Limiter {
-    told: ArrayVec<u64, 10>,
+    told: ArrayVec<Moment, 10>,
     left_out: u64,
 }
 
 impl Model for Limiter {
-    ghost use Rattle.std.specs.Prelude.{◌≤◌, length};
     ghost use Rattle.nbt_journal.specs.Limiting.{LimiterValue};
 
     ghost Value = { LimiterValue };
@@ -46,16 +45,26 @@ impl Limiter {
     pub fn take(&mut self, now: Moment) -> Option<u64>
         ensures { Limits self.old now result self.new }
     {
-        if self.told.is_full() {
-            if now.get() < self.told.as_slice()[0] + SECOND {
-                self.left_out = self.left_out.saturating_add(1);
-                return None;
-            }
-            self.told.remove(0);
+        if !self.told.is_full() {
+            return Some(self.tell(now));
         }
-        self.told.push(now.get());
+        if now.get() < self.told.as_slice()[0].get() + SECOND {
+            self.left_out = self.left_out.saturating_add(1);
+            return None;
+        }
+        self.told.remove(0);
+        Some(self.tell(now))
+    }
+
+    /// The line is the last one now. Returns how many were left out since the one before.
+    fn tell(&mut self, now: Moment) -> u64
+        requires room { length self.old.told < LINES_MOST }
+        ensures left_out { result ≡ self.old.left_out }
+        ensures told { self.new ≡ told_at self.old.told now }
+    {
+        self.told.push(now);
         let left_out = self.left_out;
         self.left_out = 0;
-        Some(left_out)
+        left_out
     }
 }

@@ -9,7 +9,7 @@ use crate::told::{Claim, Told};
 use crate::word::{write_dotted, write_word};
 use nbt_name::Addr;
 use nbt_tell::{kind_word, rcode_words};
-use nbt_text::write_address;
+use nbt_text::{end_line, write_address};
 use std::alloc::AllocError;
 
 /// Appends the line of what a server made of a datagram in a second since 1970, as `2026-11-24T09:12:03Z granted FILER#20
@@ -66,7 +66,7 @@ fn write_release(second: u64, claim: &Claim, out: &mut String) -> Result<(), All
     ensures { OnOk result ((line : List ℕ) × IsReleaseLine second claim.now line × (string_bytes out.new ≡ string_bytes out.old ++ line)) }
 {
     write_head(second, " released ", claim, out)?;
-    out.push_str("\n")
+    end_line(out)
 }
 
 /// Appends for how many seconds a lease is, and the end of the line.
@@ -134,7 +134,7 @@ fn write_left_out(left_out: u64, out: &mut String) -> Result<(), AllocError>
     ensures { OnOk result (string_bytes out.new ≡ string_bytes out.old ++ left_text left_out) }
 {
     if left_out == 0 {
-        out.push_str("\n")
+        end_line(out)
     } else {
         writeln!(out, ", {left_out} left out before")
     }

@@ -19,8 +19,9 @@ const NANOSECONDS: i128 = 1_000_000_000;
 pub fn write_time(second: u64, out: &mut String) -> Result<(), AllocError>
     ensures { OnOk result ((text : List ℕ) × IsTimeText second text × (string_bytes out.new ≡ string_bytes out.old ++ text)) }
 {
-    let text = DateTimePrinter::new().timestamp_text(timestamp_of(second));
-    out.push_str(text.as_str())
+    let printed = DateTimePrinter::new().timestamp_text(timestamp_of(second));
+    let text = printed.as_str();
+    write!(out, "{text}")
 }
 
 /// The instant of a second since 1970.

@@ -2,3 +2,5 @@
 
 -- one turn, by what its port, its clock and its server returned
 mod OneTurn
+-- a server and what watches it begin, over this machine
+mod Beginning

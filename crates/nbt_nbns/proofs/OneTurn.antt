@@ -26,26 +26,27 @@ silent : (old new : ServerValue) (now : ℕ) (from : Addr) (octets out : List �
 silent old new now from octets out (None, did, is_reply, written) = did
 silent old new now from octets out (Some reply, did, is_reply, written) = absurd cc
 
+-- a datagram came
+came_so : {P : Type 0} (does : P → PortCall → P → Type 0) (p q : P) (found : Option Addr) (from : Addr) (octets : List ℕ) → found ≡ Some from → does p (receiving (Ok found) octets) q → does p (came from octets) q
+came_so does p q found from octets some did = subst (λ o. does p (receiving (Ok o) octets) q) some did
+
+pub watched_empty : {P C : Type 0} (does : P → PortCall → P → Type 0) (tells : C → ℕ → C → Type 0) (p q : P) (c : C) (old : ServerValue) (found : Option Addr) (octets : List ℕ) (told : Told)
+    → found ≡ None → does p (receiving (Ok found) octets) q → told ≡ t.Nothing → WatchesTurn does tells p c old told q c old
+watched_empty does tells p q c old found octets told none did is = record {
+  turn = is_empty;
+  server = passes;
+  port_did = chain_one does p nothing_came q (subst (λ o. does p (receiving (Ok o) octets) q) none did);
+  clock_told = refl;
+  told_is = is;
+}
+
 module _ {P C : Type 0} (does : P → PortCall → P → Type 0) (tells : C → ℕ → C → Type 0) (p q : P) (c d : C) (old new : ServerValue) (found : Option Addr) (from : Addr) (octets out : List ℕ) (now : ℕ) (told : Told) (held : Bool) where
-  -- a datagram came
-  came_so : found ≡ Some from → does p (receiving (Ok found) octets) q → does p (came from octets) q
-  came_so some did = subst (λ o. does p (receiving (Ok o) octets) q) some did
-
-  pub watched_empty : found ≡ None → does p (receiving (Ok found) octets) q → told ≡ t.Nothing → WatchesTurn does tells p c old told q c old
-  watched_empty none did is = record {
-    turn = is_empty;
-    server = passes;
-    port_did = chain_one does p nothing_came q (subst (λ o. does p (receiving (Ok o) octets) q) none did);
-    clock_told = refl;
-    told_is = is;
-  }
-
   pub watched_silent : found ≡ Some from → does p (receiving (Ok found) octets) q → tells c now d → Served old new now from octets out false → (IsTrue held ↔ IsHeld old now octets)
       → TellsOfSilence from octets told → WatchesTurn does tells p c old told q d new
   watched_silent some did told_clock served is_held is = record {
     turn = is_taken now from octets None;
     server = takes now from octets None new (silent old new now from octets out served);
-    port_did = chain_one does p (came from octets) q (came_so some did);
+    port_did = chain_one does p (came from octets) q (came_so does p q found from octets some did);
     clock_told = chain_one tells c now d told_clock;
     told_is = (held, is_held, is);
   }
@@ -57,16 +58,17 @@ module _ {P C : Type 0} (does : P → PortCall → P → Type 0) (tells : C → 
       record {
         turn = is_taken now from octets (Some k.0);
         server = takes now from octets (Some k.0) new k.1;
-        port_did = (q, came_so some did, (r, subst (λ xs. does q (sent from xs) r) k.2 sends, refl));
+        port_did = (q, came_so does p q found from octets some did, (r, subst (λ xs. does q (sent from xs) r) k.2 sends, refl));
         clock_told = chain_one tells c now d told_clock;
         told_is = (held, is_held, is k.0 k.3);
       }
 
-  pub watched_lost : found ≡ Some from → does p (receiving (Ok found) octets) q → tells c now d → Turns old (is_lost now from octets) new → told ≡ t.Nothing → WatchesTurn does tells p c old told q d new
-  watched_lost some did told_clock lost is = record {
-    turn = is_lost now from octets;
-    server = lost;
-    port_did = chain_one does p (came from octets) q (came_so some did);
-    clock_told = chain_one tells c now d told_clock;
-    told_is = is;
-  }
+pub watched_lost : {P C : Type 0} (does : P → PortCall → P → Type 0) (tells : C → ℕ → C → Type 0) (p q : P) (c d : C) (old new : ServerValue) (found : Option Addr) (from : Addr) (octets : List ℕ) (now : ℕ) (told : Told)
+    → found ≡ Some from → does p (receiving (Ok found) octets) q → tells c now d → Turns old (is_lost now from octets) new → told ≡ t.Nothing → WatchesTurn does tells p c old told q d new
+watched_lost does tells p q c d old new found from octets now told some did told_clock lost is = record {
+  turn = is_lost now from octets;
+  server = lost;
+  port_did = chain_one does p (came from octets) q (came_so does p q found from octets some did);
+  clock_told = chain_one tells c now d told_clock;
+  told_is = is;
+}

@@ -5,19 +5,18 @@ use super::memory::{Row, clock, expect_sent, port};
 use super::{
     GRANTED, QUERY, REFRESH, REFUSED, REGISTRATION, RELEASE, RIVAL, config, moment, started,
 };
-use nbt_engine::{MemoryClock, MemoryPort, Port};
+use nbt_engine::{Fault, MemoryClock, MemoryPort, Port, UdpPort};
 use nbt_journal::Dates;
-use nbt_lease::{Config, Moment};
+use nbt_lease::Config;
 use nbt_name::Addr;
 use nbt_nbns::{
-    FilePlace, Journal, Judged, Keeper, Logger, MemoryPlace, Place, judge, watch_on, write_begin,
-    write_refusal, write_warning,
+    FilePlace, Journal, Judged, Keeper, Logger, MemoryPlace, NbnsArguments, Place, judge, run_nbns,
+    watch_on, write_begin, write_refusal, write_warning,
 };
 use nbt_server::Server;
 use std::process::Abort;
-use std::rt::Files;
 use std::test::Fail;
-use std::{env, fs, time};
+use std::{env, fs, io, process, time};
 
 const FIRST: Addr = Addr {
     ip: 0x7F000002,
@@ -374,6 +373,103 @@ fn a_place_in_memory_keeps_each_text(rt: HostRuntime) -> Result<(), Fail> {
     assert_eq!(&rt; place.texts().len(), 2);
     assert_eq!(&rt; place.texts()[0].as_str(), "one");
     assert_eq!(&rt; place.texts()[1].as_str(), "three");
+    Ok(())
+}
+
+/// A path in the folder for temporary files that no other test has.
+fn path_for(rt: &HostRuntime, name: &str) -> Result<String, Fail> {
+    let folder = env::temp_dir(rt)?;
+    let folder = folder.as_path().to_str().ok_or("no text")?;
+    let id = process::id(rt.process());
+    Ok(format!(in rt.alloc(); "{folder}/nbt-{id}-{name}")?)
+}
+
+#[test]
+fn a_file_has_one_list_or_the_other(rt: HostRuntime) -> Result<(), Fail> {
+    let path = path_for(&rt, "one-or-the-other")?;
+    let mut place = FilePlace::new(&rt, rt.alloc(), path.as_str())?;
+    place.replace("one\n")?;
+    let before = fs::open(&rt, path.as_str())?;
+    place.replace("two\n")?;
+    assert_eq!(&rt; fs::read_to_string(&rt, path.as_str())?.as_str(), "two\n");
+    // Who had it open before goes on reading the list that it had then.
+    assert_eq!(&rt; io::read_to_string(rt.alloc(), before)?.as_str(), "one\n");
+    // The new file has become the old one.
+    let beside = format!(in rt.alloc(); "{path}.new")?;
+    assert!(&rt; fs::open(&rt, beside.as_str()).is_err());
+    fs::remove_file(&rt, path.as_str())?;
+    let nowhere = format!(in rt.alloc(); "{path}/nowhere")?;
+    assert!(&rt; FilePlace::new(&rt, rt.alloc(), nowhere.as_str())?.replace("one\n").is_err());
+    Ok(())
+}
+
+/// A server over this machine, at a port that no other test has, which ends after its first turn.
+fn arguments(port: u16, strict: bool) -> Result<NbnsArguments, Fail> {
+    Ok(NbnsArguments {
+        bind: Addr {
+            ip: 0x7F2A1703,
+            port,
+        },
+        config: config(16)?,
+        time: Some(0),
+        log: true,
+        leases: None,
+        strict,
+    })
+}
+
+/// The first line has a time of day, which no test can foresee.
+fn expect_begin<R: Abort>(rt: &R, printed: &[u8], before: &[u8]) -> Result<(), Fail> {
+    assert_eq!(rt; printed.strip_prefix(before).ok_or("another line")?.len(), 21);
+    Ok(())
+}
+
+#[test]
+fn a_server_over_this_machine(rt: HostRuntime) -> Result<(), Fail> {
+    let path = path_for(&rt, "leases")?;
+    for strict in [false, true] {
+        let mut arguments = arguments(20_171, strict)?;
+        arguments.leases = Some(String::from_str(rt.alloc(), path.as_str())?);
+        let mut printed = Vec::new(rt.alloc());
+        let mut errors = Vec::new(rt.alloc());
+        run_nbns(&rt, rt.alloc(), &arguments, &mut printed, &mut errors)?;
+        expect_begin(
+            &rt,
+            printed.as_slice(),
+            b"serving 127.42.23.3:20171, silent for 60 s until ",
+        )?;
+        assert!(&rt; errors.is_empty());
+        assert_eq!(&rt; fs::read_to_string(&rt, path.as_str())?.as_str(), "");
+        fs::remove_file(&rt, path.as_str())?;
+    }
+    Ok(())
+}
+
+#[test]
+fn a_server_tells_the_port_that_it_got(rt: HostRuntime) -> Result<(), Fail> {
+    let mut printed = Vec::new(rt.alloc());
+    let mut errors = Vec::new(rt.alloc());
+    run_nbns(&rt, rt.alloc(), &arguments(0, false)?, &mut printed, &mut errors)?;
+    assert!(&rt; printed.as_slice().starts_with(b"serving 127.42.23.3:"));
+    assert!(&rt; !printed.as_slice().starts_with(b"serving 127.42.23.3:0,"));
+    Ok(())
+}
+
+#[test]
+fn a_port_that_can_not_be_had(rt: HostRuntime) -> Result<(), Fail> {
+    let arguments = arguments(20_172, false)?;
+    let _taken = UdpPort::bind(&rt, arguments.bind)?;
+    let mut printed = Vec::new(rt.alloc());
+    let mut errors = Vec::new(rt.alloc());
+    assert_eq!(&rt;
+        run_nbns(&rt, rt.alloc(), &arguments, &mut printed, &mut errors),
+        Err(Fault::NoPort)
+    );
+    assert!(&rt; printed.is_empty());
+    assert_eq!(&rt;
+        errors.as_slice(),
+        b"nbt: 127.42.23.3:20172: Address already in use (os error 98)\n".as_slice()
+    );
     Ok(())
 }
 

@@ -10,7 +10,7 @@ returns c =
     let word = c.in_ok-write_word.ensures in
     let end = c.in_ok-write_time.ensures in
     let middle = machine c.args.lease.now in
-    OnOk-map c.push_str.result c.push_str.ensures.bytes (λ e. (
+    OnOk-map c.end_line.result c.end_line.ensures (λ e. (
       word.0 ++ middle ++ end.0 ++ newline,
       record { word = word.0; end = end.0; word_is = word.1; end_is = end.1; text_is = refl },
       four_parts (string_bytes c.args.out.now) word.0 middle end.0 newline _ _ _ _ word.2 c.in_ok-write_machine.ensures end.2 e,

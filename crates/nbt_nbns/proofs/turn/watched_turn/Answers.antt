@@ -17,5 +17,5 @@ returns-in_err-from-clause-err g c =
 
 pub returns-in_default-clause-ok : goal.returns-in_default-clause-ok
 returns-in_default-clause-ok g c =
-    watched_empty g.P.Port.does g.C.Clock.tells c.args.port.now c.receive.new.self c.args.clock.now c.args.clock.now c.args.server.now c.args.server.now
-    c.in_ok-from.field-0 _ c.receive.new.octets.items _ _ _ _ c.in_default.is c.in_ok-from.ensures.does refl
+    watched_empty g.P.Port.does g.C.Clock.tells c.args.port.now c.receive.new.self c.args.clock.now c.args.server.now
+    c.in_ok-from.field-0 c.receive.new.octets.items _ c.in_default.is c.in_ok-from.ensures.does refl
