@@ -4,3 +4,5 @@
 mod Listing
 -- what a message that is read says
 mod Reading
+-- which line may be printed
+mod Remembering

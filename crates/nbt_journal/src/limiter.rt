@@ -17,7 +17,7 @@ const SECOND: u64 = 1_000;
 /// left out since.
 #[derive(Debug, Drop)]
 pub struct Limiter {
-    told: ArrayVec<Moment, 10>,
+    told: ArrayVec<u64, 10>,
     left_out: u64,
 }
 
@@ -48,7 +48,7 @@ impl Limiter {
         if !self.told.is_full() {
             return Some(self.tell(now));
         }
-        if now.get() < self.told.as_slice()[0].get() + SECOND {
+        if now.get() < self.told.as_slice()[0].saturating_add(SECOND) {
             self.left_out = self.left_out.saturating_add(1);
             return None;
         }
@@ -62,7 +62,7 @@ impl Limiter {
         ensures left_out { result ≡ self.old.left_out }
         ensures told { self.new ≡ told_at self.old.told now }
     {
-        self.told.push(now);
+        self.told.push(now.get());
         let left_out = self.left_out;
         self.left_out = 0;
         left_out

@@ -45,7 +45,8 @@ struct Watched {
     sent: &'static [Row],
 }
 
-/// What an end is made of, and what is said of errors.
+/// What a watched server is made of.
+#[derive(Drop)]
 struct Stage {
     port: MemoryPort,
     clock: MemoryClock,
@@ -82,7 +83,7 @@ fn rows_of<R: AllocGlobal>(rt: &R, turns: &[Turn]) -> Result<Vec<Row>, Fail> {
     Ok(rows)
 }
 
-fn stage<R: AllocGlobal>(rt: &R, turns: &[Turn], logs: bool, lists: bool) -> Result<Stage, Fail> {
+fn staged<R: AllocGlobal>(rt: &R, turns: &[Turn], logs: bool, lists: bool) -> Result<Stage, Fail> {
     let keeper = Keeper::new(rt.alloc(), MemoryPlace::new(rt.alloc()));
     Ok(Stage {
         port: port(rt, rows_of(rt, turns)?.as_slice())?,
@@ -137,7 +138,7 @@ fn expect_lists<R: Abort>(
 }
 
 fn play<R: Abort + AllocGlobal + time::Clock>(rt: &R, row: &Watched) -> Result<(), Fail> {
-    let mut stage = stage(rt, row.turns, row.logs, !row.lists.is_empty())?;
+    let mut stage = staged(rt, row.turns, row.logs, !row.lists.is_empty())?;
     let (printed, errors) = go_on(rt, &mut stage, row.until)?;
     assert_eq!(rt; printed.as_slice(), row.printed.as_bytes(), "{}", row.printed);
     assert!(rt; errors.is_empty());
@@ -308,7 +309,7 @@ fn watched_servers(rt: HostRuntime) -> Result<(), Fail> {
 
 #[test]
 fn a_port_that_fails_is_said_and_passed_over(rt: HostRuntime) -> Result<(), Fail> {
-    let mut stage = stage(&rt, EACH, true, true)?;
+    let mut stage = staged(&rt, EACH, true, true)?;
     stage.port.fail_after(0);
     let (printed, errors) = go_on(&rt, &mut stage, 60_000)?;
     assert_eq!(&rt; printed.as_slice(), b"2026-11-24T09:12:03Z granted FRED#20 127.0.0.2 unique 60 s\n".as_slice());
@@ -326,7 +327,7 @@ const FULL: &[Turn] = &[
 
 #[test]
 fn a_list_that_can_not_be_written_is_said_once_and_tried_again(rt: HostRuntime) -> Result<(), Fail> {
-    let mut stage = stage(&rt, FULL, false, false)?;
+    let mut stage = staged(&rt, FULL, false, false)?;
     let mut place = MemoryPlace::new(rt.alloc());
     place.refuse(2);
     stage.journal.leases = Some(Keeper::new(rt.alloc(), place));
@@ -344,7 +345,7 @@ fn a_list_that_can_not_be_written_is_said_once_and_tried_again(rt: HostRuntime) 
 
 #[test]
 fn a_log_that_can_not_be_written_is_said_once_a_row(rt: HostRuntime) -> Result<(), Fail> {
-    let mut stage = stage(&rt, EACH, true, true)?;
+    let mut stage = staged(&rt, EACH, true, true)?;
     let mut room = [0; 8];
     let mut errors = Vec::new(rt.alloc());
     assert!(&rt; stage.port.failures() <= 1 << 61);
