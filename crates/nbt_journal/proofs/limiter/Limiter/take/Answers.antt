@@ -1,4 +1,4 @@
-use Rattle.std.proofs.Common.{◌≡◌, ◌+◌, ◌<◌, ◌≤◌, length, slice_index, sym, ap, ◌∙◌, arith}
+use Rattle.std.proofs.Common.{◌≡◌, ◌+◌, ◌<◌, ◌≤◌, length, slice_index, refl, sym, ap, subst, ◌∙◌, arith}
 use Rattle.std.proofs.lemmas.Bool.{eqb-true, eqb-false}
 use Rattle.nbt_journal.specs.Limiting.{LimiterValue}
 use Rattle.nbt_journal.specs.declared.limiter.TheConstants.{LINES_MOST, SECOND}
@@ -11,7 +11,7 @@ returns-then-not-is_full c =
     let other = eqb-false (length told) LINES_MOST (sym c.is_full.ensures.value ∙ c.if-not-is_full.true) in
     let most = c.is_full.ensures.fits in
     let few : length told < LINES_MOST = omega (arith, other, most) in
-    room c.args.self.now (record { told = told; left_out = c.self.inside.left_out }) c.tell.new.self c.args.now c.tell.result c.self.view_is few c.tell.ensures.left_out c.tell.ensures.told
+    room c.args.self.now c.args.self.now c.tell.new.self c.args.now c.tell.result refl (subst (λ (o : LimiterValue). length o.told < LINES_MOST) c.self.view_is few) c.tell.ensures.left_out c.tell.ensures.told
 
 pub returns-then-get-saturating_add : goal.returns-then-get-saturating_add
 returns-then-get-saturating_add c =
