@@ -1,6 +1,6 @@
 //! What a server made of a datagram.
 
-ghost use Rattle.std.specs.Prelude.{◌≡◌, ◌↔◌, ℕ, IsTrue, IsNone};
+ghost use Rattle.std.specs.Prelude.{◌≡◌, ◌↔◌, ℕ, IsTrue, IfSome};
 ghost use Rattle.nbt_packet.specs.Message.{MessageValue, message_of, registered, released};
 ghost use Rattle.nbt_packet.specs.Spelling.{Spells};
 ghost use Rattle.nbt_server.specs.Serving.{IsForNodes};
@@ -46,7 +46,8 @@ pub enum Told {
 /// all other octets.
 pub fn claimed_in(octets: &[u8]) -> Option<(Name, u32)>
     ensures claimed { (message : MessageValue) → Spells octets.now message → result ≡ claimed_by message }
-    ensures none { ((message : MessageValue) → ¬ Spells octets.now message) → IsNone result }
+    // What octets are about that spell no message, is nothing.
+    ensures spelled { IfSome result (λ claim. (message : MessageValue) × Spells octets.now message) }
 {
     match read(octets)? {
         Message::Registration(asked) => Some((asked.name, asked.addr)),

@@ -1,6 +1,5 @@
 -- A name server and its journal begin, over this machine.
 use Rattle.std.proofs.Common.{◌≡◌, ℕ, ◌+◌, List, [], Bool, Option, refl, subst}
-use Rattle.std.specs.String.{String}
 use Rattle.std.specs.Io.KnownBytes.{Appends}
 use Rattle.nbt_name.specs.declared.addr.Addr.{Addr}
 use Rattle.nbt_lease.specs.Config.{milliseconds}

@@ -1,6 +1,6 @@
 -- What `nbns` does and prints over this machine (our profile).
-use Rattle.std.specs.Prelude.{◌≡◌, ℕ, ◌+◌, nat_le, Bool, true, false, if◌then◌else◌, List, [], Option, Some, None}
-use Rattle.std.specs.String.{string_bytes, String}
+use Rattle.std.specs.Prelude.{◌≡◌, ℕ, ◌+◌, nat_le, Bool, true, false, if◌then◌else◌, List, [], Option, Some, None, String}
+use Rattle.std.specs.String.{string_bytes}
 use Rattle.std.specs.Io.KnownBytes.{Appends}
 use Rattle.nbt_name.specs.declared.addr.Addr.{Addr}
 use Rattle.nbt_lease.specs.Config.{last_moment, milliseconds}
@@ -35,7 +35,7 @@ abbrev pub log_of : Bool → Option LimiterValue
 log_of log = if log then Some (record { told = []; left_out = 0 }) else None
 
 -- a list that was not kept yet in the file of this path, if there is to be one
-abbrev pub leases_of : Option String → Option (KeeperValue FileValue)
+abbrev pub leases_of : {A : Type 0} → Option (String A) → Option (KeeperValue FileValue)
 leases_of None = None
 leases_of (Some path) = Some (new_keeper (file_of (string_bytes path)))
 

@@ -16,7 +16,7 @@ use Rattle.nbt_nbns.specs.declared.staying.Shown.{Shown}
 -- written, some of it may be missing.
 pub data LogsIn (dates : Dates) (shown : Shown) (old_text : Option (List ℕ)) : (old new : Option LimiterValue) → (text : Option (List ℕ)) → Type 0 where
   no_log : LogsIn dates shown old_text None None old_text
-  logged : (old new : LimiterValue) (line : List ℕ) (text : Option (List ℕ)) → Logs old dates shown.now shown.told line new → Appends old_text text line → LogsIn dates shown old_text (Some old) (Some new) text
+  logged : (old new : LimiterValue) (line : List ℕ) (text : Option (List ℕ)) → Logs old dates shown.at shown.told line new → Appends old_text text line → LogsIn dates shown old_text (Some old) (Some new) text
   not_logged : (old new : LimiterValue) (text : Option (List ℕ)) → LogsIn dates shown old_text (Some old) (Some new) text
 
 -- Where the list is kept, the leases are looked at.
@@ -29,6 +29,6 @@ pub record Journals {D L : Type 0} (tells : D → ℕ → D → Type 0) (puts : 
     (old : Journal D L) (server : ServerValue) (shown : Shown) (old_text : Option (List ℕ)) (new : Journal D L) (text : Option (List ℕ)) : Type 0 where
   pub time : ℕ
   pub day_told : tells old.day time new.day
-  pub dates_are : new.dates ≡ followed old.dates shown.now time
+  pub dates_are : new.dates ≡ followed old.dates shown.at time
   pub logs : LogsIn new.dates shown old_text old.log new.log text
-  pub keeps : KeepsIn puts new.dates shown.now server.table.rows old.leases new.leases
+  pub keeps : KeepsIn puts new.dates shown.at server.table.rows old.leases new.leases

@@ -1,6 +1,6 @@
 -- The list of live leases, kept in a place (our profile).
-use Rattle.std.specs.Prelude.{◌≡◌, ◌≢◌, ℕ, ◌+◌, ◌≤◌, ⊤, List, Option, Some, None}
-use Rattle.std.specs.String.{string_bytes, String}
+use Rattle.std.specs.Prelude.{◌≡◌, ◌≢◌, ℕ, ◌+◌, ◌≤◌, ⊤, List, Option, Some, None, String}
+use Rattle.std.specs.String.{string_bytes}
 use Rattle.nbt_lease.specs.Lease.{Rows}
 use Rattle.nbt_journal.specs.Leases.{PrintsLeases}
 use Rattle.nbt_journal.specs.declared.dates.Dates.{Dates}
@@ -18,7 +18,7 @@ pub record KeeperValue (L : Type 0) : Type 0 where
 abbrev pub new_keeper : {L : Type 0} → L → KeeperValue L
 new_keeper place = record { looked = None; text = None; place = place }
 
-abbrev pub text_of : Option String → Option (List ℕ)
+abbrev pub text_of : {A : Type 0} → Option (String A) → Option (List ℕ)
 text_of None = None
 text_of (Some text) = Some (string_bytes text)
 

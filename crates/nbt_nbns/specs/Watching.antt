@@ -25,7 +25,7 @@ pub record ShowsTurn {P C : Type 0} (does : P → PortCall → P → Type 0) (te
     (old_port : P) (old_clock : C) (old : ServerValue) (shown : Shown) (port : P) (clock : C) (new : ServerValue) : Type 0 where
   pub turn_clock : C
   pub turn : WatchesTurn does tells old_port old_clock old shown.told port turn_clock new
-  pub now_told : tells turn_clock shown.now clock
+  pub now_told : tells turn_clock shown.at clock
 
 -- The same, and the watcher is shown what the turn was, and that moment.
 pub record Watches {P C V : Type 0} (does : P → PortCall → P → Type 0) (tells : C → ℕ → C → Type 0) (sees : Sight V) (old : Watching P C V) (shown : Shown) (new : Watching P C V) : Type 0 where
@@ -45,11 +45,11 @@ IsOver (Some until) now = until ≤ now
 
 -- a turn after which it isn't
 abbrev pub WatchesOn : {P C V : Type 0} → (P → PortCall → P → Type 0) → (C → ℕ → C → Type 0) → Sight V → (until : Option ℕ) → Watching P C V → Shown → Watching P C V → Type 0
-WatchesOn does tells sees until old shown new = Watches does tells sees old shown new × (¬ IsOver until shown.now)
+WatchesOn does tells sees until old shown new = Watches does tells sees old shown new × (¬ IsOver until shown.at)
 
 -- the last turn, after which it is
 abbrev pub WatchesLast : {P C V : Type 0} → (P → PortCall → P → Type 0) → (C → ℕ → C → Type 0) → Sight V → (until : Option ℕ) → Watching P C V → Watching P C V → Type 0
-WatchesLast does tells sees until old new = (shown : Shown) × Watches does tells sees old shown new × IsOver until shown.now
+WatchesLast does tells sees until old new = (shown : Shown) × Watches does tells sees old shown new × IsOver until shown.at
 
 -- It stays up for good, or until its time is over.
 abbrev pub WatchesUntil : {P C V : Type 0} → (P → PortCall → P → Type 0) → (C → ℕ → C → Type 0) → Sight V → (until : Option ℕ) → Watching P C V → Watching P C V → Type 0

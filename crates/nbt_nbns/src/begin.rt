@@ -6,7 +6,7 @@ ghost use Rattle.nbt_nbns.specs.Begin.{IsBegin};
 
 use nbt_journal::write_time;
 use nbt_name::Addr;
-use nbt_text::write_address;
+use nbt_text::{end_line, write_address};
 use std::alloc::AllocError;
 
 /// Appends where a server serves, for how many seconds it is silent, and until when, in seconds since 1970: as `serving
@@ -23,5 +23,5 @@ pub fn write_begin(
     write_address(at, out)?;
     write!(out, ", silent for {silent} s until ")?;
     write_time(until, out)?;
-    out.push_str("\n")
+    end_line(out)
 }

@@ -6,17 +6,13 @@ use std::io::Write;
 /// Says why something can't be done, at the first failure of a row.
 #[derive(Debug, Drop)]
 pub(crate) struct Complaint {
-    what: &'static str,
     is_told: bool,
 }
 
 impl Complaint {
-    /// Nothing has failed yet. `what` is what is said before the reason.
-    pub fn new(what: &'static str) -> Complaint {
-        Complaint {
-            what,
-            is_told: false,
-        }
+    /// Nothing has failed yet.
+    pub fn new() -> Complaint {
+        Complaint { is_told: false }
     }
 
     /// It was done: the row is over.
@@ -24,10 +20,10 @@ impl Complaint {
         self.is_told = false;
     }
 
-    /// It failed. What can't be written to `errors` is passed over.
-    pub fn tell<E: Write>(&mut self, error: io::Error, errors: &mut E) {
+    /// It failed: says what, and why. What can't be written to `errors` is passed over.
+    pub fn tell<E: Write>(&mut self, what: &str, error: io::Error, errors: &mut E) {
         if !self.is_told {
-            let _ = write_line(self.what, error, errors);
+            let _ = write_line(what, error, errors);
         }
         self.is_told = true;
     }

@@ -39,9 +39,9 @@ impl<D: Clock, L: Place> Watcher for Journal<D, L> {
         errors: &mut E,
     ) {
         let time = self.day.now();
-        self.dates.follow(shown.now, time);
+        self.dates.follow(shown.at, time);
         log_in(&mut self.log, self.dates, shown, writer, errors);
-        keep_in(&mut self.leases, self.dates, server, shown.now, errors);
+        keep_in(&mut self.leases, self.dates, server, shown.at, errors);
     }
 }
 

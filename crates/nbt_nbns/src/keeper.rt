@@ -60,7 +60,7 @@ impl<L> Keeper<L> {
             alloc,
             looked: None,
             text: None,
-            complaint: Complaint::new("the list of leases can't be written"),
+            complaint: Complaint::new(),
             place,
         }
     }
@@ -94,7 +94,8 @@ impl<L: Place> Keeper<L> {
                 kept
             }
             Err(error) => {
-                self.complaint.tell(error, errors);
+                self.complaint
+                    .tell("the list of leases can't be written", error, errors);
                 Kept::Failed
             }
         }

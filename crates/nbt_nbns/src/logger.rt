@@ -38,7 +38,7 @@ impl Logger {
         Logger {
             alloc,
             limiter: Limiter::new(),
-            complaint: Complaint::new("the log can't be written"),
+            complaint: Complaint::new(),
         }
     }
 
@@ -51,7 +51,7 @@ impl Logger {
         writer: &mut W,
         errors: &mut E,
     ) -> bool
-        ensures { IsTrue result → (line : List ℕ) × Logs self.old dates.now shown.now.now shown.now.told line self.new × Appends (W.contents writer.old) (W.contents writer.new) line }
+        ensures { IsTrue result → (line : List ℕ) × Logs self.old dates.now shown.now.at shown.now.told line self.new × Appends (W.contents writer.old) (W.contents writer.new) line }
     {
         match self.print_line(dates, shown, writer) {
             Ok(is_printed) => {
@@ -61,7 +61,8 @@ impl Logger {
                 true
             }
             Err(error) => {
-                self.complaint.tell(error, errors);
+                self.complaint
+                    .tell("the log can't be written", error, errors);
                 false
             }
         }
@@ -74,7 +75,7 @@ impl Logger {
         shown: &Shown,
         writer: &mut W,
     ) -> io::Result<bool>
-        ensures { OnOk result ((line : List ℕ) × Logs self.old dates.now shown.now.now shown.now.told line self.new × Appends (W.contents writer.old) (W.contents writer.new) line) }
+        ensures { OnOk result ((line : List ℕ) × Logs self.old dates.now shown.now.at shown.now.told line self.new × Appends (W.contents writer.old) (W.contents writer.new) line) }
     {
         let mut line = String::new(self.alloc);
         write_limited(&mut self.limiter, dates, shown, &mut line)?;
@@ -89,14 +90,14 @@ fn write_limited(
     shown: &Shown,
     out: &mut String,
 ) -> Result<(), AllocError>
-    ensures { OnOk result ((line : List ℕ) × Logs limiter.old dates.now shown.now.now shown.now.told line limiter.new × (string_bytes out.new ≡ string_bytes out.old ++ line)) }
+    ensures { OnOk result ((line : List ℕ) × Logs limiter.old dates.now shown.now.at shown.now.told line limiter.new × (string_bytes out.new ≡ string_bytes out.old ++ line)) }
 {
     let told = &shown.told;
-    let second = dates.second_at(shown.now.get());
+    let second = dates.second_at(shown.at.get());
     if !is_stranger(told) {
         return write_told(second, told, 0, out);
     }
-    match limiter.take(shown.now) {
+    match limiter.take(shown.at) {
         Some(left_out) => write_told(second, told, left_out, out),
         None => Ok(()),
     }

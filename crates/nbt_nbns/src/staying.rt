@@ -23,7 +23,7 @@ pub struct Shown {
     /// What the server made of what came in it.
     pub told: Told,
     /// The moment after it.
-    pub now: Moment,
+    pub at: Moment,
 }
 
 /// What watches a server: it is shown what each turn was.
@@ -66,6 +66,7 @@ pub fn watch_on<P: Port, C: Clock, V: Watcher, M: time::Clock, W: Write, E: Writ
         (record { port = port.old; clock = clock.old; server = server.old; watcher = watcher.old; text = W.contents writer.old })
         (record { port = port.new; clock = clock.new; server = server.new; watcher = watcher.new; text = W.contents writer.new })) }
 {
+    let until = &until;
     let mut row = Row::new();
     let mut octets = ArrayVec::new();
     let mut reply = ArrayVec::new();
@@ -74,7 +75,7 @@ pub fn watch_on<P: Port, C: Clock, V: Watcher, M: time::Clock, W: Write, E: Writ
             Ok(shown) => {
                 row.ends(errors);
                 watcher.see(server, &shown, writer, errors);
-                if is_over(until, shown.now) {
+                if is_over(until, shown.at) {
                     return Ok(());
                 }
             }
@@ -85,8 +86,8 @@ pub fn watch_on<P: Port, C: Clock, V: Watcher, M: time::Clock, W: Write, E: Writ
 }
 
 /// Whether the time is over, if it has an end.
-fn is_over(until: Option<Moment>, now: Moment) -> bool
-    ensures { IsTrue result ↔ IsOver until now }
+fn is_over(until: &Option<Moment>, now: Moment) -> bool
+    ensures { IsTrue result ↔ IsOver until.now now }
 {
     match until {
         Some(until) => until.get() <= now.get(),
@@ -110,6 +111,6 @@ fn turn_and_moment<P: Port, C: Clock>(
     let told = watched_turn(port, clock, server, octets, reply)?;
     Ok(Shown {
         told,
-        now: clock.now(),
+        at: clock.now(),
     })
 }

@@ -1,6 +1,6 @@
 //! One turn of a name server, and what it made of what came.
 
-ghost use Rattle.std.specs.Prelude.{◌≡◌, ◌<◌, ◌^◌, ◌↔◌, IfOk, OnErr, IsTrue};
+ghost use Rattle.std.specs.Prelude.{◌≡◌, ◌<◌, ◌^◌, ◌↔◌, IfOk, OnErr, IsTrue, Any};
 ghost use Rattle.nbt_engine.specs.PortCalls.{CountsFailure};
 ghost use Rattle.nbt_engine.specs.Serving.{Breaks};
 ghost use Rattle.nbt_nbns.specs.Turning.{IsHeld, WatchesTurn};
@@ -8,7 +8,7 @@ ghost use Rattle.nbt_nbns.specs.Turning.{IsHeld, WatchesTurn};
 use arrayvec::ArrayVec;
 use nbt_engine::{Clock, Device, Port};
 use nbt_journal::{Told, claimed_in, told_of_reply, told_of_silence};
-use nbt_lease::Moment;
+use nbt_lease::{Members, Moment};
 use nbt_server::Server;
 
 /// The server goes through one turn, as `nbt_engine::serve_turns` does, and what it made of the datagram that came is returned:
@@ -52,8 +52,12 @@ fn is_held(server: &Server, now: Moment, octets: &[u8]) -> bool
     let Some((name, addr)) = claimed_in(octets) else {
         return false;
     };
-    server
-        .table()
-        .members(now, &name)
-        .any(|lease| lease.addr == addr)
+    is_among(server.table().members(now, &name), addr)
+}
+
+/// Whether one of these leases is this address's.
+fn is_among(mut members: Members<'_>, addr: u32) -> bool
+    ensures { IsTrue result ↔ Any (λ lease. lease.addr ≡ addr) members.entry }
+{
+    members.any(|lease| lease.addr == addr)
 }

@@ -12,24 +12,24 @@ returns-in-Registration-clause-claimed c = λ message s.
     let one = rw c.in-Registration.is at (reads_one c.read.result c.args.octets.now c.in_ok-asked.field-0 c.read.ensures c.in_ok-asked.was message s) in
     rw (← one) refl
 
-pub returns-in-Registration-clause-none : goal.returns-in-Registration-clause-none
-returns-in-Registration-clause-none c = λ none. absurd (none (message_of c.in_ok-asked.field-0) (reads_this c.read.result c.args.octets.now c.in_ok-asked.field-0 c.read.ensures c.in_ok-asked.was))
+pub returns-in-Registration-clause-spelled : goal.returns-in-Registration-clause-spelled
+returns-in-Registration-clause-spelled c = (message_of c.in_ok-asked.field-0, reads_this c.read.result c.args.octets.now c.in_ok-asked.field-0 c.read.ensures c.in_ok-asked.was)
 
 pub returns-in-Refresh-clause-claimed : goal.returns-in-Refresh-clause-claimed
 returns-in-Refresh-clause-claimed c = λ message s.
     let one = rw c.in-Refresh.is at (reads_one c.read.result c.args.octets.now c.in_ok-asked.field-0 c.read.ensures c.in_ok-asked.was message s) in
     rw (← one) refl
 
-pub returns-in-Refresh-clause-none : goal.returns-in-Refresh-clause-none
-returns-in-Refresh-clause-none c = λ none. absurd (none (message_of c.in_ok-asked.field-0) (reads_this c.read.result c.args.octets.now c.in_ok-asked.field-0 c.read.ensures c.in_ok-asked.was))
+pub returns-in-Refresh-clause-spelled : goal.returns-in-Refresh-clause-spelled
+returns-in-Refresh-clause-spelled c = (message_of c.in_ok-asked.field-0, reads_this c.read.result c.args.octets.now c.in_ok-asked.field-0 c.read.ensures c.in_ok-asked.was)
 
 pub returns-in-Release-clause-claimed : goal.returns-in-Release-clause-claimed
 returns-in-Release-clause-claimed c = λ message s.
     let one = rw c.in-Release.is at (reads_one c.read.result c.args.octets.now c.in_ok-asked.field-0 c.read.ensures c.in_ok-asked.was message s) in
     rw (← one) refl
 
-pub returns-in-Release-clause-none : goal.returns-in-Release-clause-none
-returns-in-Release-clause-none c = λ none. absurd (none (message_of c.in_ok-asked.field-0) (reads_this c.read.result c.args.octets.now c.in_ok-asked.field-0 c.read.ensures c.in_ok-asked.was))
+pub returns-in-Release-clause-spelled : goal.returns-in-Release-clause-spelled
+returns-in-Release-clause-spelled c = (message_of c.in_ok-asked.field-0, reads_this c.read.result c.args.octets.now c.in_ok-asked.field-0 c.read.ensures c.in_ok-asked.was)
 
 pub returns-in_default-clause-claimed : goal.returns-in_default-clause-claimed
 returns-in_default-clause-claimed c = λ message s.
