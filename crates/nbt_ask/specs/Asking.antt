@@ -1,5 +1,5 @@
 -- A lookup as a command does it (our profile).
-use Rattle.std.specs.Prelude.{ℕ, List}
+use Rattle.std.specs.Prelude.{ℕ, ◌+◌, ◌-◌, ◌*◌, List}
 use Rattle.nbt_engine.specs.PortCalls.{PortCall}
 use Rattle.nbt_engine.specs.Udp.{UdpValue, UdpDoes, MachineTells}
 use Rattle.nbt_lease.specs.Config.{config_of}
@@ -13,6 +13,11 @@ use Rattle.nbt_node.specs.Node.{NodeValue}
 use Rattle.nbt_ask.specs.Answers.{TellsEnding}
 use Rattle.nbt_ask.specs.declared.answer.Answer.{Answer}
 use Rattle.nbt_ask.specs.declared.asking.TheConstants.{TURNS_MOST}
+use Rattle.nbt_ask.specs.declared.patience.TheConstants.{TRY}
+
+-- A lookup asks so often, one try after the other, and waits so long after the last of them.
+abbrev pub patience_of : (tries last : ℕ) → ℕ
+patience_of tries last = (tries - 1) * TRY + last
 
 -- The node that asks: it holds nothing, its server is the end that is asked, and its limits are of no use.
 abbrev pub started_node : Addr → Question → ℕ → NodeValue
@@ -43,3 +48,8 @@ pub record AskFails {P C : Type 0} (does : P → PortCall → P → Type 0) (tel
 abbrev pub AsksHere : Addr → Question → (patience : ℕ) → Answer → List ℕ → Type 0
 AsksHere own question patience answer text = (port : UdpValue) × (clock : ℕ)
     × Asks UdpDoes MachineTells own question patience (record { addr = own; failures = 0 }) 0 answer text port clock
+
+-- the same, and a call of that port fails
+abbrev pub AskFailsHere : Addr → Question → (patience : ℕ) → Type 0
+AskFailsHere own question patience = (port : UdpValue) × (clock : ℕ)
+    × AskFails UdpDoes MachineTells own question patience (record { addr = own; failures = 0 }) 0 port clock

@@ -1,19 +1,17 @@
 //! A lookup over a port and a clock.
 
-ghost use Rattle.std.specs.Prelude.{◌≡◌, ◌++◌, ◌<◌, ◌^◌, ℕ, List, Err, IfOk};
+ghost use Rattle.std.specs.Prelude.{◌≡◌, ◌≢◌, ◌++◌, ◌+◌, ◌<◌, ◌^◌, ◌⊎◌, ℕ, List, Err, IfOk, IfErr};
 ghost use Rattle.std.specs.String.{string_bytes};
 ghost use Rattle.nbt_ask.specs.Asking.{Asks, AskFails, started_node};
 ghost use Rattle.nbt_lookup.specs.Asking.{end_of};
 
 use crate::answer::{Answer, write_ending};
 use arrayvec::ArrayVec;
-use nbt_engine::{Clock, Device, Port};
+use nbt_engine::{Clock, Fault, Port};
 use nbt_lease::{Config, Moment};
 use nbt_lookup::{Question, look_up};
 use nbt_name::Addr;
 use nbt_node::Node;
-use std::alloc::AllocError;
-use thiserror::Error;
 
 /// The greatest life of a datagram, in milliseconds, and the longest lease, in seconds, of a node that holds nothing: it makes
 /// no use of them.
@@ -24,40 +22,10 @@ const LONGEST: u32 = 60;
 /// The most turns, of which each waits for one datagram: more than come in the time that a lookup has (our profile).
 pub const TURNS_MOST: u64 = 1 << 40;
 
-/// Why a lookup is told nothing of.
-#[derive(Clone, Copy, Debug, PartialEq, Eq, Error)]
-pub enum Fault {
-    /// The port can't be had, or failed, or the clock can't be read.
-    #[error("device")]
-    Device,
-    /// An allocation was refused.
-    #[error("memory")]
-    Memory,
-}
-
-impl From<Device> for Fault {
-    ghost use Rattle.nbt_ask.specs.declared.asking.Fault.TheVariants as fault;
-
-    ghost from_gives = { λ _ result. result ≡ fault.Device };
-
-    fn from(_failure: Device) -> Fault {
-        Fault::Device
-    }
-}
-
-impl From<AllocError> for Fault {
-    ghost use Rattle.nbt_ask.specs.declared.asking.Fault.TheVariants as fault;
-
-    ghost from_gives = { λ _ result. result ≡ fault.Memory };
-
-    fn from(_error: AllocError) -> Fault {
-        Fault::Memory
-    }
-}
-
 /// Asks: a node starts at `own` whose server is the end that is asked, and looks up as `nbt_lookup::look_up` does, for `patience`
 /// milliseconds at most. Appends the text of how that came out: what the reply says, or the line `no reply`. Refused: `Device` at
-/// the first call of the port that fails, and nothing is appended then; `Memory` where an allocation is refused.
+/// the first call of the port that fails, and nothing is appended then; `Memory` where an allocation is refused, which is after the
+/// lookup is over.
 pub fn ask<P: Port, C: Clock>(
     port: &mut P,
     clock: &mut C,
@@ -71,6 +39,10 @@ pub fn ask<P: Port, C: Clock>(
         × (string_bytes out.new ≡ string_bytes out.old ++ text)) }
     ensures device { result ≡ Err Fault.Device → AskFails P.does C.tells own question.now patience port.old clock.old port.new clock.new
         × (string_bytes out.new ≡ string_bytes out.old) }
+    ensures faults { IfErr result (λ fault. (fault ≡ Fault.Device) ⊎ (fault ≡ Fault.Memory)) }
+    // It is `Device` exactly where a call of the port failed.
+    ensures failed { result ≡ Err Fault.Device → P.failures port.new ≡ P.failures port.old + 1 }
+    ensures well { result ≢ Err Fault.Device → P.failures port.new ≡ P.failures port.old }
 {
     let now = clock.now();
     let mut node = start_node(own, question, now);

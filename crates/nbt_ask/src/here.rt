@@ -1,22 +1,23 @@
 //! A lookup over this machine's UDP and its clock.
 
-ghost use Rattle.std.specs.Prelude.{◌≡◌, ◌++◌, ℕ, List, IfOk};
+ghost use Rattle.std.specs.Prelude.{◌≡◌, ◌≢◌, ◌++◌, ℕ, List, Err, IfOk, IfErr};
 ghost use Rattle.std.specs.String.{string_bytes};
-ghost use Rattle.nbt_ask.specs.Asking.{AsksHere};
+ghost use Rattle.nbt_ask.specs.Asking.{AsksHere, AskFailsHere};
 
 use crate::answer::Answer;
-use crate::asking::{Fault, ask};
+use crate::asking::ask;
 use crate::clock::SteadyClock;
-use nbt_engine::{Cause, MachineCall, Port, UdpPort};
+use nbt_engine::{Cause, Fault, MachineCall, Port, UdpPort};
 use nbt_lookup::Question;
 use nbt_name::Addr;
 use std::io::Write;
 use std::net::Net;
 use std::time;
 
-/// Asks from the address `own` of this machine, as `ask` does; for 0.0.0.0:0 the machine chooses both. Refused with `Device` also
-/// where the port or the clock can't be had. Of each `Device` a line in `errors` says which call of the machine failed, for which
-/// address, and why. What can't be written to `errors` is passed over.
+/// Asks from the address `own` of this machine, as `ask` does; for 0.0.0.0:0 the machine chooses both. Refused: `NoPort` where the
+/// port can't be had; then `NoClock` where the clock can't be read; `Device` and `Memory` as `ask` is. Nothing is appended but where
+/// memory is refused. Of each but `Memory` a line in `errors` says which call of the machine failed, for which address, and why. What
+/// can't be written to `errors` is passed over.
 pub fn ask_here<M: Net + time::Clock, E: Write>(
     machine: &M,
     own: Addr,
@@ -25,7 +26,11 @@ pub fn ask_here<M: Net + time::Clock, E: Write>(
     out: &mut String,
     errors: &mut E,
 ) -> Result<Answer, Fault>
-    ensures { IfOk result (λ answer. (text : List ℕ) × AsksHere own question.now patience answer text × (string_bytes out.new ≡ string_bytes out.old ++ text)) }
+    ensures ok { IfOk result (λ answer. (text : List ℕ) × AsksHere own question.now patience answer text × (string_bytes out.new ≡ string_bytes out.old ++ text)) }
+    ensures device { result ≡ Err Fault.Device → AskFailsHere own question.now patience × (string_bytes out.new ≡ string_bytes out.old) }
+    ensures port { result ≡ Err Fault.NoPort → string_bytes out.new ≡ string_bytes out.old }
+    ensures clock { result ≡ Err Fault.NoClock → string_bytes out.new ≡ string_bytes out.old }
+    ensures output { result ≢ Err Fault.Output }
 {
     let mut port = bound_port(machine, own, errors)?;
     let mut clock = steady_clock(machine, own, errors)?;
@@ -38,13 +43,14 @@ pub fn ask_here<M: Net + time::Clock, E: Write>(
 
 /// The port at an address of this machine, where it can be had. Else it says why in `errors`.
 fn bound_port<M: Net, E: Write>(machine: &M, own: Addr, errors: &mut E) -> Result<UdpPort, Fault>
-    ensures { IfOk result (λ port. port ≡ record { addr = own; failures = 0 }) }
+    ensures ok { IfOk result (λ port. port ≡ record { addr = own; failures = 0 }) }
+    ensures err { IfErr result (λ fault. fault ≡ Fault.NoPort) }
 {
     match UdpPort::bind(machine, own) {
         Ok(port) => Ok(port),
         Err(error) => {
             Cause::new(MachineCall::Bind, own, error).tell("", errors);
-            Err(Fault::Device)
+            Err(Fault::NoPort)
         }
     }
 }
@@ -55,13 +61,14 @@ fn steady_clock<'a, M: time::Clock, E: Write>(
     own: Addr,
     errors: &mut E,
 ) -> Result<SteadyClock<'a, M>, Fault>
-    ensures { IfOk result (λ clock. clock ≡ 0) }
+    ensures ok { IfOk result (λ clock. clock ≡ 0) }
+    ensures err { IfErr result (λ fault. fault ≡ Fault.NoClock) }
 {
     match SteadyClock::begin(machine) {
         Ok(clock) => Ok(clock),
         Err(error) => {
             Cause::new(MachineCall::Clock, own, error).tell("", errors);
-            Err(Fault::Device)
+            Err(Fault::NoClock)
         }
     }
 }

@@ -6,8 +6,10 @@ mod answer;
 mod asking;
 mod clock;
 mod here;
+mod patience;
 
 pub use answer::Answer;
-pub use asking::{Fault, ask};
+pub use asking::ask;
 pub use clock::SteadyClock;
 pub use here::ask_here;
+pub use patience::{TRIES_MOST, TRY, patience_of};

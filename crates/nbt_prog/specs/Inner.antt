@@ -4,6 +4,7 @@ pub mod Arguments
 pub mod Failure
 pub mod Network
 pub mod Outcome
+pub mod People
 pub mod Printed
 pub mod Requests
 pub mod Show

@@ -6,8 +6,10 @@ ghost use Rattle.nbt_prog.specs.Inner.Requests.{AsksFor, IsRefusalOf, ShowGiven,
 ghost use Rattle.nbt_prog.specs.declared.commands.show.Service.TheVariants.{Dgram, Session};
 
 mod network;
+mod people;
 
 use crate::commands::answer::AnswerArguments;
+use crate::commands::ask::AskArguments;
 use crate::commands::show::{Service, ShowArguments};
 use crate::failure::Failure;
 use nbt_lease::Moment;
@@ -16,12 +18,15 @@ use nbt_net::{NodeArguments, ServeArguments};
 use nbt_text::{parse_address, parse_number};
 use nbt_usage::{AnswerWords, ShowWords, Words};
 use network::{loop_ports, node_arguments, serve_arguments};
+use people::{lookup_arguments, status_arguments};
 use std::alloc::Global;
 use std::convert::AsStr;
 
 /// A command with its arguments.
 #[derive(Debug, Drop)]
 pub enum Request {
+    /// Of `lookup`, or of `status`.
+    Ask(AskArguments),
     Answer(AnswerArguments),
     Show(ShowArguments),
     Check,
@@ -42,6 +47,8 @@ fn request_of(alloc: Global, words: &Words<'_>) -> Result<Request, Failure>
     ensures failure { IfErr result (IsRefusalOf words.now) }
 {
     match words {
+        Words::Lookup(words) => Ok(Request::Ask(lookup_arguments(alloc, words)?)),
+        Words::Status(words) => Ok(Request::Ask(status_arguments(alloc, words)?)),
         Words::Answer(words) => Ok(Request::Answer(answer_arguments(alloc, words)?)),
         Words::Show(words) => Ok(Request::Show(show_arguments(alloc, words)?)),
         Words::Check => Ok(Request::Check),

@@ -15,6 +15,7 @@ mod looping;
 mod machine;
 mod messages;
 mod network;
+mod people;
 mod release;
 mod replies;
 mod serving;

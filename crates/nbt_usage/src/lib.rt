@@ -1,15 +1,17 @@
 //! The command line of `nbt`: its commands and their words, and the help on them (our profile).
 //!
 //! [`read`] gives the words of a command, each under its name. What they mean is for who asks: a word that can't be taken
-//! is told by [`bad_time`], [`bad_port`] or [`bad_number`], in the same text as other wrong usage.
+//! is told by [`bad_time`], [`bad_port`], [`bad_number`] or [`bad_wait`], in the same text as other wrong usage.
 #![tactic(auto)]
 
 mod network;
+mod people;
 mod program;
 mod refusal;
 mod words;
 
 pub use network::{GROUP, NetworkCommand, NumberArgument, bad_number, bad_port};
+pub use people::{ONCE, PeopleCommand, TWICE, bad_wait};
 pub use program::{DGRAM, SESSION, bad_time, no_text};
 pub use refusal::{Refusal, Text};
-pub use words::{AnswerWords, NodeWords, ServeWords, ShowWords, Words, read};
+pub use words::{AnswerWords, AskWords, NodeWords, ServeWords, ShowWords, Words, read};

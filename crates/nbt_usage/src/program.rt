@@ -4,8 +4,8 @@ ghost use Rattle.std.specs.Prelude.{◌≡◌, IfOk};
 ghost use Rattle.clap.specs.Words.{kind_of};
 ghost use Rattle.nbt_usage.specs.Refusal.{IsWrongUsage};
 
-use crate::network;
 use crate::refusal::Refusal;
+use crate::{network, people};
 use clap::builder::ValueParser;
 use clap::error::ErrorKind;
 use clap::{Arg, Command, Error};
@@ -15,15 +15,21 @@ const ABOUT: &str =
     "NetBIOS over TCP and UDP, as RFC 1001 and RFC 1002 specify it: names, and the packets of the name service";
 
 const PROGRAM_HELP: &str = "\
-Example:
+`lookup` and `status` are for people who run a network. The others are a bench on which the protocol is tried: their words and
+texts are fixed.
+
+Examples:
+  nbt lookup FILER --server 192.0.2.1
   nbt answer 127.0.0.2:137 0001290000010000000000012045474643454645454341434143414341434143414341434143414341434143410000200001c00c002000010000003c000620007f000002
 
 Exit status:
   0  done
-  1  an address, a hexadecimal text or the input can't be read (prints `unreadable`), or octets are refused
-  2  wrong usage
+  1  an address, a hexadecimal text or the input can't be read (prints `unreadable`), or octets are refused; of `lookup` and
+     `status`: not found
+  2  wrong usage; of `lookup` and `status` also a word that can't be read
   3  input or output failed; prints `device` where it can
-  4  an allocation was refused; prints `memory`";
+  4  an allocation was refused; prints `memory`
+  5  no reply, of `lookup` and `status`";
 
 const ANSWER_ABOUT: &str =
     "Answers one packet to the name service, as a new server would, and prints the reply in hexadecimal";
@@ -169,7 +175,8 @@ pub const AT: &str = "at";
 
 /// The program with each of its commands.
 pub fn program<'a>(alloc: Global) -> Result<Command<'a>, AllocError> {
-    let program = with_values(alloc, without_commands(alloc)?)?;
+    let program = with_people(alloc, without_commands(alloc)?)?;
+    let program = with_values(alloc, program)?;
     with_network(alloc, program)
 }
 
@@ -183,6 +190,13 @@ fn without_commands<'a>(alloc: Global) -> Result<Command<'a>, AllocError> {
             .subcommand_required(true)
             .arg_required_else_help(true),
     )
+}
+
+/// Adds the commands for people who run a network.
+fn with_people<'a>(alloc: Global, program: Command<'a>) -> Result<Command<'a>, AllocError> {
+    program
+        .subcommand(people::lookup_command(alloc)?)?
+        .subcommand(people::status_command(alloc)?)
 }
 
 /// Adds the commands that read and print, and use no network.

@@ -5,7 +5,7 @@ ghost use Rattle.std.specs.Option.{option_map};
 ghost use Rattle.nbt_usage.specs.Inner.Words.{IsFlag, argument_of};
 
 use crate::refusal::Refusal;
-use crate::{network, program};
+use crate::{network, people, program};
 use clap::ArgMatches;
 use clap::error::ErrorKind;
 use std::alloc::Global;
@@ -65,9 +65,30 @@ pub struct NodeWords<'a> {
     pub turns: Option<&'a str>,
 }
 
+/// The words of `lookup`, or of `status`.
+#[derive(Clone, Copy, Debug)]
+pub struct AskWords<'a> {
+    /// The address of the name server, or of the host, that is asked.
+    pub to: &'a str,
+    /// The name that is asked for, or by which the host is asked.
+    pub name: &'a str,
+    /// Its scope; nothing where there is none.
+    pub scope: &'a str,
+    /// Whether small letters stay as they are.
+    pub exact: bool,
+    /// How often is asked: `1`, `2` or `3`.
+    pub tries: &'a str,
+    /// How long it waits after the last time.
+    pub wait: &'a str,
+    /// The own address.
+    pub bind: &'a str,
+}
+
 /// A command, with its words.
 #[derive(Clone, Copy, Debug)]
 pub enum Words<'a> {
+    Lookup(AskWords<'a>),
+    Status(AskWords<'a>),
     Answer(AnswerWords<'a>),
     Show(ShowWords<'a>),
     Check,
@@ -98,6 +119,8 @@ pub fn read<'a, S: AsStr>(alloc: Global, words: &'a [S]) -> Result<Words<'a>, Re
 /// The command of this name, with its words; `None` where there is none of that name.
 fn words_of<'a>(name: &str, matches: &ArgMatches<'a>) -> Option<Words<'a>> {
     match name {
+        people::LOOKUP => Some(Words::Lookup(ask_words(matches, network::SERVER))),
+        people::STATUS => Some(Words::Status(ask_words(matches, people::HOST))),
         program::ANSWER => Some(Words::Answer(answer_words(matches))),
         program::SHOW => Some(Words::Show(show_words(matches))),
         program::CHECK => Some(Words::Check),
@@ -106,6 +129,28 @@ fn words_of<'a>(name: &str, matches: &ArgMatches<'a>) -> Option<Words<'a>> {
         network::NODE => Some(Words::Node(node_words(matches))),
         network::LOOP => Some(Words::Loop(argument(matches, network::PORT))),
         _ => None,
+    }
+}
+
+/// The words of a question, of which the one of this name says who is asked.
+fn ask_words<'a>(matches: &ArgMatches<'a>, to: &str) -> AskWords<'a>
+    ensures to { result.to.now ≡ argument_of matches.now to.now }
+    ensures name { result.name.now ≡ argument_of matches.now (codes "name") }
+    ensures scope { result.scope.now ≡ argument_of matches.now (codes "scope") }
+    ensures exact { IsFlag matches.now (codes "exact") true → result.exact ≡ true }
+    ensures folded { IsFlag matches.now (codes "exact") false → result.exact ≡ false }
+    ensures tries { result.tries.now ≡ argument_of matches.now (codes "tries") }
+    ensures wait { result.wait.now ≡ argument_of matches.now (codes "wait") }
+    ensures bind { result.bind.now ≡ argument_of matches.now (codes "bind") }
+{
+    AskWords {
+        to: argument(matches, to),
+        name: argument(matches, network::NAME),
+        scope: argument(matches, people::SCOPE),
+        exact: matches.get_flag(people::EXACT),
+        tries: argument(matches, people::TRIES),
+        wait: argument(matches, people::WAIT),
+        bind: argument(matches, network::BIND),
     }
 }
 
@@ -183,7 +228,7 @@ fn turns<'a>(matches: &ArgMatches<'a>) -> Option<&'a str>
     Some(argument(matches, network::TURNS))
 }
 
-/// The text of an argument, which is there, since each is required or has a default.
+/// The text of an argument. Each is required or has a default, but a scope, which is nothing where it isn't there.
 fn argument<'a>(matches: &ArgMatches<'a>, name: &str) -> &'a str
     ensures { result.now ≡ argument_of matches.now name.now }
 {

@@ -7,6 +7,7 @@ use Rattle.nbt_usage.specs.declared.words.Words.TheVariants as words
 use Rattle.nbt_prog.specs.Inner.Arguments.{AreGiven, IsFailureOf, IsHexadecimal, IsPort, IsUsageFailure, SpellsPort}
 use Rattle.nbt_prog.specs.Inner.Failure.{out_of_memory}
 use Rattle.nbt_prog.specs.Inner.Network.{ServeGiven, ServeFails, NodeGiven, NodeFails}
+use Rattle.nbt_prog.specs.Inner.People.{LookupGiven, StatusGiven, AskFails, NameFails, SoughtFails}
 use Rattle.nbt_prog.specs.declared.arguments.Request.{Request}
 use Rattle.nbt_prog.specs.declared.arguments.Request.TheVariants as request
 use Rattle.nbt_prog.specs.declared.commands.show.Service.TheVariants.{Dgram, Session}
@@ -25,6 +26,8 @@ ShowFails words failure = (failure ≡ out_of_memory) ⊎ (¬ IsHexadecimal word
 
 -- the command is the one of these words, with their arguments
 abbrev pub AsksFor : Words → Request → Type 0
+AsksFor (words.Lookup w) (request.Ask a) = LookupGiven w a
+AsksFor (words.Status w) (request.Ask a) = StatusGiven w a
 AsksFor (words.Answer w) (request.Answer a) = AreGiven w a
 AsksFor (words.Show w) (request.Show a) = ShowGiven w a
 AsksFor words.Check request.Check = Unit {0}
@@ -36,6 +39,8 @@ AsksFor _ _ = ⊥
 
 -- which failure tells what is wrong with the arguments; `check` and `sim` have none
 abbrev pub IsRefusalOf : Words → Failure → Type 0
+IsRefusalOf (words.Lookup w) failure = AskFails (SoughtFails w) w failure
+IsRefusalOf (words.Status w) failure = AskFails (NameFails w) w failure
 IsRefusalOf (words.Answer w) failure = IsFailureOf w failure
 IsRefusalOf (words.Show w) failure = ShowFails w failure
 IsRefusalOf words.Check failure = ⊥

@@ -78,7 +78,14 @@ fn inputs_of_1048576_octets_and_more(rt: HostRuntime) {
 
 /// Commands that take memory, their inputs, the statuses that they end with where there is memory, and how what they
 /// print may begin then. The server of the last loses the datagram where memory is refused to its table.
-const WITH_MEMORY: [(&[&str], &[u8], u8, &[&[u8]]); 9] = [
+const WITH_MEMORY: [(&[&str], &[u8], u8, &[&[u8]]); 11] = [
+    (
+        &["nbt", "lookup", "FRED#2", "--server", "192.0.2.1"],
+        b"",
+        2,
+        &[b""],
+    ),
+    (&["nbt", "status", "192.0.2.1"], b"", 3, &[b"device\n"]),
     (
         &["nbt", "answer", "127.0.0.2:137", "8094"],
         b"",

@@ -56,7 +56,15 @@ fn without_a_network(rt: HostRuntime) {
 
 /// Commands whose port can't be had, since another program has it or since its address is no address of this machine, and what is
 /// said of it.
-const NOT_BOUND: [(&str, &str); 6] = [
+const NOT_BOUND: [(&str, &str); 8] = [
+    (
+        "nbt lookup FRED --server 127.42.24.2:22337 --bind 127.42.24.1:22337",
+        "nbt: 127.42.24.1:22337: Address already in use (os error 98)\n",
+    ),
+    (
+        "nbt status 127.42.24.2:22337 --bind 192.0.2.1:22337",
+        "nbt: 192.0.2.1:22337: Cannot assign requested address (os error 99)\n",
+    ),
     (
         "nbt serve 127.42.24.1:22337 1000 60 1",
         "nbt: 127.42.24.1:22337: Address already in use (os error 98)\n",

@@ -135,7 +135,12 @@ fn words_of_the_network(rt: HostRuntime) {
 
 /// What is done on this machine, and what by `command`, which has none. The address 192.0.2.1 is for documents alone (RFC
 /// 5737).
-const DONE: [(&str, u8, &[u8]); 3] = [
+const DONE: [(&str, u8, &[u8]); 4] = [
+    (
+        "nbt lookup FRED --server 127.42.22.1:20138 --bind 127.42.22.2:20138 --tries 1 --wait 1ms",
+        5,
+        b"no reply\n",
+    ),
     (
         "nbt serve 127.42.22.1:20138 1000 60 1",
         0,
@@ -172,7 +177,11 @@ fn with_nobody_else(rt: HostRuntime) {
 }
 
 /// The first line that is printed of each.
-const LINES: [(&str, &[u8]); 4] = [
+const LINES: [(&str, &[u8]); 5] = [
+    (
+        "nbt status 127.42.22.1:20138 --bind 127.42.22.2:20138 --tries 1 --wait 1ms",
+        b"no reply\n",
+    ),
     (
         "nbt serve 127.42.22.1:20138 1000 60 1",
         b"turns 1 replies 0 lost 0\n",

@@ -21,17 +21,17 @@ const OTHER: &str = "127.42.22.3:20139";
 /// port breaks, or 0; and how it ends, after how many readings, what is printed, what is said of errors, and what the other end
 /// is sent.
 #[derive(Clone, Copy)]
-struct Row {
-    about: &'static str,
-    words: &'static str,
-    moments: &'static [u64],
-    sends: &'static [(usize, &'static str)],
-    breaks_at: usize,
-    status: u8,
-    readings: usize,
-    text: &'static str,
-    errors: &'static str,
-    sent: &'static [&'static str],
+pub struct Row {
+    pub about: &'static str,
+    pub words: &'static str,
+    pub moments: &'static [u64],
+    pub sends: &'static [(usize, &'static str)],
+    pub breaks_at: usize,
+    pub status: u8,
+    pub readings: usize,
+    pub text: &'static str,
+    pub errors: &'static str,
+    pub sent: &'static [&'static str],
 }
 
 /// The other end's requests for names, in their order: for FRED, unique, for as long as may be, twice; and for the group
@@ -76,14 +76,14 @@ const REFUSED: &str = "0001_ad86_0000_0001_0000_0000_{FRED}_0020_0001_00000000_0
 const CONFLICT: &str = "0002_ad87_0000_0001_0000_0000_{FRED}_0020_0001_00000000_0006_2000_7f2a1602";
 
 /// What is said of a port that fails for good; of one that fails where there is no end; and of a clock.
-const FAILED: &str = "nbt: 127.42.22.2:20138: receive: Connection refused (os error 111)\n";
+pub const FAILED: &str = "nbt: 127.42.22.2:20138: receive: Connection refused (os error 111)\n";
 
 const GIVES_UP: &str = "\
 nbt: 127.42.22.2:20138: receive: Connection refused (os error 111); going on
 nbt: 127.42.22.2:20138: receive: Connection refused (os error 111)
 ";
 
-const NO_CLOCK: &str = "nbt: 127.42.22.2:20138: clock: unsupported\n";
+pub const NO_CLOCK: &str = "nbt: 127.42.22.2:20138: clock: unsupported\n";
 
 const NO_TIME: &str = "nbt: 127.42.22.2:20138: clock: the time is 1970\n";
 
@@ -291,7 +291,7 @@ fn octets<R: Abort + AllocGlobal>(rt: &R, text: &str) -> Result<Vec<u8>, Fail> {
 }
 
 /// The machine of a row, and its other end.
-fn machine_of<'a, R>(rt: &'a R, row: &Row) -> Result<Machine<'a, R>, Fail>
+pub fn machine_of<'a, R>(rt: &'a R, row: &Row) -> Result<Machine<'a, R>, Fail>
 where
     R: Abort + AllocGlobal + Net<Stream = TcpStream, Listener = TcpListener>,
 {
@@ -314,7 +314,7 @@ where
 }
 
 /// Runs a row's command, while the other end sends.
-fn expect_row<R>(rt: &R, row: &Row) -> Result<(), Fail>
+pub fn expect_row<R>(rt: &R, row: &Row) -> Result<(), Fail>
 where
     R: Abort + AllocGlobal + Net<Stream = TcpStream, Listener = TcpListener>,
 {

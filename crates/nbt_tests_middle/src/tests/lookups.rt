@@ -3,8 +3,8 @@
 use super::memory::{Row, clock, expect_sent, port};
 use super::{config, moment, octets};
 use arrayvec::ArrayVec;
-use nbt_ask::{Answer, ask};
-use nbt_engine::Port;
+use nbt_ask::{Answer, ask, patience_of};
+use nbt_engine::{Fault, Port};
 use nbt_lookup::{Ending, Question, look_up};
 use nbt_name::{Addr, Name};
 use nbt_node::{LookupFault, Node};
@@ -284,4 +284,36 @@ fn questions_as_commands_ask_them(rt: HostRuntime) -> Result<(), Fail> {
         assert_eq!(rt; answer.status(), status);
     }
     Ok(())
+}
+
+/// A port whose call after so many fails: nothing is told.
+#[test]
+fn a_question_whose_port_fails(rt: HostRuntime) -> Result<(), Fail> {
+    for (calls, sent) in [(0, 0), (1, 1)] {
+        let mut port = port(&rt, &[(SERVER, FOUND)])?;
+        port.fail_after(calls);
+        let mut clock = clock(&rt, &[0])?;
+        let mut text = String::new(rt.alloc());
+        assert!(rt; port.failures() < 1 << 62);
+        let answer = ask(
+            &mut port,
+            &mut clock,
+            OWN,
+            &question("FRED")?,
+            15_000,
+            &mut text,
+        );
+        assert_eq!(rt; answer, Err(Fault::Device));
+        assert!(rt; text.is_empty());
+        assert_eq!(rt; port.failures(), 1);
+        assert_eq!(rt; port.sent().len(), sent);
+    }
+    Ok(())
+}
+
+#[test]
+fn how_long_is_waited(rt: HostRuntime) {
+    assert_eq!(rt; patience_of(3, 5_000), 15_000);
+    assert_eq!(rt; patience_of(2, 1), 5_001);
+    assert_eq!(rt; patience_of(1, 250), 250);
 }
