@@ -7,7 +7,7 @@ ghost use Rattle.nbt_ask.specs.Asking.{AsksHere, AskFailsHere};
 use crate::answer::Answer;
 use crate::asking::ask;
 use crate::clock::SteadyClock;
-use nbt_engine::{Cause, Fault, MachineCall, Port, UdpPort};
+use nbt_engine::{Cause, Fault, MachineCall, Port, UdpPort, bound_port};
 use nbt_lookup::Question;
 use nbt_name::Addr;
 use std::io::Write;
@@ -32,7 +32,7 @@ pub fn ask_here<M: Net + time::Clock, E: Write>(
     ensures clock { result ≡ Err Fault.NoClock → string_bytes out.new ≡ string_bytes out.old }
     ensures output { result ≢ Err Fault.Output }
 {
-    let mut port = bound_port(machine, own, errors)?;
+    let mut port = port_at(machine, own, errors)?;
     let mut clock = steady_clock(machine, own, errors)?;
     let asked = ask(&mut port, &mut clock, own, question, patience, out);
     if asked == Err(Fault::Device) {
@@ -41,17 +41,14 @@ pub fn ask_here<M: Net + time::Clock, E: Write>(
     asked
 }
 
-/// The port at an address of this machine, where it can be had. Else it says why in `errors`.
-fn bound_port<M: Net, E: Write>(machine: &M, own: Addr, errors: &mut E) -> Result<UdpPort, Fault>
+/// The port at an address of this machine, as [`bound_port`] binds it. Where it can't be bound it is `NoPort`.
+fn port_at<M: Net, E: Write>(machine: &M, own: Addr, errors: &mut E) -> Result<UdpPort, Fault>
     ensures ok { IfOk result (λ port. port ≡ record { addr = own; failures = 0 }) }
     ensures err { IfErr result (λ fault. fault ≡ Fault.NoPort) }
 {
-    match UdpPort::bind(machine, own) {
+    match bound_port(machine, own, errors) {
         Ok(port) => Ok(port),
-        Err(error) => {
-            Cause::new(MachineCall::Bind, own, error).tell("", errors);
-            Err(Fault::NoPort)
-        }
+        Err(_) => Err(Fault::NoPort),
     }
 }
 

@@ -8,30 +8,23 @@ use thiserror::Error;
 
 /// What is wrong at a place of a datagram (RFC 1002 section 4.4; the numbers are our profile's).
 #[derive(Clone, Copy, Debug, PartialEq, Eq, Error)]
+#[error("{}", self.word())]
 pub enum DgramFaultKind {
     /// 1: the octets end within the datagram. The place is their length.
-    #[error("Short")]
     Short,
     /// 2: no label begins with this octet. The place is the octet's.
-    #[error("BadLabel")]
     BadLabel,
     /// 3: one of a name's 32 letters is outside `A` to `P`. The place is the letter's.
-    #[error("BadHalf")]
     BadHalf,
     /// 4: a pointer, which no name of a datagram has. The place is the pointer's.
-    #[error("BadPointer")]
     BadPointer,
     /// 5: with this label a name's wire form would pass 255 octets. The place is that of the label's length octet.
-    #[error("Long")]
     Long,
     /// 6: MSG_TYPE is not 0x10 to 0x16. The place is 0.
-    #[error("BadType")]
     BadType,
     /// 7: F is set, and PACKET_OFFSET isn't 0. The place is 12.
-    #[error("BadOffset")]
     BadOffset,
     /// 8: the names end after the octets that DGM_LENGTH counts. The place is 10.
-    #[error("BadLength")]
     BadLength,
 }
 

@@ -1,5 +1,5 @@
 -- Why work over this machine ends early, and what a program makes of it (our profile).
-use Rattle.std.specs.Prelude.{ℕ, List, [], ◌∷◌, ◌++◌, codes}
+use Rattle.std.specs.Prelude.{◌≡◌, ◌⊎◌, ℕ, List, [], ◌∷◌, ◌++◌, codes}
 use Rattle.std.specs.IoError.{error_kind}
 use Rattle.std.specs.declared.io.Error.{Error}
 use Rattle.std.specs.declared.io.ErrorKind.{ErrorKind}
@@ -30,3 +30,15 @@ fault_of_kind _ = Device
 -- a call that the machine refuses is a device's fault, but for want of memory
 abbrev pub fault_of_io : Error → Fault
 fault_of_io error = fault_of_kind (error_kind error)
+
+-- a socket that the machine refuses to bind is no port, but for want of memory
+abbrev pub fault_of_bind_kind : ErrorKind → Fault
+fault_of_bind_kind kind.OutOfMemory = Memory
+fault_of_bind_kind _ = NoPort
+
+abbrev pub fault_of_bind : Error → Fault
+fault_of_bind error = fault_of_bind_kind (error_kind error)
+
+-- the faults of a socket that isn't bound
+abbrev pub IsNotBound : Fault → Type 0
+IsNotBound fault = (fault ≡ NoPort) ⊎ (fault ≡ Memory)

@@ -21,7 +21,7 @@ pub enum MachineCall {
 }
 
 impl MachineCall {
-    /// What stands before the machine's text: the call, but for a port that can't be had.
+    /// What stands before the machine's text: the call, but for a port that can't be bound.
     fn words(self) -> &'static str {
         match self {
             MachineCall::Bind => "",

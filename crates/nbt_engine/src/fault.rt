@@ -11,7 +11,7 @@ use thiserror::Error;
 /// Why work over this machine ends early: that of a server, of a node, or of a command.
 #[derive(Clone, Copy, Debug, PartialEq, Eq, Error)]
 pub enum Fault {
-    /// A port can't be had.
+    /// A port can't be bound.
     #[error("device")]
     NoPort,
     /// The clock can't be read.

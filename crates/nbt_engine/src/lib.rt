@@ -4,6 +4,7 @@
 //! machine's clock as over memory.
 #![tactic(auto)]
 
+mod binding;
 mod cause;
 mod clock;
 mod fault;
@@ -14,6 +15,7 @@ mod serving;
 mod turning;
 mod udp;
 
+pub use binding::{bound_port, not_bound};
 pub use cause::{Cause, MachineCall};
 pub use clock::Clock;
 pub use fault::Fault;

@@ -1,5 +1,6 @@
 -- The limits that a server and its nodes share, and the seconds that a lease is granted for (our profile).
 use Rattle.std.specs.Prelude.{ℕ, ◌*◌, ◌^◌, ◌≤◌, zero, suc, min}
+use Rattle.nbt_lease.specs.declared.config.TheConstants.{LIFE_MOST, LONGEST_MOST, ROWS_MOST}
 
 -- the last moment of a clock, in milliseconds
 abbrev pub last_moment : ℕ
@@ -9,25 +10,16 @@ last_moment = 2 ^ 60
 abbrev pub milliseconds : (seconds : ℕ) → ℕ
 milliseconds seconds = 1000 * seconds
 
--- the most that each limit may be: the greatest life of a datagram, in milliseconds, the longest lease, in seconds, and
--- the live leases of a server
-abbrev pub life_most : ℕ
-life_most = 60000
-
-abbrev pub longest_most : ℕ
-longest_most = 1000000
-
-abbrev pub rows_most : ℕ
-rows_most = 4096
-
+-- which limits there are: the greatest life of a datagram, in milliseconds, the longest lease, in seconds, and the live
+-- leases of a server
 abbrev pub IsLife : ℕ → Type 0
-IsLife life = (1 ≤ life) × (life ≤ life_most)
+IsLife life = (1 ≤ life) × (life ≤ LIFE_MOST)
 
 abbrev pub IsLongest : ℕ → Type 0
-IsLongest longest = (1 ≤ longest) × (longest ≤ longest_most)
+IsLongest longest = (1 ≤ longest) × (longest ≤ LONGEST_MOST)
 
 abbrev pub IsRows : ℕ → Type 0
-IsRows rows = (1 ≤ rows) × (rows ≤ rows_most)
+IsRows rows = (1 ≤ rows) × (rows ≤ ROWS_MOST)
 
 -- A configuration as contracts see it.
 pub record ConfigValue : Type 0 where

@@ -28,14 +28,14 @@ impl Model for Config {
     ghost inverse = { λ v. record { life = v.life; longest = v.longest; rows = v.rows } };
 }
 
-/// The most milliseconds of `life`.
-const LIFE_MOST: u64 = 60_000;
+/// The most milliseconds of `life` (our profile).
+pub const LIFE_MOST: u64 = 60_000;
 
-/// The most seconds of `longest`.
-const LONGEST_MOST: u32 = 1_000_000;
+/// The most seconds of `longest` (our profile).
+pub const LONGEST_MOST: u32 = 1_000_000;
 
-/// The most live leases of a server.
-const ROWS_MOST: usize = 4_096;
+/// The most live leases of a server (our profile).
+pub const ROWS_MOST: usize = 4_096;
 
 impl Config {
     /// The limits `life` in milliseconds, `longest` in seconds and `rows` in leases. Refused in this order, the first

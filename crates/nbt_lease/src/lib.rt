@@ -18,7 +18,7 @@ mod named;
 mod standing;
 mod table;
 
-pub use config::Config;
+pub use config::{Config, LIFE_MOST, LONGEST_MOST, ROWS_MOST};
 pub use fault::{ConfigFault, GrantFault};
 pub use lease::{Grant, Lease, Released};
 pub use looks::Looks;

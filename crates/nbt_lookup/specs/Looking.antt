@@ -62,7 +62,7 @@ pub record Waits (limit : ℕ) (old : NodeValue) (turn : Turn) (new : NodeValue)
 
 -- ---- its end
 
--- What ended it, after so many turns: a reply, of these octets; or a moment at which it doesn't go on, at which nothing is
+-- What ended it, after a number of turns: a reply, of these octets; or a moment at which it doesn't go on, at which nothing is
 -- done; or that it had all its turns.
 pub data Ends (limit most count : ℕ) (old : NodeValue) : Ending → (octets : List ℕ) → List PortCall → List ℕ → NodeValue → Type 0 where
   is_told : (from : Addr) (octets : List ℕ) (turn : Turn) (told : Told) (new : NodeValue) → GoesOn limit old turn.first → Takes old turn told new → is_end told ≡ true → turn.hearing ≡ came from octets
@@ -85,7 +85,7 @@ pub record Waited {P C : Type 0} (does : P → PortCall → P → Type 0) (tells
 -- ---- the whole
 
 -- The clock is read, and the node asks nothing, for this reason; or the question goes to its end, and turns follow up to the
--- limit, which is so many milliseconds after that moment.
+-- limit, `patience` milliseconds after that moment.
 pub data Looks {P C : Type 0} (does : P → PortCall → P → Type 0) (tells : C → ℕ → C → Type 0) (question : Question) (patience most : ℕ)
     (old_port : P) (old_clock : C) (old : NodeValue) : Ending → (octets : List ℕ) → P → C → NodeValue → Type 0 where
   is_refused : (now : ℕ) (fault : LookupFault) (octets : List ℕ) (clock : C) → tells old_clock now clock → refusal_of old now question ≡ Some fault

@@ -14,13 +14,12 @@ use crate::ports::Ports;
 use crate::sessions::{Call, Session};
 use arrayvec::ArrayVec;
 use nbt_dgram::Joiner;
-use nbt_engine::{Cause, Fault, MachineCall, Port, UdpPort};
-use nbt_lease::{Config, Moment};
+use nbt_engine::{Cause, Fault, Port, UdpPort, bound_port, not_bound};
+use nbt_lease::{Config, Moment, ROWS_MOST};
 use nbt_name::{Addr, Kind, Name};
 use nbt_node::{Event, Node};
 use nbt_text::end_line;
 use std::alloc::Global;
-use std::io;
 use std::io::Write;
 use std::net::Net;
 
@@ -35,18 +34,17 @@ const SECOND: u32 = 0x7F00_0003;
 const LIFE: u64 = 1000;
 /// The longest lease, in seconds.
 const LONGEST: u32 = 60;
-/// How many leases the server keeps.
-const ROWS: usize = 4096;
 
 /// What is sent, in the datagram and in the message.
 const HELLO: &[u8] = b"hello";
 
 /// Lets a name server and two end nodes talk over the sockets of this machine: UDP for names and datagrams, TCP for
-/// sessions. Each step's line goes to `writer` as soon as it is done. All sockets are bound before the first line,
-/// and closed at the end. What another program sends to a node is passed over, up to a few datagrams or connections a
-/// step. Refused: `NoPort` where a socket can't be bound; `Device` where one of UDP or one that listens fails; `Output`
-/// where `writer` fails; `Memory` where memory is refused. Of a socket a line in `errors` says which call of it failed, at which address, and
-/// why; what can't be written there is passed over. A TCP connection that fails is lost, as the end that calls sees it.
+/// sessions. Each step's line goes to `writer` as soon as it is done. All sockets are bound before the first line, and
+/// closed at the end. What another program sends to a node is passed over, up to a few datagrams or connections a step.
+/// Refused: `NoPort` where a socket can't be bound, but for want of memory; `Device` where one of UDP or one that
+/// listens fails; `Output` where `writer` fails; `Memory` where memory is refused. Of a socket a line in `errors` says
+/// which call of it failed, at which address, and why; what can't be written there is passed over. A TCP connection
+/// that fails is lost, as the end that calls sees it.
 pub fn run<R: Net, W: Write, E: Write>(
     rt: &R,
     alloc: Global,
@@ -80,7 +78,7 @@ impl Ends {
         ports: Ports,
         errors: &mut E,
     ) -> Result<Ends, Fault> {
-        let config = Config::new(LIFE, LONGEST, ROWS).unwrap();
+        let config = Config::new(LIFE, LONGEST, ROWS_MOST).unwrap();
         let at = Addr {
             ip: SERVER,
             port: ports.names(),
@@ -284,14 +282,6 @@ fn claim<P: Port + Drop, W: Write>(
     tell(alloc, writer, step, Outcome::Event(event))
 }
 
-/// The UDP port at this address. Where it can't be had, it says why in `errors`.
-fn bound_port<R: Net, E: Write>(rt: &R, addr: Addr, errors: &mut E) -> Result<UdpPort, Fault> {
-    match UdpPort::bind(rt, addr) {
-        Ok(port) => Ok(port),
-        Err(error) => Err(not_bound(addr, error, errors)),
-    }
-}
-
 /// Listens for calls to `FRED`. Where that can't be, it says why in `errors`.
 fn listen<R: Net, E: Write>(
     rt: &R,
@@ -306,15 +296,6 @@ fn listen<R: Net, E: Write>(
     match Session::listen(rt, alloc, addr, fred()) {
         Ok(session) => Ok(session),
         Err(error) => Err(not_bound(addr, error, errors)),
-    }
-}
-
-/// Says in `errors` why no socket can be had at this address. That is `NoPort`, but for want of memory.
-fn not_bound<E: Write>(addr: Addr, error: io::Error, errors: &mut E) -> Fault {
-    Cause::new(MachineCall::Bind, addr, error).tell("", errors);
-    match Fault::from(error) {
-        Fault::Memory => Fault::Memory,
-        _ => Fault::NoPort,
     }
 }
 

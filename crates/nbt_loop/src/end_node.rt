@@ -5,6 +5,7 @@ ghost use Rattle.nbt_engine.specs.PortCalls.{receiving, sending};
 ghost use Rattle.nbt_engine.specs.Serving.{Runs};
 ghost use Rattle.nbt_engine.specs.declared.serving.Counts.{Counts};
 ghost use Rattle.nbt_loop.specs.Counting.{CountsOn};
+ghost use Rattle.nbt_loop.specs.declared.end_node.TheConstants.{BEGIN};
 
 use crate::clock::CountedClock;
 use arrayvec::ArrayVec;
@@ -54,10 +55,10 @@ pub struct NameServer<P: Drop> {
 }
 
 impl<P: Port + Drop> NameServer<P> {
-    /// A server over this port, which is at `addr`. It started at 0, and the clock is at 60,000.
+    /// A server over this port, which is at `addr`. It started at 0, and the clock is at `BEGIN`.
     pub fn start(alloc: Global, config: Config, addr: Addr, port: P) -> NameServer<P>
         ensures addr { result.addr ≡ addr }
-        ensures clock { result.clock ≡ 60000 }
+        ensures clock { result.clock ≡ BEGIN }
     {
         NameServer {
             server: Server::start(alloc, config, Moment::zero()),

@@ -17,4 +17,4 @@ mod ports;
 mod sessions;
 
 pub use demo::run;
-pub use ports::Ports;
+pub use ports::{FIRST_PORT_MOST, Ports};

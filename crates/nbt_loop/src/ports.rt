@@ -1,24 +1,25 @@
 //! The three ports that are used.
 
 ghost use Rattle.std.specs.Prelude.{◌≡◌, ◌+◌, ◌<◌, ◌≤◌, ◌↔◌, IsSome, IfSome};
+ghost use Rattle.nbt_loop.specs.declared.ports.TheConstants.{FIRST_PORT_MOST};
 
-/// The greatest first port: two more follow it.
-const LAST: u64 = 65533;
+/// The greatest first port: two more follow it (our profile).
+pub const FIRST_PORT_MOST: u64 = 65_533;
 
 /// Three ports in a row: of the name service and of datagrams over UDP, and of sessions over TCP.
 #[derive(Clone, Copy, Debug, PartialEq, Eq)]
 pub struct Ports {
     names: u16,
-    ghost room: { (1 ≤ names) × (names ≤ 65533) },
+    ghost room: { (1 ≤ names) × (names ≤ FIRST_PORT_MOST) },
 }
 
 impl Ports {
     /// The three ports of which the first is `first`, which is 1 to 65,533; else none (our profile).
     pub fn new(first: u64) -> Option<Ports>
-        ensures found { IsSome result ↔ ((1 ≤ first) × (first ≤ 65533)) }
+        ensures found { IsSome result ↔ ((1 ≤ first) × (first ≤ FIRST_PORT_MOST)) }
         ensures names { IfSome result (λ ports. ports.names ≡ first) }
     {
-        if first == 0 || first > LAST {
+        if first == 0 || first > FIRST_PORT_MOST {
             return None;
         }
         Some(Ports {

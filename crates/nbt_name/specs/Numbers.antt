@@ -1,5 +1,5 @@
--- The numbers of faults and refusals (our profile).
-use Rattle.std.specs.Prelude.{ℕ}
+-- Faults and refusals, with their numbers and words (our profile).
+use Rattle.std.specs.Prelude.{ℕ, List, codes}
 use Rattle.nbt_name.specs.declared.fault.NameFaultKind.{NameFaultKind}
 use Rattle.nbt_name.specs.declared.fault.NameFaultKind.TheVariants as kinds
 use Rattle.nbt_name.specs.declared.fault.NameRefusal.{NameRefusal}
@@ -11,6 +11,14 @@ fault_number kinds.BadLabel = 2
 fault_number kinds.BadHalf = 3
 fault_number kinds.BadPointer = 4
 fault_number kinds.Long = 5
+
+-- the word by which a fault is printed and read
+abbrev pub fault_word : NameFaultKind → List ℕ
+fault_word kinds.Short = codes "Short"
+fault_word kinds.BadLabel = codes "BadLabel"
+fault_word kinds.BadHalf = codes "BadHalf"
+fault_word kinds.BadPointer = codes "BadPointer"
+fault_word kinds.Long = codes "Long"
 
 abbrev pub refusal_number : NameRefusal → ℕ
 refusal_number refusals.Star = 1

@@ -1,27 +1,24 @@
 //! What a name's octets can have wrong, and where.
 
-ghost use Rattle.std.specs.Prelude.{◌≡◌};
-ghost use Rattle.nbt_name.specs.Numbers.{fault_number, refusal_number};
+ghost use Rattle.std.specs.Prelude.{◌≡◌, ◌↔◌, Some};
+ghost use Rattle.nbt_name.specs.declared.fault.NameFaultKind.{NameFaultKind};
+ghost use Rattle.nbt_name.specs.Numbers.{fault_number, fault_word, refusal_number};
 
 use thiserror::Error;
 
 /// What is wrong at a place where a name was due (RFC 1002 section 4.1; the numbers are our profile's).
 #[derive(Clone, Copy, Debug, PartialEq, Eq, Error)]
+#[error("{}", self.word())]
 pub enum NameFaultKind {
     /// 1: the octets end within the name. The place is their length.
-    #[error("Short")]
     Short,
     /// 2: no label begins with this octet. The place is the octet's.
-    #[error("BadLabel")]
     BadLabel,
     /// 3: one of the 32 letters is outside `A` to `P`. The place is the letter's.
-    #[error("BadHalf")]
     BadHalf,
     /// 4: a pointer that doesn't lead to a smaller place, or one in a plain name. The place is the pointer's.
-    #[error("BadPointer")]
     BadPointer,
     /// 5: with this label the wire form would pass 255 octets. The place is that of the label's length octet.
-    #[error("Long")]
     Long,
 }
 
@@ -36,6 +33,33 @@ impl NameFaultKind {
             NameFaultKind::BadHalf => 3,
             NameFaultKind::BadPointer => 4,
             NameFaultKind::Long => 5,
+        }
+    }
+
+    /// The word by which the fault is printed and read: its name (our profile).
+    pub fn word(self) -> &'static str
+        ensures { result.now ≡ fault_word self }
+    {
+        match self {
+            NameFaultKind::Short => "Short",
+            NameFaultKind::BadLabel => "BadLabel",
+            NameFaultKind::BadHalf => "BadHalf",
+            NameFaultKind::BadPointer => "BadPointer",
+            NameFaultKind::Long => "Long",
+        }
+    }
+
+    /// The kind of fault that a word names; `None` where it names none.
+    pub fn from_word(word: &[u8]) -> Option<NameFaultKind>
+        ensures { (kind : NameFaultKind) → (result ≡ Some kind) ↔ (word.now ≡ fault_word kind) }
+    {
+        match word {
+            b"Short" => Some(NameFaultKind::Short),
+            b"BadLabel" => Some(NameFaultKind::BadLabel),
+            b"BadHalf" => Some(NameFaultKind::BadHalf),
+            b"BadPointer" => Some(NameFaultKind::BadPointer),
+            b"Long" => Some(NameFaultKind::Long),
+            _ => None,
         }
     }
 }

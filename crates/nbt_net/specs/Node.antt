@@ -53,7 +53,7 @@ abbrev pub CutsTurn : {P C : Type 0} → (P → PortCall → P → Type 0) → (
 CutsTurn does tells server want old new = (seen : Seen) × (seen ≢ s.Nothing) × (acts : List PortCall) × (moments : List ℕ) × TakesTurn server want old.node acts moments seen new.node
     × Chain does old.port acts new.port × Chain tells old.clock moments new.clock
 
--- so many turns, one after the other
+-- a number of turns, one after the other
 pub record TakesTurns {P C : Type 0} (does : P → PortCall → P → Type 0) (tells : C → ℕ → C → Type 0) (server : Addr) (want : Want) (count : ℕ) (old new : Running P C) : Type 0 where
   pub seen : List Seen
   pub turns : Chain (Turns does tells server want) old seen new

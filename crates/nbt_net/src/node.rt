@@ -39,7 +39,7 @@ pub struct NodeArguments {
 /// Runs an end node on a UDP port of this machine, over its clock. It prints a line for each event as it comes, and after
 /// the last turn whether the name is held. Where there is no end, it stays up for 2^61 turns, also where the port fails: it says
 /// so in `errors`, waits 100 ms after each turn that failed, and goes on from where the call that failed left the node.
-/// Refused: `NoPort` where the port can't be had; `NoClock` where the clock can't be read at first; `Device` where the port
+/// Refused: `NoPort` where the port can't be bound; `NoClock` where the clock can't be read at first; `Device` where the port
 /// fails, with a number of turns at the first call that does, and with no end at the hundredth turn in a row that fails;
 /// `Output` where a line can't be written to `writer`: at once after the turn in which the event was seen, or after all turns. Of
 /// each but the last a line in `errors` says which call of the machine failed, for which address, and why. What can't be

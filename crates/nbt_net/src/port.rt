@@ -2,12 +2,13 @@
 
 ghost use Rattle.std.specs.Prelude.{◌≡◌, IfOk, IfErr};
 
-use nbt_engine::{Cause, Fault, MachineCall, UdpPort};
+use nbt_engine::{Fault, UdpPort};
 use nbt_name::Addr;
 use std::io::Write;
 use std::net::Net;
 
-/// The port at an address of this machine, where it can be had. Else it says why in `errors`.
+/// The port at an address of this machine, as [`nbt_engine::bound_port`] binds it. Where it can't be bound it is `NoPort`,
+/// also for want of memory: these ends print `device` for each.
 pub fn bound_port<M: Net, E: Write>(
     machine: &M,
     addr: Addr,
@@ -16,11 +17,8 @@ pub fn bound_port<M: Net, E: Write>(
     ensures ok { IfOk result (λ port. port ≡ record { addr = addr; failures = 0 }) }
     ensures err { IfErr result (λ fault. fault ≡ Fault.NoPort) }
 {
-    match UdpPort::bind(machine, addr) {
+    match nbt_engine::bound_port(machine, addr, errors) {
         Ok(port) => Ok(port),
-        Err(error) => {
-            Cause::new(MachineCall::Bind, addr, error).tell("", errors);
-            Err(Fault::NoPort)
-        }
+        Err(_) => Err(Fault::NoPort),
     }
 }

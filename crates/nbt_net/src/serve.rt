@@ -31,7 +31,7 @@ pub struct ServeArguments {
 /// Runs a name server on a UDP port of this machine, over its clock. With a number of turns it goes through them, and prints
 /// what was done, after the last. Where there is no end, it first prints a line that says that it has begun, and then stays
 /// up for 2^61 turns, also where the port fails: it says so in `errors`, waits 100 ms after each turn that failed, and goes on
-/// with the leases that it has. Refused: `NoPort` where the port can't be had; `NoClock` where the clock can't be read at
+/// with the leases that it has. Refused: `NoPort` where the port can't be bound; `NoClock` where the clock can't be read at
 /// first; `Device` where the port fails, with a number of turns at the first call that does, and with no end at the hundredth
 /// turn in a row that fails; `Output` where the line can't be written to `writer`, with a number of turns after the last of
 /// them, and with no end before the first. Of each but the last a line in `errors` says which call of the machine failed, for

@@ -1,29 +1,28 @@
 //! Why a node refuses a call.
 
-ghost use Rattle.std.specs.Prelude.{◌≡◌};
-ghost use Rattle.nbt_node.specs.Numbers.{ask_fault_number, release_fault_number, lookup_fault_number};
+ghost use Rattle.std.specs.Prelude.{◌≡◌, ◌↔◌, Some};
+ghost use Rattle.nbt_node.specs.declared.fault.AskFault.{AskFault};
+ghost use Rattle.nbt_node.specs.declared.fault.ReleaseFault.{ReleaseFault};
+ghost use Rattle.nbt_node.specs.declared.fault.LookupFault.{LookupFault};
+ghost use Rattle.nbt_node.specs.Numbers.{ask_fault_number, ask_fault_word, release_fault_number, release_fault_word, lookup_fault_number, lookup_fault_word};
 
 use thiserror::Error;
 
 /// Why a name isn't asked for (our profile's numbers). They are tried in this order: `ClockBack`, `BadName`, `Busy`,
 /// `Quiet`, `Full`.
 #[derive(Clone, Copy, Debug, PartialEq, Eq, Error)]
+#[error("{}", self.word())]
 pub enum AskFault {
     /// 1: the name is being given back, or rests: since the node's start, or since the last sending about it, no more
     /// than `Config::quiet()` has passed by the node's clock, so that an old datagram may still be on its way.
-    #[error("Quiet")]
     Quiet,
     /// 2: the name was asked for already, or is held.
-    #[error("Busy")]
     Busy,
     /// 3: no slot is free.
-    #[error("Full")]
     Full,
     /// 4: the moment is before the node's start, or before that of an earlier call that wasn't refused.
-    #[error("ClockBack")]
     ClockBack,
     /// 5: the name begins with `*`.
-    #[error("BadName")]
     BadName,
 }
 
@@ -40,16 +39,42 @@ impl AskFault {
             AskFault::BadName => 5,
         }
     }
+
+    /// The fault with this number; `None` where none has it.
+    pub fn of(number: u8) -> Option<AskFault>
+        ensures { (fault : AskFault) → (result ≡ Some fault) ↔ (number ≡ ask_fault_number fault) }
+    {
+        match number {
+            1 => Some(AskFault::Quiet),
+            2 => Some(AskFault::Busy),
+            3 => Some(AskFault::Full),
+            4 => Some(AskFault::ClockBack),
+            5 => Some(AskFault::BadName),
+            _ => None,
+        }
+    }
+
+    /// The word by which the fault is printed: its name (our profile).
+    pub fn word(self) -> &'static str
+        ensures { result.now ≡ ask_fault_word self }
+    {
+        match self {
+            AskFault::Quiet => "Quiet",
+            AskFault::Busy => "Busy",
+            AskFault::Full => "Full",
+            AskFault::ClockBack => "ClockBack",
+            AskFault::BadName => "BadName",
+        }
+    }
 }
 
 /// Why a name isn't given back (our profile's numbers). `ClockBack` is tried first.
 #[derive(Clone, Copy, Debug, PartialEq, Eq, Error)]
+#[error("{}", self.word())]
 pub enum ReleaseFault {
     /// 1: the name isn't held.
-    #[error("NotHeld")]
     NotHeld,
     /// 4: the moment is before the node's start, or before that of an earlier call that wasn't refused.
-    #[error("ClockBack")]
     ClockBack,
 }
 
@@ -63,19 +88,38 @@ impl ReleaseFault {
             ReleaseFault::ClockBack => 4,
         }
     }
+
+    /// The fault with this number; `None` where none has it.
+    pub fn of(number: u8) -> Option<ReleaseFault>
+        ensures { (fault : ReleaseFault) → (result ≡ Some fault) ↔ (number ≡ release_fault_number fault) }
+    {
+        match number {
+            1 => Some(ReleaseFault::NotHeld),
+            4 => Some(ReleaseFault::ClockBack),
+            _ => None,
+        }
+    }
+
+    /// The word by which the fault is printed: its name (our profile).
+    pub fn word(self) -> &'static str
+        ensures { result.now ≡ release_fault_word self }
+    {
+        match self {
+            ReleaseFault::NotHeld => "NotHeld",
+            ReleaseFault::ClockBack => "ClockBack",
+        }
+    }
 }
 
 /// Why nothing is looked up (our profile's numbers). They are tried in this order: `ClockBack`, `BadName`, `Busy`.
 #[derive(Clone, Copy, Debug, PartialEq, Eq, Error)]
+#[error("{}", self.word())]
 pub enum LookupFault {
     /// 2: a lookup is open.
-    #[error("Busy")]
     Busy,
     /// 4: the moment is before the node's start, or before that of an earlier call that wasn't refused.
-    #[error("ClockBack")]
     ClockBack,
     /// 5: the name to be resolved begins with `*`.
-    #[error("BadName")]
     BadName,
 }
 
@@ -88,6 +132,29 @@ impl LookupFault {
             LookupFault::Busy => 2,
             LookupFault::ClockBack => 4,
             LookupFault::BadName => 5,
+        }
+    }
+
+    /// The fault with this number; `None` where none has it.
+    pub fn of(number: u8) -> Option<LookupFault>
+        ensures { (fault : LookupFault) → (result ≡ Some fault) ↔ (number ≡ lookup_fault_number fault) }
+    {
+        match number {
+            2 => Some(LookupFault::Busy),
+            4 => Some(LookupFault::ClockBack),
+            5 => Some(LookupFault::BadName),
+            _ => None,
+        }
+    }
+
+    /// The word by which the fault is printed: its name (our profile).
+    pub fn word(self) -> &'static str
+        ensures { result.now ≡ lookup_fault_word self }
+    {
+        match self {
+            LookupFault::Busy => "Busy",
+            LookupFault::ClockBack => "ClockBack",
+            LookupFault::BadName => "BadName",
         }
     }
 }

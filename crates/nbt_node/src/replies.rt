@@ -5,7 +5,8 @@ ghost use Rattle.nbt_name.specs.Wire.{NameValue};
 ghost use Rattle.nbt_name.specs.declared.addr.Kind.{Kind as NameKind};
 ghost use Rattle.nbt_packet.specs.declared.message.Registration.{Registration as Claim};
 ghost use Rattle.nbt_packet.specs.Message.{registered, released, wait};
-ghost use Rattle.nbt_lease.specs.Config.{granted, longest_most};
+ghost use Rattle.nbt_lease.specs.Config.{granted};
+ghost use Rattle.nbt_lease.specs.declared.config.TheConstants.{LONGEST_MOST};
 ghost use Rattle.nbt_node.specs.Node.{NodeValue};
 ghost use Rattle.nbt_node.specs.Transaction.{wait_until};
 ghost use Rattle.nbt_node.specs.Moves.{Move, hear, told_of, nothing, is_lost, waits, conflict, matters, held_for};
@@ -53,7 +54,7 @@ fn rests<'a>(last: Moment, event: Event<'a>) -> Outcome<'a>
 /// A hold for what was granted, counted from the transaction's first sending: it ends before the lease, also where the
 /// node's clock is slow. It is refreshed after half of the seconds.
 fn hold(kind: Kind, ttl: u32, first: Moment, last: Moment, seconds: u32) -> State
-    requires { seconds ≤ longest_most }
+    requires { seconds ≤ LONGEST_MOST }
     ensures { result ≡ held_for kind ttl first seconds last }
 {
     State::Held {
@@ -81,7 +82,7 @@ fn demanded<'a>(state: &State, last: Moment, rcode: u8) -> Outcome<'a>
 /// transaction's first sending, and is `Config::hold` of the seconds that the reply's TTL grants. A conflict demand (RCODE 7) drops a name
 /// that is asked for or held, whatever its id (our profile).
 pub fn on_registered<'a>(state: &State, rcode: u8, id: u16, seconds: u32) -> Outcome<'a>
-    requires { seconds ≤ longest_most }
+    requires { seconds ≤ LONGEST_MOST }
     ensures { (node : NodeValue) (now : ℕ) (name : NameValue) (r : Claim) → r.id ≡ id → granted node.config.longest r.ttl ≡ seconds
         → Move node now name state.now (hear (registered rcode r)) result.state None (told_of result.event) node.next_id }
 {

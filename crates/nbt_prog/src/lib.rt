@@ -206,7 +206,7 @@ fn conclude_written<W: Write>(outcome: Result<(), Failure>, writer: &mut W) -> u
     }
 }
 
-/// Ends a program whose words could not be had, as [`command`] would: a word that is no UTF-8 is wrong usage, status 2;
+/// Ends a program whose words could not be read, as [`command`] would: a word that is no UTF-8 is wrong usage, status 2;
 /// any other error is 3, prints `device`, or 4, prints `memory`.
 pub fn command_without_words<W: Write>(alloc: Global, error: io::Error, writer: &mut W) -> u8
     ensures bound { result ≤ 4 }

@@ -16,8 +16,7 @@ ghost use Rattle.nbt_packet.specs.Spelling.{Spells};
 ghost use Rattle.nbt_samba.specs.Taking.{multi_homed, registration_octet, as_registration, IsTaken};
 ghost use Rattle.nbt_samba.specs.Inner.Asking.{Asks, Meets};
 
-use byteorder::{BigEndian, ByteOrder};
-use nbt_name::Kind;
+use nbt_name::{Kind, read_word};
 use nbt_packet::{Message, Registration, read};
 
 /// Where the word of R, OPCODE, NM_FLAGS and RCODE stands (RFC 1002 section 4.2.1.1).
@@ -76,7 +75,7 @@ fn asked_in(octets: &[u8]) -> Option<Asked>
     if octets.len() < FLAGS_END {
         return None;
     }
-    let flags = BigEndian::read_u16(&octets[FLAGS..]);
+    let flags = read_word(octets, FLAGS);
     if is_multi_homed(flags) {
         return Some(Asked::MultiHomed);
     }

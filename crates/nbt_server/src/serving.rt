@@ -6,7 +6,8 @@ ghost use Rattle.nbt_name.specs.Wire.{NameValue};
 ghost use Rattle.nbt_packet.specs.Message.{MessageValue, message_of, message_if, query, release, released};
 ghost use Rattle.nbt_packet.specs.Spelling.{AreWritten};
 ghost use Rattle.nbt_packet.specs.Text.{text, entries_most};
-ghost use Rattle.nbt_lease.specs.Config.{IsConfig, milliseconds, longest_most};
+ghost use Rattle.nbt_lease.specs.Config.{IsConfig, milliseconds};
+ghost use Rattle.nbt_lease.specs.declared.config.TheConstants.{LONGEST_MOST};
 ghost use Rattle.nbt_lease.specs.Lease.{leases_at, latest_end, AreSound};
 ghost use Rattle.nbt_lease.specs.Rules.{IsLeastEnd};
 ghost use Rattle.nbt_server.specs.Serving.{AsksFor, IsOwn, fault_rcode, refusal, release_rcode, seconds_until, entries, listed, is_cut, Serves, NeedsMemory};
@@ -228,7 +229,7 @@ fn find(table: &mut Table, now: Moment, id: u16, name: Name, out: &mut ArrayVec<
 
 /// The seconds from a moment to an end, rounded up.
 fn seconds_left(now: Moment, end: u64) -> u32
-    requires { end ≤ now + milliseconds longest_most }
+    requires { end ≤ now + milliseconds LONGEST_MOST }
     ensures { result ≡ seconds_until now end }
 {
     let milliseconds = end.saturating_sub(now.get());

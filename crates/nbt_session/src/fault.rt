@@ -8,18 +8,15 @@ use thiserror::Error;
 
 /// What is wrong at a place of a session packet (RFC 1002 section 4.3.1; the numbers are our profile's).
 #[derive(Clone, Copy, Debug, PartialEq, Eq, Error)]
+#[error("{}", self.word())]
 pub enum FaultKind {
     /// 1: no packet has this TYPE. The place is 0.
-    #[error("BadType")]
     BadType,
     /// 2: a bit of FLAGS other than E is set. The place is 1.
-    #[error("BadFlags")]
     BadFlags,
     /// 3: packets of the type don't have this LENGTH, or a request's names don't fill it. The place is 2.
-    #[error("BadLength")]
     BadLength,
     /// 4: a request's name can't be read. The place is that of the name's fault.
-    #[error("BadName")]
     BadName,
 }
 

@@ -13,7 +13,7 @@ use Rattle.nbt_text.specs.Number.{SpellsNumber}
 use Rattle.nbt_text.specs.Texts.{texts}
 use Rattle.nbt_show.specs.Vector.{SpellsExpected, SpellsVector, dgram_refused, dgram_taken, name_refused, name_taken, service_word, vector}
 use Rattle.nbt_dgram.specs.Numbers.{fault_word as dgram_fault_word}
-use Rattle.nbt_show.specs.Words.{fault_word}
+use Rattle.nbt_packet.specs.Numbers.{fault_word}
 
 abbrev pub lost : Bor (List ℕ)
 lost = record { ref_ptr = (0, 0); now = [] }

@@ -9,7 +9,8 @@ use Rattle.nbt_packet.specs.Message.{MessageValue, MessageIs}
 use Rattle.nbt_packet.specs.Packet.{PacketValue, RecordValue, PacketIs, PacketFault}
 use Rattle.nbt_text.specs.Lines.{newline}
 use Rattle.nbt_text.specs.NameText.{PrintsName}
-use Rattle.nbt_show.specs.Words.{message_word, fault_word}
+use Rattle.nbt_packet.specs.Numbers.{fault_word}
+use Rattle.nbt_show.specs.Words.{message_word}
 
 -- a number of 16 bits, in four hexadecimal digits
 abbrev pub four_digits : ℕ → List ℕ

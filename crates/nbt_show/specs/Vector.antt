@@ -11,7 +11,7 @@ use Rattle.nbt_show.specs.declared.vector.Service.{Service}
 use Rattle.nbt_show.specs.declared.vector.Service.TheVariants as services
 use Rattle.nbt_text.specs.Lines.{SpellsOctets}
 use Rattle.nbt_text.specs.Number.{SpellsNumber}
-use Rattle.nbt_show.specs.Words.{fault_word}
+use Rattle.nbt_packet.specs.Numbers.{fault_word}
 
 -- the reader of packets, or of datagrams, says what is expected: how many octets are taken, or the fault
 abbrev pub Says : List ℕ → Expected → Type 0

@@ -1,8 +1,5 @@
--- The words for messages and for the faults of packets (our profile).
+-- The words for messages (our profile).
 use Rattle.std.specs.Prelude.{ℕ, List, codes}
-use Rattle.nbt_name.specs.declared.fault.NameFaultKind.TheVariants.{Short, BadLabel, BadHalf, BadPointer, Long}
-use Rattle.nbt_packet.specs.declared.fault.FaultKind.{FaultKind}
-use Rattle.nbt_packet.specs.declared.fault.FaultKind.TheVariants.{Name, TooMany}
 use Rattle.nbt_packet.specs.Message.{MessageValue, registration, overwrite, refresh, release, query, status_request, registered, released, found, not_found, status, wait}
 
 abbrev pub message_word : MessageValue → List ℕ
@@ -18,11 +15,3 @@ message_word (found id name ttl entries cut) = codes "found"
 message_word (not_found id rcode name) = codes "not-found"
 message_word (status id name names) = codes "status"
 message_word (wait id name ttl) = codes "wait"
-
-abbrev pub fault_word : FaultKind → List ℕ
-fault_word (Name Short) = codes "Short"
-fault_word (Name BadLabel) = codes "BadLabel"
-fault_word (Name BadHalf) = codes "BadHalf"
-fault_word (Name BadPointer) = codes "BadPointer"
-fault_word (Name Long) = codes "Long"
-fault_word TooMany = codes "TooMany"

@@ -7,10 +7,9 @@ ghost use Rattle.nbt_packet.specs.Message.{message_of};
 ghost use Rattle.nbt_packet.specs.Packet.{packet_of, record_if};
 ghost use Rattle.nbt_show.specs.PacketText.{PrintsMessage, PrintsOctets, PrintsPacket, PrintsQuestion, PrintsRecord, data_text, four_digits, type_and_class};
 ghost use Rattle.nbt_text.specs.Lines.{newline};
-ghost use Rattle.nbt_show.specs.Words.{fault_word, message_word};
+ghost use Rattle.nbt_show.specs.Words.{message_word};
 
-use nbt_name::NameFaultKind;
-use nbt_packet::{FaultKind, Message, Packet, Question, Record, classify, decode};
+use nbt_packet::{Message, Packet, Question, Record, classify, decode};
 use nbt_text::{end_line, write_hexadecimal, write_name};
 use std::alloc::AllocError;
 
@@ -27,7 +26,7 @@ pub fn write_packet(octets: &[u8], out: &mut String) -> Result<bool, AllocError>
             Ok(true)
         }
         Err(fault) => {
-            let word = word_of_fault(fault.kind);
+            let word = fault.kind.word();
             let place = fault.place;
             writeln!(out, "fault {word} at {place}")?;
             Ok(false)
@@ -154,19 +153,5 @@ fn word_of_message(message: &Message<'_>) -> &'static str
         Message::NotFound { .. } => "not-found",
         Message::Status { .. } => "status",
         Message::Wait { .. } => "wait",
-    }
-}
-
-/// The word for a fault.
-fn word_of_fault(kind: FaultKind) -> &'static str
-    ensures { result.now ≡ fault_word kind }
-{
-    match kind {
-        FaultKind::Name(NameFaultKind::Short) => "Short",
-        FaultKind::Name(NameFaultKind::BadLabel) => "BadLabel",
-        FaultKind::Name(NameFaultKind::BadHalf) => "BadHalf",
-        FaultKind::Name(NameFaultKind::BadPointer) => "BadPointer",
-        FaultKind::Name(NameFaultKind::Long) => "Long",
-        FaultKind::TooMany => "TooMany",
     }
 }

@@ -1,7 +1,6 @@
 //! Vectors: octets, and what the reader of packets, or of datagrams, has to say of them (our profile).
 
 ghost use Rattle.std.specs.Prelude.{◌≡◌, ◌↔◌, ℕ, [], ◌∷◌, List, IsTrue, Some, IfOk, MatchOption, codes};
-ghost use Rattle.nbt_packet.specs.declared.fault.FaultKind.{FaultKind};
 ghost use Rattle.nbt_show.specs.declared.vector.Expected.{Expected};
 ghost use Rattle.nbt_show.specs.declared.vector.Expected.TheVariants as expects;
 ghost use Rattle.nbt_show.specs.declared.vector.Service.{Service};
@@ -9,10 +8,8 @@ ghost use Rattle.nbt_text.specs.Number.{SpellsNumber};
 ghost use Rattle.nbt_text.specs.Texts.{texts};
 ghost use Rattle.nbt_show.specs.Inner.Line.{LineIs};
 ghost use Rattle.nbt_show.specs.Vector.{Says, SpellsExpected, SpellsVector, service_word};
-ghost use Rattle.nbt_show.specs.Words.{fault_word};
 
 use nbt_dgram::{DgramFault, DgramFaultKind};
-use nbt_name::NameFaultKind;
 use nbt_packet::{Fault, FaultKind};
 use nbt_text::{octets_of, parse_number, words_said};
 use std::alloc::{AllocError, Global};
@@ -177,7 +174,7 @@ fn expected_fault(service: Service, word: &[u8], place: &[u8]) -> Option<Expecte
     let place = place_of(place)?;
     match service {
         Service::Name => {
-            let kind = kind_of(word)?;
+            let kind = FaultKind::from_word(word)?;
             Some(Expected::Name(Err(Fault { kind, place })))
         }
         Service::Dgram => {
@@ -194,21 +191,6 @@ fn place_of(word: &[u8]) -> Option<usize>
     match parse_number(word) {
         Some(place) => Some(place as usize),
         None => None,
-    }
-}
-
-/// The kind of a packet's fault that the word names.
-fn kind_of(word: &[u8]) -> Option<FaultKind>
-    ensures { (kind : FaultKind) → (result ≡ Some kind) ↔ (word.now ≡ fault_word kind) }
-{
-    match word {
-        b"Short" => Some(FaultKind::Name(NameFaultKind::Short)),
-        b"BadLabel" => Some(FaultKind::Name(NameFaultKind::BadLabel)),
-        b"BadHalf" => Some(FaultKind::Name(NameFaultKind::BadHalf)),
-        b"BadPointer" => Some(FaultKind::Name(NameFaultKind::BadPointer)),
-        b"Long" => Some(FaultKind::Name(NameFaultKind::Long)),
-        b"TooMany" => Some(FaultKind::TooMany),
-        _ => None,
     }
 }
 

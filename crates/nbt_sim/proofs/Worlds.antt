@@ -1,7 +1,7 @@
 -- Where a tick leads, and whose fault a refusal is.
 use Rattle.std.proofs.Common.{◌≡◌, ◌∙◌, ℕ, ◌+◌, ◌-◌, ◌^◌, ◌≤◌, List, Some, None, refl, ap, subst, arith, min}
 use Rattle.nbt_node.specs.Node.{NodeValue}
-use Rattle.nbt_node.specs.Numbers.{ask_fault_number, release_fault_number, lookup_fault_number}
+use Rattle.nbt_node.specs.Numbers.{ask_fault_number, ask_fault_word, release_fault_number, release_fault_word, lookup_fault_number, lookup_fault_word}
 use Rattle.nbt_world.specs.World.{WorldValue}
 use Rattle.nbt_world.specs.Step.{
   Step,
@@ -46,7 +46,6 @@ use Rattle.nbt_world.specs.declared.event.Event.{Event}
 use Rattle.nbt_world.specs.declared.event.Event.TheVariants.{Tick, Advance}
 use Rattle.nbt_world.specs.declared.event.Outcome.{Outcome}
 use Rattle.nbt_world.specs.declared.event.Outcome.TheVariants.{Done, Refused}
-use Rattle.nbt_sim.specs.Words.{ask_fault_word, release_fault_word, lookup_fault_word}
 use Rattle.nbt_sim.specs.Script.{NamesRefusal, of_ask, of_release, of_resolve, of_status}
 
 -- ---- the moment

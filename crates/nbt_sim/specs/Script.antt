@@ -6,7 +6,7 @@ use Rattle.nbt_name.specs.declared.addr.Addr.{Addr}
 use Rattle.nbt_name.specs.declared.addr.Kind.{Kind}
 use Rattle.nbt_name.specs.Wire.{NameValue}
 use Rattle.nbt_lease.specs.Config.{ConfigValue}
-use Rattle.nbt_node.specs.Numbers.{ask_fault_number, release_fault_number, lookup_fault_number}
+use Rattle.nbt_node.specs.Numbers.{ask_fault_number, ask_fault_word, release_fault_number, release_fault_word, lookup_fault_number, lookup_fault_word}
 use Rattle.nbt_node.specs.declared.fault.AskFault.{AskFault}
 use Rattle.nbt_node.specs.declared.fault.ReleaseFault.{ReleaseFault}
 use Rattle.nbt_node.specs.declared.fault.LookupFault.{LookupFault}
@@ -25,7 +25,7 @@ use Rattle.nbt_world.specs.declared.event.Outcome.TheVariants as o
 use Rattle.nbt_sim.specs.declared.instruction.Instruction.{Instruction}
 use Rattle.nbt_sim.specs.declared.instruction.Instruction.TheVariants as instruction
 use Rattle.nbt_sim.specs.Line.{Says}
-use Rattle.nbt_sim.specs.Words.{kind_word, kept_word, ask_fault_word, release_fault_word, lookup_fault_word}
+use Rattle.nbt_sim.specs.Words.{kind_word, kept_word}
 
 -- ---- the world of a script
 

@@ -4,12 +4,6 @@ use Rattle.std.specs.Fmt.{decimal}
 use Rattle.nbt_name.specs.declared.addr.Kind.{Kind}
 use Rattle.nbt_name.specs.declared.addr.Kind.TheVariants.{Unique, Group}
 use Rattle.nbt_lease.specs.Config.{last_moment}
-use Rattle.nbt_node.specs.declared.fault.AskFault.{AskFault}
-use Rattle.nbt_node.specs.declared.fault.AskFault.TheVariants as asks
-use Rattle.nbt_node.specs.declared.fault.ReleaseFault.{ReleaseFault}
-use Rattle.nbt_node.specs.declared.fault.ReleaseFault.TheVariants as releases
-use Rattle.nbt_node.specs.declared.fault.LookupFault.{LookupFault}
-use Rattle.nbt_node.specs.declared.fault.LookupFault.TheVariants as lookups
 use Rattle.nbt_text.specs.Number.{SpellsNumber}
 use Rattle.nbt_sim.specs.declared.verb.Verb.{Verb}
 use Rattle.nbt_sim.specs.declared.verb.Verb.TheVariants.{Config, At, Advance, Start, Crash, Ask, Release, Resolve, Status, Poll, Deliver, Stranger, Holders, Kept}
@@ -62,22 +56,6 @@ pub record SpellsMoment (word : List ℕ) (moment : ℕ) : Type 0 where
   pub fits : moment ≤ last_moment
 
 -- ---- the words of what is printed
-
-abbrev pub ask_fault_word : AskFault → List ℕ
-ask_fault_word asks.Quiet = codes "Quiet"
-ask_fault_word asks.Busy = codes "Busy"
-ask_fault_word asks.Full = codes "Full"
-ask_fault_word asks.ClockBack = codes "ClockBack"
-ask_fault_word asks.BadName = codes "BadName"
-
-abbrev pub release_fault_word : ReleaseFault → List ℕ
-release_fault_word releases.NotHeld = codes "NotHeld"
-release_fault_word releases.ClockBack = codes "ClockBack"
-
-abbrev pub lookup_fault_word : LookupFault → List ℕ
-lookup_fault_word lookups.Busy = codes "Busy"
-lookup_fault_word lookups.ClockBack = codes "ClockBack"
-lookup_fault_word lookups.BadName = codes "BadName"
 
 abbrev pub kept_word : (kept : Bool) → List ℕ
 kept_word true = codes "kept"

@@ -6,14 +6,15 @@ ghost use Rattle.nbt_name.specs.declared.addr.Kind.{Kind};
 ghost use Rattle.nbt_node.specs.declared.fault.AskFault.{AskFault};
 ghost use Rattle.nbt_node.specs.declared.fault.ReleaseFault.{ReleaseFault};
 ghost use Rattle.nbt_node.specs.declared.fault.LookupFault.{LookupFault};
-ghost use Rattle.nbt_node.specs.Numbers.{ask_fault_number, release_fault_number, lookup_fault_number};
+ghost use Rattle.nbt_node.specs.Numbers.{ask_fault_number, ask_fault_word, release_fault_number, release_fault_word, lookup_fault_number, lookup_fault_word};
 ghost use Rattle.nbt_text.specs.Lines.{newline};
 ghost use Rattle.nbt_world.specs.World.{WorldValue};
 ghost use Rattle.nbt_world.specs.Step.{Step};
 ghost use Rattle.nbt_sim.specs.Script.{NamesRefusal, PrintsHolders, PrintsOutcome, holder_text, holders_text};
-ghost use Rattle.nbt_sim.specs.Words.{ask_fault_word, kept_word, kind_word, lookup_fault_word, release_fault_word};
+ghost use Rattle.nbt_sim.specs.Words.{kept_word, kind_word};
 
 use nbt_name::{Kind, Name};
+use nbt_node::{AskFault, LookupFault, ReleaseFault};
 use nbt_text::{end_line, write_name};
 use nbt_world::{Event, Holder, Outcome, World};
 use std::alloc::AllocError;
@@ -58,13 +59,7 @@ fn word_of_ask(number: u8) -> &'static str
     requires { (fault : AskFault) × (number ≡ ask_fault_number fault) }
     ensures { (fault : AskFault) × (number ≡ ask_fault_number fault) × (result.now ≡ ask_fault_word fault) }
 {
-    match number {
-        1 => "Quiet",
-        2 => "Busy",
-        3 => "Full",
-        4 => "ClockBack",
-        _ => "BadName",
-    }
+    AskFault::of(number).unwrap().word()
 }
 
 /// The word of the fault of a release.
@@ -72,10 +67,7 @@ fn word_of_release(number: u8) -> &'static str
     requires { (fault : ReleaseFault) × (number ≡ release_fault_number fault) }
     ensures { (fault : ReleaseFault) × (number ≡ release_fault_number fault) × (result.now ≡ release_fault_word fault) }
 {
-    match number {
-        1 => "NotHeld",
-        _ => "ClockBack",
-    }
+    ReleaseFault::of(number).unwrap().word()
 }
 
 /// The word of the fault of a lookup.
@@ -83,11 +75,7 @@ fn word_of_lookup(number: u8) -> &'static str
     requires { (fault : LookupFault) × (number ≡ lookup_fault_number fault) }
     ensures { (fault : LookupFault) × (number ≡ lookup_fault_number fault) × (result.now ≡ lookup_fault_word fault) }
 {
-    match number {
-        2 => "Busy",
-        4 => "ClockBack",
-        _ => "BadName",
-    }
+    LookupFault::of(number).unwrap().word()
 }
 
 /// Appends the line of the nodes that hold a name.

@@ -12,7 +12,7 @@ pub enum Fault {
     /// 1: no character stands before the suffix.
     #[error("no characters, at least 1")]
     Empty,
-    /// 2: so many characters stand before the suffix, and at most 15 may.
+    /// 2: more than 15 characters stand before the suffix; it is how many.
     #[error("{0} characters, at most 15")]
     Long(usize),
     /// 3: at this place, counted from 0, stands an octet outside 0x21 to 0x7E.

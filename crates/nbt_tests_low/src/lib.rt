@@ -1,5 +1,5 @@
-//! What names, packets, leases, nodes, datagrams and sessions do, by worked rows: tests of the lower crates from without,
-//! and nothing else.
+//! What the calls of the lowest crates do, by worked rows: tests from without, and nothing else. `crates.txt` has which
+//! crates these are.
 //!
 //! A crate with tests is proved twice, and a row in a table costs the prover little: so the tests stand here, as tables.
 #![tactic(auto)]

@@ -1,7 +1,7 @@
-//! What the calls of `nbt_server`, `nbt_world`, `nbt_text`, `nbt_tell`, `nbt_show`, `nbt_sim`, `nbt_engine`, `nbt_samba` and `nbt_ask` do: tests from without, as tables of
-//! rows, and nothing else.
+//! What the calls of the crates between the lowest ones and the commands do, by worked rows: tests from without, and
+//! nothing else. `crates.txt` has which crates these are.
 //!
-//! They are a crate of their own, since a crate with tests is proved twice.
+//! A crate with tests is proved twice, and a row in a table costs the prover little: so the tests stand here, as tables.
 #![tactic(auto)]
 
 #[cfg(test)]

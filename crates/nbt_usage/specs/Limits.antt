@@ -1,6 +1,7 @@
 -- The limits of the numbers that `serve` and `node` take, as the help says them (our profile).
 use Rattle.std.specs.Prelude.{ℕ}
-use Rattle.nbt_lease.specs.Config.{life_most, longest_most}
+use Rattle.nbt_lease.specs.declared.config.TheConstants.{LIFE_MOST, LONGEST_MOST}
+use Rattle.nbt_usage.specs.declared.network.TheConstants.{TTL_MOST, TURNS_MOST}
 use Rattle.nbt_usage.specs.declared.network.NumberArgument.{NumberArgument}
 use Rattle.nbt_usage.specs.declared.network.NumberArgument.TheVariants.{Life, Longest, Ttl, Turns}
 
@@ -11,7 +12,7 @@ least_of _ = 1
 
 -- the most that it may be: milliseconds of a datagram's life, seconds of a lease, the seconds asked for, turns
 abbrev pub most_of : NumberArgument → ℕ
-most_of Life = life_most
-most_of Longest = longest_most
-most_of Ttl = 4294967295
-most_of Turns = 1000000
+most_of Life = LIFE_MOST
+most_of Longest = LONGEST_MOST
+most_of Ttl = TTL_MOST
+most_of Turns = TURNS_MOST

@@ -10,7 +10,9 @@ mod program;
 mod refusal;
 mod words;
 
-pub use network::{GROUP, NetworkCommand, NumberArgument, bad_number, bad_port};
+pub use network::{
+    GROUP, NetworkCommand, NumberArgument, TTL_MOST, TURNS_MOST, bad_number, bad_port,
+};
 pub use people::{ONCE, PeopleCommand, TWICE, bad_wait};
 pub use program::{DGRAM, SESSION, bad_time, no_text};
 pub use refusal::{Refusal, Text};

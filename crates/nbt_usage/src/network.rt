@@ -9,6 +9,7 @@ use crate::refusal::Refusal;
 use clap::builder::ValueParser;
 use clap::error::ErrorKind;
 use clap::{Arg, ArgAction, Command, Error};
+use nbt_lease::{LIFE_MOST, LONGEST_MOST};
 use std::alloc::{AllocError, Global};
 
 const SERVE_ABOUT: &str = "Runs a name server on a UDP port of this machine";
@@ -102,10 +103,16 @@ const KINDS: [&str; 2] = ["unique", GROUP];
 /// The argument that says for how many seconds the name is asked for.
 pub const TTL: &str = "ttl";
 
+/// The most seconds that a name can be asked for: as many as the 32 bits of a TTL can say (RFC 1002 section 4.2.1.3).
+pub const TTL_MOST: u64 = 0xFFFF_FFFF;
+
 /// The argument that says how many turns.
 pub const TURNS: &str = "turns";
 
-/// The option in place of it.
+/// The most turns (our profile).
+pub const TURNS_MOST: u64 = 1_000_000;
+
+/// The option in place of TURNS.
 pub const FOREVER: &str = "forever";
 
 /// The argument that names the first of three ports.
@@ -240,9 +247,10 @@ impl NumberArgument {
         ensures { result ≡ most_of self }
     {
         match self {
-            NumberArgument::Life => 60_000,
-            NumberArgument::Longest | NumberArgument::Turns => 1_000_000,
-            NumberArgument::Ttl => 0xFFFF_FFFF,
+            NumberArgument::Life => LIFE_MOST,
+            NumberArgument::Longest => u64::from(LONGEST_MOST),
+            NumberArgument::Ttl => TTL_MOST,
+            NumberArgument::Turns => TURNS_MOST,
         }
     }
 }

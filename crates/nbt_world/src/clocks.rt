@@ -116,7 +116,7 @@ pub fn at_beginning() -> [Least; 9]
     [Least::of(Moment::zero(), Moment::zero()); 9]
 }
 
-/// Takes in how the clocks stand now, for so many ends. Returns whether each keeps the drift bound with all that was
+/// Takes in how the clocks of the first `ends` ends stand now. Returns whether each keeps the drift bound with all that was
 /// seen before.
 pub fn watch(least: &mut [Least; 9], clocks: &Clocks, ends: usize) -> bool
     requires { ends ≤ 9 }

@@ -36,7 +36,7 @@ pub record HeardIs {P C : Type 0} (does : P → PortCall → P → Type 0) (tell
   pub port_did : does p hearing q
   pub clock_told : tells c second d
 
--- so many turns that didn't end it
+-- a number of turns that didn't end it
 pub record Passed {P C : Type 0} (does : P → PortCall → P → Type 0) (tells : C → ℕ → C → Type 0) (limit count : ℕ) (p : P) (c : C) (s : NodeValue) (q : P) (d : C) (t : NodeValue) : Type 0 where
   pub turns : List Turn
   pub waits : Chain (Waits limit) s turns t

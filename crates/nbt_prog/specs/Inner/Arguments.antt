@@ -2,6 +2,7 @@
 use Rattle.std.specs.Prelude.{◌≡◌, ◌≤◌, ◌⊎◌, ℕ, List, Ok}
 use Rattle.hex.specs.Hex.{decode_of}
 use Rattle.nbt_lease.specs.Config.{last_moment}
+use Rattle.nbt_loop.specs.declared.ports.TheConstants.{FIRST_PORT_MOST}
 use Rattle.nbt_text.specs.Address.{SpellsAddress}
 use Rattle.nbt_text.specs.Number.{SpellsNumber}
 use Rattle.nbt_usage.specs.declared.words.AnswerWords.{AnswerWords}
@@ -20,7 +21,7 @@ IsTime text = (at : ℕ) × SpellsTime text at
 
 -- The text is a number, in digits alone, of a port that two more follow.
 abbrev pub SpellsPort : List ℕ → ℕ → Type 0
-SpellsPort text port = SpellsNumber text port × (1 ≤ port) × (port ≤ 65533)
+SpellsPort text port = SpellsNumber text port × (1 ≤ port) × (port ≤ FIRST_PORT_MOST)
 
 abbrev pub IsPort : List ℕ → Type 0
 IsPort text = (port : ℕ) × SpellsPort text port

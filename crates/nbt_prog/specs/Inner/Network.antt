@@ -3,7 +3,8 @@ use Rattle.std.specs.Prelude.{◌≡◌, ◌≤◌, ◌↔◌, ◌⊎◌, ℕ, L
 use Rattle.std.specs.Borrow.{Bor}
 use Rattle.nbt_name.specs.Wire.{NameValue, IsStar}
 use Rattle.nbt_name.specs.declared.addr.Kind.TheVariants.{Group}
-use Rattle.nbt_lease.specs.Config.{ConfigValue, rows_most}
+use Rattle.nbt_lease.specs.Config.{ConfigValue}
+use Rattle.nbt_lease.specs.declared.config.TheConstants.{ROWS_MOST}
 use Rattle.nbt_text.specs.Address.{SpellsAddress}
 use Rattle.nbt_text.specs.NameText.{SpellsName}
 use Rattle.nbt_text.specs.Number.{SpellsNumber}
@@ -39,7 +40,7 @@ IsHeld text = (name : NameValue) × SpellsHeld text name
 pub record IsConfigOf (life longest : List ℕ) (config : ConfigValue) : Type 0 where
   pub life_is : SpellsWithin Life life config.life
   pub longest_is : SpellsWithin Longest longest config.longest
-  pub rows_are : config.rows ≡ rows_most
+  pub rows_are : config.rows ≡ ROWS_MOST
 
 abbrev pub AreLimits : (life longest : List ℕ) → Type 0
 AreLimits life longest = IsWithin Life life × IsWithin Longest longest

@@ -9,16 +9,13 @@ ghost use Rattle.nbt_name.specs.declared.addr.Kind.TheVariants.{Group};
 
 use crate::failure::Failure;
 use nbt_engine::Want;
-use nbt_lease::Config;
+use nbt_lease::{Config, ROWS_MOST};
 use nbt_loop::Ports;
 use nbt_name::{Kind, Name};
 use nbt_net::{NodeArguments, ServeArguments};
 use nbt_text::{parse_address, parse_name, parse_number};
 use nbt_usage::{NetworkCommand, NodeWords, NumberArgument, ServeWords};
 use std::alloc::Global;
-
-/// The rows of a server.
-const ROWS: usize = 4096;
 
 /// Reads the arguments of `serve`. A number out of its limits is wrong usage, and is found before an address that can't be
 /// read.
@@ -93,7 +90,7 @@ fn config(
 {
     let life = number(alloc, which, NumberArgument::Life, life)?;
     let longest = number(alloc, which, NumberArgument::Longest, longest)? as u32;
-    match Config::new(life, longest, ROWS) {
+    match Config::new(life, longest, ROWS_MOST) {
         Ok(config) => Ok(config),
         Err(_) => Err(Failure::Unreadable),
     }

@@ -14,7 +14,7 @@ use crate::failure::Failure;
 use crate::printed::{Ending, Printed};
 use arrayvec::ArrayVec;
 use nbt_engine::Fault;
-use nbt_lease::{Config, Moment};
+use nbt_lease::{Config, Moment, ROWS_MOST};
 use nbt_name::Addr;
 use nbt_server::Server;
 use nbt_text::{end_line, write_hexadecimal};
@@ -28,9 +28,6 @@ const LIFE: u64 = 1000;
 
 /// The longest lease, in seconds.
 const LONGEST: u32 = 60;
-
-/// How many leases the server keeps.
-const ROWS: usize = 4096;
 
 /// The arguments of `answer`: who sent the packet, when, and its octets.
 #[derive(Debug, Drop)]
@@ -66,7 +63,7 @@ pub fn run(alloc: Global, arguments: &AnswerArguments) -> Result<Printed, Failur
 fn new_server(alloc: Global) -> Server
     ensures { result ≡ fresh }
 {
-    let config = Config::new(LIFE, LONGEST, ROWS).unwrap();
+    let config = Config::new(LIFE, LONGEST, ROWS_MOST).unwrap();
     Server::start(alloc, config, Moment::zero())
 }
 

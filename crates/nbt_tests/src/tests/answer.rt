@@ -13,7 +13,7 @@ none
 $ nbt answer 255.255.255.255:65535 aF09
 none
 
-# The moment is behind the others or before them.
+# The moment is after the others or before them.
 $ nbt answer 1.2.3.4:5 00 --at 0
 none
 

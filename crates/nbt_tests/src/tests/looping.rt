@@ -1,6 +1,7 @@
 //! The command `loop`, over the sockets of this machine.
 
 use super::LimitedWriter;
+use super::machine::WithoutMemory;
 use super::street::{Luck, Street};
 use super::terminal::words_of;
 use arrayvec::ArrayVec;
@@ -54,7 +55,7 @@ fn without_a_network(rt: HostRuntime) {
     assert_eq!(rt; status, 3);
 }
 
-/// Commands whose port can't be had, since another program has it or since its address is no address of this machine, and what is
+/// Commands whose port can't be bound, since another program has it or since its address is no address of this machine, and what is
 /// said of it.
 const NOT_BOUND: [(&str, &str); 8] = [
     (
@@ -125,6 +126,39 @@ fn ports_that_can_not_be_had(rt: HostRuntime) -> Result<(), Fail> {
         expect_device(&rt, &rt, words.as_slice(), "device\n", said, line);
     }
     Ok(())
+}
+
+/// Commands that bind a port first, and what they print and end with where the machine has no memory for it.
+const BINDING: [(&str, &str, u8); 3] = [
+    (
+        "nbt serve 127.42.24.1:22337 1000 60 --forever",
+        "device\n",
+        3,
+    ),
+    (
+        "nbt node 127.42.24.1:22337 127.42.24.2:22337 1000 60 FRED unique 60 1",
+        "device\n",
+        3,
+    ),
+    ("nbt loop 22237", "memory\n", 4),
+];
+
+#[test]
+fn ports_for_which_there_is_no_memory(rt: HostRuntime) {
+    let machine = WithoutMemory { host: &rt };
+    for (line, printed, expected) in BINDING {
+        let words = words_of(&rt, line);
+        let mut paper = LimitedWriter::new();
+        let status = command_on(
+            &machine,
+            rt.alloc(),
+            words.as_slice(),
+            &mut io::empty(),
+            &mut paper,
+        );
+        assert_eq!(rt; paper.text.as_slice(), printed.as_bytes(), "{line}");
+        assert_eq!(rt; status, expected, "{line}");
+    }
 }
 
 /// A UDP port of this machine.
@@ -267,7 +301,7 @@ impl Write for Watcher {
 }
 
 /// Plays `loop` where the first connection has this luck at its two ends, and TEAM at this port sends to nobody. Both calls
-/// are made with so many connections.
+/// are made with as many connections.
 fn expect_all_told<R: Abort + AllocGlobal + Net<Stream = TcpStream, Listener = TcpListener>>(
     rt: &R,
     caller: Luck,

@@ -107,3 +107,41 @@ impl<'a, N: Net<Stream = TcpStream, Listener = TcpListener>> Net for Machine<'a,
         self.host.connect(addr)
     }
 }
+
+/// This machine without memory for a socket.
+#[derive(Drop)]
+pub struct WithoutMemory<'a, N> {
+    pub host: &'a N,
+}
+
+impl<'a, N: Clock> Clock for WithoutMemory<'a, N> {
+    fn monotonic(&self) -> io::Result<Duration> {
+        self.host.monotonic()
+    }
+
+    fn since_1970(&self) -> io::Result<Duration> {
+        self.host.since_1970()
+    }
+
+    fn sleep(&self, duration: Duration) {
+        self.host.sleep(duration)
+    }
+}
+
+impl<'a, N> Net for WithoutMemory<'a, N> {
+    type Stream = TcpStream;
+
+    type Listener = TcpListener;
+
+    fn bind(&self, _addr: SocketAddr) -> io::Result<TcpListener> {
+        Err(io::Error::from(io::ErrorKind::OutOfMemory))
+    }
+
+    fn bind_udp(&self, _addr: SocketAddr) -> io::Result<UdpSocket> {
+        Err(io::Error::from(io::ErrorKind::OutOfMemory))
+    }
+
+    fn connect(&self, _addr: SocketAddr) -> io::Result<TcpStream> {
+        Err(io::Error::from(io::ErrorKind::OutOfMemory))
+    }
+}

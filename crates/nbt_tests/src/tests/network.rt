@@ -4,6 +4,7 @@ use super::LimitedWriter;
 use super::terminal::{play, words_of};
 use nbt_prog::{command, command_on};
 use std::io;
+use std::test::Fail;
 
 const WORDS: &str = "\
 # Numbers out of their limits, which are told before an address that can't be read.
@@ -131,6 +132,31 @@ error: invalid value '' for '<PORT>': not a whole number from 1 to 65533...
 #[test]
 fn words_of_the_network(rt: HostRuntime) {
     play(&rt, WORDS);
+}
+
+/// The limits that a help tells, as `docs/PROTOCOL.md` has them and as a refusal tells them above.
+const HELPS: [(&str, &str); 8] = [
+    ("nbt serve --help", "in milliseconds: from 1 to 60000"),
+    ("nbt serve --help", "in seconds: from 1 to 1000000"),
+    ("nbt serve --help", "How many turns: from 1 to 1000000"),
+    ("nbt node --help", "in milliseconds: from 1 to 60000"),
+    ("nbt node --help", "in seconds: from 1 to 1000000"),
+    ("nbt node --help", "0, as long as may be, to 4294967295"),
+    ("nbt node --help", "How many turns: from 1 to 1000000"),
+    ("nbt loop --help", "from 1 to 65533"),
+];
+
+#[test]
+fn a_help_tells_the_limits(rt: HostRuntime) -> Result<(), Fail> {
+    for (line, limits) in HELPS {
+        let words = words_of(&rt, line);
+        let mut paper = LimitedWriter::new();
+        let status = command(rt.alloc(), words.as_slice(), &mut io::empty(), &mut paper);
+        let text = str::from_utf8(paper.text.as_slice())?;
+        assert!(rt; text.contains(limits), "{line}: {text}");
+        assert_eq!(rt; status, 0, "{line}");
+    }
+    Ok(())
 }
 
 /// What is done on this machine, and what by `command`, which has none. The address 192.0.2.1 is for documents alone (RFC

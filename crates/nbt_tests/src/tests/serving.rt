@@ -467,7 +467,7 @@ const FIRST_LINES: [&str; 5] = [
     "device\n",
 ];
 
-/// An event's line that can't be flushed ends the node, and nothing is told behind it.
+/// An event's line that can't be flushed ends the node, and nothing is printed after it.
 #[test]
 fn an_event_that_can_not_be_told(rt: HostRuntime) -> Result<(), Fail> {
     for (row, line) in NODES.iter().zip(FIRST_LINES) {

@@ -33,7 +33,7 @@ enum Step<'a> {
     Sweep(u64),
     /// The least end of a name's leases.
     LeastEnd(u64, &'a [u8; 16], Option<u64>),
-    /// The least end of those of TEAM's leases that are left after so many.
+    /// The least end of TEAM's leases but the first ones, of which there are this many.
     LeastEndAfter(u64, usize, Option<u64>),
     /// The addresses and ends of a name's leases.
     Members(u64, &'a [u8; 16], &'a [(u32, u64)]),

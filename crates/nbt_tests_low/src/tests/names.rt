@@ -219,7 +219,29 @@ fn names_at_a_place_and_their_faults(rt: HostRuntime) -> Result<(), Fail> {
             }
         }
     }
-    assert_eq!(rt; NameFaultKind::BadHalf.number(), 3);
+    Ok(())
+}
+
+const WORDS: [(NameFaultKind, u8, &str); 5] = [
+    (NameFaultKind::Short, 1, "Short"),
+    (NameFaultKind::BadLabel, 2, "BadLabel"),
+    (NameFaultKind::BadHalf, 3, "BadHalf"),
+    (NameFaultKind::BadPointer, 4, "BadPointer"),
+    (NameFaultKind::Long, 5, "Long"),
+];
+
+#[test]
+fn numbers_and_words_of_a_names_faults(rt: HostRuntime) -> Result<(), Fail> {
+    for (kind, number, word) in WORDS {
+        let text = format!(in rt.alloc(); "{kind}")?;
+        assert_eq!(rt; text.as_str(), word);
+        assert_eq!(rt; kind.number(), number);
+        assert_eq!(rt; kind.word(), word);
+        assert_eq!(rt; NameFaultKind::from_word(word.as_bytes()), Some(kind));
+    }
+    for word in ["", "long", "Shor", "TooMany", "BadType"] {
+        assert_eq!(rt; NameFaultKind::from_word(word.as_bytes()), None);
+    }
     Ok(())
 }
 

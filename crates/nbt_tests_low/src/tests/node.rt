@@ -680,14 +680,49 @@ fn packets_cut_at_every_length_are_nothing_to_a_node(rt: HostRuntime) -> Result<
     Ok(())
 }
 
+const ASK_FAULTS: [(AskFault, u8, &str); 5] = [
+    (AskFault::Quiet, 1, "Quiet"),
+    (AskFault::Busy, 2, "Busy"),
+    (AskFault::Full, 3, "Full"),
+    (AskFault::ClockBack, 4, "ClockBack"),
+    (AskFault::BadName, 5, "BadName"),
+];
+
+const RELEASE_FAULTS: [(ReleaseFault, u8, &str); 2] = [
+    (ReleaseFault::NotHeld, 1, "NotHeld"),
+    (ReleaseFault::ClockBack, 4, "ClockBack"),
+];
+
+const LOOKUP_FAULTS: [(LookupFault, u8, &str); 3] = [
+    (LookupFault::Busy, 2, "Busy"),
+    (LookupFault::ClockBack, 4, "ClockBack"),
+    (LookupFault::BadName, 5, "BadName"),
+];
+
 #[test]
-fn refusals_have_their_numbers(rt: HostRuntime) -> Result<(), Fail> {
+fn refusals_have_their_numbers_and_words(rt: HostRuntime) -> Result<(), Fail> {
     settling_ends();
     settling_in_steps();
     one_move();
-    assert_eq!(rt; AskFault::Full.number(), 3);
-    assert_eq!(rt; ReleaseFault::ClockBack.number(), 4);
-    assert_eq!(rt; LookupFault::Busy.number(), 2);
+    for (fault, number, word) in ASK_FAULTS {
+        assert_eq!(rt; fault.number(), number);
+        assert_eq!(rt; fault.word(), word);
+        assert_eq!(rt; AskFault::of(number), Some(fault));
+    }
+    for (fault, number, word) in RELEASE_FAULTS {
+        assert_eq!(rt; fault.number(), number);
+        assert_eq!(rt; fault.word(), word);
+        assert_eq!(rt; ReleaseFault::of(number), Some(fault));
+    }
+    for (fault, number, word) in LOOKUP_FAULTS {
+        assert_eq!(rt; fault.number(), number);
+        assert_eq!(rt; fault.word(), word);
+        assert_eq!(rt; LookupFault::of(number), Some(fault));
+    }
+    assert_eq!(rt; AskFault::of(0), None);
+    assert_eq!(rt; AskFault::of(6), None);
+    assert_eq!(rt; ReleaseFault::of(2), None);
+    assert_eq!(rt; LookupFault::of(3), None);
     assert_eq!(rt; ClockBack.number(), 4);
     assert_eq!(rt; start()?.addr(), OWN);
     Ok(())

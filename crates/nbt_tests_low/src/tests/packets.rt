@@ -290,7 +290,30 @@ fn faults_and_their_places(rt: HostRuntime) -> Result<(), Fail> {
         };
         assert_eq!(rt; decode(&octets).err(), Some(fault), "{patches:?}");
     }
-    assert_eq!(rt; FaultKind::TooMany.number(), 6);
+    Ok(())
+}
+
+const WORDS: [(FaultKind, u8, &str); 6] = [
+    (FaultKind::Name(NameFaultKind::Short), 1, "Short"),
+    (FaultKind::Name(NameFaultKind::BadLabel), 2, "BadLabel"),
+    (FaultKind::Name(NameFaultKind::BadHalf), 3, "BadHalf"),
+    (FaultKind::Name(NameFaultKind::BadPointer), 4, "BadPointer"),
+    (FaultKind::Name(NameFaultKind::Long), 5, "Long"),
+    (FaultKind::TooMany, 6, "TooMany"),
+];
+
+#[test]
+fn numbers_and_words_of_a_packets_faults(rt: HostRuntime) -> Result<(), Fail> {
+    for (kind, number, word) in WORDS {
+        let text = format!(in rt.alloc(); "{kind}")?;
+        assert_eq!(rt; text.as_str(), word);
+        assert_eq!(rt; kind.number(), number);
+        assert_eq!(rt; kind.word(), word);
+        assert_eq!(rt; FaultKind::from_word(word.as_bytes()), Some(kind));
+    }
+    for word in ["", "TooMan", "toomany", "Full", "BadType"] {
+        assert_eq!(rt; FaultKind::from_word(word.as_bytes()), None);
+    }
     Ok(())
 }
 

@@ -84,7 +84,7 @@ fn packets_are_their_texts(rt: HostRuntime) -> Result<(), Fail> {
     Ok(())
 }
 
-/// Gives a new stream the octets in pieces of a size: the packets of the table come in order, and so many octets more.
+/// Gives a new stream the octets in pieces of a size: the packets of the table come in order, and then as many octets as are said.
 fn play_cut<R: Abort + AllocGlobal>(
     rt: &R,
     octets: &[u8],
@@ -165,7 +165,7 @@ const FAULTS: [Fails; 17] = [
     (b"\x84\x00\x00\x05", &[], FaultKind::BadLength, 2),
     (b"\x81\x00\x00\x43", &[], FaultKind::BadLength, 2),
     (b"\x81\x00\x01\xFF", &[], FaultKind::BadLength, 2),
-    // Both names end before the length does; and one ends behind it.
+    // Both names end before the length does; and one ends after it.
     (LONGER, &[], FaultKind::BadLength, 2),
     (REQUEST, &[(71, 0x01)], FaultKind::BadLength, 2),
     // The count of a label, a half octet, a pointer, and a count again.

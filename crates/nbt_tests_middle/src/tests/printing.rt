@@ -145,7 +145,7 @@ const SESSION_PACKETS: [&[u8]; 6] = [
 ];
 
 /// Whole octets, cut to each shorter length: of a packet or a datagram the octets end where one is missing, and of a
-/// session so many are left.
+/// session that many are left.
 fn expect_cut<R: Abort + AllocGlobal>(rt: &R, prints: Prints, whole: &[u8]) -> Result<(), Fail> {
     let (well, words) = match prints {
         Prints::Session => (true, "rest"),

@@ -3,7 +3,7 @@ use Rattle.std.specs.Fmt.{decimal}
 use Rattle.nbt_packet.specs.Packet.{packet_of, decoded}
 use Rattle.nbt_show.specs.PacketText.{packet_stands, fault_stands}
 use Rattle.nbt_text.specs.Lines.{newline}
-use Rattle.nbt_show.specs.Words.{fault_word}
+use Rattle.nbt_packet.specs.Numbers.{fault_word}
 use Rattle.nbt_show.proofs.Packets as packets
 use Rattle.nbt_show.proofs.packet_text.write_packet.Goals as goal
 
@@ -20,7 +20,7 @@ returns-in_ok-writeln-in-Ok c =
 pub returns-in_ok-writeln-in-Err : goal.returns-in_ok-writeln-in-Err
 returns-in_ok-writeln-in-Err c =
     let line = c.in_ok-writeln-in-Err.ensures.bytes in
-    let word = c.word_of_fault-word.ensures in (
+    let word = c.word-word.ensures in (
       codes "fault " ++ fault_word c.in-Err.fault.kind ++ codes " at " ++ decimal c.in-Err.fault.place ++ newline,
       rw (line, word) (simp append_assoc),
       fault_stands c.in-Err.fault ((c.decode.ensures.fault c.in-Err.fault).0 (ap decoded c.in-Err.is)),

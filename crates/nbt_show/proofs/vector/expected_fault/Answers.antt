@@ -6,10 +6,10 @@ returns-in_err-place c = λ e. nothing c.from_residual.result e _ c.from_residua
 
 pub returns-in_ok-kind-in-Name : goal.returns-in_ok-kind-in-Name
 returns-in_ok-kind-in-Name c = λ e.
-    name_fault _ _ _ c.kind_of.result c.place_of.result c.in_ok-kind-in-Name.kind c.in_ok-place.place e c.in-Name.is
-    c.kind_of.ensures c.in_ok-kind-in-Name.was c.place_of.ensures c.in_ok-place.was
+    name_fault _ _ _ c.from_word.result c.place_of.result c.in_ok-kind-in-Name.kind c.in_ok-place.place e c.in-Name.is
+    c.from_word.ensures c.in_ok-kind-in-Name.was c.place_of.ensures c.in_ok-place.was
 
 pub returns-in_ok-kind-in-Dgram : goal.returns-in_ok-kind-in-Dgram
 returns-in_ok-kind-in-Dgram c = λ e.
-    dgram_fault _ _ _ c.from_word.result c.place_of.result c.in_ok-kind-in-Dgram.kind c.in_ok-place.place e c.in-Dgram.is
-    c.from_word.ensures c.in_ok-kind-in-Dgram.was c.place_of.ensures c.in_ok-place.was
+    dgram_fault _ _ _ c.from_word-in-Dgram.result c.place_of.result c.in_ok-kind-in-Dgram.kind c.in_ok-place.place e c.in-Dgram.is
+    c.from_word-in-Dgram.ensures c.in_ok-kind-in-Dgram.was c.place_of.ensures c.in_ok-place.was

@@ -1,23 +1,24 @@
 use Rattle.std.proofs.Common.{◌≡◌, ◌≤◌, ℕ, true, false, List, Option, Some, None, refl, sym, subst}
 use Rattle.std.specs.Prelude.{IsSome, IfSome, ◌↔◌}
 use Rattle.nbt_loop.specs.declared.ports.Ports.{Ports}
+use Rattle.nbt_loop.specs.declared.ports.TheConstants.{FIRST_PORT_MOST}
 use Rattle.nbt_text.specs.Number.{SpellsNumber}
 use Rattle.nbt_prog.specs.Inner.Arguments.{IsPort, SpellsPort}
 use Rattle.nbt_prog.proofs.arguments.network.parse_ports.Goals as goal
 
 -- a number, where it is a port
 its_ports : (text : List ℕ) (number : ℕ) (r : Option Ports) → SpellsNumber text number
-    → (IsSome r ↔ ((1 ≤ number) × (number ≤ 65533))) → IfSome r (λ ports. ports.names ≡ number)
+    → (IsSome r ↔ ((1 ≤ number) × (number ≤ FIRST_PORT_MOST))) → IfSome r (λ ports. ports.names ≡ number)
     → IfSome r (λ ports. SpellsPort text ports.names)
 its_ports text number None spelled found is = tt
 its_ports text number (Some ports) spelled found is = let limits = found.0 refl in
-    (subst (SpellsNumber text) (sym is) spelled, subst (λ (n : ℕ). 1 ≤ n) (sym is) limits.0, subst (λ (n : ℕ). n ≤ 65533) (sym is) limits.1)
+    (subst (SpellsNumber text) (sym is) spelled, subst (λ (n : ℕ). 1 ≤ n) (sym is) limits.0, subst (λ (n : ℕ). n ≤ FIRST_PORT_MOST) (sym is) limits.1)
 
 -- there are some where the number is in its limits
 some_ports : (text : List ℕ) (number : ℕ) (r : Option Ports) → ((n : ℕ) → SpellsNumber text n → number ≡ n)
-    → (IsSome r ↔ ((1 ≤ number) × (number ≤ 65533))) → IsPort text → IsSome r
+    → (IsSome r ↔ ((1 ≤ number) × (number ≤ FIRST_PORT_MOST))) → IsPort text → IsSome r
 some_ports text number r one found (port, (spelled, low, high)) = let same : number ≡ port = one port spelled in
-    found.1 (subst (λ (n : ℕ). 1 ≤ n) (sym same) low, subst (λ (n : ℕ). n ≤ 65533) (sym same) high)
+    found.1 (subst (λ (n : ℕ). 1 ≤ n) (sym same) low, subst (λ (n : ℕ). n ≤ FIRST_PORT_MOST) (sym same) high)
 
 -- no number is no port
 no_ports : (text : List ℕ) → ((n : ℕ) → SpellsNumber text n → false ≡ true) → IsPort text → false ≡ true
