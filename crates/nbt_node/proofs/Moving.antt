@@ -15,12 +15,13 @@ use Rattle.nbt_node.specs.declared.state.State.{State}
 use Rattle.nbt_node.specs.declared.state.State.TheVariants.{Idle, Asking, Held, Releasing, Resting}
 use Rattle.nbt_node.specs.declared.state.Slot.{Slot}
 use Rattle.nbt_node.specs.Settling.{settled}
-use Rattle.nbt_node.specs.Node.{NodeValue, IsNode, is_in, has_room, AreDistinct, AreAwake, state_in, with_state, settled_slot, state_at, changed, Passes, settled_node}
+use Rattle.nbt_node.specs.Node.{NodeValue, IsNode, is_in, has_room, AreDistinct, AreAwake, state_in, state_of, with_state, settled_slot, state_at, changed, settled_node}
 use Rattle.nbt_node.specs.Transaction.{next_due}
 use Rattle.nbt_node.specs.Moves.{NameEvent, ask, poll, hear, nothing, Told, Move, NameMoves, asks, gives_back, asks_again, gives_back_again, refreshes_again, refreshes, granted_to, renewed_to, refused_to, loses_asked, loses_held, freed, asking_waits, giving_back_waits, refresh_waits, unmoved}
 use Rattle.nbt_packet.specs.Spelling.{AreWritten}
 use Rattle.nbt_node.specs.Calls.{is_busy, is_quiet, ask_refusal, question, LooksUp, slot_due, lookup_due, due_lookup, Polls, polls_name, polls_lookup, polls_nothing}
 use Rattle.nbt_node.specs.Datagrams.{same_end, NodeHears, from_server, from_stranger, ends, Ends, is_answered, is_unanswered}
+use Rattle.nbt_node.specs.EachName.{ByTimeAlone, OthersByTimeAlone}
 use Rattle.nbt_node.specs.Inner.Sending.{IsSending}
 use Rattle.nbt_node.proofs.Due.{known_due}
 use Rattle.nbt_node.proofs.Awake.{awake-settled, awake-with_state}
@@ -40,6 +41,8 @@ keeps old new count life now xs ys zs name state is old_is new_is settles change
       awake = subst AreAwake (sym (new_is ∙ changes)) (awake-with_state ys name state (subst AreAwake (sym settles) (awake-settled life now xs)));
       since = rw (start_is, last_is) (le_trans is.since later);
     }
+
+-- ---- what becomes of each name
 
 -- a name that is Idle stays so, unless it is asked for
 from_idle : (node : NodeValue) (now : ℕ) (name : NameValue) (before : State) (event : NameEvent) (after : State) (sent : Option MessageValue) (told : Told) (next : ℕ) → Move node now name before event after sent told next
@@ -61,38 +64,45 @@ from_idle node now name _ _ _ _ _ _ (giving_back_waits kind last p n t) idle oth
 from_idle node now name _ _ _ _ _ _ (refresh_waits kind ttl until renew last p n t) idle other = absurd cc
 from_idle node now name _ _ _ _ _ _ (unmoved state message out) idle other = idle
 
-module _ (old new : NodeValue) (now : ℕ) (name : NameValue) where
+module _ (old new : NodeValue) (now : ℕ) (name : NameValue) (event : NameEvent) (sent : Option MessageValue) (told : Told) where
   -- a move of one name is the node's
-  name_moves : (event : NameEvent) (after : State) (sent : Option MessageValue) (told : Told) (next : ℕ) → Move old now name (state_at old now name) event after sent told next
-      → new ≡ changed old now name after next → AreDistinct old.slots
-      → (is_in (map (settled_slot old.config.life now) old.slots) name ≡ false → (has_room (map (settled_slot old.config.life now) old.slots) ≡ true) ⊎ (settled old.config.life now after ≡ Idle))
-      → NameMoves old now name event new sent told
-  name_moves event after sent told next move is apart room =
+  pub name_moves : (after : State) (next : ℕ) → Move old now name (state_at old now name) event after sent told next → new ≡ changed old now name after next → NameMoves old now name event new sent told
+  name_moves after next move is =
       let next_is : new.next_id ≡ next = ap (λ (n : NodeValue). n.next_id) is in
-      let slots_are : new.slots ≡ with_state (map (settled_slot old.config.life now) old.slots) name (settled old.config.life now after) = ap (λ (n : NodeValue). n.slots) is in
       record {
         after = after;
         move = subst (λ (id : ℕ). Move old now name (state_at old now name) event after sent told id) (sym next_is) move;
-        named =
-            ap (λ (xs : List (Option Slot)). state_in xs name) slots_are
-            ∙ with_state-same (map (settled_slot old.config.life now) old.slots) name (settled old.config.life now after) (distinct-settled old.config.life now old.slots apart) room;
-        others = λ q ne.
-            ap (λ (xs : List (Option Slot)). state_in xs q) slots_are
-            ∙ with_state-other (map (settled_slot old.config.life now) old.slots) name (settled old.config.life now after) q ne
-            ∙ state_in-settled old.config.life now old.slots q apart;
         node = is ∙ ap (λ (id : ℕ). changed old now name after id) (sym next_is);
       }
 
-  -- of a name that is asked for, and by any other event
-  pub moves_asked : (event : NameEvent) (after : State) (sent : Option MessageValue) (told : Told) (next : ℕ) → Move old now name (state_at old now name) event after sent told next
-      → new ≡ changed old now name after next → AreDistinct old.slots → has_room (map (settled_slot old.config.life now) old.slots) ≡ true → NameMoves old now name event new sent told
-  moves_asked event after sent told next move is apart room = name_moves event after sent told next move is apart (λ out. inl room)
+  -- every other name changes by time alone
+  pub others_by_time : NameMoves old now name event new sent told → AreDistinct old.slots → OthersByTimeAlone old now name new
+  others_by_time moves apart q ne =
+      ap (λ (n : NodeValue). state_in n.slots q) moves.node
+      ∙ with_state-other (map (settled_slot old.config.life now) old.slots) name (settled old.config.life now moves.after) q ne
+      ∙ state_in-settled old.config.life now old.slots q apart
 
-  pub moves_known : (event : NameEvent) (after : State) (sent : Option MessageValue) (told : Told) (next : ℕ) → Move old now name (state_at old now name) event after sent told next
-      → new ≡ changed old now name after next → AreDistinct old.slots → ((kind : Kind) (ttl : ℕ) → event ≢ ask kind ttl) → NameMoves old now name event new sent told
-  moves_known event after sent told next move is apart other =
-      name_moves event after sent told next move is apart
-      (λ out. inr (ap (settled old.config.life now) (from_idle old now name (state_at old now name) event after sent told next move (idle_at out) other)))
+  -- no name has two slots
+  pub moved_apart : NameMoves old now name event new sent told → AreDistinct old.slots → AreDistinct new.slots
+  moved_apart moves apart = subst AreDistinct (sym (ap (λ (n : NodeValue). n.slots) moves.node))
+      (distinct-with_state (map (settled_slot old.config.life now) old.slots) name (settled old.config.life now moves.after) (distinct-settled old.config.life now old.slots apart))
+
+  -- the name's own state, which is settled once more
+  named_in : (moves : NameMoves old now name event new sent told) → AreDistinct old.slots
+      → (is_in (map (settled_slot old.config.life now) old.slots) name ≡ false → (has_room (map (settled_slot old.config.life now) old.slots) ≡ true) ⊎ (settled old.config.life now moves.after ≡ Idle))
+      → state_of new name ≡ settled old.config.life now moves.after
+  named_in moves apart room =
+      ap (λ (n : NodeValue). state_in n.slots name) moves.node
+      ∙ with_state-same (map (settled_slot old.config.life now) old.slots) name (settled old.config.life now moves.after) (distinct-settled old.config.life now old.slots apart) room
+
+  -- of a name that is asked for while there is room, and by any other event
+  pub asked_is : (moves : NameMoves old now name event new sent told) → AreDistinct old.slots → has_room (map (settled_slot old.config.life now) old.slots) ≡ true → state_of new name ≡ settled old.config.life now moves.after
+  asked_is moves apart room = named_in moves apart (λ out. inl room)
+
+  pub known_is : (moves : NameMoves old now name event new sent told) → AreDistinct old.slots → ((kind : Kind) (ttl : ℕ) → event ≢ ask kind ttl) → state_of new name ≡ settled old.config.life now moves.after
+  known_is moves apart other =
+      named_in moves apart
+      (λ out. inr (ap (settled old.config.life now) (from_idle old now name (state_at old now name) event moves.after sent told new.next_id moves.move (idle_at out) other)))
     where
       idle_at : is_in (map (settled_slot old.config.life now) old.slots) name ≡ false → state_at old now name ≡ Idle
       idle_at out = sym (state_in-settled old.config.life now old.slots name apart) ∙ absent (map (settled_slot old.config.life now) old.slots) name out
@@ -152,25 +162,20 @@ settles old new count life now xs ys is old_is new_is settled_is start_is last_i
   since = rw (start_is, last_is) (le_trans is.since later);
 }
 
-pub passes : (old new : NodeValue) (now : ℕ) → new ≡ settled_node old now → AreDistinct old.slots → Passes old now new
-passes old new now is apart = record {
-  node = is;
-  names = λ q. ap (λ (n : NodeValue). state_in n.slots q) is ∙ state_in-settled old.config.life now old.slots q apart;
-}
+-- every name, where only time has passed; and no name has two slots
+pub by_time : (old new : NodeValue) (now : ℕ) → new.slots ≡ (settled_node old now).slots → AreDistinct old.slots → ByTimeAlone old now new
+by_time old new now is apart q = ap (λ (xs : List (Option Slot)). state_in xs q) is ∙ state_in-settled old.config.life now old.slots q apart
+
+pub settled_apart : (old new : NodeValue) (now : ℕ) → new.slots ≡ (settled_node old now).slots → AreDistinct old.slots → AreDistinct new.slots
+settled_apart old new now is apart = subst AreDistinct (sym is) (distinct-settled old.config.life now old.slots apart)
 
 -- ---- lookups
 
-pub looks_up : (old mid new : NodeValue) (now : ℕ) (lookup : Option Lookup) (next : ℕ) → mid ≡ settled_node old now → new ≡ record mid { lookup = lookup; next_id = next } → AreDistinct old.slots → LooksUp old now lookup next new
-looks_up old mid new now lookup next mid_is new_is apart = record {
-  node = new_is ∙ ap (λ (n : NodeValue). let m : NodeValue = record n { lookup = lookup; next_id = next } in m) mid_is;
-  names = λ q.
-      ap (λ (n : NodeValue). state_in n.slots q) new_is
-      ∙ ap (λ (n : NodeValue). state_in n.slots q) mid_is
-      ∙ state_in-settled old.config.life now old.slots q apart;
-}
+pub looks_up : (old mid new : NodeValue) (now : ℕ) (lookup : Option Lookup) (next : ℕ) → mid ≡ settled_node old now → new ≡ record mid { lookup = lookup; next_id = next } → LooksUp old now lookup next new
+looks_up old mid new now lookup next mid_is new_is = new_is ∙ ap (λ (n : NodeValue). let m : NodeValue = record n { lookup = lookup; next_id = next } in m) mid_is
 
 module _ (old mid new : NodeValue) (now : ℕ) (before after : Option Lookup) (to : Option Addr) (octets : List ℕ) (mid_is : mid ≡ settled_node old now) (before_is : mid.lookup ≡ before)
-    (new_is : new ≡ record mid { lookup = after }) (apart : AreDistinct old.slots) (no_slot : slot_due old now ≡ None) where
+    (new_is : new ≡ record mid { lookup = after }) (no_slot : slot_due old now ≡ None) where
   lookup_is : lookup_due old now ≡ due_lookup now before
   lookup_is = ap (λ (n : NodeValue). due_lookup now n.lookup) (sym mid_is) ∙ ap (due_lookup now) before_is
 
@@ -182,12 +187,12 @@ module _ (old mid new : NodeValue) (now : ℕ) (before after : Option Lookup) (t
           (λ l. (after ≡ Some (record l { tries = l.tries + 1; due = next_due now })) × (to ≡ Some l.to) × AreWritten (Some (question l)) octets) → Polls old now new to octets
       go None e (same, nowhere, empty) =
           let unchanged : new ≡ mid = new_is ∙ ap (λ (l : Option Lookup). let m : NodeValue = record mid { lookup = l } in m) (same ∙ sym before_is) in
-          rw (nowhere, empty) (polls_nothing new no_slot (lookup_is ∙ e) (passes old new now (unchanged ∙ mid_is) apart))
+          rw (nowhere, empty) (polls_nothing new no_slot (lookup_is ∙ e) (unchanged ∙ mid_is))
       go (Some l) e (next, there, written) =
           rw there (
           polls_lookup l new octets no_slot (lookup_is ∙ e)
           (looks_up old mid new now (Some (record l { tries = l.tries + 1; due = next_due now })) old.next_id mid_is
-          (new_is ∙ ap (λ (o : Option Lookup). let m : NodeValue = record mid { lookup = o } in m) next ∙ ap (λ (id : ℕ). let m : NodeValue = record mid { lookup = Some (record l { tries = l.tries + 1; due = next_due now }); next_id = id } in m) (ap (λ (n : NodeValue). n.next_id) mid_is)) apart)
+          (new_is ∙ ap (λ (o : Option Lookup). let m : NodeValue = record mid { lookup = o } in m) next ∙ ap (λ (id : ℕ). let m : NodeValue = record mid { lookup = Some (record l { tries = l.tries + 1; due = next_due now }); next_id = id } in m) (ap (λ (n : NodeValue). n.next_id) mid_is)))
           written
           )
 
@@ -204,34 +209,34 @@ polls_sending old new now kept sending octets apart due is new_is written =
     let move : Move old now kept.name (state_at old now kept.name) poll sending.state (Some (message_of sending.message)) nothing sending.next_id = rw state_is (is.moves old refl refl refl) in
     let whole : new ≡ changed old now kept.name sending.state sending.next_id = new_is ∙ ap (λ (n : NameValue). changed old now n sending.state sending.next_id) is.name_is in
     polls_name kept new octets due
-    (record { message = message_of sending.message; moves = moves_known old new now kept.name poll sending.state (Some (message_of sending.message)) nothing sending.next_id move whole apart (λ kind ttl e. cc); written = written })
+    (record { message = message_of sending.message; moves = name_moves old new now kept.name poll (Some (message_of sending.message)) nothing sending.state sending.next_id move whole; written = written })
 
 -- ---- what is said about a name
 
 -- by a stranger, and by the server; the node as the code has it open is the node before
-pub ignored : (old inside new : NodeValue) (now : ℕ) (from : Addr) (name : NameValue) (message : MessageValue) → inside ≡ old → false ≡ same_end from inside.server → new ≡ settled_node old now → AreDistinct old.slots
+pub ignored : (old inside new : NodeValue) (now : ℕ) (from : Addr) (name : NameValue) (message : MessageValue) → inside ≡ old → false ≡ same_end from inside.server → new ≡ settled_node old now
     → NodeHears old now from name message new None nothing
-ignored old inside new now from name message inside_is stranger new_is apart =
-    from_stranger new (ap (λ (n : NodeValue). same_end from n.server) (sym inside_is) ∙ sym stranger) (passes old new now new_is apart)
+ignored old inside new now from name message inside_is stranger new_is =
+    from_stranger new (ap (λ (n : NodeValue). same_end from n.server) (sym inside_is) ∙ sym stranger) new_is
 
 pub heard : (old inside new : NodeValue) (now : ℕ) (from : Addr) (name : NameValue) (message : MessageValue) → inside ≡ old → true ≡ same_end from inside.server → (state after : State) (told : Told) → state ≡ state_at old now name
-    → Move old now name state (hear message) after None told old.next_id → new ≡ changed old now name after inside.next_id → AreDistinct old.slots → NodeHears old now from name message new None told
-heard old inside new now from name message inside_is server state after told state_is move new_is apart =
+    → Move old now name state (hear message) after None told old.next_id → new ≡ changed old now name after inside.next_id → NodeHears old now from name message new None told
+heard old inside new now from name message inside_is server state after told state_is move new_is =
     let move_at : Move old now name (state_at old now name) (hear message) after None told old.next_id = rw (← state_is) move in
     let whole : new ≡ changed old now name after old.next_id = new_is ∙ ap (λ (n : NodeValue). changed old now name after n.next_id) inside_is in
     from_server new told (ap (λ (n : NodeValue). same_end from n.server) (sym inside_is) ∙ sym server)
-    (moves_known old new now name (hear message) after None told old.next_id move_at whole apart (λ kind ttl e. cc))
+    (name_moves old new now name (hear message) None told after old.next_id move_at whole)
 
 -- ---- what may end the lookup: the node as the code has it open is the settled one
 
-pub unanswered : (old mid inside : NodeValue) (now : ℕ) (from : Addr) (message : MessageValue) (told : Told) → mid ≡ settled_node old now → inside ≡ mid → AreDistinct old.slots
+pub unanswered : (old mid inside : NodeValue) (now : ℕ) (from : Addr) (message : MessageValue) (told : Told) → mid ≡ settled_node old now → inside ≡ mid
     → false ≡ ends inside.lookup from message → Ends old now from message told mid None nothing
-unanswered old mid inside now from message told mid_is inside_is apart other =
-    is_unanswered mid (ap (λ (n : NodeValue). ends n.lookup from message) (sym (inside_is ∙ mid_is)) ∙ sym other) (passes old mid now mid_is apart)
+unanswered old mid inside now from message told mid_is inside_is other =
+    is_unanswered mid (ap (λ (n : NodeValue). ends n.lookup from message) (sym (inside_is ∙ mid_is)) ∙ sym other) mid_is
 
-pub answered : (old mid inside new : NodeValue) (now : ℕ) (from : Addr) (message : MessageValue) (told : Told) → mid ≡ settled_node old now → inside ≡ mid → new ≡ record inside { lookup = None } → AreDistinct old.slots
+pub answered : (old mid inside new : NodeValue) (now : ℕ) (from : Addr) (message : MessageValue) (told : Told) → mid ≡ settled_node old now → inside ≡ mid → new ≡ record inside { lookup = None }
     → true ≡ ends inside.lookup from message → Ends old now from message told new None told
-answered old mid inside new now from message told mid_is inside_is new_is apart end =
+answered old mid inside new now from message told mid_is inside_is new_is end =
     let next_is : inside.next_id ≡ old.next_id = ap (λ (n : NodeValue). n.next_id) (inside_is ∙ mid_is) in
     let whole : new ≡ record inside { lookup = None; next_id = old.next_id } = new_is ∙ ap (λ (id : ℕ). let n : NodeValue = record inside { lookup = None; next_id = id } in n) next_is in
-    is_answered new (ap (λ (n : NodeValue). ends n.lookup from message) (sym (inside_is ∙ mid_is)) ∙ sym end) (looks_up old inside new now None old.next_id (inside_is ∙ mid_is) whole apart)
+    is_answered new (ap (λ (n : NodeValue). ends n.lookup from message) (sym (inside_is ∙ mid_is)) ∙ sym end) (looks_up old inside new now None old.next_id (inside_is ∙ mid_is) whole)

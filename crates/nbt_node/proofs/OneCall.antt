@@ -37,7 +37,7 @@ module _ (old : NodeValue) (now : ℕ) where
       (same.0, one_written (Some second.message) x y (subst (λ (m : Option MessageValue). AreWritten m x) same.1 first.written) second.written)
 
   pub one_opening : (name : NameValue) (to : Addr) (wanted : Wanted) (a b : NodeValue) (x y : List ℕ) → Opens old now name to wanted a x → Opens old now name to wanted b y → (a ≡ b) × (x ≡ y)
-  one_opening name to wanted a b x y first second = (first.opens.node ∙ sym second.opens.node, first.written.0 ∙ sym second.written.0)
+  one_opening name to wanted a b x y first second = (first.opens ∙ sym second.opens, first.written.0 ∙ sym second.written.0)
 
   -- ---- a poll
 
@@ -51,14 +51,14 @@ module _ (old : NodeValue) (now : ℕ) where
   one_poll _ _ _ _ _ _ (polls_lookup l a x quiet due looks written) (polls_name t b y seen also) = absurd (not_both t _ quiet seen)
   one_poll _ _ _ _ _ _ (polls_lookup l a x quiet due looks written) (polls_lookup k b y _ seen also wrote) =
       let is : l ≡ k = same_some l k _ due seen in (
-        looks.node ∙ ap (λ (q : Lookup). with_lookup old now (Some (record q { tries = q.tries + 1; due = next_due now })) old.next_id) is ∙ sym also.node,
+        looks ∙ ap (λ (q : Lookup). with_lookup old now (Some (record q { tries = q.tries + 1; due = next_due now })) old.next_id) is ∙ sym also,
         ap (λ (q : Lookup). Some q.to) is,
         written.0 ∙ ap (λ (q : Lookup). text (question q)) is ∙ sym wrote.0,
       )
   one_poll _ _ _ _ _ _ (polls_lookup l a x quiet due looks written) (polls_nothing b _ ended passes) = absurd (not_both l _ ended due)
   one_poll _ _ _ _ _ _ (polls_nothing a quiet ended passes) (polls_name t b y seen also) = absurd (not_both t _ quiet seen)
   one_poll _ _ _ _ _ _ (polls_nothing a quiet ended passes) (polls_lookup k b y _ seen also wrote) = absurd (not_both k _ ended seen)
-  one_poll _ _ _ _ _ _ (polls_nothing a quiet ended passes) (polls_nothing b _ _ also) = (passes.node ∙ sym also.node, refl, refl)
+  one_poll _ _ _ _ _ _ (polls_nothing a quiet ended passes) (polls_nothing b _ _ also) = (passes ∙ sym also, refl, refl)
 
   -- ---- a message
 
@@ -66,22 +66,22 @@ module _ (old : NodeValue) (now : ℕ) where
   one_hearing from name message _ _ _ _ _ _ (from_server a t is moves) (from_server b u _ also) = one_name_moves name (hear message) a b None None t u moves also
   one_hearing from name message _ _ _ _ _ _ (from_server a t is moves) (from_stranger b not passes) = absurd (let e : true ≡ false = sym is ∙ not in cc)
   one_hearing from name message _ _ _ _ _ _ (from_stranger a not passes) (from_server b u is moves) = absurd (let e : true ≡ false = sym is ∙ not in cc)
-  one_hearing from name message _ _ _ _ _ _ (from_stranger a not passes) (from_stranger b _ also) = (passes.node ∙ sym also.node, refl, refl)
+  one_hearing from name message _ _ _ _ _ _ (from_stranger a not passes) (from_stranger b _ also) = (passes ∙ sym also, refl, refl)
 
   one_listing : (id : ℕ) (name : NameValue) (a b : NodeValue) (m n : Option MessageValue) (t u : Told) → Lists old now id name a m t → Lists old now id name b n u → (a ≡ b) × (m ≡ n) × (t ≡ u)
-  one_listing id name _ _ _ _ _ _ (lists_names a is passes) (lists_names b _ also) = (passes.node ∙ sym also.node, refl, refl)
+  one_listing id name _ _ _ _ _ _ (lists_names a is passes) (lists_names b _ also) = (passes ∙ sym also, refl, refl)
   one_listing id name _ _ _ _ _ _ (lists_names a is passes) (lists_nothing b not also) = absurd (let e : true ≡ false = sym is ∙ not in cc)
   one_listing id name _ _ _ _ _ _ (lists_nothing a not passes) (lists_names b is also) = absurd (let e : true ≡ false = sym is ∙ not in cc)
-  one_listing id name _ _ _ _ _ _ (lists_nothing a not passes) (lists_nothing b _ also) = (passes.node ∙ sym also.node, refl, refl)
+  one_listing id name _ _ _ _ _ _ (lists_nothing a not passes) (lists_nothing b _ also) = (passes ∙ sym also, refl, refl)
 
   one_ending : (from : Addr) (message : MessageValue) (told : Told) (a b : NodeValue) (m n : Option MessageValue) (t u : Told) → Ends old now from message told a m t → Ends old now from message told b n u → (a ≡ b) × (m ≡ n) × (t ≡ u)
-  one_ending from message told _ _ _ _ _ _ (is_answered a is looks) (is_answered b _ also) = (looks.node ∙ sym also.node, refl, refl)
+  one_ending from message told _ _ _ _ _ _ (is_answered a is looks) (is_answered b _ also) = (looks ∙ sym also, refl, refl)
   one_ending from message told _ _ _ _ _ _ (is_answered a is looks) (is_unanswered b not also) = absurd (let e : true ≡ false = sym is ∙ not in cc)
   one_ending from message told _ _ _ _ _ _ (is_unanswered a not passes) (is_answered b is also) = absurd (let e : true ≡ false = sym is ∙ not in cc)
-  one_ending from message told _ _ _ _ _ _ (is_unanswered a not passes) (is_unanswered b _ also) = (passes.node ∙ sym also.node, refl, refl)
+  one_ending from message told _ _ _ _ _ _ (is_unanswered a not passes) (is_unanswered b _ also) = (passes ∙ sym also, refl, refl)
 
   one_idling : (a b : NodeValue) (m n : Option MessageValue) (t u : Told) → Idles old now a m t → Idles old now b n u → (a ≡ b) × (m ≡ n) × (t ≡ u)
-  one_idling _ _ _ _ _ _ (idles a passes) (idles b also) = (passes.node ∙ sym also.node, refl, refl)
+  one_idling _ _ _ _ _ _ (idles a passes) (idles b also) = (passes ∙ sym also, refl, refl)
 
   one_taking : (from : Addr) (message : MessageValue) (a b : NodeValue) (m n : Option MessageValue) (t u : Told) → NodeTakes old now from message a m t → NodeTakes old now from message b n u → (a ≡ b) × (m ≡ n) × (t ≡ u)
   one_taking from (registration r) a b m n t u x y = one_idling a b m n t u x y
@@ -106,7 +106,7 @@ module _ (old : NodeValue) (now : ℕ) where
         one_taking from other a b m n t u (subst (λ (v : MessageValue). NodeTakes old now from v a m t) same takes) takes_too
     one_octets from octets _ _ _ _ _ _ (spelled message a m t is takes) (unspelled b not passes) = absurd (not message is)
     one_octets from octets _ _ _ _ _ _ (unspelled a not passes) (spelled message b n u is takes) = absurd (not message is)
-    one_octets from octets _ _ _ _ _ _ (unspelled a not passes) (unspelled b _ also) = (passes.node ∙ sym also.node, refl, refl)
+    one_octets from octets _ _ _ _ _ _ (unspelled a not passes) (unspelled b _ also) = (passes ∙ sym also, refl, refl)
 
     pub one_handling : (from : Addr) (octets : List ℕ) (a b : NodeValue) (t u : Told) (x y : List ℕ) → Handles old now from octets a t x → Handles old now from octets b u y → (a ≡ b) × (t ≡ u) × (x ≡ y)
     one_handling from octets a b t u x y first second =

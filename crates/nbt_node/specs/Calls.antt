@@ -19,7 +19,7 @@ use Rattle.nbt_node.specs.declared.lookup.Wanted.TheVariants.{Entries, Names}
 use Rattle.nbt_node.specs.declared.state.State.{State}
 use Rattle.nbt_node.specs.declared.state.State.TheVariants.{Asking, Held, Releasing, Resting}
 use Rattle.nbt_node.specs.declared.state.Slot.{Slot}
-use Rattle.nbt_node.specs.Node.{NodeValue, has_room, settled_slot, settled_lookup, settled_node, state_at, ByTimeAlone, Passes}
+use Rattle.nbt_node.specs.Node.{NodeValue, has_room, settled_slot, settled_lookup, settled_node, state_at, Passes}
 use Rattle.nbt_node.specs.Transaction.{next_due, is_next}
 use Rattle.nbt_node.specs.Moves.{NameEvent, poll, NameMoves, nothing, id_after, is_due}
 
@@ -92,9 +92,8 @@ question l = question_of l.wanted l.id l.name
 abbrev pub with_lookup : NodeValue → ℕ → Option Lookup → (next_id : ℕ) → NodeValue
 with_lookup node now lookup next_id = record (settled_node node now) { lookup = lookup; next_id = next_id }
 
-pub record LooksUp (old : NodeValue) (now : ℕ) (lookup : Option Lookup) (next_id : ℕ) (new : NodeValue) : Type 0 where
-  pub node : new ≡ with_lookup old now lookup next_id
-  pub names : ByTimeAlone old now new
+abbrev pub LooksUp : NodeValue → ℕ → Option Lookup → (next_id : ℕ) → NodeValue → Type 0
+LooksUp old now lookup next_id new = new ≡ with_lookup old now lookup next_id
 
 -- a lookup opens
 pub record Opens (old : NodeValue) (now : ℕ) (name : NameValue) (to : Addr) (wanted : Wanted) (new : NodeValue) (octets : List ℕ) : Type 0 where

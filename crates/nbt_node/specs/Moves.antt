@@ -14,7 +14,7 @@ use Rattle.nbt_node.specs.declared.state.State.TheVariants.{Idle, Asking, Held, 
 use Rattle.nbt_node.specs.declared.transaction.Transaction.{Transaction}
 use Rattle.nbt_node.specs.Transaction.{is_next, opened, again, put_off, wait_until}
 use Rattle.nbt_node.specs.Settling.{settled}
-use Rattle.nbt_node.specs.Node.{NodeValue, state_of, state_at, changed, OthersByTimeAlone}
+use Rattle.nbt_node.specs.Node.{NodeValue, state_at, changed}
 
 -- what happens to a name: it is asked for, given back or polled, or the server says something about it
 pub data NameEvent : Type 0 where
@@ -134,6 +134,4 @@ pub data Move (node : NodeValue) (now : ℕ) (name : NameValue) : State → Name
 pub record NameMoves (old : NodeValue) (now : ℕ) (name : NameValue) (event : NameEvent) (new : NodeValue) (sent : Option MessageValue) (told : Told) : Type 0 where
   pub after : State
   pub move : Move old now name (state_at old now name) event after sent told new.next_id
-  pub named : state_of new name ≡ settled old.config.life now after
-  pub others : OthersByTimeAlone old now name new
   pub node : new ≡ changed old now name after new.next_id

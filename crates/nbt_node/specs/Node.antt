@@ -130,13 +130,6 @@ holds node name now = if nat_lt now node.last then None else held_at now (state_
 abbrev pub lookup_open : NodeValue → ℕ → Bool
 lookup_open node now = if nat_lt now node.last then false else is_some (settled_lookup now node.lookup)
 
--- only time has passed: for every name, and every name but one
-abbrev pub ByTimeAlone : NodeValue → ℕ → NodeValue → Type 0
-ByTimeAlone old now new = (q : NameValue) → state_of new q ≡ state_at old now q
-
-abbrev pub OthersByTimeAlone : NodeValue → ℕ → NameValue → NodeValue → Type 0
-OthersByTimeAlone old now name new = (q : NameValue) → q ≢ name → state_of new q ≡ state_at old now q
-
-pub record Passes (old : NodeValue) (now : ℕ) (new : NodeValue) : Type 0 where
-  pub node : new ≡ settled_node old now
-  pub names : ByTimeAlone old now new
+-- only time has passed
+abbrev pub Passes : NodeValue → ℕ → NodeValue → Type 0
+Passes old now new = new ≡ settled_node old now

@@ -7,6 +7,7 @@ ghost use Rattle.nbt_node.specs.declared.state.State.{State};
 ghost use Rattle.nbt_node.specs.Settling.{settled};
 ghost use Rattle.nbt_node.specs.Node.{NodeValue};
 ghost use Rattle.nbt_node.specs.Moves.{NameEvent, Told, Move};
+ghost use Rattle.nbt_node.specs.EachName.{StartsApart, OneNameMoves, TimePasses};
 ghost use Rattle.nbt_node.specs.OneAnswer.{OneSending, OneOpening, OnePoll, OneHandling, SettlesInSteps};
 
 /// Time's own moves end: a state that is settled at a moment stays as it is there.
@@ -28,6 +29,14 @@ pub fn a_node_settles_in_steps()
 pub fn one_move()
     ensures { (node : NodeValue) (now : ℕ) (name : NameValue) (before : State) (event : NameEvent) (a b : State) (m n : Option MessageValue) (t u : Told) (i j : ℕ)
         → Move node now name before event a m t i → Move node now name before event b n u j → (a ≡ b) × (m ≡ n) × (t ≡ u) × (i ≡ j) }
+{}
+
+/// What becomes of each name of a node in which no name has two slots. So it is at the node's start, and after each of its
+/// calls. The name that moves is then as its line says, and settled; every other name changes by time alone.
+pub fn each_name()
+    ensures start { StartsApart }
+    ensures moves { OneNameMoves }
+    ensures time { TimePasses }
 {}
 
 /// Each call of a node has one answer: the node afterwards, what is sent, and what is told.

@@ -165,21 +165,21 @@ claims_by_time clock now old new q longest replied start state kind end c =
 
 -- the name about which a request was sent
 pub claims_sends : (number clock now : ℕ) (old new : NodeValue) (name : NameValue) (event : NameEvent) (m : MessageValue) (told : Told) (longest : ℕ) (asked replied : Clocks → MessageValue → Type 0) → new.start ≡ old.start
-    → NameMoves old now name event new (Some m) told → ArePast old.config.life number clock now asked → RepliesFresh old.config.life number clock now asked replied (known (Some old) name)
+    → (moves : NameMoves old now name event new (Some m) told) → state_of new name ≡ settled old.config.life now moves.after → ArePast old.config.life number clock now asked → RepliesFresh old.config.life number clock now asked replied (known (Some old) name)
     → NoNewClaim longest old.config.life clock replied (known (Some old) name) (known (Some new) name)
-claims_sends number clock now old new name event m told longest asked replied start moves past fresh kind end c =
+claims_sends number clock now old new name event m told longest asked replied start moves named past fresh kind end c =
     settled_claims longest old.config.life clock now old.start replied (state_of old name) kind end
     (sent_claims longest number clock asked replied moves.move past
     (fresh-fades old.config.life number clock now old.start asked replied (state_of old name) (state_at old now name) past (fades old.config.life now old.start (state_of old name)) fresh) kind end
     (settled_claims longest old.config.life clock now old.start replied moves.after kind end
-    (claims_as longest old.config.life clock replied new name old.start (settled old.config.life now moves.after) start moves.named kind end c)))
+    (claims_as longest old.config.life clock replied new name old.start (settled old.config.life now moves.after) start named kind end c)))
 
 -- the name about which something was heard
 pub claims_hears : (clock now : ℕ) (old new : NodeValue) (name : NameValue) (m : MessageValue) (told : Told) (replied : Clocks → MessageValue → Type 0) → new.start ≡ old.start
-    → NameMoves old now name (hear m) new None told → IsListed old.config.life clock replied m
+    → (moves : NameMoves old now name (hear m) new None told) → state_of new name ≡ settled old.config.life now moves.after → IsListed old.config.life clock replied m
     → NoNewClaim old.config.longest old.config.life clock replied (known (Some old) name) (known (Some new) name)
-claims_hears clock now old new name m told replied start moves listed kind end c =
+claims_hears clock now old new name m told replied start moves named listed kind end c =
     settled_claims old.config.longest old.config.life clock now old.start replied (state_of old name) kind end
     (heard_claims clock replied moves.move listed kind end
     (settled_claims old.config.longest old.config.life clock now old.start replied moves.after kind end
-    (claims_as old.config.longest old.config.life clock replied new name old.start (settled old.config.life now moves.after) start moves.named kind end c)))
+    (claims_as old.config.longest old.config.life clock replied new name old.start (settled old.config.life now moves.after) start named kind end c)))

@@ -60,7 +60,7 @@ clock_changes law live holds w v ms moves adv kept = record {
       let k = kept.nodes n a node p up in
       let past = k.past in
       let on = reads n (a, p) in
-      record { addr_is = k.addr_is; server_is = k.server_is; config_is = k.config_is; past = omega arith };
+      record { addr_is = k.addr_is; server_is = k.server_is; config_is = k.config_is; distinct = k.distinct; past = omega arith };
   server = λ server up.
       let k = kept.server server up in
       let past = k.past in

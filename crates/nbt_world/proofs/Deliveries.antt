@@ -12,7 +12,9 @@ use Rattle.nbt_packet.specs.Text.{text}
 use Rattle.nbt_packet.specs.Spelling.{Spells, AreWritten}
 use Rattle.nbt_lease.specs.Config.{ConfigValue}
 use Rattle.nbt_lease.specs.Lease.{Leases, TableValue, leases_at, IsSound}
-use Rattle.nbt_node.specs.Node.{NodeValue, Passes}
+use Rattle.nbt_node.specs.Node.{NodeValue, state_of, Passes}
+use Rattle.nbt_node.specs.Settling.{settled}
+use Rattle.nbt_node.proofs.Moving.{by_time, others_by_time, known_is}
 use Rattle.nbt_node.specs.Moves.{hear, Told, NameMoves}
 use Rattle.nbt_node.specs.Datagrams.{same_end, NodeHears, from_server, from_stranger, Lists, lists_names, lists_nothing, names_listed, Ends as LookupEnds, is_answered, is_unanswered, Idles, idles, NodeTakes, NodeTakesOctets, spelled, unspelled}
 use Rattle.nbt_lease.specs.declared.fault.GrantFault.{GrantFault}
@@ -53,28 +55,31 @@ hears_kept law w i node new name m told kept up moves is_listed =
     let stays = stays_by_moves (reading w.now (suc i)) node new name _ _ _ moves in
     node_moves w i node new w.sent kept at stays (nothing_new w at.addr) (λ d c. c) (λ on q. names at stays on q (names_apart q name)) (λ on q. replies at stays on q (names_apart q name)) (λ on q. claims at stays on q (names_apart q name))
   where
+    named : UpAt w i node → state_of new name ≡ settled node.config.life (reading w.now (suc i)) moves.after
+    named at = known_is node new (reading w.now (suc i)) name (hear m) None told moves (at.is).distinct (λ kind ttl e. cc)
+
     claims : (at : UpAt w i node) → Stays node (reading w.now (suc i)) new → IsTrue w.kept → (q : NameValue) → (q ≡ name) ⊎ (q ≢ name)
         → NoNewClaim node.config.longest node.config.life w.now.clock (Replied w.sent w.ends.server_addr at.addr q) (known (Some node) q) (known (Some new) q)
     claims at stays on q (inl e) =
         subst (λ (n : NameValue). NoNewClaim node.config.longest node.config.life w.now.clock (Replied w.sent w.ends.server_addr at.addr n) (known (Some node) n) (known (Some new) n)) (sym e)
-        (claims_hears w.now.clock (reading w.now (suc i)) node new name m told (Replied w.sent w.ends.server_addr at.addr name) stays.start_is moves
+        (claims_hears w.now.clock (reading w.now (suc i)) node new name m told (Replied w.sent w.ends.server_addr at.addr name) stays.start_is moves (named at)
         (subst (λ (c : ConfigValue). IsListed c.life w.now.clock (Replied w.sent w.ends.server_addr at.addr name) m) (sym (at.is).config_is) (is_listed at.addr at.at)))
-    claims at stays on q (inr ne) = claims_by_time w.now.clock (reading w.now (suc i)) node new q node.config.longest (Replied w.sent w.ends.server_addr at.addr q) stays.start_is (moves.others q ne)
+    claims at stays on q (inr ne) = claims_by_time w.now.clock (reading w.now (suc i)) node new q node.config.longest (Replied w.sent w.ends.server_addr at.addr q) stays.start_is (others_by_time node new (reading w.now (suc i)) name (hear m) None told moves (at.is).distinct q ne)
 
     replies : (at : UpAt w i node) → Stays node (reading w.now (suc i)) new → IsTrue w.kept → (q : NameValue) → (q ≡ name) ⊎ (q ≢ name)
         → RepliesFresh node.config.life (suc i) w.now.clock (reading w.now (suc i)) (Asked w.sent (at.addr).ip q) (Replied w.sent w.ends.server_addr at.addr q) (known (Some new) q)
     replies at stays on q (inl e) =
         subst (λ (n : NameValue). RepliesFresh node.config.life (suc i) w.now.clock (reading w.now (suc i)) (Asked w.sent (at.addr).ip n) (Replied w.sent w.ends.server_addr at.addr n) (known (Some new) n)) (sym e)
-        (fresh_hears (suc i) w.now.clock (reading w.now (suc i)) node new name m told (Asked w.sent (at.addr).ip name) (Replied w.sent w.ends.server_addr at.addr name) stays.start_is moves (at.past on name) (at.replies on name))
+        (fresh_hears (suc i) w.now.clock (reading w.now (suc i)) node new name m told (Asked w.sent (at.addr).ip name) (Replied w.sent w.ends.server_addr at.addr name) stays.start_is moves (named at) (at.past on name) (at.replies on name))
     replies at stays on q (inr ne) =
-        fresh_by_time (suc i) w.now.clock (reading w.now (suc i)) node new q (Asked w.sent (at.addr).ip q) (Asked w.sent (at.addr).ip q) (Replied w.sent w.ends.server_addr at.addr q) (Replied w.sent w.ends.server_addr at.addr q) stays.start_is (moves.others q ne) (at.past on q)
+        fresh_by_time (suc i) w.now.clock (reading w.now (suc i)) node new q (Asked w.sent (at.addr).ip q) (Asked w.sent (at.addr).ip q) (Replied w.sent w.ends.server_addr at.addr q) (Replied w.sent w.ends.server_addr at.addr q) stays.start_is (others_by_time node new (reading w.now (suc i)) name (hear m) None told moves (at.is).distinct q ne) (at.past on q)
         (λ moment message a. a) (λ moment message a. a) (λ moment message r. r) (at.replies on q)
 
     names : (at : UpAt w i node) → Stays node (reading w.now (suc i)) new → IsTrue w.kept → (q : NameValue) → (q ≡ name) ⊎ (q ≢ name) → RequestsEnded node.config.life (suc i) w.now.clock (reading w.now (suc i)) (Asked w.sent (at.addr).ip q) (known (Some new) q)
     names at stays on q (inl e) =
         subst (λ (n : NameValue). RequestsEnded node.config.life (suc i) w.now.clock (reading w.now (suc i)) (Asked w.sent (at.addr).ip n) (known (Some new) n)) (sym e)
-        (name_hears (suc i) w.now.clock (reading w.now (suc i)) node new name m told (Asked w.sent (at.addr).ip name) stays.start_is moves (at.past on name) (at.requests on name))
-    names at stays on q (inr ne) = name_by_time (suc i) w.now.clock (reading w.now (suc i)) node new q (Asked w.sent (at.addr).ip q) (Asked w.sent (at.addr).ip q) stays.start_is (moves.others q ne) (at.past on q) (λ moment message a. a) (at.requests on q)
+        (name_hears (suc i) w.now.clock (reading w.now (suc i)) node new name m told (Asked w.sent (at.addr).ip name) stays.start_is moves (named at) (at.past on name) (at.requests on name))
+    names at stays on q (inr ne) = name_by_time (suc i) w.now.clock (reading w.now (suc i)) node new q (Asked w.sent (at.addr).ip q) (Asked w.sent (at.addr).ip q) stays.start_is (others_by_time node new (reading w.now (suc i)) name (hear m) None told moves (at.is).distinct q ne) (at.past on q) (λ moment message a. a) (at.requests on q)
 
 -- the world after a node took a datagram, and its reply was sent
 abbrev pub replied_world : WorldValue → (i : ℕ) → NodeValue → Addr → Option MessageValue → WorldValue
@@ -82,7 +87,7 @@ replied_world w i new to None = record w { ends = with_node w.ends (suc i) (Some
 replied_world w i new to (Some m) = record w { ends = with_node w.ends (suc i) (Some new); sent = w.sent ++ datagram new.addr to w.now (text m) ∷ [] }
 
 passes_kept : Laws → (w : WorldValue) (i : ℕ) (node new : NodeValue) → Invariant w → node_of w.ends (suc i) ≡ Some node → Passes node (reading w.now (suc i)) new → Invariant (record w { ends = with_node w.ends (suc i) (Some new) })
-passes_kept law w i node new kept up passes = time_kept law w i node new kept up (stays_by_time (reading w.now (suc i)) node new passes) passes.names
+passes_kept law w i node new kept up passes = time_kept law w i node new kept up (stays_by_time (reading w.now (suc i)) node new passes) (by_time node new (reading w.now (suc i)) (ap (λ (n : NodeValue). n.slots) passes))
 
 -- where octets from this end come from, and what they spell
 pub record IsHeard (w : WorldValue) (i : ℕ) (from : Addr) (m : MessageValue) : Type 0 where
@@ -127,12 +132,12 @@ heard_kept law w i node new from to name m sent told kept up (from_stranger n ot
 lists_kept : Laws → (w : WorldValue) (i : ℕ) (node new : NodeValue) (to : Addr) (id : ℕ) (name : NameValue) (sent : Option MessageValue) (told : Told) (out : List ℕ) → Invariant w → node_of w.ends (suc i) ≡ Some node
     → Lists node (reading w.now (suc i)) id name new sent told → AreWritten sent out → Invariant (replied_world w i new to sent)
 lists_kept law w i node new to id name sent told out kept up (lists_names n is passes) written =
-    other_kept law w i node new to _ (status id name (names_listed node (reading w.now (suc i)) name)) kept up (stays_by_time (reading w.now (suc i)) node new passes) passes.names (refl, subst (λ (xs : List ℕ). Spells xs (status id name (names_listed node (reading w.now (suc i)) name))) written.0 written.1) (λ q r. r) (λ r e. cc)
+    other_kept law w i node new to _ (status id name (names_listed node (reading w.now (suc i)) name)) kept up (stays_by_time (reading w.now (suc i)) node new passes) (by_time node new (reading w.now (suc i)) (ap (λ (n : NodeValue). n.slots) passes)) (refl, subst (λ (xs : List ℕ). Spells xs (status id name (names_listed node (reading w.now (suc i)) name))) written.0 written.1) (λ q r. r) (λ r e. cc)
 lists_kept law w i node new to id name sent told out kept up (lists_nothing n is passes) written = passes_kept law w i node new kept up passes
 
 ended_kept : Laws → (w : WorldValue) (i : ℕ) (node new : NodeValue) (from to : Addr) (m : MessageValue) (sent : Option MessageValue) (t told : Told) → Invariant w → node_of w.ends (suc i) ≡ Some node
     → LookupEnds node (reading w.now (suc i)) from m t new sent told → Invariant (replied_world w i new to sent)
-ended_kept law w i node new from to m sent t told kept up (is_answered n is looks) = time_kept law w i node new kept up (stays_by_lookup (reading w.now (suc i)) node new _ _ looks) looks.names
+ended_kept law w i node new from to m sent t told kept up (is_answered n is looks) = time_kept law w i node new kept up (stays_by_lookup (reading w.now (suc i)) node new _ _ looks) (by_time node new (reading w.now (suc i)) (ap (λ (n : NodeValue). n.slots) looks))
 ended_kept law w i node new from to m sent t told kept up (is_unanswered n is passes) = passes_kept law w i node new kept up passes
 
 idles_kept : Laws → (w : WorldValue) (i : ℕ) (node new : NodeValue) (to : Addr) (sent : Option MessageValue) (told : Told) → Invariant w → node_of w.ends (suc i) ≡ Some node

@@ -9,9 +9,12 @@ use Rattle.nbt_packet.specs.Message.{MessageValue, overwrite}
 use Rattle.nbt_node.specs.declared.lookup.Lookup.{Lookup}
 use Rattle.nbt_node.specs.declared.lookup.Wanted.{Wanted}
 use Rattle.nbt_node.specs.declared.lookup.Wanted.TheVariants.{Entries, Names}
-use Rattle.nbt_node.specs.Node.{NodeValue, ByTimeAlone, Passes}
+use Rattle.nbt_node.specs.Node.{NodeValue, AreDistinct, state_of, Passes}
+use Rattle.nbt_node.specs.Settling.{settled}
 use Rattle.nbt_node.specs.Transaction.{next_due}
-use Rattle.nbt_node.specs.Moves.{NameEvent}
+use Rattle.nbt_node.specs.Moves.{NameEvent, poll, give_back}
+use Rattle.nbt_node.specs.EachName.{ByTimeAlone}
+use Rattle.nbt_node.proofs.Moving.{by_time, settled_apart, others_by_time, asked_is, known_is, may_ask}
 use Rattle.nbt_packet.specs.Spelling.{AreWritten}
 use Rattle.nbt_node.specs.Calls.{Sends, LooksUp, question, Opens, Polls, polls_name, polls_lookup, polls_nothing as nothing_due}
 use Rattle.nbt_world.specs.declared.event.Event.{Event}
@@ -30,9 +33,9 @@ use Rattle.nbt_world.proofs.Covering.{node_claims}
 -- ---- a request about a name: asked for, given back, or sent again
 
 pub sends_kept : Laws → (w : WorldValue) (i : ℕ) (node new : NodeValue) (name : NameValue) (event : NameEvent) (to : Addr) (octets : List ℕ) → Invariant w → node_of w.ends (suc i) ≡ Some node
-    → Sends node (reading w.now (suc i)) name event new octets
+    → (sends : Sends node (reading w.now (suc i)) name event new octets) → (AreDistinct node.slots → state_of new name ≡ settled node.config.life (reading w.now (suc i)) (sends.moves).after)
     → Invariant (record w { ends = with_node w.ends (suc i) (Some new); sent = w.sent ++ datagram new.addr to w.now octets ∷ [] })
-sends_kept law w i node new name event to octets kept up sends =
+sends_kept law w i node new name event to octets kept up sends named_is =
     let at = up_at law.rests w i node kept up in
     let stays = stays_by_moves (reading w.now (suc i)) node new name event _ _ sends.moves in
     let sending : Sending w at.addr (datagram new.addr to w.now octets) sends.message =
@@ -48,8 +51,8 @@ sends_kept law w i node new name event to octets kept up sends =
         → NoNewClaim node.config.longest node.config.life w.now.clock (Replied w.sent w.ends.server_addr at.addr q) (known (Some node) q) (known (Some new) q)
     claims at stays on q (inl e) =
         subst (λ (n : NameValue). NoNewClaim node.config.longest node.config.life w.now.clock (Replied w.sent w.ends.server_addr at.addr n) (known (Some node) n) (known (Some new) n)) (sym e)
-        (claims_sends (suc i) w.now.clock (reading w.now (suc i)) node new name event sends.message _ node.config.longest (Asked w.sent (at.addr).ip name) (Replied w.sent w.ends.server_addr at.addr name) stays.start_is sends.moves (at.past on name) (at.replies on name))
-    claims at stays on q (inr ne) = claims_by_time w.now.clock (reading w.now (suc i)) node new q node.config.longest (Replied w.sent w.ends.server_addr at.addr q) stays.start_is ((sends.moves).others q ne)
+        (claims_sends (suc i) w.now.clock (reading w.now (suc i)) node new name event sends.message _ node.config.longest (Asked w.sent (at.addr).ip name) (Replied w.sent w.ends.server_addr at.addr name) stays.start_is sends.moves (named_is (at.is).distinct) (at.past on name) (at.replies on name))
+    claims at stays on q (inr ne) = claims_by_time w.now.clock (reading w.now (suc i)) node new q node.config.longest (Replied w.sent w.ends.server_addr at.addr q) stays.start_is (others_by_time node new (reading w.now (suc i)) name event _ _ sends.moves (at.is).distinct q ne)
 
     -- nothing new is from the server
     same : (at : UpAt w i node) → Sending w at.addr (datagram new.addr to w.now octets) sends.message → (q : NameValue) (moment : Clocks) (message : MessageValue)
@@ -62,7 +65,7 @@ sends_kept law w i node new name event to octets kept up sends =
     replies at stays sending on q (inl e) =
         subst (λ (n : NameValue). RepliesFresh node.config.life (suc i) w.now.clock (reading w.now (suc i)) (Asked (w.sent ++ datagram new.addr to w.now octets ∷ []) (at.addr).ip n) (Replied (w.sent ++ datagram new.addr to w.now octets ∷ []) w.ends.server_addr at.addr n) (known (Some new) n)) (sym e)
         (fresh_sends (suc i) w.now.clock (reading w.now (suc i)) node new name event sends.message _ (Asked w.sent (at.addr).ip name) (Asked (w.sent ++ datagram new.addr to w.now octets ∷ []) (at.addr).ip name)
-        (Replied w.sent w.ends.server_addr at.addr name) (Replied (w.sent ++ datagram new.addr to w.now octets ∷ []) w.ends.server_addr at.addr name) stays.start_is sends.moves
+        (Replied w.sent w.ends.server_addr at.addr name) (Replied (w.sent ++ datagram new.addr to w.now octets ∷ []) w.ends.server_addr at.addr name) stays.start_is sends.moves (named_is (at.is).distinct)
         (at.past on name)
         (asked_still w.sent (w.sent ++ datagram new.addr to w.now octets ∷ []) (at.addr).ip name (grows_by w.sent (datagram new.addr to w.now octets)))
         (own_more law.one_message w (suc i) at.addr (datagram new.addr to w.now octets) sends.message (at.addr).ip name sending)
@@ -71,7 +74,7 @@ sends_kept law w i node new name event to octets kept up sends =
         (at.replies on name))
     replies at stays sending on q (inr ne) =
         fresh_by_time (suc i) w.now.clock (reading w.now (suc i)) node new q (Asked w.sent (at.addr).ip q) (Asked (w.sent ++ datagram new.addr to w.now octets ∷ []) (at.addr).ip q)
-        (Replied w.sent w.ends.server_addr at.addr q) (Replied (w.sent ++ datagram new.addr to w.now octets ∷ []) w.ends.server_addr at.addr q) stays.start_is ((sends.moves).others q ne) (at.past on q)
+        (Replied w.sent w.ends.server_addr at.addr q) (Replied (w.sent ++ datagram new.addr to w.now octets ∷ []) w.ends.server_addr at.addr q) stays.start_is (others_by_time node new (reading w.now (suc i)) name event _ _ sends.moves (at.is).distinct q ne) (at.past on q)
         (asked_still w.sent (w.sent ++ datagram new.addr to w.now octets ∷ []) (at.addr).ip q (grows_by w.sent (datagram new.addr to w.now octets)))
         (others_fewer law.one_message w at.addr (datagram new.addr to w.now octets) sends.message (at.addr).ip q sending
         (λ r. ne (request_one sends.message q name r (is_sent (sends.moves).move).request)))
@@ -82,12 +85,12 @@ sends_kept law w i node new name event to octets kept up sends =
         → RequestsEnded node.config.life (suc i) w.now.clock (reading w.now (suc i)) (Asked (w.sent ++ datagram new.addr to w.now octets ∷ []) (at.addr).ip q) (known (Some new) q)
     names at stays sending on q (inl e) =
         subst (λ (n : NameValue). RequestsEnded node.config.life (suc i) w.now.clock (reading w.now (suc i)) (Asked (w.sent ++ datagram new.addr to w.now octets ∷ []) (at.addr).ip n) (known (Some new) n)) (sym e)
-        (name_sends (suc i) w.now.clock (reading w.now (suc i)) node new name event sends.message _ (Asked w.sent (at.addr).ip name) (Asked (w.sent ++ datagram new.addr to w.now octets ∷ []) (at.addr).ip name) stays.start_is sends.moves
+        (name_sends (suc i) w.now.clock (reading w.now (suc i)) node new name event sends.message _ (Asked w.sent (at.addr).ip name) (Asked (w.sent ++ datagram new.addr to w.now octets ∷ []) (at.addr).ip name) stays.start_is sends.moves (named_is (at.is).distinct)
         (at.past on name)
         (own_more law.one_message w (suc i) at.addr (datagram new.addr to w.now octets) sends.message (at.addr).ip name sending)
         (at.requests on name))
     names at stays sending on q (inr ne) =
-        name_by_time (suc i) w.now.clock (reading w.now (suc i)) node new q (Asked w.sent (at.addr).ip q) (Asked (w.sent ++ datagram new.addr to w.now octets ∷ []) (at.addr).ip q) stays.start_is ((sends.moves).others q ne) (at.past on q)
+        name_by_time (suc i) w.now.clock (reading w.now (suc i)) node new q (Asked w.sent (at.addr).ip q) (Asked (w.sent ++ datagram new.addr to w.now octets ∷ []) (at.addr).ip q) stays.start_is (others_by_time node new (reading w.now (suc i)) name event _ _ sends.moves (at.is).distinct q ne) (at.past on q)
         (others_fewer law.one_message w at.addr (datagram new.addr to w.now octets) sends.message (at.addr).ip q sending
         (λ r. ne (request_one sends.message q name r (is_sent (sends.moves).move).request)))
         (at.requests on q)
@@ -96,34 +99,36 @@ sends_kept law w i node new name event to octets kept up sends =
 
 pub stays_by_lookup : (now : ℕ) (old new : NodeValue) (lookup : Option Lookup) (next : ℕ) → LooksUp old now lookup next new → Stays old now new
 stays_by_lookup now old new lookup next looks = record {
-  addr_is = ap (λ (n : NodeValue). n.addr) looks.node;
-  server_is = ap (λ (n : NodeValue). n.server) looks.node;
-  config_is = ap (λ (n : NodeValue). n.config) looks.node;
-  start_is = ap (λ (n : NodeValue). n.start) looks.node;
-  last_is = ap (λ (n : NodeValue). n.last) looks.node;
+  addr_is = ap (λ (n : NodeValue). n.addr) looks;
+  server_is = ap (λ (n : NodeValue). n.server) looks;
+  config_is = ap (λ (n : NodeValue). n.config) looks;
+  start_is = ap (λ (n : NodeValue). n.start) looks;
+  last_is = ap (λ (n : NodeValue). n.last) looks;
+  distinct_still = settled_apart old new now (ap (λ (n : NodeValue). n.slots) looks);
 }
 
 pub stays_by_time : (now : ℕ) (old new : NodeValue) → Passes old now new → Stays old now new
 stays_by_time now old new passes = record {
-  addr_is = ap (λ (n : NodeValue). n.addr) passes.node;
-  server_is = ap (λ (n : NodeValue). n.server) passes.node;
-  config_is = ap (λ (n : NodeValue). n.config) passes.node;
-  start_is = ap (λ (n : NodeValue). n.start) passes.node;
-  last_is = ap (λ (n : NodeValue). n.last) passes.node;
+  addr_is = ap (λ (n : NodeValue). n.addr) passes;
+  server_is = ap (λ (n : NodeValue). n.server) passes;
+  config_is = ap (λ (n : NodeValue). n.config) passes;
+  start_is = ap (λ (n : NodeValue). n.start) passes;
+  last_is = ap (λ (n : NodeValue). n.last) passes;
+  distinct_still = settled_apart old new now (ap (λ (n : NodeValue). n.slots) passes);
 }
 
-pub time_kept : Laws → (w : WorldValue) (i : ℕ) (node new : NodeValue) → Invariant w → node_of w.ends (suc i) ≡ Some node → Stays node (reading w.now (suc i)) new → ByTimeAlone node (reading w.now (suc i)) new
+pub time_kept : Laws → (w : WorldValue) (i : ℕ) (node new : NodeValue) → Invariant w → node_of w.ends (suc i) ≡ Some node → Stays node (reading w.now (suc i)) new → (AreDistinct node.slots → ByTimeAlone node (reading w.now (suc i)) new)
     → Invariant (record w { ends = with_node w.ends (suc i) (Some new) })
 time_kept law w i node new kept up stays names =
     let at = up_at law.rests w i node kept up in
     node_moves w i node new w.sent kept at stays (nothing_new w at.addr) (λ d c. c)
-    (λ on q. name_by_time (suc i) w.now.clock (reading w.now (suc i)) node new q (Asked w.sent (at.addr).ip q) (Asked w.sent (at.addr).ip q) stays.start_is (names q) (at.past on q) (λ moment message a. a) (at.requests on q))
+    (λ on q. name_by_time (suc i) w.now.clock (reading w.now (suc i)) node new q (Asked w.sent (at.addr).ip q) (Asked w.sent (at.addr).ip q) stays.start_is (names (at.is).distinct q) (at.past on q) (λ moment message a. a) (at.requests on q))
     (λ on q. fresh_by_time (suc i) w.now.clock (reading w.now (suc i)) node new q (Asked w.sent (at.addr).ip q) (Asked w.sent (at.addr).ip q) (Replied w.sent w.ends.server_addr at.addr q) (Replied w.sent w.ends.server_addr at.addr q)
-    stays.start_is (names q) (at.past on q) (λ moment message a. a) (λ moment message a. a) (λ moment message r. r) (at.replies on q))
-    (λ on q. claims_by_time w.now.clock (reading w.now (suc i)) node new q node.config.longest (Replied w.sent w.ends.server_addr at.addr q) stays.start_is (names q))
+    stays.start_is (names (at.is).distinct q) (at.past on q) (λ moment message a. a) (λ moment message a. a) (λ moment message r. r) (at.replies on q))
+    (λ on q. claims_by_time w.now.clock (reading w.now (suc i)) node new q node.config.longest (Replied w.sent w.ends.server_addr at.addr q) stays.start_is (names (at.is).distinct q))
 
 -- a datagram that is no request
-pub other_kept : Laws → (w : WorldValue) (i : ℕ) (node new : NodeValue) (to : Addr) (octets : List ℕ) (m : MessageValue) → Invariant w → node_of w.ends (suc i) ≡ Some node → Stays node (reading w.now (suc i)) new → ByTimeAlone node (reading w.now (suc i)) new
+pub other_kept : Laws → (w : WorldValue) (i : ℕ) (node new : NodeValue) (to : Addr) (octets : List ℕ) (m : MessageValue) → Invariant w → node_of w.ends (suc i) ≡ Some node → Stays node (reading w.now (suc i)) new → (AreDistinct node.slots → ByTimeAlone node (reading w.now (suc i)) new)
     → AreWritten (Some m) octets → ((q : NameValue) → IsRequest q m → ⊥) → ((r : Registration) → m ≡ overwrite r → ⊥)
     → Invariant (record w { ends = with_node w.ends (suc i) (Some new); sent = w.sent ++ datagram new.addr to w.now octets ∷ [] })
 other_kept law w i node new to octets m kept up stays names written off no_overwrite =
@@ -132,16 +137,16 @@ other_kept law w i node new to octets m kept up stays names written off no_overw
     record { from_is = stays.addr_is ∙ (at.is).addr_is; now_is = refl; written = written.0; spelled = written.1; no_overwrite = no_overwrite } in
     let fresh : IsNew w at.addr (w.sent ++ datagram new.addr to w.now octets ∷ []) = is_new law.one_message w kept (suc i) at.addr (datagram new.addr to w.now octets) m at.at sending in
     node_moves w i node new (w.sent ++ datagram new.addr to w.now octets ∷ []) kept at stays fresh (grows_by w.sent (datagram new.addr to w.now octets))
-    (λ on q. name_by_time (suc i) w.now.clock (reading w.now (suc i)) node new q (Asked w.sent (at.addr).ip q) (Asked (w.sent ++ datagram new.addr to w.now octets ∷ []) (at.addr).ip q) stays.start_is (names q) (at.past on q)
+    (λ on q. name_by_time (suc i) w.now.clock (reading w.now (suc i)) node new q (Asked w.sent (at.addr).ip q) (Asked (w.sent ++ datagram new.addr to w.now octets ∷ []) (at.addr).ip q) stays.start_is (names (at.is).distinct q) (at.past on q)
     (others_fewer law.one_message w at.addr (datagram new.addr to w.now octets) m (at.addr).ip q sending (off q)) (at.requests on q))
     (λ on q. fresh_by_time (suc i) w.now.clock (reading w.now (suc i)) node new q (Asked w.sent (at.addr).ip q) (Asked (w.sent ++ datagram new.addr to w.now octets ∷ []) (at.addr).ip q)
-    (Replied w.sent w.ends.server_addr at.addr q) (Replied (w.sent ++ datagram new.addr to w.now octets ∷ []) w.ends.server_addr at.addr q) stays.start_is (names q) (at.past on q)
+    (Replied w.sent w.ends.server_addr at.addr q) (Replied (w.sent ++ datagram new.addr to w.now octets ∷ []) w.ends.server_addr at.addr q) stays.start_is (names (at.is).distinct q) (at.past on q)
     (asked_still w.sent (w.sent ++ datagram new.addr to w.now octets ∷ []) (at.addr).ip q (grows_by w.sent (datagram new.addr to w.now octets)))
     (others_fewer law.one_message w at.addr (datagram new.addr to w.now octets) m (at.addr).ip q sending (off q))
     (replied_before w.sent (w.sent ++ datagram new.addr to w.now octets ∷ []) at.addr w.ends.server_addr at.addr q at.no_server
     (from_new w at.addr (w.sent ++ datagram new.addr to w.now octets ∷ []) fresh))
     (at.replies on q))
-    (λ on q. claims_by_time w.now.clock (reading w.now (suc i)) node new q node.config.longest (Replied w.sent w.ends.server_addr at.addr q) stays.start_is (names q))
+    (λ on q. claims_by_time w.now.clock (reading w.now (suc i)) node new q node.config.longest (Replied w.sent w.ends.server_addr at.addr q) stays.start_is (names (at.is).distinct q))
 
 -- a call that was refused leaves the node
 pub refused_kept : (w : WorldValue) (i : ℕ) (node : NodeValue) → Invariant w → node_of w.ends (suc i) ≡ Some node → Invariant (record w { ends = with_node w.ends (suc i) (Some node) })
@@ -173,28 +178,31 @@ question_off l q = go l.wanted
 opens_kept : Laws → (w : WorldValue) (i : ℕ) (node new : NodeValue) (name : NameValue) (to : Addr) (wanted : Wanted) (octets : List ℕ) → Invariant w → node_of w.ends (suc i) ≡ Some node
     → Opens node (reading w.now (suc i)) name to wanted new octets → Invariant (record w { ends = with_node w.ends (suc i) (Some new); sent = w.sent ++ datagram new.addr to w.now octets ∷ [] })
 opens_kept law w i node new name to wanted octets kept up opens =
-    other_kept law w i node new to octets _ kept up (stays_by_lookup (reading w.now (suc i)) node new _ _ opens.opens) ((opens.opens).names) opens.written
+    other_kept law w i node new to octets _ kept up (stays_by_lookup (reading w.now (suc i)) node new _ _ opens.opens) (by_time node new (reading w.now (suc i)) (ap (λ (n : NodeValue). n.slots) opens.opens)) opens.written
     (question_off (record { id = node.next_id; name = name; to = to; wanted = wanted; tries = 1; due = next_due (reading w.now (suc i)) }))
     (question_no_overwrite (record { id = node.next_id; name = name; to = to; wanted = wanted; tries = 1; due = next_due (reading w.now (suc i)) }))
 
 polls_kept : Laws → (w : WorldValue) (i : ℕ) (node new : NodeValue) (x : Option Addr) (octets : List ℕ) → Invariant w → node_of w.ends (suc i) ≡ Some node → Polls node (reading w.now (suc i)) new x octets
     → (to : Addr) → x ≡ Some to → Invariant (record w { ends = with_node w.ends (suc i) (Some new); sent = w.sent ++ datagram new.addr to w.now octets ∷ [] })
-polls_kept law w i node new x octets kept up (polls_name slot n o due sends) to e = sends_kept law w i node new slot.name _ to octets kept up sends
+polls_kept law w i node new x octets kept up (polls_name slot n o due sends) to e =
+    sends_kept law w i node new slot.name _ to octets kept up sends (λ apart. known_is node new (reading w.now (suc i)) slot.name poll _ _ sends.moves apart (λ kind ttl e. cc))
 polls_kept law w i node new x octets kept up (polls_lookup l n o none due looks written) to e =
-    other_kept law w i node new to octets (question l) kept up (stays_by_lookup (reading w.now (suc i)) node new _ _ looks) looks.names written (question_off l) (question_no_overwrite l)
+    other_kept law w i node new to octets (question l) kept up (stays_by_lookup (reading w.now (suc i)) node new _ _ looks) (by_time node new (reading w.now (suc i)) (ap (λ (n : NodeValue). n.slots) looks)) written (question_off l) (question_no_overwrite l)
 polls_kept law w i node new x octets kept up (nothing_due n none no_lookup passes) to e = absurd (none-some to e)
 
 idle_kept : Laws → (w : WorldValue) (i : ℕ) (node new : NodeValue) (x : Option Addr) (octets : List ℕ) → Invariant w → node_of w.ends (suc i) ≡ Some node → Polls node (reading w.now (suc i)) new x octets → x ≡ None
     → Invariant (record w { ends = with_node w.ends (suc i) (Some new) })
 idle_kept law w i node new x octets kept up (polls_name slot n o due sends) e = absurd (none-some node.server (sym e))
 idle_kept law w i node new x octets kept up (polls_lookup l n o none due looks written) e = absurd (none-some l.to (sym e))
-idle_kept law w i node new x octets kept up (nothing_due n none no_lookup passes) e = time_kept law w i node new kept up (stays_by_time (reading w.now (suc i)) node new passes) passes.names
+idle_kept law w i node new x octets kept up (nothing_due n none no_lookup passes) e = time_kept law w i node new kept up (stays_by_time (reading w.now (suc i)) node new passes) (by_time node new (reading w.now (suc i)) (ap (λ (n : NodeValue). n.slots) passes))
 
 pub does_kept : Laws → (w : WorldValue) (i : ℕ) (node new : NodeValue) (event : Event) (given : CallOutcomeValue) → Invariant w → node_of w.ends (suc i) ≡ Some node → NodeDoes node (reading w.now (suc i)) event new given
     → Invariant (after w (suc i) new given)
-does_kept law w i node new event given kept up (asks number name kind ttl n octets none sends) = sends_kept law w i node new name _ node.server octets kept up sends
+does_kept law w i node new event given kept up (asks number name kind ttl n octets none sends) =
+    sends_kept law w i node new name _ node.server octets kept up sends (λ apart. asked_is node new (reading w.now (suc i)) name _ _ _ sends.moves apart (may_ask node (reading w.now (suc i)) name (sym none)).room)
 does_kept law w i node new event given kept up (ask_refused number name kind ttl fault is) = refused_kept w i node kept up
-does_kept law w i node new event given kept up (gives_back number name n octets none sends) = sends_kept law w i node new name _ node.server octets kept up sends
+does_kept law w i node new event given kept up (gives_back number name n octets none sends) =
+    sends_kept law w i node new name _ node.server octets kept up sends (λ apart. known_is node new (reading w.now (suc i)) name give_back _ _ sends.moves apart (λ kind ttl e. cc))
 does_kept law w i node new event given kept up (release_refused number name fault is) = refused_kept w i node kept up
 does_kept law w i node new event given kept up (resolves number name n octets none opens) = opens_kept law w i node new name node.server Entries octets kept up opens
 does_kept law w i node new event given kept up (resolve_refused number name fault is) = refused_kept w i node kept up

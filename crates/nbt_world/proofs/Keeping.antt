@@ -183,10 +183,10 @@ node_changes w i addr x sent kept at is new grows names replies claims = record 
         → IsNodeOf (record w { ends = with_node w.ends (suc i) x; sent = sent }) n a node
     node_at n a node p up (inl e) =
         let k = is node (sym (value_at n e) ∙ up) in
-        record { addr_is = k.addr_is ∙ same_addr n a p e; server_is = k.server_is; config_is = k.config_is; past = subst (λ (m : ℕ). node.last ≤ reading w.now m) (sym e) k.past }
+        record { addr_is = k.addr_is ∙ same_addr n a p e; server_is = k.server_is; config_is = k.config_is; distinct = k.distinct; past = subst (λ (m : ℕ). node.last ≤ reading w.now m) (sym e) k.past }
     node_at n a node p up (inr ne) =
         let k = kept.nodes n a node p (sym (node_with_other w.ends i x n ne) ∙ up) in
-        record { addr_is = k.addr_is; server_is = k.server_is; config_is = k.config_is; past = k.past }
+        record { addr_is = k.addr_is; server_is = k.server_is; config_is = k.config_is; distinct = k.distinct; past = k.past }
 
     requests_at : IsTrue w.kept → (n : ℕ) (a : Addr) (name : NameValue) → addr_of w.ends n ≡ Some a → (n ≡ suc i) ⊎ (n ≡ suc i → ⊥)
         → RequestsEnded w.config.life n w.now.clock (reading w.now n) (Asked sent a.ip name) (known (node_of (with_node w.ends (suc i) x) n) name)
@@ -233,7 +233,7 @@ server_changes w x sent kept is new replies claims = record {
   clocks = read_with w (with_server w.ends x) sent (server_addr_with w.ends x) kept.clocks;
   nodes = λ n a node p up.
       let k = kept.nodes n a node (sym (server_addr_with w.ends x n) ∙ p) (sym (server_node_with w.ends x n) ∙ up) in
-      record { addr_is = k.addr_is; server_is = k.server_is; config_is = k.config_is; past = k.past };
+      record { addr_is = k.addr_is; server_is = k.server_is; config_is = k.config_is; distinct = k.distinct; past = k.past };
   server = λ server up. let k = is server up in record { config_is = k.config_is; past = k.past; sound = k.sound };
   sent = λ d c. sent_frame w.ends (with_server w.ends x) w.now w.now w.least w.least d (server_addr_with w.ends x) (omega arith) (λ n e seen. seen) (all_sent w w.ends.server_addr sent kept new d c);
   requests = λ on n a name p. requests_at on n a name (sym (server_addr_with w.ends x n) ∙ p);

@@ -12,7 +12,8 @@ use Rattle.nbt_packet.specs.Spelling.{Spells}
 use Rattle.nbt_lease.specs.Config.{ConfigValue}
 use Rattle.nbt_node.specs.declared.state.State.{State}
 use Rattle.nbt_node.specs.Settling.{settled}
-use Rattle.nbt_node.specs.Node.{NodeValue, state_of, state_at}
+use Rattle.nbt_node.specs.Node.{NodeValue, AreDistinct, state_of, state_at}
+use Rattle.nbt_node.proofs.Moving.{moved_apart}
 use Rattle.nbt_node.specs.Moves.{NameEvent, hear, Told, NameMoves}
 use Rattle.nbt_world.specs.declared.clocks.Clocks.{Clocks}
 use Rattle.nbt_world.specs.declared.network.Datagram.{Datagram}
@@ -101,19 +102,21 @@ asks_more law w addr d m ip q s moment message a = go (Contains-push_cases w.sen
 
 -- ---- one name of one node
 
--- the node after a call at a moment: what never changes, and its last moment
+-- the node after a call at a moment: what never changes, its last moment, and that no name gets two slots
 pub record Stays (old : NodeValue) (now : ℕ) (new : NodeValue) : Type 0 where
   pub addr_is : new.addr ≡ old.addr
   pub server_is : new.server ≡ old.server
   pub config_is : new.config ≡ old.config
   pub start_is : new.start ≡ old.start
   pub last_is : new.last ≡ now
+  pub distinct_still : AreDistinct old.slots → AreDistinct new.slots
 
 pub node_stays : (w : WorldValue) (n : ℕ) (addr : Addr) (old new : NodeValue) → Stays old (reading w.now n) new → IsNodeOf w n addr old → IsNodeOf w n addr new
 node_stays w n addr old new stays is = record {
   addr_is = stays.addr_is ∙ is.addr_is;
   server_is = stays.server_is ∙ is.server_is;
   config_is = stays.config_is ∙ is.config_is;
+  distinct = stays.distinct_still is.distinct;
   past = let e = stays.last_is in omega arith;
 }
 
@@ -132,22 +135,22 @@ name_by_time number clock now old new q asked more start state past fewer kept =
 
 -- the name about which a request was sent
 pub name_sends : (number clock now : ℕ) (old new : NodeValue) (name : NameValue) (event : NameEvent) (m : MessageValue) (told : Told) (asked more : Clocks → MessageValue → Type 0) → new.start ≡ old.start
-    → NameMoves old now name event new (Some m) told
+    → (moves : NameMoves old now name event new (Some m) told) → state_of new name ≡ settled old.config.life now moves.after
     → ArePast old.config.life number clock now asked
     → ((moment : Clocks) (message : MessageValue) → more moment message → asked moment message ⊎ ((reading moment number ≡ now) × (message ≡ m)))
     → RequestsEnded old.config.life number clock now asked (known (Some old) name) → RequestsEnded old.config.life number clock now more (known (Some new) name)
-name_sends number clock now old new name event m told asked more start moves past grows kept =
-    known_as old.config.life number clock now more new name old.start (settled old.config.life now moves.after) start moves.named
+name_sends number clock now old new name event m told asked more start moves named past grows kept =
+    known_as old.config.life number clock now more new name old.start (settled old.config.life now moves.after) start named
     (ended-fades old.config.life number clock now old.start more moves.after (settled old.config.life now moves.after) (past-more old.config.life number clock now asked more m past grows) (fades old.config.life now old.start moves.after)
     (ended-sent old.config.life number clock now old.start name asked more (state_at old now name) moves.after m (is_sent moves.move) past grows
     (ended-fades old.config.life number clock now old.start asked (state_of old name) (state_at old now name) past (fades old.config.life now old.start (state_of old name)) kept)))
 
 -- the name about which something was heard
 pub name_hears : (number clock now : ℕ) (old new : NodeValue) (name : NameValue) (m : MessageValue) (told : Told) (asked : Clocks → MessageValue → Type 0) → new.start ≡ old.start
-    → NameMoves old now name (hear m) new None told → ArePast old.config.life number clock now asked
+    → (moves : NameMoves old now name (hear m) new None told) → state_of new name ≡ settled old.config.life now moves.after → ArePast old.config.life number clock now asked
     → RequestsEnded old.config.life number clock now asked (known (Some old) name) → RequestsEnded old.config.life number clock now asked (known (Some new) name)
-name_hears number clock now old new name m told asked start moves past kept =
-    known_as old.config.life number clock now asked new name old.start (settled old.config.life now moves.after) start moves.named
+name_hears number clock now old new name m told asked start moves named past kept =
+    known_as old.config.life number clock now asked new name old.start (settled old.config.life now moves.after) start named
     (ended-fades old.config.life number clock now old.start asked moves.after (settled old.config.life now moves.after) past (fades old.config.life now old.start moves.after)
     (ended-fades old.config.life number clock now old.start asked (state_at old now name) moves.after past (fades-heard old.config.life old.start moves.move)
     (ended-fades old.config.life number clock now old.start asked (state_of old name) (state_at old now name) past (fades old.config.life now old.start (state_of old name)) kept)))
@@ -168,15 +171,15 @@ fresh_by_time number clock now old new q asked more replied fewer start state pa
     (fresh-fades old.config.life number clock now old.start asked replied (state_of old q) (state_at old now q) past (fades old.config.life now old.start (state_of old q)) kept))
 
 pub fresh_sends : (number clock now : ℕ) (old new : NodeValue) (name : NameValue) (event : NameEvent) (m : MessageValue) (told : Told) (asked more replied fewer : Clocks → MessageValue → Type 0) → new.start ≡ old.start
-    → NameMoves old now name event new (Some m) told
+    → (moves : NameMoves old now name event new (Some m) told) → state_of new name ≡ settled old.config.life now moves.after
     → ArePast old.config.life number clock now asked
     → ((moment : Clocks) (message : MessageValue) → asked moment message → more moment message)
     → ((moment : Clocks) (message : MessageValue) → more moment message → asked moment message ⊎ ((reading moment number ≡ now) × (message ≡ m)))
     → ((moment : Clocks) (message : MessageValue) → fewer moment message → replied moment message)
     → RequestsEnded old.config.life number clock now asked (known (Some old) name) → RepliesFresh old.config.life number clock now asked replied (known (Some old) name)
     → RepliesFresh old.config.life number clock now more fewer (known (Some new) name)
-fresh_sends number clock now old new name event m told asked more replied fewer start moves past grows back shrinks ended kept =
-    fresh_as old.config.life number clock now more fewer new name old.start (settled old.config.life now moves.after) start moves.named
+fresh_sends number clock now old new name event m told asked more replied fewer start moves named past grows back shrinks ended kept =
+    fresh_as old.config.life number clock now more fewer new name old.start (settled old.config.life now moves.after) start named
     (fresh-frame old.config.life number clock now clock now more more replied fewer (knows old.start (settled old.config.life now moves.after)) (omega arith) (omega arith) (λ moment message a. a) (λ moment message a. a) shrinks
     (fresh-fades old.config.life number clock now old.start more replied moves.after (settled old.config.life now moves.after) (past-more old.config.life number clock now asked more m past back) (fades old.config.life now old.start moves.after)
     (fresh-sent old.config.life number clock now old.start name asked more replied (state_at old now name) moves.after m (is_sent moves.move) past grows back
@@ -184,10 +187,10 @@ fresh_sends number clock now old new name event m told asked more replied fewer 
     (fresh-fades old.config.life number clock now old.start asked replied (state_of old name) (state_at old now name) past (fades old.config.life now old.start (state_of old name)) kept))))
 
 pub fresh_hears : (number clock now : ℕ) (old new : NodeValue) (name : NameValue) (m : MessageValue) (told : Told) (asked replied : Clocks → MessageValue → Type 0) → new.start ≡ old.start
-    → NameMoves old now name (hear m) new None told → ArePast old.config.life number clock now asked
+    → (moves : NameMoves old now name (hear m) new None told) → state_of new name ≡ settled old.config.life now moves.after → ArePast old.config.life number clock now asked
     → RepliesFresh old.config.life number clock now asked replied (known (Some old) name) → RepliesFresh old.config.life number clock now asked replied (known (Some new) name)
-fresh_hears number clock now old new name m told asked replied start moves past kept =
-    fresh_as old.config.life number clock now asked replied new name old.start (settled old.config.life now moves.after) start moves.named
+fresh_hears number clock now old new name m told asked replied start moves named past kept =
+    fresh_as old.config.life number clock now asked replied new name old.start (settled old.config.life now moves.after) start named
     (fresh-fades old.config.life number clock now old.start asked replied moves.after (settled old.config.life now moves.after) past (fades old.config.life now old.start moves.after)
     (fresh-fades old.config.life number clock now old.start asked replied (state_at old now name) moves.after past (fades-heard old.config.life old.start moves.move)
     (fresh-fades old.config.life number clock now old.start asked replied (state_of old name) (state_at old now name) past (fades old.config.life now old.start (state_of old name)) kept)))
@@ -256,6 +259,7 @@ stays_by_moves now old new name event sent told moves = record {
   config_is = ap (λ (n : NodeValue). n.config) moves.node;
   start_is = ap (λ (n : NodeValue). n.start) moves.node;
   last_is = ap (λ (n : NodeValue). n.last) moves.node;
+  distinct_still = moved_apart old new now name event sent told moves;
 }
 
 -- the others, of which nothing was said

@@ -9,6 +9,7 @@ use Rattle.nbt_server.specs.Serving.{ServerValue}
 use Rattle.nbt_node.specs.declared.state.State.TheVariants.{Idle}
 use Rattle.nbt_node.specs.Node.{NodeValue, state_in}
 use Rattle.nbt_node.specs.Calls.{started}
+use Rattle.nbt_node.proofs.Known.{distinct-none}
 use Rattle.nbt_world.specs.declared.ends.Ends.{Ends}
 use Rattle.nbt_world.specs.Drift.{reading}
 use Rattle.nbt_world.specs.World.{WorldValue, node_of}
@@ -39,7 +40,7 @@ starts_kept w number ends kept (server_starts server down new) =
 starts_kept w number ends kept (node_starts i addr at down) =
     node_changes w i addr (Some (started 14 addr w.ends.server_addr w.config (reading w.now (suc i)))) w.sent kept at
     (λ s e. subst (λ (x : NodeValue). IsNodeOf w (suc i) addr x) (same_Some (started 14 addr w.ends.server_addr w.config (reading w.now (suc i))) s e)
-    (record { addr_is = refl; server_is = refl; config_is = refl; past = omega arith }))
+    (record { addr_is = refl; server_is = refl; config_is = refl; distinct = distinct-none _ 14 refl; past = omega arith }))
     (nothing_new w addr)
     (λ d c. c)
     (λ on q.

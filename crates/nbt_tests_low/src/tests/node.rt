@@ -6,7 +6,7 @@ use super::{FRED, STAR, TEAM, at, fred, name_of};
 use arrayvec::ArrayVec;
 use nbt_lease::Config;
 use nbt_name::{Addr, Kind};
-use nbt_node::laws::{one_move, settling_ends, settling_in_steps};
+use nbt_node::laws::{each_name, one_move, settling_ends, settling_in_steps};
 use nbt_node::{AskFault, ClockBack, Event, LookupFault, Node, ReleaseFault};
 use std::process::Abort;
 use std::test::Fail;
@@ -704,6 +704,7 @@ fn refusals_have_their_numbers_and_words(rt: HostRuntime) -> Result<(), Fail> {
     settling_ends();
     settling_in_steps();
     one_move();
+    each_name();
     for (fault, number, word) in ASK_FAULTS {
         assert_eq!(rt; fault.number(), number);
         assert_eq!(rt; fault.word(), word);

@@ -17,7 +17,7 @@ use Rattle.nbt_lease.specs.Lease.{leases_at, IsSound}
 use Rattle.nbt_server.specs.Serving.{ServerValue, speaks_from}
 use Rattle.nbt_node.specs.declared.state.State.{State}
 use Rattle.nbt_node.specs.declared.state.State.TheVariants.{Idle, Asking, Held, Releasing, Resting}
-use Rattle.nbt_node.specs.Node.{NodeValue, state_of}
+use Rattle.nbt_node.specs.Node.{NodeValue, AreDistinct, state_of}
 use Rattle.nbt_world.specs.declared.clocks.Clocks.{Clocks}
 use Rattle.nbt_world.specs.declared.clocks.Least.{Least}
 use Rattle.nbt_world.specs.declared.ends.Ends.{Ends}
@@ -186,6 +186,7 @@ pub record IsNodeOf (world : WorldValue) (number : ℕ) (addr : Addr) (node : No
   pub addr_is : node.addr ≡ addr
   pub server_is : node.server ≡ world.ends.server_addr
   pub config_is : node.config ≡ world.config
+  pub distinct : AreDistinct node.slots
   pub past : node.last ≤ reading world.now number
 
 -- the server that is up has the world's limits, and sound leases, none of which ends later than the longest lease from

@@ -4,7 +4,7 @@ use Rattle.nbt_node.specs.declared.state.State.{State}
 use Rattle.nbt_node.specs.declared.state.State.TheVariants.{Asking}
 use Rattle.nbt_node.specs.Node.{NodeValue, state_at}
 use Rattle.nbt_node.specs.Moves.{Move, ask, nothing, asks}
-use Rattle.nbt_node.proofs.Moving.{may_ask, moves_asked, MayAsk}
+use Rattle.nbt_node.proofs.Moving.{may_ask, name_moves, MayAsk}
 use Rattle.nbt_node.proofs.node.Node.ask.Goals as goal
 
 pub returns-clause-ok : goal.returns-clause-ok
@@ -19,6 +19,6 @@ returns-clause-ok g c =
     rw (may.idle, c.claim.ensures.value, c.open.ensures, c.id_after.ensures, id_is, own_is) (asks c.args.kind c.args.ttl may.rested) in
     record {
       message = sent;
-      moves = moves_asked old c.change.new.self c.args.now c.args.name.now (ask c.args.kind c.args.ttl) asking (Some sent) nothing c.id_after.result move c.change.ensures.node c.change.ensures.apart may.room;
+      moves = name_moves old c.change.new.self c.args.now c.args.name.now (ask c.args.kind c.args.ttl) (Some sent) nothing asking c.id_after.result move c.change.ensures.node;
       written = c.write.ensures;
     }

@@ -4,12 +4,11 @@ use Rattle.nbt_packet.specs.Message.{status}
 use Rattle.nbt_node.specs.Node.{NodeValue}
 use Rattle.nbt_packet.specs.Spelling.{AreWritten}
 use Rattle.nbt_node.specs.Datagrams.{listed, names_listed, lists_names, lists_nothing}
-use Rattle.nbt_node.proofs.Moving.{passes}
 use Rattle.nbt_node.proofs.node.Node.list_names.Goals as goal
 
 pub returns-then-not-is_listed_for : goal.returns-then-not-is_listed_for
 returns-then-not-is_listed_for g c =
-    (None, lists_nothing c.settle.new.self (sym c.if-not-is_listed_for.ensures) (passes c.args.self.now c.settle.new.self c.args.now c.settle.ensures.node c.settle.ensures.apart), c.requires.empty)
+    (None, lists_nothing c.settle.new.self (sym c.if-not-is_listed_for.ensures) c.settle.ensures.node, c.requires.empty)
 
 pub returns : goal.returns
 returns g c =
@@ -20,6 +19,6 @@ returns g c =
     ∙ rw c.scope.ensures.value (ap (λ (n : NodeValue). flat_map (listed c.args.name.now.scope) n.slots) (c.self.view_is ∙ c.settle.ensures.node))
     in (
       Some (status c.args.id c.args.name.now (names_listed old c.args.now c.args.name.now)),
-      lists_names c.settle.new.self (sym c.if-not-is_listed_for.ensures) (passes old c.settle.new.self c.args.now c.settle.ensures.node c.settle.ensures.apart),
+      lists_names c.settle.new.self (sym c.if-not-is_listed_for.ensures) c.settle.ensures.node,
       subst (λ (names : List ℕ). AreWritten (Some (status c.args.id c.args.name.now names)) c.write_names.new.out.items) names_are c.write_names.ensures,
     )

@@ -17,6 +17,6 @@ returns g c =
     let id_is : c.self.inside.next_id ≡ old.next_id = ap (λ (n : NodeValue). n.next_id) mid_is in
     let asked : message_of c.question.result ≡ question opened = c.question.ensures.value ∙ rw (c.copy.ensures, id_is) refl in
     record {
-      opens = looks_up old _ _ c.args.now (Some opened) (id_after old.next_id) mid_is (rw (c.copy.ensures, c.next_due.ensures, c.id_after-self-inside.ensures, id_is) refl) c.settle.ensures.apart;
+      opens = looks_up old _ _ c.args.now (Some opened) (id_after old.next_id) mid_is (rw (c.copy.ensures, c.next_due.ensures, c.id_after-self-inside.ensures, id_is) refl);
       written = subst (λ (m : MessageValue). AreWritten (Some m) c.write.new.out.items) asked c.write.ensures;
     }

@@ -2,7 +2,6 @@ use Rattle.std.proofs.Common.{◌≡◌, Option, Some, None, refl}
 use Rattle.nbt_packet.specs.Message.{MessageValue, message_of}
 use Rattle.nbt_node.specs.Datagrams.{spelled, unspelled}
 use Rattle.nbt_node.specs.Moves.{told_of}
-use Rattle.nbt_node.proofs.Moving.{passes}
 use Rattle.nbt_node.proofs.node.Node.on_datagram.Goals as goal
 
 pub returns-in-Some-clause-ok : goal.returns-in-Some-clause-ok
@@ -15,7 +14,7 @@ returns-in-Some-clause-ok g c = record {
 pub returns-in-None-clause-ok : goal.returns-in-None-clause-ok
 returns-in-None-clause-ok g c = record {
   sent = None;
-  takes = unspelled c.settle.new.self (λ message spells. none_is message ((c.in-None.ensures message).1 spells)) (passes c.args.self.now c.settle.new.self c.args.now c.settle.ensures.node c.settle.ensures.apart);
+  takes = unspelled c.settle.new.self (λ message spells. none_is message ((c.in-None.ensures message).1 spells)) c.settle.ensures.node;
   written = c.clear.ensures;
 }
   where

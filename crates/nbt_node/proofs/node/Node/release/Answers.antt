@@ -6,7 +6,7 @@ use Rattle.nbt_node.specs.Node.{NodeValue, state_at}
 use Rattle.nbt_node.specs.Calls.{held_kind}
 use Rattle.nbt_node.specs.Moves.{Move, give_back, nothing}
 use Rattle.nbt_node.proofs.Table.{held_given_back}
-use Rattle.nbt_node.proofs.Moving.{moves_known}
+use Rattle.nbt_node.proofs.Moving.{name_moves}
 use Rattle.nbt_node.proofs.node.Node.release.Goals as goal
 
 pub returns-clause-ok : goal.returns-clause-ok
@@ -21,6 +21,6 @@ returns-clause-ok g c =
     rw (c.release-message.ensures.value, c.open.ensures, c.id_after.ensures, id_is, own_is) (held_given_back old c.args.now c.args.name.now _ c.in-Some.kind held) in
     record {
       message = sent;
-      moves = moves_known old c.change.new.self c.args.now c.args.name.now give_back releasing (Some sent) nothing c.id_after.result move c.change.ensures.node c.change.ensures.apart (λ kind ttl e. cc);
+      moves = name_moves old c.change.new.self c.args.now c.args.name.now give_back (Some sent) nothing releasing c.id_after.result move c.change.ensures.node;
       written = c.write.ensures;
     }

@@ -2,7 +2,6 @@ use Rattle.std.proofs.Common.{◌≡◌, None, ap, subst, inl, inr}
 use Rattle.nbt_packet.specs.Message.{MessageValue, found, not_found, status, message_of}
 use Rattle.nbt_node.specs.Datagrams.{Ends, Idles, idles}
 use Rattle.nbt_node.specs.Moves.{told_of, finds, finds_none, lists, nothing}
-use Rattle.nbt_node.proofs.Moving.{passes}
 use Rattle.nbt_node.proofs.node.Node.take.Goals as goal
 
 pub returns-in-Registered : goal.returns-in-Registered
@@ -40,7 +39,7 @@ returns-in-Status g c =
 
 pub returns-in-Registration : goal.returns-in-Registration
 returns-in-Registration g c =
-    let only : Idles c.args.self.now c.args.now c.settle.new.self None nothing = idles c.settle.new.self (passes c.args.self.now c.settle.new.self c.args.now c.settle.ensures.node c.settle.ensures.apart) in (
+    let only : Idles c.args.self.now c.args.now c.settle.new.self None nothing = idles c.settle.new.self c.settle.ensures.node in (
       None,
       elim c.in-Registration.is [
         | inl a ↦ rw a.1 only
