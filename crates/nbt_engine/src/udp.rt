@@ -62,6 +62,17 @@ impl UdpPort {
         self.addr
     }
 
+    /// The address that it really has: for port 0 the one that the machine chose.
+    pub fn local(&self) -> io::Result<Addr> {
+        match self.socket.local_addr()? {
+            SocketAddr::V4(here) => Ok(Addr {
+                ip: here.ip().to_bits(),
+                port: here.port(),
+            }),
+            SocketAddr::V6(_) => Ok(self.addr),
+        }
+    }
+
     /// Why this call of it failed.
     fn cause_of(&self, call: MachineCall, error: Option<io::Error>) -> Option<Cause> {
         match error {

@@ -1,10 +1,11 @@
 //! The leases by name, and their ends in order.
 
-ghost use Rattle.std.specs.Prelude.{◌≡◌, ◌+◌, ◌<◌, ◌≤◌, IsTrue, [], ◌∷◌, ◌++◌, length, filter, IfOk, IfSome, IfNone, OnOk, OnErr, if◌then◌else◌};
+ghost use Rattle.std.specs.Prelude.{◌≡◌, ◌+◌, ◌<◌, ◌≤◌, IsTrue, [], ◌∷◌, ◌++◌, length, map, filter, IfOk, IfSome, IfNone, OnOk, OnErr, if◌then◌else◌};
 ghost use Rattle.std.specs.Bool.{OnFalse};
 ghost use Rattle.std.specs.List.{IsDistinct};
 ghost use Rattle.std.specs.Map.{keys_of};
 ghost use Rattle.nbt_name.specs.Wire.{NameValue};
+ghost use Rattle.nbt_lease.specs.Inner.Index.{rows_of};
 
 use crate::both::{begin_in, take_out};
 use crate::ends::Ends;
@@ -40,7 +41,7 @@ impl Model for Index {
 impl Index {
     ghost use Rattle.nbt_name.specs.Wire.{same_name};
     ghost use Rattle.nbt_lease.specs.Lease.{is_live, at_name, HasNone};
-    ghost use Rattle.nbt_lease.specs.Inner.Index.{members_of, rows_of, AreLive, Renewed, Moves, Ended};
+    ghost use Rattle.nbt_lease.specs.Inner.Index.{members_of, AreLive, Renewed, Moves, Ended};
 
     /// No leases. Takes no memory.
     pub fn new(alloc: Global) -> Index
@@ -78,6 +79,14 @@ impl Index {
         ensures { result ≡ length (rows_of self.now) }
     {
         self.ends.count()
+    }
+
+    /// Appends each name with each of its members, name after name, those of one name in order of their beginnings. Where memory
+    /// is refused, only some may be appended.
+    pub fn list(&self, out: &mut Vec<(Name, Lease)>) -> Result<(), AllocError>
+        ensures { OnOk result (out.new.items ≡ out.old.items ++ rows_of self.now) }
+    {
+        list_in(&self.members, out)
     }
 
     /// Begins a lease, which goes last at its name. Where memory is refused, the leases are as before.
@@ -159,4 +168,33 @@ impl Index {
     {
         'dues: while self.pop_due(now, looks) {}
     }
+}
+
+/// Appends each name with each of its members.
+fn list_in(
+    members: &IndexMap<Name, Named>,
+    out: &mut Vec<(Name, Lease)>,
+) -> Result<(), AllocError>
+    ensures { OnOk result (out.new.items ≡ out.old.items ++ rows_of members.now.entries) }
+{
+    let mut rest = members.as_slice();
+    'names: while let Some(((name, named), others)) = rest.split_first() {
+        list_members(name, named.as_slice(), out)?;
+        rest = others;
+    }
+    Ok(())
+}
+
+/// Appends a name with each of these leases.
+fn list_members(
+    name: &Name,
+    leases: &[Lease],
+    out: &mut Vec<(Name, Lease)>,
+) -> Result<(), AllocError>
+    ensures { OnOk result (out.new.items ≡ out.old.items ++ map (λ lease. (name.now, lease)) leases.now) }
+{
+    for lease in leases {
+        out.push((name.copy(), *lease))?;
+    }
+    Ok(())
 }

@@ -1,6 +1,6 @@
 //! The table of leases.
 
-ghost use Rattle.std.specs.Prelude.{◌≡◌, ◌≢◌, ℕ, ◌+◌, ◌<◌, ◌≤◌, [], length, filter, OnErr};
+ghost use Rattle.std.specs.Prelude.{◌≡◌, ◌≢◌, ℕ, ◌+◌, ◌<◌, ◌≤◌, [], ◌++◌, length, filter, OnOk, OnErr};
 ghost use Rattle.std.specs.List.{IsDistinct};
 ghost use Rattle.std.specs.Map.{keys_of};
 ghost use Rattle.nbt_name.specs.Wire.{NameValue, same_name};
@@ -18,7 +18,7 @@ use crate::members::Members;
 use crate::moment::Moment;
 use crate::standing::Standing;
 use nbt_name::{Kind, Name};
-use std::alloc::Global;
+use std::alloc::{AllocError, Global};
 use std::marker::{Brand, Model};
 use std::sync::ledger::{Blank, Ledger};
 
@@ -149,6 +149,14 @@ impl Table {
         ensures sound { IsSound self.now.config now (leases_at now self.now.rows) }
     {
         self.index.live(name, now.get())
+    }
+
+    /// Appends all rows: each name with each of its leases, those of one name in order of their beginnings. Leases that are over may
+    /// stand among them. Where memory is refused, only some of them may be appended.
+    pub fn list_rows(&self, out: &mut Vec<(Name, Lease)>) -> Result<(), AllocError>
+        ensures { OnOk result (out.new.items ≡ out.old.items ++ self.now.rows) }
+    {
+        self.index.list(out)
     }
 
     /// The least end among the live leases of the name at `now`, in milliseconds; none where it has no live lease.

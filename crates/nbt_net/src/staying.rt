@@ -17,7 +17,8 @@ use std::{io, thread, time};
 /// How many turns in a row have failed.
 #[derive(Debug, Drop)]
 pub struct Row {
-    failed: u64,
+    /// How many.
+    pub failed: u64,
 }
 
 impl Row {

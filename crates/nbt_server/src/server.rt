@@ -112,6 +112,14 @@ impl Server {
         self.last
     }
 
+    /// Its leases: those that live, and maybe some that are over.
+    pub fn table(&self) -> &Table
+        ensures table { result.now ≡ self.now.table }
+        ensures last { self.now.table.last ≤ self.now.last }
+    {
+        &self.table
+    }
+
     /// Until when the server is silent, in milliseconds: leases that were given before its start may last so long.
     fn speaks_from(&self) -> u64
         ensures value { result ≡ speaks_from self.now }

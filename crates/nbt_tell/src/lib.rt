@@ -9,5 +9,6 @@ mod names;
 mod rcode;
 mod reply;
 
+pub use holders::kind_word;
 pub use rcode::rcode_words;
 pub use reply::{Reply, write_reply};

@@ -46,6 +46,12 @@ fn datagrams_go_over_udp(rt: HostRuntime) -> Result<(), Fail> {
     let mut near = UdpPort::bind(&rt, HERE)?;
     let mut far = UdpPort::bind(&rt, THERE)?;
     assert!(&rt; UdpPort::bind(&rt, HERE).is_err());
+    assert_eq!(&rt; near.local()?, HERE);
+    assert_eq!(&rt; near.addr(), HERE);
+    // For port 0 the machine chooses one.
+    let chosen = UdpPort::bind(&rt, Addr { port: 0, ..HERE })?.local()?;
+    assert_eq!(&rt; chosen.ip, HERE.ip);
+    assert!(&rt; chosen.port > 0);
     let mut octets = ArrayVec::new();
     send(&rt, &mut near, THERE, b"hello")?;
     assert_eq!(&rt; receive(&rt, &mut far, &mut octets)?, Some(HERE));

@@ -1,0 +1,8 @@
+-- What several proofs share; the proof of a function is in the folder of its module and its name.
+
+-- rows that are printed one after the other
+mod Listing
+-- what a message that is read says
+mod Reading
+-- which line may be printed
+mod Remembering

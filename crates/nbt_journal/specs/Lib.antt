@@ -1,0 +1,5 @@
+pub mod Dates
+pub mod Leases
+pub mod Limiting
+pub mod Lines
+pub mod Told
