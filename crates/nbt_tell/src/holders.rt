@@ -43,15 +43,16 @@ fn write_entry(entry: &[u8; 6], out: &mut String) -> Result<(), AllocError>
     writeln!(out, " {word}")
 }
 
-/// Appends the address of an entry, after its two octets of flags.
-fn write_dotted(entry: &[u8; 6], out: &mut String) -> Result<(), AllocError>
+/// Appends the address of an entry as `192.0.2.7`: the four octets after its two of flags (RFC 1002 section 4.2.13).
+pub fn write_dotted(entry: &[u8; 6], out: &mut String) -> Result<(), AllocError>
     ensures { OnOk result (string_bytes out.new ≡ string_bytes out.old ++ dotted entry.now) }
 {
     let [_, _, a, b, c, d] = *entry;
     write!(out, "{a}.{b}.{c}.{d}")
 }
 
-/// Whose a name with these flags is.
+/// Who may hold a name with these flags, by G in the first octet of NB_FLAGS or of NAME_FLAGS (RFC 1002 sections 4.2.2 and
+/// 4.2.18).
 pub fn kind_of(flags: u8) -> Kind
     ensures { result ≡ kind_in (flags ∷ []) }
 {
@@ -62,7 +63,7 @@ pub fn kind_of(flags: u8) -> Kind
     }
 }
 
-/// The word for who may hold a name.
+/// The word for who may hold a name, `unique` or `group`.
 pub fn kind_word(kind: Kind) -> &'static str
     ensures { result.now ≡ kind_word kind }
 {

@@ -9,6 +9,7 @@ mod names;
 mod rcode;
 mod reply;
 
-pub use holders::kind_word;
+pub use holders::{kind_of, kind_word, write_dotted};
+pub use names::{write_name_flags, write_unit_id};
 pub use rcode::rcode_words;
 pub use reply::{Reply, write_reply};

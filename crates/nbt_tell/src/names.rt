@@ -16,7 +16,7 @@ pub fn write_names(names: &[u8], statistics: &[u8], out: &mut String) -> Result<
         × (string_bytes out.new ≡ string_bytes out.old ++ (lines ++ unit_text statistics.now))) }
 {
     write_lines(names, out)?;
-    write_unit(statistics, out)
+    write_unit_id(statistics, out)
 }
 
 /// Appends a line for each name.
@@ -48,13 +48,14 @@ fn write_after(name: &[u8; 18], out: &mut String) -> Result<(), AllocError>
     let kind = kind_of(flags);
     let word = kind_word(kind);
     write!(out, " {word}")?;
-    write_flags(flags, out)?;
+    write_name_flags(flags, out)?;
     write_meaning(suffix_words(name[15], kind), out)?;
     out.push_str("\n")
 }
 
-/// Appends the words of the flags that are set: DRG, CNF, ACT and PRM (RFC 1002 section 4.2.18).
-fn write_flags(flags: u8, out: &mut String) -> Result<(), AllocError>
+/// Appends the words of the flags that are set in the first octet of NAME_FLAGS, a space before each: `deregistering` (DRG),
+/// `conflict` (CNF), `active` (ACT) and `permanent` (PRM), in this order (RFC 1002 section 4.2.18).
+pub fn write_name_flags(flags: u8, out: &mut String) -> Result<(), AllocError>
     ensures { OnOk result (string_bytes out.new ≡ string_bytes out.old ++ flag_words flags) }
 {
     let deregistering = word_if(flags / 0x10 % 2 == 1, " deregistering");
@@ -81,8 +82,9 @@ fn write_meaning(words: &str, out: &mut String) -> Result<(), AllocError>
     write!(out, "  {words}")
 }
 
-/// Appends the line of the unit id, the first six octets of the statistics, where it is there and isn't zero.
-fn write_unit(statistics: &[u8], out: &mut String) -> Result<(), AllocError>
+/// Appends the line of the unit id, the first six octets of the statistics, where it is there and isn't zero: `unit id` and
+/// pairs of digits with colons between (RFC 1002 section 4.2.18; the words are our profile's).
+pub fn write_unit_id(statistics: &[u8], out: &mut String) -> Result<(), AllocError>
     ensures { OnOk result (string_bytes out.new ≡ string_bytes out.old ++ unit_text statistics.now) }
 {
     match statistics.first_chunk::<6>() {

@@ -6,6 +6,7 @@ use nbt_text::octets_of;
 use std::test::Fail;
 
 mod engine;
+mod explain;
 mod journal;
 mod lines;
 mod lookups;

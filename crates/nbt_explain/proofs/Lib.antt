@@ -1,0 +1,8 @@
+-- What several proofs share; the proof of a function is in the folder of its module and its name.
+
+-- a packet that is right in each respect spells a message
+pub mod Spelled
+-- the lines of a session's packets so far
+pub mod Told
+-- a text that is written at once
+pub mod Written

@@ -1,0 +1,9 @@
+pub mod Dgrams
+pub mod Digits
+pub mod Packets
+pub mod Parts
+pub mod Reasons
+pub mod Rows
+pub mod Sentences
+pub mod Sessions
+pub mod Words
