@@ -7,6 +7,7 @@ use std::test::Fail;
 
 mod engine;
 mod explain;
+mod host;
 mod journal;
 mod lines;
 mod lookups;

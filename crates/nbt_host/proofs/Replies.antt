@@ -1,0 +1,94 @@
+-- What is said of a message, and what is sent back.
+use Rattle.std.proofs.Common.{◌≡◌, ℕ, ◌<◌, List, [], ◌∷◌, Some, None, Ok, Err, refl, sym, subst}
+use Rattle.std.specs.Prelude.{Option, Result, OnOk, OnErr, ◌↔◌}
+use Rattle.nbt_name.specs.declared.addr.Addr.{Addr}
+use Rattle.nbt_name.specs.Wire.{NameValue}
+use Rattle.nbt_packet.specs.declared.message.Message.{Message}
+use Rattle.nbt_packet.specs.declared.message.Message.TheVariants as m
+use Rattle.nbt_packet.specs.Message.{MessageValue, message_of, message_if}
+use Rattle.nbt_packet.specs.Spelling.{Spells}
+use Rattle.nbt_node.specs.Node.{NodeValue}
+use Rattle.nbt_node.specs.Moves.{Told}
+use Rattle.nbt_node.specs.Datagrams.{Handles}
+use Rattle.nbt_engine.specs.declared.port.Device.{Device}
+use Rattle.nbt_engine.specs.PortCalls.{PortCall, came, sent, send_failed, sending, receiving, Chain}
+use Rattle.nbt_engine.proofs.Chains.{chain_one}
+use Rattle.nbt_host.specs.declared.news.Notice.{Notice}
+use Rattle.nbt_host.specs.Answering.{Says, own_reply, sent_back, notice_of}
+use Rattle.nbt_host.specs.Hosting.{sending_to, HostHears, hears_nothing, hears, hears_back, LosesReply, loses_reply}
+use Rattle.nbt_host.specs.Inner.Parts.{Listens, LosesListening, loses_send}
+
+-- the message that was read is the one that the octets spell
+pub says_read : (found : Option Message) (octets : List ℕ) → ((message : MessageValue) → (message_if found ≡ Some message) ↔ Spells octets message) → Says octets (message_if found)
+says_read None octets reads = λ message s. let e = (reads message).1 s in absurd cc
+says_read (Some message) octets reads = (reads (message_of message)).0 refl
+
+-- what is no query is replied to by the node itself, or not at all
+pub sent_back_other : (node : NodeValue) (now : ℕ) (message : Message) (told : Told) (reply : List ℕ) → ((id : ℕ) (name : NameValue) → message ≡ m.Query id name → ⊥)
+    → sent_back node now (Some (message_of message)) told reply ≡ own_reply told reply
+sent_back_other node now (m.Registration r) told reply none = refl
+sent_back_other node now (m.Overwrite r) told reply none = refl
+sent_back_other node now (m.Refresh r) told reply none = refl
+sent_back_other node now (m.Release id name kind addr) told reply none = refl
+sent_back_other node now (m.Query id name) told reply none = absurd (none id name refl)
+sent_back_other node now (m.StatusRequest id name) told reply none = refl
+sent_back_other node now (m.Registered rcode r) told reply none = refl
+sent_back_other node now (m.Released id rcode name kind addr) told reply none = refl
+sent_back_other node now (m.Found id name ttl entries cut) told reply none = refl
+sent_back_other node now (m.NotFound id rcode name) told reply none = refl
+sent_back_other node now (m.Status id name names) told reply none = refl
+sent_back_other node now (m.Wait id name ttl) told reply none = refl
+
+-- ---- what is sent back, by what its sending returned
+
+pub back_sent : {P A : Type 0} (does : P → PortCall → P → Type 0) (p q : P) (to : Addr) (what : Option (List ℕ)) (out : List ℕ) (result : Result A Device) → what ≡ Some out → does p (sending to out result) q → OnOk result (Chain does p (sending_to to what) q)
+back_sent does p q to what out (Ok done) is did = rw is (chain_one does p (sent to out) q did)
+back_sent does p q to what out (Err failure) is did = tt
+
+pub back_lost : {P A : Type 0} (does : P → PortCall → P → Type 0) (p q : P) (to : Addr) (what : Option (List ℕ)) (out : List ℕ) (result : Result A Device) → what ≡ Some out → does p (sending to out result) q
+    → OnErr result ((lost : List ℕ) × (what ≡ Some lost) × does p (send_failed to lost) q)
+back_lost does p q to what out (Ok done) is did = tt
+back_lost does p q to what out (Err failure) is did = (out, is, did)
+
+-- ---- what is heard
+
+abbrev pub Heard_by : {P : Type 0} → (P → PortCall → P → Type 0) → ℕ → NodeValue → PortCall → Option Notice → NodeValue → P → P → Type 0
+Heard_by does now old hearing notice new p q = (acts : List PortCall) × HostHears now old (hearing ∷ acts) notice new × Chain does p acts q
+
+abbrev pub Lost_by : {P : Type 0} → (P → PortCall → P → Type 0) → ℕ → NodeValue → PortCall → NodeValue → P → P → Type 0
+Lost_by does now old hearing new p q = (to : Addr) × (lost : List ℕ) × LosesReply now old (hearing ∷ send_failed to lost ∷ []) new × does p (send_failed to lost) q
+
+pub heard_none : {P : Type 0} (does : P → PortCall → P → Type 0) (p : P) (now : ℕ) (old : NodeValue) (found : Option Addr) (octets : List ℕ) → found ≡ None → Heard_by does now old (receiving (Ok found) octets) None old p p
+heard_none does p now old found octets none = rw none ([], hears_nothing, refl)
+
+pub heard_back : {P : Type 0} (does : P → PortCall → P → Type 0) (p : P) (now : ℕ) (old new : NodeValue) (found : Option Addr) (from : Addr) (octets : List ℕ) → found ≡ Some from → now < old.last → new ≡ old
+    → Heard_by does now old (receiving (Ok found) octets) None new p p
+heard_back does p now old new found from octets some back same = rw (some, same) ([], hears_back from octets back, refl)
+
+pub heard_one : {P : Type 0} (does : P → PortCall → P → Type 0) (p q : P) (now : ℕ) (old new : NodeValue) (found : Option Addr) (from : Addr) (octets reply : List ℕ) (message : Option MessageValue) (told : Told) (notice : Option Notice) → found ≡ Some from
+    → Handles old now from octets new told reply → Says octets message → notice ≡ notice_of message told → Chain does p (sending_to from (sent_back new now message told reply)) q
+    → Heard_by does now old (receiving (Ok found) octets) notice new p q
+heard_one does p q now old new found from octets reply message told notice some handles says is did =
+    let acts = sending_to from (sent_back new now message told reply) in
+    rw some (acts, subst (λ (x : Option Notice). HostHears now old (came from octets ∷ acts) x new) (sym is) (hears from octets reply message told new handles says), did)
+
+pub reply_lost : {P : Type 0} (does : P → PortCall → P → Type 0) (p q : P) (now : ℕ) (old new : NodeValue) (found : Option Addr) (from : Addr) (octets reply : List ℕ) (message : Option MessageValue) (told : Told) → found ≡ Some from
+    → Handles old now from octets new told reply → Says octets message → ((lost : List ℕ) × (sent_back new now message told reply ≡ Some lost) × does p (send_failed from lost) q)
+    → Lost_by does now old (receiving (Ok found) octets) new p q
+reply_lost does p q now old new found from octets reply message told some handles says x = rw some (from, x.0, loses_reply from octets reply x.0 message told new handles says x.1, x.2)
+
+-- ---- a receive, and what is heard
+
+pub listened : {P C : Type 0} (does : P → PortCall → P → Type 0) (tells : C → ℕ → C → Type 0) (p q r : P) (c d : C) (s t : NodeValue) (found : Option Addr) (octets given : List ℕ) (at : ℕ) (notice : Option Notice)
+    → does p (receiving (Ok found) octets) q → tells c at d → given ≡ octets → Heard_by does at s (receiving (Ok found) given) notice t q r → Listens does tells (record { at = at; notice = notice }) p c s r d t
+listened does tells p q r c d s t found octets given at notice did told same h = record {
+  hearing = receiving (Ok found) given ∷ h.0;
+  hears = h.1;
+  port_did = (q, subst (λ (xs : List ℕ). does p (receiving (Ok found) xs) q) (sym same) did, h.2);
+  clock_told = told;
+}
+
+pub listening_lost : {P C : Type 0} (does : P → PortCall → P → Type 0) (tells : C → ℕ → C → Type 0) (p q r : P) (c d : C) (s t : NodeValue) (found : Option Addr) (octets given : List ℕ) (at : ℕ)
+    → does p (receiving (Ok found) octets) q → tells c at d → given ≡ octets → Lost_by does at s (receiving (Ok found) given) t q r → LosesListening does tells p c s r d t
+listening_lost does tells p q r c d s t found octets given at did told same h =
+    loses_send at (receiving (Ok found) given ∷ send_failed h.0 h.1 ∷ []) h.2 (q, subst (λ (xs : List ℕ). does p (receiving (Ok found) xs) q) (sym same) did, chain_one does q (send_failed h.0 h.1) r h.3) told

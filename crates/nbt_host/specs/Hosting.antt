@@ -1,0 +1,103 @@
+-- What a host does in a turn over a port and a clock: a node that is to hold the names of a list (our profile).
+use Rattle.std.specs.Prelude.{◌≡◌, ℕ, ◌<◌, Bool, true, false, List, [], ◌∷◌, ◌++◌, map, Option, Some, None}
+use Rattle.nbt_name.specs.declared.addr.Addr.{Addr}
+use Rattle.nbt_packet.specs.Message.{MessageValue}
+use Rattle.nbt_node.specs.declared.fault.AskFault.{AskFault}
+use Rattle.nbt_node.specs.declared.fault.ReleaseFault.{ReleaseFault}
+use Rattle.nbt_node.specs.Node.{NodeValue}
+use Rattle.nbt_node.specs.Moves.{give_back, Told}
+use Rattle.nbt_node.specs.Calls.{ask_refusal, release_refusal, Sends}
+use Rattle.nbt_node.specs.Datagrams.{Handles}
+use Rattle.nbt_engine.specs.PortCalls.{PortCall, nothing_came, came, receive_failed, sent, send_failed}
+use Rattle.nbt_engine.specs.Turning.{AsksFor, PollsAll, BreaksPolls}
+use Rattle.nbt_host.specs.declared.goal.Goal.{Goal}
+use Rattle.nbt_host.specs.declared.goal.Stage.{Stage}
+use Rattle.nbt_host.specs.declared.goal.Stage.TheVariants.{Wanted}
+use Rattle.nbt_host.specs.declared.news.Notice.{Notice}
+use Rattle.nbt_host.specs.Goals.{may_ask, seen, heard_by}
+use Rattle.nbt_host.specs.Answering.{Says, sent_back, notice_of}
+
+-- what is sent to an end, if anything
+abbrev pub sending_to : Addr → Option (List ℕ) → List PortCall
+sending_to to None = []
+sending_to to (Some octets) = sent to octets ∷ []
+
+-- ---- the requests
+
+abbrev pub is_wanted : Stage → Bool
+is_wanted Wanted = true
+is_wanted stage = false
+
+-- The request about one name, if any. A name that is wanted is asked for where its time has come; another is given back.
+-- What the node refuses is passed over.
+pub data Requests (now : ℕ) (old : NodeValue) (goal : Goal) : Option (List ℕ) → NodeValue → Type 0 where
+  asks : (octets : List ℕ) (new : NodeValue) → is_wanted goal.stage ≡ true → may_ask now goal.refusal ≡ true → AsksFor now goal.want old octets new → Requests now old goal (Some octets) new
+  may_not_ask : (fault : AskFault) → is_wanted goal.stage ≡ true → may_ask now goal.refusal ≡ true → ask_refusal old now goal.want.name ≡ Some fault → Requests now old goal None old
+  backs_off : is_wanted goal.stage ≡ true → may_ask now goal.refusal ≡ false → Requests now old goal None old
+  gives_back : (octets : List ℕ) (new : NodeValue) → is_wanted goal.stage ≡ false → release_refusal old now goal.want.name ≡ None → Sends old now goal.want.name give_back new octets
+      → Requests now old goal (Some octets) new
+  may_not_give_back : (fault : ReleaseFault) → is_wanted goal.stage ≡ false → release_refusal old now goal.want.name ≡ Some fault → Requests now old goal None old
+
+-- Name after name, in the list's order, each once; each request is sent to the server.
+pub data RequestsAll (server : Addr) (now : ℕ) (old : NodeValue) : List Goal → List PortCall → NodeValue → Type 0 where
+  of_none : RequestsAll server now old [] [] old
+  of_next : (goals : List Goal) (goal : Goal) (acts : List PortCall) (request : Option (List ℕ)) (mid new : NodeValue) → RequestsAll server now old goals acts mid → Requests now mid goal request new
+      → RequestsAll server now old (goals ++ goal ∷ []) (acts ++ sending_to server request) new
+
+-- They go on until the sending of one fails.
+pub data BreaksRequests (server : Addr) (now : ℕ) (old : NodeValue) : List Goal → List PortCall → NodeValue → Type 0 where
+  at_request : (goals rest : List Goal) (goal : Goal) (acts : List PortCall) (octets : List ℕ) (mid new : NodeValue) → RequestsAll server now old goals acts mid → Requests now mid goal (Some octets) new
+      → BreaksRequests server now old (goals ++ goal ∷ rest) (acts ++ send_failed server octets ∷ []) new
+
+-- ---- what is heard
+
+-- The node takes what came, if anything, at a moment that doesn't go back, and what there is to say is sent to its sender. A
+-- datagram that the node refuses since the clock went back is passed over.
+pub data HostHears (now : ℕ) (old : NodeValue) : List PortCall → Option Notice → NodeValue → Type 0 where
+  hears_nothing : HostHears now old (nothing_came ∷ []) None old
+  hears_back : (from : Addr) (octets : List ℕ) → now < old.last → HostHears now old (came from octets ∷ []) None old
+  hears : (from : Addr) (octets reply : List ℕ) (message : Option MessageValue) (told : Told) (new : NodeValue) → Handles old now from octets new told reply → Says octets message
+      → HostHears now old (came from octets ∷ sending_to from (sent_back new now message told reply)) (notice_of message told) new
+
+-- What there is to say is lost.
+pub data LosesReply (now : ℕ) (old : NodeValue) : List PortCall → NodeValue → Type 0 where
+  loses_reply : (from : Addr) (octets reply lost : List ℕ) (message : Option MessageValue) (told : Told) (new : NodeValue) → Handles old now from octets new told reply → Says octets message
+      → sent_back new now message told reply ≡ Some lost → LosesReply now old (came from octets ∷ send_failed from lost ∷ []) new
+
+-- ---- a turn
+
+-- At the first moment that is read a look at the names, the requests and the polls; one receive; at the second what is heard.
+pub record HostTurn (server : Addr) (old_goals : List Goal) (old : NodeValue) (acts : List PortCall) (moments : List ℕ) (goals : List Goal) (new : NodeValue) : Type 0 where
+  pub first : ℕ
+  pub second : ℕ
+  pub requesting : List PortCall
+  pub polling : List PortCall
+  pub hearing : List PortCall
+  pub requested : NodeValue
+  pub polled : NodeValue
+  pub notice : Option Notice
+  pub requests : RequestsAll server first old (map (seen old first) old_goals) requesting requested
+  pub polls : PollsAll first requested polling polled
+  pub hears : HostHears second polled hearing notice new
+  pub acts_are : acts ≡ requesting ++ (polling ++ hearing)
+  pub moments_are : moments ≡ first ∷ second ∷ []
+  pub goals_are : goals ≡ map (heard_by new second notice) (map (seen old first) old_goals)
+
+-- The calls after the first look of a turn in which the device fails, and the readings of the clock after it: the node is as
+-- after the call of it that made the sending, or as it was before the receive.
+pub data BreaksCalls (server : Addr) (first : ℕ) (goals : List Goal) (old : NodeValue) : List PortCall → List ℕ → NodeValue → Type 0 where
+  at_requests : (requesting : List PortCall) (new : NodeValue) → BreaksRequests server first old goals requesting new → BreaksCalls server first goals old requesting [] new
+  at_polls : (requesting polling : List PortCall) (requested new : NodeValue) → RequestsAll server first old goals requesting requested → BreaksPolls first requested polling new
+      → BreaksCalls server first goals old (requesting ++ polling) [] new
+  at_receive : (requesting polling : List PortCall) (requested new : NodeValue) → RequestsAll server first old goals requesting requested → PollsAll first requested polling new
+      → BreaksCalls server first goals old (requesting ++ (polling ++ receive_failed ∷ [])) [] new
+  at_reply : (second : ℕ) (requesting polling hearing : List PortCall) (requested polled new : NodeValue) → RequestsAll server first old goals requesting requested
+      → PollsAll first requested polling polled → LosesReply second polled hearing new → BreaksCalls server first goals old (requesting ++ (polling ++ hearing)) (second ∷ []) new
+
+-- Such a turn: nothing else of it is done than the first look and these calls.
+pub record HostBreaks (server : Addr) (old_goals : List Goal) (old : NodeValue) (acts : List PortCall) (moments : List ℕ) (goals : List Goal) (new : NodeValue) : Type 0 where
+  pub first : ℕ
+  pub later : List ℕ
+  pub calls : BreaksCalls server first goals old acts later new
+  pub moments_are : moments ≡ first ∷ later
+  pub goals_are : goals ≡ map (seen old first) old_goals

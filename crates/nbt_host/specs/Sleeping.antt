@@ -1,0 +1,15 @@
+-- When a machine slept, by its two clocks (our profile).
+use Rattle.std.specs.Prelude.{ℕ, ◌+◌, ◌<◌, List, [], ◌∷◌}
+use Rattle.nbt_engine.specs.PortCalls.{Chain}
+use Rattle.nbt_host.specs.declared.sleeping.Reading.{Reading}
+use Rattle.nbt_host.specs.declared.sleeping.TheConstants.{SLEEP}
+
+-- The time of day went from the one reading to the other, and more than 200 ms beyond what the steady clock went from before the
+-- one to after the other.
+abbrev pub HasSlept : (earlier later : Reading) → Type 0
+HasSlept earlier later = earlier.day + later.after + SLEEP < later.day + earlier.before
+
+-- a reading of both clocks
+pub record Reads {C D : Type 0} (tells : C → ℕ → C → Type 0) (tells_day : D → ℕ → D → Type 0) (old : C) (old_day : D) (reading : Reading) (new : C) (new_day : D) : Type 0 where
+  pub steady_told : Chain tells old (reading.before ∷ reading.after ∷ []) new
+  pub day_told : tells_day old_day reading.day new_day

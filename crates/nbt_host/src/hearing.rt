@@ -1,0 +1,91 @@
+//! One receive of a host, and what it makes of what came.
+
+ghost use Rattle.std.specs.Prelude.{◌≡◌, ◌<◌, ◌^◌, List, [], ◌∷◌, ℕ, Some, Ok, IfOk, OnOk, OnErr};
+ghost use Rattle.nbt_name.specs.declared.addr.Addr.{Addr as End};
+ghost use Rattle.nbt_packet.specs.Message.{message_if};
+ghost use Rattle.nbt_node.specs.Moves.{told_of};
+ghost use Rattle.nbt_engine.specs.PortCalls.{PortCall, send_failed, receiving, Chain, CountsFailure};
+ghost use Rattle.nbt_host.specs.Answering.{sent_back};
+ghost use Rattle.nbt_host.specs.Hosting.{sending_to, HostHears, LosesReply};
+ghost use Rattle.nbt_host.specs.Inner.Parts.{Listens, LosesListening};
+
+use crate::answering::reply_to;
+use crate::news::{Notice, notice_of};
+use arrayvec::ArrayVec;
+use nbt_engine::{Clock, Device, Port};
+use nbt_lease::Moment;
+use nbt_name::Addr;
+use nbt_node::{Event, Node};
+use nbt_packet::{Message, read};
+
+/// What was heard, and when.
+#[derive(Drop)]
+pub struct Heard {
+    pub at: Moment,
+    pub notice: Option<Notice>,
+}
+
+/// Receives once, reads the clock, and takes what came.
+pub fn listen<P: Port, C: Clock, const N: usize>(
+    port: &mut P,
+    clock: &mut C,
+    node: &mut Node<N>,
+    out: &mut ArrayVec<u8, 576>,
+) -> Result<Heard, Device>
+    requires few { P.failures port.old < 2 ^ 62 }
+    ensures ok { IfOk result (λ heard. Listens P.does C.tells heard port.old clock.old node.old port.new clock.new node.new) }
+    ensures err { OnErr result (LosesListening P.does C.tells port.old clock.old node.old port.new clock.new node.new) }
+    ensures device { CountsFailure (P.failures port.old) (P.failures port.new) result }
+{
+    let mut octets = ArrayVec::new();
+    let from = port.receive(&mut octets)?;
+    let at = clock.now();
+    let notice = hear(port, node, at, from, octets.as_slice(), out)?;
+    Ok(Heard { at, notice })
+}
+
+/// The node takes a datagram, if one came, and what there is to say is sent to its sender. Returns what it says of a name.
+fn hear<P: Port, const N: usize>(
+    port: &mut P,
+    node: &mut Node<N>,
+    now: Moment,
+    from: Option<Addr>,
+    octets: &[u8],
+    out: &mut ArrayVec<u8, 576>,
+) -> Result<Option<Notice>, Device>
+    requires few { P.failures port.old < 2 ^ 62 }
+    ensures ok { IfOk result (λ notice. (acts : List PortCall) × HostHears now node.old (receiving (Ok from) octets.now ∷ acts) notice node.new × Chain P.does port.old acts port.new) }
+    ensures err { OnErr result ((to : End) × (lost : List ℕ) × LosesReply now node.old (receiving (Ok from) octets.now ∷ send_failed to lost ∷ []) node.new × P.does port.old (send_failed to lost) port.new) }
+    ensures device { CountsFailure (P.failures port.old) (P.failures port.new) result }
+{
+    let Some(from) = from else {
+        return Ok(None);
+    };
+    let Ok(event) = node.on_datagram(now, from, octets, out) else {
+        return Ok(None);
+    };
+    let message = read(octets);
+    send_back(port, node, now, from, &message, event, out)?;
+    Ok(notice_of(&message, event))
+}
+
+/// Sends what there is to say.
+fn send_back<P: Port, const N: usize>(
+    port: &mut P,
+    node: &Node<N>,
+    now: Moment,
+    to: Addr,
+    message: &Option<Message<'_>>,
+    event: Event<'_>,
+    out: &mut ArrayVec<u8, 576>,
+) -> Result<(), Device>
+    requires few { P.failures port.old < 2 ^ 62 }
+    ensures ok { OnOk result (Chain P.does port.old (sending_to to (sent_back node.now now (message_if message.now) (told_of event.entry) out.old.items)) port.new) }
+    ensures err { OnErr result ((lost : List ℕ) × (sent_back node.now now (message_if message.now) (told_of event.entry) out.old.items ≡ Some lost) × P.does port.old (send_failed to lost) port.new) }
+    ensures device { CountsFailure (P.failures port.old) (P.failures port.new) result }
+{
+    if !reply_to(node, now, message, event, out) {
+        return Ok(());
+    }
+    port.send(to, out.as_slice())
+}
