@@ -12,6 +12,7 @@ mod journal;
 mod lines;
 mod lookups;
 mod memory;
+mod nbns;
 mod ports;
 mod printing;
 mod replies;

@@ -1,0 +1,216 @@
+//! A name server over this machine's UDP, its clocks and its files.
+
+ghost use Rattle.std.specs.Prelude.{◌≡◌, ◌≢◌, ◌+◌, ◌≤◌, ◌^◌, ℕ, List, Err, OnOk, IfOk, IfErr, OnErr};
+ghost use Rattle.std.specs.Io.KnownBytes.{Appends};
+ghost use Rattle.nbt_lease.specs.Config.{milliseconds};
+ghost use Rattle.nbt_journal.specs.Dates.{second_at};
+ghost use Rattle.nbt_nbns.specs.Begin.{IsBegin};
+ghost use Rattle.nbt_nbns.specs.Here.{until_of, log_of, leases_of, RunsNbns, NbnsFails};
+ghost use Rattle.nbt_nbns.specs.Watching.{WatchesUntil, WatchFails};
+
+use crate::begin::write_begin;
+use crate::journal::Journal;
+use crate::keeper::Keeper;
+use crate::logger::Logger;
+use crate::place::FilePlace;
+use crate::staying::{Watcher, watch_on};
+use nbt_ask::SteadyClock;
+use nbt_engine::{Cause, Clock, Fault, MachineCall, Port, UdpPort};
+use nbt_journal::Dates;
+use nbt_lease::{Config, Moment};
+use nbt_name::Addr;
+use nbt_net::{bound_port, readable_clock, tell_end_of};
+use nbt_samba::SambaPort;
+use nbt_server::Server;
+use std::alloc::{AllocError, Global};
+use std::io::Write;
+use std::net::Net;
+use std::rt::Files;
+use std::{io, time};
+
+/// What a name server is to do.
+#[derive(Debug, Drop)]
+pub struct NbnsArguments {
+    /// Its own address and port.
+    pub bind: Addr,
+    /// The limits.
+    pub config: Config,
+    /// After how many milliseconds it ends; `None` where it has no end.
+    pub time: Option<u64>,
+    /// Whether it logs what it makes of each datagram.
+    pub log: bool,
+    /// The path of the file that has the list of its live leases, if there is to be one.
+    pub leases: Option<String>,
+    /// Whether registrations that Samba's programs send are left as they are.
+    pub strict: bool,
+}
+
+/// Runs a name server on a UDP port of this machine, over its clock that nobody sets. It first prints where it serves, for how long
+/// it is silent and until when, and then stays up for 2^61 turns or until its time is over, also where the port fails, as
+/// [`watch_on`] does. It logs to `writer`, and keeps the list of its leases in a file, where that is asked for. Refused: `NoPort`
+/// where the port can't be had; `NoClock` where a clock can't be read at first; `Device` at the hundredth turn in a row that fails;
+/// `Output` where the first line can't be written; `Memory` where memory is refused before the first turn. Of each but the last
+/// two a line in `errors` says which call of the machine failed, for which address, and why.
+pub fn run_nbns<M: Net + time::Clock + Files, W: Write, E: Write>(
+    machine: &M,
+    alloc: Global,
+    arguments: &NbnsArguments,
+    writer: &mut W,
+    errors: &mut E,
+) -> Result<(), Fault>
+    ensures ok { OnOk result (RunsNbns arguments.now (W.contents writer.old) (W.contents writer.new)) }
+    ensures device { result ≡ Err Fault.Device → NbnsFails arguments.now (W.contents writer.old) (W.contents writer.new) }
+{
+    let port = bound_port(machine, arguments.bind, errors)?;
+    let mut clock = steady_clock(machine, arguments.bind, errors)?;
+    let mut day = readable_clock(machine, arguments.bind, errors)?;
+    let start = clock.now();
+    let dates = Dates {
+        moment: start,
+        time: day.now(),
+    };
+    tell_begin(alloc, local_of(&port), &dates, arguments.config, writer)?;
+    let mut journal = Journal {
+        dates,
+        day,
+        log: log_of(alloc, arguments.log),
+        leases: leases_of(machine, alloc, &arguments.leases)?,
+    };
+    let mut server = Server::start(alloc, arguments.config, start);
+    let until = until_of(start, arguments.time);
+    if arguments.strict {
+        let mut port = port;
+        watch_to_its_end(
+            &mut port,
+            &mut clock,
+            &mut server,
+            &mut journal,
+            until,
+            machine,
+            writer,
+            errors,
+        )
+    } else {
+        let mut port = SambaPort::new(port);
+        watch_to_its_end(
+            &mut port,
+            &mut clock,
+            &mut server,
+            &mut journal,
+            until,
+            machine,
+            writer,
+            errors,
+        )
+    }
+}
+
+/// The clock that nobody sets, where it can be read. Else it says why in `errors`.
+fn steady_clock<'a, M: time::Clock, E: Write>(
+    machine: &'a M,
+    addr: Addr,
+    errors: &mut E,
+) -> Result<SteadyClock<'a, M>, Fault>
+    ensures ok { IfOk result (λ clock. clock ≡ 0) }
+    ensures err { IfErr result (λ fault. fault ≡ Fault.NoClock) }
+{
+    match SteadyClock::begin(machine) {
+        Ok(clock) => Ok(clock),
+        Err(error) => {
+            Cause::new(MachineCall::Clock, addr, error).tell("", errors);
+            Err(Fault::NoClock)
+        }
+    }
+}
+
+/// The address that a port really has, where the machine tells it; else the one that was asked for.
+fn local_of(port: &UdpPort) -> Addr {
+    port.local().unwrap_or(port.addr())
+}
+
+/// Prints where a server serves that starts now, for how long it is silent, and until when, at once.
+fn tell_begin<W: Write>(
+    alloc: Global,
+    at: Addr,
+    dates: &Dates,
+    config: Config,
+    writer: &mut W,
+) -> Result<(), Fault>
+    ensures ok { OnOk result ((line : List ℕ) × IsBegin at config.longest (second_at dates.now (dates.now.moment + milliseconds config.longest)) line
+        × Appends (W.contents writer.old) (W.contents writer.new) line) }
+    ensures err { IfErr result (λ fault. fault ≢ Fault.Device) }
+{
+    let silent = config.longest();
+    let until = dates.second_at(dates.moment.get() + 1000 * u64::from(silent));
+    let mut line = String::new(alloc);
+    write_begin(at, silent, until, &mut line)?;
+    print(line.as_str(), writer).map_err(|_| Fault::Output)
+}
+
+fn print<W: Write>(text: &str, writer: &mut W) -> io::Result<()>
+    ensures { OnOk result (Appends (W.contents writer.old) (W.contents writer.new) text.now) }
+{
+    writer.write_all(text.as_bytes())?;
+    writer.flush()
+}
+
+/// The log, if there is to be one.
+fn log_of(alloc: Global, is_wanted: bool) -> Option<Logger>
+    ensures { result ≡ log_of is_wanted }
+{
+    if is_wanted {
+        Some(Logger::new(alloc))
+    } else {
+        None
+    }
+}
+
+/// The list of leases in the file of this path, if there is to be one.
+fn leases_of<'a, M: Files>(
+    machine: &'a M,
+    alloc: Global,
+    path: &Option<String>,
+) -> Result<Option<Keeper<FilePlace<'a, M>>>, AllocError>
+    ensures { IfOk result (λ leases. leases ≡ leases_of path.now) }
+{
+    let Some(path) = path else {
+        return Ok(None);
+    };
+    let place = FilePlace::new(machine, alloc, path.as_str())?;
+    Ok(Some(Keeper::new(alloc, place)))
+}
+
+/// The moment at which it ends that starts at this one; none where it has no end.
+fn until_of(start: Moment, time: Option<u64>) -> Option<Moment>
+    ensures { result ≡ until_of start time }
+{
+    Moment::new(start.get().saturating_add(time?))
+}
+
+/// Watches a server until it ends, as [`watch_on`] does. Where the port failed for good, it says why in `errors`.
+fn watch_to_its_end<P: Port, C: Clock, V: Watcher, M: time::Clock, W: Write, E: Write>(
+    port: &mut P,
+    clock: &mut C,
+    server: &mut Server,
+    watcher: &mut V,
+    until: Option<Moment>,
+    machine: &M,
+    writer: &mut W,
+    errors: &mut E,
+) -> Result<(), Fault>
+    requires few { P.failures port.old ≤ 2 ^ 61 }
+    ensures ok { OnOk result (WatchesUntil P.does C.tells V.sees until
+        (record { port = port.old; clock = clock.old; server = server.old; watcher = watcher.old; text = W.contents writer.old })
+        (record { port = port.new; clock = clock.new; server = server.new; watcher = watcher.new; text = W.contents writer.new })) }
+    ensures err { OnErr result (WatchFails P.does C.tells V.sees until
+        (record { port = port.old; clock = clock.old; server = server.old; watcher = watcher.old; text = W.contents writer.old })
+        (record { port = port.new; clock = clock.new; server = server.new; watcher = watcher.new; text = W.contents writer.new })) }
+{
+    let watched = watch_on(port, clock, server, watcher, until, machine, writer, errors);
+    let ended = match watched {
+        Ok(()) => Ok(()),
+        Err(failure) => Err(Fault::from(failure)),
+    };
+    tell_end_of(ended, port.cause(), errors);
+    ended
+}
