@@ -14,7 +14,6 @@ use Rattle.nbt_host.proofs.Orders.{Requested}
 
 module _ {P C : Type 0} (does : P → PortCall → P → Type 0) (tells : C → ℕ → C → Type 0) (server : Addr) (goals seen_goals : List Goal) (old : NodeValue) (p : P) (c : C) (first : ℕ) (d : C)
     (looks : seen_goals ≡ map (seen old first) goals) (told : tells c first d) where
-
   abbrev pub Turned : P → C → List Goal → NodeValue → Type 0
   Turned q e new_goals new = (acts : List PortCall) × (moments : List ℕ) × HostTurn server goals old acts moments new_goals new × Chain does p acts q × Chain tells c moments e
 

@@ -23,7 +23,9 @@ fn request_for<const N: usize>(
     let name = &goal.want.name;
     match goal.stage {
         Stage::Wanted if !goal.may_ask(now) => false,
-        Stage::Wanted => node.ask(now, name, goal.want.kind, goal.want.ttl, out).is_ok(),
+        Stage::Wanted => node
+            .ask(now, name, goal.want.kind, goal.want.ttl, out)
+            .is_ok(),
         _ => node.release(now, name, out).is_ok(),
     }
 }

@@ -14,7 +14,12 @@ use std::alloc::AllocError;
 
 /// Appends the line of what a server made of a datagram in a second since 1970, as `2026-11-24T09:12:03Z granted FILER#20
 /// 192.0.2.7 unique 300 s`; of `Nothing` none. That of a foreign or malformed one says how many such lines were left out before it.
-pub fn write_told(second: u64, told: &Told, left_out: u64, out: &mut String) -> Result<(), AllocError>
+pub fn write_told(
+    second: u64,
+    told: &Told,
+    left_out: u64,
+    out: &mut String,
+) -> Result<(), AllocError>
     ensures { OnOk result ((line : List ℕ) × IsLine second left_out told.now line × (string_bytes out.new ≡ string_bytes out.old ++ line)) }
 {
     match told {

@@ -171,10 +171,7 @@ impl Index {
 }
 
 /// Appends each name with each of its members.
-fn list_in(
-    members: &IndexMap<Name, Named>,
-    out: &mut Vec<(Name, Lease)>,
-) -> Result<(), AllocError>
+fn list_in(members: &IndexMap<Name, Named>, out: &mut Vec<(Name, Lease)>) -> Result<(), AllocError>
     ensures { OnOk result (out.new.items ≡ out.old.items ++ rows_of members.now.entries) }
 {
     let mut rest = members.as_slice();

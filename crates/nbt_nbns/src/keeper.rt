@@ -139,12 +139,7 @@ fn has(text: &Option<String>, list: &str) -> bool
 }
 
 /// The list of the leases that live at `now`.
-fn listed(
-    alloc: Global,
-    server: &Server,
-    dates: &Dates,
-    now: Moment,
-) -> Result<String, AllocError>
+fn listed(alloc: Global, server: &Server, dates: &Dates, now: Moment) -> Result<String, AllocError>
     ensures { IfOk result (λ text. PrintsLeases dates.now now server.now.table.rows (string_bytes text)) }
 {
     let mut rows: Vec<(Name, Lease)> = Vec::new(alloc);

@@ -17,7 +17,9 @@ pub use begin::write_begin;
 pub use here::{NbnsArguments, run_nbns};
 pub use journal::Journal;
 pub use keeper::{Keeper, Kept};
-pub use limits::{HOLDS_LEAST, Judged, LIVES_LEAST, LONGEST_QUIET, judge, write_refusal, write_warning};
+pub use limits::{
+    HOLDS_LEAST, Judged, LIVES_LEAST, LONGEST_QUIET, judge, write_refusal, write_warning,
+};
 pub use logger::Logger;
 pub use place::{FilePlace, MemoryPlace, Place};
 pub use staying::{Shown, Watcher, watch_on};

@@ -59,5 +59,8 @@ pub fn write_warning(config: Config, out: &mut String) -> Result<(), AllocError>
     ensures { OnOk result (string_bytes out.new ≡ string_bytes out.old ++ warning_text config) }
 {
     let longest = config.longest();
-    write!(out, "longest lease {longest} s: after each start the server is silent for as long")
+    write!(
+        out,
+        "longest lease {longest} s: after each start the server is silent for as long"
+    )
 }

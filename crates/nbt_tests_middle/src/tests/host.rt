@@ -265,14 +265,7 @@ const ANSWERED: Turns = Turns {
     sent: &[ASK, ANSWER, ANSWER, REFRESH_2],
 };
 
-const ROWS: [Turns; 6] = [
-    REFUSED,
-    LAPSED,
-    TOO_LATE,
-    JUST_IN_TIME,
-    RENEWED,
-    ANSWERED,
-];
+const ROWS: [Turns; 6] = [REFUSED, LAPSED, TOO_LATE, JUST_IN_TIME, RENEWED, ANSWERED];
 
 #[test]
 fn what_a_host_tells_and_sends(rt: HostRuntime) -> Result<(), Fail> {
@@ -291,12 +284,7 @@ fn replies<R: Abort + AllocGlobal>(
     let mut incoming = VecDeque::new(rt.alloc());
     for datagram in sent {
         let mut out = ArrayVec::new();
-        server.on_datagram(
-            moment(60_000)?,
-            HOST,
-            datagram.octets.as_slice(),
-            &mut out,
-        )?;
+        server.on_datagram(moment(60_000)?, HOST, datagram.octets.as_slice(), &mut out)?;
         let reply = Datagram {
             addr: SERVER,
             octets: Vec::from_slice(rt.alloc(), out.as_slice())?,

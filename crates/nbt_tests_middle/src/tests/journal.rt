@@ -42,7 +42,11 @@ fn times_of_day(rt: HostRuntime) -> Result<(), Fail> {
     for (second, expected) in TIMES {
         let mut text = String::from_str(rt.alloc(), "> ")?;
         write_time(second, &mut text)?;
-        assert_eq!(&rt; text.as_str().strip_prefix("> "), Some(expected), "{second}");
+        assert_eq!(&rt;
+            text.as_str().strip_prefix("> "),
+            Some(expected),
+            "{second}"
+        );
     }
     Ok(())
 }
@@ -175,7 +179,12 @@ const UNANSWERED: [(&str, u64, &str); 9] = [
 fn a_line_for_what_had_no_reply(rt: HostRuntime) -> Result<(), Fail> {
     for (words, left_out, expected) in UNANSWERED {
         let given = octets(&rt, words)?;
-        expect_line(&rt, &told_of_silence(FROM, given.as_slice()), left_out, expected)?;
+        expect_line(
+            &rt,
+            &told_of_silence(FROM, given.as_slice()),
+            left_out,
+            expected,
+        )?;
     }
     Ok(())
 }
@@ -197,7 +206,11 @@ fn whose_name_a_request_is_about(rt: HostRuntime) -> Result<(), Fail> {
             Some((name, addr)) => Some((named(name)?, addr)),
             None => None,
         };
-        assert_eq!(&rt; claimed_in(octets(&rt, words)?.as_slice()), claim, "{words}");
+        assert_eq!(&rt;
+            claimed_in(octets(&rt, words)?.as_slice()),
+            claim,
+            "{words}"
+        );
     }
     Ok(())
 }
@@ -259,7 +272,10 @@ fn the_list_of_live_leases(rt: HostRuntime) -> Result<(), Fail> {
     // Over: it ends now.
     rows.push((named("TEAM")?, lease(0xC0000208, Kind::Group, 11_000)))?;
     rows.push((named("NODEB.LAB.TEST")?, lease(0, Kind::Unique, 310_000)))?;
-    rows.push((named("hex:46494c45522020202020202020202000")?, lease(0x01020304, Kind::Unique, 11_001)))?;
+    rows.push((
+        named("hex:46494c45522020202020202020202000")?,
+        lease(0x01020304, Kind::Unique, 11_001),
+    ))?;
     let mut text = String::from_str(rt.alloc(), "> ")?;
     write_leases(&dates()?, moment(11_000)?, rows.as_slice(), &mut text)?;
     assert_eq!(&rt;

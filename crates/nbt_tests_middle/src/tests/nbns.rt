@@ -95,7 +95,11 @@ fn staged<R: AllocGlobal>(rt: &R, turns: &[Turn], logs: bool, lists: bool) -> Re
                 time: moment(DAY)?,
             },
             day: clock(rt, times_of(rt, turns)?.as_slice())?,
-            log: if logs { Some(Logger::new(rt.alloc())) } else { None },
+            log: if logs {
+                Some(Logger::new(rt.alloc()))
+            } else {
+                None
+            },
             leases: if lists { Some(keeper) } else { None },
         },
     })
@@ -140,7 +144,12 @@ fn expect_lists<R: Abort>(
 fn play<R: Abort + AllocGlobal + time::Clock>(rt: &R, row: &Watched) -> Result<(), Fail> {
     let mut stage = staged(rt, row.turns, row.logs, !row.lists.is_empty())?;
     let (printed, errors) = go_on(rt, &mut stage, row.until)?;
-    assert_eq!(rt; printed.as_slice(), row.printed.as_bytes(), "{}", row.printed);
+    assert_eq!(rt;
+        printed.as_slice(),
+        row.printed.as_bytes(),
+        "{}",
+        row.printed
+    );
     assert!(rt; errors.is_empty());
     if !row.lists.is_empty() {
         expect_lists(rt, &stage.journal, row.lists)?;
@@ -312,8 +321,14 @@ fn a_port_that_fails_is_said_and_passed_over(rt: HostRuntime) -> Result<(), Fail
     let mut stage = staged(&rt, EACH, true, true)?;
     stage.port.fail_after(0);
     let (printed, errors) = go_on(&rt, &mut stage, 60_000)?;
-    assert_eq!(&rt; printed.as_slice(), b"2026-11-24T09:12:03Z granted FRED#20 127.0.0.2 unique 60 s\n".as_slice());
-    assert_eq!(&rt; errors.as_slice(), b"nbt: the port failed; going on\nnbt: the port is well again after 1 failures in a row\n".as_slice());
+    assert_eq!(&rt;
+        printed.as_slice(),
+        b"2026-11-24T09:12:03Z granted FRED#20 127.0.0.2 unique 60 s\n".as_slice()
+    );
+    assert_eq!(&rt;
+        errors.as_slice(),
+        b"nbt: the port failed; going on\nnbt: the port is well again after 1 failures in a row\n".as_slice()
+    );
     expect_sent(&rt, &stage.port, &[(FIRST, GRANTED)])
 }
 
@@ -326,13 +341,18 @@ const FULL: &[Turn] = &[
 ];
 
 #[test]
-fn a_list_that_can_not_be_written_is_said_once_and_tried_again(rt: HostRuntime) -> Result<(), Fail> {
+fn a_list_that_can_not_be_written_is_said_once_and_tried_again(
+    rt: HostRuntime,
+) -> Result<(), Fail> {
     let mut stage = staged(&rt, FULL, false, false)?;
     let mut place = MemoryPlace::new(rt.alloc());
     place.refuse(2);
     stage.journal.leases = Some(Keeper::new(rt.alloc(), place));
     let (_, errors) = go_on(&rt, &mut stage, 61_500)?;
-    assert_eq!(&rt; errors.as_slice(), b"nbt: the list of leases can't be written: the place is full\n".as_slice());
+    assert_eq!(&rt;
+        errors.as_slice(),
+        b"nbt: the list of leases can't be written: the place is full\n".as_slice()
+    );
     expect_lists(&rt, &stage.journal, &[])?;
     let (_, errors) = go_on(&rt, &mut stage, 62_000)?;
     assert!(&rt; errors.is_empty());
@@ -360,7 +380,10 @@ fn a_log_that_can_not_be_written_is_said_once_a_row(rt: HostRuntime) -> Result<(
         &mut short,
         &mut errors,
     )?;
-    assert_eq!(&rt; errors.as_slice(), b"nbt: the log can't be written: failed to write whole buffer\n".as_slice());
+    assert_eq!(&rt;
+        errors.as_slice(),
+        b"nbt: the log can't be written: failed to write whole buffer\n".as_slice()
+    );
     expect_sent(&rt, &stage.port, ALL_SENT)
 }
 
@@ -400,7 +423,11 @@ fn a_file_has_one_list_or_the_other(rt: HostRuntime) -> Result<(), Fail> {
     assert!(&rt; fs::open(&rt, beside.as_str()).is_err());
     fs::remove_file(&rt, path.as_str())?;
     let nowhere = format!(in rt.alloc(); "{path}/nowhere")?;
-    assert!(&rt; FilePlace::new(&rt, rt.alloc(), nowhere.as_str())?.replace("one\n").is_err());
+    assert!(&rt;
+        FilePlace::new(&rt, rt.alloc(), nowhere.as_str())?
+            .replace("one\n")
+            .is_err()
+    );
     Ok(())
 }
 
@@ -421,7 +448,10 @@ fn arguments(port: u16, strict: bool) -> Result<NbnsArguments, Fail> {
 
 /// The first line has a time of day, which no test can foresee.
 fn expect_begin<R: Abort>(rt: &R, printed: &[u8], before: &[u8]) -> Result<(), Fail> {
-    assert_eq!(rt; printed.strip_prefix(before).ok_or("another line")?.len(), 21);
+    assert_eq!(rt;
+        printed.strip_prefix(before).ok_or("another line")?.len(),
+        21
+    );
     Ok(())
 }
 
@@ -450,7 +480,13 @@ fn a_server_over_this_machine(rt: HostRuntime) -> Result<(), Fail> {
 fn a_server_tells_the_port_that_it_got(rt: HostRuntime) -> Result<(), Fail> {
     let mut printed = Vec::new(rt.alloc());
     let mut errors = Vec::new(rt.alloc());
-    run_nbns(&rt, rt.alloc(), &arguments(0, false)?, &mut printed, &mut errors)?;
+    run_nbns(
+        &rt,
+        rt.alloc(),
+        &arguments(0, false)?,
+        &mut printed,
+        &mut errors,
+    )?;
     assert!(&rt; printed.as_slice().starts_with(b"serving 127.42.23.3:"));
     assert!(&rt; !printed.as_slice().starts_with(b"serving 127.42.23.3:0,"));
     Ok(())
@@ -490,7 +526,11 @@ const JUDGED: [(u64, u32, Judged); 9] = [
 #[test]
 fn longest_leases_that_are_too_short_or_long(rt: HostRuntime) -> Result<(), Fail> {
     for (life, longest, expected) in JUDGED {
-        assert_eq!(&rt; judge(Config::new(life, longest, 1)?), expected, "{life} {longest}");
+        assert_eq!(&rt;
+            judge(Config::new(life, longest, 1)?),
+            expected,
+            "{life} {longest}"
+        );
     }
     Ok(())
 }
