@@ -15,8 +15,8 @@ use crate::keeper::Keeper;
 use crate::logger::Logger;
 use crate::place::FilePlace;
 use crate::staying::{Watcher, watch_on};
-use nbt_ask::SteadyClock;
-use nbt_engine::{Cause, Clock, Fault, MachineCall, Port, UdpPort, bound_port};
+use nbt_ask::steady_clock;
+use nbt_engine::{Clock, Fault, Port, UdpPort, bound_port};
 use nbt_journal::Dates;
 use nbt_lease::{Config, Moment};
 use nbt_name::Addr;
@@ -107,24 +107,6 @@ pub fn run_nbns<M: Net + time::Clock + Files, W: Write, E: Write>(
             writer,
             errors,
         )
-    }
-}
-
-/// The clock that nobody sets, where it can be read. Else it says why in `errors`.
-fn steady_clock<'a, M: time::Clock, E: Write>(
-    machine: &'a M,
-    addr: Addr,
-    errors: &mut E,
-) -> Result<SteadyClock<'a, M>, Fault>
-    ensures ok { IfOk result (λ clock. clock ≡ 0) }
-    ensures err { IfErr result (λ fault. fault ≡ Fault.NoClock) }
-{
-    match SteadyClock::begin(machine) {
-        Ok(clock) => Ok(clock),
-        Err(error) => {
-            Cause::new(MachineCall::Clock, addr, error).tell("", errors);
-            Err(Fault::NoClock)
-        }
     }
 }
 
