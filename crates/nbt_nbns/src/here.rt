@@ -3,9 +3,10 @@
 ghost use Rattle.std.specs.Prelude.{◌≡◌, ◌+◌, ◌≤◌, ◌^◌, ◌⊎◌, ℕ, List, Err, OnOk, IfOk, IfErr, OnErr};
 ghost use Rattle.std.specs.Io.KnownBytes.{Appends};
 ghost use Rattle.nbt_lease.specs.Config.{milliseconds};
+ghost use Rattle.nbt_engine.specs.Udp.{UdpValue};
 ghost use Rattle.nbt_journal.specs.Dates.{second_at};
 ghost use Rattle.nbt_nbns.specs.Begin.{IsBegin};
-ghost use Rattle.nbt_nbns.specs.Here.{until_of, log_of, leases_of, RunsNbns, NbnsFails};
+ghost use Rattle.nbt_nbns.specs.Here.{PortDoes, until_of, log_of, leases_of, RunsNbns, NbnsFails};
 ghost use Rattle.nbt_nbns.specs.Watching.{WatchesUntil, WatchFails};
 
 use crate::begin::write_begin;
@@ -83,31 +84,17 @@ pub fn run_nbns<M: Net + time::Clock + Files, W: Write, E: Write>(
     tell_begin(alloc, local, &dates, arguments.config, writer, errors)?;
     let mut server = Server::start(alloc, arguments.config, start);
     let until = until_of(start, arguments.time);
-    if arguments.strict {
-        let mut port = port;
-        watch_to_its_end(
-            &mut port,
-            &mut clock,
-            &mut server,
-            &mut journal,
-            until,
-            machine,
-            writer,
-            errors,
-        )
-    } else {
-        let mut port = SambaPort::new(port);
-        watch_to_its_end(
-            &mut port,
-            &mut clock,
-            &mut server,
-            &mut journal,
-            until,
-            machine,
-            writer,
-            errors,
-        )
-    }
+    watch_over(
+        port,
+        arguments.strict,
+        &mut clock,
+        &mut server,
+        &mut journal,
+        until,
+        machine,
+        writer,
+        errors,
+    )
 }
 
 /// The address that a port really has, where the machine tells it; else the one that was asked for.
@@ -182,6 +169,41 @@ fn until_of(start: Moment, time: Option<u64>) -> Option<Moment>
     Moment::new(start.get().saturating_add(time?))
 }
 
+/// Watches a server until it ends, over this port as it is where that is `strict`, else over one on which Samba's registrations
+/// come as registrations.
+fn watch_over<C: Clock, V: Watcher, M: time::Clock, W: Write, E: Write>(
+    port: UdpPort,
+    strict: bool,
+    clock: &mut C,
+    server: &mut Server,
+    watcher: &mut V,
+    until: Option<Moment>,
+    machine: &M,
+    writer: &mut W,
+    errors: &mut E,
+) -> Result<(), Fault>
+    requires failure_count { port.failures ≤ 2 ^ 61 }
+    ensures ok { OnOk result ((last : UdpValue) × WatchesUntil (PortDoes strict) C.tells V.sees until
+        (record { port = port; clock = clock.old; server = server.old; watcher = watcher.old; text = W.contents writer.old })
+        (record { port = last; clock = clock.new; server = server.new; watcher = watcher.new; text = W.contents writer.new })) }
+    ensures err { OnErr result ((last : UdpValue) × WatchFails (PortDoes strict) C.tells V.sees until
+        (record { port = port; clock = clock.old; server = server.old; watcher = watcher.old; text = W.contents writer.old })
+        (record { port = last; clock = clock.new; server = server.new; watcher = watcher.new; text = W.contents writer.new })) }
+    ensures fault { IfErr result (λ fault. fault ≡ Fault.Device) }
+{
+    if strict {
+        let mut port = port;
+        watch_to_its_end(
+            &mut port, clock, server, watcher, until, machine, writer, errors,
+        )
+    } else {
+        let mut port = SambaPort::new(port);
+        watch_to_its_end(
+            &mut port, clock, server, watcher, until, machine, writer, errors,
+        )
+    }
+}
+
 /// Watches a server until it ends, as [`watch_on`] does. Where the port failed for good, it says why in `errors`.
 fn watch_to_its_end<P: Port, C: Clock, V: Watcher, M: time::Clock, W: Write, E: Write>(
     port: &mut P,
@@ -200,6 +222,7 @@ fn watch_to_its_end<P: Port, C: Clock, V: Watcher, M: time::Clock, W: Write, E: 
     ensures err { OnErr result (WatchFails P.does C.tells V.sees until
         (record { port = port.old; clock = clock.old; server = server.old; watcher = watcher.old; text = W.contents writer.old })
         (record { port = port.new; clock = clock.new; server = server.new; watcher = watcher.new; text = W.contents writer.new })) }
+    ensures fault { IfErr result (λ fault. fault ≡ Fault.Device) }
 {
     let watched = watch_on(port, clock, server, watcher, until, machine, writer, errors);
     let ended = match watched {
