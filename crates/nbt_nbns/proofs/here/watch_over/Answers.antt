@@ -1,0 +1,18 @@
+use Rattle.std.proofs.Common.{◌≡◌, Bool, refl, sym, subst}
+use Rattle.nbt_engine.specs.Udp.{UdpValue, UdpDoes}
+use Rattle.nbt_samba.specs.Handing.{HandsOn}
+use Rattle.nbt_net.proofs.Printing.{on_ok}
+use Rattle.nbt_nbns.specs.Here.{PortDoes}
+use Rattle.nbt_nbns.specs.Watching.{WatchesUntil, WatchFails}
+use Rattle.nbt_nbns.proofs.here.watch_over.Goals as goal
+
+pub returns-then-strict-clause-ok : goal.returns-then-strict-clause-ok
+returns-then-strict-clause-ok g c =
+    let w = c.watch_to_its_end in
+    let a = c.args in
+    on_ok w.result w.result refl w.ensures.ok (λ watched. (
+      w.new.port,
+      subst (λ (b : Bool). WatchesUntil (PortDoes b) g.C.Clock.tells g.V.Watcher.sees a.until
+          (record { port = a.port; clock = a.clock.now; server = a.server.now; watcher = a.watcher.now; text = g.W.Write.contents a.writer.now })
+          (record { port = w.new.port; clock = w.new.clock; server = w.new.server; watcher = w.new.watcher; text = g.W.Write.contents w.new.writer })) (sym c.if-strict.true) watched,
+    ))
