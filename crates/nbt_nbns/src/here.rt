@@ -198,7 +198,7 @@ fn watch_to_its_end<P: Port, C: Clock, V: Watcher, M: time::Clock, W: Write, E: 
     writer: &mut W,
     errors: &mut E,
 ) -> Result<(), Fault>
-    requires few { P.failures port.old ≤ 2 ^ 61 }
+    requires failure_count { P.failures port.old ≤ 2 ^ 61 }
     ensures ok { OnOk result (WatchesUntil P.does C.tells V.sees until
         (record { port = port.old; clock = clock.old; server = server.old; watcher = watcher.old; text = W.contents writer.old })
         (record { port = port.new; clock = clock.new; server = server.new; watcher = watcher.new; text = W.contents writer.new })) }
