@@ -1,0 +1,6 @@
+-- What several proofs share; the proof of a function is in the folder of its module and its name.
+
+-- the lines of names, one after the other
+mod Lines
+-- one turn, by what its calls returned
+mod OneTurn
