@@ -4,3 +4,5 @@
 mod Lines
 -- one turn, by what its calls returned
 mod OneTurn
+-- a turn of which nothing is printed
+mod Quiet

@@ -1,6 +1,7 @@
 -- What a host prints of a turn (our profile).
-use Rattle.std.specs.Prelude.{◌≡◌, ℕ, Bool, true, false, nat_eq, List, [], ◌∷◌, ◌++◌, Option, Some, None, codes}
+use Rattle.std.specs.Prelude.{◌≡◌, ℕ, Bool, true, false, nat_eq, is_some, ◌||◌, List, [], ◌∷◌, ◌++◌, Option, Some, None, codes}
 use Rattle.std.specs.Bool.{then_some}
+use Rattle.std.specs.List.{list_any}
 use Rattle.nbt_name.specs.Wire.{NameValue}
 use Rattle.nbt_text.specs.Lines.{newline}
 use Rattle.nbt_host.specs.declared.goal.Goal.{Goal}
@@ -61,3 +62,10 @@ pub record TellsTurn (second : ℕ) (log slept : Bool) (goals : List Goal) (text
   pub sleep_is : IsSleepLine second slept sleep
   pub names_are : TellsAll (TellsGoal second log) goals names
   pub text_is : text ≡ sleep ++ names
+
+-- something is printed of a name, and of a turn
+abbrev pub is_told : (log : Bool) → Goal → Bool
+is_told log goal = goal.lapsed || is_some (news_of log goal.news)
+
+abbrev pub has_lines : (log slept : Bool) → List Goal → Bool
+has_lines log slept goals = slept || list_any (is_told log) goals

@@ -1,5 +1,5 @@
 -- One turn of a host, and what is printed of it (our profile).
-use Rattle.std.specs.Prelude.{◌≡◌, ◌⊎◌, ◌↔◌, IsTrue, ℕ, Bool, List, Option}
+use Rattle.std.specs.Prelude.{◌≡◌, ◌⊎◌, ◌↔◌, IsTrue, ℕ, Bool, true, List, Option}
 use Rattle.std.specs.Io.KnownBytes.{Appends}
 use Rattle.nbt_node.specs.Node.{slots_most}
 use Rattle.nbt_engine.specs.PortCalls.{PortCall}
@@ -9,7 +9,7 @@ use Rattle.nbt_host.specs.Waking.{WakingTurn, WakingBreaks}
 use Rattle.nbt_host.specs.declared.goal.Goal.{Goal}
 use Rattle.nbt_host.specs.declared.sleeping.Reading.{Reading}
 use Rattle.nbt_hosting.specs.Host.{HostingValue, Running, dates_of}
-use Rattle.nbt_hosting.specs.Telling.{TellsTurn}
+use Rattle.nbt_hosting.specs.Telling.{TellsTurn, has_lines}
 use Rattle.nbt_hosting.specs.declared.arguments.HostArguments.{HostArguments}
 use Rattle.nbt_hosting.specs.declared.host.Shown.{Shown}
 
@@ -44,7 +44,7 @@ abbrev pub TurnsBadly : {P C D : Type 0} → (P → PortCall → P → Type 0) �
 TurnsBadly does tells tells_day a old new = (shown : Shown) × BreaksTurn does tells tells_day a old.port old.host shown new.port new.host
     × PrintsTurn a.log shown new.host.last new.host.host.goals old.text new.text
 
--- They can't be printed. What stands in the text then isn't said.
+-- There are some, and they can't be printed. What stands in the text then isn't said.
 abbrev pub TurnIsCut : {P C D : Type 0} → (P → PortCall → P → Type 0) → (C → ℕ → C → Type 0) → (D → ℕ → D → Type 0) → HostArguments → Running P C D → Running P C D → Type 0
-TurnIsCut does tells tells_day a old new = (shown : Shown)
+TurnIsCut does tells tells_day a old new = (shown : Shown) × (has_lines a.log shown.slept new.host.host.goals ≡ true)
     × (TakesTurn does tells tells_day a old.port old.host shown new.port new.host ⊎ BreaksTurn does tells tells_day a old.port old.host shown new.port new.host)

@@ -1,6 +1,6 @@
 //! A host that holds names, turn by turn, and what it prints.
 
-ghost use Rattle.std.specs.Prelude.{◌≡◌, ◌+◌, ◌<◌, ◌≤◌, ◌^◌, ◌↔◌, ℕ, List, map, length, IsTrue, OnOk, IfOk, IfErr, MatchResult};
+ghost use Rattle.std.specs.Prelude.{◌≡◌, ◌+◌, ◌<◌, ◌≤◌, ◌^◌, ◌↔◌, ℕ, List, map, length, true, IsTrue, OnOk, IfOk, IfErr, MatchResult};
 ghost use Rattle.std.specs.List.{list_all};
 ghost use Rattle.std.specs.Io.KnownBytes.{Appends};
 ghost use Rattle.nbt_node.specs.Node.{NodeValue, slots_most};
@@ -11,6 +11,7 @@ ghost use Rattle.nbt_host.specs.Sleeping.{HasSlept};
 ghost use Rattle.nbt_host.specs.Waking.{WakingTurn, WakingBreaks};
 ghost use Rattle.nbt_hosting.specs.Begin.{begin_text};
 ghost use Rattle.nbt_hosting.specs.Host.{dates_of, Starts, CantPrint};
+ghost use Rattle.nbt_hosting.specs.Telling.{has_lines};
 ghost use Rattle.nbt_hosting.specs.Turning.{Shows, PrintsTurn, TurnsWell, TurnsBadly, TurnIsCut};
 ghost use Rattle.nbt_hosting.specs.Staying.{HostsUntil, HostingFails};
 ghost use Rattle.nbt_hosting.specs.Ending.{PrintsEnding, GivesBack, GivingBackFails};
@@ -19,7 +20,7 @@ ghost use Rattle.nbt_hosting.specs.Running.{RunsHost, RunFails};
 use crate::arguments::HostArguments;
 use crate::begin::write_begin;
 use crate::ending::write_endings;
-use crate::telling::write_turn;
+use crate::telling::{has_lines, write_turn};
 use crate::until::is_over;
 use nbt_engine::{Clock, Device, Fault, Port, Want};
 use nbt_host::{Clocks, Goal, Reading, give_back, waking_turn};
@@ -63,7 +64,7 @@ impl<C, D> Model for Host<C, D> {
 
 impl<C, D> Host<C, D> {
     /// The moment at which it started, or that its steady clock told last in a turn.
-    pub fn last(&self) -> Reading
+    pub(crate) fn last(&self) -> Reading
         ensures { result ≡ self.now.last }
     {
         self.last
@@ -82,7 +83,12 @@ impl<C, D> Host<C, D> {
 
     /// Prints which host asks which server for how many names, at once. Refused: `Memory` where memory is refused, and `Output` where
     /// the line can't be written.
-    pub fn tell_begin<W: Write>(&self, at: Addr, server: Addr, writer: &mut W) -> Result<(), Fault>
+    pub(crate) fn tell_begin<W: Write>(
+        &self,
+        at: Addr,
+        server: Addr,
+        writer: &mut W,
+    ) -> Result<(), Fault>
         ensures ok { OnOk result (Appends (W.contents writer.old) (W.contents writer.new) (begin_text at server (length self.now.host.goals))) }
         ensures err { IfErr result (λ fault. CantPrint fault) }
     {
@@ -91,14 +97,18 @@ impl<C, D> Host<C, D> {
         print(text.as_str(), writer).map_err(|_| Fault::Output)
     }
 
-    /// Prints what a turn showed, if anything, at once.
-    fn tell_turn<W: Write>(&self, log: bool, shown: Shown, writer: &mut W) -> Result<(), Fault>
-        ensures ok { OnOk result (PrintsTurn log shown self.now.last self.now.host.goals (W.contents writer.old) (W.contents writer.new)) }
-        ensures err { IfErr result (λ fault. CantPrint fault) }
+    /// Prints what a turn showed, if anything, at once. Where there is nothing it isn't refused.
+    fn tell_turn<W: Write>(&self, log: bool, shown: &Shown, writer: &mut W) -> Result<(), Fault>
+        ensures ok { OnOk result (PrintsTurn log shown.now self.now.last self.now.host.goals (W.contents writer.old) (W.contents writer.new)) }
+        ensures err { IfErr result (λ fault. CantPrint fault × (has_lines log shown.now.slept self.now.host.goals ≡ true)) }
     {
+        let goals = self.goals.as_slice();
+        if !has_lines(log, shown.slept, goals) {
+            return Ok(());
+        }
         let second = self.second_at(shown.at);
         let mut text = String::new(self.alloc);
-        write_turn(second, log, shown.slept, self.goals.as_slice(), &mut text)?;
+        write_turn(second, log, shown.slept, goals, &mut text)?;
         print(text.as_str(), writer).map_err(|_| Fault::Output)
     }
 
@@ -201,7 +211,7 @@ impl<C: Clock, D: Clock> Host<C, D> {
         let earlier = self.last;
         let turned = self.turn(port, arguments);
         let shown = self.shown_since(earlier);
-        self.tell_turn(arguments.log, shown, writer)?;
+        self.tell_turn(arguments.log, &shown, writer)?;
         match turned {
             Ok(_) => Ok(Ok(shown)),
             Err(failure) => Ok(Err(failure)),
@@ -232,7 +242,8 @@ impl<C: Clock, D: Clock> Host<C, D> {
         let until = &until;
         let mut row = Row::new();
         for _ in 0..FOREVER {
-            match self.go(port, arguments, writer)? {
+            let turned = self.go(port, arguments, writer)?;
+            match turned {
                 Ok(shown) => {
                     row.ends(errors);
                     if is_over(until, shown.at) {
@@ -338,13 +349,10 @@ fn is_held<const N: usize>(node: &Node<N>, now: Moment, goal: &Goal) -> bool
     node.holds(now, &goal.want.name).is_some()
 }
 
-/// Writes a text, if it has any octet, at once.
+/// Writes a text, at once.
 fn print<W: Write>(text: &str, writer: &mut W) -> io::Result<()>
     ensures { OnOk result (Appends (W.contents writer.old) (W.contents writer.new) text.now) }
 {
-    if text.is_empty() {
-        return Ok(());
-    }
     writer.write_all(text.as_bytes())?;
     writer.flush()
 }

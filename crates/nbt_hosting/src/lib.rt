@@ -24,4 +24,4 @@ pub use ending::write_endings;
 pub use event::{Event, write_event};
 pub use here::{host_over, run_host};
 pub use host::{Host, Shown};
-pub use telling::write_turn;
+pub use telling::{has_lines, write_turn};

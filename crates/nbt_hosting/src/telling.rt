@@ -1,8 +1,9 @@
 //! What a host prints of a turn.
 
 ghost use Rattle.std.specs.Prelude.{◌≡◌, ◌++◌, ℕ, List, OnOk};
+ghost use Rattle.std.specs.List.{list_any};
 ghost use Rattle.std.specs.String.{string_bytes};
-ghost use Rattle.nbt_hosting.specs.Telling.{lapse_of, news_of, again_of, IsLineIf, IsSleepLine, TellsGoal, TellsAll, TellsTurn};
+ghost use Rattle.nbt_hosting.specs.Telling.{lapse_of, news_of, again_of, IsLineIf, IsSleepLine, is_told, has_lines, TellsGoal, TellsAll, TellsTurn};
 
 use crate::event::{Event, write_event};
 use nbt_host::{Goal, News, Refusal};
@@ -72,6 +73,32 @@ fn write_if(
         Some(event) => write_event(second, event, name, out),
         None => Ok(()),
     }
+}
+
+/// Whether something is printed of a turn.
+pub fn has_lines(log: bool, slept: bool, goals: &[Goal]) -> bool
+    ensures { result ≡ has_lines log slept goals.now }
+{
+    slept || is_any_told(log, goals)
+}
+
+/// Whether something is printed of a name.
+fn is_any_told(log: bool, goals: &[Goal]) -> bool
+    ensures { result ≡ list_any (is_told log) goals.now }
+{
+    for goal in goals {
+        if is_told(log, goal) {
+            return true;
+        }
+    }
+    false
+}
+
+/// Whether something is printed of this name.
+fn is_told(log: bool, goal: &Goal) -> bool
+    ensures { result ≡ is_told log goal.now }
+{
+    goal.lapsed || news_of(log, goal.news).is_some()
 }
 
 /// What is told of a hold that was over by time, if it was.
