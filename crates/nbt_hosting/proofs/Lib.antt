@@ -6,3 +6,5 @@ mod Lines
 mod OneTurn
 -- a turn of which nothing is printed
 mod Quiet
+-- a host begins, and what follows from how its calls came out
+mod Beginning
