@@ -8,6 +8,7 @@ use std::test::Fail;
 mod engine;
 mod explain;
 mod host;
+mod hosting;
 mod journal;
 mod lines;
 mod lookups;
