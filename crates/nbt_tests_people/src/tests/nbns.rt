@@ -1,10 +1,6 @@
 //! A name server that is watched, over a port in memory: the life of a datagram is 1,000 ms, the longest lease 60 s, and it started
 //! at 0. At its moment 60,000 it was 2026-11-24T09:12:03Z.
 
-use super::memory::{Row, clock, expect_sent, port};
-use super::{
-    GRANTED, QUERY, REFRESH, REFUSED, REGISTRATION, RELEASE, RIVAL, config, moment, started,
-};
 use nbt_engine::{Fault, MemoryClock, MemoryPort, Port, UdpPort};
 use nbt_journal::Dates;
 use nbt_lease::Config;
@@ -12,6 +8,10 @@ use nbt_name::Addr;
 use nbt_nbns::{
     FilePlace, Journal, Judged, Keeper, Logger, MemoryPlace, NbnsArguments, Place, judge, run_nbns,
     watch_on, write_begin, write_refusal, write_warning,
+};
+use nbt_rows::{
+    GRANTED, QUERY, REFRESH, REFUSED, REGISTRATION, RELEASE, RIVAL, Row, clock, config,
+    expect_sent, moment, port, started,
 };
 use nbt_server::Server;
 use std::io::Write;
