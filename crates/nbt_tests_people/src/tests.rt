@@ -2,10 +2,8 @@
 
 mod explain;
 mod host;
-mod hosting;
 mod journal;
 mod lookups;
-mod nbns;
 mod replies;
 mod samba;
 mod spelling;
