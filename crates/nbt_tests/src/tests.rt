@@ -14,6 +14,7 @@ mod lengths;
 mod looping;
 mod machine;
 mod messages;
+mod nbns;
 mod network;
 mod people;
 mod release;

@@ -6,7 +6,7 @@ use Rattle.nbt_prog.specs.Inner.Failure.{out_of_memory, TellsWord}
 use Rattle.nbt_prog.specs.Inner.People.{SpellsAsked, SoughtFails}
 use Rattle.nbt_prog.specs.declared.failure.Failure.{Failure}
 use Rattle.nbt_prog.specs.declared.failure.WordFault.TheVariants as w
-use Rattle.nbt_prog.proofs.arguments.people.name_to_find.Goals as goal
+use Rattle.nbt_people.proofs.reading.name_to_ask.Goals as goal
 
 -- a name that begins with `*` is told, unless memory is short
 bad_star : (words : AskWords) (name : NameValue) (failure : Failure) → SpellsAsked words name → IsStar name

@@ -1,7 +1,7 @@
 use Rattle.std.proofs.Common.{◌≤◌, refl}
 use Rattle.nbt_spelling.specs.Others.{SpellsTime}
-use Rattle.nbt_prog.proofs.Reading.{both, some, none}
-use Rattle.nbt_prog.proofs.arguments.people.parse_wait.Goals as goal
+use Rattle.nbt_people.proofs.Reading.{both, some, none}
+use Rattle.nbt_people.proofs.timing.parse_wait.Goals as goal
 
 pub returns-in-Some-clause-read : goal.returns-in-Some-clause-read
 returns-in-Some-clause-read c = both (SpellsTime c.args.text.now) (λ n. (1 ≤ n) × (n ≤ 5000)) c.in-Some.time c.wait_within.result

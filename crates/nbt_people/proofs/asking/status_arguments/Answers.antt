@@ -1,6 +1,6 @@
 use Rattle.std.proofs.Common.{inl, inr}
 use Rattle.std.proofs.lemmas.Result.{err_from_is_err_and}
-use Rattle.nbt_prog.proofs.arguments.people.status_arguments.Goals as goal
+use Rattle.nbt_people.proofs.asking.status_arguments.Goals as goal
 
 pub returns-in_err-bind-clause-failure : goal.returns-in_err-bind-clause-failure
 returns-in_err-bind-clause-failure c =
