@@ -13,8 +13,8 @@ use std::io;
 use std::io::Write;
 use std::net::{IpAddr, Ipv4Addr, Net, SocketAddr, TcpListener, TcpStream, UdpSocket};
 use std::process::Abort;
-use std::rt::Files;
 use std::rc::Rc;
+use std::rt::Files;
 use std::test::Fail;
 use std::time::{Clock, Duration};
 
@@ -305,13 +305,7 @@ impl Write for Watcher {
 /// are made with as many connections.
 fn expect_all_told<
     R: Abort + AllocGlobal + Net<Stream = TcpStream, Listener = TcpListener> + Files,
->(
-    rt: &R,
-    caller: Luck,
-    listener: Luck,
-    teller: u16,
-    connections: usize,
-) -> Result<(), Fail> {
+>(rt: &R, caller: Luck, listener: Luck, teller: u16, connections: usize) -> Result<(), Fail> {
     let street = street_of(rt, caller, listener, teller)?;
     let mut told = Watcher::of(&street)?;
     let words = ["nbt", "loop", "21137"];

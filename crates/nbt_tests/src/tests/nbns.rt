@@ -2,13 +2,14 @@
 
 use super::LimitedWriter;
 use super::people::expect_said;
-use super::serving::{Row, expect_row, machine_of};
+use super::serving::{NO_CLOCK, NO_TIME, Row, expect_row, machine_of};
 use super::terminal::{play, words_of};
 use nbt_prog::command_telling;
-use std::net::{Net, TcpListener, TcpStream, UdpSocket};
+use std::net::{Net, UdpSocket};
 use std::process::Abort;
 use std::rt::Files;
 use std::test::Fail;
+use std::time::Clock;
 use std::{env, fs, io, process};
 
 const WORDS: &str = "\
@@ -23,9 +24,8 @@ error: unexpected argument '192.0.2.1' found...
 
 # Help.
 $ nbt nbns --help
-Runs a name server
-
-...";
+Runs a name server...
+";
 
 #[test]
 fn words_of_a_name_server(rt: HostRuntime) {
@@ -104,92 +104,175 @@ const ASKS_FOR_ANOTHER: &str =
     "0005_2900_0001_0000_0000_0001_{FRED}_0020_0001_c00c_0020_0001_00000000_0006_6000_7f2a1604";
 
 /// The replies to them where the longest lease is a minute.
-const GRANTED: &str = "0001_ad80_0000_0001_0000_0000_{FRED}_0020_0001_0000003c_0006_6000_7f2a1603";
+const GRANTED: &str = "0001_ad80_0000_0001_0000_0000_{FRED}_0020_0001_0000003c_0006_2000_7f2a1603";
 
-const RENEWED: &str = "0002_ad80_0000_0001_0000_0000_{FRED}_0020_0001_0000003c_0006_6000_7f2a1603";
+const RENEWED: &str = "0002_ad80_0000_0001_0000_0000_{FRED}_0020_0001_0000003c_0006_2000_7f2a1603";
 
-const RELEASED: &str = "0003_b400_0000_0001_0000_0000_{FRED}_0020_0001_00000000_0006_6000_7f2a1603";
+const RELEASED: &str = "0003_b400_0000_0001_0000_0000_{FRED}_0020_0001_00000000_0006_2000_7f2a1603";
 
-const FOUND: &str = "0004_8580_0000_0001_0000_0000_{FRED}_0020_0001_0000003c_0006_6000_7f2a1603";
+const FOUND: &str = "0004_8580_0000_0001_0000_0000_{FRED}_0020_0001_0000003c_0006_2000_7f2a1603";
 
-const REFUSED: &str = "0005_ad85_0000_0001_0000_0000_{FRED}_0020_0001_00000000_0006_6000_7f2a1604";
+const REFUSED: &str = "0005_ad85_0000_0001_0000_0000_{FRED}_0020_0001_00000000_0006_2000_7f2a1604";
+
+const NOT_FOUND: &str = "0004_8583_0000_0001_0000_0000_{FRED}_000a_0001_00000000_0000";
 
 /// As nmbd registers its names (captured, with FRED for its name), and the reply; and as a domain controller joins a group.
 const ASKS_AS_NMBD: &str =
     "60f4_7900_0001_0000_0000_0001_{FRED}_0020_0001_c00c_0020_0001_00000014_0006_6000_7f2a1603";
 
 const GRANTED_TO_NMBD: &str =
-    "60f4_ad80_0000_0001_0000_0000_{FRED}_0020_0001_00000014_0006_6000_7f2a1603";
+    "60f4_ad80_0000_0001_0000_0000_{FRED}_0020_0001_00000014_0006_2000_7f2a1603";
 
 const JOINS: &str =
     "15e9_2800_0001_0000_0000_0001_{TEAM}_0020_0001_c00c_0020_0001_00000014_0006_c000_7f2a1603";
 
-const JOINED: &str = "15e9_ad80_0000_0001_0000_0000_{TEAM}_0020_0001_00000014_0006_c000_7f2a1603";
+const JOINED: &str = "15e9_ad80_0000_0001_0000_0000_{TEAM}_0020_0001_00000014_0006_a000_7f2a1603";
 
 /// 2026-11-24T09:11:03Z, when the server starts, and when it is silent no longer.
 const START: u64 = 1_795_511_463_000;
 
 const OPEN: u64 = START + 60_000;
 
-const SERVERS: [Row; 4] = [
+/// A millisecond before it is, and one after.
+const SILENT: u64 = OPEN - 1;
+
+const END: u64 = OPEN + 1;
+
+/// What is said of the longest lease that is not long, and of one that is.
+const LONG: &str = "nbt: longest lease 3601 s: after each start the server is silent for as long\n";
+
+const SERVERS: [Row; 9] = [
     Row {
-        about: "silent for the longest lease, and then it serves",
+        about: "silent for the longest lease, and then it serves, until its time is over",
         words: "nbt nbns --bind 127.42.22.2:20138 --longest 60s --for 60001ms",
         moments: &[
-            START, START, START, START, START, OPEN, OPEN, OPEN, OPEN, OPEN, OPEN, OPEN, OPEN, OPEN, OPEN,
-            OPEN, OPEN, OPEN, OPEN, OPEN, OPEN, OPEN, OPEN + 1,
+            START, START, START, START, SILENT, SILENT, SILENT, OPEN, OPEN, OPEN, OPEN, OPEN, OPEN,
+            OPEN, END,
         ],
         sends: &[(1, ASKS), (1, REFRESHES), (1, QUERIES), (1, RELEASES)],
         breaks_at: 0,
         status: 0,
-        readings: 23,
+        readings: 16,
         text: "serving 127.42.22.2:20138, silent for 60 s until 2026-11-24T09:12:03Z\n",
         errors: "",
         sent: &[RENEWED, FOUND, RELEASED],
     },
     Row {
-        about: "and logs",
+        about: "it logs what it made of each, but of a query nothing",
         words: "nbt nbns --bind 127.42.22.2:20138 --longest 60s --for 60001ms --log",
         moments: &[
-            START, START, START, START, OPEN, OPEN, OPEN, OPEN, OPEN, OPEN, OPEN, OPEN, OPEN, OPEN, OPEN,
-            OPEN, OPEN, OPEN, OPEN, OPEN, OPEN, OPEN, OPEN + 1,
+            START, START, START, START, OPEN, OPEN, OPEN, OPEN, OPEN, OPEN, OPEN, OPEN, OPEN, OPEN,
+            OPEN, OPEN, OPEN, OPEN, OPEN, OPEN, OPEN, OPEN, OPEN, END,
         ],
-        sends: &[(1, ASKS), (1, REFRESHES), (1, ASKS_FOR_ANOTHER), (1, RELEASES)],
+        sends: &[
+            (1, ASKS),
+            (1, REFRESHES),
+            (1, ASKS_FOR_ANOTHER),
+            (1, "00"),
+            (1, FOUND),
+            (1, RELEASES),
+            (1, QUERIES),
+        ],
         breaks_at: 0,
         status: 0,
-        readings: 23,
-        text: "serving 127.42.22.2:20138, silent for 60 s until 2026-11-24T09:12:03Z\n",
+        readings: 25,
+        text: "\
+serving 127.42.22.2:20138, silent for 60 s until 2026-11-24T09:12:03Z
+2026-11-24T09:12:03Z granted FRED#20 127.42.22.3 unique 60 s
+2026-11-24T09:12:03Z renewed FRED#20 127.42.22.3 unique 60 s
+2026-11-24T09:12:03Z refused FRED#20 127.42.22.4 unique: refused (5)
+2026-11-24T09:12:03Z malformed from 127.42.22.3:20139: 1 octets
+2026-11-24T09:12:03Z foreign from 127.42.22.3:20139: 62 octets
+2026-11-24T09:12:03Z released FRED#20 127.42.22.3 unique
+",
         errors: "",
-        sent: &[RENEWED, FOUND, RELEASED],
+        sent: &[GRANTED, RENEWED, REFUSED, RELEASED, NOT_FOUND],
     },
     Row {
-        about: "registrations of Samba's programs",
+        about: "registrations of Samba's programs are taken for what they are to mean",
         words: "nbt nbns --bind 127.42.22.2:20138 --longest 60s --for 60001ms",
-        moments: &[
-            START, START, START, START, OPEN, OPEN, OPEN, OPEN, OPEN, OPEN, OPEN, OPEN, OPEN, OPEN, OPEN,
-            OPEN, OPEN, OPEN, OPEN, OPEN, OPEN, OPEN, OPEN + 1,
-        ],
-        sends: &[(1, QUERIES), (1, ASKS_AS_NMBD), (1, JOINS)],
+        moments: &[START, START, START, START, OPEN, OPEN, OPEN, OPEN, END],
+        sends: &[(1, ASKS_AS_NMBD), (1, JOINS)],
         breaks_at: 0,
         status: 0,
-        readings: 23,
+        readings: 10,
         text: "serving 127.42.22.2:20138, silent for 60 s until 2026-11-24T09:12:03Z\n",
         errors: "",
         sent: &[GRANTED_TO_NMBD, JOINED],
     },
     Row {
-        about: "left as they are",
+        about: "unless it is strict",
         words: "nbt nbns --bind 127.42.22.2:20138 --longest 60s --for 60001ms --strict --log",
-        moments: &[
-            START, START, START, START, OPEN, OPEN, OPEN, OPEN, OPEN, OPEN, OPEN, OPEN, OPEN, OPEN, OPEN,
-            OPEN, OPEN, OPEN, OPEN, OPEN, OPEN, OPEN, OPEN + 1,
-        ],
-        sends: &[(1, QUERIES), (1, ASKS_AS_NMBD)],
+        moments: &[START, START, START, START, OPEN, END],
+        sends: &[(1, ASKS_AS_NMBD)],
         breaks_at: 0,
         status: 0,
-        readings: 23,
-        text: "serving 127.42.22.2:20138, silent for 60 s until 2026-11-24T09:12:03Z\n",
+        readings: 7,
+        text: "\
+serving 127.42.22.2:20138, silent for 60 s until 2026-11-24T09:12:03Z
+2026-11-24T09:12:03Z malformed from 127.42.22.3:20139: 68 octets
+",
         errors: "",
+        sent: &[],
+    },
+    Row {
+        about: "LIFE, and a longest lease of an hour, of which nothing is said",
+        words: "nbt nbns --bind 127.42.22.2:20138 --life 60s --longest 60m --for 0ms",
+        moments: &[START],
+        sends: &[],
+        breaks_at: 0,
+        status: 0,
+        readings: 6,
+        text: "serving 127.42.22.2:20138, silent for 3600 s until 2026-11-24T10:11:03Z\n",
+        errors: "",
+        sent: &[],
+    },
+    Row {
+        about: "one above an hour",
+        words: "nbt nbns --bind 127.42.22.2:20138 --longest 3601s --for 0ms",
+        moments: &[START],
+        sends: &[],
+        breaks_at: 0,
+        status: 0,
+        readings: 6,
+        text: "serving 127.42.22.2:20138, silent for 3601 s until 2026-11-24T10:11:04Z\n",
+        errors: LONG,
+        sent: &[],
+    },
+    Row {
+        about: "without them a datagram lives 1 s, and the longest lease is 5 min",
+        words: "nbt nbns --bind 127.42.22.2:20138 --for 0ms",
+        moments: &[START],
+        sends: &[],
+        breaks_at: 0,
+        status: 0,
+        readings: 6,
+        text: "serving 127.42.22.2:20138, silent for 300 s until 2026-11-24T09:16:03Z\n",
+        errors: "",
+        sent: &[],
+    },
+    Row {
+        about: "a clock that can't be read",
+        words: "nbt nbns --bind 127.42.22.2:20138 --longest 60s",
+        moments: &[],
+        sends: &[],
+        breaks_at: 0,
+        status: 3,
+        readings: 1,
+        text: "device\n",
+        errors: NO_CLOCK,
+        sent: &[],
+    },
+    Row {
+        about: "a clock that tells 1970",
+        words: "nbt nbns --bind 127.42.22.2:20138 --longest 60s",
+        moments: &[0],
+        sends: &[],
+        breaks_at: 0,
+        status: 3,
+        readings: 2,
+        text: "device\n",
+        errors: NO_TIME,
         sent: &[],
     },
 ];
@@ -199,5 +282,80 @@ fn name_servers(rt: HostRuntime) -> Result<(), Fail> {
     for row in &SERVERS {
         expect_row(&rt, row)?;
     }
+    Ok(())
+}
+
+/// A path in the folder for temporary files that no other run of the tests has.
+fn path_for(rt: &HostRuntime, name: &str) -> Result<String, Fail> {
+    let folder = env::temp_dir(rt)?;
+    let folder = folder.as_path().to_str().ok_or("no text")?;
+    let id = process::id(rt.process());
+    Ok(format!(in rt.alloc(); "{folder}/nbt-tests-{id}-{name}")?)
+}
+
+/// A server that keeps its leases.
+const KEEPS: &str = "nbt nbns --bind 127.42.22.2:20138 --longest 60s --for 60001ms --leases";
+
+/// One is granted, and then another: a second isn't over yet, so the list has the first alone.
+const KEPT: Row = Row {
+    about: "the list of leases",
+    words: "",
+    moments: &[START, START, START, START, OPEN, OPEN, OPEN, OPEN, END],
+    sends: &[(1, ASKS), (1, JOINS)],
+    breaks_at: 0,
+    status: 0,
+    readings: 10,
+    text: "serving 127.42.22.2:20138, silent for 60 s until 2026-11-24T09:12:03Z\n",
+    errors: "",
+    sent: &[GRANTED, JOINED],
+};
+
+#[test]
+fn a_list_of_leases(rt: HostRuntime) -> Result<(), Fail> {
+    let path = path_for(&rt, "leases")?;
+    let machine = machine_of(&rt, &KEPT)?;
+    let mut words = words_of(&rt, KEEPS);
+    words.push(String::from_str(rt.alloc(), path.as_str())?)?;
+    let status = expect_ending(&rt, &machine, words.as_slice(), KEPT.text, "");
+    assert_eq!(&rt; status, 0);
+    assert_eq!(&rt;
+        fs::read_to_string(&rt, path.as_str())?.as_str(),
+        "FRED#20 unique 127.42.22.3 2026-11-24T09:13:03Z\n"
+    );
+    fs::remove_file(&rt, path.as_str())?;
+    Ok(())
+}
+
+/// What a command prints and says, and how it ends.
+fn expect_ending<R: Abort + AllocGlobal, M: Net + Clock + Files>(
+    rt: &R,
+    machine: &M,
+    words: &[String],
+    text: &str,
+    said: &str,
+) -> u8 {
+    let mut paper = LimitedWriter::new();
+    let mut errors = LimitedWriter::new();
+    let status = command_telling(
+        machine,
+        rt.alloc(),
+        words,
+        &mut io::empty(),
+        &mut paper,
+        &mut errors,
+    );
+    assert_eq!(rt; paper.text.as_slice(), text.as_bytes());
+    assert!(rt; paper.is_line_by_line());
+    assert_eq!(rt; errors.text.as_slice(), said.as_bytes());
+    status
+}
+
+#[test]
+fn a_port_that_can_not_be_had(rt: HostRuntime) -> Result<(), Fail> {
+    let _taken = UdpSocket::bind(&rt, "127.42.22.4:20138")?;
+    let words = words_of(&rt, "nbt nbns --bind 127.42.22.4:20138");
+    let said = "nbt: 127.42.22.4:20138: Address already in use (os error 98)\n";
+    let status = expect_ending(&rt, &rt, words.as_slice(), "device\n", said);
+    assert_eq!(&rt; status, 3);
     Ok(())
 }

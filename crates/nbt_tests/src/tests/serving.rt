@@ -86,7 +86,7 @@ nbt: 127.42.22.2:20138: receive: Connection refused (os error 111)
 
 pub const NO_CLOCK: &str = "nbt: 127.42.22.2:20138: clock: unsupported\n";
 
-const NO_TIME: &str = "nbt: 127.42.22.2:20138: clock: the time is 1970\n";
+pub const NO_TIME: &str = "nbt: 127.42.22.2:20138: clock: the time is 1970\n";
 
 const SERVERS: [Row; 9] = [
     Row {
