@@ -7,7 +7,7 @@ ghost use Rattle.nbt_people.specs.Asking.{LookupGiven, StatusGiven, AskFails};
 ghost use Rattle.nbt_people.specs.Words.{SoughtFails, NameFails};
 
 use crate::failure::Failure;
-use crate::reading::{end_of, name_of, name_to_ask};
+use crate::naming::{end_of, name_of, name_to_ask};
 use crate::timing::parse_wait;
 use nbt_ask::{TRIES_MOST, patience_of};
 use nbt_lookup::Question;

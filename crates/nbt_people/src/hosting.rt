@@ -5,7 +5,7 @@ ghost use Rattle.nbt_engine.specs.declared.turning.Want.{Want as Wanted};
 ghost use Rattle.nbt_people.specs.Hosting.{HostGiven, HostFails, AreWanted, SpellWants, NamesFail, WordsFail};
 
 use crate::failure::{Complaint, Failure};
-use crate::reading::{end_of, name_to_ask, own_of};
+use crate::naming::{end_of, name_to_ask, own_of};
 use crate::timing::{config_of, ending_of};
 use nbt_engine::Want;
 use nbt_hosting::HostArguments;

@@ -7,7 +7,7 @@
 mod asking;
 mod failure;
 mod hosting;
-mod reading;
+mod naming;
 mod request;
 mod running;
 mod serving;

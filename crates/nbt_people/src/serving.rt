@@ -6,7 +6,7 @@ ghost use Rattle.std.specs.String.{string_bytes};
 ghost use Rattle.nbt_people.specs.Serving.{NbnsGiven, NbnsFails};
 
 use crate::failure::Failure;
-use crate::reading::end_of;
+use crate::naming::end_of;
 use crate::timing::{config_of, ending_of, fit};
 use nbt_nbns::NbnsArguments;
 use nbt_usage::NbnsWords;

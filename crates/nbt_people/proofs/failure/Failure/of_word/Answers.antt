@@ -1,5 +1,5 @@
 use Rattle.std.proofs.Common.{refl, inr}
-use Rattle.nbt_prog.proofs.failure.Failure.of_word.Goals as goal
+use Rattle.nbt_people.proofs.failure.Failure.of_word.Goals as goal
 
 pub returns-in-Ok : goal.returns-in-Ok
 returns-in-Ok c = inr (record {
