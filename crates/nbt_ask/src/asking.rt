@@ -34,7 +34,7 @@ pub fn ask<P: Port, C: Clock>(
     patience: u32,
     out: &mut String,
 ) -> Result<Answer, Fault>
-    requires few { P.failures port.old < 2 ^ 62 }
+    requires failure_count { P.failures port.old < 2 ^ 62 }
     ensures ok { IfOk result (λ answer. (text : List ℕ) × Asks P.does C.tells own question.now patience port.old clock.old answer text port.new clock.new
         × (string_bytes out.new ≡ string_bytes out.old ++ text)) }
     ensures device { result ≡ Err Fault.Device → AskFails P.does C.tells own question.now patience port.old clock.old port.new clock.new

@@ -52,10 +52,10 @@ fn port_at<M: Net, E: Write>(machine: &M, own: Addr, errors: &mut E) -> Result<U
     }
 }
 
-/// The clock, where it can be read. Else it says why in `errors`.
-fn steady_clock<'a, M: time::Clock, E: Write>(
+/// The clock that nobody sets, for the end at this address, where it can be read. Else it says why in `errors`.
+pub fn steady_clock<'a, M: time::Clock, E: Write>(
     machine: &'a M,
-    own: Addr,
+    addr: Addr,
     errors: &mut E,
 ) -> Result<SteadyClock<'a, M>, Fault>
     ensures ok { IfOk result (λ clock. clock ≡ 0) }
@@ -64,7 +64,7 @@ fn steady_clock<'a, M: time::Clock, E: Write>(
     match SteadyClock::begin(machine) {
         Ok(clock) => Ok(clock),
         Err(error) => {
-            Cause::new(MachineCall::Clock, own, error).tell("", errors);
+            Cause::new(MachineCall::Clock, addr, error).tell("", errors);
             Err(Fault::NoClock)
         }
     }

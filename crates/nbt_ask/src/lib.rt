@@ -11,5 +11,5 @@ mod patience;
 pub use answer::Answer;
 pub use asking::ask;
 pub use clock::SteadyClock;
-pub use here::ask_here;
+pub use here::{ask_here, steady_clock};
 pub use patience::{TRIES_MOST, TRY, patience_of};

@@ -12,8 +12,8 @@ pub const TRY: u32 = 5_000;
 /// The milliseconds of a lookup that asks so many times at most, one every 5,000 ms as a node does, and waits for so many
 /// milliseconds after the last (our profile).
 pub fn patience_of(tries: u32, last: u32) -> u32
-    requires some { 1 ≤ tries }
-    requires few { tries ≤ TRIES_MOST }
+    requires tries_at_least { 1 ≤ tries }
+    requires tries_at_most { tries ≤ TRIES_MOST }
     requires short { last ≤ TRY }
     ensures { result ≡ patience_of tries last }
 {

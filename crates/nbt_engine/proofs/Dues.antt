@@ -202,7 +202,7 @@ polls_fewer ends now old new to octets (polls_name slot n o is sends) =
 polls_fewer ends now old new to octets (polls_lookup l n o is due looks writes) =
     let h = dues_settled ends old.config.life now old.slots in
     let a = sent_again now l (l.tries + 1) in
-    rw (looks.node, a, due) (omega (arith, h))
+    rw (looks, a, due) (omega (arith, h))
 
 -- ---- polls at one moment: no more than were due at first
 

@@ -23,8 +23,8 @@ asked_last server now want old _ _ le (may_not_ask fault may) = le
 
 polled_last : (now : ℕ) (old new : NodeValue) (to : Option Addr) (octets : List ℕ) → Polls old now new to octets → new.last ≡ now
 polled_last now old _ _ _ (polls_name slot new octets due sends) = ap (λ (n : NodeValue). n.last) sends.moves.node
-polled_last now old _ _ _ (polls_lookup l new octets quiet due looks written) = ap (λ (n : NodeValue). n.last) looks.node
-polled_last now old _ _ _ (polls_nothing new quiet ended passes) = ap (λ (n : NodeValue). n.last) passes.node
+polled_last now old _ _ _ (polls_lookup l new octets quiet due looks written) = ap (λ (n : NodeValue). n.last) looks
+polled_last now old _ _ _ (polls_nothing new quiet ended passes) = ap (λ (n : NodeValue). n.last) passes
 
 ended_last : (now : ℕ) (old new : NodeValue) → old.last ≤ now → EndsPolls now old new → new.last ≤ now
 ended_last now old _ le (has_nothing octets new polls) = omega (arith, polled_last now old new None octets polls)

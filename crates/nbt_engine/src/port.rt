@@ -27,13 +27,13 @@ pub trait Port {
     /// Waits for a datagram, as long as the port does. Returns its sender, or `None` where none came; `octets` then
     /// holds its first 2,048 octets, or as many as it has, or none. Refused with `Device` where the device fails.
     fn receive(&mut self, octets: &mut ArrayVec<u8, 2048>) -> Result<Option<Addr>, Device>
-        requires few { failures self.old < 2 ^ 62 }
+        requires failure_count { failures self.old < 2 ^ 62 }
         ensures does { does self.old (receiving result octets.new.items) self.new }
         ensures count { CountsFailure (failures self.old) (failures self.new) result };
 
     /// Sends these octets to an end. Refused with `Device` where the device fails: they are then lost.
     fn send(&mut self, to: Addr, octets: &[u8]) -> Result<(), Device>
-        requires few { failures self.old < 2 ^ 62 }
+        requires failure_count { failures self.old < 2 ^ 62 }
         ensures does { does self.old (sending to octets.now result) self.new }
         ensures count { CountsFailure (failures self.old) (failures self.new) result };
 

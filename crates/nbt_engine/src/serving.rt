@@ -60,7 +60,7 @@ pub fn serve_turns<P: Port, C: Clock>(
     server: &mut Server,
     turns: u64,
 ) -> Result<Counts, Device>
-    requires few { P.failures port.old < 2 ^ 62 }
+    requires failure_count { P.failures port.old < 2 ^ 62 }
     ensures ok { IfOk result (λ counts. Runs P.does C.tells turns counts port.old clock.old server.old port.new clock.new server.new) }
     ensures err { OnErr result (Breaks P.does C.tells turns port.old clock.old server.old port.new clock.new server.new) }
     // It is refused exactly where the port's count of failures grew.
@@ -84,7 +84,7 @@ fn serve_turn<P: Port, C: Clock>(
     octets: &mut ArrayVec<u8, 2048>,
     reply: &mut ArrayVec<u8, 576>,
 ) -> Result<Counts, Device>
-    requires few { P.failures port.old < 2 ^ 62 }
+    requires failure_count { P.failures port.old < 2 ^ 62 }
     ensures ok { IfOk result (λ counts. Runs P.does C.tells 1 counts port.old clock.old server.old port.new clock.new server.new) }
     ensures err { OnErr result (Breaks P.does C.tells 1 port.old clock.old server.old port.new clock.new server.new) }
     ensures device { CountsFailure (P.failures port.old) (P.failures port.new) result }

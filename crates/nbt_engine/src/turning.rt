@@ -53,7 +53,7 @@ pub fn node_turn<P: Port, C: Clock, const N: usize>(
     server: Addr,
     want: &Want,
 ) -> Result<Seen, Device>
-    requires few { P.failures port.old < 2 ^ 62 }
+    requires failure_count { P.failures port.old < 2 ^ 62 }
     ensures ok { IfOk result (λ seen. (acts : List PortCall) × (moments : List ℕ) × TakesTurn server want.now node.old acts moments seen node.new
         × Chain P.does port.old acts port.new × Chain C.tells clock.old moments clock.new) }
     ensures err { OnErr result ((acts : List PortCall) × (moments : List ℕ) × BreaksTurn server want.now node.old acts moments node.new
@@ -83,7 +83,7 @@ fn ask<P: Port, const N: usize>(
     want: &Want,
     out: &mut ArrayVec<u8, 576>,
 ) -> Result<(), Device>
-    requires few { P.failures port.old < 2 ^ 62 }
+    requires failure_count { P.failures port.old < 2 ^ 62 }
     ensures ok { OnOk result ((acts : List PortCall) × Asks server now want.now node.old acts node.new × Chain P.does port.old acts port.new) }
     ensures err { OnErr result ((octets : List ℕ) × AsksFor now want.now node.old octets node.new × P.does port.old (send_failed server octets) port.new) }
     ensures device { CountsFailure (P.failures port.old) (P.failures port.new) result }
@@ -104,7 +104,7 @@ pub fn poll_all<P: Port, const N: usize>(
     now: Moment,
     out: &mut ArrayVec<u8, 576>,
 ) -> Result<(), Device>
-    requires few { P.failures port.old < 2 ^ 62 }
+    requires failure_count { P.failures port.old < 2 ^ 62 }
     ensures ok { OnOk result ((acts : List PortCall) × PollsAll now node.old acts node.new × Chain P.does port.old acts port.new) }
     ensures err { OnErr result ((acts : List PortCall) × BreaksPolls now node.old acts node.new × Chain P.does port.old acts port.new) }
     // It is refused exactly where the port's count of failures grew.
@@ -141,7 +141,7 @@ fn hear<P: Port, const N: usize>(
     octets: &[u8],
     out: &mut ArrayVec<u8, 576>,
 ) -> Result<Seen, Device>
-    requires few { P.failures port.old < 2 ^ 62 }
+    requires failure_count { P.failures port.old < 2 ^ 62 }
     ensures ok { IfOk result (λ seen. (acts : List PortCall) × TurnHears now node.old (came from octets.now ∷ acts) seen node.new × Chain P.does port.old acts port.new) }
     ensures err { OnErr result ((reply : List ℕ) × Handles node.old now from octets.now node.new replied reply × P.does port.old (send_failed from reply) port.new) }
     ensures device { CountsFailure (P.failures port.old) (P.failures port.new) result }

@@ -90,7 +90,7 @@ impl Port for UdpPort {
     ghost failures = { λ p. p.failures };
 
     fn receive(&mut self, octets: &mut ArrayVec<u8, 2048>) -> Result<Option<Addr>, Device>
-        requires few { self.old.failures < 2 ^ 62 }
+        requires failure_count { self.old.failures < 2 ^ 62 }
         ensures does { UdpDoes self.old (receiving result octets.new.items) self.new }
         ensures count { CountsFailure self.old.failures self.new.failures result }
         // Where nothing came, nothing is left of an earlier datagram.

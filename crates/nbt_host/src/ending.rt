@@ -32,7 +32,7 @@ pub fn give_back<P: Port, C: Clock, const N: usize>(
     goals: &mut [Goal],
     most: u64,
 ) -> Result<(), Device>
-    requires few { P.failures port.old < 2 ^ 62 }
+    requires failure_count { P.failures port.old < 2 ^ 62 }
     ensures ok { OnOk result (GivesAllBack P.does C.tells server most port.old clock.old goals.old node.old port.new clock.new (record { goals = goals.new; node = node.new })) }
     ensures err { OnErr result (FailsToGiveBack P.does C.tells server most port.old clock.old goals.old node.old port.new clock.new (record { goals = goals.new; node = node.new })) }
     // It is refused exactly where the port's count of failures grew.
@@ -62,7 +62,7 @@ fn wait<P: Port, C: Clock, const N: usize>(
     limit: u64,
     most: u64,
 ) -> Result<(), Device>
-    requires few { P.failures port.old < 2 ^ 62 }
+    requires failure_count { P.failures port.old < 2 ^ 62 }
     ensures ok { OnOk result (Ended P.does C.tells server limit most port.old clock.old (record { goals = goals.old; node = node.old }) port.new clock.new (record { goals = goals.new; node = node.new })) }
     ensures err { OnErr result (Broken P.does C.tells server limit most port.old clock.old (record { goals = goals.old; node = node.old }) port.new clock.new (record { goals = goals.new; node = node.new })) }
     ensures device { CountsFailure (P.failures port.old) (P.failures port.new) result }
@@ -85,7 +85,7 @@ fn end_turn<P: Port, C: Clock, const N: usize>(
     goals: &mut [Goal],
     limit: u64,
 ) -> Result<bool, Device>
-    requires few { P.failures port.old < 2 ^ 62 }
+    requires failure_count { P.failures port.old < 2 ^ 62 }
     ensures ok { IfOk result (λ on. EndTurnIs P.does C.tells server limit on port.old clock.old (record { goals = goals.old; node = node.old }) port.new clock.new (record { goals = goals.new; node = node.new })) }
     ensures err { OnErr result ((acts : List PortCall) × (moments : List ℕ) × HostBreaks server goals.old node.old acts moments goals.new node.new
         × Chain P.does port.old acts port.new × Chain C.tells clock.old moments clock.new) }

@@ -32,7 +32,7 @@ pub fn listen<P: Port, C: Clock, const N: usize>(
     node: &mut Node<N>,
     out: &mut ArrayVec<u8, 576>,
 ) -> Result<Heard, Device>
-    requires few { P.failures port.old < 2 ^ 62 }
+    requires failure_count { P.failures port.old < 2 ^ 62 }
     ensures ok { IfOk result (λ heard. Listens P.does C.tells heard port.old clock.old node.old port.new clock.new node.new) }
     ensures err { OnErr result (LosesListening P.does C.tells port.old clock.old node.old port.new clock.new node.new) }
     ensures device { CountsFailure (P.failures port.old) (P.failures port.new) result }
@@ -53,7 +53,7 @@ fn hear<P: Port, const N: usize>(
     octets: &[u8],
     out: &mut ArrayVec<u8, 576>,
 ) -> Result<Option<Notice>, Device>
-    requires few { P.failures port.old < 2 ^ 62 }
+    requires failure_count { P.failures port.old < 2 ^ 62 }
     ensures ok { IfOk result (λ notice. (acts : List PortCall) × HostHears now node.old (receiving (Ok from) octets.now ∷ acts) notice node.new × Chain P.does port.old acts port.new) }
     ensures err { OnErr result ((to : End) × (lost : List ℕ) × LosesReply now node.old (receiving (Ok from) octets.now ∷ send_failed to lost ∷ []) node.new × P.does port.old (send_failed to lost) port.new) }
     ensures device { CountsFailure (P.failures port.old) (P.failures port.new) result }
@@ -79,7 +79,7 @@ fn send_back<P: Port, const N: usize>(
     event: Event<'_>,
     out: &mut ArrayVec<u8, 576>,
 ) -> Result<(), Device>
-    requires few { P.failures port.old < 2 ^ 62 }
+    requires failure_count { P.failures port.old < 2 ^ 62 }
     ensures ok { OnOk result (Chain P.does port.old (sending_to to (sent_back node.now now (message_if message.now) (told_of event.entry) out.old.items)) port.new) }
     ensures err { OnErr result ((lost : List ℕ) × (sent_back node.now now (message_if message.now) (told_of event.entry) out.old.items ≡ Some lost) × P.does port.old (send_failed to lost) port.new) }
     ensures device { CountsFailure (P.failures port.old) (P.failures port.new) result }

@@ -39,7 +39,7 @@ fn request<P: Port, const N: usize>(
     goal: &Goal,
     out: &mut ArrayVec<u8, 576>,
 ) -> Result<(), Device>
-    requires few { P.failures port.old < 2 ^ 62 }
+    requires failure_count { P.failures port.old < 2 ^ 62 }
     ensures ok { OnOk result ((request : Option (List ℕ)) × Requests now node.old goal.now request node.new × Chain P.does port.old (sending_to server request) port.new) }
     ensures err { OnErr result ((octets : List ℕ) × Requests now node.old goal.now (Some octets) node.new × P.does port.old (send_failed server octets) port.new) }
     ensures device { CountsFailure (P.failures port.old) (P.failures port.new) result }
@@ -60,7 +60,7 @@ pub fn request_all<P: Port, const N: usize>(
     goals: &[Goal],
     out: &mut ArrayVec<u8, 576>,
 ) -> Result<(), Device>
-    requires few { P.failures port.old < 2 ^ 62 }
+    requires failure_count { P.failures port.old < 2 ^ 62 }
     ensures ok { OnOk result ((acts : List PortCall) × RequestsAll server now node.old goals.now acts node.new × Chain P.does port.old acts port.new) }
     ensures err { OnErr result ((acts : List PortCall) × BreaksRequests server now node.old goals.now acts node.new × Chain P.does port.old acts port.new) }
     ensures device { CountsFailure (P.failures port.old) (P.failures port.new) result }

@@ -28,7 +28,7 @@ pub fn host_turn<P: Port, C: Clock, const N: usize>(
     server: Addr,
     goals: &mut [Goal],
 ) -> Result<(), Device>
-    requires few { P.failures port.old < 2 ^ 62 }
+    requires failure_count { P.failures port.old < 2 ^ 62 }
     ensures ok { OnOk result ((acts : List PortCall) × (moments : List ℕ) × HostTurn server goals.old node.old acts moments goals.new node.new
         × Chain P.does port.old acts port.new × Chain C.tells clock.old moments clock.new) }
     ensures err { OnErr result ((acts : List PortCall) × (moments : List ℕ) × HostBreaks server goals.old node.old acts moments goals.new node.new

@@ -32,7 +32,7 @@ pub fn waking_turn<P: Port, C: Clock, D: Clock, const N: usize>(
 ) -> Result<bool, Device>
     requires slots_at_least { 1 ≤ N }
     requires slots_at_most { N ≤ slots_most }
-    requires few { P.failures port.old < 2 ^ 62 }
+    requires failure_count { P.failures port.old < 2 ^ 62 }
     ensures ok { IfOk result (λ slept. WakingTurn P.does C.tells D.tells N server config last.old slept port.old clocks.old.steady clocks.old.day (record { goals = goals.old; node = node.old })
         last.new port.new clocks.new.steady clocks.new.day (record { goals = goals.new; node = node.new })) }
     ensures err { OnErr result (WakingBreaks P.does C.tells D.tells N server config last.old port.old clocks.old.steady clocks.old.day (record { goals = goals.old; node = node.old })

@@ -19,6 +19,7 @@ mod word;
 pub use dates::Dates;
 pub use leases::write_leases;
 pub use limiter::{LINES_MOST, Limiter};
-pub use line::write_told;
+pub use line::{write_reason, write_seconds, write_told};
 pub use time::write_time;
 pub use told::{Claim, Told, claimed_in, told_of_reply, told_of_silence};
+pub use word::write_word;

@@ -74,15 +74,15 @@ fn write_release(second: u64, claim: &Claim, out: &mut String) -> Result<(), All
     end_line(out)
 }
 
-/// Appends for how many seconds a lease is, and the end of the line.
-fn write_seconds(seconds: u32, out: &mut String) -> Result<(), AllocError>
+/// Appends for how many seconds a lease is, as ` 300 s`, and the end of the line.
+pub fn write_seconds(seconds: u32, out: &mut String) -> Result<(), AllocError>
     ensures { OnOk result (string_bytes out.new ≡ string_bytes out.old ++ seconds_text seconds) }
 {
     writeln!(out, " {seconds} s")
 }
 
-/// Appends the reason of a refusal, in words and as a number, and the end of the line.
-fn write_reason(rcode: u8, out: &mut String) -> Result<(), AllocError>
+/// Appends the reason of a refusal, in words and as a number, as `: held by another (6)`, and the end of the line.
+pub fn write_reason(rcode: u8, out: &mut String) -> Result<(), AllocError>
     ensures { OnOk result (string_bytes out.new ≡ string_bytes out.old ++ reason_text rcode) }
 {
     let words = rcode_words(rcode);

@@ -11,7 +11,7 @@ use nbt_text::write_name;
 use std::alloc::AllocError;
 
 /// Appends a name as `FILER#20`; one in a scope as the bench's commands print it, with its scope.
-pub(crate) fn write_word(name: &Name, out: &mut String) -> Result<(), AllocError>
+pub fn write_word(name: &Name, out: &mut String) -> Result<(), AllocError>
     ensures { OnOk result ((word : List ℕ) × PrintsWord name.now word × (string_bytes out.new ≡ string_bytes out.old ++ word)) }
 {
     if name.scope().is_empty() {

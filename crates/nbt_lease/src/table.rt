@@ -203,7 +203,7 @@ impl Table {
         requires time { self.old.last ≤ now }
         requires name { blank.name ≡ L.name }
         requires parts { blank.parts ≡ L.parts }
-        requires some { 0 < blank.parts }
+        requires part_count { 0 < blank.parts }
         ensures leases { leases_at now self.new.rows ≡ leases_at now self.old.rows }
         ensures over { live_count now self.new.rows ≡ length self.new.rows }
         ensures config { self.new.config ≡ self.old.config }
@@ -219,7 +219,7 @@ impl Table {
 fn drop_expired<L: Ledger>(index: &mut Index, now: u64, blank: Blank)
     requires name { blank.name ≡ L.name }
     requires parts { blank.parts ≡ L.parts }
-    requires some { 0 < blank.parts }
+    requires part_count { 0 < blank.parts }
     ensures leases { (q : NameValue) → members_of index.new q ≡ filter (is_live now) (members_of index.old q) }
     ensures fewer { length (rows_of index.new) ≤ length (rows_of index.old) }
     ensures names { IsDistinct same_name (keys_of index.new) }

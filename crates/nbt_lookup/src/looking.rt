@@ -38,7 +38,7 @@ pub fn look_up<P: Port, C: Clock, const N: usize>(
     most: u64,
     octets: &mut ArrayVec<u8, 2048>,
 ) -> Result<Ending, Device>
-    requires few { P.failures port.old < 2 ^ 62 }
+    requires failure_count { P.failures port.old < 2 ^ 62 }
     requires patience { patience < 2 ^ 62 }
     ensures ok { IfOk result (λ ending. Looks P.does C.tells question.now patience most port.old clock.old node.old ending octets.new.items port.new clock.new node.new) }
     ensures err { OnErr result (Fails P.does C.tells question.now patience most port.old clock.old node.old port.new clock.new node.new) }
@@ -63,7 +63,7 @@ fn wait<P: Port, C: Clock, const N: usize>(
     most: u64,
     octets: &mut ArrayVec<u8, 2048>,
 ) -> Result<Ending, Device>
-    requires few { P.failures port.old < 2 ^ 62 }
+    requires failure_count { P.failures port.old < 2 ^ 62 }
     ensures ok { IfOk result (λ ending. Waited P.does C.tells limit most ending octets.new.items port.old clock.old node.old port.new clock.new node.new) }
     ensures err { OnErr result (Broken P.does C.tells limit most port.old clock.old node.old port.new clock.new node.new) }
     ensures device { CountsFailure (P.failures port.old) (P.failures port.new) result }

@@ -38,7 +38,7 @@ pub fn take_turn<P: Port, C: Clock, const N: usize>(
     limit: u64,
     octets: &mut ArrayVec<u8, 2048>,
 ) -> Result<Progress, Device>
-    requires few { P.failures port.old < 2 ^ 62 }
+    requires failure_count { P.failures port.old < 2 ^ 62 }
     ensures err { OnErr result ((acts : List PortCall) × (moments : List ℕ) × BreaksTurn limit node.old acts moments node.new × Chain P.does port.old acts port.new × Chain C.tells clock.old moments clock.new) }
     ensures ok { IfOk result (λ progress. TurnIs P.does C.tells limit progress octets.new.items port.old clock.old node.old port.new clock.new node.new) }
     ensures device { CountsFailure (P.failures port.old) (P.failures port.new) result }
@@ -63,7 +63,7 @@ fn listen<P: Port, C: Clock, const N: usize>(
     octets: &mut ArrayVec<u8, 2048>,
     out: &mut ArrayVec<u8, 576>,
 ) -> Result<bool, Device>
-    requires few { P.failures port.old < 2 ^ 62 }
+    requires failure_count { P.failures port.old < 2 ^ 62 }
     ensures err { OnErr result (P.does port.old receive_failed port.new × (node.new ≡ node.old) × (clock.new ≡ clock.old)) }
     ensures ok { IfOk result (λ ended. HeardIs P.does C.tells ended octets.new.items port.old clock.old node.old port.new clock.new node.new) }
     ensures device { CountsFailure (P.failures port.old) (P.failures port.new) result }

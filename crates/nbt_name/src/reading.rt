@@ -51,7 +51,7 @@ pub fn read_in_counted<L: Ledger>(
     ensures within { IfOk result (λ read. read.1 ≤ length octets.now) }
     ensures steps { IfOk result (λ read. (stands : NameAt octets.now place read.0 read.1) → steps.new ≡ steps.old + steps_on stands.path + 1) }
     ensures refused { IfErr result (λ fault. (fails : FaultAt octets.now place fault) → steps.new ≡ steps.old + steps_on fails.path) }
-    ensures most { steps.new ≤ steps.old + 112 * (length octets.now + 1) }
+    ensures step_count { steps.new ≤ steps.old + 112 * (length octets.now + 1) }
 {
     read(Form::Compressed, octets, place, steps)
 }
@@ -66,7 +66,7 @@ fn read_uncounted<L: Ledger>(
     requires place { place ≤ length octets.now }
     requires name { blank.name ≡ L.name }
     requires parts { blank.parts ≡ L.parts }
-    requires some { 0 < blank.parts }
+    requires part_count { 0 < blank.parts }
     ensures name { IfOk result (λ read. Stands form octets.now place read.0 read.1) }
     ensures fault { IfErr result (Fails form octets.now place) }
 {
@@ -86,7 +86,7 @@ fn read<L: Ledger>(
     ensures fault { IfErr result (Fails form octets.now place) }
     ensures steps { IfOk result (λ read. (stands : Stands form octets.now place read.0 read.1) → steps.new ≡ steps.old + steps_on stands.path + 1) }
     ensures refused { IfErr result (λ fault. (fails : Fails form octets.now place fault) → steps.new ≡ steps.old + steps_on fails.path) }
-    ensures most { steps.new ≤ steps.old + 112 * (length octets.now + 1) }
+    ensures step_count { steps.new ≤ steps.old + 112 * (length octets.now + 1) }
 {
     let mut reader = Reader::new(place);
     'steps: loop {

@@ -27,7 +27,7 @@ impl<L: Ledger> Steps<L> {
     pub fn new(blank: Blank) -> Steps<L>
         requires name { blank.name ≡ L.name }
         requires parts { blank.parts ≡ L.parts }
-        requires some { 0 < blank.parts }
+        requires part_count { 0 < blank.parts }
         ensures { result ≡ 0 }
     {
         let (book, share) = blank.open::<L>();

@@ -58,7 +58,7 @@ pub fn watch_on<P: Port, C: Clock, V: Watcher, M: time::Clock, W: Write, E: Writ
     writer: &mut W,
     errors: &mut E,
 ) -> Result<(), Device>
-    requires few { P.failures port.old ≤ 2 ^ 61 }
+    requires failure_count { P.failures port.old ≤ 2 ^ 61 }
     ensures ok { OnOk result (WatchesUntil P.does C.tells V.sees until
         (record { port = port.old; clock = clock.old; server = server.old; watcher = watcher.old; text = W.contents writer.old })
         (record { port = port.new; clock = clock.new; server = server.new; watcher = watcher.new; text = W.contents writer.new })) }
@@ -103,7 +103,7 @@ fn turn_and_moment<P: Port, C: Clock>(
     octets: &mut ArrayVec<u8, 2048>,
     reply: &mut ArrayVec<u8, 576>,
 ) -> Result<Shown, Device>
-    requires few { P.failures port.old < 2 ^ 62 }
+    requires failure_count { P.failures port.old < 2 ^ 62 }
     ensures ok { IfOk result (λ shown. ShowsTurn P.does C.tells port.old clock.old server.old shown port.new clock.new server.new) }
     ensures err { OnErr result (Breaks P.does C.tells 1 port.old clock.old server.old port.new clock.new server.new) }
     ensures device { CountsFailure (P.failures port.old) (P.failures port.new) result }

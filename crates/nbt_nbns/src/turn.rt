@@ -21,7 +21,7 @@ pub fn watched_turn<P: Port, C: Clock>(
     octets: &mut ArrayVec<u8, 2048>,
     reply: &mut ArrayVec<u8, 576>,
 ) -> Result<Told, Device>
-    requires few { P.failures port.old < 2 ^ 62 }
+    requires failure_count { P.failures port.old < 2 ^ 62 }
     ensures ok { IfOk result (λ told. WatchesTurn P.does C.tells port.old clock.old server.old told port.new clock.new server.new) }
     ensures err { OnErr result (Breaks P.does C.tells 1 port.old clock.old server.old port.new clock.new server.new) }
     // It is refused exactly where the port's count of failures grew.

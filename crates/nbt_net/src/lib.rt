@@ -11,7 +11,7 @@ mod staying;
 
 pub use clock::readable_clock;
 pub use limits::{FOREVER, MOST_FAILURES};
-pub use node::{NodeArguments, run_node};
+pub use node::{NodeArguments, SLOTS, run_node};
 pub use port::bound_port;
 pub use serve::{ServeArguments, run_server};
 pub use staying::{Row, tell_end_of};

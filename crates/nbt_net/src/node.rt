@@ -71,7 +71,7 @@ pub fn run_turns<P: Port, M: time::Clock, W: Write, E: Write>(
     machine: &M,
     errors: &mut E,
 ) -> Result<(), Fault>
-    requires few { P.failures port.old ≤ 2 ^ 61 }
+    requires failure_count { P.failures port.old ≤ 2 ^ 61 }
     ensures ok { OnOk result (RunsNode P.does arguments.now
         port.old clock.old (W.contents writer.old) port.new clock.new (W.contents writer.new)) }
     ensures device { result ≡ Err Fault.Device → NodeFails P.does arguments.now
@@ -104,7 +104,7 @@ fn run_for<P: Port, C: Clock, W: Write, M: time::Clock, E: Write>(
     machine: &M,
     errors: &mut E,
 ) -> Result<(), Fault>
-    requires few { P.failures port.old ≤ 2 ^ 61 }
+    requires failure_count { P.failures port.old ≤ 2 ^ 61 }
     ensures ok { OnOk result (RunsFor P.does C.tells arguments.now.turns arguments.now.server arguments.now.want (record { port = port.old; clock = clock.old; node = node.old; text = W.contents writer.old })
         (record { port = port.new; clock = clock.new; node = node.new; text = W.contents writer.new })) }
     ensures device { result ≡ Err Fault.Device → NodeFailsFor P.does C.tells arguments.now.turns arguments.now.server arguments.now.want (record { port = port.old; clock = clock.old; node = node.old; text = W.contents writer.old })
@@ -130,7 +130,7 @@ fn take_turns<P: Port, C: Clock, W: Write>(
     turns: u64,
     writer: &mut W,
 ) -> Result<(), Fault>
-    requires few { P.failures port.old < 2 ^ 62 }
+    requires failure_count { P.failures port.old < 2 ^ 62 }
     ensures ok { OnOk result (TakesTurns P.does C.tells arguments.now.server arguments.now.want turns
         (record { port = port.old; clock = clock.old; node = node.old; text = W.contents writer.old }) (record { port = port.new; clock = clock.new; node = node.new; text = W.contents writer.new })) }
     ensures device { result ≡ Err Fault.Device → EndsTurns P.does C.tells arguments.now.server arguments.now.want (BreaksTurns P.does C.tells arguments.now.server arguments.now.want) turns
@@ -153,7 +153,7 @@ pub fn take_turn<P: Port, C: Clock, W: Write>(
     arguments: &NodeArguments,
     writer: &mut W,
 ) -> Result<Seen, Fault>
-    requires few { P.failures port.old < 2 ^ 62 }
+    requires failure_count { P.failures port.old < 2 ^ 62 }
     ensures ok { IfOk result (λ seen. Turns P.does C.tells arguments.now.server arguments.now.want
         (record { port = port.old; clock = clock.old; node = node.old; text = W.contents writer.old }) seen (record { port = port.new; clock = clock.new; node = node.new; text = W.contents writer.new })) }
     ensures device { result ≡ Err Fault.Device → BreaksTurns P.does C.tells arguments.now.server arguments.now.want

@@ -68,7 +68,7 @@ pub fn serve<P: Port, C: Clock, W: Write, M: time::Clock, E: Write>(
     machine: &M,
     errors: &mut E,
 ) -> Result<(), Fault>
-    requires few { P.failures port.old ≤ 2 ^ 61 }
+    requires failure_count { P.failures port.old ≤ 2 ^ 61 }
     ensures ok { OnOk result (RunsServer P.does C.tells arguments.now
         port.old clock.old (W.contents writer.old) port.new clock.new (W.contents writer.new)) }
     ensures device { result ≡ Err Fault.Device → ServerFails P.does C.tells arguments.now
@@ -91,7 +91,7 @@ fn serve_for<P: Port, C: Clock, W: Write, M: time::Clock, E: Write>(
     machine: &M,
     errors: &mut E,
 ) -> Result<(), Fault>
-    requires few { P.failures port.old ≤ 2 ^ 61 }
+    requires failure_count { P.failures port.old ≤ 2 ^ 61 }
     ensures ok { OnOk result (ServesFor P.does C.tells arguments.now.turns (record { port = port.old; clock = clock.old; server = server.old }) (W.contents writer.old)
         (record { port = port.new; clock = clock.new; server = server.new }) (W.contents writer.new)) }
     ensures device { result ≡ Err Fault.Device → FailsFor P.does C.tells arguments.now.turns (record { port = port.old; clock = clock.old; server = server.old }) (W.contents writer.old)

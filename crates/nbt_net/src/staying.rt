@@ -47,7 +47,7 @@ impl Row {
         machine: &M,
         errors: &mut E,
     ) -> Result<(), Device>
-        requires few { self.old.failed < MOST_FAILURES }
+        requires failed_turns { self.old.failed < MOST_FAILURES }
         ensures count { self.new.failed ≡ self.old.failed + 1 }
         ensures ok { OnOk result (self.new.failed < MOST_FAILURES) }
         ensures err { OnErr result (self.new.failed ≡ MOST_FAILURES) }
@@ -76,7 +76,7 @@ pub fn serve_on<P: Port, C: Clock, M: time::Clock, E: Write>(
     machine: &M,
     errors: &mut E,
 ) -> Result<(), Device>
-    requires few { P.failures port.old + turns ≤ 2 ^ 62 }
+    requires failure_count { P.failures port.old + turns ≤ 2 ^ 62 }
     ensures ok { OnOk result (StaysUp (ServesTurn P.does C.tells) (BreaksServing P.does C.tells) turns
         (record { port = port.old; clock = clock.old; server = server.old }) (record { port = port.new; clock = clock.new; server = server.new })) }
     ensures err { OnErr result (GivesUp (ServesTurn P.does C.tells) (BreaksServing P.does C.tells) turns
@@ -104,7 +104,7 @@ pub fn node_on<P: Port, C: Clock, W: Write, M: time::Clock, E: Write>(
     machine: &M,
     errors: &mut E,
 ) -> Result<(), Fault>
-    requires few { P.failures port.old + turns ≤ 2 ^ 62 }
+    requires failure_count { P.failures port.old + turns ≤ 2 ^ 62 }
     ensures ok { OnOk result (StaysUp (Turns P.does C.tells arguments.now.server arguments.now.want) (BreaksTurns P.does C.tells arguments.now.server arguments.now.want) turns
         (record { port = port.old; clock = clock.old; node = node.old; text = W.contents writer.old }) (record { port = port.new; clock = clock.new; node = node.new; text = W.contents writer.new })) }
     ensures device { result ≡ Err Fault.Device → GivesUp (Turns P.does C.tells arguments.now.server arguments.now.want) (BreaksTurns P.does C.tells arguments.now.server arguments.now.want) turns

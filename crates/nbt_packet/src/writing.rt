@@ -110,7 +110,7 @@ pub fn encode(message: &Message<'_>, out: &mut ArrayVec<u8, 576>) -> Result<(), 
 /// section 4.2.1). That the message fits, and has no more entries or names than have room, is the caller's.
 pub fn write(message: &Message<'_>, out: &mut ArrayVec<u8, 576>)
     requires fits { Fits (message_of message.now) }
-    requires few { HasFewRows (message_of message.now) }
+    requires row_count { HasFewRows (message_of message.now) }
     ensures { AreWritten (Some (message_of message.now)) out.new.items }
 {
     laws::few_rows_are_written();
@@ -236,7 +236,7 @@ fn put_not_found(
 /// 4.2.18).
 fn put_status(out: &mut ArrayVec<u8, 576>, id: u16, name: &Name, names: &[u8]) -> Result<(), Full>
     requires empty { out.old.items ≡ [] }
-    requires most { length names.now ≤ 18 * 255 }
+    requires names_octets { length names.now ≤ 18 * 255 }
     ensures ok { OnOk result (out.new.items ≡ text (status id name.now names.now)) }
     ensures full { IsErr result ↔ (576 < length (text (status id name.now names.now))) }
     ensures empty { OnErr result (out.new.items ≡ []) }
@@ -266,7 +266,7 @@ fn put_answer_packet(
     rdata: &[u8],
 ) -> Result<(), Full>
     requires empty { out.old.items ≡ [] }
-    requires most { length rdata.now < 65536 }
+    requires rdata_octets { length rdata.now < 65536 }
     ensures ok { OnOk result (out.new.items ≡ answer_octets id flags name.now rtype ttl rdata.now) }
     ensures full { IsErr result ↔ (576 < length (answer_octets id flags name.now rtype ttl rdata.now)) }
     ensures empty { OnErr result (out.new.items ≡ []) }

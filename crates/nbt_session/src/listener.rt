@@ -325,7 +325,7 @@ fn first_that_takes<'a>(entries: &'a [Entry], called: &Name, calling: &Name) -> 
 
 /// Whether an entry has the called name.
 fn listens_on(entries: &[Entry], called: &Name) -> bool
-    ensures some { OnTrue result (Any (λ e. e.called ≡ called.now) entries.now) }
+    ensures called_entry { OnTrue result (Any (λ e. e.called ≡ called.now) entries.now) }
     ensures none { OnFalse result (All (λ e. e.called ≢ called.now) entries.now) }
 {
     for one in entries {

@@ -69,7 +69,7 @@ impl Pieces {
     pub fn take<'a>(&mut self, piece: &'a [u8]) -> Result<(usize, Option<Part<'a>>), StreamFault>
         ensures takes { TakesPart piece.now self.old (part_taken result) self.new }
         ensures within { IfOk result (λ t. t.0 ≤ length piece.now) }
-        ensures most { (held : List ℕ) → self.new ≡ between held → length held ≤ 514 }
+        ensures held_octets { (held : List ℕ) → self.new ≡ between held → length held ≤ 514 }
     {
         match self.place {
             Place::Between => match self.coming.take(piece) {

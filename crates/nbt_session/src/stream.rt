@@ -51,7 +51,7 @@ impl Stream {
     pub fn take(&mut self, piece: &[u8]) -> Result<(usize, Option<Packet>), StreamFault>
         ensures takes { Takes piece.now self.old (taken result) self.new }
         ensures within { IfOk result (λ t. t.0 ≤ length piece.now) }
-        ensures most { (held : List ℕ) → self.new ≡ holding held → length held ≤ 131075 }
+        ensures held_octets { (held : List ℕ) → self.new ≡ holding held → length held ≤ 131075 }
     {
         let before = self.pieces.copy();
         let held = self.message.len();

@@ -43,13 +43,13 @@ returns-in_err-progress-clause-refused g c =
     let p = err_from_is_err_and c.from_residual.result c.from_residual.ensures.1 in
     rw (p.1, p.2) (refused_in_steps c.steps.invariant.on_path c.in_err-progress.ensures)
 
-pub returns-in_err-progress-clause-most : goal.returns-in_err-progress-clause-most
-returns-in_err-progress-clause-most g c = omega (arith, turns_bounded c.args.octets.now c.args.steps.now c.args.place c.steps.steps (spot_of c.steps.reader) c.requires c.steps.invariant.counted)
+pub returns-in_err-progress-clause-step_count : goal.returns-in_err-progress-clause-step_count
+returns-in_err-progress-clause-step_count g c = omega (arith, turns_bounded c.args.octets.now c.args.steps.now c.args.place c.steps.steps (spot_of c.steps.reader) c.requires c.steps.invariant.counted)
 
 pub returns-in-Closed-clause-steps : goal.returns-in-Closed-clause-steps
 returns-in-Closed-clause-steps g c =
     let turned = rw c.in-Closed.is at c.in_ok-progress.ensures in
     rw c.add_one.ensures (name_in_steps c.steps.invariant.on_path (later_passed _ _ _ turned.1) turned.2)
 
-pub returns-in-Closed-clause-most : goal.returns-in-Closed-clause-most
-returns-in-Closed-clause-most g c = omega (arith, c.add_one.ensures, turns_bounded c.args.octets.now c.args.steps.now c.args.place c.steps.steps (spot_of c.steps.reader) c.requires c.steps.invariant.counted)
+pub returns-in-Closed-clause-step_count : goal.returns-in-Closed-clause-step_count
+returns-in-Closed-clause-step_count g c = omega (arith, c.add_one.ensures, turns_bounded c.args.octets.now c.args.steps.now c.args.place c.steps.steps (spot_of c.steps.reader) c.requires c.steps.invariant.counted)

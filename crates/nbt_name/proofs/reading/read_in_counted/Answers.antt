@@ -9,5 +9,5 @@ returns g c = record {
   within = result_within Compressed c.args.octets.now c.args.place c.read.result c.read.ensures.name;
   steps = c.read.ensures.steps;
   refused = c.read.ensures.refused;
-  most = c.read.ensures.most;
+  step_count = c.read.ensures.step_count;
 }

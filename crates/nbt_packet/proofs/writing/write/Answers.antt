@@ -12,7 +12,7 @@ is_error (Err e) is = refl
 
 pub prove-unreachable-requires : goal.prove-unreachable-requires
 prove-unreachable-requires c =
-    let short : length (text (message_of c.args.message.now)) ≤ 576 = c.few_rows_are_written.ensures _ c.encode-written.ensures.numbers c.requires.few in
+    let short : length (text (message_of c.args.message.now)) ≤ 576 = c.few_rows_are_written.ensures _ c.encode-written.ensures.numbers c.requires.row_count in
     let long : 576 < length (text (message_of c.args.message.now)) = c.encode-written.ensures.full.0 (is_error _ (sym c.is_ok.ensures.value ∙ c.if-prove.true)) in
     omega arith
 

@@ -30,8 +30,8 @@ write-requires-2-clause-fits c =
     rw (c.as_slice.ensures.value, c.list-listed.ensures.entries)
     (entries_fit (entries_most c.args.name) leases c.in-Some.end c.list-listed.ensures.room c.list-listed.ensures.sound.most (subst (IsLeastEnd leases) c.in-Some.is c.list-listed.ensures.end))
 
-pub write-requires-2-clause-few : goal.write-requires-2-clause-few
-write-requires-2-clause-few c =
+pub write-requires-2-clause-row_count : goal.write-requires-2-clause-row_count
+write-requires-2-clause-row_count c =
     rw (c.as_slice.ensures.value, c.list-listed.ensures.entries) (entries_short (entries_most c.args.name) (leases_at c.args.now c.sweep.new.self.rows c.args.name))
 
 pub returns-clause-served : goal.returns-clause-served

@@ -10,7 +10,7 @@ write-requires-clause-fits c =
     let short = is_short _ _ _ _ _ _ (is_no_query _ c.in_default.not-Query) c.in_ok-reply.ensures.served in
     let it = rw c.in-Some.is at short in it.0
 
-pub write-requires-clause-few : goal.write-requires-clause-few
-write-requires-clause-few c =
+pub write-requires-clause-row_count : goal.write-requires-clause-row_count
+write-requires-clause-row_count c =
     let short = is_short _ _ _ _ _ _ (is_no_query _ c.in_default.not-Query) c.in_ok-reply.ensures.served in
     let it = rw c.in-Some.is at short in it.1

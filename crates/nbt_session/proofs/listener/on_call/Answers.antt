@@ -9,7 +9,7 @@ returns-then-not-held c = λ holds told. call_to _ _ _ _ c.refused.ensures.slot 
 pub returns-then-listens_on : goal.returns-then-listens_on
 returns-then-listens_on c = λ holds told.
     let held = kind_held (holds c.args.called.now) (sym told ∙ c.if-not-held.false) in
-    call_to _ _ _ _ c.refused-then-listens_on.ensures.slot c.refused-then-listens_on.ensures.answer (nobody_listens_for_it held.0 held.1 c.if-listens_on.ensures.some c.in_default.ensures.none)
+    call_to _ _ _ _ c.refused-then-listens_on.ensures.slot c.refused-then-listens_on.ensures.answer (nobody_listens_for_it held.0 held.1 c.if-listens_on.ensures.called_entry c.in_default.ensures.none)
 
 pub returns-in_default : goal.returns-in_default
 returns-in_default c = λ holds told.

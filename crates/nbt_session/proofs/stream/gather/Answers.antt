@@ -12,7 +12,7 @@ returns-in_err-count-clause-gathers c =
 pub returns-in-None-clause-gathers : goal.returns-in-None-clause-gathers
 returns-in-None-clause-gathers c =
     let takes = rw c.in-None.is at c.in_ok-count.ensures.takes in
-    after_nothing c.args.piece.now _ c.args.message.now.items c.parts.taken c.in_ok-count.count c.parts.pieces c.take.new.self c.parts.message.items c.parts.invariant takes c.in_ok-count.ensures.most
+    after_nothing c.args.piece.now _ c.args.message.now.items c.parts.taken c.in_ok-count.count c.parts.pieces c.take.new.self c.parts.message.items c.parts.invariant takes c.in_ok-count.ensures.held_octets
 
 pub parts-preserved-in-Some-MessageStart : goal.parts-preserved-in-Some-MessageStart
 parts-preserved-in-Some-MessageStart c =

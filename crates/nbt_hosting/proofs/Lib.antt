@@ -1,0 +1,10 @@
+-- What several proofs share; the proof of a function is in the folder of its module and its name.
+
+-- the lines of names, one after the other
+mod Lines
+-- one turn, by what its calls returned
+mod OneTurn
+-- a turn of which nothing is printed
+mod Quiet
+-- a host begins, and what follows from how its calls came out
+mod Beginning
