@@ -14,6 +14,7 @@ use std::io::Write;
 use std::net::{IpAddr, Ipv4Addr, Net, SocketAddr, TcpListener, TcpStream, UdpSocket};
 use std::process::Abort;
 use std::rc::Rc;
+use std::rt::Files;
 use std::test::Fail;
 use std::time::{Clock, Duration};
 
@@ -93,7 +94,7 @@ const NOT_BOUND: [(&str, &str); 8] = [
 ];
 
 /// What a command prints that ends with `device`, and what it says on standard error.
-fn expect_device<R: Abort + AllocGlobal, M: Net + Clock, S: AsStr>(
+fn expect_device<R: Abort + AllocGlobal, M: Net + Clock + Files, S: AsStr>(
     rt: &R,
     machine: &M,
     words: &[S],
@@ -302,13 +303,9 @@ impl Write for Watcher {
 
 /// Plays `loop` where the first connection has this luck at its two ends, and TEAM at this port sends to nobody. Both calls
 /// are made with as many connections.
-fn expect_all_told<R: Abort + AllocGlobal + Net<Stream = TcpStream, Listener = TcpListener>>(
-    rt: &R,
-    caller: Luck,
-    listener: Luck,
-    teller: u16,
-    connections: usize,
-) -> Result<(), Fail> {
+fn expect_all_told<
+    R: Abort + AllocGlobal + Net<Stream = TcpStream, Listener = TcpListener> + Files,
+>(rt: &R, caller: Luck, listener: Luck, teller: u16, connections: usize) -> Result<(), Fail> {
     let street = street_of(rt, caller, listener, teller)?;
     let mut told = Watcher::of(&street)?;
     let words = ["nbt", "loop", "21137"];

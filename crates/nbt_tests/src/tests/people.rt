@@ -11,7 +11,9 @@ use nbt_prog::command_telling;
 use std::io;
 use std::net::{Net, TcpListener, TcpStream};
 use std::process::Abort;
+use std::rt::Files;
 use std::test::Fail;
+use std::time::Clock;
 
 const WORDS: &str = "\
 # Wrong usage.
@@ -109,24 +111,29 @@ const UNREADABLE: [(&str, &str); 12] = [
     ),
 ];
 
+/// What is said of words that can't be read: nothing is printed, and the status is 2.
+pub fn expect_said<R: Abort + AllocGlobal + Net + Clock + Files>(rt: &R, line: &str, said: &str) {
+    let words = words_of(rt, line);
+    let mut paper = LimitedWriter::new();
+    let mut errors = LimitedWriter::new();
+    let status = command_telling(
+        rt,
+        rt.alloc(),
+        words.as_slice(),
+        &mut io::empty(),
+        &mut paper,
+        &mut errors,
+    );
+    assert_eq!(rt; errors.text.as_slice(), said.as_bytes(), "{line}");
+    assert!(rt; errors.is_flushed(), "{line}");
+    assert!(rt; paper.text.is_empty(), "{line}");
+    assert_eq!(rt; status, 2, "{line}");
+}
+
 #[test]
 fn words_that_are_said_to_be_unreadable(rt: HostRuntime) {
     for (line, said) in UNREADABLE {
-        let words = words_of(&rt, line);
-        let mut paper = LimitedWriter::new();
-        let mut errors = LimitedWriter::new();
-        let status = command_telling(
-            &rt,
-            rt.alloc(),
-            words.as_slice(),
-            &mut io::empty(),
-            &mut paper,
-            &mut errors,
-        );
-        assert_eq!(rt; errors.text.as_slice(), said.as_bytes(), "{line}");
-        assert!(rt; errors.is_flushed(), "{line}");
-        assert!(rt; paper.text.is_empty(), "{line}");
-        assert_eq!(rt; status, 2, "{line}");
+        expect_said(&rt, line, said);
     }
 }
 
@@ -362,7 +369,7 @@ fn expect_answer<R>(
     said: &str,
 ) -> Result<(), Fail>
 where
-    R: Abort + AllocGlobal + Net<Stream = TcpStream, Listener = TcpListener>,
+    R: Abort + AllocGlobal + Net<Stream = TcpStream, Listener = TcpListener> + Files,
 {
     let machine = machine_of(rt, row)?;
     let question = Question::Holders(OTHER, Name::new(b"FRED            ", b"")?);

@@ -8,6 +8,7 @@ use std::cell::Cell;
 use std::io;
 use std::net::{Net, TcpListener, TcpStream, UdpSocket};
 use std::process::Abort;
+use std::rt::Files;
 use std::test::Fail;
 use std::time::Duration;
 
@@ -85,7 +86,7 @@ nbt: 127.42.22.2:20138: receive: Connection refused (os error 111)
 
 pub const NO_CLOCK: &str = "nbt: 127.42.22.2:20138: clock: unsupported\n";
 
-const NO_TIME: &str = "nbt: 127.42.22.2:20138: clock: the time is 1970\n";
+pub const NO_TIME: &str = "nbt: 127.42.22.2:20138: clock: the time is 1970\n";
 
 const SERVERS: [Row; 9] = [
     Row {
@@ -316,7 +317,7 @@ where
 /// Runs a row's command, while the other end sends.
 pub fn expect_row<R>(rt: &R, row: &Row) -> Result<(), Fail>
 where
-    R: Abort + AllocGlobal + Net<Stream = TcpStream, Listener = TcpListener>,
+    R: Abort + AllocGlobal + Net<Stream = TcpStream, Listener = TcpListener> + Files,
 {
     let machine = machine_of(rt, row)?;
     let words = words_of(rt, row.words);
@@ -422,7 +423,7 @@ const NODE_OUTLASTS: Row = Row {
 /// Runs the row's command, whose port is well after three failures and breaks again at that reading.
 fn expect_outlasting<R>(rt: &R, row: &Row, breaks_again_at: usize) -> Result<(), Fail>
 where
-    R: Abort + AllocGlobal + Net<Stream = TcpStream, Listener = TcpListener>,
+    R: Abort + AllocGlobal + Net<Stream = TcpStream, Listener = TcpListener> + Files,
 {
     let mut machine = machine_of(rt, row)?;
     machine.well_after = 3;

@@ -12,6 +12,7 @@ use super::LimitedWriter;
 use nbt_prog::{command, command_on};
 use std::net::Net;
 use std::process::Abort;
+use std::rt::Files;
 use std::time::Clock;
 
 /// FRED on the wire (RFC 1001 section 14.1).
@@ -33,7 +34,7 @@ struct Run {
 }
 
 /// Plays runs, each by `command` and on this machine by `command_on`: none of them opens a socket.
-pub fn play<R: Abort + AllocGlobal + Net + Clock>(rt: &R, runs: &str) {
+pub fn play<R: Abort + AllocGlobal + Net + Clock + Files>(rt: &R, runs: &str) {
     for text in runs.split("\n\n") {
         let run = read_run(rt, text);
         let mut paper = LimitedWriter::new();
