@@ -6,3 +6,5 @@ mod Holding
 mod OneTurn
 -- a server and what watches it begin, over this machine
 mod Beginning
+-- what became of a look at the leases
+mod Looking
