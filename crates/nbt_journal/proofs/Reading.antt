@@ -1,7 +1,6 @@
 -- What a message that is read says.
 use Rattle.std.proofs.Common.{◌≡◌, ℕ, List, Bool, Some, None, refl}
 use Rattle.std.specs.Prelude.{◌≢◌, Option, ◌↔◌}
-use Rattle.std.specs.Borrow.{Bor}
 use Rattle.nbt_name.specs.declared.addr.Kind.{Kind}
 use Rattle.nbt_name.specs.Wire.{NameValue}
 use Rattle.nbt_packet.specs.declared.message.Message.{Message}

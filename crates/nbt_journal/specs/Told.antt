@@ -4,7 +4,6 @@ use Rattle.std.specs.Prelude.{◌≡◌, ℕ, nat_eq, Bool, if◌then◌else◌,
 use Rattle.nbt_name.specs.declared.addr.Addr.{Addr}
 use Rattle.nbt_name.specs.declared.addr.Kind.{Kind}
 use Rattle.nbt_name.specs.Wire.{NameValue}
-use Rattle.nbt_packet.specs.declared.message.Registration.{Registration}
 use Rattle.nbt_packet.specs.Message.{MessageValue, registration, refresh, release, registered, released}
 use Rattle.nbt_packet.specs.Spelling.{Spells}
 use Rattle.nbt_server.specs.Serving.{IsForNodes}

@@ -1,6 +1,6 @@
 //! A name server over this machine's UDP, its clocks and its files.
 
-ghost use Rattle.std.specs.Prelude.{◌≡◌, ◌≢◌, ◌+◌, ◌≤◌, ◌^◌, ℕ, List, Err, OnOk, IfOk, IfErr, OnErr};
+ghost use Rattle.std.specs.Prelude.{◌≡◌, ◌+◌, ◌≤◌, ◌^◌, ◌⊎◌, ℕ, List, Err, OnOk, IfOk, IfErr, OnErr};
 ghost use Rattle.std.specs.Io.KnownBytes.{Appends};
 ghost use Rattle.nbt_lease.specs.Config.{milliseconds};
 ghost use Rattle.nbt_journal.specs.Dates.{second_at};
@@ -9,17 +9,18 @@ ghost use Rattle.nbt_nbns.specs.Here.{until_of, log_of, leases_of, RunsNbns, Nbn
 ghost use Rattle.nbt_nbns.specs.Watching.{WatchesUntil, WatchFails};
 
 use crate::begin::write_begin;
+use crate::complaint::complain;
 use crate::journal::Journal;
 use crate::keeper::Keeper;
 use crate::logger::Logger;
 use crate::place::FilePlace;
 use crate::staying::{Watcher, watch_on};
-use nbt_ask::SteadyClock;
-use nbt_engine::{Cause, Clock, Fault, MachineCall, Port, UdpPort};
+use nbt_ask::steady_clock;
+use nbt_engine::{Clock, Fault, Port, UdpPort, bound_port};
 use nbt_journal::Dates;
 use nbt_lease::{Config, Moment};
 use nbt_name::Addr;
-use nbt_net::{bound_port, readable_clock, tell_end_of};
+use nbt_net::{readable_clock, tell_end_of};
 use nbt_samba::SambaPort;
 use nbt_server::Server;
 use std::alloc::{AllocError, Global};
@@ -48,9 +49,9 @@ pub struct NbnsArguments {
 /// Runs a name server on a UDP port of this machine, over its clock that nobody sets. It first prints where it serves, for how long
 /// it is silent and until when, and then stays up for 2^61 turns or until its time is over, also where the port fails, as
 /// [`watch_on`] does. It logs to `writer`, and keeps the list of its leases in a file, where that is asked for. Refused: `NoPort`
-/// where the port can't be had; `NoClock` where a clock can't be read at first; `Device` at the hundredth turn in a row that fails;
-/// `Output` where the first line can't be written; `Memory` where memory is refused before the first turn. Of each but the last
-/// two a line in `errors` says which call of the machine failed, for which address, and why.
+/// where the port can't be had; `NoClock` where a clock can't be read at first; `Memory` where memory is refused before the first
+/// line; `Output` where that line can't be written; `Device` at the hundredth turn in a row that fails. Of each but `Memory` a line
+/// in `errors` says what failed, and why. What can't be written to `errors` is passed over.
 pub fn run_nbns<M: Net + time::Clock + Files, W: Write, E: Write>(
     machine: &M,
     alloc: Global,
@@ -60,6 +61,9 @@ pub fn run_nbns<M: Net + time::Clock + Files, W: Write, E: Write>(
 ) -> Result<(), Fault>
     ensures ok { OnOk result (RunsNbns arguments.now (W.contents writer.old) (W.contents writer.new)) }
     ensures device { result ≡ Err Fault.Device → NbnsFails arguments.now (W.contents writer.old) (W.contents writer.new) }
+    ensures port { result ≡ Err Fault.NoPort → W.contents writer.new ≡ W.contents writer.old }
+    ensures clock { result ≡ Err Fault.NoClock → W.contents writer.new ≡ W.contents writer.old }
+    ensures memory { result ≡ Err Fault.Memory → W.contents writer.new ≡ W.contents writer.old }
 {
     let port = bound_port(machine, arguments.bind, errors)?;
     let mut clock = steady_clock(machine, arguments.bind, errors)?;
@@ -69,13 +73,14 @@ pub fn run_nbns<M: Net + time::Clock + Files, W: Write, E: Write>(
         moment: start,
         time: day.now(),
     };
-    tell_begin(alloc, local_of(&port), &dates, arguments.config, writer)?;
     let mut journal = Journal {
         dates,
         day,
         log: log_of(alloc, arguments.log),
         leases: leases_of(machine, alloc, &arguments.leases)?,
     };
+    let local = local_of(&port);
+    tell_begin(alloc, local, &dates, arguments.config, writer, errors)?;
     let mut server = Server::start(alloc, arguments.config, start);
     let until = until_of(start, arguments.time);
     if arguments.strict {
@@ -105,46 +110,36 @@ pub fn run_nbns<M: Net + time::Clock + Files, W: Write, E: Write>(
     }
 }
 
-/// The clock that nobody sets, where it can be read. Else it says why in `errors`.
-fn steady_clock<'a, M: time::Clock, E: Write>(
-    machine: &'a M,
-    addr: Addr,
-    errors: &mut E,
-) -> Result<SteadyClock<'a, M>, Fault>
-    ensures ok { IfOk result (λ clock. clock ≡ 0) }
-    ensures err { IfErr result (λ fault. fault ≡ Fault.NoClock) }
-{
-    match SteadyClock::begin(machine) {
-        Ok(clock) => Ok(clock),
-        Err(error) => {
-            Cause::new(MachineCall::Clock, addr, error).tell("", errors);
-            Err(Fault::NoClock)
-        }
-    }
-}
-
 /// The address that a port really has, where the machine tells it; else the one that was asked for.
 fn local_of(port: &UdpPort) -> Addr {
     port.local().unwrap_or(port.addr())
 }
 
-/// Prints where a server serves that starts now, for how long it is silent, and until when, at once.
-fn tell_begin<W: Write>(
+/// Prints where a server serves that starts now, for how long it is silent, and until when, at once. Refused: `Memory`, and then
+/// nothing is printed; `Output` where the line can't be written, and it says why in `errors`.
+fn tell_begin<W: Write, E: Write>(
     alloc: Global,
     at: Addr,
     dates: &Dates,
     config: Config,
     writer: &mut W,
+    errors: &mut E,
 ) -> Result<(), Fault>
     ensures ok { OnOk result ((line : List ℕ) × IsBegin at config.longest (second_at dates.now (dates.now.moment + milliseconds config.longest)) line
         × Appends (W.contents writer.old) (W.contents writer.new) line) }
-    ensures err { IfErr result (λ fault. fault ≢ Fault.Device) }
+    ensures err { IfErr result (λ fault. (fault ≡ Fault.Output) ⊎ ((fault ≡ Fault.Memory) × (W.contents writer.new ≡ W.contents writer.old))) }
 {
     let silent = config.longest();
     let until = dates.second_at(dates.moment.get() + 1000 * u64::from(silent));
     let mut line = String::new(alloc);
     write_begin(at, silent, until, &mut line)?;
-    print(line.as_str(), writer).map_err(|_| Fault::Output)
+    match print(line.as_str(), writer) {
+        Ok(()) => Ok(()),
+        Err(error) => {
+            complain("the first line", error, errors);
+            Err(Fault::Output)
+        }
+    }
 }
 
 fn print<W: Write>(text: &str, writer: &mut W) -> io::Result<()>

@@ -75,7 +75,8 @@ impl<L> Keeper<L> {
 
 impl<L: Place> Keeper<L> {
     /// Looks at the leases that live at `now`, at most once in a second, and gives the place their list where it has another one.
-    /// Where that can't be done, that is said in `errors`, the first time of a row, and the next look tries again.
+    /// Where that can't be done, that is said in `errors`, by the name of the place, the first time of a row, and the next look
+    /// tries again.
     pub fn keep<E: Write>(
         &mut self,
         server: &Server,
@@ -94,8 +95,7 @@ impl<L: Place> Keeper<L> {
                 kept
             }
             Err(error) => {
-                self.complaint
-                    .tell("the list of leases can't be written", error, errors);
+                self.complaint.tell(self.place.name(), error, errors);
                 Kept::Failed
             }
         }

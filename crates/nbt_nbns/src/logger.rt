@@ -61,8 +61,7 @@ impl Logger {
                 true
             }
             Err(error) => {
-                self.complaint
-                    .tell("the log can't be written", error, errors);
+                self.complaint.tell("the log", error, errors);
                 false
             }
         }

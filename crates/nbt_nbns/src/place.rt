@@ -14,6 +14,9 @@ pub trait Place {
     /// What a replacing is: the place before, the text, and the place afterwards.
     ghost puts: { Self → List ℕ → Self → Type 0 };
 
+    /// What it is called where it is said that it can't be written.
+    fn name(&self) -> &str;
+
     /// Puts this text in place of the one that it has. A reader sees the one or the other, and never a part. Where the place
     /// refuses it, the error says why, and the earlier text stays.
     fn replace(&mut self, text: &str) -> io::Result<()>
@@ -69,6 +72,10 @@ impl Place for MemoryPlace {
 
     ghost puts = { Adds };
 
+    fn name(&self) -> &str {
+        "the list of leases"
+    }
+
     fn replace(&mut self, text: &str) -> io::Result<()> {
         if self.refusals > 0 {
             self.refusals -= 1;
@@ -117,6 +124,11 @@ impl<'a, R: Files> Place for FilePlace<'a, R> {
     ghost use Rattle.nbt_nbns.specs.Places.{Stays};
 
     ghost puts = { Stays };
+
+    /// The path of the file.
+    fn name(&self) -> &str {
+        self.path.as_str()
+    }
 
     fn replace(&mut self, text: &str) -> io::Result<()> {
         fs::write(self.machine, self.beside.as_str(), text)?;

@@ -1,11 +1,11 @@
 -- What the headline says: who holds a name in a world, when a world is safe, what a run is, and when its clocks keep the
 -- drift bound.
-use Rattle.std.specs.Prelude.{◌≡◌, ◌≢◌, ℕ, ◌^◌, ◌<◌, ◌≤◌, ◌↔◌, IsTrue, List, [], ◌∷◌, slice_get, Option, Some, None, All}
+use Rattle.std.specs.Prelude.{◌≡◌, ◌≢◌, ℕ, ◌<◌, ◌≤◌, ◌↔◌, IsTrue, List, [], ◌∷◌, slice_get, Option, Some, None, All}
 use Rattle.nbt_name.specs.declared.addr.Addr.{Addr}
 use Rattle.nbt_name.specs.declared.addr.Kind.{Kind}
 use Rattle.nbt_name.specs.declared.addr.Kind.TheVariants.{Group}
 use Rattle.nbt_name.specs.Wire.{NameValue}
-use Rattle.nbt_lease.specs.Config.{ConfigValue}
+use Rattle.nbt_lease.specs.Config.{ConfigValue, last_moment}
 use Rattle.nbt_node.specs.Node.{NodeValue, holds}
 use Rattle.nbt_world.specs.declared.event.Event.{Event}
 use Rattle.nbt_world.specs.declared.event.Outcome.{Outcome}
@@ -65,7 +65,7 @@ MoveClocksAlike events = All (λ event. LetsClocksDrift event → ⊥) events
 
 -- No clock has come to its last moment, at which it stops.
 abbrev pub NoClockStopped : WorldValue → Type 0
-NoClockStopped world = (world.now.clock < 2 ^ 60) × ((number : ℕ) → IsEnd world.ends number → reading world.now number < 2 ^ 60)
+NoClockStopped world = (world.now.clock < last_moment) × ((number : ℕ) → IsEnd world.ends number → reading world.now number < last_moment)
 
 -- each of them in which no clock has stopped kept the bound, and is safe
 abbrev pub AreKeptUntilClocksStop : List WorldValue → Type 0

@@ -1,10 +1,5 @@
 //! A server and a node over a port in memory: the life of a datagram 1,000 ms, the longest lease 60 s, all started at 0.
 
-use super::memory::{Row, clock, expect_sent, port};
-use super::{
-    FOUND, GRANTED, NOT_FOUND, QUERY, REFRESH, REFUSED, REGISTRATION, RIVAL, config, moment,
-    octets, one_of_many_in_words, started,
-};
 use arrayvec::ArrayVec;
 use nbt_engine::{
     Counts, Datagram, Device, MemoryClock, MemoryPort, Port, Seen, Want, node_turn, serve_turns,
@@ -12,6 +7,10 @@ use nbt_engine::{
 use nbt_lease::Moment;
 use nbt_name::{Addr, Kind, Name};
 use nbt_node::{AskFault, Node};
+use nbt_rows::{
+    FOUND, GRANTED, NOT_FOUND, QUERY, REFRESH, REFUSED, REGISTRATION, RIVAL, Row, clock, config,
+    expect_sent, moment, octets, one_of_many_in_words, port, started,
+};
 use nbt_server::Server;
 use std::collections::VecDeque;
 use std::process::Abort;

@@ -1,9 +1,9 @@
 //! Ports over UDP, and the machine's clock.
 
-use super::moment;
 use arrayvec::ArrayVec;
 use nbt_engine::{Clock, Device, MachineClock, Port, UdpPort};
 use nbt_name::Addr;
+use nbt_rows::moment;
 use std::cell::Cell;
 use std::process::Abort;
 use std::test::Fail;

@@ -1,8 +1,8 @@
 //! Addresses, numbers, octets, packets, datagrams, sessions and vectors as text. What `show` and `check` print is tested
 //! with the commands.
 
-use super::{EVERY_KIND, octets};
 use nbt_name::Addr;
+use nbt_rows::{EVERY_KIND, octets};
 use nbt_show::{write_dgram, write_packet, write_session, write_verdicts};
 use nbt_text::{octets_of, parse_address, parse_number, words_of, write_hexadecimal};
 use std::process::Abort;

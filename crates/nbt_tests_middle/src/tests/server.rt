@@ -1,11 +1,11 @@
 //! The server's replies to datagrams: the life of a datagram 1,000 ms, the longest lease 60 s.
 
-use super::{
+use arrayvec::ArrayVec;
+use nbt_name::Addr;
+use nbt_rows::{
     EVERY_KIND, FIRST, FOUND, GRANTED, NOT_FOUND, QUERY, REFRESH, REFUSED, REGISTRATION, RELEASE,
     RIVAL, SECOND, moment, octets, one_of_many_in_words, started,
 };
-use arrayvec::ArrayVec;
-use nbt_name::Addr;
 use nbt_server::{Server, ServerFault};
 use std::process::Abort;
 use std::test::Fail;

@@ -1,11 +1,11 @@
 //! Worlds, event by event, with what comes of each: a server at 127.0.0.1, nodes at 127.0.0.2 and 127.0.0.3, the life of a
 //! datagram 1,000 ms, the longest lease 60 s.
 
-use super::{EVERY_KIND, REGISTRATION, config, octets, one_of_many};
 use Does::{
     Advance, Ask, Crash, Deliver, Join, NameStatus, Poll, Release, Resolve, Start, Stranger, Tick,
 };
 use nbt_name::{Addr, Kind, Name};
+use nbt_rows::{EVERY_KIND, REGISTRATION, config, octets, one_of_many};
 use nbt_world::Outcome::{self, Done, Down, Lost, Nobody, Nothing, Refused, Sent, Taken};
 use nbt_world::{Event, OutOfMemory, World};
 use std::process::Abort;

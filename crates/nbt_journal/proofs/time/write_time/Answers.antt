@@ -1,4 +1,4 @@
-use Rattle.std.proofs.Common.{◌≡◌, ℕ, List, Bool, Option, ◌++◌, ◌∙◌, subst}
+use Rattle.std.proofs.Common.{◌≡◌, ℕ, Bool, Option, ◌++◌, ◌∙◌, subst}
 use Rattle.jiff_fmt.specs.Text.{datetime_text, zulu_text}
 use Rattle.nbt_text.proofs.Joining.{OnOk-map}
 use Rattle.nbt_journal.specs.Dates.{IsTimeText}

@@ -1,6 +1,5 @@
-use Rattle.std.proofs.Common.{◌≡◌, refl}
-use Rattle.nbt_packet.specs.Message.{message_of, registration, refresh, release}
-use Rattle.nbt_journal.specs.Told.{claimed_by}
+use Rattle.std.proofs.Common.{refl}
+use Rattle.nbt_packet.specs.Message.{message_of}
 use Rattle.nbt_journal.proofs.Reading.{reads_none, reads_this, reads_one, claims_nothing}
 use Rattle.nbt_journal.proofs.told.claimed_in.Goals as goal
 

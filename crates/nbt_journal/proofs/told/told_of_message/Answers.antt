@@ -1,4 +1,3 @@
-use Rattle.std.proofs.Common.{refl}
 use Rattle.nbt_journal.proofs.Reading.{tells_nothing}
 use Rattle.nbt_journal.proofs.told.told_of_message.Goals as goal
 

@@ -1,13 +1,15 @@
 //! What a name server's user reads of it. The expected lines are written by hand from the rules, and the times are those of a
 //! calendar.
 
-use super::{GRANTED, NOT_FOUND, QUERY, REFRESH, REFUSED, REGISTRATION, RELEASE, moment, octets};
 use nbt_journal::{
     Dates, Limiter, Told, claimed_in, told_of_reply, told_of_silence, write_leases, write_time,
     write_told,
 };
 use nbt_lease::{Lease, Moment};
 use nbt_name::{Addr, Kind, Name};
+use nbt_rows::{
+    GRANTED, NOT_FOUND, QUERY, REFRESH, REFUSED, REGISTRATION, RELEASE, moment, octets,
+};
 use nbt_text::parse_name;
 use std::process::Abort;
 use std::test::Fail;

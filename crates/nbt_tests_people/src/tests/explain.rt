@@ -1,12 +1,12 @@
 //! Packets, datagrams and sessions in words, why packets spell no message, and HEX with marks between its digits. The expected
 //! texts are RFC 1002's sections 4.2 to 4.4, read by hand, and Wireshark's words.
 
-use super::octets;
 use hex::FromHexError;
 use nbt_explain::{
     Reason, explain_dgram, explain_packet, explain_session, read_digits, reason_of, write_sentence,
 };
 use nbt_packet::decode;
+use nbt_rows::octets;
 use std::process::Abort;
 use std::test::Fail;
 
@@ -53,7 +53,7 @@ fn packets_in_words(rt: HostRuntime) -> Result<(), Fail> {
         &[
             // A registration.
             (
-                super::REGISTRATION,
+                nbt_rows::REGISTRATION,
                 "Transaction ID: 0x0001\nResponse: clear\nOpcode: Registration (5)\nAuthoritative: clear\nTruncated: clear\nRecursion desired: set\nRecursion available: clear\nBroadcast: clear\nQuestions: 1, answer RRs: 0, authority RRs: 0, additional RRs: 1\nQuestion: FRED#20 (file server), type NB (32), class IN (1)\nAdditional: FRED#20 (file server), type NB (32), class IN (1), time to live 1 min, 6 octets\nAddress: 127.0.0.2, P-node, unique\n",
             ),
             // An overwrite.
@@ -63,7 +63,7 @@ fn packets_in_words(rt: HostRuntime) -> Result<(), Fail> {
             ),
             // A refresh, of either OPCODE.
             (
-                super::REFRESH,
+                nbt_rows::REFRESH,
                 "Transaction ID: 0x0001\nResponse: clear\nOpcode: Refresh (8)\nAuthoritative: clear\nTruncated: clear\nRecursion desired: clear\nRecursion available: clear\nBroadcast: clear\nQuestions: 1, answer RRs: 0, authority RRs: 0, additional RRs: 1\nQuestion: FRED#20 (file server), type NB (32), class IN (1)\nAdditional: FRED#20 (file server), type NB (32), class IN (1), time to live 1 min, 6 octets\nAddress: 127.0.0.2, P-node, unique\n",
             ),
             (
@@ -72,12 +72,12 @@ fn packets_in_words(rt: HostRuntime) -> Result<(), Fail> {
             ),
             // A release.
             (
-                super::RELEASE,
+                nbt_rows::RELEASE,
                 "Transaction ID: 0x0002\nResponse: clear\nOpcode: Release (6)\nAuthoritative: clear\nTruncated: clear\nRecursion desired: clear\nRecursion available: clear\nBroadcast: clear\nQuestions: 1, answer RRs: 0, authority RRs: 0, additional RRs: 1\nQuestion: FRED#20 (file server), type NB (32), class IN (1)\nAdditional: FRED#20 (file server), type NB (32), class IN (1), time to live 0 s, 6 octets\nAddress: 127.0.0.2, P-node, unique\n",
             ),
             // A query.
             (
-                super::QUERY,
+                nbt_rows::QUERY,
                 "Transaction ID: 0x0008\nResponse: clear\nOpcode: Name query (0)\nAuthoritative: clear\nTruncated: clear\nRecursion desired: set\nRecursion available: clear\nBroadcast: clear\nQuestions: 1, answer RRs: 0, authority RRs: 0, additional RRs: 0\nQuestion: FRED#20 (file server), type NB (32), class IN (1)\n",
             ),
             // A status request, whose B isn't looked at.
@@ -87,11 +87,11 @@ fn packets_in_words(rt: HostRuntime) -> Result<(), Fail> {
             ),
             // What is replied to a registration.
             (
-                super::GRANTED,
+                nbt_rows::GRANTED,
                 "Transaction ID: 0x0001\nResponse: set\nOpcode: Registration (5)\nAuthoritative: set\nTruncated: clear\nRecursion desired: set\nRecursion available: set\nBroadcast: clear\nReply code: no error (0)\nQuestions: 0, answer RRs: 1, authority RRs: 0, additional RRs: 0\nAnswer: FRED#20 (file server), type NB (32), class IN (1), time to live 1 min, 6 octets\nAddress: 127.0.0.2, P-node, unique\n",
             ),
             (
-                super::REFUSED,
+                nbt_rows::REFUSED,
                 "Transaction ID: 0x0001\nResponse: set\nOpcode: Registration (5)\nAuthoritative: set\nTruncated: clear\nRecursion desired: set\nRecursion available: set\nBroadcast: clear\nReply code: held by another (6)\nQuestions: 0, answer RRs: 1, authority RRs: 0, additional RRs: 0\nAnswer: FRED#20 (file server), type NB (32), class IN (1), time to live 0 s, 6 octets\nAddress: 127.0.0.3, P-node, unique\n",
             ),
             // What is replied to a release.
@@ -106,7 +106,7 @@ fn packets_in_words(rt: HostRuntime) -> Result<(), Fail> {
             ),
             // What is not found, with its record and without.
             (
-                super::NOT_FOUND,
+                nbt_rows::NOT_FOUND,
                 "Transaction ID: 0x0008\nResponse: set\nOpcode: Name query (0)\nAuthoritative: set\nTruncated: clear\nRecursion desired: set\nRecursion available: set\nBroadcast: clear\nReply code: no such name (3)\nQuestions: 0, answer RRs: 1, authority RRs: 0, additional RRs: 0\nAnswer: FRED#20 (file server), type NULL (10), class IN (1), time to live 0 s, 0 octets\n",
             ),
             (
@@ -153,7 +153,7 @@ fn packets_in_words(rt: HostRuntime) -> Result<(), Fail> {
 type Wrong = (&'static str, Option<Reason>, &'static str);
 
 const WRONG: [Wrong; 25] = [
-    (super::REGISTRATION, None, ""),
+    (nbt_rows::REGISTRATION, None, ""),
     ("0009 0010 one-name STAR NBSTAT", None, ""),
     (
         "0001 7900 two-parts FRED NB again NB 60s unique 127.0.0.2",

@@ -1,14 +1,13 @@
 //! A host of several names over a port in memory: the life of a datagram 1,000 ms, so that a name rests for 2,004 ms, the longest
 //! lease 60 s, which is held for 59,878 ms, all started at 0.
 
-use super::memory::{Row, clock, expect_sent, port};
-use super::{config, moment, octets, started};
 use arrayvec::ArrayVec;
 use nbt_engine::{Datagram, Device, MemoryClock, MemoryPort, Port, Want};
 use nbt_host::{Clocks, Goal, News, Reading, Stage, give_back, host_turn, waking_turn};
 use nbt_lease::Moment;
 use nbt_name::{Addr, Kind, Name};
 use nbt_node::Node;
+use nbt_rows::{Row, clock, config, expect_sent, moment, octets, port, started};
 use nbt_server::Server;
 use std::collections::VecDeque;
 use std::process::Abort;

@@ -1,10 +1,6 @@
 //! A name server that is watched, over a port in memory: the life of a datagram is 1,000 ms, the longest lease 60 s, and it started
 //! at 0. At its moment 60,000 it was 2026-11-24T09:12:03Z.
 
-use super::memory::{Row, clock, expect_sent, port};
-use super::{
-    GRANTED, QUERY, REFRESH, REFUSED, REGISTRATION, RELEASE, RIVAL, config, moment, started,
-};
 use nbt_engine::{Fault, MemoryClock, MemoryPort, Port, UdpPort};
 use nbt_journal::Dates;
 use nbt_lease::Config;
@@ -13,7 +9,12 @@ use nbt_nbns::{
     FilePlace, Journal, Judged, Keeper, Logger, MemoryPlace, NbnsArguments, Place, judge, run_nbns,
     watch_on, write_begin, write_refusal, write_warning,
 };
+use nbt_rows::{
+    GRANTED, QUERY, REFRESH, REFUSED, REGISTRATION, RELEASE, RIVAL, Row, clock, config,
+    expect_sent, moment, port, started,
+};
 use nbt_server::Server;
+use std::io::Write;
 use std::process::Abort;
 use std::test::Fail;
 use std::{env, fs, io, process, time};
@@ -387,6 +388,59 @@ fn a_log_that_can_not_be_written_is_said_once_a_row(rt: HostRuntime) -> Result<(
     expect_sent(&rt, &stage.port, ALL_SENT)
 }
 
+/// A writer that counts what was written, and what of it was flushed.
+#[derive(Drop)]
+struct Paper {
+    written: usize,
+    flushed: usize,
+}
+
+impl Write for Paper {
+    fn write(&mut self, buf: &[u8]) -> io::Result<usize> {
+        self.written = self.written.saturating_add(buf.len());
+        Ok(buf.len())
+    }
+
+    fn flush(&mut self) -> io::Result<()> {
+        self.flushed = self.written;
+        Ok(())
+    }
+}
+
+#[test]
+fn all_that_is_printed_is_flushed(rt: HostRuntime) -> Result<(), Fail> {
+    let mut paper = Paper {
+        written: 0,
+        flushed: 0,
+    };
+    let mut errors = Vec::new(rt.alloc());
+    run_nbns(
+        &rt,
+        rt.alloc(),
+        &arguments(0, false)?,
+        &mut paper,
+        &mut errors,
+    )?;
+    let begun = paper.written;
+    assert!(&rt; begun > 0);
+    assert_eq!(&rt; paper.flushed, begun);
+    let mut stage = staged(&rt, EACH, true, false)?;
+    assert!(&rt; stage.port.failures() <= 1 << 61);
+    watch_on(
+        &mut stage.port,
+        &mut stage.clock,
+        &mut stage.server,
+        &mut stage.journal,
+        Some(moment(60_000)?),
+        &rt,
+        &mut paper,
+        &mut errors,
+    )?;
+    assert_eq!(&rt; paper.written, begun.saturating_add(59));
+    assert_eq!(&rt; paper.flushed, paper.written);
+    Ok(())
+}
+
 #[test]
 fn a_place_in_memory_keeps_each_text(rt: HostRuntime) -> Result<(), Fail> {
     let mut place = MemoryPlace::new(rt.alloc());
@@ -489,6 +543,43 @@ fn a_server_tells_the_port_that_it_got(rt: HostRuntime) -> Result<(), Fail> {
     )?;
     assert!(&rt; printed.as_slice().starts_with(b"serving 127.42.23.3:"));
     assert!(&rt; !printed.as_slice().starts_with(b"serving 127.42.23.3:0,"));
+    Ok(())
+}
+
+#[test]
+fn a_list_whose_file_can_not_be_had(rt: HostRuntime) -> Result<(), Fail> {
+    let path = path_for(&rt, "no-folder/leases")?;
+    let mut arguments = arguments(0, false)?;
+    arguments.leases = Some(String::from_str(rt.alloc(), path.as_str())?);
+    let mut printed = Vec::new(rt.alloc());
+    let mut errors = Vec::new(rt.alloc());
+    run_nbns(&rt, rt.alloc(), &arguments, &mut printed, &mut errors)?;
+    let expected = format!(in rt.alloc();
+        "nbt: {path} can't be written: No such file or directory (os error 2)\n"
+    )?;
+    assert_eq!(&rt; errors.as_slice(), expected.as_bytes());
+    Ok(())
+}
+
+#[test]
+fn a_first_line_that_can_not_be_written(rt: HostRuntime) -> Result<(), Fail> {
+    let mut room = [0; 8];
+    let mut short = &mut room[..];
+    let mut errors = Vec::new(rt.alloc());
+    assert_eq!(&rt;
+        run_nbns(
+            &rt,
+            rt.alloc(),
+            &arguments(0, false)?,
+            &mut short,
+            &mut errors
+        ),
+        Err(Fault::Output)
+    );
+    assert_eq!(&rt;
+        errors.as_slice(),
+        b"nbt: the first line can't be written: failed to write whole buffer\n".as_slice()
+    );
     Ok(())
 }
 

@@ -1,11 +1,10 @@
 //! Registrations as Samba's programs send them, taken at a port: the packets of real programs stand in `nbt_vectors` too. The
 //! life of a datagram is 1,000 ms, the longest lease 60 s, and the server started at 0.
 
-use super::memory::{clock, expect_sent, port};
-use super::{EVERY_KIND, octets, started};
 use arrayvec::ArrayVec;
 use nbt_engine::{Counts, Device, MemoryClock, Port, UdpPort, serve_turns};
 use nbt_name::Addr;
+use nbt_rows::{EVERY_KIND, clock, expect_sent, octets, port, started};
 use nbt_samba::{SambaPort, take_registration};
 use nbt_server::Server;
 use std::process::Abort;

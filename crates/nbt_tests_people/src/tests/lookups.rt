@@ -1,13 +1,12 @@
 //! Lookups of a node at 127.0.0.2 over a port in memory, at a server at 127.0.0.1.
 
-use super::memory::{Row, clock, expect_sent, port};
-use super::{config, moment, octets};
 use arrayvec::ArrayVec;
 use nbt_ask::{Answer, ask, patience_of};
 use nbt_engine::{Fault, Port};
 use nbt_lookup::{Ending, Question, look_up};
 use nbt_name::{Addr, Name};
 use nbt_node::{LookupFault, Node};
+use nbt_rows::{Row, clock, config, expect_sent, moment, octets, port};
 use std::process::Abort;
 use std::test::Fail;
 

@@ -1,14 +1,13 @@
 //! A host and what it prints, over a port in memory: the life of a datagram 1,000 ms, so that a name rests for 2,004 ms, the longest
 //! lease 60 s, which is held for 59,878 ms, all started at 0, when it was 2026-11-24T09:11:03Z.
 
-use super::memory::{Row, clock, expect_sent, port};
-use super::{config, moment};
 use nbt_engine::{Fault, MemoryClock, MemoryPort, Port, UdpPort, Want};
 use nbt_host::{Clocks, Goal, News, Refusal, Stage};
 use nbt_hosting::{
     Event, HostArguments, host_over, run_host, write_begin, write_endings, write_event, write_turn,
 };
 use nbt_name::{Addr, Kind, Name};
+use nbt_rows::{Row, clock, config, expect_sent, moment, port};
 use std::process::Abort;
 use std::test::Fail;
 use std::time;

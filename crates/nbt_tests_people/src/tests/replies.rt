@@ -1,6 +1,6 @@
 //! What is told of replies to lookups. The expected lines are those of RFC 1002 sections 4.2.13, 4.2.14 and 4.2.18, read by hand.
 
-use super::octets;
+use nbt_rows::octets;
 use nbt_tell::{Reply, rcode_words, write_reply};
 use std::process::Abort;
 use std::test::Fail;
@@ -156,9 +156,9 @@ fn octets_that_are_no_replies(rt: HostRuntime) -> Result<(), Fail> {
         &[
             ("-", Reply::Other, ""),
             ("0008 8580 reply FRED", Reply::Other, ""),
-            (super::QUERY, Reply::Other, ""),
-            (super::GRANTED, Reply::Other, ""),
-            (super::REFUSED, Reply::Other, ""),
+            (nbt_rows::QUERY, Reply::Other, ""),
+            (nbt_rows::GRANTED, Reply::Other, ""),
+            (nbt_rows::REFUSED, Reply::Other, ""),
             // An entry that is not whole.
             (
                 "0008 8580 reply FRED NB 1s 0005 2000 7f0000",

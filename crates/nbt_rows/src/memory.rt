@@ -1,10 +1,10 @@
 //! What rows over a port in memory share: a clock that tells moments, a port that hands out datagrams, and what was sent.
 
-use super::{moment, octets};
+use crate::limits::moment;
+use crate::pieces::octets;
 use nbt_engine::{Datagram, MemoryClock, MemoryPort};
 use nbt_name::Addr;
 use std::collections::VecDeque;
-use std::process::Abort;
 use std::test::Fail;
 
 /// A datagram as words, with the end that it is from or for; nothing where there are no octets.
@@ -35,19 +35,15 @@ pub fn port<R: AllocGlobal>(rt: &R, given: &[Row]) -> Result<MemoryPort, Fail> {
 }
 
 /// These were sent, in order.
-pub fn expect_sent<R: Abort + AllocGlobal>(
-    rt: &R,
-    port: &MemoryPort,
-    sent: &[Row],
-) -> Result<(), Fail> {
-    assert_eq!(rt; port.sent().len(), sent.len());
+pub fn expect_sent<R: AllocGlobal>(rt: &R, port: &MemoryPort, sent: &[Row]) -> Result<(), Fail> {
+    if port.sent().len() != sent.len() {
+        return Err(Fail::new("more or fewer datagrams were sent"));
+    }
     for (got, (addr, words)) in port.sent().iter().zip(sent) {
-        assert_eq!(rt; got.addr, *addr, "{words}");
-        assert_eq!(rt;
-            got.octets.as_slice(),
-            octets(rt, words)?.as_slice(),
-            "{words}"
-        );
+        let octets = octets(rt, words)?;
+        if got.addr != *addr || got.octets.as_slice() != octets.as_slice() {
+            return Err(Fail::new(*words));
+        }
     }
     Ok(())
 }

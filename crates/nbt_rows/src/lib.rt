@@ -1,0 +1,16 @@
+//! The words in which rows of tests are written: packets by their pieces, the usual limits, and ports and clocks in memory. A crate
+//! for tests alone.
+#![tactic(auto)]
+
+mod limits;
+mod memory;
+mod packets;
+mod pieces;
+
+pub use limits::{config, moment, started};
+pub use memory::{Row, clock, expect_sent, port};
+pub use packets::{
+    EVERY_KIND, FIRST, FOUND, GRANTED, NOT_FOUND, QUERY, REFRESH, REFUSED, REGISTRATION, RELEASE,
+    RIVAL, SECOND, one_of_many, one_of_many_in_words,
+};
+pub use pieces::octets;

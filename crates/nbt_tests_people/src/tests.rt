@@ -1,0 +1,11 @@
+//! One file for each subject.
+
+mod explain;
+mod host;
+mod hosting;
+mod journal;
+mod lookups;
+mod nbns;
+mod replies;
+mod samba;
+mod spelling;
