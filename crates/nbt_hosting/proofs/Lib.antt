@@ -10,3 +10,5 @@ mod Quiet
 mod Beginning
 -- what a host keeps of its names when it starts
 mod Starting
+-- the end of a host, by how the giving back came out
+mod Endings
