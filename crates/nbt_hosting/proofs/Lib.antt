@@ -8,3 +8,7 @@ mod OneTurn
 mod Quiet
 -- a host begins, and what follows from how its calls came out
 mod Beginning
+-- what a host keeps of its names when it starts
+mod Starting
+-- the end of a host, by how the giving back came out
+mod Endings

@@ -1,5 +1,5 @@
 -- How a host gives its names back, and what is printed of it (our profile).
-use Rattle.std.specs.Prelude.{◌≡◌, ◌⊎◌, ℕ, List, Option}
+use Rattle.std.specs.Prelude.{◌≡◌, ◌⊎◌, ℕ, nat_eq, if◌then◌else◌, List, Option}
 use Rattle.std.specs.Io.KnownBytes.{Appends}
 use Rattle.nbt_name.specs.declared.addr.Addr.{Addr}
 use Rattle.nbt_engine.specs.PortCalls.{PortCall}
@@ -20,8 +20,7 @@ use Rattle.nbt_hosting.specs.declared.event.Event.TheVariants as e
 
 -- what came of giving a name back
 abbrev pub outcome_of : Stage → Event
-outcome_of (Left zero) = e.GivenBack
-outcome_of (Left (suc rcode)) = e.Denied (suc rcode)
+outcome_of (Left rcode) = if nat_eq rcode 0 then e.GivenBack else e.Denied rcode
 outcome_of Released = e.Unconfirmed
 outcome_of Leaving = e.NotHeld
 outcome_of Wanted = e.NotHeld

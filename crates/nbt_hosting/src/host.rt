@@ -63,7 +63,7 @@ impl<C, D> Model for Host<C, D> {
 }
 
 impl<C, D> Host<C, D> {
-    /// The moment at which it started, or that its steady clock told last in a turn.
+    /// What both clocks told last: when it started, or at the beginning of its last turn.
     pub(crate) fn last(&self) -> Reading
         ensures { result ≡ self.now.last }
     {
