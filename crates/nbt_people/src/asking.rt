@@ -74,8 +74,8 @@ fn patience(alloc: Global, which: PeopleCommand, tries: &str, wait: &str) -> Res
 fn tries_of(text: &str) -> u32
     ensures once { (result ≡ 1) ↔ (text.now ≡ codes "1") }
     ensures twice { (result ≡ 2) ↔ (text.now ≡ codes "2") }
-    ensures some { 1 ≤ result }
-    ensures few { result ≤ TRIES_MOST }
+    ensures tries_at_least { 1 ≤ result }
+    ensures tries_at_most { result ≤ TRIES_MOST }
 {
     match text {
         nbt_usage::ONCE => 1,
