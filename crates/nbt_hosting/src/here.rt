@@ -54,7 +54,7 @@ pub fn host_over<P: Port, C: Clock + Drop, D: Clock + Drop, M: time::Clock, W: W
     writer: &mut W,
     errors: &mut E,
 ) -> Result<bool, Fault>
-    requires few { P.failures port.old < 2 ^ 61 }
+    requires failure_count { P.failures port.old < 2 ^ 61 }
     ensures ok { IfOk result (λ all. HostsOver P.does C.tells D.tells at arguments.now all port.old clocks.steady clocks.day (W.contents writer.old) port.new (W.contents writer.new)) }
     ensures device { result ≡ Err Fault.Device → HostOverFails P.does C.tells D.tells at arguments.now Fault.Device port.old clocks.steady clocks.day (W.contents writer.old) port.new (W.contents writer.new) }
 {

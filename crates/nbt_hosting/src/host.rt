@@ -162,7 +162,7 @@ impl<C: Clock + Drop, D: Clock + Drop> Host<C, D> {
 impl<C: Clock, D: Clock> Host<C, D> {
     /// One turn, as [`waking_turn`] does it.
     fn turn<P: Port>(&mut self, port: &mut P, arguments: &HostArguments) -> Result<bool, Device>
-        requires few { P.failures port.old < 2 ^ 62 }
+        requires failure_count { P.failures port.old < 2 ^ 62 }
         ensures ok { IfOk result (λ slept. WakingTurn P.does C.tells D.tells slots_most arguments.now.server arguments.now.config self.old.last slept
             port.old self.old.steady self.old.day self.old.host self.new.last port.new self.new.steady self.new.day self.new.host) }
         ensures err { IfErr result (λ _. WakingBreaks P.does C.tells D.tells slots_most arguments.now.server arguments.now.config self.old.last
@@ -198,7 +198,7 @@ impl<C: Clock, D: Clock> Host<C, D> {
         arguments: &HostArguments,
         writer: &mut W,
     ) -> Result<Result<Shown, Device>, Fault>
-        requires few { P.failures port.old < 2 ^ 62 }
+        requires failure_count { P.failures port.old < 2 ^ 62 }
         ensures ok { IfOk result (λ turned. MatchResult turned
             (λ shown. TurnsWell P.does C.tells D.tells arguments.now
             (record { port = port.old; host = self.old; text = W.contents writer.old }) shown (record { port = port.new; host = self.new; text = W.contents writer.new }))
@@ -232,12 +232,12 @@ impl<C: Clock, D: Clock> Host<C, D> {
         writer: &mut W,
         errors: &mut E,
     ) -> Result<(), Fault>
-        requires few { P.failures port.old < 2 ^ 61 }
+        requires failure_count { P.failures port.old < 2 ^ 61 }
         ensures ok { OnOk result (HostsUntil P.does C.tells D.tells arguments.now until
             (record { port = port.old; host = self.old; text = W.contents writer.old }) (record { port = port.new; host = self.new; text = W.contents writer.new })) }
         ensures err { IfErr result (λ fault. HostingFails P.does C.tells D.tells arguments.now until fault
             (record { port = port.old; host = self.old; text = W.contents writer.old }) (record { port = port.new; host = self.new; text = W.contents writer.new })) }
-        ensures few { P.failures port.new < 2 ^ 62 }
+        ensures failure_count { P.failures port.new < 2 ^ 62 }
     {
         let until = &until;
         let mut row = Row::new();
@@ -264,7 +264,7 @@ impl<C: Clock, D: Clock> Host<C, D> {
         server: Addr,
         writer: &mut W,
     ) -> Result<(), Fault>
-        requires few { P.failures port.old < 2 ^ 62 }
+        requires failure_count { P.failures port.old < 2 ^ 62 }
         ensures ok { OnOk result (GivesBack P.does C.tells server
             (record { port = port.old; host = self.old; text = W.contents writer.old }) (record { port = port.new; host = self.new; text = W.contents writer.new })) }
         ensures err { IfErr result (λ fault. GivingBackFails P.does C.tells server fault
@@ -295,7 +295,7 @@ impl<C: Clock, D: Clock> Host<C, D> {
         writer: &mut W,
         errors: &mut E,
     ) -> Result<bool, Fault>
-        requires few { P.failures port.old < 2 ^ 61 }
+        requires failure_count { P.failures port.old < 2 ^ 61 }
         ensures ok { IfOk result (λ all. RunsHost P.does C.tells D.tells arguments.now until all
             (record { port = port.old; host = self.old; text = W.contents writer.old }) (record { port = port.new; host = self.new; text = W.contents writer.new })) }
         ensures err { IfErr result (λ fault. RunFails P.does C.tells D.tells arguments.now until fault

@@ -462,12 +462,16 @@ const READINGS: [(u64, u64, u64, bool); 6] = [
     (2_000, 1_000, 2_000, false),
 ];
 
+/// Whether the machine slept between (1,000, 500,000, 1,010) and this reading.
+fn slept_until(before: u64, day: u64, after: u64) -> Result<bool, Fail> {
+    let earlier = reading(1_000, 500_000, 1_010)?;
+    Ok(reading(before, day, after)?.slept_since(earlier))
+}
+
 #[test]
 fn a_sleep_is_seen_from_201_ms_on(rt: HostRuntime) -> Result<(), Fail> {
-    let earlier = reading(1_000, 500_000, 1_010)?;
-    for (before, day, after, slept) in READINGS {
-        let later = reading(before, day, after)?;
-        assert_eq!(&rt; later.slept_since(earlier), slept, "{day}");
+    for (before, day, after, slept) in &READINGS {
+        assert_eq!(&rt; slept_until(*before, *day, *after)?, *slept, "{day}");
     }
     Ok(())
 }
