@@ -36,12 +36,12 @@ both : (a b : Bool) → a ≡ true → b ≡ true → (a && b) ≡ true
 both true b p q = q
 both false b p q = absurd cc
 
-pub advanced : (w : WorldValue) (clocks : Clocks) (least : List Least) (allowed still : Bool) (ms : ℕ) (moves : ℕ → ℕ) → length w.ends.nodes.items ≤ 8 → clocks.clock ≡ later w.now.clock ms
+pub advanced : {w : WorldValue} {clocks : Clocks} {least : List Least} {allowed still : Bool} {ms : ℕ} {moves : ℕ → ℕ} → length w.ends.nodes.items ≤ 8 → clocks.clock ≡ later w.now.clock ms
     → ((n : ℕ) → n < 9 → reading clocks n ≡ later (reading w.now n) (moves n))
     → ((n : ℕ) → n < length w.ends.nodes.items + 1 → least_of least n ≡ lesser (least_of w.least n) (numbers_of clocks n))
     → (IsTrue allowed ↔ ((n : ℕ) → n < length w.ends.nodes.items + 1 → IsAllowed (least_of least n) clocks n)) → still ≡ (w.kept && allowed)
     → Advances w ms moves (record w { now = clocks; least = least; kept = still })
-advanced w clocks least allowed still ms moves few goes reads lower says is = record {
+advanced {w} {clocks} {least} {allowed} few goes reads lower says is = record {
   now = goes;
   readings = λ n e. let lt = end_counts w.ends n e in reads n (omega arith);
   least = λ n e. lower n (end_counts w.ends n e);

@@ -15,7 +15,7 @@ use Rattle.nbt_world.specs.declared.ends.NodeEnd.{NodeEnd}
 use Rattle.nbt_world.specs.declared.network.Datagram.{Datagram}
 use Rattle.nbt_world.specs.Drift.{reading, least_of, numbers_of}
 use Rattle.nbt_world.specs.World.{WorldValue, addr_at, addr_of, IsEnd, node_in, node_of, IsAmong, AreApart, AreAddrs, ends_at, IsFresh}
-use Rattle.nbt_world.specs.Inner.Kept.{Asked, Replied, known, Claims, ClaimsIn, Invariant}
+use Rattle.nbt_world.specs.Inner.Kept.{Replied, known, Claims, ClaimsIn, Invariant}
 use Rattle.nbt_world.proofs.Knowing.{ended-down}
 use Rattle.nbt_world.proofs.Covering.{down_claims}
 
@@ -116,7 +116,7 @@ fresh_kept config server others are = record {
   nodes = λ n a node p up. absurd (none-some node (sym (none_at server others n) ∙ up));
   server = λ s up. absurd (none-some s up);
   sent = λ d c. absurd (nothing_among d c);
-  requests = λ on n a name p. rw (none_at server others n) (ended-down config.life n 0 (reading at_zero n) (Asked [] a.ip name) (λ moment message asked. absurd (nothing_among asked.datagram asked.among)));
+  requests = λ on n a name p. rw (none_at server others n) (ended-down (λ moment message asked. absurd (nothing_among asked.datagram asked.among)));
   replies = λ on n a name p.
       rw (none_at server others n) (record { drawn = λ moment message r d. absurd (nothing_among r.datagram r.among); begun = λ kind first w. elim w [ ]; since = λ kind first moment message w x d. elim w [ ] });
   claims = λ on. record {
@@ -130,5 +130,4 @@ fresh_kept config server others are = record {
 
     no_claim : (n : ℕ) (a : Addr) (name : NameValue) (kind : Kind) (end : ℕ) → ClaimsIn (fresh config server others) n a name kind end → ⊥
     no_claim n a name kind end c =
-        down_claims config.longest config.life 0 (Replied [] server a name) kind end
-        (subst (λ (x : Option NodeValue). Claims config.longest config.life 0 (Replied [] server a name) (known x name) kind end) (none_at server others n) c)
+        down_claims (subst (λ (x : Option NodeValue). Claims config.longest config.life 0 (Replied [] server a name) (known x name) kind end) (none_at server others n) c)

@@ -6,9 +6,9 @@ use Rattle.nbt_lease.specs.Lease.{Rows, leases_at, IsSound}
 use Rattle.nbt_world.specs.declared.clocks.Clocks.{Clocks}
 use Rattle.nbt_world.specs.declared.network.Datagram.{Datagram}
 use Rattle.nbt_world.specs.Drift.{reading, later}
-use Rattle.nbt_world.specs.World.{WorldValue, IsEnd, node_of}
+use Rattle.nbt_world.specs.World.{WorldValue, IsEnd}
 use Rattle.nbt_world.specs.Step.{Advances}
-use Rattle.nbt_world.specs.Inner.Kept.{Asked, Replied, known, IsSeen, AreRead, IsSent, Invariant}
+use Rattle.nbt_world.specs.Inner.Kept.{IsSeen, AreRead, IsSent, Invariant}
 use Rattle.nbt_world.proofs.Knowing.{ended-frame, fresh-frame}
 use Rattle.nbt_world.proofs.Drifting.{HoldLaw}
 use Rattle.nbt_world.proofs.Keeping.{sent_frame}
@@ -25,8 +25,8 @@ stops : (moment ms : ℕ) → later moment ms ≤ 2 ^ 60
 stops moment ms = omega arith
 
 -- a moment that was seen is seen still, and the present is
-pub sees : (w v : WorldValue) (ms : ℕ) (moves : ℕ → ℕ) → Advances w ms moves v → AreRead w → (n : ℕ) → IsEnd w.ends n → (moment : Clocks) → IsSeen w.least w.now moment n → IsSeen v.least v.now moment n
-sees w v ms moves adv read n e moment seen =
+pub sees : {w v : WorldValue} {ms : ℕ} {moves : ℕ → ℕ} → Advances w ms moves v → AreRead w → (n : ℕ) → IsEnd w.ends n → (moment : Clocks) → IsSeen w.least w.now moment n → IsSeen v.least v.now moment n
+sees {w} {moves = moves} adv read n e moment seen =
     let past = seen.read in
     let up = goes_up (reading w.now n) (moves n) (read.readings n e) in
     let a = seen.least_ahead in
@@ -37,25 +37,25 @@ sees w v ms moves adv read n e moment seen =
       least_behind = rw (adv.least n e) (omega arith);
     }
 
-pub sees_now : (w v : WorldValue) (ms : ℕ) (moves : ℕ → ℕ) → Advances w ms moves v → (n : ℕ) → IsEnd w.ends n → IsSeen v.least v.now v.now n
-sees_now w v ms moves adv n e = record {
+sees_now : {w v : WorldValue} {ms : ℕ} {moves : ℕ → ℕ} → Advances w ms moves v → (n : ℕ) → IsEnd w.ends n → IsSeen v.least v.now v.now n
+sees_now adv n e = record {
   read = omega arith;
   least_ahead = rw (adv.least n e) (omega arith);
   least_behind = rw (adv.least n e) (omega arith);
 }
 
-pub read_on : (w v : WorldValue) (ms : ℕ) (moves : ℕ → ℕ) → Advances w ms moves v → AreRead w → AreRead (record w { now = v.now; least = v.least; kept = v.kept })
-read_on w v ms moves adv read = record {
+pub read_on : {w v : WorldValue} {ms : ℕ} {moves : ℕ → ℕ} → Advances w ms moves v → AreRead w → AreRead (record w { now = v.now; least = v.least; kept = v.kept })
+read_on {w} {ms = ms} {moves} adv read = record {
   now = rw adv.now (stops w.now.clock ms);
   readings = λ n e. rw (adv.readings n e) (stops (reading w.now n) (moves n));
-  seen = λ n e. sees_now w v ms moves adv n e;
+  seen = λ n e. sees_now adv n e;
   allowed = λ on n e. ((adv.kept).0 on).1 n e;
 }
 
-pub clock_changes : StaySound → LaterLive → HoldLaw → (w v : WorldValue) (ms : ℕ) (moves : ℕ → ℕ) → Advances w ms moves v → Invariant w → Invariant (record w { now = v.now; least = v.least; kept = v.kept })
-clock_changes law live holds w v ms moves adv kept = record {
+pub clock_changes : StaySound → LaterLive → HoldLaw → {w v : WorldValue} {ms : ℕ} {moves : ℕ → ℕ} → Advances w ms moves v → Invariant w → Invariant (record w { now = v.now; least = v.least; kept = v.kept })
+clock_changes law live holds {w} {v} {ms} {moves} adv kept = record {
   ends = record { nodes_at_least = kept.ends.nodes_at_least; nodes_at_most = kept.ends.nodes_at_most; apart = kept.ends.apart };
-  clocks = read_on w v ms moves adv kept.clocks;
+  clocks = read_on adv kept.clocks;
   nodes = λ n a node p up.
       let k = kept.nodes n a node p up in
       let past = k.past in
@@ -68,13 +68,10 @@ clock_changes law live holds w v ms moves adv kept = record {
       record { config_is = k.config_is; past = omega arith; sound = law w.config (reading w.now 0) (reading v.now 0) server.table.rows on k.sound };
   sent = sent;
   requests = λ on n a name p.
-      ended-frame w.config.life n w.now.clock (reading w.now n) v.now.clock (reading v.now n) (Asked w.sent a.ip name) (Asked w.sent a.ip name) (known (node_of w.ends n) name) goes (reads n (a, p)) (λ moment message asked. asked)
-      (kept.requests (before on) n a name p);
+      ended-frame goes (reads n (a, p)) (λ moment message asked. asked) (kept.requests (before on) n a name p);
   replies = λ on n a name p.
-      fresh-frame w.config.life n w.now.clock (reading w.now n) v.now.clock (reading v.now n) (Asked w.sent a.ip name) (Asked w.sent a.ip name) (Replied w.sent w.ends.server_addr a name) (Replied w.sent w.ends.server_addr a name)
-      (known (node_of w.ends n) name) goes (reads n (a, p))
-      (λ moment message asked. asked) (λ moment message asked. asked) (λ moment message replied. replied) (kept.replies (before on) n a name p);
-  claims = λ on. clock_claims live holds w v.now v.least v.kept goes reads (read_on w v ms moves adv kept.clocks) sent on (kept.claims (before on));
+      fresh-frame goes (reads n (a, p)) (λ moment message asked. asked) (λ moment message asked. asked) (λ moment message replied. replied) (kept.replies (before on) n a name p);
+  claims = λ on. clock_claims live holds goes reads (read_on adv kept.clocks) sent on (kept.claims (before on));
 }
   where
     goes : w.now.clock ≤ v.now.clock
@@ -87,4 +84,4 @@ clock_changes law live holds w v ms moves adv kept = record {
     before on = ((adv.kept).0 on).0
 
     sent : (d : Datagram) → Contains w.sent d → IsSent w.ends v.now v.least d
-    sent d c = sent_frame w.ends w.ends w.now v.now w.least v.least d (λ n. refl) goes (λ n e seen. sees w v ms moves adv kept.clocks n e d.moment seen) (kept.sent d c)
+    sent d c = sent_frame (λ n. refl) goes (λ n e seen. sees adv kept.clocks n e d.moment seen) (kept.sent d c)

@@ -20,21 +20,21 @@ use Rattle.nbt_world.specs.declared.network.Datagram.{Datagram}
 use Rattle.nbt_world.specs.Drift.{reading}
 use Rattle.nbt_world.specs.World.{WorldValue, addr_of, IsEnd, node_of, with_server, with_node}
 use Rattle.nbt_server.specs.Calls.{ServerStarts}
-use Rattle.nbt_world.specs.Inner.Kept.{Replied, known, Claims, has, may_get, Covers, ClaimsIn, IsCoveredIn, AreRead, IsSent, Invariant, ClaimsKept}
-use Rattle.nbt_world.proofs.Knowing.{knows}
+use Rattle.nbt_world.specs.Inner.Kept.{Asked, Replied, known, RequestsEnded, RepliesFresh, Claims, has, may_get, Covers, ClaimsIn, IsCoveredIn, IsNodeOf, AreRead, IsSent, Invariant, ClaimsKept}
+use Rattle.nbt_world.proofs.Knowing.{Within, knows}
 use Rattle.nbt_world.proofs.Drifting.{HoldLaw, hold_over}
 use Rattle.nbt_world.proofs.Claiming.{NoNewClaim, claims_fewer}
-use Rattle.nbt_world.proofs.Keeping.{IsNew, Grows, from_new, addr_with, node_with_other, node_with_here, node_not_server, replied_before, server_addr_with, server_node_with}
+use Rattle.nbt_world.proofs.Keeping.{Grows, Adds, no_reply_more, addr_with, node_with_other, node_with_here, node_changes, server_addr_with, server_node_with}
 
 -- ---- what is no claim
 
-pub down_claims : (longest life now : ℕ) (replied : Clocks → MessageValue → Type 0) (kind : Kind) (end : ℕ) → Claims longest life now replied None kind end → ⊥
-down_claims longest life now replied kind end (has j e w) = w
-down_claims longest life now replied kind end (may_get j first moment r w a d) = w
+pub down_claims : {longest life now : ℕ} {replied : Clocks → MessageValue → Type 0} {kind : Kind} {end : ℕ} → Claims longest life now replied None kind end → ⊥
+down_claims (has j e w) = w
+down_claims (may_get j first moment r w a d) = w
 
-pub idle_claims : (longest life now start : ℕ) (replied : Clocks → MessageValue → Type 0) (kind : Kind) (end : ℕ) → Claims longest life now replied (knows start Idle) kind end → ⊥
-idle_claims longest life now start replied kind end (has j e w) = w
-idle_claims longest life now start replied kind end (may_get j first moment r w a d) = w
+pub idle_claims : {longest life now start : ℕ} {replied : Clocks → MessageValue → Type 0} {kind : Kind} {end : ℕ} → Claims longest life now replied (knows start Idle) kind end → ⊥
+idle_claims (has j e w) = w
+idle_claims (may_get j first moment r w a d) = w
 
 -- ---- no claim is new, and what covers them stays
 
@@ -94,14 +94,14 @@ later_backs law now later (Some server) ip name kind till le lt (inl l) =
     })
 later_backs law now later (Some server) ip name kind till le lt (inr s) = inr s
 
-pub clock_claims : LaterLive → HoldLaw → (w : WorldValue) (later : Clocks) (lower : List Least) (still_kept : Bool) → w.now.clock ≤ later.clock → ((n : ℕ) → IsEnd w.ends n → reading w.now n ≤ reading later n)
+pub clock_claims : LaterLive → HoldLaw → {w : WorldValue} {later : Clocks} {lower : List Least} {still_kept : Bool} → w.now.clock ≤ later.clock → ((n : ℕ) → IsEnd w.ends n → reading w.now n ≤ reading later n)
     → AreRead (record w { now = later; least = lower; kept = still_kept }) → ((d : Datagram) → Contains w.sent d → IsSent w.ends later lower d) → IsTrue still_kept
     → ClaimsKept w → ClaimsKept (record w { now = later; least = lower; kept = still_kept })
-clock_claims law holds w later lower still_kept on_time le read all on = claims_frame w (record w { now = later; least = lower; kept = still_kept }) (λ n a p. le n (a, p)) (λ n. refl) old still
+clock_claims law holds {w} {later} {lower} {still_kept} on_time le read all on = claims_frame w (record w { now = later; least = lower; kept = still_kept }) (λ n a p. le n (a, p)) (λ n. refl) old still
   where
     old : (n : ℕ) (a : Addr) (name : NameValue) (kind : Kind) (end : ℕ) → addr_of w.ends n ≡ Some a → ClaimsIn (record w { now = later; least = lower; kept = still_kept }) n a name kind end → reading later n < end → ClaimsIn w n a name kind end
     old n a name kind end p c lt =
-        claims_fewer w.config.longest w.config.life w.now.clock later.clock (Replied w.sent w.ends.server_addr a name) (Replied w.sent w.ends.server_addr a name) (known (node_of w.ends n) name) kind end on_time (λ moment message r. r) c
+        claims_fewer on_time (λ moment message r. r) c
 
     still : (n : ℕ) (a : Addr) (name : NameValue) (kind : Kind) (end : ℕ) → addr_of w.ends n ≡ Some a → ClaimsIn w n a name kind end → reading later n < end → IsCoveredIn w n a name kind end
         → IsCoveredIn (record w { now = later; least = lower; kept = still_kept }) n a name kind end
@@ -115,28 +115,24 @@ clock_claims law holds w later lower still_kept on_time le read all on = claims_
           within = is.within;
           counted = is.counted;
           backed = later_backs law (reading w.now 0) (reading later 0) w.ends.server a.ip name kind (reading is.moment 0 + 1000 * is.seconds) (le 0 (w.ends.server_addr, refl))
-              (hold_over holds (record w { now = later; least = lower; kept = still_kept }) read on all n a p w.ends.server_addr a refl name is.moment is.message is.seconds is.replied_is (omega arith)) is.backed;
+              (hold_over holds read on all n (a, p) is.replied_is is.seconds (omega arith)) is.backed;
         }
 
--- ---- a node changes: what it claims, it claimed before
+-- ---- a node changes: what it claims, it claimed before, and what else holds of it is told name by name
 
-pub replied_still : (old new : List Datagram) (server to : Addr) (name : NameValue) → Grows old new → (moment : Clocks) (message : MessageValue) → Replied old server to name moment message → Replied new server to name moment message
-replied_still old new server to name grows moment message r =
+pub replied_still : {old new : List Datagram} {server to : Addr} {name : NameValue} → Grows old new → Within (Replied old server to name) (Replied new server to name)
+replied_still grows moment message r =
     record { datagram = r.datagram; among = grows r.datagram r.among; sender = r.sender; receiver = r.receiver; moment_is = r.moment_is; spelled = r.spelled; reply = r.reply }
 
-pub node_claims : (w : WorldValue) (i : ℕ) (addr : Addr) (x : Option NodeValue) (sent : List Datagram) → Invariant w → addr_of w.ends (suc i) ≡ Some addr → IsNew w addr sent → Grows w.sent sent
-    → IsTrue w.kept → ((name : NameValue) → NoNewClaim w.config.longest w.config.life w.now.clock (Replied w.sent w.ends.server_addr addr name) (known (node_of w.ends (suc i)) name) (known x name))
+node_claims : {w : WorldValue} {i : ℕ} {addr : Addr} {sent : List Datagram} → Adds w i addr sent → (x : Option NodeValue) → IsTrue w.kept → ((name : NameValue) → NoNewClaim w.config.longest w.config.life w.now.clock (Replied w.sent w.ends.server_addr addr name) (known (node_of w.ends (suc i)) name) (known x name))
     → ClaimsKept (record w { ends = with_node w.ends (suc i) x; sent = sent })
-node_claims w i addr x sent kept at new grows on own = claims_frame w (record w { ends = with_node w.ends (suc i) x; sent = sent }) (λ n a p. omega arith) (addr_with w.ends i x) old still (kept.claims on)
+node_claims {w} {i} {addr} {sent} adds x on own = claims_frame w (record w { ends = with_node w.ends (suc i) x; sent = sent }) (λ n a p. omega arith) (addr_with w.ends i x) old still (adds.kept.claims on)
   where
-    fewer : (a : Addr) (name : NameValue) (moment : Clocks) (message : MessageValue) → Replied sent w.ends.server_addr a name moment message → Replied w.sent w.ends.server_addr a name moment message
-    fewer a name = replied_before w.sent sent addr w.ends.server_addr a name (node_not_server w i addr kept at) (from_new w addr sent new)
-
     value_at : (n : ℕ) → n ≡ suc i → node_of (with_node w.ends (suc i) x) n ≡ x
-    value_at n e = ap (node_of (with_node w.ends (suc i) x)) e ∙ node_with_here w.ends i x addr at
+    value_at n e = ap (node_of (with_node w.ends (suc i) x)) e ∙ node_with_here w.ends i x addr adds.at
 
     same_addr : (n : ℕ) (a : Addr) → addr_of w.ends n ≡ Some a → n ≡ suc i → Some a ≡ Some addr
-    same_addr n a p e = sym p ∙ ap (addr_of w.ends) e ∙ at
+    same_addr n a p e = sym p ∙ ap (addr_of w.ends) e ∙ adds.at
 
     by : (n : ℕ) (a : Addr) (name : NameValue) (kind : Kind) (end : ℕ) → addr_of w.ends n ≡ Some a → (n ≡ suc i) ⊎ (n ≡ suc i → ⊥)
         → Claims w.config.longest w.config.life w.now.clock (Replied w.sent w.ends.server_addr a name) (known (node_of (with_node w.ends (suc i) x) n) name) kind end → ClaimsIn w n a name kind end
@@ -153,20 +149,29 @@ node_claims w i addr x sent kept at new grows on own = claims_frame w (record w 
 
     old : (n : ℕ) (a : Addr) (name : NameValue) (kind : Kind) (end : ℕ) → addr_of w.ends n ≡ Some a → ClaimsIn (record w { ends = with_node w.ends (suc i) x; sent = sent }) n a name kind end → reading w.now n < end → ClaimsIn w n a name kind end
     old n a name kind end p c lt =
-        by n a name kind end p (cases_eq n (suc i))
-        (claims_fewer w.config.longest w.config.life w.now.clock w.now.clock (Replied w.sent w.ends.server_addr a name) (Replied sent w.ends.server_addr a name) (known (node_of (with_node w.ends (suc i) x) n) name) kind end (omega arith) (fewer a name) c)
+        by n a name kind end p (cases_eq n (suc i)) (claims_fewer (omega arith) (no_reply_more adds) c)
 
     still : (n : ℕ) (a : Addr) (name : NameValue) (kind : Kind) (end : ℕ) → addr_of w.ends n ≡ Some a → ClaimsIn w n a name kind end → reading w.now n < end → IsCoveredIn w n a name kind end
         → IsCoveredIn (record w { ends = with_node w.ends (suc i) x; sent = sent }) n a name kind end
     still n a name kind end p c lt is = record {
       moment = is.moment;
       message = is.message;
-      replied_is = replied_still w.sent sent w.ends.server_addr a name grows is.moment is.message is.replied_is;
+      replied_is = replied_still adds.grows is.moment is.message is.replied_is;
       seconds = is.seconds;
       within = is.within;
       counted = is.counted;
       backed = is.backed;
     }
+
+-- What holds of one name of a node, by these limits, once the node is another and the list is this one.
+pub record NameKept (config : ConfigValue) (w : WorldValue) (i : ℕ) (addr : Addr) (sent : List Datagram) (old new : Option NodeValue) (name : NameValue) : Type 0 where
+  pub requests : RequestsEnded config.life (suc i) w.now.clock (reading w.now (suc i)) (Asked sent addr.ip name) (known new name)
+  pub replies : RepliesFresh config.life (suc i) w.now.clock (reading w.now (suc i)) (Asked sent addr.ip name) (Replied sent w.ends.server_addr addr name) (known new name)
+  pub claims : NoNewClaim config.longest config.life w.now.clock (Replied w.sent w.ends.server_addr addr name) (known old name) (known new name)
+
+pub node_kept : {w : WorldValue} {i : ℕ} {addr : Addr} {sent : List Datagram} → Adds w i addr sent → (x : Option NodeValue) → ((node : NodeValue) → x ≡ Some node → IsNodeOf w (suc i) addr node)
+    → (IsTrue w.kept → (name : NameValue) → NameKept w.config w i addr sent (node_of w.ends (suc i)) x name) → Invariant (record w { ends = with_node w.ends (suc i) x; sent = sent })
+node_kept adds x is names = node_changes adds x is (λ on name. (names on name).requests) (λ on name. (names on name).replies) (λ on. node_claims adds x on (λ name. (names on name).claims))
 
 -- ---- the server starts, and crashes: the silence lasts as long as any claim
 

@@ -1,6 +1,6 @@
 -- While the readings keep the drift bound, every datagram of the list is within it of now: so what its end has read since
 -- tells how long ago it was sent, and how long the server has leased since.
-use Rattle.std.proofs.Common.{◌≡◌, ℕ, ◌+◌, ◌*◌, ◌-◌, ◌^◌, ◌<◌, ◌≤◌, List, Some, subst, arith}
+use Rattle.std.proofs.Common.{ℕ, ◌+◌, ◌*◌, ◌-◌, ◌^◌, ◌<◌, ◌≤◌, List, refl, subst, arith}
 use Rattle.std.specs.Prelude.{Contains, IsTrue}
 use Rattle.nbt_name.specs.declared.addr.Addr.{Addr}
 use Rattle.nbt_name.specs.Wire.{NameValue}
@@ -10,7 +10,7 @@ use Rattle.nbt_world.specs.declared.clocks.Clocks.{Clocks}
 use Rattle.nbt_world.specs.declared.clocks.Least.{Least}
 use Rattle.nbt_world.specs.declared.network.Datagram.{Datagram}
 use Rattle.nbt_world.specs.Drift.{reading, IsBounded, least_of, IsAllowed}
-use Rattle.nbt_world.specs.World.{WorldValue, addr_of}
+use Rattle.nbt_world.specs.World.{WorldValue, IsEnd}
 use Rattle.nbt_world.specs.Inner.Kept.{Asked, Replied, IsSeen, AreRead, IsSent}
 use Rattle.nbt_world.proofs.Knowing.{IsPast, ArePast}
 
@@ -34,22 +34,23 @@ pub bounded : (least : List Least) (moment now : Clocks) (number : ℕ) → mome
 bounded least moment now number before last ends seen allowed =
     near moment.clock now.clock (reading moment number) (reading now number) (2 ^ 60) (least_of least number).ahead (least_of least number).behind before last seen.read ends seen.least_ahead seen.least_behind allowed.not_ahead allowed.not_behind
 
-pub sent_bounded : (w : WorldValue) → AreRead w → IsTrue w.kept → (n : ℕ) (a : Addr) → addr_of w.ends n ≡ Some a → (d : Datagram) → IsSent w.ends w.now w.least d → IsBounded d.moment w.now n
-sent_bounded w read on n a p d is = bounded w.least d.moment w.now n is.past read.now (read.readings n (a, p)) (is.seen n (a, p)) (read.allowed on n (a, p))
+sent_bounded : {w : WorldValue} {d : Datagram} → AreRead w → IsTrue w.kept → (n : ℕ) → IsEnd w.ends n → IsSent w.ends w.now w.least d → IsBounded d.moment w.now n
+sent_bounded {w} {d} read on n end is = bounded w.least d.moment w.now n is.past read.now (read.readings n end) (is.seen n end) (read.allowed on n end)
 
 -- requests are of the past
-pub asked_are_past : RestLaw → (w : WorldValue) → AreRead w → IsTrue w.kept → (n : ℕ) (a : Addr) → addr_of w.ends n ≡ Some a → (ip : ℕ) (name : NameValue) (sent : List Datagram)
-    → ((d : Datagram) → Contains sent d → IsSent w.ends w.now w.least d) → ArePast w.config.life n w.now.clock (reading w.now n) (Asked sent ip name)
-asked_are_past law w read on n a p ip name sent all moment message x =
+pub asked_are_past : RestLaw → {w : WorldValue} {ip : ℕ} {name : NameValue} → AreRead w → IsTrue w.kept → ((d : Datagram) → Contains w.sent d → IsSent w.ends w.now w.least d)
+    → (n : ℕ) → IsEnd w.ends n → ArePast w.config.life n w.now.clock (reading w.now n) (Asked w.sent ip name)
+asked_are_past law {w} read on all n end moment message x =
     let is = all x.datagram x.among in
     subst (λ (m : Clocks). IsPast w.config.life n w.now.clock (reading w.now n) m) x.moment_is
-    (record { read = (is.seen n (a, p)).read; rests = law x.datagram.moment.clock w.now.clock (reading x.datagram.moment n) (reading w.now n) w.config.life (sent_bounded w read on n a p x.datagram is) })
+    (record { read = (is.seen n end).read; rests = law x.datagram.moment.clock w.now.clock (reading x.datagram.moment n) (reading w.now n) w.config.life (sent_bounded read on n end is) })
 
 -- by a reply that the server sent, the node's hold is over before the lease
-pub hold_over : HoldLaw → (w : WorldValue) → AreRead w → IsTrue w.kept → ((d : Datagram) → Contains w.sent d → IsSent w.ends w.now w.least d) → (n : ℕ) (a : Addr) → addr_of w.ends n ≡ Some a
-    → (server to : Addr) → addr_of w.ends 0 ≡ Some server → (name : NameValue) (moment : Clocks) (message : MessageValue) (seconds : ℕ) → Replied w.sent w.ends.server_addr to name moment message
-    → reading w.now n < reading moment n + hold seconds → reading w.now 0 < reading moment 0 + 1000 * seconds
-hold_over law w read on all n a p server to s name moment message seconds r =
+pub hold_over : HoldLaw → {w : WorldValue} {to : Addr} {name : NameValue} {moment : Clocks} {message : MessageValue} → AreRead w → IsTrue w.kept → ((d : Datagram) → Contains w.sent d → IsSent w.ends w.now w.least d)
+    → (n : ℕ) → IsEnd w.ends n → Replied w.sent w.ends.server_addr to name moment message
+    → (seconds : ℕ) → reading w.now n < reading moment n + hold seconds → reading w.now 0 < reading moment 0 + 1000 * seconds
+hold_over law {w} read on all n end r seconds =
+    let is = all r.datagram r.among in
     subst (λ (m : Clocks). reading w.now n < reading m n + hold seconds → reading w.now 0 < reading m 0 + 1000 * seconds) r.moment_is
     (law r.datagram.moment.clock w.now.clock (reading r.datagram.moment n) (reading w.now n) (reading r.datagram.moment 0) (reading w.now 0) seconds
-    (sent_bounded w read on n a p r.datagram (all r.datagram r.among)) (sent_bounded w read on 0 server s r.datagram (all r.datagram r.among)) ((all r.datagram r.among).seen n (a, p)).read)
+    (sent_bounded read on n end is) (sent_bounded read on 0 (w.ends.server_addr, refl) is) (is.seen n end).read)

@@ -59,7 +59,7 @@ open_fresh law w kept on n a name p = record {
       let t = k.in_time in
       let b = k.known_of in
       let d = x.1 in
-      let gone = (asked_are_past law w kept.clocks on n a p a.ip name w.sent kept.sent k.sent k.request k.asked_is).rests (omega arith) in
+      let gone = (asked_are_past law kept.clocks on kept.sent n (a, p) k.sent k.request k.asked_is).rests (omega arith) in
       absurd (omega arith);
 }
 
@@ -70,7 +70,7 @@ requests_ended law w kept on n a name p = record {
       let rest = rested_bound w n name rested in
       let by = (kept.requests on n a name p).ended moment message x.0 x.1 in
       let d = x.1 in
-      let gone = (asked_are_past law w kept.clocks on n a p a.ip name w.sent kept.sent moment message x.0).rests (omega arith) in
+      let gone = (asked_are_past law kept.clocks on kept.sent n (a, p) moment message x.0).rests (omega arith) in
       absurd (omega arith);
   no_release = λ kind moment message wants x. (kept.requests on n a name p).one_kind kind moment message wants x.0 x.1;
 }

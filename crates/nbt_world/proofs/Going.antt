@@ -25,11 +25,11 @@ use Rattle.nbt_world.proofs.Exact.{Goes, Traced, traced_more, traced_first}
 
 -- ---- the clocks go on
 
-goes_on : (w v : WorldValue) (ms : ℕ) (moves : ℕ → ℕ) → Advances w ms moves v → AreRead w → Goes w v
-goes_on w v ms moves adv read = subst (λ (x : WorldValue). Goes w x) (sym adv.others) (record {
+goes_on : {w v : WorldValue} {ms : ℕ} {moves : ℕ → ℕ} → Advances w ms moves v → AreRead w → Goes w v
+goes_on {w} {ms = ms} adv read = subst (λ (x : WorldValue). Goes w x) (sym adv.others) (record {
   clock = rw adv.now (goes_up w.now.clock ms read.now);
-  read = read_on w v ms moves adv read;
-  seen = λ n e moment seen. sees w v ms moves adv read n e moment seen;
+  read = read_on adv read;
+  seen = sees adv read;
   least = adv.least;
   kept = adv.kept;
   same = λ n. refl;
@@ -61,18 +61,18 @@ with_same : (ends : Ends) (n : ℕ) (x : Option NodeValue) (k : ℕ) → addr_of
 with_same ends zero x k = refl
 with_same ends (suc i) x k = addr_with ends i x k
 
-starts_same : (config : ConfigValue) (now : ℕ) (old : Ends) (number : ℕ) (new : Ends) → Starts config now old number new → (n : ℕ) → addr_of new n ≡ addr_of old n
-starts_same config now old number new (server_starts server down is) n = server_addr_with old (Some server) n
-starts_same config now old number new (node_starts index addr at down) n = addr_with old index _ n
+starts_same : {config : ConfigValue} {now number : ℕ} {old new : Ends} → Starts config now old number new → (n : ℕ) → addr_of new n ≡ addr_of old n
+starts_same {old = old} (server_starts server down is) n = server_addr_with old (Some server) n
+starts_same {old = old} (node_starts index addr at down) n = addr_with old index _ n
 
-crashes_same : (old : Ends) (number : ℕ) (new : Ends) → Crashes old number new → (n : ℕ) → addr_of new n ≡ addr_of old n
-crashes_same old number new (server_crashes server up) n = server_addr_with old None n
-crashes_same old number new (node_crashes index node up) n = addr_with old index None n
+crashes_same : {number : ℕ} {old new : Ends} → Crashes old number new → (n : ℕ) → addr_of new n ≡ addr_of old n
+crashes_same {old = old} (server_crashes server up) n = server_addr_with old None n
+crashes_same {old = old} (node_crashes index node up) n = addr_with old index None n
 
-takes_same : (now : ℕ) (old : Ends) (from : Addr) (octets : List ℕ) (number : ℕ) (taken : TakenValue) (new : Ends) → EndTakes now old from octets number taken new → (n : ℕ) → addr_of new n ≡ addr_of old n
-takes_same now old from octets number taken new (finds_down k down) n = refl
-takes_same now old from octets number taken new (by_server server s t up does) n = server_addr_with old (Some s) n
-takes_same now old from octets number taken new (by_node index node s reply up hears) n = addr_with old index (Some s) n
+takes_same : {now number : ℕ} {from : Addr} {octets : List ℕ} {taken : TakenValue} {old new : Ends} → EndTakes now old from octets number taken new → (n : ℕ) → addr_of new n ≡ addr_of old n
+takes_same (finds_down k down) n = refl
+takes_same {old = old} (by_server server s t up does) n = server_addr_with old (Some s) n
+takes_same {old = old} (by_node index node s reply up hears) n = addr_with old index (Some s) n
 
 goes_after : (w : WorldValue) (number : ℕ) (new : NodeValue) (given : CallOutcomeValue) → AreRead w → Goes w (after w number new given)
 goes_after w number new nothing read = goes_with w (with_node w.ends number (Some new)) w.sent (with_same w.ends number (Some new)) read
@@ -85,22 +85,22 @@ goes_taking w ends from to is_lost same read = goes_with w ends w.sent same read
 goes_taking w ends from to (takes None) same read = goes_with w ends w.sent same read
 goes_taking w ends from to (takes (Some reply)) same read = goes_with w ends (w.sent ++ datagram from to w.now (text reply) ∷ []) same read
 
-pub step_goes : (w v : WorldValue) (event : Event) (outcome : Outcome) → Step w event outcome v → AreRead w → Goes w v
-step_goes w v event outcome (ticks ms new adv) read = goes_on w v ms _ adv read
-step_goes w v event outcome (advances ms readings new adv) read = goes_on w v ms _ adv read
-step_goes w v event outcome (starts number ends s) read = goes_with w ends w.sent (starts_same w.config _ w.ends number ends s) read
-step_goes w v event outcome (starts_nothing number off) read = goes_nowhere w read
-step_goes w v event outcome (crashes number ends s) read = goes_with w ends w.sent (crashes_same w.ends number ends s) read
-step_goes w v event outcome (crashes_nothing number off) read = goes_nowhere w read
-step_goes w v event outcome (node_does e number node new given own up does) read = goes_after w number new given read
-step_goes w v event outcome (node_is_down e number own down) read = goes_nowhere w read
-step_goes w v event outcome (no_datagram k none) read = goes_nowhere w read
-step_goes w v event outcome (no_end k d is off) read = goes_nowhere w read
-step_goes w v event outcome (too_late k d number is at late) read = goes_nowhere w read
-step_goes w v event outcome (delivered k d number taken ends is at in_time t) read = goes_taking w ends d.to d.from taken (takes_same _ w.ends d.from d.octets.items number taken ends t) read
-step_goes w v event outcome (from_an_end from number octets is) read = goes_nowhere w read
-step_goes w v event outcome (to_no_end from number octets none) read = goes_nowhere w read
-step_goes w v event outcome (from_a_stranger from addr number octets taken ends off at t) read = goes_taking w ends addr from taken (takes_same _ w.ends from octets.items number taken ends t) read
+step_goes : {w v : WorldValue} {event : Event} {outcome : Outcome} → Step w event outcome v → AreRead w → Goes w v
+step_goes (ticks ms new adv) read = goes_on adv read
+step_goes (advances ms readings new adv) read = goes_on adv read
+step_goes {w} (starts number ends s) read = goes_with w ends w.sent (starts_same s) read
+step_goes {w} (starts_nothing number off) read = goes_nowhere w read
+step_goes {w} (crashes number ends s) read = goes_with w ends w.sent (crashes_same s) read
+step_goes {w} (crashes_nothing number off) read = goes_nowhere w read
+step_goes {w} (node_does e number node new given own up does) read = goes_after w number new given read
+step_goes {w} (node_is_down e number own down) read = goes_nowhere w read
+step_goes {w} (no_datagram k none) read = goes_nowhere w read
+step_goes {w} (no_end k d is off) read = goes_nowhere w read
+step_goes {w} (too_late k d number is at late) read = goes_nowhere w read
+step_goes {w} (delivered k d number taken ends is at in_time t) read = goes_taking w ends d.to d.from taken (takes_same t) read
+step_goes {w} (from_an_end from number octets is) read = goes_nowhere w read
+step_goes {w} (to_no_end from number octets none) read = goes_nowhere w read
+step_goes {w} (from_a_stranger from addr number octets taken ends off at t) read = goes_taking w ends addr from taken (takes_same t) read
 
 -- ---- clocks that move alike
 
@@ -109,46 +109,46 @@ record StaysAlike (P : WorldValue → Type 0) : Type 0 where
   ticks : (w v : WorldValue) (ms : ℕ) → Advances w ms (λ n. ms) v → AreRead w → P w → P v
   others : (w : WorldValue) (ends : Ends) (sent : List Datagram) → ((n : ℕ) → addr_of ends n ≡ addr_of w.ends n) → P w → P (record w { ends = ends; sent = sent })
 
-after_alike : (P : WorldValue → Type 0) → StaysAlike P → (w : WorldValue) (number : ℕ) (new : NodeValue) (given : CallOutcomeValue) → P w → P (after w number new given)
-after_alike P stays w number new nothing is = stays.others w (with_node w.ends number (Some new)) w.sent (with_same w.ends number (Some new)) is
-after_alike P stays w number new (refusal fault) is = stays.others w (with_node w.ends number (Some new)) w.sent (with_same w.ends number (Some new)) is
-after_alike P stays w number new (octets_to to octets) is = stays.others w (with_node w.ends number (Some new)) (w.sent ++ datagram new.addr to w.now octets ∷ []) (with_same w.ends number (Some new)) is
+after_alike : {P : WorldValue → Type 0} → StaysAlike P → (w : WorldValue) (number : ℕ) (new : NodeValue) (given : CallOutcomeValue) → P w → P (after w number new given)
+after_alike stays w number new nothing is = stays.others w (with_node w.ends number (Some new)) w.sent (with_same w.ends number (Some new)) is
+after_alike stays w number new (refusal fault) is = stays.others w (with_node w.ends number (Some new)) w.sent (with_same w.ends number (Some new)) is
+after_alike stays w number new (octets_to to octets) is = stays.others w (with_node w.ends number (Some new)) (w.sent ++ datagram new.addr to w.now octets ∷ []) (with_same w.ends number (Some new)) is
 
-taking_alike : (P : WorldValue → Type 0) → StaysAlike P → (w : WorldValue) (ends : Ends) (from to : Addr) (taken : TakenValue) → ((n : ℕ) → addr_of ends n ≡ addr_of w.ends n) → P w → P (after_taking w ends from to taken)
-taking_alike P stays w ends from to is_down same is = stays.others w ends w.sent same is
-taking_alike P stays w ends from to is_lost same is = stays.others w ends w.sent same is
-taking_alike P stays w ends from to (takes None) same is = stays.others w ends w.sent same is
-taking_alike P stays w ends from to (takes (Some reply)) same is = stays.others w ends (w.sent ++ datagram from to w.now (text reply) ∷ []) same is
+taking_alike : {P : WorldValue → Type 0} → StaysAlike P → (w : WorldValue) (ends : Ends) (from to : Addr) (taken : TakenValue) → ((n : ℕ) → addr_of ends n ≡ addr_of w.ends n) → P w → P (after_taking w ends from to taken)
+taking_alike stays w ends from to is_down same is = stays.others w ends w.sent same is
+taking_alike stays w ends from to is_lost same is = stays.others w ends w.sent same is
+taking_alike stays w ends from to (takes None) same is = stays.others w ends w.sent same is
+taking_alike stays w ends from to (takes (Some reply)) same is = stays.others w ends (w.sent ++ datagram from to w.now (text reply) ∷ []) same is
 
-step_alike : (P : WorldValue → Type 0) → StaysAlike P → (w v : WorldValue) (event : Event) (outcome : Outcome) → Step w event outcome v → AreRead w → (LetsClocksDrift event → ⊥) → P w → P v
-step_alike P stays w v event outcome (ticks ms new adv) read one is = stays.ticks w v ms adv read is
-step_alike P stays w v event outcome (advances ms readings new adv) read one is = absurd (one tt)
-step_alike P stays w v event outcome (starts number ends s) read one is = stays.others w ends w.sent (starts_same w.config _ w.ends number ends s) is
-step_alike P stays w v event outcome (starts_nothing number off) read one is = is
-step_alike P stays w v event outcome (crashes number ends s) read one is = stays.others w ends w.sent (crashes_same w.ends number ends s) is
-step_alike P stays w v event outcome (crashes_nothing number off) read one is = is
-step_alike P stays w v event outcome (node_does e number node new given own up does) read one is = after_alike P stays w number new given is
-step_alike P stays w v event outcome (node_is_down e number own down) read one is = is
-step_alike P stays w v event outcome (no_datagram k none) read one is = is
-step_alike P stays w v event outcome (no_end k d at off) read one is = is
-step_alike P stays w v event outcome (too_late k d number at to late) read one is = is
-step_alike P stays w v event outcome (delivered k d number taken ends at to in_time t) read one is = taking_alike P stays w ends d.to d.from taken (takes_same _ w.ends d.from d.octets.items number taken ends t) is
-step_alike P stays w v event outcome (from_an_end from number octets of) read one is = is
-step_alike P stays w v event outcome (to_no_end from number octets none) read one is = is
-step_alike P stays w v event outcome (from_a_stranger from addr number octets taken ends off at t) read one is = taking_alike P stays w ends addr from taken (takes_same _ w.ends from octets.items number taken ends t) is
+step_alike : {P : WorldValue → Type 0} → StaysAlike P → {w v : WorldValue} {event : Event} {outcome : Outcome} → Step w event outcome v → AreRead w → (LetsClocksDrift event → ⊥) → P w → P v
+step_alike stays {w} {v} (ticks ms new adv) read one is = stays.ticks w v ms adv read is
+step_alike stays (advances ms readings new adv) read one is = absurd (one tt)
+step_alike stays {w} (starts number ends s) read one is = stays.others w ends w.sent (starts_same s) is
+step_alike stays (starts_nothing number off) read one is = is
+step_alike stays {w} (crashes number ends s) read one is = stays.others w ends w.sent (crashes_same s) is
+step_alike stays (crashes_nothing number off) read one is = is
+step_alike stays {w} (node_does e number node new given own up does) read one is = after_alike stays w number new given is
+step_alike stays (node_is_down e number own down) read one is = is
+step_alike stays (no_datagram k none) read one is = is
+step_alike stays (no_end k d at off) read one is = is
+step_alike stays (too_late k d number at to late) read one is = is
+step_alike stays {w} (delivered k d number taken ends at to in_time t) read one is = taking_alike stays w ends d.to d.from taken (takes_same t) is
+step_alike stays (from_an_end from number octets of) read one is = is
+step_alike stays (to_no_end from number octets none) read one is = is
+step_alike stays {w} (from_a_stranger from addr number octets taken ends off at t) read one is = taking_alike stays w ends addr from taken (takes_same t) is
 
 -- an end that is there afterwards was there before
-was_end : (w v : WorldValue) (ms : ℕ) (moves : ℕ → ℕ) → Advances w ms moves v → (n : ℕ) → IsEnd v.ends n → IsEnd w.ends n
-was_end w v ms moves adv n e = subst (λ (x : WorldValue). IsEnd x.ends n) adv.others e
+was_end : {w v : WorldValue} {ms : ℕ} {moves : ℕ → ℕ} → Advances w ms moves v → (n : ℕ) → IsEnd v.ends n → IsEnd w.ends n
+was_end adv n e = subst (λ (x : WorldValue). IsEnd x.ends n) adv.others e
 
-is_end : (w v : WorldValue) (ms : ℕ) (moves : ℕ → ℕ) → Advances w ms moves v → (n : ℕ) → IsEnd w.ends n → IsEnd v.ends n
-is_end w v ms moves adv n e = subst (λ (x : WorldValue). IsEnd x.ends n) (sym adv.others) e
+is_end : {w v : WorldValue} {ms : ℕ} {moves : ℕ → ℕ} → Advances w ms moves v → (n : ℕ) → IsEnd w.ends n → IsEnd v.ends n
+is_end adv n e = subst (λ (x : WorldValue). IsEnd x.ends n) (sym adv.others) e
 
 -- ---- in step
 
 -- where the reading is the clock, both numbers fall as it goes on
-ticks_in_step : (w v : WorldValue) (ms : ℕ) → Advances w ms (λ n. ms) v → AreRead w → IsTrue w.kept → IsInStep w → IsTrue v.kept × ((n : ℕ) → IsEnd w.ends n → reading v.now n ≡ v.now.clock)
-ticks_in_step w v ms adv read on same = ((adv.kept).1 (on, allowed), reads)
+ticks_in_step : {w v : WorldValue} {ms : ℕ} → Advances w ms (λ n. ms) v → AreRead w → IsTrue w.kept → IsInStep w → IsTrue v.kept × ((n : ℕ) → IsEnd w.ends n → reading v.now n ≡ v.now.clock)
+ticks_in_step {w} {v} {ms} adv read on same = ((adv.kept).1 (on, allowed), reads)
   where
     reads : (n : ℕ) → IsEnd w.ends n → reading v.now n ≡ v.now.clock
     reads n e = adv.readings n e ∙ (λ i. later (same n e i) ms) ∙ sym adv.now
@@ -165,7 +165,7 @@ ticks_in_step w v ms adv read on same = ((adv.kept).1 (on, allowed), reads)
     allowed : (n : ℕ) → IsEnd w.ends n → IsAllowed (least_of v.least n) v.now n
     allowed n e =
         let was = read.allowed on n e in
-        let last = (read_on w v ms (λ n. ms) adv read).now in
+        let last = (read_on adv read).now in
         record {
           not_ahead = rw (adv.least n e) (falls_ahead w.now.clock v.now.clock (reading w.now n) (reading v.now n) (2 ^ 60) (least_of w.least n).ahead goes last (same n e) (reads n e) was.not_ahead);
           not_behind = rw (adv.least n e) (falls_behind w.now.clock v.now.clock (reading w.now n) (reading v.now n) (2 ^ 60) (least_of w.least n).behind goes last (same n e) (reads n e) was.not_behind);
@@ -176,15 +176,15 @@ AreInStep w = IsTrue w.kept × IsInStep w
 
 in_step_alike : StaysAlike AreInStep
 in_step_alike = record {
-  ticks = λ w v ms adv read is. let t = ticks_in_step w v ms adv read is.0 is.1 in (t.0, λ n e. t.1 n (was_end w v ms (λ n. ms) adv n e));
+  ticks = λ w v ms adv read is. let t = ticks_in_step adv read is.0 is.1 in (t.0, λ n e. t.1 n (was_end adv n e));
   others = λ w ends sent same is. (is.0, λ n e. is.1 n (e.0, sym (same n) ∙ e.1));
 }
 
 -- ---- until a clock stops
 
 -- where no clock stops, both numbers fall
-ticks_kept : (w v : WorldValue) (ms : ℕ) → Advances w ms (λ n. ms) v → AreRead w → NoClockStopped v → IsTrue w.kept → IsTrue v.kept
-ticks_kept w v ms adv read going on = (adv.kept).1 (on, allowed)
+ticks_kept : {w v : WorldValue} {ms : ℕ} → Advances w ms (λ n. ms) v → AreRead w → NoClockStopped v → IsTrue w.kept → IsTrue v.kept
+ticks_kept {w} {v} {ms} adv read going on = (adv.kept).1 (on, allowed)
   where
     falls_ahead : (t u c d ms last least : ℕ) → u ≡ min (t + ms) last → d ≡ min (c + ms) last → u < last → d < last → 1000 * c + 1001 * (last - t) ≤ least + 1000 → 1000 * d + 1001 * (last - u) ≤ min least (1000 * d + 1001 * (last - u)) + 1000
     falls_ahead t u c d ms last least a b p q e = omega arith
@@ -195,15 +195,15 @@ ticks_kept w v ms adv read going on = (adv.kept).1 (on, allowed)
     allowed : (n : ℕ) → IsEnd w.ends n → IsAllowed (least_of v.least n) v.now n
     allowed n e =
         let was = read.allowed on n e in
-        let goes = going.1 n (is_end w v ms (λ n. ms) adv n e) in
+        let goes = going.1 n (is_end adv n e) in
         record {
           not_ahead = rw (adv.least n e) (falls_ahead w.now.clock v.now.clock (reading w.now n) (reading v.now n) ms (2 ^ 60) (least_of w.least n).ahead adv.now (adv.readings n e) going.0 goes was.not_ahead);
           not_behind = rw (adv.least n e) (falls_behind w.now.clock v.now.clock (reading w.now n) (reading v.now n) ms (2 ^ 60) (least_of w.least n).behind adv.now (adv.readings n e) going.0 goes was.not_behind);
         }
 
 -- a clock that hasn't stopped hadn't stopped before
-went : (w v : WorldValue) (ms : ℕ) → Advances w ms (λ n. ms) v → NoClockStopped v → NoClockStopped w
-went w v ms adv going = (below w.now.clock v.now.clock ms (2 ^ 60) adv.now going.0, λ n e. below (reading w.now n) (reading v.now n) ms (2 ^ 60) (adv.readings n e) (going.1 n (is_end w v ms (λ n. ms) adv n e)))
+went : {w v : WorldValue} {ms : ℕ} → Advances w ms (λ n. ms) v → NoClockStopped v → NoClockStopped w
+went {w} {v} {ms} adv going = (below w.now.clock v.now.clock ms (2 ^ 60) adv.now going.0, λ n e. below (reading w.now n) (reading v.now n) ms (2 ^ 60) (adv.readings n e) (going.1 n (is_end adv n e)))
   where
     below : (c d ms last : ℕ) → d ≡ min (c + ms) last → d < last → c < last
     below c d ms last e lt = omega arith
@@ -213,7 +213,7 @@ IsKeptUntilStopped w = NoClockStopped w → IsTrue w.kept
 
 kept_alike : StaysAlike IsKeptUntilStopped
 kept_alike = record {
-  ticks = λ w v ms adv read is going. ticks_kept w v ms adv read going (is (went w v ms adv going));
+  ticks = λ w v ms adv read is going. ticks_kept adv read going (is (went adv going));
   others = λ w ends sent same is going. is (going.0, λ n e. going.1 n (e.0, same n ∙ e.1));
 }
 
@@ -243,36 +243,36 @@ all_parts : (P : Event → Type 0) (xs : List Event) (x : Event) → All P (xs +
 all_parts P [] x all = (All-nil P, All-head P x [] all)
 all_parts P (y ∷ xs) x all = let rest = all_parts P xs x (All-tail P y (xs ++ x ∷ []) all) in (All-cons P y xs (All-head P y (xs ++ x ∷ []) all) rest.0, rest.1)
 
-along_more : (events : List Event) (old w v : WorldValue) (worlds : List WorldValue) (event : Event) (outcome : Outcome) → Step w event outcome v → (IsTrue v.kept → IsSafe v) → Along events old worlds w
+along_more : {events : List Event} {old w v : WorldValue} {worlds : List WorldValue} {event : Event} {outcome : Outcome} → Step w event outcome v → (IsTrue v.kept → IsSafe v) → Along events old worlds w
     → Along (events ++ event ∷ []) old (worlds ++ v ∷ []) v
-along_more events old w v worlds event outcome step safe is = record {
+along_more {events} {w = w} {v} {worlds} {event} step safe is = record {
   read = goes.read;
   safe = All-push (λ x. IsTrue x.kept → IsSafe x) worlds v is.safe safe;
   traced = λ config addrs fresh. traced_more worlds w v goes (is.traced config addrs fresh);
   in_step = λ on same one.
       let parts = all_parts (λ e. LetsClocksDrift e → ⊥) events event one in
       let was = is.in_step on same parts.0 in
-      let stands = step_alike AreInStep in_step_alike w v event outcome step is.read parts.1 was.1 in
+      let stands = step_alike in_step_alike step is.read parts.1 was.1 in
       (All-push IsSafe worlds v was.0 (safe stands.0), stands);
   alike = λ on one.
       let parts = all_parts (λ e. LetsClocksDrift e → ⊥) events event one in
       let was = is.alike on parts.0 in
-      let stands = step_alike IsKeptUntilStopped kept_alike w v event outcome step is.read parts.1 was.1 in
+      let stands = step_alike kept_alike step is.read parts.1 was.1 in
       (All-push IsKeptWhileGoing worlds v was.0 (λ going. (stands going, safe (stands going))), stands);
 }
   where
     goes : Goes w v
-    goes = step_goes w v event outcome step is.read
+    goes = step_goes step is.read
 
-pub along_next : (events : List Event) (k : ℕ) (old w v : WorldValue) (worlds : List WorldValue) (event : Event) (outcome : Outcome) → k < length events → event ≡ get_or events k event → Step w event outcome v
+pub along_next : (events : List Event) (k : ℕ) {old w v : WorldValue} {worlds : List WorldValue} {event : Event} {outcome : Outcome} → k < length events → event ≡ get_or events k event → Step w event outcome v
     → (IsTrue v.kept → IsSafe v) → Along (take k events) old worlds w → Along (take (k + 1) events) old (worlds ++ v ∷ []) v
-along_next events k old w v worlds event outcome within at step safe is =
+along_next events k {old} {v = v} {worlds} {event} within at step safe is =
     subst (λ (es : List Event). Along es old (worlds ++ v ∷ []) v) (sym (take_more events k event within))
-    (subst (λ (x : Event). Along (take k events ++ x ∷ []) old (worlds ++ v ∷ []) v) at (along_more (take k events) old w v worlds event outcome step safe is))
+    (subst (λ (x : Event). Along (take k events ++ x ∷ []) old (worlds ++ v ∷ []) v) at (along_more step safe is))
 
-pub runs_safely : (events : List Event) (old : WorldValue) (worlds : List WorldValue) (last : WorldValue) → Along events old worlds last → RunsSafely events old worlds last
-runs_safely events old worlds last is =
+pub runs_safely : {events : List Event} {old : WorldValue} {worlds : List WorldValue} {last : WorldValue} → Along events old worlds last → RunsSafely events old worlds last
+runs_safely is =
     record { safe = is.safe; told = λ config addrs fresh. (is.traced config addrs fresh).told; one_clock = λ on same one. (is.in_step on same one).0; alike = λ on one. (is.alike on one).0 }
 
-pub runs_whole : (events : List Event) (k : ℕ) (old : WorldValue) (worlds : List WorldValue) (last : WorldValue) → length events ≤ k → Along (take k events) old worlds last → RunsSafely events old worlds last
-runs_whole events k old worlds last le is = runs_safely events old worlds last (subst (λ (es : List Event). Along es old worlds last) (take_all k events le) is)
+pub runs_whole : (events : List Event) (k : ℕ) {old : WorldValue} {worlds : List WorldValue} {last : WorldValue} → length events ≤ k → Along (take k events) old worlds last → RunsSafely events old worlds last
+runs_whole events k {old} {worlds} {last} le is = runs_safely (subst (λ (es : List Event). Along es old worlds last) (take_all k events le) is)

@@ -33,6 +33,10 @@ pub record LeaseLaws : Type 0 where
       → Contains (leases_at now table.rows name) lease ↔ Contains (after name) lease
   pub stands : (table : TableValue) (now : ℕ) (name : NameValue) (a : Asking) (grant : Grant) (after : Leases) → IsSound table.config now (leases_at now table.rows) → Grants table now name a (Ok grant) after
       → (lease : Lease) × IsGranted table now name a grant (after name) lease
+  pub granted_sound : (table : TableValue) (now : ℕ) (name : NameValue) (a : Asking) (result : Result Grant GrantFault) (after : Leases) → IsSound table.config now (leases_at now table.rows) → Grants table now name a result after
+      → IsSound table.config now after
+  pub released_sound : (table : TableValue) (now : ℕ) (name : NameValue) (addr : ℕ) (result : Released) (after : Leases) → IsSound table.config now (leases_at now table.rows) → Releases table now name addr result after
+      → IsSound table.config now after
   pub holds : HoldLaw
   pub beside : (table : TableValue) (now : ℕ) (name : NameValue) (a : Asking) (grant : Grant) (after : Leases) (other : Lease) → Grants table now name a (Ok grant) after
       → Contains (leases_at now table.rows name) other → other.addr ≢ a.addr → (other.kind ≡ Group) × (a.kind ≡ Group)
@@ -40,36 +44,25 @@ pub record LeaseLaws : Type 0 where
 -- ---- a lease that stays
 
 -- leases of another name stay
-at_other : LeaseLaws → (table : TableValue) (now : ℕ) (name q : NameValue) (leases : List Lease) (after : Leases) (ip : ℕ) (kind : Kind) (till : ℕ) → after ≡ at_name name leases (leases_at now table.rows) → q ≢ name
-    → IsLeased (leases_at now table.rows q) ip kind till → IsLeased (after q) ip kind till
-at_other laws table now name q leases after ip kind till after_is ne is =
-    subst (λ (ls : List Lease). IsLeased ls ip kind till) (sym (ap (λ (f : Leases). f q) after_is ∙ laws.elsewhere name q leases (leases_at now table.rows) ne)) is
+at_other : LeaseLaws → {name q : NameValue} {after : Leases} {ip : ℕ} {kind : Kind} {till : ℕ} (leases : List Lease) (before : Leases) → after ≡ at_name name leases before → q ≢ name → IsLeased (before q) ip kind till → IsLeased (after q) ip kind till
+at_other laws {name} {q} {ip = ip} {kind} {till} leases before after_is ne is =
+    subst (λ (ls : List Lease). IsLeased ls ip kind till) (sym (ap (λ (f : Leases). f q) after_is ∙ laws.elsewhere name q leases before ne)) is
 
 -- a refusal leaves the leases
-refused_same : (config : ConfigValue) (now count : ℕ) (a : Asking) (leases left : List Lease) (result : Result Grant GrantFault) (fault : GrantFault) → GrantCase config now count a leases result left → result ≡ Err fault → left ≡ leases
-refused_same config now count a leases left result fault (active off) e = refl
-refused_same config now count a leases left result fault (renews ok before after lease is own) e = absurd cc
-refused_same config now count a leases left result fault (group_full ok none full) e = refl
-refused_same config now count a leases left result fault (table_full ok none few full) e = refl
-refused_same config now count a leases left result fault (begins ok none few room) e = absurd cc
+refused_same : {config : ConfigValue} {now count : ℕ} {a : Asking} {leases left : List Lease} {fault : GrantFault} → GrantCase config now count a leases (Err fault) left → left ≡ leases
+refused_same (active off) = refl
+refused_same (group_full ok none full) = refl
+refused_same (table_full ok none few full) = refl
 
 -- the seconds of a grant
-abbrev seconds_in : Result Grant GrantFault → ℕ
-seconds_in (Ok grant) = grant.seconds
-seconds_in (Err fault) = 0
-
-granted_seconds : (config : ConfigValue) (now count : ℕ) (a : Asking) (leases left : List Lease) (result : Result Grant GrantFault) (grant : Grant) → GrantCase config now count a leases result left → result ≡ Ok grant
-    → grant.seconds ≡ granted config.longest a.ttl
-granted_seconds config now count a leases left result grant (active off) e = absurd cc
-granted_seconds config now count a leases left result grant (renews ok before after lease is own) e = sym (ap seconds_in e)
-granted_seconds config now count a leases left result grant (group_full ok none full) e = absurd cc
-granted_seconds config now count a leases left result grant (table_full ok none few full) e = absurd cc
-granted_seconds config now count a leases left result grant (begins ok none few room) e = sym (ap seconds_in e)
+granted_seconds : {config : ConfigValue} {now count : ℕ} {a : Asking} {leases left : List Lease} {grant : Grant} → GrantCase config now count a leases (Ok grant) left → grant.seconds ≡ granted config.longest a.ttl
+granted_seconds (renews ok before after lease is own) = refl
+granted_seconds (begins ok none few room) = refl
 
 -- the asker's own lease, of the asked kind, ends no earlier
-own_kept : LeaseLaws → (table : TableValue) (now : ℕ) (name : NameValue) (a : Asking) (result : Result Grant GrantFault) (after : Leases) (kind : Kind) (till : ℕ) → IsSound table.config now (leases_at now table.rows)
+own_kept : LeaseLaws → {table : TableValue} {now : ℕ} {name : NameValue} {a : Asking} {after : Leases} {kind : Kind} {till : ℕ} (result : Result Grant GrantFault) → IsSound table.config now (leases_at now table.rows)
     → Grants table now name a result after → kind ≡ a.kind → IsLeased (leases_at now table.rows name) a.addr kind till → IsLeased (after name) a.addr kind till
-own_kept laws table now name a (Ok grant) after kind till sound grants same is =
+own_kept laws {table} {now} {name} {a} {after} {kind} (Ok grant) sound grants same is =
     let s = laws.stands table now name a grant after sound grants in
     let g = s.1 in
     let lasts = is.lasts in
@@ -78,61 +71,57 @@ own_kept laws table now name a (Ok grant) after kind till sound grants same is =
   where
     as_written : (l : Lease) → l.addr ≡ a.addr → l.kind ≡ kind → l ≡ record { addr = a.addr; kind = kind; end = l.end }
     as_written l p q = λ i. record { addr = p i; kind = q i; end = l.end }
-own_kept laws table now name a (Err fault) after kind till sound grants same is =
+own_kept laws {table} {now} {name} {a} {kind = kind} {till} (Err fault) sound grants same is =
     subst (λ (ls : List Lease). IsLeased ls a.addr kind till)
-    (sym (ap (λ (f : Leases). f name) grants.after_is ∙ laws.here name grants.leases (leases_at now table.rows) ∙ refused_same table.config now _ a (leases_at now table.rows name) grants.leases (Err fault) fault grants.rule refl)) is
+    (sym (ap (λ (f : Leases). f name) grants.after_is ∙ laws.here name grants.leases (leases_at now table.rows) ∙ refused_same grants.rule)) is
 
-grants_keep : LeaseLaws → (table : TableValue) (now : ℕ) (name : NameValue) (a : Asking) (result : Result Grant GrantFault) (after : Leases) → IsSound table.config now (leases_at now table.rows) → Grants table now name a result after
-    → (q : NameValue) (ip : ℕ) (kind : Kind) (till : ℕ) → (q ≡ name → ip ≡ a.addr → kind ≡ a.kind) → IsLeased (leases_at now table.rows q) ip kind till → IsLeased (after q) ip kind till
-grants_keep laws table now name a result after sound grants q ip kind till same is = by_name (names_apart q name)
+grants_keep : LeaseLaws → {table : TableValue} {now : ℕ} {name : NameValue} {a : Asking} {result : Result Grant GrantFault} {after : Leases} → IsSound table.config now (leases_at now table.rows) → Grants table now name a result after
+    → (q : NameValue) {ip : ℕ} {kind : Kind} {till : ℕ} → (q ≡ name → ip ≡ a.addr → kind ≡ a.kind) → IsLeased (leases_at now table.rows q) ip kind till → IsLeased (after q) ip kind till
+grants_keep laws {table} {now} {name} {a} {result} {after} sound grants q {ip} {kind} {till} same is = by_name (names_apart q name)
   where
     by_addr : q ≡ name → (ip ≡ a.addr) ⊎ (ip ≡ a.addr → ⊥) → IsLeased (leases_at now table.rows name) ip kind till → IsLeased (after name) ip kind till
     by_addr e (inl own) is =
-        subst (λ (x : ℕ). IsLeased (after name) x kind till) (sym own)
-        (own_kept laws table now name a result after kind till sound grants (same e own) (subst (λ (x : ℕ). IsLeased (leases_at now table.rows name) x kind till) own is))
+        subst (λ (x : ℕ). IsLeased (after name) x kind till) (sym own) (own_kept laws result sound grants (same e own) (subst (λ (x : ℕ). IsLeased (leases_at now table.rows name) x kind till) own is))
     by_addr e (inr ne) is = record { end = is.end; among = (laws.others_granted table now name a result after _ grants ne).0 is.among; lasts = is.lasts }
 
     by_name : (q ≡ name) ⊎ (q ≢ name) → IsLeased (after q) ip kind till
     by_name (inl e) =
         subst (λ (n : NameValue). IsLeased (after n) ip kind till) (sym e) (by_addr e (cases_eq ip a.addr) (subst (λ (n : NameValue). IsLeased (leases_at now table.rows n) ip kind till) e is))
-    by_name (inr ne) = at_other laws table now name q grants.leases after ip kind till grants.after_is ne is
+    by_name (inr ne) = at_other laws grants.leases (leases_at now table.rows) grants.after_is ne is
 
-releases_keep : LeaseLaws → (table : TableValue) (now : ℕ) (name : NameValue) (addr : ℕ) (result : Released) (after : Leases) → Releases table now name addr result after
-    → (q : NameValue) (ip : ℕ) (kind : Kind) (till : ℕ) → (q ≡ name → ip ≡ addr → ⊥) → IsLeased (leases_at now table.rows q) ip kind till → IsLeased (after q) ip kind till
-releases_keep laws table now name addr result after releases q ip kind till other is = by_name (names_apart q name)
+releases_keep : LeaseLaws → {table : TableValue} {now : ℕ} {name : NameValue} {addr : ℕ} {result : Released} {after : Leases} → Releases table now name addr result after
+    → (q : NameValue) {ip : ℕ} {kind : Kind} {till : ℕ} → (q ≡ name → ip ≡ addr → ⊥) → IsLeased (leases_at now table.rows q) ip kind till → IsLeased (after q) ip kind till
+releases_keep laws {table} {now} {name} {addr} {result} {after} releases q {ip} {kind} {till} other is = by_name (names_apart q name)
   where
     by_name : (q ≡ name) ⊎ (q ≢ name) → IsLeased (after q) ip kind till
     by_name (inl e) =
         let was = subst (λ (n : NameValue). IsLeased (leases_at now table.rows n) ip kind till) e is in
         subst (λ (n : NameValue). IsLeased (after n) ip kind till) (sym e)
         (record { end = was.end; among = (laws.others_released table now name addr result after _ releases (other e)).0 was.among; lasts = was.lasts })
-    by_name (inr ne) = at_other laws table now name q releases.leases after ip kind till releases.after_is ne is
+    by_name (inr ne) = at_other laws releases.leases (leases_at now table.rows) releases.after_is ne is
 
 -- a request asks for the kind that the registration in it has
-asks_kind : (q : NameValue) (kind : Kind) (m : MessageValue) (r : Registration) → AsksFor m r → r.name ≡ q → (IsRequest q m → AsksAs kind m) → r.kind ≡ kind
-asks_kind q kind m r (serving.by_registration x) e asked = asked e
-asks_kind q kind m r (serving.by_refresh x) e asked = asked e
+asks_kind : {q : NameValue} {kind : Kind} {m : MessageValue} {r : Registration} → AsksFor m r → r.name ≡ q → (IsRequest q m → AsksAs kind m) → r.kind ≡ kind
+asks_kind (serving.by_registration x) e asked = asked e
+asks_kind (serving.by_refresh x) e asked = asked e
 
 -- A lease of an end that wants the name, and whose requests are for its kind, stays, whatever the server is asked.
-serves_keep : LeaseLaws → (table : TableValue) (now ip : ℕ) (m : MessageValue) (reply : Option MessageValue) (after : Leases) → IsSound table.config now (leases_at now table.rows) → Serves table now ip m reply after
-    → (q : NameValue) (own : ℕ) (kind : Kind) (till : ℕ) → (own ≡ ip → IsRequest q m → AsksAs kind m) → IsLeased (leases_at now table.rows q) own kind till → IsLeased (after q) own kind till
-serves_keep laws table now ip m reply after sound (serving.registers x r result l asks is grants) q own kind till asked leased =
-    grants_keep laws table now r.name (asked_in r) result after sound grants q own kind till (λ e same. sym (asks_kind q kind m r asks (sym e) (asked (same ∙ is.0)))) leased
-serves_keep laws table now ip m reply after sound (serving.refuses x r asks is) q own kind till asked leased = leased
-serves_keep laws table now ip m reply after sound (serving.refuses_overwrite r) q own kind till asked leased = leased
-serves_keep laws table now ip m reply after sound (serving.releases id name k addr result l is releases) q own kind till asked leased =
-    releases_keep laws table now name addr result after releases q own kind till (λ e same. asked (same ∙ is.0) (sym e)) leased
-serves_keep laws table now ip m reply after sound (serving.refuses_release id name k addr is) q own kind till asked leased = leased
-serves_keep laws table now ip m reply after sound (serving.finds id name end least) q own kind till asked leased = leased
-serves_keep laws table now ip m reply after sound (serving.finds_none id name none) q own kind till asked leased = leased
-serves_keep laws table now ip m reply after sound (serving.passes_over x is) q own kind till asked leased = leased
+serves_keep : LeaseLaws → {table : TableValue} {now ip : ℕ} {m : MessageValue} {reply : Option MessageValue} {after : Leases} → IsSound table.config now (leases_at now table.rows) → Serves table now ip m reply after
+    → (q : NameValue) {own : ℕ} {kind : Kind} {till : ℕ} → (own ≡ ip → IsRequest q m → AsksAs kind m) → IsLeased (leases_at now table.rows q) own kind till → IsLeased (after q) own kind till
+serves_keep laws sound (serving.registers x r result l asks is grants) q asked leased = grants_keep laws sound grants q (λ e same. sym (asks_kind asks (sym e) (asked (same ∙ is.0)))) leased
+serves_keep laws sound (serving.refuses x r asks is) q asked leased = leased
+serves_keep laws sound (serving.refuses_overwrite r) q asked leased = leased
+serves_keep laws sound (serving.releases id name k addr result l is releases) q asked leased = releases_keep laws releases q (λ e same. asked (same ∙ is.0) (sym e)) leased
+serves_keep laws sound (serving.refuses_release id name k addr is) q asked leased = leased
+serves_keep laws sound (serving.finds id name end least) q asked leased = leased
+serves_keep laws sound (serving.finds_none id name none) q asked leased = leased
+serves_keep laws sound (serving.passes_over x is) q asked leased = leased
 
-pub octets_keep : LeaseLaws → (server : ServerValue) (now ip : ℕ) (octets : List ℕ) (reply : Option MessageValue) (after : Leases) → IsSound server.table.config now (leases_at now server.table.rows)
-    → ServesOctets server now ip octets reply after
-    → (q : NameValue) (own : ℕ) (kind : Kind) (till : ℕ) → ((m : MessageValue) → Spells octets m → own ≡ ip → IsRequest q m → AsksAs kind m) → IsLeased (leases_at now server.table.rows q) own kind till → IsLeased (after q) own kind till
-octets_keep laws server now ip octets reply after sound (serving.is_silent early) q own kind till asked leased = leased
-octets_keep laws server now ip octets reply after sound (serving.is_no_message none) q own kind till asked leased = leased
-octets_keep laws server now ip octets reply after sound (serving.serves m p l speaks spells does) q own kind till asked leased = serves_keep laws server.table now ip m reply after sound does q own kind till (asked m spells) leased
+pub octets_keep : LeaseLaws → {server : ServerValue} {now ip : ℕ} {octets : List ℕ} {reply : Option MessageValue} {after : Leases} → IsSound server.table.config now (leases_at now server.table.rows) → ServesOctets server now ip octets reply after
+    → (q : NameValue) {own : ℕ} {kind : Kind} {till : ℕ} → ((m : MessageValue) → Spells octets m → own ≡ ip → IsRequest q m → AsksAs kind m) → IsLeased (leases_at now server.table.rows q) own kind till → IsLeased (after q) own kind till
+octets_keep laws sound (serving.is_silent early) q asked leased = leased
+octets_keep laws sound (serving.is_no_message none) q asked leased = leased
+octets_keep laws sound (serving.serves m p l speaks spells does) q asked leased = serves_keep laws sound does q (asked m spells) leased
 
 -- ---- a grant
 
@@ -157,9 +146,9 @@ pub record Gives (now longest ip ttl : ℕ) (before after : List Lease) (kind : 
   pub leased : IsLeased after ip kind (now + 1000 * granted longest ttl)
   pub beside : (other : Lease) → Contains before other → other.addr ≢ ip → (other.kind ≡ Group) × (kind ≡ Group)
 
-granted_gives : LeaseLaws → (table : TableValue) (now : ℕ) (r : Registration) (grant : Grant) (after : Leases) → IsSound table.config now (leases_at now table.rows) → Grants table now r.name (asked_in r) (Ok grant) after
+granted_gives : LeaseLaws → {table : TableValue} {now : ℕ} {grant : Grant} {after : Leases} (r : Registration) → IsSound table.config now (leases_at now table.rows) → Grants table now r.name (asked_in r) (Ok grant) after
     → Gives now table.config.longest r.addr grant.seconds (leases_at now table.rows r.name) (after r.name) r.kind
-granted_gives laws table now r grant after sound grants = record { leased = leased; beside = λ other c ne. laws.beside table now r.name (asked_in r) grant after other grants c ne }
+granted_gives laws {table} {now} {grant} {after} r sound grants = record { leased = leased; beside = λ other c ne. laws.beside table now r.name (asked_in r) grant after other grants c ne }
   where
     as_written : (l : Lease) → l.addr ≡ r.addr → l.kind ≡ r.kind → l ≡ record { addr = r.addr; kind = r.kind; end = l.end }
     as_written l p q = λ i. record { addr = p i; kind = q i; end = l.end }
@@ -169,7 +158,7 @@ granted_gives laws table now r grant after sound grants = record { leased = leas
         let s = laws.stands table now r.name (asked_in r) grant after sound grants in
         let g = s.1 in
         let long = g.as_granted in
-        let seconds = granted_seconds table.config now _ (asked_in r) _ _ (Ok grant) grant grants.rule refl in
+        let seconds = granted_seconds grants.rule in
         let again : granted table.config.longest grant.seconds ≤ granted table.config.longest r.ttl =
         subst (λ (x : ℕ). granted table.config.longest x ≤ granted table.config.longest r.ttl) (sym seconds) (granted_again table.config.longest r.ttl) in
         record { end = (s.0).end; among = subst (λ (l : Lease). Contains (after r.name) l) (as_written s.0 g.addr_is g.kind_is) g.stands; lasts = omega arith }
@@ -187,33 +176,29 @@ rcode_is n k r x e = cc
 registration_is : (n k : ℕ) (r x : Registration) → Some (registered n r) ≡ Some (registered k x) → r ≡ x
 registration_is n k r x e = cc
 
-serves_gives : LeaseLaws → (table : TableValue) (now ip : ℕ) (m : MessageValue) (reply : Option MessageValue) (after : Leases) → IsSound table.config now (leases_at now table.rows) → Serves table now ip m reply after
-    → (x : Registration) (q : NameValue) (kind : Kind) → reply ≡ Some (registered 0 x) → x.name ≡ q → (IsRequest q m → AsksAs kind m)
-    → Gives now table.config.longest ip x.ttl (leases_at now table.rows q) (after q) kind
-serves_gives laws table now ip m reply after sound (serving.registers k r (Ok grant) l asks is grants) x q kind e name asked =
+serves_gives : LeaseLaws → {table : TableValue} {now ip : ℕ} {m : MessageValue} {reply : Option MessageValue} {after : Leases} {x : Registration} {q : NameValue} {kind : Kind} → IsSound table.config now (leases_at now table.rows)
+    → Serves table now ip m reply after → reply ≡ Some (registered 0 x) → x.name ≡ q → (IsRequest q m → AsksAs kind m) → Gives now table.config.longest ip x.ttl (leases_at now table.rows q) (after q) kind
+serves_gives laws {table} {now} {ip} {after = after} {x} {q} {kind} sound (serving.registers k r (Ok grant) l asks is grants) e name asked =
     let one = registration_is 0 0 (record r { ttl = grant.seconds }) x e in
     let named : r.name ≡ q = ap (λ (y : Registration). y.name) one ∙ name in
-    let of_kind : r.kind ≡ kind = asks_kind q kind m r asks named asked in
-    let g = granted_gives laws table now r grant after sound grants in
+    let of_kind : r.kind ≡ kind = asks_kind asks named asked in
     subst (λ (n : NameValue). Gives now table.config.longest ip x.ttl (leases_at now table.rows n) (after n) kind) named
     (subst (λ (j : Kind). Gives now table.config.longest ip x.ttl (leases_at now table.rows r.name) (after r.name) j) of_kind
     (subst (λ (t : ℕ). Gives now table.config.longest ip t (leases_at now table.rows r.name) (after r.name) r.kind) (ap (λ (y : Registration). y.ttl) one)
-    (subst (λ (i : ℕ). Gives now table.config.longest i grant.seconds (leases_at now table.rows r.name) (after r.name) r.kind) is.0 g)))
-serves_gives laws table now ip m reply after sound (serving.registers k r (Err fault) l asks is grants) x q kind e name asked =
-    absurd (fault_positive fault (rcode_is (serving.fault_rcode fault) 0 (record r { ttl = 0 }) x e))
-serves_gives laws table now ip m reply after sound (serving.refuses k r asks is) x q kind e name asked = absurd cc
-serves_gives laws table now ip m reply after sound (serving.refuses_overwrite r) x q kind e name asked = absurd cc
-serves_gives laws table now ip m reply after sound (serving.releases id n k addr result l is releases) x q kind e name asked = absurd cc
-serves_gives laws table now ip m reply after sound (serving.refuses_release id n k addr is) x q kind e name asked = absurd cc
-serves_gives laws table now ip m reply after sound (serving.finds id n end least) x q kind e name asked = absurd cc
-serves_gives laws table now ip m reply after sound (serving.finds_none id n none) x q kind e name asked = absurd cc
-serves_gives laws table now ip m reply after sound (serving.passes_over k is) x q kind e name asked = absurd cc
+    (subst (λ (i : ℕ). Gives now table.config.longest i grant.seconds (leases_at now table.rows r.name) (after r.name) r.kind) is.0 (granted_gives laws r sound grants))))
+serves_gives laws {x = x} sound (serving.registers k r (Err fault) l asks is grants) e name asked = absurd (fault_positive fault (rcode_is (serving.fault_rcode fault) 0 (record r { ttl = 0 }) x e))
+serves_gives laws sound (serving.refuses k r asks is) e name asked = absurd cc
+serves_gives laws sound (serving.refuses_overwrite r) e name asked = absurd cc
+serves_gives laws sound (serving.releases id n k addr result l is releases) e name asked = absurd cc
+serves_gives laws sound (serving.refuses_release id n k addr is) e name asked = absurd cc
+serves_gives laws sound (serving.finds id n end least) e name asked = absurd cc
+serves_gives laws sound (serving.finds_none id n none) e name asked = absurd cc
+serves_gives laws sound (serving.passes_over k is) e name asked = absurd cc
 
 -- a server that gives something speaks
-pub octets_give : LeaseLaws → (server : ServerValue) (now ip : ℕ) (octets : List ℕ) (reply : Option MessageValue) (after : Leases) → IsSound server.table.config now (leases_at now server.table.rows)
-    → ServesOctets server now ip octets reply after
-    → (x : Registration) (q : NameValue) (kind : Kind) → reply ≡ Some (registered 0 x) → x.name ≡ q → ((m : MessageValue) → Spells octets m → IsRequest q m → AsksAs kind m)
+pub octets_give : LeaseLaws → {server : ServerValue} {now ip : ℕ} {octets : List ℕ} {reply : Option MessageValue} {after : Leases} {x : Registration} {q : NameValue} {kind : Kind} → IsSound server.table.config now (leases_at now server.table.rows)
+    → ServesOctets server now ip octets reply after → reply ≡ Some (registered 0 x) → x.name ≡ q → ((m : MessageValue) → Spells octets m → IsRequest q m → AsksAs kind m)
     → (speaks_from server ≤ now) × Gives now server.table.config.longest ip x.ttl (leases_at now server.table.rows q) (after q) kind
-octets_give laws server now ip octets reply after sound (serving.is_silent early) x q kind e name asked = absurd cc
-octets_give laws server now ip octets reply after sound (serving.is_no_message none) x q kind e name asked = absurd cc
-octets_give laws server now ip octets reply after sound (serving.serves m p l speaks spells does) x q kind e name asked = (speaks, serves_gives laws server.table now ip m reply after sound does x q kind e name (asked m spells))
+octets_give laws sound (serving.is_silent early) e name asked = absurd cc
+octets_give laws sound (serving.is_no_message none) e name asked = absurd cc
+octets_give laws sound (serving.serves m p l speaks spells does) e name asked = (speaks, serves_gives laws sound does e name (asked m spells))

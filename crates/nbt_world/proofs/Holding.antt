@@ -33,8 +33,8 @@ no_holders nodes name now = record {
 }
 
 -- one place more, which holds nothing
-pub passes_over : (nodes : List NodeEnd) (name : NameValue) (now : Clocks) (count : ℕ) (holders : List Holder) → held_at_place nodes count name now ≡ None → AreHolders nodes name now count holders → AreHolders nodes name now (count + 1) holders
-passes_over nodes name now count holders none are = record {
+pub passes_over : {nodes : List NodeEnd} {name : NameValue} {now : Clocks} {count : ℕ} {holders : List Holder} → held_at_place nodes count name now ≡ None → AreHolders nodes name now count holders → AreHolders nodes name now (count + 1) holders
+passes_over {nodes} {name} {now} {count} {holders} none are = record {
   holders_at_most = let most = are.holders_at_most in omega arith;
   only = λ h c. let o = are.only h c in (o.0, (let lt = o.1 in omega arith), o.2, o.3);
   all = λ index kind lt is. at index kind lt is (cases_eq index count);
@@ -46,9 +46,9 @@ passes_over nodes name now count holders none are = record {
     at index kind lt is (inr ne) = are.all index kind (omega arith) is
 
 -- one place more, which holds the name
-pub takes_in : (nodes : List NodeEnd) (name : NameValue) (now : Clocks) (count : ℕ) (holders : List Holder) (kind : Kind) → held_at_place nodes count name now ≡ Some kind → AreHolders nodes name now count holders
+pub takes_in : {nodes : List NodeEnd} {name : NameValue} {now : Clocks} {count : ℕ} {holders : List Holder} (kind : Kind) → held_at_place nodes count name now ≡ Some kind → AreHolders nodes name now count holders
     → AreHolders nodes name now (count + 1) (holders ++ record { node = count + 1; kind = kind } ∷ [])
-takes_in nodes name now count holders kind held are = record {
+takes_in {nodes} {name} {now} {count} {holders} kind held are = record {
   holders_at_most = let most = are.holders_at_most in omega (arith, length_push holders (record { node = count + 1; kind = kind }));
   only = λ h c. only h (Contains-push_cases holders (record { node = count + 1; kind = kind }) h c);
   all = λ index k lt is. all index k lt is (cases_eq index count);
@@ -83,9 +83,9 @@ takes_in nodes name now count holders kind held are = record {
         get_or_same (x ∷ xs) (suc k) d lt = get_or_same xs k d (omega arith)
 
 -- all of them
-pub are_all : (w : WorldValue) (name : NameValue) (count : ℕ) (holders : List Holder) → length w.ends.nodes.items ≤ count → AreHolders w.ends.nodes.items name w.now count holders
+are_all : (w : WorldValue) {name : NameValue} {count : ℕ} {holders : List Holder} → length w.ends.nodes.items ≤ count → AreHolders w.ends.nodes.items name w.now count holders
     → (number : ℕ) (kind : Kind) → Contains holders (record { node = number; kind = kind }) ↔ (holding w number name ≡ Some kind)
-are_all w name count holders le are number kind = (λ c. found (are.only _ c), λ is. lists number is)
+are_all w {name} {count} {holders} le are number kind = (λ c. found (are.only _ c), λ is. lists number is)
   where
     found : ((index : ℕ) × (index < count) × (number ≡ suc index) × (held_at_place w.ends.nodes.items index name w.now ≡ Some kind)) → holding w number name ≡ Some kind
     found o = subst (λ (n : ℕ). holding w n name ≡ Some kind) (sym o.2) o.3
@@ -100,14 +100,14 @@ are_all w name count holders le are number kind = (λ c. found (are.only _ c), �
 
 -- ---- as the code reads it
 
-pub reads_held : (nodes : List NodeEnd) (index : ℕ) (end : NodeEnd) (name : NameValue) (now clocks : Clocks) (clock : ℕ) (o : Option Kind) → index < length nodes → end ≡ get_or nodes index end → clocks ≡ now → clock ≡ reading clocks (index + 1)
+pub reads_held : (nodes : List NodeEnd) (index : ℕ) (name : NameValue) {end : NodeEnd} {now clocks : Clocks} {clock : ℕ} {o : Option Kind} → index < length nodes → end ≡ get_or nodes index end → clocks ≡ now → clock ≡ reading clocks (index + 1)
     → o ≡ held_by end.node name clock → held_at_place nodes index name now ≡ o
-reads_held nodes index end name now clocks clock o lt is same read held =
+reads_held nodes index name {end} {now} {clock = clock} lt is same read held =
     let next : index + 1 ≡ suc index = omega arith in
     let at : clock ≡ reading now (suc index) = read ∙ ap (λ (c : Clocks). reading c (index + 1)) same ∙ ap (reading now) next in
     ap (λ (x : Option NodeEnd). held_by (node_in x) name (reading now (suc index))) (slice_get_read nodes (length nodes) index end refl lt is) ∙ sym (held ∙ ap (λ (t : ℕ). held_by end.node name t) at)
 
-pub are_all_in : (w : WorldValue) (nodes : List NodeEnd) (name : NameValue) (count : ℕ) (holders : List Holder) → nodes ≡ w.ends.nodes.items → length nodes ≤ count → AreHolders nodes name w.now count holders
+pub are_all_in : (w : WorldValue) {nodes : List NodeEnd} {name : NameValue} {count : ℕ} {holders : List Holder} → nodes ≡ w.ends.nodes.items → length nodes ≤ count → AreHolders nodes name w.now count holders
     → (number : ℕ) (kind : Kind) → Contains holders (record { node = number; kind = kind }) ↔ (holding w number name ≡ Some kind)
-are_all_in w nodes name count holders same le are number kind =
-    are_all w name count holders (subst (λ (xs : List NodeEnd). length xs ≤ count) same le) (subst (λ (xs : List NodeEnd). AreHolders xs name w.now count holders) same are) number kind
+are_all_in w {name = name} {count} {holders} same le are number kind =
+    are_all w (subst (λ (xs : List NodeEnd). length xs ≤ count) same le) (subst (λ (xs : List NodeEnd). AreHolders xs name w.now count holders) same are) number kind

@@ -17,7 +17,7 @@ use Rattle.nbt_world.specs.declared.network.Datagram.{Datagram}
 use Rattle.nbt_world.specs.Drift.{reading}
 use Rattle.nbt_world.specs.World.{WorldValue, addr_at, addr_of, IsEnd, node_in, node_of, put_node, with_server, with_node}
 use Rattle.nbt_world.specs.Inner.Kept.{Asked, Replied, known, RequestsEnded, RepliesFresh, IsNodeOf, IsServerOf, IsSeen, AreRead, IsSent, ClaimsKept, Invariant}
-use Rattle.nbt_world.proofs.Knowing.{ended-frame, ended-down, fresh-frame}
+use Rattle.nbt_world.proofs.Knowing.{Within, ended-frame, ended-down, fresh-frame}
 
 -- ---- one node is another
 
@@ -79,9 +79,9 @@ read_with w ends sent same read = record {
 -- ---- what was sent
 
 -- the same datagram, where each end is where it was, the true clock has not gone back, and each reading is seen still
-pub sent_frame : (old new : Ends) (now later : Clocks) (least lower : List Least) (d : Datagram) → ((n : ℕ) → addr_of new n ≡ addr_of old n) → now.clock ≤ later.clock
+pub sent_frame : {old new : Ends} {now later : Clocks} {least lower : List Least} {d : Datagram} → ((n : ℕ) → addr_of new n ≡ addr_of old n) → now.clock ≤ later.clock
     → ((n : ℕ) → IsEnd old n → IsSeen least now d.moment n → IsSeen lower later d.moment n) → IsSent old now least d → IsSent new later lower d
-sent_frame old new now later least lower d same le still is = record {
+sent_frame {old} {new} same le still is = record {
   number = is.number;
   message = is.message;
   past = let past = is.past in omega arith;
@@ -94,14 +94,13 @@ sent_frame old new now later least lower d same le still is = record {
 }
 
 -- a request was sent by now, as this end reads it
-pub asked_read : (w : WorldValue) (n : ℕ) (a : Addr) → addr_of w.ends n ≡ Some a → (ip : ℕ) (name : NameValue) (sent : List Datagram) → ((d : Datagram) → Contains sent d → IsSent w.ends w.now w.least d)
+pub asked_read : (w : WorldValue) {sent : List Datagram} {ip : ℕ} {name : NameValue} (n : ℕ) → IsEnd w.ends n → ((d : Datagram) → Contains sent d → IsSent w.ends w.now w.least d)
     → (moment : Clocks) (message : MessageValue) → Asked sent ip name moment message → reading moment n ≤ reading w.now n
-asked_read w n a p ip name sent all moment message x = subst (λ (m : Clocks). reading m n ≤ reading w.now n) x.moment_is ((all x.datagram x.among).seen n (a, p)).read
+asked_read w n end all moment message x = subst (λ (m : Clocks). reading m n ≤ reading w.now n) x.moment_is ((all x.datagram x.among).seen n end).read
 
 -- what is new in the list isn't from this address
-pub asked_before : (old new : List Datagram) (from : Addr) (ip : ℕ) (name : NameValue) → from.ip ≢ ip → ((d : Datagram) → Contains new d → Contains old d ⊎ (d.from ≡ from))
-    → (moment : Clocks) (message : MessageValue) → Asked new ip name moment message → Asked old ip name moment message
-asked_before old new from ip name ne from_new moment message a = go (from_new a.datagram a.among)
+pub asked_before : {old new : List Datagram} {ip : ℕ} {name : NameValue} (from : Addr) → from.ip ≢ ip → ((d : Datagram) → Contains new d → Contains old d ⊎ (d.from ≡ from)) → Within (Asked new ip name) (Asked old ip name)
+asked_before {old} {ip = ip} {name = name} from ne from_new moment message a = go (from_new a.datagram a.among)
   where
     go : Contains old a.datagram ⊎ (a.datagram.from ≡ from) → Asked old ip name moment message
     go (inl c) = record { datagram = a.datagram; among = c; sender = a.sender; moment_is = a.moment_is; spelled = a.spelled; request = a.request }
@@ -111,21 +110,20 @@ asked_before old new from ip name ne from_new moment message a = go (from_new a.
 abbrev pub Grows : List Datagram → List Datagram → Type 0
 Grows old new = (d : Datagram) → Contains old d → Contains new d
 
-pub asked_still : (old new : List Datagram) (ip : ℕ) (name : NameValue) → Grows old new → (moment : Clocks) (message : MessageValue) → Asked old ip name moment message → Asked new ip name moment message
-asked_still old new ip name grows moment message a =
+pub asked_still : {old new : List Datagram} {ip : ℕ} {name : NameValue} → Grows old new → Within (Asked old ip name) (Asked new ip name)
+asked_still grows moment message a =
     record { datagram = a.datagram; among = grows a.datagram a.among; sender = a.sender; moment_is = a.moment_is; spelled = a.spelled; request = a.request }
 
 -- what is new in the list isn't from the server
-pub replied_before : (old new : List Datagram) (from server to : Addr) (name : NameValue) → from ≢ server → ((d : Datagram) → Contains new d → Contains old d ⊎ (d.from ≡ from))
-    → (moment : Clocks) (message : MessageValue) → Replied new server to name moment message → Replied old server to name moment message
-replied_before old new from server to name ne from_new moment message a = go (from_new a.datagram a.among)
+replied_before : {old new : List Datagram} {from server to : Addr} {name : NameValue} → from ≢ server → ((d : Datagram) → Contains new d → Contains old d ⊎ (d.from ≡ from)) → Within (Replied new server to name) (Replied old server to name)
+replied_before {old} {from = from} {server = server} {to = to} {name = name} ne from_new moment message a = go (from_new a.datagram a.among)
   where
     go : Contains old a.datagram ⊎ (a.datagram.from ≡ from) → Replied old server to name moment message
     go (inl c) = record { datagram = a.datagram; among = c; sender = a.sender; receiver = a.receiver; moment_is = a.moment_is; spelled = a.spelled; reply = a.reply }
     go (inr e) = absurd (ne (sym e ∙ a.sender))
 
 -- a node isn't where the server is
-pub node_not_server : (w : WorldValue) (i : ℕ) (addr : Addr) → Invariant w → addr_of w.ends (suc i) ≡ Some addr → addr ≢ w.ends.server_addr
+node_not_server : (w : WorldValue) (i : ℕ) (addr : Addr) → Invariant w → addr_of w.ends (suc i) ≡ Some addr → addr ≢ w.ends.server_addr
 node_not_server w i addr kept at e = suc_zero i (kept.ends.apart (suc i) zero addr w.ends.server_addr at refl (ap (λ (a : Addr). a.ip) e))
   where
     suc_zero : (k : ℕ) → suc k ≡ zero → ⊥
@@ -144,40 +142,52 @@ all_sent w addr sent kept new d c = go (new d c)
     go (inl old) = kept.sent d old
     go (inr is) = is.1
 
-pub from_new : (w : WorldValue) (addr : Addr) (sent : List Datagram) → IsNew w addr sent → (d : Datagram) → Contains sent d → Contains w.sent d ⊎ (d.from ≡ addr)
+from_new : (w : WorldValue) (addr : Addr) (sent : List Datagram) → IsNew w addr sent → (d : Datagram) → Contains sent d → Contains w.sent d ⊎ (d.from ≡ addr)
 from_new w addr sent new d c = go (new d c)
   where
     go : Contains w.sent d ⊎ ((d.from ≡ addr) × IsSent w.ends w.now w.least d) → Contains w.sent d ⊎ (d.from ≡ addr)
     go (inl old) = inl old
     go (inr is) = inr is.0
 
-pub node_changes : (w : WorldValue) (i : ℕ) (addr : Addr) (x : Option NodeValue) (sent : List Datagram) → Invariant w → addr_of w.ends (suc i) ≡ Some addr
-    → ((node : NodeValue) → x ≡ Some node → IsNodeOf w (suc i) addr node) → IsNew w addr sent
-    → Grows w.sent sent
+-- A node has sent what is new in a list, or nothing is new.
+pub record Adds (w : WorldValue) (i : ℕ) (addr : Addr) (sent : List Datagram) : Type 0 where
+  pub kept : Invariant w
+  pub at : addr_of w.ends (suc i) ≡ Some addr
+  pub new : IsNew w addr sent
+  pub grows : Grows w.sent sent
+
+pub adds_nothing : {w : WorldValue} {addr : Addr} (i : ℕ) → Invariant w → addr_of w.ends (suc i) ≡ Some addr → Adds w i addr w.sent
+adds_nothing i kept at = record { kept = kept; at = at; new = λ d c. inl c; grows = λ d c. c }
+
+-- no reply is new
+pub no_reply_more : {w : WorldValue} {i : ℕ} {addr to : Addr} {name : NameValue} {sent : List Datagram} → Adds w i addr sent → Within (Replied sent w.ends.server_addr to name) (Replied w.sent w.ends.server_addr to name)
+no_reply_more {w} {i} {addr} {sent = sent} adds = replied_before (node_not_server w i addr adds.kept adds.at) (from_new w addr sent adds.new)
+
+pub node_changes : {w : WorldValue} {i : ℕ} {addr : Addr} {sent : List Datagram} → Adds w i addr sent → (x : Option NodeValue) → ((node : NodeValue) → x ≡ Some node → IsNodeOf w (suc i) addr node)
     → (IsTrue w.kept → (name : NameValue) → RequestsEnded w.config.life (suc i) w.now.clock (reading w.now (suc i)) (Asked sent addr.ip name) (known x name))
     → (IsTrue w.kept → (name : NameValue) → RepliesFresh w.config.life (suc i) w.now.clock (reading w.now (suc i)) (Asked sent addr.ip name) (Replied sent w.ends.server_addr addr name) (known x name))
     → (IsTrue w.kept → ClaimsKept (record w { ends = with_node w.ends (suc i) x; sent = sent }))
     → Invariant (record w { ends = with_node w.ends (suc i) x; sent = sent })
-node_changes w i addr x sent kept at is new grows names replies claims = record {
+node_changes {w} {i} {addr} {sent} adds x is names replies claims = record {
   ends = record {
-    nodes_at_least = let e = put_length w.ends.nodes.items i x in let least = kept.ends.nodes_at_least in omega arith;
-    nodes_at_most = let e = put_length w.ends.nodes.items i x in let most = kept.ends.nodes_at_most in omega arith;
-    apart = λ j k a b p q same. kept.ends.apart j k a b (sym (addr_with w.ends i x j) ∙ p) (sym (addr_with w.ends i x k) ∙ q) same;
+    nodes_at_least = let e = put_length w.ends.nodes.items i x in let least = adds.kept.ends.nodes_at_least in omega arith;
+    nodes_at_most = let e = put_length w.ends.nodes.items i x in let most = adds.kept.ends.nodes_at_most in omega arith;
+    apart = λ j k a b p q same. adds.kept.ends.apart j k a b (sym (addr_with w.ends i x j) ∙ p) (sym (addr_with w.ends i x k) ∙ q) same;
   };
-  clocks = read_with w (with_node w.ends (suc i) x) sent (addr_with w.ends i x) kept.clocks;
+  clocks = read_with w (with_node w.ends (suc i) x) sent (addr_with w.ends i x) adds.kept.clocks;
   nodes = λ n a node p up. node_at n a node (sym (addr_with w.ends i x n) ∙ p) up (cases_eq n (suc i));
-  server = λ server up. let k = kept.server server up in record { config_is = k.config_is; past = k.past; sound = k.sound };
-  sent = λ d c. sent_frame w.ends (with_node w.ends (suc i) x) w.now w.now w.least w.least d (addr_with w.ends i x) (omega arith) (λ n e seen. seen) (all_sent w addr sent kept new d c);
+  server = λ server up. let k = adds.kept.server server up in record { config_is = k.config_is; past = k.past; sound = k.sound };
+  sent = λ d c. sent_frame (addr_with w.ends i x) (omega arith) (λ n e seen. seen) (all_sent w addr sent adds.kept adds.new d c);
   requests = λ on n a name p. requests_at on n a name (sym (addr_with w.ends i x n) ∙ p) (cases_eq n (suc i));
   replies = λ on n a name p. replies_at on n a name (sym (addr_with w.ends i x n) ∙ p) (cases_eq n (suc i));
   claims = claims;
 }
   where
     same_addr : (n : ℕ) (a : Addr) → addr_of w.ends n ≡ Some a → n ≡ suc i → addr ≡ a
-    same_addr n a p e = same_Some addr a (sym at ∙ ap (addr_of w.ends) (sym e) ∙ p)
+    same_addr n a p e = same_Some addr a (sym adds.at ∙ ap (addr_of w.ends) (sym e) ∙ p)
 
     value_at : (n : ℕ) → n ≡ suc i → node_of (with_node w.ends (suc i) x) n ≡ x
-    value_at n e = ap (node_of (with_node w.ends (suc i) x)) e ∙ node_with_here w.ends i x addr at
+    value_at n e = ap (node_of (with_node w.ends (suc i) x)) e ∙ node_with_here w.ends i x addr adds.at
 
     node_at : (n : ℕ) (a : Addr) (node : NodeValue) → addr_of w.ends n ≡ Some a → node_of (with_node w.ends (suc i) x) n ≡ Some node → (n ≡ suc i) ⊎ (n ≡ suc i → ⊥)
         → IsNodeOf (record w { ends = with_node w.ends (suc i) x; sent = sent }) n a node
@@ -185,28 +195,25 @@ node_changes w i addr x sent kept at is new grows names replies claims = record 
         let k = is node (sym (value_at n e) ∙ up) in
         record { addr_is = k.addr_is ∙ same_addr n a p e; server_is = k.server_is; config_is = k.config_is; distinct = k.distinct; past = subst (λ (m : ℕ). node.last ≤ reading w.now m) (sym e) k.past }
     node_at n a node p up (inr ne) =
-        let k = kept.nodes n a node p (sym (node_with_other w.ends i x n ne) ∙ up) in
+        let k = adds.kept.nodes n a node p (sym (node_with_other w.ends i x n ne) ∙ up) in
         record { addr_is = k.addr_is; server_is = k.server_is; config_is = k.config_is; distinct = k.distinct; past = k.past }
+
+    no_request_more : (n : ℕ) (a : Addr) → addr_of w.ends n ≡ Some a → (n ≡ suc i → ⊥) → {name : NameValue} → Within (Asked sent a.ip name) (Asked w.sent a.ip name)
+    no_request_more n a p ne = asked_before addr (λ same. ne (adds.kept.ends.apart n (suc i) a addr p adds.at (sym same))) (from_new w addr sent adds.new)
 
     requests_at : IsTrue w.kept → (n : ℕ) (a : Addr) (name : NameValue) → addr_of w.ends n ≡ Some a → (n ≡ suc i) ⊎ (n ≡ suc i → ⊥)
         → RequestsEnded w.config.life n w.now.clock (reading w.now n) (Asked sent a.ip name) (known (node_of (with_node w.ends (suc i) x) n) name)
     requests_at on n a name p (inl e) = rw (value_at n e, ← same_addr n a p e, e) (names on name)
     requests_at on n a name p (inr ne) =
         rw (node_with_other w.ends i x n ne)
-        (ended-frame w.config.life n w.now.clock (reading w.now n) w.now.clock (reading w.now n) (Asked w.sent a.ip name) (Asked sent a.ip name) (known (node_of w.ends n) name) (omega arith) (omega arith)
-        (asked_before w.sent sent addr a.ip name (λ same. ne (kept.ends.apart n (suc i) a addr p at (sym same))) (from_new w addr sent new))
-        (kept.requests on n a name p))
+        (ended-frame (omega arith) (omega arith) (no_request_more n a p ne) (adds.kept.requests on n a name p))
 
     replies_at : IsTrue w.kept → (n : ℕ) (a : Addr) (name : NameValue) → addr_of w.ends n ≡ Some a → (n ≡ suc i) ⊎ (n ≡ suc i → ⊥)
         → RepliesFresh w.config.life n w.now.clock (reading w.now n) (Asked sent a.ip name) (Replied sent w.ends.server_addr a name) (known (node_of (with_node w.ends (suc i) x) n) name)
     replies_at on n a name p (inl e) = rw (value_at n e, ← same_addr n a p e, e) (replies on name)
     replies_at on n a name p (inr ne) =
         rw (node_with_other w.ends i x n ne)
-        (fresh-frame w.config.life n w.now.clock (reading w.now n) w.now.clock (reading w.now n) (Asked w.sent a.ip name) (Asked sent a.ip name) (Replied w.sent w.ends.server_addr a name) (Replied sent w.ends.server_addr a name) (known (node_of w.ends n) name) (omega arith) (omega arith)
-        (asked_still w.sent sent a.ip name grows)
-        (asked_before w.sent sent addr a.ip name (λ same. ne (kept.ends.apart n (suc i) a addr p at (sym same))) (from_new w addr sent new))
-        (replied_before w.sent sent addr w.ends.server_addr a name (node_not_server w i addr kept at) (from_new w addr sent new))
-        (kept.replies on n a name p))
+        (fresh-frame (omega arith) (omega arith) (asked_still adds.grows) (no_request_more n a p ne) (no_reply_more adds) (adds.kept.replies on n a name p))
 
 -- ---- the server changes
 
@@ -235,7 +242,7 @@ server_changes w x sent kept is new replies claims = record {
       let k = kept.nodes n a node (sym (server_addr_with w.ends x n) ∙ p) (sym (server_node_with w.ends x n) ∙ up) in
       record { addr_is = k.addr_is; server_is = k.server_is; config_is = k.config_is; distinct = k.distinct; past = k.past };
   server = λ server up. let k = is server up in record { config_is = k.config_is; past = k.past; sound = k.sound };
-  sent = λ d c. sent_frame w.ends (with_server w.ends x) w.now w.now w.least w.least d (server_addr_with w.ends x) (omega arith) (λ n e seen. seen) (all_sent w w.ends.server_addr sent kept new d c);
+  sent = λ d c. sent_frame (server_addr_with w.ends x) (omega arith) (λ n e seen. seen) (all_sent w w.ends.server_addr sent kept new d c);
   requests = λ on n a name p. requests_at on n a name (sym (server_addr_with w.ends x n) ∙ p);
   replies = λ on n a name p. rw (server_node_with w.ends x n) (replies on n a name (sym (server_addr_with w.ends x n) ∙ p));
   claims = claims;
@@ -244,10 +251,10 @@ server_changes w x sent kept is new replies claims = record {
     requests_at : IsTrue w.kept → (n : ℕ) (a : Addr) (name : NameValue) → addr_of w.ends n ≡ Some a
         → RequestsEnded w.config.life n w.now.clock (reading w.now n) (Asked sent a.ip name) (known (node_of (with_server w.ends x) n) name)
     requests_at on zero a name p =
-        ended-down w.config.life zero w.now.clock (reading w.now zero) (Asked sent a.ip name) (asked_read w zero a p a.ip name sent (all_sent w w.ends.server_addr sent kept new))
+        ended-down (asked_read w zero (a, p) (all_sent w w.ends.server_addr sent kept new))
     requests_at on (suc j) a name p =
-        ended-frame w.config.life (suc j) w.now.clock (reading w.now (suc j)) w.now.clock (reading w.now (suc j)) (Asked w.sent a.ip name) (Asked sent a.ip name) (known (node_of w.ends (suc j)) name) (omega arith) (omega arith)
-        (asked_before w.sent sent w.ends.server_addr a.ip name (λ same. zero_suc j (kept.ends.apart zero (suc j) w.ends.server_addr a refl p same)) (from_new w w.ends.server_addr sent new))
+        ended-frame (omega arith) (omega arith)
+        (asked_before w.ends.server_addr (λ same. zero_suc j (kept.ends.apart zero (suc j) w.ends.server_addr a refl p same)) (from_new w w.ends.server_addr sent new))
         (kept.requests on (suc j) a name p)
       where
         zero_suc : (k : ℕ) → zero ≡ suc k → ⊥

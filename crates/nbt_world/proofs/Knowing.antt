@@ -11,14 +11,39 @@ use Rattle.nbt_node.specs.declared.state.State.TheVariants.{Idle, Asking, Held, 
 use Rattle.nbt_node.specs.declared.transaction.Transaction.{Transaction}
 use Rattle.nbt_node.specs.Transaction.{is_over}
 use Rattle.nbt_node.specs.Settling.{rested, pending_at, settled}
-use Rattle.nbt_node.specs.Node.{NodeValue}
-use Rattle.nbt_node.specs.Moves.{NameEvent, hear, Told, Move, asks, gives_back, asks_again, gives_back_again, refreshes_again, refreshes, granted_to, renewed_to, refused_to, loses_asked, loses_held, freed, asking_waits, giving_back_waits, refresh_waits, unmoved}
+use Rattle.nbt_node.specs.Node.{NodeValue, AreDistinct, state_of}
+use Rattle.nbt_node.specs.Moves.{NameEvent, hear, Told, Move, NameMoves, asks, gives_back, asks_again, gives_back_again, refreshes_again, refreshes, granted_to, renewed_to, refused_to, loses_asked, loses_held, freed, asking_waits, giving_back_waits, refresh_waits, unmoved}
 use Rattle.nbt_world.specs.declared.clocks.Clocks.{Clocks}
 use Rattle.nbt_world.specs.Drift.{reading}
 use Rattle.nbt_world.specs.World.{IsDeliverable}
 use Rattle.nbt_world.specs.Inner.Kept.{IsRequest, AsksAs, Known, last_of, WantsIn, IsOpen, IsOpenIn, DrawnBy, RequestsEnded, RepliesFresh}
 
+-- ---- a node after a call
+
+-- the node after a call at a moment: what never changes, its last moment, and that no name gets two slots
+pub record Stays (old : NodeValue) (now : ℕ) (new : NodeValue) : Type 0 where
+  pub addr_is : new.addr ≡ old.addr
+  pub server_is : new.server ≡ old.server
+  pub config_is : new.config ≡ old.config
+  pub start_is : new.start ≡ old.start
+  pub last_is : new.last ≡ now
+  pub distinct_still : AreDistinct old.slots → AreDistinct new.slots
+
+-- and where the call has moved one name: the move, and the state that it has led to
+pub record Moved (old : NodeValue) (now : ℕ) (name : NameValue) (event : NameEvent) (new : NodeValue) (sent : Option MessageValue) (told : Told) : Type 0 where
+  pub stays : Stays old now new
+  pub moves : NameMoves old now name event new sent told
+  pub named : state_of new name ≡ settled old.config.life now moves.after
+
 -- ---- what was sent about the name, as the node reads it
+
+-- what the network has of these, it has of those
+abbrev pub Within : (these those : Clocks → MessageValue → Type 0) → Type 0
+Within these those = (moment : Clocks) (message : MessageValue) → these moment message → those moment message
+
+-- and at most this message more, sent now
+abbrev pub IsMore : (number now : ℕ) → MessageValue → (old new : Clocks → MessageValue → Type 0) → Type 0
+IsMore number now m old new = (moment : Clocks) (message : MessageValue) → new moment message → old moment message ⊎ ((reading moment number ≡ now) × (message ≡ m))
 
 -- not later than now; and where the node has read more than the quiet time since, it may not be delivered any more, and
 -- no reply to it
@@ -30,9 +55,8 @@ abbrev pub ArePast : (life number clock now : ℕ) → (Clocks → MessageValue 
 ArePast life number clock now asked = (moment : Clocks) (message : MessageValue) → asked moment message → IsPast life number clock now moment
 
 -- and what is sent now is too
-pub past-more : (life number clock now : ℕ) (old new : Clocks → MessageValue → Type 0) (m : MessageValue) → ArePast life number clock now old
-    → ((moment : Clocks) (message : MessageValue) → new moment message → old moment message ⊎ ((reading moment number ≡ now) × (message ≡ m))) → ArePast life number clock now new
-past-more life number clock now old new m past more moment message x = go (more moment message x)
+pub past-more : {life number clock now : ℕ} {old new : Clocks → MessageValue → Type 0} {m : MessageValue} → ArePast life number clock now old → IsMore number now m old new → ArePast life number clock now new
+past-more {life} {number} {clock} {now} {old} {m = m} past more moment message x = go (more moment message x)
   where
     go : old moment message ⊎ ((reading moment number ≡ now) × (message ≡ m)) → IsPast life number clock now moment
     go (inl a) = past moment message a
@@ -84,13 +108,13 @@ abbrev pub knows : ℕ → State → Option Known
 knows start state = Some (record { start = start; state = state })
 
 -- requests have ended after time's own moves
-pub ended-fades : (life number clock now start : ℕ) (asked : Clocks → MessageValue → Type 0) (s t : State) → ArePast life number clock now asked → Fades life now start s t
+ended-fades : {life number clock now start : ℕ} {asked : Clocks → MessageValue → Type 0} {s t : State} → ArePast life number clock now asked → Fades life now start s t
     → RequestsEnded life number clock now asked (knows start s) → RequestsEnded life number clock now asked (knows start t)
-ended-fades life number clock now start asked s t past (stays same wants opens) kept = record {
+ended-fades past (stays same wants opens) kept = record {
   ended = λ moment m a d. rw same (kept.ended moment m a d);
   one_kind = λ kind moment m w a d. kept.one_kind kind moment m (wants kind w) a d;
 }
-ended-fades life number clock now start asked s t past (ends over idle) kept = record {
+ended-fades {life} {clock = clock} {asked = asked} past (ends over idle) kept = record {
   ended = λ moment m a d. absurd (none moment m a d);
   one_kind = λ kind moment m w a d. absurd (none moment m a d);
 }
@@ -98,21 +122,30 @@ ended-fades life number clock now start asked s t past (ends over idle) kept = r
     none : (moment : Clocks) (m : MessageValue) → asked moment m → IsDeliverable life clock moment.clock → ⊥
     none moment m a d = let before = kept.ended moment m a d in let gone = (past moment m a).rests (omega arith) in omega arith
 
+pub ended-settled : {life number clock now start : ℕ} {asked : Clocks → MessageValue → Type 0} {s : State} → ArePast life number clock now asked
+    → RequestsEnded life number clock now asked (knows start s) → RequestsEnded life number clock now asked (knows start (settled life now s))
+ended-settled {life} {now = now} {start = start} {s = s} past kept = ended-fades past (fades life now start s) kept
+
 -- ---- replies
 
 -- what is heard makes a state want nothing new, and its last sending stays
-pub fades-heard : (life start : ℕ) {node : NodeValue} {now : ℕ} {name : NameValue} {s t : State} {m : MessageValue} {told : Told} {next : ℕ}
+fades-heard : {life start : ℕ} {node : NodeValue} {now : ℕ} {name : NameValue} {s t : State} {m : MessageValue} {told : Told} {next : ℕ}
     → Move node now name s (hear m) t None told next → Fades life now start s t
-fades-heard life start (granted_to kind ttl last p r e) = stays refl (λ k w. w) (λ k f w. elim w [ ])
-fades-heard life start (renewed_to kind ttl until renew last p r e) = stays refl (λ k w. w) (λ k f w. elim w [ ])
-fades-heard life start (refused_to kind ttl last rcode p r e ne) = stays refl (λ k w. elim w [ ]) (λ k first w. elim w [ ])
-fades-heard life start (loses_asked kind ttl last p r ne) = stays refl (λ k w. elim w [ ]) (λ k first w. elim w [ ])
-fades-heard life start (loses_held kind ttl until renew last rcode pending r ne c) = stays refl (λ k w. elim w [ ]) (λ k first w. elim w [ ])
-fades-heard life start (freed kind last rcode p n k a) = stays refl (λ j w. elim w [ ]) (λ j first w. elim w [ ])
-fades-heard life start (asking_waits kind ttl last p n t) = stays refl (λ k w. w) (λ k first w. w)
-fades-heard life start (giving_back_waits kind last p n t) = stays refl (λ k w. elim w [ ]) (λ k first w. elim w [ ])
-fades-heard life start (refresh_waits kind ttl until renew last p n t) = stays refl (λ k w. w) (λ k first w. w)
-fades-heard life start (unmoved state message e) = stays refl (λ k w. w) (λ k first w. w)
+fades-heard (granted_to kind ttl last p r e) = stays refl (λ k w. w) (λ k f w. elim w [ ])
+fades-heard (renewed_to kind ttl until renew last p r e) = stays refl (λ k w. w) (λ k f w. elim w [ ])
+fades-heard (refused_to kind ttl last rcode p r e ne) = stays refl (λ k w. elim w [ ]) (λ k first w. elim w [ ])
+fades-heard (loses_asked kind ttl last p r ne) = stays refl (λ k w. elim w [ ]) (λ k first w. elim w [ ])
+fades-heard (loses_held kind ttl until renew last rcode pending r ne c) = stays refl (λ k w. elim w [ ]) (λ k first w. elim w [ ])
+fades-heard (freed kind last rcode p n k a) = stays refl (λ j w. elim w [ ]) (λ j first w. elim w [ ])
+fades-heard (asking_waits kind ttl last p n t) = stays refl (λ k w. w) (λ k first w. w)
+fades-heard (giving_back_waits kind last p n t) = stays refl (λ k w. elim w [ ]) (λ k first w. elim w [ ])
+fades-heard (refresh_waits kind ttl until renew last p n t) = stays refl (λ k w. w) (λ k first w. w)
+fades-heard (unmoved state message e) = stays refl (λ k w. w) (λ k first w. w)
+
+pub ended-heard : {life number clock start : ℕ} {asked : Clocks → MessageValue → Type 0} {node : NodeValue} {now : ℕ} {name : NameValue} {s t : State} {m : MessageValue} {told : Told} {next : ℕ}
+    → Move node now name s (hear m) t None told next → ArePast life number clock now asked
+    → RequestsEnded life number clock now asked (knows start s) → RequestsEnded life number clock now asked (knows start t)
+ended-heard move past kept = ended-fades past (fades-heard move) kept
 
 -- ---- sendings
 
@@ -135,11 +168,10 @@ is_sent (refreshes_again kind ttl until renew last p e) = record { last_is = ref
 is_sent (refreshes kind ttl until renew last due rested) = record { last_is = refl; request = refl; kind_is = λ k w. w; before = λ k w. inl w; begun = λ k first w. inr (w.1, rested) }
 
 -- after a sending: what the network has is what it had, and the request that was sent now
-pub ended-sent : (life number clock now start : ℕ) (name : NameValue) (old new : Clocks → MessageValue → Type 0) (s t : State) (m : MessageValue) → IsSent life now start name s t m
-    → ArePast life number clock now old
-    → ((moment : Clocks) (message : MessageValue) → new moment message → old moment message ⊎ ((reading moment number ≡ now) × (message ≡ m)))
+pub ended-sent : {life number clock now start : ℕ} {name : NameValue} {old new : Clocks → MessageValue → Type 0} {s t : State} {m : MessageValue} → IsSent life now start name s t m
+    → ArePast life number clock now old → IsMore number now m old new
     → RequestsEnded life number clock now old (knows start s) → RequestsEnded life number clock now new (knows start t)
-ended-sent life number clock now start name old new s t m is past more kept = record {
+ended-sent {life} {number} {clock} {now} {start} {old = old} {s = s} {t = t} {m = m} is past more kept = record {
   ended = λ moment message a d. rw is.last_is (latest moment message (more moment message a));
   one_kind = λ kind moment message w a d. asked_as kind moment message w d (more moment message a);
 }
@@ -159,37 +191,36 @@ ended-sent life number clock now start name old new s t m is past more kept = re
 -- ---- the clock, the network, a start and a crash
 
 -- a later moment, and no more requests
-pub ended-frame : (life number clock now past later : ℕ) (old new : Clocks → MessageValue → Type 0) (k : Option Known) → clock ≤ past → now ≤ later
-    → ((moment : Clocks) (message : MessageValue) → new moment message → old moment message)
+pub ended-frame : {life number clock now past later : ℕ} {old new : Clocks → MessageValue → Type 0} {k : Option Known} → clock ≤ past → now ≤ later → Within new old
     → RequestsEnded life number clock now old k → RequestsEnded life number past later new k
-ended-frame life number clock now past later old new None on le fewer kept = record {
+ended-frame {k = None} on le fewer kept = record {
   ended = λ moment message a d. let before = kept.ended moment message (fewer moment message a) (omega arith) in omega arith;
   one_kind = λ kind moment message w a d. elim w [ ];
 }
-ended-frame life number clock now past later old new (Some k) on le fewer kept = record {
+ended-frame {k = Some k} on le fewer kept = record {
   ended = λ moment message a d. kept.ended moment message (fewer moment message a) (omega arith);
   one_kind = λ kind moment message w a d. kept.one_kind kind moment message w (fewer moment message a) (omega arith);
 }
 
-pub ended-start : (life number clock now : ℕ) (asked : Clocks → MessageValue → Type 0) → RequestsEnded life number clock now asked None → RequestsEnded life number clock now asked (knows now Idle)
-ended-start life number clock now asked kept = record { ended = kept.ended; one_kind = λ kind moment message w a d. elim w [ ] }
+pub ended-start : {life number clock now : ℕ} {asked : Clocks → MessageValue → Type 0} → RequestsEnded life number clock now asked None → RequestsEnded life number clock now asked (knows now Idle)
+ended-start kept = record { ended = kept.ended; one_kind = λ kind moment message w a d. elim w [ ] }
 
-pub ended-down : (life number clock now : ℕ) (asked : Clocks → MessageValue → Type 0) → ((moment : Clocks) (message : MessageValue) → asked moment message → reading moment number ≤ now) → RequestsEnded life number clock now asked None
-ended-down life number clock now asked past = record { ended = λ moment message a d. past moment message a; one_kind = λ kind moment message w a d. elim w [ ] }
+pub ended-down : {life number clock now : ℕ} {asked : Clocks → MessageValue → Type 0} → ((moment : Clocks) (message : MessageValue) → asked moment message → reading moment number ≤ now) → RequestsEnded life number clock now asked None
+ended-down past = record { ended = λ moment message a d. past moment message a; one_kind = λ kind moment message w a d. elim w [ ] }
 
 -- ---- what is open is fresh
 
 -- no reply is left once the node has rested
-pub fresh-fades : (life number clock now start : ℕ) (asked replied : Clocks → MessageValue → Type 0) (s t : State) → ArePast life number clock now asked → Fades life now start s t
+fresh-fades : {life number clock now start : ℕ} {asked replied : Clocks → MessageValue → Type 0} {s t : State} → ArePast life number clock now asked → Fades life now start s t
     → RepliesFresh life number clock now asked replied (knows start s) → RepliesFresh life number clock now asked replied (knows start t)
-fresh-fades life number clock now start asked replied s t past (stays same wants opens) kept = record {
+fresh-fades past (stays same wants opens) kept = record {
   drawn = λ moment m r d.
       let k = kept.drawn moment m r d in
       record { sent = k.sent; request = k.request; asked_is = k.asked_is; in_time = k.in_time; known_of = rw same k.known_of };
   begun = λ kind first w. kept.begun kind first (opens kind first w);
   since = λ kind first moment m w x d. kept.since kind first moment m (opens kind first w) x d;
 }
-fresh-fades life number clock now start asked replied s t past (ends over idle) kept = record {
+fresh-fades {t = t} past (ends over idle) kept = record {
   drawn = λ moment m r d.
       let k = kept.drawn moment m r d in
       let a = k.in_time in
@@ -203,12 +234,19 @@ fresh-fades life number clock now start asked replied s t past (ends over idle) 
     not_open : (u : State) → u ≡ Idle → (kind : Kind) (first : ℕ) → IsOpenIn u kind first → ⊥
     not_open u e kind first w = subst (λ (v : State). IsOpenIn v kind first) e w
 
-pub fresh-sent : (life number clock now start : ℕ) (name : NameValue) (asked more replied : Clocks → MessageValue → Type 0) (s t : State) (m : MessageValue) → IsSent life now start name s t m
-    → ArePast life number clock now asked
-    → ((moment : Clocks) (message : MessageValue) → asked moment message → more moment message)
-    → ((moment : Clocks) (message : MessageValue) → more moment message → asked moment message ⊎ ((reading moment number ≡ now) × (message ≡ m)))
+pub fresh-settled : {life number clock now start : ℕ} {asked replied : Clocks → MessageValue → Type 0} {s : State} → ArePast life number clock now asked
+    → RepliesFresh life number clock now asked replied (knows start s) → RepliesFresh life number clock now asked replied (knows start (settled life now s))
+fresh-settled {life} {now = now} {start = start} {s = s} past kept = fresh-fades past (fades life now start s) kept
+
+pub fresh-heard : {life number clock start : ℕ} {asked replied : Clocks → MessageValue → Type 0} {node : NodeValue} {now : ℕ} {name : NameValue} {s t : State} {m : MessageValue} {told : Told} {next : ℕ}
+    → Move node now name s (hear m) t None told next → ArePast life number clock now asked
+    → RepliesFresh life number clock now asked replied (knows start s) → RepliesFresh life number clock now asked replied (knows start t)
+fresh-heard move past kept = fresh-fades past (fades-heard move) kept
+
+pub fresh-sent : {life number clock now start : ℕ} {name : NameValue} {asked more replied : Clocks → MessageValue → Type 0} {s t : State} {m : MessageValue} → IsSent life now start name s t m
+    → ArePast life number clock now asked → Within asked more → IsMore number now m asked more
     → RequestsEnded life number clock now asked (knows start s) → RepliesFresh life number clock now asked replied (knows start s) → RepliesFresh life number clock now more replied (knows start t)
-fresh-sent life number clock now start name asked more replied s t m is past grows back ended kept = record {
+fresh-sent {life} {number} {clock} {now} {start} {asked = asked} {more = more} {replied = replied} {s = s} {m = m} is past grows back ended kept = record {
   drawn = λ moment message r d.
       let k = kept.drawn moment message r d in
       record { sent = k.sent; request = k.request; asked_is = grows k.sent k.request k.asked_is; in_time = k.in_time; known_of = rw is.last_is (past k.sent k.request k.asked_is).read };
@@ -246,12 +284,10 @@ fresh-sent life number clock now start name asked more replied s t m is past gro
     after_first kind first moment message begun d (inr e) = let by = by_now kind first begun in omega arith
 
 -- a later moment, the same requests, and no more replies
-pub fresh-frame : (life number clock now past later : ℕ) (asked more replied fewer : Clocks → MessageValue → Type 0) (k : Option Known) → clock ≤ past → now ≤ later
-    → ((moment : Clocks) (message : MessageValue) → asked moment message → more moment message)
-    → ((moment : Clocks) (message : MessageValue) → more moment message → asked moment message)
-    → ((moment : Clocks) (message : MessageValue) → fewer moment message → replied moment message)
+pub fresh-frame : {life number clock now past later : ℕ} {asked more replied fewer : Clocks → MessageValue → Type 0} {k : Option Known} → clock ≤ past → now ≤ later
+    → Within asked more → Within more asked → Within fewer replied
     → RepliesFresh life number clock now asked replied k → RepliesFresh life number past later more fewer k
-fresh-frame life number clock now past later asked more replied fewer None on le grows back shrinks kept = record {
+fresh-frame {k = None} on le grows back shrinks kept = record {
   drawn = λ moment message r d.
       let k = kept.drawn moment message (shrinks moment message r) (omega arith) in
       let b = k.known_of in
@@ -259,7 +295,7 @@ fresh-frame life number clock now past later asked more replied fewer None on le
   begun = λ kind first w. elim w [ ];
   since = λ kind first moment message w x d. elim w [ ];
 }
-fresh-frame life number clock now past later asked more replied fewer (Some x) on le grows back shrinks kept = record {
+fresh-frame {asked = asked} {more = more} {replied = replied} {fewer = fewer} {k = Some x} on le grows back shrinks kept = record {
   drawn = λ moment message r d.
       let k = kept.drawn moment message (shrinks moment message r) (omega arith) in
       record { sent = k.sent; request = k.request; asked_is = grows k.sent k.request k.asked_is; in_time = k.in_time; known_of = k.known_of };
@@ -271,8 +307,8 @@ fresh-frame life number clock now past later asked more replied fewer (Some x) o
     seen moment message (inl a) = inl (back moment message a)
     seen moment message (inr r) = inr (shrinks moment message r)
 
-pub fresh-start : (life number clock now : ℕ) (asked replied : Clocks → MessageValue → Type 0) → RepliesFresh life number clock now asked replied None → RepliesFresh life number clock now asked replied (knows now Idle)
-fresh-start life number clock now asked replied kept = record {
+pub fresh-start : {life number clock now : ℕ} {asked replied : Clocks → MessageValue → Type 0} → RepliesFresh life number clock now asked replied None → RepliesFresh life number clock now asked replied (knows now Idle)
+fresh-start kept = record {
   drawn = λ moment message r d.
       let k = kept.drawn moment message r d in
       record { sent = k.sent; request = k.request; asked_is = k.asked_is; in_time = k.in_time; known_of = k.known_of };
@@ -280,9 +316,9 @@ fresh-start life number clock now asked replied kept = record {
   since = λ kind first moment message w x d. elim w [ ];
 }
 
-pub fresh-down : (life number clock now : ℕ) (asked replied : Clocks → MessageValue → Type 0) (k : Option Known) → ((moment : Clocks) (message : MessageValue) → asked moment message → reading moment number ≤ now)
+pub fresh-down : {life number clock now : ℕ} {asked replied : Clocks → MessageValue → Type 0} {k : Option Known} → ((moment : Clocks) (message : MessageValue) → asked moment message → reading moment number ≤ now)
     → RepliesFresh life number clock now asked replied k → RepliesFresh life number clock now asked replied None
-fresh-down life number clock now asked replied k past kept = record {
+fresh-down past kept = record {
   drawn = λ moment message r d.
       let b = kept.drawn moment message r d in
       record { sent = b.sent; request = b.request; asked_is = b.asked_is; in_time = b.in_time; known_of = past b.sent b.request b.asked_is };
@@ -299,12 +335,11 @@ pub record Draws (life number clock now : ℕ) (asked : Clocks → MessageValue 
   pub asked_is : asked sent request
   pub delivered : IsDeliverable life clock sent.clock
 
-pub fresh-reply : (life number clock now : ℕ) (asked more replied grown : Clocks → MessageValue → Type 0) (k : Option Known) → RequestsEnded life number clock now asked k
-    → ((moment : Clocks) (message : MessageValue) → asked moment message → more moment message)
+pub fresh-reply : {life number clock now : ℕ} {asked more replied grown : Clocks → MessageValue → Type 0} {k : Option Known} → RequestsEnded life number clock now asked k → Within asked more
     → ((kind : Kind) (first : ℕ) (moment : Clocks) (message : MessageValue) → IsOpen k kind first → more moment message → asked moment message)
     → ((moment : Clocks) (message : MessageValue) → grown moment message → replied moment message ⊎ Draws life number clock now asked moment)
     → RepliesFresh life number clock now asked replied k → RepliesFresh life number clock now more grown k
-fresh-reply life number clock now asked more replied grown k ended grows back new kept = record {
+fresh-reply {life} {number} {clock} {now} {asked} {more} {replied} {grown} {k} ended grows back new kept = record {
   drawn = λ moment message r d. by moment message d (new moment message r);
   begun = kept.begun;
   since = λ kind first moment message w x d. after_first kind first moment message w d x;

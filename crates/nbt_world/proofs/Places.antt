@@ -36,8 +36,8 @@ pub record Reads (ends : Ends) (n : ℕ) (ys : List NodeEnd) (r : NodeEnd) : Typ
 abbrev pub written_back : (ends : Ends) (n : ℕ) (ys : List NodeEnd) → NodeEnd → Ends
 written_back ends n ys e = record ends { nodes = record { items = refill (length ends.nodes.items) ends.nodes.items (set ys (n - 1) e) } }
 
-pub there : (ends : Ends) (n : ℕ) (ys : List NodeEnd) (r : NodeEnd) → Reads ends n ys r → slice_get ends.nodes.items (n - 1) ≡ Some (get_or ys (n - 1) r)
-there ends n ys r reads =
+pub there : {ends : Ends} {n : ℕ} {ys : List NodeEnd} {r : NodeEnd} → Reads ends n ys r → slice_get ends.nodes.items (n - 1) ≡ Some (get_or ys (n - 1) r)
+there {ends} {n} {ys} {r} reads =
     let is_node = reads.is_node in
     let within = reads.within in
     let same : r ≡ get_or ends.nodes.items (n - 1) r = rw reads.lent at reads.read in
@@ -54,31 +54,31 @@ refilled nodes ys i e same =
     subst (λ (zs : List NodeEnd). refill (length nodes) nodes (set zs i e) ≡ set nodes i e) (sym same)
     (take_at (set nodes i e) (drop (length (set nodes i e)) nodes) (length nodes) (length-set nodes i e))
 
-pub written_node : (ends : Ends) (n : ℕ) (ys : List NodeEnd) (r : NodeEnd) (x : Option NodeValue) → Reads ends n ys r
+pub written_node : {ends : Ends} {n : ℕ} {ys : List NodeEnd} {r : NodeEnd} (x : Option NodeValue) → Reads ends n ys r
     → written_back ends n ys (record (get_or ys (n - 1) r) { node = x }) ≡ with_node ends n x
-written_node ends n ys r x reads =
+written_node {ends} {n} {ys} {r} x reads =
     place_from (λ m. written_back ends n ys (record (get_or ys (n - 1) r) { node = x }) ≡ with_node ends m x) n reads.is_node
     (ap (λ (items : List NodeEnd). record ends { nodes = record { items = items } })
-    (refilled ends.nodes.items ys (n - 1) _ reads.lent ∙ put_is_set ends.nodes.items (n - 1) _ x (there ends n ys r reads)))
+    (refilled ends.nodes.items ys (n - 1) _ reads.lent ∙ put_is_set ends.nodes.items (n - 1) _ x (there reads)))
 
-pub written_same : (ends : Ends) (n : ℕ) (ys : List NodeEnd) (r : NodeEnd) → Reads ends n ys r → written_back ends n ys (get_or ys (n - 1) r) ≡ ends
-written_same ends n ys r reads =
+pub written_same : {ends : Ends} {n : ℕ} {ys : List NodeEnd} {r : NodeEnd} → Reads ends n ys r → written_back ends n ys (get_or ys (n - 1) r) ≡ ends
+written_same {ends} {n} {ys} {r} reads =
     ap (λ (items : List NodeEnd). record ends { nodes = record { items = items } })
-    (refilled ends.nodes.items ys (n - 1) _ reads.lent ∙ set_same ends.nodes.items (n - 1) _ (there ends n ys r reads))
+    (refilled ends.nodes.items ys (n - 1) _ reads.lent ∙ set_same ends.nodes.items (n - 1) _ (there reads))
   where
     set_same : (nodes : List NodeEnd) (i : ℕ) (e : NodeEnd) → slice_get nodes i ≡ Some e → set nodes i e ≡ nodes
     set_same [] i e is = refl
     set_same (end ∷ nodes) zero e is = ap (λ (f : NodeEnd). f ∷ nodes) (sym (same_Some end e is))
     set_same (end ∷ nodes) (suc i) e is = ap (λ (rest : List NodeEnd). end ∷ rest) (set_same nodes i e is)
 
-pub node_read : (ends : Ends) (n : ℕ) (ys : List NodeEnd) (r : NodeEnd) → Reads ends n ys r → node_of ends n ≡ (get_or ys (n - 1) r).node
-node_read ends n ys r reads =
-    place_from (λ m. node_of ends m ≡ (get_or ys (n - 1) r).node) n reads.is_node (ap node_in (there ends n ys r reads))
+pub node_read : {ends : Ends} {n : ℕ} {ys : List NodeEnd} {r : NodeEnd} → Reads ends n ys r → node_of ends n ≡ (get_or ys (n - 1) r).node
+node_read {ends} {n} {ys} {r} reads =
+    place_from (λ m. node_of ends m ≡ (get_or ys (n - 1) r).node) n reads.is_node (ap node_in (there reads))
 
-pub addr_read : (ends : Ends) (n : ℕ) (ys : List NodeEnd) (r : NodeEnd) → Reads ends n ys r → addr_of ends n ≡ Some (get_or ys (n - 1) r).addr
-addr_read ends n ys r reads =
+pub addr_read : {ends : Ends} {n : ℕ} {ys : List NodeEnd} {r : NodeEnd} → Reads ends n ys r → addr_of ends n ≡ Some (get_or ys (n - 1) r).addr
+addr_read {ends} {n} {ys} {r} reads =
     place_from (λ m. addr_of ends m ≡ Some (get_or ys (n - 1) r).addr) n reads.is_node
-    (ap (λ (o : Option NodeEnd). addr_some o) (there ends n ys r reads))
+    (ap (λ (o : Option NodeEnd). addr_some o) (there reads))
   where
     addr_some : Option NodeEnd → Option Addr
     addr_some None = None
@@ -133,49 +133,49 @@ pub node_crashed : (ends : Ends) (n : ℕ) (ys : List NodeEnd) (r : NodeEnd) (b 
     → MatchBool b (Crashes ends n (written_back ends n ys e)) ((¬ IsUp ends n) × (written_back ends n ys e ≡ ends))
 node_crashed ends n ys r true e reads is =
     let node = is_there (get_or ys (n - 1) r).node is.0 in
-    let left : written_back ends n ys e ≡ with_node ends n None = ap (λ (x : NodeEnd). written_back ends n ys x) is.1 ∙ written_node ends n ys r None reads in
-    let up : node_of ends n ≡ Some node.0 = node_read ends n ys r reads ∙ node.1 in
+    let left : written_back ends n ys e ≡ with_node ends n None = ap (λ (x : NodeEnd). written_back ends n ys x) is.1 ∙ written_node None reads in
+    let up : node_of ends n ≡ Some node.0 = node_read reads ∙ node.1 in
     subst (λ (x : Ends). Crashes ends n x) (sym left) (crashed n reads.is_node up)
   where
     crashed : (m : ℕ) → m ≢ 0 → {node : NodeValue} → node_of ends m ≡ Some node → Crashes ends m (with_node ends m None)
     crashed zero ne up = absurd (ne refl)
     crashed (suc i) ne {node} up = node_crashes i node up
 node_crashed ends n ys r false e reads is =
-    (up n reads.is_node (node_read ends n ys r reads ∙ is.0), ap (λ (x : NodeEnd). written_back ends n ys x) is.1 ∙ written_same ends n ys r reads)
+    (up n reads.is_node (node_read reads ∙ is.0), ap (λ (x : NodeEnd). written_back ends n ys x) is.1 ∙ written_same reads)
   where
     up : (m : ℕ) → m ≢ 0 → node_of ends m ≡ None → ¬ IsUp ends m
     up zero ne down = absurd (ne refl)
     up (suc i) ne down = λ u. none-some u.0 (sym down ∙ u.1)
 
-pub server_took : (now : ℕ) (ends : Ends) (from : Addr) (octets : List ℕ) (n : ℕ) (server new : ServerValue) (taken : TakenValue) → n ≡ 0 → ends.server ≡ Some server
+pub server_took : {now n : ℕ} {ends : Ends} {from : Addr} {octets : List ℕ} {server new : ServerValue} {taken : TakenValue} → n ≡ 0 → ends.server ≡ Some server
     → ServerDoes now server from.ip octets taken new → EndTakes now ends from octets n taken (with_server ends (Some new))
-server_took now ends from octets n server new taken e is does = subst (λ (m : ℕ). EndTakes now ends from octets m taken (with_server ends (Some new))) (sym e) (by_server server new taken is does)
+server_took {now} {ends = ends} {from} {octets} {server} {new} {taken} e is does = subst (λ (m : ℕ). EndTakes now ends from octets m taken (with_server ends (Some new))) (sym e) (by_server server new taken is does)
 
-pub server_is_down : (now : ℕ) (ends : Ends) (from : Addr) (octets : List ℕ) (n : ℕ) → n ≡ 0 → ends.server ≡ None → EndTakes now ends from octets n is_down ends
-server_is_down now ends from octets n e is = finds_down n (subst (λ (m : ℕ). IsDown ends m) (sym e) is)
+pub server_is_down : {now n : ℕ} {ends : Ends} {from : Addr} {octets : List ℕ} → n ≡ 0 → ends.server ≡ None → EndTakes now ends from octets n is_down ends
+server_is_down {n = n} {ends} e is = finds_down n (subst (λ (m : ℕ). IsDown ends m) (sym e) is)
 
-pub node_took : (now : ℕ) (ends : Ends) (from : Addr) (octets : List ℕ) (n : ℕ) (ys : List NodeEnd) (r : NodeEnd) (node new : NodeValue) (reply : Option MessageValue) → Reads ends n ys r
+pub node_took : {now n : ℕ} {ends : Ends} {from : Addr} {octets : List ℕ} {ys : List NodeEnd} {r : NodeEnd} {node new : NodeValue} {reply : Option MessageValue} → Reads ends n ys r
     → (get_or ys (n - 1) r).node ≡ Some node → NodeHandles now node from octets reply new
     → EndTakes now ends from octets n (takes reply) (written_back ends n ys (record (get_or ys (n - 1) r) { node = Some new }))
-node_took now ends from octets n ys r node new reply reads is hears =
-    subst (λ (x : Ends). EndTakes now ends from octets n (takes reply) x) (sym (written_node ends n ys r (Some new) reads)) (took n reads.is_node (node_read ends n ys r reads ∙ is))
+node_took {now} {n} {ends} {from} {octets} {node = node} {new} {reply} reads is hears =
+    subst (λ (x : Ends). EndTakes now ends from octets n (takes reply) x) (sym (written_node (Some new) reads)) (took n reads.is_node (node_read reads ∙ is))
   where
     took : (m : ℕ) → m ≢ 0 → node_of ends m ≡ Some node → EndTakes now ends from octets m (takes reply) (with_node ends m (Some new))
     took zero ne up = absurd (ne refl)
     took (suc i) ne up = by_node i node new reply up hears
 
-pub node_is_down : (now : ℕ) (ends : Ends) (from : Addr) (octets : List ℕ) (n : ℕ) (ys : List NodeEnd) (r : NodeEnd) → Reads ends n ys r → (get_or ys (n - 1) r).node ≡ None
+pub node_is_down : {now n : ℕ} {ends : Ends} {from : Addr} {octets : List ℕ} {ys : List NodeEnd} {r : NodeEnd} → Reads ends n ys r → (get_or ys (n - 1) r).node ≡ None
     → EndTakes now ends from octets n is_down (written_back ends n ys (get_or ys (n - 1) r))
-node_is_down now ends from octets n ys r reads is =
-    subst (λ (x : Ends). EndTakes now ends from octets n is_down x) (sym (written_same ends n ys r reads)) (finds_down n (down n reads.is_node (addr_read ends n ys r reads) (node_read ends n ys r reads ∙ is)))
+node_is_down {now} {n} {ends} {from} {octets} reads is =
+    subst (λ (x : Ends). EndTakes now ends from octets n is_down x) (sym (written_same reads)) (finds_down n (down n reads.is_node (addr_read reads) (node_read reads ∙ is)))
   where
     down : (m : ℕ) → m ≢ 0 → {addr : Addr} → addr_of ends m ≡ Some addr → node_of ends m ≡ None → IsDown ends m
     down zero ne at is = absurd (ne refl)
     down (suc i) ne {addr} at is = (addr, at, is)
 
-pub server_started : (config : ConfigValue) (now : ℕ) (ends : Ends) (n : ℕ) (server : ServerValue) → n ≡ 0 → is_some ends.server ≡ false → ServerStarts config now server
+pub server_started : {config : ConfigValue} {now n : ℕ} {ends : Ends} {server : ServerValue} → n ≡ 0 → is_some ends.server ≡ false → ServerStarts config now server
     → Starts config now ends n (with_server ends (Some server))
-server_started config now ends n server e is new =
+server_started {config} {now} {ends = ends} {server} e is new =
     subst (λ (m : ℕ). Starts config now ends m (with_server ends (Some server))) (sym e) (server_starts server (is_nothing ends.server is) new)
   where
     is_nothing : (o : Option ServerValue) → is_some o ≡ false → o ≡ None
@@ -195,15 +195,15 @@ pub node_started : (config : ConfigValue) (now : ℕ) (ends : Ends) (n : ℕ) (y
     → MatchBool b (Starts config now ends n (written_back ends n ys e)) ((¬ IsDown ends n) × (written_back ends n ys e ≡ ends))
 node_started config now ends n ys r true e reads is =
     let left : written_back ends n ys e ≡ with_node ends n (Some (started 14 (get_or ys (n - 1) r).addr ends.server_addr config now)) =
-    ap (λ (x : NodeEnd). written_back ends n ys x) is.1 ∙ written_node ends n ys r _ reads in
-    subst (λ (x : Ends). Starts config now ends n x) (sym left) (begun n reads.is_node (addr_read ends n ys r reads) (node_read ends n ys r reads ∙ is.0))
+    ap (λ (x : NodeEnd). written_back ends n ys x) is.1 ∙ written_node _ reads in
+    subst (λ (x : Ends). Starts config now ends n x) (sym left) (begun n reads.is_node (addr_read reads) (node_read reads ∙ is.0))
   where
     begun : (m : ℕ) → m ≢ 0 → {addr : Addr} → addr_of ends m ≡ Some addr → node_of ends m ≡ None → Starts config now ends m (with_node ends m (Some (started 14 addr ends.server_addr config now)))
     begun zero ne at down = absurd (ne refl)
     begun (suc i) ne {addr} at down = node_starts i addr at down
 node_started config now ends n ys r false e reads is =
     let node = is_there (get_or ys (n - 1) r).node is.0 in
-    (down n reads.is_node (node_read ends n ys r reads ∙ node.1), ap (λ (x : NodeEnd). written_back ends n ys x) is.1 ∙ written_same ends n ys r reads)
+    (down n reads.is_node (node_read reads ∙ node.1), ap (λ (x : NodeEnd). written_back ends n ys x) is.1 ∙ written_same reads)
   where
     down : (m : ℕ) → m ≢ 0 → {node : NodeValue} → node_of ends m ≡ Some node → ¬ IsDown ends m
     down zero ne up = absurd (ne refl)

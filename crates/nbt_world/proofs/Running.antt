@@ -9,19 +9,19 @@ use Rattle.nbt_world.specs.World.{WorldValue}
 use Rattle.nbt_world.specs.Step.{Step, TakesNoMemory}
 use Rattle.nbt_world.specs.Safety.{Run, ends, goes_on}
 
-pub run_more : (events : List Event) (w last next : WorldValue) (worlds : List WorldValue) (event : Event) (outcome : Outcome) → Run events w worlds last → Step last event outcome next
+run_more : {events : List Event} {w last next : WorldValue} {worlds : List WorldValue} {event : Event} {outcome : Outcome} → Run events w worlds last → Step last event outcome next
     → Run (events ++ event ∷ []) w (worlds ++ next ∷ []) next
-run_more events w last next worlds event outcome (ends v) step = goes_on w next next event outcome [] (next ∷ []) step (ends next)
-run_more events w last next worlds event outcome (goes_on v u l e o es ws s r) step = goes_on w u next e o (es ++ event ∷ []) (ws ++ next ∷ []) s (run_more es u last next ws event outcome r step)
+run_more (ends v) step = goes_on _ _ _ _ _ _ _ step (ends _)
+run_more (goes_on v u l e o es ws s r) step = goes_on _ _ _ _ _ _ _ s (run_more r step)
 
-pub run_next : (events : List Event) (k : ℕ) (w last next : WorldValue) (worlds : List WorldValue) (event : Event) (outcome : Outcome) → k < length events → event ≡ get_or events k event
+pub run_next : (events : List Event) (k : ℕ) {w last next : WorldValue} {worlds : List WorldValue} {event : Event} {outcome : Outcome} → k < length events → event ≡ get_or events k event
     → Run (take k events) w worlds last → Step last event outcome next → Run (take (k + 1) events) w (worlds ++ next ∷ []) next
-run_next events k w last next worlds event outcome within is run step =
+run_next events k {w} {next = next} {worlds} {event} within is run step =
     subst (λ (es : List Event). Run es w (worlds ++ next ∷ []) next) (sym (take_more events k event within))
-    (subst (λ (x : Event). Run (take k events ++ x ∷ []) w (worlds ++ next ∷ []) next) is (run_more (take k events) w last next worlds event outcome run step))
+    (subst (λ (x : Event). Run (take k events ++ x ∷ []) w (worlds ++ next ∷ []) next) is (run_more run step))
 
-pub run_whole : (events : List Event) (k : ℕ) (w last : WorldValue) (worlds : List WorldValue) → length events ≤ k → Run (take k events) w worlds last → Run events w worlds last
-run_whole events k w last worlds le run = subst (λ (es : List Event). Run es w worlds last) (take_all k events le) run
+pub run_whole : (events : List Event) (k : ℕ) {w last : WorldValue} {worlds : List WorldValue} → length events ≤ k → Run (take k events) w worlds last → Run events w worlds last
+run_whole events k {w} {last} {worlds} le run = subst (λ (es : List Event). Run es w worlds last) (take_all k events le) run
 
 -- the event at which a run stopped takes memory
 pub stopped_at : (events : List Event) (k : ℕ) (event : Event) → k < length events → event ≡ get_or events k event → (TakesNoMemory event → ⊥) → IfSome (slice_get events k) (λ e. ¬ TakesNoMemory e)

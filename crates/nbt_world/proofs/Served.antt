@@ -28,12 +28,17 @@ use Rattle.nbt_world.proofs.Covering.{replied_still, server_claims}
 use Rattle.nbt_world.specs.Inner.Handing.{Origin, listed, strange}
 use Rattle.nbt_world.proofs.Granting.{LeaseLaws, Gives, granted_most, octets_keep, octets_give}
 
--- what an end has asked with these octets, if it wants the name: the name, as its kind
-asked_kind : (w : WorldValue) (from to : Addr) (octets : List ℕ) (n : ℕ) (a : Addr) (q : NameValue) (kind : Kind) → Invariant w → IsTrue w.kept → Origin w from to octets → addr_of w.ends n ≡ Some a → Wants (known (node_of w.ends n) q) kind
+-- the end of this number, which is at this address, asks for the name as this kind, or holds it
+record WantsAt (w : WorldValue) (n : ℕ) (a : Addr) (q : NameValue) (kind : Kind) : Type 0 where
+  at : addr_of w.ends n ≡ Some a
+  wants : Wants (known (node_of w.ends n) q) kind
+
+-- what it has asked with these octets is the name as its kind
+asked_kind : {w : WorldValue} {from to : Addr} {octets : List ℕ} {n : ℕ} {a : Addr} {q : NameValue} {kind : Kind} → Invariant w → IsTrue w.kept → Origin w from to octets → WantsAt w n a q kind
     → (m : MessageValue) → Spells octets m → a.ip ≡ from.ip → IsRequest q m → AsksAs kind m
-asked_kind w from to octets n a q kind kept on (strange off) p wants m spells same is = absurd (off (n, a, p, same))
-asked_kind w from to octets n a q kind kept on (listed d c f t o delivered) p wants m spells same is =
-    (kept.requests on n a q p).one_kind kind d.moment m wants
+asked_kind {n = n} {a} kept on (strange off) want m spells same is = absurd (off (n, a, want.at, same))
+asked_kind {n = n} {a} {q} {kind} kept on (listed d c f t o delivered) want m spells same is =
+    (kept.requests on n a q want.at).one_kind kind d.moment m want.wants
     (record { datagram = d; among = c; sender = ap (λ (x : Addr). x.ip) f ∙ sym same; moment_is = refl; spelled = subst (λ (xs : List ℕ). Spells xs m) (sym o) spells; request = is }) delivered
 
 -- The server took a datagram, and sent its reply, if any.
@@ -49,50 +54,55 @@ pub record Took (w : WorldValue) (server new : ServerValue) (from to : Addr) (oc
   pub more : (a : Addr) (q : NameValue) (moment : Clocks) (message : MessageValue) → Replied sent w.ends.server_addr a q moment message
       → Replied w.sent w.ends.server_addr a q moment message ⊎ ((moment ≡ w.now) × (from ≡ a) × (reply ≡ Some message))
 
+-- what the reply gives an end, if it is positive and about a name that the end wants
+record Given (w : WorldValue) (from : Addr) (reply : Option MessageValue) (sent : List Datagram) (n : ℕ) (a : Addr) (q : NameValue) (kind : Kind) : Type 0 where
+  moment : Clocks
+  r : Registration
+  now_is : moment ≡ w.now
+  to_is : from ≡ a
+  reply_is : reply ≡ Some (registered 0 r)
+  replied : Replied sent w.ends.server_addr a q moment (registered 0 r)
+  want : WantsAt w n a q kind
+
 -- a claim afterwards: an old one, or what this reply gives
 data Claimed (w : WorldValue) (from : Addr) (reply : Option MessageValue) (sent : List Datagram) (n : ℕ) (a : Addr) (q : NameValue) (kind : Kind) (end : ℕ) : Type 0 where
   before : ClaimsIn w n a q kind end → Claimed w from reply sent n a q kind end
-  given : (moment : Clocks) (r : Registration) → moment ≡ w.now → from ≡ a → reply ≡ Some (registered 0 r) → Replied sent w.ends.server_addr a q moment (registered 0 r) → Wants (known (node_of w.ends n) q) kind
-      → end ≤ reading moment n + hold (granted w.config.longest r.ttl) → Claimed w from reply sent n a q kind end
+  given : (g : Given w from reply sent n a q kind) → end ≤ reading g.moment n + hold (granted w.config.longest g.r.ttl) → Claimed w from reply sent n a q kind end
 
-claimed : (w : WorldValue) (server new : ServerValue) (from to : Addr) (octets : List ℕ) (reply : Option MessageValue) (sent : List Datagram) → Took w server new from to octets reply sent
-    → (n : ℕ) (a : Addr) (q : NameValue) (kind : Kind) (end : ℕ) → addr_of w.ends n ≡ Some a → Claims w.config.longest w.config.life w.now.clock (Replied sent w.ends.server_addr a q) (known (node_of w.ends n) q) kind end
-    → Claimed w from reply sent n a q kind end
-claimed w server new from to octets reply sent took n a q kind end p (has j e h) = before (has j e h)
-claimed w server new from to octets reply sent took n a q kind end p (may_get j first moment r o replied d) = go (took.more a q moment (registered 0 r) replied)
+claimed : {w : WorldValue} {server new : ServerValue} {from to : Addr} {octets : List ℕ} {reply : Option MessageValue} {sent : List Datagram} {n : ℕ} {a : Addr} {q : NameValue} {kind : Kind} {end : ℕ} → Took w server new from to octets reply sent
+    → addr_of w.ends n ≡ Some a → Claims w.config.longest w.config.life w.now.clock (Replied sent w.ends.server_addr a q) (known (node_of w.ends n) q) kind end → Claimed w from reply sent n a q kind end
+claimed took p (has j e h) = before (has j e h)
+claimed {w} {from = from} {reply = reply} {sent} {n} {a} {q} took p (may_get j first moment r o replied d) = go (took.more a q moment (registered 0 r) replied)
   where
     go : Replied w.sent w.ends.server_addr a q moment (registered 0 r) ⊎ ((moment ≡ w.now) × (from ≡ a) × (reply ≡ Some (registered 0 r)))
         → Claimed w from reply sent n a q j (first + hold (granted w.config.longest r.ttl))
     go (inl old) = before (may_get j first moment r o old d)
     go (inr e) =
         let at : reading moment n ≡ reading w.now n = ap (λ (c : Clocks). reading c n) e.0 in
-        let begun = ((took.kept).replies took.on n a q p).begun j first o in
-        given moment r e.0 e.1 e.2 replied (claims_want w.config.longest w.config.life w.now.clock (Replied sent w.ends.server_addr a q) (known (node_of w.ends n) q) j _ (may_get j first moment r o replied d)) (omega arith)
+        let claim : Claims w.config.longest w.config.life w.now.clock (Replied sent w.ends.server_addr a q) (known (node_of w.ends n) q) j (first + hold (granted w.config.longest r.ttl)) = may_get j first moment r o replied d in
+        let begun = (took.kept.replies took.on n a q p).begun j first o in
+        given (record { moment = moment; r = r; now_is = e.0; to_is = e.1; reply_is = e.2; replied = replied; want = record { at = p; wants = claims_want claim } }) (omega arith)
 
--- what the reply gives, to whoever claims it
-gives : LeaseLaws → (w : WorldValue) (server new : ServerValue) (from to : Addr) (octets : List ℕ) (reply : Option MessageValue) (sent : List Datagram) (took : Took w server new from to octets reply sent)
-    → (n : ℕ) (a : Addr) (q : NameValue) (kind : Kind) (moment : Clocks) (r : Registration) → addr_of w.ends n ≡ Some a → from ≡ a → reply ≡ Some (registered 0 r) → Replied sent w.ends.server_addr a q moment (registered 0 r)
-    → Wants (known (node_of w.ends n) q) kind
-    → (speaks_from server ≤ reading w.now 0) × Gives (reading w.now 0) w.config.longest a.ip r.ttl (leases_at (reading w.now 0) server.table.rows q) (leases_at (reading w.now 0) new.table.rows q) kind
-gives laws w server new from to octets reply sent took n a q kind moment r p same e replied wants =
-    subst (λ (c : ConfigValue). (speaks_from server ≤ reading w.now 0) × Gives (reading w.now 0) c.longest a.ip r.ttl (leases_at (reading w.now 0) server.table.rows q) (leases_at (reading w.now 0) new.table.rows q) kind) took.config_is
-    (subst (λ (x : Addr). (speaks_from server ≤ reading w.now 0) × Gives (reading w.now 0) server.table.config.longest x.ip r.ttl (leases_at (reading w.now 0) server.table.rows q) (leases_at (reading w.now 0) new.table.rows q) kind) same
-    (octets_give laws server (reading w.now 0) from.ip octets reply _ took.sound (took.takes).serves r q kind e replied.reply
-    (λ m spells is. asked_kind w from to octets n a q kind took.kept took.on took.origin p wants m spells (ap (λ (x : Addr). x.ip) (sym same)) is)))
+gives : LeaseLaws → {w : WorldValue} {server new : ServerValue} {from to : Addr} {octets : List ℕ} {reply : Option MessageValue} {sent : List Datagram} {n : ℕ} {a : Addr} {q : NameValue} {kind : Kind} → Took w server new from to octets reply sent
+    → (g : Given w from reply sent n a q kind)
+    → (speaks_from server ≤ reading w.now 0) × Gives (reading w.now 0) w.config.longest a.ip g.r.ttl (leases_at (reading w.now 0) server.table.rows q) (leases_at (reading w.now 0) new.table.rows q) kind
+gives laws {w} {server} {new} {a = a} {q} {kind} took g =
+    subst (λ (c : ConfigValue). (speaks_from server ≤ reading w.now 0) × Gives (reading w.now 0) c.longest a.ip g.r.ttl (leases_at (reading w.now 0) server.table.rows q) (leases_at (reading w.now 0) new.table.rows q) kind) took.config_is
+    (subst (λ (x : Addr). (speaks_from server ≤ reading w.now 0) × Gives (reading w.now 0) server.table.config.longest x.ip g.r.ttl (leases_at (reading w.now 0) server.table.rows q) (leases_at (reading w.now 0) new.table.rows q) kind) g.to_is
+    (octets_give laws took.sound took.takes.serves g.reply_is g.replied.reply (λ m spells is. asked_kind took.kept took.on took.origin g.want m spells (ap (λ (x : Addr). x.ip) (sym g.to_is)) is)))
 
 -- what backs an old claim backs it still
-backs_still : LeaseLaws → (w : WorldValue) (server new : ServerValue) (from to : Addr) (octets : List ℕ) (reply : Option MessageValue) (sent : List Datagram) (took : Took w server new from to octets reply sent)
-    → (n : ℕ) (a : Addr) (q : NameValue) (kind : Kind) (till : ℕ) → addr_of w.ends n ≡ Some a → Wants (known (node_of w.ends n) q) kind → Covers (reading w.now 0) (Some server) a.ip q kind till → Covers (reading w.now 0) (Some new) a.ip q kind till
-backs_still laws w server new from to octets reply sent took n a q kind till p wants (inl leased) =
-    inl (octets_keep laws server (reading w.now 0) from.ip octets reply _ took.sound (took.takes).serves q a.ip kind till (asked_kind w from to octets n a q kind took.kept took.on took.origin p wants) leased)
-backs_still laws w server new from to octets reply sent took n a q kind till p wants (inr silent) =
-    let start = (took.takes).start in
-    let longest : new.table.config.longest ≡ server.table.config.longest = ap (λ (c : ConfigValue). c.longest) (took.takes).config in
+backs_still : LeaseLaws → {w : WorldValue} {server new : ServerValue} {from to : Addr} {octets : List ℕ} {reply : Option MessageValue} {sent : List Datagram} {n : ℕ} {a : Addr} {q : NameValue} {kind : Kind} {till : ℕ} → Took w server new from to octets reply sent
+    → WantsAt w n a q kind → Covers (reading w.now 0) (Some server) a.ip q kind till → Covers (reading w.now 0) (Some new) a.ip q kind till
+backs_still laws {q = q} took want (inl leased) = inl (octets_keep laws took.sound took.takes.serves q (asked_kind took.kept took.on took.origin want) leased)
+backs_still laws {server = server} {new} took want (inr silent) =
+    let start = took.takes.start in
+    let longest : new.table.config.longest ≡ server.table.config.longest = ap (λ (c : ConfigValue). c.longest) took.takes.config in
     inr (omega arith)
 
-pub served_claims : LeaseLaws → (w : WorldValue) (server new : ServerValue) (from to : Addr) (octets : List ℕ) (reply : Option MessageValue) (sent : List Datagram) → Took w server new from to octets reply sent
+pub served_claims : LeaseLaws → {w : WorldValue} {server new : ServerValue} {from to : Addr} {octets : List ℕ} {reply : Option MessageValue} {sent : List Datagram} → Took w server new from to octets reply sent
     → ClaimsKept (record w { ends = with_server w.ends (Some new); sent = sent })
-served_claims laws w server new from to octets reply sent took = record {
+served_claims laws {w} {server} {new} {from} {reply = reply} {sent} took = record {
   covered = λ n a q kind end p c lt. let at = sym (server_addr_with w.ends (Some new) n) ∙ p in covered n a q kind end at lt (is_claimed n a q kind end at c);
   beside = λ i j a b q k l d e ne p s c x f y.
       let at = sym (server_addr_with w.ends (Some new) i) ∙ p in
@@ -103,11 +113,8 @@ served_claims laws w server new from to octets reply sent took = record {
     is_claimed : (n : ℕ) (a : Addr) (q : NameValue) (kind : Kind) (end : ℕ) → addr_of w.ends n ≡ Some a → ClaimsIn (record w { ends = with_server w.ends (Some new); sent = sent }) n a q kind end
         → Claimed w from reply sent n a q kind end
     is_claimed n a q kind end p c =
-        claimed w server new from to octets reply sent took n a q kind end p
+        claimed took p
         (subst (λ (z : Option NodeValue). Claims w.config.longest w.config.life w.now.clock (Replied sent w.ends.server_addr a q) (known z q) kind end) (server_node_with w.ends (Some new) n) c)
-
-    wanted : (n : ℕ) (a : Addr) (q : NameValue) (kind : Kind) (end : ℕ) → ClaimsIn w n a q kind end → Wants (known (node_of w.ends n) q) kind
-    wanted n a q kind end c = claims_want w.config.longest w.config.life w.now.clock (Replied w.sent w.ends.server_addr a q) (known (node_of w.ends n) q) kind end c
 
     backed : (a : Addr) (q : NameValue) (kind : Kind) (till : ℕ) → Covers (reading w.now 0) w.ends.server a.ip q kind till → Covers (reading w.now 0) (Some server) a.ip q kind till
     backed a q kind till b = subst (λ (s : Option ServerValue). Covers (reading w.now 0) s a.ip q kind till) took.up b
@@ -115,58 +122,54 @@ served_claims laws w server new from to octets reply sent took = record {
     covered : (n : ℕ) (a : Addr) (q : NameValue) (kind : Kind) (end : ℕ) → addr_of w.ends n ≡ Some a → reading w.now n < end → Claimed w from reply sent n a q kind end
         → IsCoveredIn (record w { ends = with_server w.ends (Some new); sent = sent }) n a q kind end
     covered n a q kind end p lt (before c) =
-        let is = ((took.kept).claims took.on).covered n a q kind end p c lt in
+        let is = (took.kept.claims took.on).covered n a q kind end p c lt in
         record {
           moment = is.moment;
           message = is.message;
-          replied_is = replied_still w.sent sent w.ends.server_addr a q took.grows is.moment is.message is.replied_is;
+          replied_is = replied_still took.grows is.moment is.message is.replied_is;
           seconds = is.seconds;
           within = is.within;
           counted = is.counted;
-          backed = backs_still laws w server new from to octets reply sent took n a q kind (reading is.moment 0 + 1000 * is.seconds) p (wanted n a q kind end c) (backed a q kind (reading is.moment 0 + 1000 * is.seconds) is.backed);
+          backed = backs_still laws took (record { at = p; wants = claims_want c }) (backed a q kind (reading is.moment 0 + 1000 * is.seconds) is.backed);
         }
-    covered n a q kind end p lt (given moment r at same e replied wants ends) =
-        let g = (gives laws w server new from to octets reply sent took n a q kind moment r p same e replied wants).1 in
+    covered n a q kind end p lt (given g ends) =
+        let leased = ((gives laws took g).1).leased in
         record {
-          moment = moment;
-          message = registered 0 r;
-          replied_is = replied;
-          seconds = granted w.config.longest r.ttl;
-          within = granted_most w.config.longest r.ttl;
+          moment = g.moment;
+          message = registered 0 g.r;
+          replied_is = g.replied;
+          seconds = granted w.config.longest g.r.ttl;
+          within = granted_most w.config.longest g.r.ttl;
           counted = ends;
-          backed = inl (record { end = (g.leased).end; among = (g.leased).among; lasts = let lasts = (g.leased).lasts in let now : reading moment 0 ≡ reading w.now 0 = ap (λ (c : Clocks). reading c 0) at in omega arith });
+          backed = inl (record { end = leased.end; among = leased.among; lasts = let lasts = leased.lasts in let now : reading g.moment 0 ≡ reading w.now 0 = ap (λ (c : Clocks). reading c 0) g.now_is in omega arith });
         }
 
     -- a grant, and an old claim of another node
-    grant_beside : (i j : ℕ) (a b : Addr) (q : NameValue) (k l : Kind) (e : ℕ) → i ≢ j → addr_of w.ends i ≡ Some a → addr_of w.ends j ≡ Some b → reading w.now j < e → (moment : Clocks) (r : Registration) → from ≡ a
-        → reply ≡ Some (registered 0 r) → Replied sent w.ends.server_addr a q moment (registered 0 r) → Wants (known (node_of w.ends i) q) k → ClaimsIn w j b q l e → (l ≡ Group) × (k ≡ Group)
-    grant_beside i j a b q k l e ne p s y moment r same is replied wants c =
-        let g = gives laws w server new from to octets reply sent took i a q k moment r p same is replied wants in
-        let cover = ((took.kept).claims took.on).covered j b q l e s c y in
+    grant_beside : {i j : ℕ} {a b : Addr} {q : NameValue} {k l : Kind} {e : ℕ} → i ≢ j → Given w from reply sent i a q k → addr_of w.ends j ≡ Some b → reading w.now j < e → ClaimsIn w j b q l e → (l ≡ Group) × (k ≡ Group)
+    grant_beside {i} {j} {a} {b} {q} {k} {l} {e} ne g s y c =
+        let gave = gives laws took g in
+        let cover = (took.kept.claims took.on).covered j b q l e s c y in
         let counted = cover.counted in
-        go g.0 g.1 (reading cover.moment 0 + 1000 * cover.seconds)
-        (hold_over laws.holds w took.kept.clocks took.on took.kept.sent j b s w.ends.server_addr b refl q cover.moment cover.message cover.seconds cover.replied_is (omega arith))
+        go gave.0 gave.1 (reading cover.moment 0 + 1000 * cover.seconds)
+        (hold_over laws.holds took.kept.clocks took.on took.kept.sent j (b, s) cover.replied_is cover.seconds (omega arith))
         (backed b q l (reading cover.moment 0 + 1000 * cover.seconds) cover.backed)
       where
-        go : speaks_from server ≤ reading w.now 0 → Gives (reading w.now 0) w.config.longest a.ip r.ttl (leases_at (reading w.now 0) server.table.rows q) (leases_at (reading w.now 0) new.table.rows q) k → (till : ℕ) → reading w.now 0 < till
+        go : speaks_from server ≤ reading w.now 0 → Gives (reading w.now 0) w.config.longest a.ip g.r.ttl (leases_at (reading w.now 0) server.table.rows q) (leases_at (reading w.now 0) new.table.rows q) k → (till : ℕ) → reading w.now 0 < till
             → Covers (reading w.now 0) (Some server) b.ip q l till → (l ≡ Group) × (k ≡ Group)
-        go speaks g till over (inl leased) = g.beside _ leased.among (λ ip. ne ((took.kept).ends.apart i j a b p s (sym ip)))
-        go speaks g till over (inr silent) = absurd (omega arith)
+        go speaks gave till over (inl leased) = gave.beside _ leased.among (λ ip. ne (took.kept.ends.apart i j a b g.want.at s (sym ip)))
+        go speaks gave till over (inr silent) = absurd (omega arith)
 
     beside : (i j : ℕ) (a b : Addr) (q : NameValue) (k l : Kind) (d e : ℕ) → i ≢ j → addr_of w.ends i ≡ Some a → addr_of w.ends j ≡ Some b → reading w.now i < d → reading w.now j < e
         → Claimed w from reply sent i a q k d → Claimed w from reply sent j b q l e → (k ≡ Group) × (l ≡ Group)
-    beside i j a b q k l d e ne p s x y (before c) (before f) = ((took.kept).claims took.on).beside i j a b q k l d e ne p s c x f y
-    beside i j a b q k l d e ne p s x y (given moment r at same is replied wants ends) (before f) =
-        let both = grant_beside i j a b q k l e ne p s y moment r same is replied wants f in (both.1, both.0)
-    beside i j a b q k l d e ne p s x y (before c) (given moment r at same is replied wants ends) =
-        grant_beside j i b a q l k d (λ z. ne (sym z)) s p x moment r same is replied wants c
-    beside i j a b q k l d e ne p s x y (given moment r at same is replied wants ends) (given n t by other one it wish last) =
-        absurd (ne ((took.kept).ends.apart i j a b p s (ap (λ (z : Addr). z.ip) (sym same ∙ other))))
+    beside i j a b q k l d e ne p s x y (before c) (before f) = (took.kept.claims took.on).beside i j a b q k l d e ne p s c x f y
+    beside i j a b q k l d e ne p s x y (given g ends) (before f) = let both = grant_beside ne g s y f in (both.1, both.0)
+    beside i j a b q k l d e ne p s x y (before c) (given g ends) = grant_beside (λ z. ne (sym z)) g p x c
+    beside i j a b q k l d e ne p s x y (given g ends) (given h last) = absurd (ne (took.kept.ends.apart i j a b p s (ap (λ (z : Addr). z.ip) (sym g.to_is ∙ h.to_is))))
 
 -- memory was refused: the leases are as they were
-pub forgotten_claims : (w : WorldValue) (server new : ServerValue) (from : Addr) (octets : List ℕ) → Invariant w → IsTrue w.kept → w.ends.server ≡ Some server → ServerForgets server (reading w.now 0) from.ip octets new
+pub forgotten_claims : {w : WorldValue} {server new : ServerValue} {ip : ℕ} {octets : List ℕ} → Invariant w → IsTrue w.kept → w.ends.server ≡ Some server → ServerForgets server (reading w.now 0) ip octets new
     → ClaimsKept (record w { ends = with_server w.ends (Some new); sent = w.sent })
-forgotten_claims w server new from octets kept on up forgets =
+forgotten_claims {w} {server} {new} kept on up forgets =
     server_claims w (Some new) kept on (λ n a q kind end p c lt is. still a q kind (reading is.moment 0 + 1000 * is.seconds) (subst (λ (s : Option ServerValue). Covers (reading w.now 0) s a.ip q kind (reading is.moment 0 + 1000 * is.seconds)) up is.backed))
   where
     still : (a : Addr) (q : NameValue) (kind : Kind) (till : ℕ) → Covers (reading w.now 0) (Some server) a.ip q kind till → Covers (reading w.now 0) (Some new) a.ip q kind till

@@ -12,13 +12,13 @@ use Rattle.nbt_node.specs.Calls.{started}
 use Rattle.nbt_node.proofs.Known.{distinct-none}
 use Rattle.nbt_world.specs.declared.ends.Ends.{Ends}
 use Rattle.nbt_world.specs.Drift.{reading}
-use Rattle.nbt_world.specs.World.{WorldValue, node_of}
+use Rattle.nbt_world.specs.World.{WorldValue}
 use Rattle.nbt_world.specs.Step.{Starts, server_starts, node_starts, Crashes, server_crashes, node_crashes}
 use Rattle.nbt_world.specs.Inner.Kept.{Asked, Replied, known, RequestsEnded, RepliesFresh, IsNodeOf, IsServerOf, Invariant}
 use Rattle.nbt_world.proofs.Knowing.{ended-start, ended-down, fresh-start, fresh-down}
-use Rattle.nbt_world.proofs.Keeping.{addr_there, asked_read, node_changes, server_changes}
+use Rattle.nbt_world.proofs.Keeping.{adds_nothing, addr_there, asked_read, server_changes}
 use Rattle.nbt_world.proofs.Naming.{nothing_new}
-use Rattle.nbt_world.proofs.Covering.{down_claims, idle_claims, node_claims, crashed_claims, started_claims}
+use Rattle.nbt_world.proofs.Covering.{down_claims, idle_claims, node_kept, crashed_claims, started_claims}
 
 no_lease : (latest now : ℕ) (name : NameValue) → AreSound latest (leases_at now [] name)
 unfolding leases_at
@@ -38,28 +38,26 @@ starts_kept w number ends kept (server_starts server down new) =
     is : IsServerOf w server
     is = record { config_is = new.config_is; past = let e = new.last in omega arith; sound = new_is_sound w.config (reading w.now 0) server.table.rows new.empty }
 starts_kept w number ends kept (node_starts i addr at down) =
-    node_changes w i addr (Some (started 14 addr w.ends.server_addr w.config (reading w.now (suc i)))) w.sent kept at
+    node_kept (adds_nothing i kept at) (Some (started 14 addr w.ends.server_addr w.config (reading w.now (suc i))))
     (λ s e. subst (λ (x : NodeValue). IsNodeOf w (suc i) addr x) (same_Some (started 14 addr w.ends.server_addr w.config (reading w.now (suc i))) s e)
     (record { addr_is = refl; server_is = refl; config_is = refl; distinct = distinct-none _ 14 refl; past = omega arith }))
-    (nothing_new w addr)
-    (λ d c. c)
     (λ on q.
-    rw (idle_in 14 q)
-    (ended-start w.config.life (suc i) w.now.clock (reading w.now (suc i)) (Asked w.sent addr.ip q)
-    (subst (λ (x : Option NodeValue). RequestsEnded w.config.life (suc i) w.now.clock (reading w.now (suc i)) (Asked w.sent addr.ip q) (known x q)) down (kept.requests on (suc i) addr q at))))
-    (λ on q.
-    rw (idle_in 14 q)
-    (fresh-start w.config.life (suc i) w.now.clock (reading w.now (suc i)) (Asked w.sent addr.ip q) (Replied w.sent w.ends.server_addr addr q)
-    (subst (λ (x : Option NodeValue). RepliesFresh w.config.life (suc i) w.now.clock (reading w.now (suc i)) (Asked w.sent addr.ip q) (Replied w.sent w.ends.server_addr addr q) (known x q)) down (kept.replies on (suc i) addr q at))))
-    (λ on. node_claims w i addr (Some (started 14 addr w.ends.server_addr w.config (reading w.now (suc i)))) w.sent kept at (nothing_new w addr) (λ d c. c) on
-    (λ q kind end c. absurd (idle_claims w.config.longest w.config.life w.now.clock (reading w.now (suc i)) (Replied w.sent w.ends.server_addr addr q) kind end (rw (idle_in 14 q) at c))))
+    record {
+      requests = rw (idle_in 14 q)
+          (ended-start (subst (λ (x : Option NodeValue). RequestsEnded w.config.life (suc i) w.now.clock (reading w.now (suc i)) (Asked w.sent addr.ip q) (known x q)) down (kept.requests on (suc i) addr q at)));
+      replies = rw (idle_in 14 q)
+          (fresh-start (subst (λ (x : Option NodeValue). RepliesFresh w.config.life (suc i) w.now.clock (reading w.now (suc i)) (Asked w.sent addr.ip q) (Replied w.sent w.ends.server_addr addr q) (known x q)) down (kept.replies on (suc i) addr q at)));
+      claims = λ kind end c. absurd (idle_claims (rw (idle_in 14 q) at c));
+    })
 
 pub crashes_kept : (w : WorldValue) (number : ℕ) (ends : Ends) → Invariant w → Crashes w.ends number ends → Invariant (record w { ends = ends })
 crashes_kept w number ends kept (server_crashes server up) = server_changes w None w.sent kept (λ s e. absurd (none-some s e)) (nothing_new w w.ends.server_addr) kept.replies (λ on. crashed_claims w kept on)
 crashes_kept w number ends kept (node_crashes i node up) =
     let there = addr_there w.ends (suc i) node up in
-    node_changes w i there.0 None w.sent kept there.1 (λ s e. absurd (none-some s e)) (nothing_new w there.0) (λ d c. c)
-    (λ on q. ended-down w.config.life (suc i) w.now.clock (reading w.now (suc i)) (Asked w.sent (there.0).ip q) (asked_read w (suc i) there.0 there.1 (there.0).ip q w.sent kept.sent))
-    (λ on q. fresh-down w.config.life (suc i) w.now.clock (reading w.now (suc i)) (Asked w.sent (there.0).ip q) (Replied w.sent w.ends.server_addr there.0 q) (known (node_of w.ends (suc i)) q) (asked_read w (suc i) there.0 there.1 (there.0).ip q w.sent kept.sent) (kept.replies on (suc i) there.0 q there.1))
-    (λ on. node_claims w i there.0 None w.sent kept there.1 (nothing_new w there.0) (λ d c. c) on
-    (λ q kind end c. absurd (down_claims w.config.longest w.config.life w.now.clock (Replied w.sent w.ends.server_addr there.0 q) kind end c)))
+    node_kept (adds_nothing i kept there.1) None (λ s e. absurd (none-some s e))
+    (λ on q.
+    record {
+      requests = ended-down (asked_read w (suc i) there kept.sent);
+      replies = fresh-down (asked_read w (suc i) there kept.sent) (kept.replies on (suc i) there.0 q there.1);
+      claims = λ kind end c. absurd (down_claims c);
+    })

@@ -13,9 +13,9 @@ pub record Watched (old new : List Least) (clocks : Clocks) (number : ℕ) (kept
   pub told : IsTrue kept ↔ ((n : ℕ) → n < number → IsAllowed (least_of new n) clocks n)
 
 -- one end more
-pub watched_next : (old new : List Least) (clocks : Clocks) (number : ℕ) (kept after : Bool) (v : Least) → number < 9 → v ≡ lesser (least_of new number) (numbers_of clocks number)
+pub watched_next : {old new : List Least} {clocks : Clocks} {number : ℕ} {kept after : Bool} {v : Least} → number < 9 → v ≡ lesser (least_of new number) (numbers_of clocks number)
     → (IsTrue after ↔ (IsTrue kept × IsAllowed v clocks number)) → Watched old new clocks number kept → Watched old (slice_set new number v) clocks (number + 1) after
-watched_next old new clocks number kept after v within is both was = record {
+watched_next {old} {new} {clocks} {number} {after = after} {v} within is both was = record {
   whole = length-set new number v ∙ was.whole;
   seen = λ n below. seen_at n (below_or_at n number below);
   left = λ n from. others n (omega arith) ∙ was.left n (omega arith);

@@ -4,13 +4,8 @@ use Rattle.std.specs.Prelude.{slice_get, Contains, MatchBool, Result, Ok, Err, I
 use Rattle.std.proofs.lemmas.Bool.{ltb-true, ltb-false}
 use Rattle.std.proofs.lemmas.Option.{slice_get_read, slice_get_past, slice_get_within, get_or_from_slice_get, none-some}
 use Rattle.nbt_name.specs.declared.addr.Addr.{Addr}
-use Rattle.nbt_packet.specs.Message.{MessageValue}
-use Rattle.nbt_packet.specs.Text.{text}
-use Rattle.nbt_packet.specs.Spelling.{Spells}
 use Rattle.nbt_node.specs.Node.{NodeValue}
 use Rattle.nbt_world.specs.declared.ends.Ends.{Ends}
-use Rattle.nbt_world.specs.declared.ends.Taken.{Taken}
-use Rattle.nbt_world.specs.declared.ends.Taken.TheVariants as t
 use Rattle.nbt_world.specs.declared.network.Datagram.{Datagram}
 use Rattle.nbt_world.specs.declared.event.Event.{Event}
 use Rattle.nbt_world.specs.declared.event.Event.TheVariants as e
@@ -19,13 +14,13 @@ use Rattle.nbt_world.specs.declared.event.Outcome.{Outcome}
 use Rattle.nbt_world.specs.declared.event.Outcome.TheVariants as o
 use Rattle.nbt_world.specs.Drift.{reading}
 use Rattle.nbt_world.specs.World.{WorldValue, addr_of, node_of, with_node}
-use Rattle.nbt_world.specs.Step.{number_in, CallOutcomeValue, NodeDoes, after, outcome_of, IsDown, IsUp, Starts, Crashes, TakenValue, takes, EndTakes, IsTaken, after_taking, outcome_of_taking, Step, starts, starts_nothing, crashes, crashes_nothing, node_does, node_is_down}
+use Rattle.nbt_world.specs.Step.{number_in, CallOutcomeValue, NodeDoes, after, outcome_of, IsDown, IsUp, Starts, Crashes, TakenValue, EndTakes, after_taking, outcome_of_taking, Step, starts, starts_nothing, crashes, crashes_nothing, node_does, node_is_down}
 use Rattle.nbt_world.specs.Inner.Kept.{IsNodeOf, Invariant}
 use Rattle.nbt_world.proofs.Keeping.{addr_there}
 use Rattle.nbt_world.specs.Inner.Handing.{Origin, HandsOver}
-use Rattle.nbt_world.proofs.Naming.{Laws}
+use Rattle.nbt_world.proofs.Naming.{Laws, up_at}
 use Rattle.nbt_world.proofs.Events.{does_kept}
-use Rattle.nbt_world.proofs.Deliveries.{GrantsSound, ReleasesSound, taking_kept}
+use Rattle.nbt_world.proofs.Deliveries.{taking_kept}
 use Rattle.nbt_world.proofs.Granting.{LeaseLaws}
 use Rattle.nbt_world.proofs.Starting.{starts_kept, crashes_kept}
 
@@ -68,9 +63,9 @@ has_not_crashed w number ends false p is = subst (λ (x : Ends). Step w (e.Crash
 
 -- ---- a node does something
 
-pub stays_down : (w : WorldValue) (event : Event) (number : ℕ) (ends : Ends) (sent : List Datagram) → ends ≡ w.ends → sent ≡ w.sent → number_in event ≡ Some number → node_of w.ends number ≡ None
+pub stays_down : {w : WorldValue} {event : Event} {number : ℕ} {ends : Ends} {sent : List Datagram} → ends ≡ w.ends → sent ≡ w.sent → number_in event ≡ Some number → node_of w.ends number ≡ None
     → Step w event o.Down (record w { ends = ends; sent = sent })
-stays_down w event number ends sent p q own down = subst (λ (x : WorldValue). Step w event o.Down x) (same_world w ends sent p q) (node_is_down event number own down)
+stays_down {w} {event} {number} {ends} {sent} p q own down = subst (λ (x : WorldValue). Step w event o.Down x) (same_world w ends sent p q) (node_is_down event number own down)
 
 -- what a node's call has left in the world, and what it gave
 pub record Gave (w : WorldValue) (event : Event) (number : ℕ) (ends : Ends) (sent : List Datagram) (outcome : Outcome) : Type 0 where
@@ -84,51 +79,39 @@ pub record Gave (w : WorldValue) (event : Event) (number : ℕ) (ends : Ends) (s
   pub outcome_is : outcome ≡ outcome_of w given
   pub left : after w number new given ≡ record w { ends = with_node w.ends number (Some new); sent = sent }
 
-gave_world : (w : WorldValue) (event : Event) (number : ℕ) (ends : Ends) (sent : List Datagram) (outcome : Outcome) (g : Gave w event number ends sent outcome) → after w number g.new g.given ≡ record w { ends = ends; sent = sent }
-gave_world w event number ends sent outcome g = g.left ∙ ap (λ (x : Ends). record w { ends = x; sent = sent }) (sym g.ends_is)
+gave_world : {w : WorldValue} {event : Event} {number : ℕ} {ends : Ends} {sent : List Datagram} {outcome : Outcome} (g : Gave w event number ends sent outcome) → after w number g.new g.given ≡ record w { ends = ends; sent = sent }
+gave_world {w} {sent = sent} g = g.left ∙ ap (λ (x : Ends). record w { ends = x; sent = sent }) (sym g.ends_is)
 
-pub gave_kept : Laws → (w : WorldValue) (event : Event) (number : ℕ) (ends : Ends) (sent : List Datagram) (outcome : Outcome) → Invariant w → Gave w event number ends sent outcome → Invariant (record w { ends = ends; sent = sent })
-gave_kept law w event number ends sent outcome kept g = subst Invariant (gave_world w event number ends sent outcome g) (at number g.up g.does)
+pub gave_kept : Laws → {w : WorldValue} {event : Event} {number : ℕ} {ends : Ends} {sent : List Datagram} {outcome : Outcome} → Invariant w → Gave w event number ends sent outcome → Invariant (record w { ends = ends; sent = sent })
+gave_kept law {w} {event} {number} kept g = subst Invariant (gave_world g) (at number g.up g.does)
   where
     at : (n : ℕ) → node_of w.ends n ≡ Some g.node → NodeDoes g.node (reading w.now n) event g.new g.given → Invariant (after w n g.new g.given)
     at zero up does = absurd (none-some g.node up)
-    at (suc i) up does = does_kept law w i g.node g.new event g.given kept up does
+    at (suc i) up does = does_kept law.one_message (up_at law.rests i kept up) does
 
-pub gave_step : (w : WorldValue) (event : Event) (number : ℕ) (ends : Ends) (sent : List Datagram) (outcome : Outcome) → Gave w event number ends sent outcome → Step w event outcome (record w { ends = ends; sent = sent })
-gave_step w event number ends sent outcome g =
+pub gave_step : {w : WorldValue} {event : Event} {number : ℕ} {ends : Ends} {sent : List Datagram} {outcome : Outcome} → Gave w event number ends sent outcome → Step w event outcome (record w { ends = ends; sent = sent })
+gave_step {w} {event} {number} {ends} {sent} g =
     subst (λ (x : Outcome). Step w event x (record w { ends = ends; sent = sent })) (sym g.outcome_is)
-    (subst (λ (x : WorldValue). Step w event (outcome_of w g.given) x) (gave_world w event number ends sent outcome g) (node_does event number g.node g.new g.given g.own g.up g.does))
+    (subst (λ (x : WorldValue). Step w event (outcome_of w g.given) x) (gave_world g) (node_does event number g.node g.new g.given g.own g.up g.does))
 
 -- ---- an end takes a datagram
 
 -- what taking it has left in the world
 pub record Took (w : WorldValue) (from to : Addr) (octets : List ℕ) (number : ℕ) (ends : Ends) (sent : List Datagram) (outcome : Outcome) : Type 0 where
-  pub code : Taken
-  pub out : List ℕ
   pub taken : TakenValue
   pub at : addr_of w.ends number ≡ Some to
   pub does : EndTakes (reading w.now number) w.ends from octets number taken ends
-  pub is : IsTaken code out taken
   pub origin : Origin w from to octets
   pub outcome_is : outcome ≡ outcome_of_taking w taken
   pub left : after_taking w ends to from taken ≡ record w { ends = ends; sent = sent }
 
-spells : (code : Taken) (out : List ℕ) (taken : TakenValue) (m : MessageValue) → IsTaken code out taken → taken ≡ takes (Some m) → Spells (text m) m
-spells t.Down out taken m is same = absurd cc
-spells t.Lost out taken m is same = absurd cc
-spells t.Silent out taken m is same = absurd cc
-spells t.Replies out taken m is same =
-    let one : is.0 ≡ m = cc in
-    subst (λ (k : MessageValue). Spells (text k) k) one (subst (λ (xs : List ℕ). Spells xs is.0) is.2 is.3)
+pub took_kept : Laws → LeaseLaws → {w : WorldValue} {from to : Addr} {octets : List ℕ} {number : ℕ} {ends : Ends} {sent : List Datagram} {outcome : Outcome} → Invariant w → Took w from to octets number ends sent outcome
+    → Invariant (record w { ends = ends; sent = sent })
+took_kept law laws kept k = subst Invariant k.left (taking_kept law laws (record { kept = kept; at = k.at; origin = k.origin }) k.does)
 
-pub took_kept : Laws → GrantsSound → ReleasesSound → LeaseLaws → (w : WorldValue) (from to : Addr) (octets : List ℕ) (number : ℕ) (ends : Ends) (sent : List Datagram) (outcome : Outcome) → Invariant w
-    → Took w from to octets number ends sent outcome → Invariant (record w { ends = ends; sent = sent })
-took_kept law g r laws w from to octets number ends sent outcome kept k =
-    subst Invariant k.left (taking_kept law g r laws w from to octets number k.taken ends kept k.at k.origin k.does (λ m same. spells k.code k.out k.taken m k.is same))
-
-pub took_over : (w : WorldValue) (from to : Addr) (octets : List ℕ) (number : ℕ) (ends : Ends) (sent : List Datagram) (outcome : Outcome) → Took w from to octets number ends sent outcome
+pub took_over : {w : WorldValue} {from to : Addr} {octets : List ℕ} {number : ℕ} {ends : Ends} {sent : List Datagram} {outcome : Outcome} → Took w from to octets number ends sent outcome
     → HandsOver w number from to octets outcome (record w { ends = ends; sent = sent })
-took_over w from to octets number ends sent outcome k = record { taken = k.taken; ends = ends; takes = k.does; outcome_is = k.outcome_is; new_is = sym k.left }
+took_over {ends = ends} k = record { taken = k.taken; ends = ends; takes = k.does; outcome_is = k.outcome_is; new_is = sym k.left }
 
 -- a delivery, and a stranger's datagram, is what handing it over makes of the world
 pub hands_step : (w new : WorldValue) (number : ℕ) (from to : Addr) (octets : List ℕ) (event : Event) (result : Result Outcome OutOfMemory) → IfOk result (λ outcome. HandsOver w number from to octets outcome new)

@@ -13,4 +13,4 @@ loop-number-preserved c =
     let allows = allowed_there c.loop-number.least c.args.clocks.now c.loop-number.number c.lesser.result c.of-seen.result c.allows.result there (search rules) c.allows.ensures in
     let both : IsTrue c.if-not-allows.kept ↔ (IsTrue c.loop-number.kept × IsAllowed c.lesser.result c.args.clocks.now c.loop-number.number)
     = kept_on c.loop-number.kept c.if-not-allows.kept c.allows.result (IsAllowed c.lesser.result c.args.clocks.now c.loop-number.number) allows (elim c.if-not-allows.branch [ then-not-allows w ↦ inl (w.if-not-allows.true, w.kept-is) | else-not-allows w ↦ inr (w.if-not-allows.false, w.kept-is) ]) in
-    watched_next c.args.least.now c.loop-number.least c.args.clocks.now c.loop-number.number c.loop-number.kept c.if-not-allows.kept c.lesser.result within is both was
+    watched_next within is both was

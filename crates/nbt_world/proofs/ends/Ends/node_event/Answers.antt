@@ -8,9 +8,9 @@ returns-in-Some-clause-does c =
     record { lent = c.deref_mut.ensures.value; is_node = c.if-number-eq0.false; within = omega arith; read = c.index-deref_mut-number.is } in (
       c.in-Some.node,
       c.call_node-given.new.node,
-      node_read c.args.self.now c.args.number _ _ reads ∙ c.in-Some.is,
+      node_read reads ∙ c.in-Some.is,
       c.call_node-given.ensures,
-      written_node c.args.self.now c.args.number _ _ (Some c.call_node-given.new.node) reads,
+      written_node (Some c.call_node-given.new.node) reads,
       c.addr.ensures,
     )
 
@@ -18,4 +18,4 @@ pub returns-in-None-clause-down : goal.returns-in-None-clause-down
 returns-in-None-clause-down c = λ e.
     let reads : Reads c.args.self.now c.args.number c.deref_mut.result.now c.index-deref_mut-number.result =
     record { lent = c.deref_mut.ensures.value; is_node = c.if-number-eq0.false; within = omega arith; read = c.index-deref_mut-number.is } in
-    (node_read c.args.self.now c.args.number _ _ reads ∙ c.in-None.is, written_same c.args.self.now c.args.number _ _ reads)
+    (node_read reads ∙ c.in-None.is, written_same reads)

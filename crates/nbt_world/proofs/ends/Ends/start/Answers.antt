@@ -4,8 +4,7 @@ use Rattle.nbt_world.proofs.ends.Ends.start.Goals as goal
 
 pub returns-then-number-eq0 : goal.returns-then-number-eq0
 returns-then-number-eq0 c =
-    server_started c.args.config c.args.now c.args.self.now c.args.number c.start.result c.if-number-eq0.true (sym c.if-is_some.ensures)
-    c.start.ensures
+    server_started c.if-number-eq0.true (sym c.if-is_some.ensures) c.start.ensures
 
 pub returns-then-number-len : goal.returns-then-number-len
 returns-then-number-len c = (down_past c.args.self.now c.args.number (omega arith), refl)

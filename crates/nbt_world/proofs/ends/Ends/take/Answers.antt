@@ -7,10 +7,10 @@ pub serve-requires : goal.serve-requires
 serve-requires c = c.requires.server _ c.if-number-eq0.true c.in-Some.is
 
 pub returns-in-Some : goal.returns-in-Some
-returns-in-Some c = (c.serve.ensures.0, server_took _ _ _ _ _ _ _ _ c.if-number-eq0.true c.in-Some.is c.serve.ensures.1, c.serve.ensures.2)
+returns-in-Some c = (c.serve.ensures.0, server_took c.if-number-eq0.true c.in-Some.is c.serve.ensures.1, c.serve.ensures.2)
 
 pub returns-in-None : goal.returns-in-None
-returns-in-None c = (is_down, server_is_down _ _ _ _ _ c.if-number-eq0.true c.in-None.is, refl)
+returns-in-None c = (is_down, server_is_down c.if-number-eq0.true c.in-None.is, refl)
 
 pub offset_bounds-deref_mut-number : goal.offset_bounds-deref_mut-number
 offset_bounds-deref_mut-number c =
@@ -28,16 +28,16 @@ pub hear-requires : goal.hear-requires
 hear-requires c =
     let reads : Reads c.args.self.now c.args.number c.deref_mut.result.now c.index-deref_mut-number.result =
     record { lent = c.deref_mut.ensures.value; is_node = c.if-number-eq0.false; within = within_from c.args.self.now c.args.number c.requires.there c.if-number-eq0.false; read = c.index-deref_mut-number.is } in
-    c.requires.node _ (node_read c.args.self.now c.args.number _ _ reads ∙ c.in-Some-node.is)
+    c.requires.node _ (node_read reads ∙ c.in-Some-node.is)
 
 pub returns-in-Some-node : goal.returns-in-Some-node
 returns-in-Some-node c =
     let reads : Reads c.args.self.now c.args.number c.deref_mut.result.now c.index-deref_mut-number.result =
     record { lent = c.deref_mut.ensures.value; is_node = c.if-number-eq0.false; within = within_from c.args.self.now c.args.number c.requires.there c.if-number-eq0.false; read = c.index-deref_mut-number.is } in
-    (takes c.hear.ensures.0, node_took _ c.args.self.now _ _ c.args.number _ _ _ _ _ reads c.in-Some-node.is c.hear.ensures.1, c.hear.ensures.2)
+    (takes c.hear.ensures.0, node_took reads c.in-Some-node.is c.hear.ensures.1, c.hear.ensures.2)
 
 pub returns-in-None-node : goal.returns-in-None-node
 returns-in-None-node c =
     let reads : Reads c.args.self.now c.args.number c.deref_mut.result.now c.index-deref_mut-number.result =
     record { lent = c.deref_mut.ensures.value; is_node = c.if-number-eq0.false; within = within_from c.args.self.now c.args.number c.requires.there c.if-number-eq0.false; read = c.index-deref_mut-number.is } in
-    (is_down, node_is_down _ c.args.self.now _ _ c.args.number _ _ reads c.in-None-node.is, refl)
+    (is_down, node_is_down reads c.in-None-node.is, refl)

@@ -18,12 +18,10 @@ goes : (c : goal.After-self-1) → Advances (record { now = c.self.inside.clocks
 goes c =
     let most = c.self.invariant.ends.nodes_at_most in
     let ends = c.len-ends.ensures.value in
-    advanced (record { now = c.self.inside.clocks; config = c.self.inside.config; ends = c.self.inside.ends; sent = c.self.inside.sent.items; least = c.self.inside.least; kept = c.self.inside.kept }) c.go_on.new.self c.watch-allowed.new.least
-    c.watch-allowed.result c.if-self.self c.args.ms (slice_index c.args.readings.now) most c.go_on.ensures.clock c.go_on.ensures.readings (rw c.len-ends.ensures.value at c.watch-allowed.ensures.least) (rw c.len-ends.ensures.value at c.watch-allowed.ensures.allowed)
-    (still c)
+    advanced most c.go_on.ensures.clock c.go_on.ensures.readings (rw c.len-ends.ensures.value at c.watch-allowed.ensures.least) (rw c.len-ends.ensures.value at c.watch-allowed.ensures.allowed) (still c)
 
 pub invariant_of-self : goal.invariant_of-self
-invariant_of-self c = clock_changes c.leases_stay_sound.ensures.later c.later_leases_live_now.ensures c.hold_ends_first.ensures.between _ _ c.args.ms (slice_index c.args.readings.now) (goes c) c.self.invariant
+invariant_of-self c = clock_changes c.leases_stay_sound.ensures.later c.later_leases_live_now.ensures c.hold_ends_first.ensures.between (goes c) c.self.invariant
 
 pub returns-clause-step : goal.returns-clause-step
 returns-clause-step c = rw (← c.self.view_is) (goes c)

@@ -6,14 +6,14 @@ use Rattle.nbt_world.proofs.world.World.holders.Goals.{in-Some, in-None}
 
 pub loop-index-preserved : goal.loop-index-preserved
 loop-index-preserved c =
-    let held = reads_held c.as_slice-nodes.result.now c.loop-index.index c.index-nodes-index.result c.args.name.now c.args.self.now.now c.self.inside.clocks c.reading.result c.holding.result
+    let held = reads_held c.as_slice-nodes.result.now c.loop-index.index c.args.name.now
     c.loop-index-test.true c.index-nodes-index.is (ap (λ (w : WorldValue). w.now) c.self.view_is) c.reading.ensures c.holding.ensures in
     elim c.match-holding.branch [
-      | in-Some w ↦ rw (w.holders-is, w.push.ensures.items) (takes_in _ _ _ _ _ w.in-Some.kind (held ∙ w.in-Some.is) c.loop-index.invariant)
-      | in-None w ↦ rw w.holders-is (passes_over _ _ _ _ _ (held ∙ w.in-None.is) c.loop-index.invariant)
+      | in-Some w ↦ rw (w.holders-is, w.push.ensures.items) (takes_in w.in-Some.kind (held ∙ w.in-Some.is) c.loop-index.invariant)
+      | in-None w ↦ rw w.holders-is (passes_over (held ∙ w.in-None.is) c.loop-index.invariant)
     ]
 
 pub returns-clause-exactly : goal.returns-clause-exactly
 returns-clause-exactly c =
-    are_all_in c.args.self.now c.as_slice-nodes.result.now c.args.name.now c.loop-index.index c.loop-index.holders.items
+    are_all_in c.args.self.now
     (c.as_slice-nodes.ensures.value ∙ ap (λ (w : WorldValue). w.ends.nodes.items) c.self.view_is) c.loop-index-test.false c.loop-index.invariant

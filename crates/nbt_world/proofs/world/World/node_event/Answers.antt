@@ -11,7 +11,7 @@ node_event-done-requires-clause-time c = λ node up. rw c.reading-now.ensures ((
 pub returns-in_default-clause-step : goal.returns-in_default-clause-step
 returns-in_default-clause-step c =
     let down = c.in_default.ensures.down refl in
-    rw (← c.self.view_is) (stays_down _ c.args.event.now c.args.number _ _ down.1 c.try_reserve.ensures.items c.requires down.0)
+    rw (← c.self.view_is) (stays_down down.1 c.try_reserve.ensures.items c.requires down.0)
 
 gave : (c : goal.After-give) → Gave (record { now = c.self.inside.clocks; config = c.self.inside.config; ends = c.self.inside.ends; sent = c.self.inside.sent.items; least = c.self.inside.least; kept = c.self.inside.kept }) c.args.event.now c.args.number c.node_event-done.new.self c.give.new.sent.items c.give.result
 gave c =
@@ -20,7 +20,7 @@ gave c =
     record { node = d.0; new = d.1; given = _; own = c.requires; up = d.2; does = rw c.reading-now.ensures at d.3; ends_is = d.4; outcome_is = g.0; left = g.1 }
 
 pub invariant_of-self-2 : goal.invariant_of-self-2
-invariant_of-self-2 c = gave_kept (record { one_message = c.one_message_spelled.ensures; rests = c.rest_outlasts_datagrams.ensures.between }) _ c.args.event.now c.args.number _ _ c.give.result c.self.invariant (gave c)
+invariant_of-self-2 c = gave_kept (record { one_message = c.one_message_spelled.ensures; rests = c.rest_outlasts_datagrams.ensures.between }) c.self.invariant (gave c)
 
 pub returns-clause-step : goal.returns-clause-step
-returns-clause-step c = rw (← c.self.view_is) (gave_step _ c.args.event.now c.args.number _ _ c.give.result (gave c))
+returns-clause-step c = rw (← c.self.view_is) (gave_step (gave c))

@@ -11,15 +11,13 @@ pub loop-number-preserved : goal.loop-number-preserved
 loop-number-preserved c =
     let before = c.loop-number.invariant in (
       _,
-      run_next c.args.events.now c.loop-number.number c.args.self.now c.loop-number.self c.step.new.self before.0 c.index-events-number.result c.in-Ok.field-0
-          c.loop-number-test.true c.index-events-number.is before.1 c.in-Ok.ensures.step,
-      along_next c.args.events.now c.loop-number.number c.args.self.now c.loop-number.self c.step.new.self before.0 c.index-events-number.result c.in-Ok.field-0
-          c.loop-number-test.true c.index-events-number.is c.in-Ok.ensures.step c.step.ensures.safe before.2,
+      run_next c.args.events.now c.loop-number.number c.loop-number-test.true c.index-events-number.is before.1 c.in-Ok.ensures.step,
+      along_next c.args.events.now c.loop-number.number c.loop-number-test.true c.index-events-number.is c.in-Ok.ensures.step c.step.ensures.safe before.2,
     )
 
 pub returns-in-Err-clause-stopped : goal.returns-in-Err-clause-stopped
 returns-in-Err-clause-stopped c =
-    let before = c.loop-number.invariant in (c.loop-number-test.true, before.0, rw (c.in-Err.ensures.refused) before.1, rw (c.in-Err.ensures.refused) (runs_safely _ _ _ _ before.2))
+    let before = c.loop-number.invariant in (c.loop-number-test.true, before.0, rw (c.in-Err.ensures.refused) before.1, rw (c.in-Err.ensures.refused) (runs_safely before.2))
 
 pub returns-in-Err-clause-memory : goal.returns-in-Err-clause-memory
 returns-in-Err-clause-memory c =
@@ -30,6 +28,6 @@ pub returns-clause-ran : goal.returns-clause-ran
 returns-clause-ran c =
     let before = c.loop-number.invariant in (
       before.0,
-      run_whole c.args.events.now c.loop-number.number c.args.self.now c.loop-number.self before.0 c.loop-number-test.false before.1,
-      runs_whole c.args.events.now c.loop-number.number c.args.self.now before.0 c.loop-number.self c.loop-number-test.false before.2,
+      run_whole c.args.events.now c.loop-number.number c.loop-number-test.false before.1,
+      runs_whole c.args.events.now c.loop-number.number c.loop-number-test.false before.2,
     )
