@@ -4,7 +4,6 @@ pub mod Arguments
 pub mod Failure
 pub mod Network
 pub mod Outcome
-pub mod People
 pub mod Printed
 pub mod Requests
 pub mod Show

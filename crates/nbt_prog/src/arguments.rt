@@ -2,33 +2,34 @@
 
 ghost use Rattle.std.specs.Prelude.{◌≡◌, ◌↔◌, ℕ, Some, IfOk, IfErr, IfSome, codes};
 ghost use Rattle.nbt_prog.specs.Inner.Arguments.{AreGiven, IsFailureOf, IsTime, IsUsageFailure, SpellsTime};
-ghost use Rattle.nbt_prog.specs.Inner.Requests.{AsksFor, IsRefusalOf, ShowGiven, ShowFails};
+ghost use Rattle.nbt_prog.specs.Inner.Requests.{AsksFor, IsRefusalOf, ShowAsked, ShowRefused, ShowGiven, ShowFails, ExplainGiven, ExplainFails, IsSource, SourceFails};
 ghost use Rattle.nbt_prog.specs.declared.commands.show.Service.TheVariants.{Dgram, Session};
 
 mod network;
-mod people;
 
 use crate::commands::answer::AnswerArguments;
-use crate::commands::ask::AskArguments;
+use crate::commands::explain::{ExplainArguments, Source};
 use crate::commands::show::{Service, ShowArguments};
 use crate::failure::Failure;
+use nbt_explain::read_digits;
 use nbt_lease::Moment;
 use nbt_loop::Ports;
 use nbt_net::{NodeArguments, ServeArguments};
 use nbt_text::{parse_address, parse_number};
 use nbt_usage::{AnswerWords, ShowWords, Words};
 use network::{loop_ports, node_arguments, serve_arguments};
-use people::{lookup_arguments, status_arguments};
 use std::alloc::Global;
 use std::convert::AsStr;
 
 /// A command with its arguments.
 #[derive(Debug, Drop)]
 pub enum Request {
-    /// Of `lookup`, or of `status`.
-    Ask(AskArguments),
+    /// Of the commands for people who run a network.
+    People(nbt_people::Request),
     Answer(AnswerArguments),
     Show(ShowArguments),
+    /// Of `show --explain`.
+    Explain(ExplainArguments),
     Check,
     Sim,
     Serve(ServeArguments),
@@ -47,10 +48,9 @@ fn request_of(alloc: Global, words: &Words<'_>) -> Result<Request, Failure>
     ensures failure { IfErr result (IsRefusalOf words.now) }
 {
     match words {
-        Words::Lookup(words) => Ok(Request::Ask(lookup_arguments(alloc, words)?)),
-        Words::Status(words) => Ok(Request::Ask(status_arguments(alloc, words)?)),
+        Words::People(words) => Ok(Request::People(nbt_people::request_of(alloc, words)?)),
         Words::Answer(words) => Ok(Request::Answer(answer_arguments(alloc, words)?)),
-        Words::Show(words) => Ok(Request::Show(show_arguments(alloc, words)?)),
+        Words::Show(words) => show_request(alloc, words),
         Words::Check => Ok(Request::Check),
         Words::Sim => Ok(Request::Sim),
         Words::Serve(words) => Ok(Request::Serve(serve_arguments(alloc, words)?)),
@@ -68,6 +68,39 @@ fn answer_arguments(alloc: Global, words: &AnswerWords<'_>) -> Result<AnswerArgu
     let from = parse_address(words.from).ok_or(Failure::Unreadable)?;
     let octets = hex::decode(alloc, words.hex)?;
     Ok(AnswerArguments { from, at, octets })
+}
+
+/// What `show` is to do, which with `--explain` reads HEX otherwise.
+fn show_request(alloc: Global, words: &ShowWords<'_>) -> Result<Request, Failure>
+    ensures given { IfOk result (ShowAsked words.now) }
+    ensures failure { IfErr result (ShowRefused words.now) }
+{
+    if words.explain {
+        Ok(Request::Explain(explain_arguments(alloc, words)?))
+    } else {
+        Ok(Request::Show(show_arguments(alloc, words)?))
+    }
+}
+
+/// The arguments of `show --explain`.
+fn explain_arguments(alloc: Global, words: &ShowWords<'_>) -> Result<ExplainArguments, Failure>
+    ensures given { IfOk result (ExplainGiven words.now) }
+    ensures failure { IfErr result (ExplainFails words.now) }
+{
+    let service = service_of(words.kind);
+    let source = source_of(alloc, words.hex)?;
+    Ok(ExplainArguments { service, source })
+}
+
+/// Where the octets are that HEX stands for.
+fn source_of(alloc: Global, hex: &str) -> Result<Source, Failure>
+    ensures given { IfOk result (IsSource hex.now) }
+    ensures failure { IfErr result (SourceFails hex.now) }
+{
+    match hex {
+        "-" => Ok(Source::Input),
+        _ => Ok(Source::Octets(read_digits(alloc, hex.as_bytes())?)),
+    }
 }
 
 /// The arguments of `show`.

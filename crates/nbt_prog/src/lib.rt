@@ -5,26 +5,24 @@
 #![tactic(auto)]
 
 ghost use Rattle.std.specs.Prelude.{◌≡◌, ◌≢◌, ◌≤◌, ◌⊎◌, OnOk, IfErr, IfSome, codes};
-ghost use Rattle.std.specs.String.{string_bytes};
 ghost use Rattle.std.specs.IoError.{error_kind};
 ghost use Rattle.std.specs.declared.io.ErrorKind.TheVariants.{InvalidData};
 ghost use Rattle.std.specs.Io.KnownBytes.{Appends};
-ghost use Rattle.nbt_ask.specs.Answers.{answer_status};
 ghost use Rattle.nbt_net.specs.Node.{RunsNodeHere};
 ghost use Rattle.nbt_net.specs.Serve.{RunsServerHere};
+ghost use Rattle.nbt_people.specs.Running.{Runs};
 ghost use Rattle.nbt_text.specs.Lines.{one_line};
 ghost use Rattle.nbt_prog.specs.Inner.Failure.{failure_status, failure_text};
 ghost use Rattle.nbt_prog.specs.Inner.Outcome.{status_of_outcome, text_of_outcome};
-ghost use Rattle.nbt_prog.specs.Inner.People.{AskedHere};
 
 mod arguments;
 mod commands;
 mod failure;
 mod input;
 mod printed;
+mod reason;
 
 use arguments::Request;
-use commands::ask::{AskArguments, Told};
 use failure::Failure;
 use nbt_engine::Fault;
 use nbt_net::{NodeArguments, ServeArguments};
@@ -33,6 +31,7 @@ use std::alloc::Global;
 use std::convert::AsStr;
 use std::io::{Read, Write};
 use std::net::Net;
+use std::rt::Files;
 use std::{io, time};
 
 /// Runs the command that `words` name, of which the first is the program's own name, and returns
@@ -42,9 +41,9 @@ use std::{io, time};
 /// - 0: done.
 /// - 1: an address, a hexadecimal text or the input can't be read: prints `unreadable`. Or `show` met a fault, which it
 ///   prints, or `check` has vectors that failed, or `sim` a line that can't be read.
-/// - 2: wrong usage; prints what is wrong and how to call the program. Or a word of `lookup` or `status` can't be read; prints
-///   nothing: see [`command_telling`].
-/// - 3: `reader` or `writer` failed; prints `device`, unless it was the writer. So do `lookup`, `status`, `serve`, `node` and
+/// - 2: wrong usage; prints what is wrong and how to call the program. Or something else is wrong with the words of a command for
+///   people (`lookup`, `status`, `nbns`, `host`); prints nothing: see [`command_telling`].
+/// - 3: `reader` or `writer` failed; prints `device`, unless it was the writer. So do the commands for people, `serve`, `node` and
 ///   `loop`, which need a machine: see [`command_on`].
 /// - 4: an allocation was refused; prints `memory`.
 pub fn command<S: AsStr, R: Read, W: Write>(
@@ -57,12 +56,12 @@ pub fn command<S: AsStr, R: Read, W: Write>(
     ensures memory { result ≡ 4
         → Appends (W.contents writer.old) (W.contents writer.new) (one_line (codes "memory")) }
 {
-    conclude_read(alloc, arguments::parse_words(alloc, words), reader, writer)
+    let asked = arguments::parse_words(alloc, words);
+    conclude_read(alloc, asked, reader, writer, &mut io::sink())
 }
 
-/// Runs the command that `words` name, as [`command_telling`] does, and tells nobody which call of the machine failed, or which
-/// word can't be read.
-pub fn command_on<M: Net + time::Clock, S: AsStr, R: Read, W: Write>(
+/// Runs the command that `words` name, as [`command_telling`] does, and tells nobody why it ended early.
+pub fn command_on<M: Net + time::Clock + Files, S: AsStr, R: Read, W: Write>(
     machine: &M,
     alloc: Global,
     words: &[S],
@@ -75,12 +74,32 @@ pub fn command_on<M: Net + time::Clock, S: AsStr, R: Read, W: Write>(
 }
 
 /// Runs the command that `words` name, as [`command`] does, and on this machine those that open sockets too: `lookup`, `status`,
-/// `serve`, `node` and `loop`. The last three write to `writer` as they go on; the first two at their end, with the status 0, 1 where
-/// the name isn't found, or 5 where no reply came. Where a word of these two can't be read, a line in `errors` says which, and why.
-/// Status 3 is also that of a port that can't be bound, of a clock that can't be read at the start, and of a socket that failed. Then
-/// a line in `errors` says which call of the machine failed, for which address, and why. With `--forever` a socket that fails is said
-/// in `errors` too, and only the hundredth turn in a row that fails ends the command. What can't be written to `errors` is passed over.
-pub fn command_telling<M: Net + time::Clock, S: AsStr, R: Read, W: Write, E: Write>(
+/// `nbns`, `host`, `serve`, `node` and `loop`. The first two write to `writer` at their end, with the status 0, 1 where the name isn't
+/// found, or 5 where no reply came; the others as they go on, `host` with the status 5 where a name wasn't held at its end. Where
+/// something is wrong with a word of the first four, a line in `errors` says what, and the status is 2. So does one where `unreadable`
+/// is printed, and one where `memory` is. Status 3 is also that of a port that can't be bound, of a clock that can't be read at the
+/// start, and of a socket that failed. Then a line in `errors` says which call of the machine failed, for which address, and why. With
+/// `--forever` a socket that fails is said in `errors` too, and only the hundredth turn in a row that fails ends the command. What
+/// can't be written to `errors` is passed over.
+pub fn command_telling<M: Net + time::Clock + Files, S: AsStr, R: Read, W: Write, E: Write>(
+    machine: &M,
+    alloc: Global,
+    words: &[S],
+    reader: &mut R,
+    writer: &mut W,
+    errors: &mut E,
+) -> u8
+    ensures bound { result ≤ 5 }
+{
+    let status = status_of(machine, alloc, words, reader, writer, errors);
+    if status == Fault::Memory.status() {
+        reason::tell(reason::MEMORY, errors);
+    }
+    status
+}
+
+/// Runs the command, as [`command_telling`] does, and says nothing of refused memory.
+fn status_of<M: Net + time::Clock + Files, S: AsStr, R: Read, W: Write, E: Write>(
     machine: &M,
     alloc: Global,
     words: &[S],
@@ -91,62 +110,49 @@ pub fn command_telling<M: Net + time::Clock, S: AsStr, R: Read, W: Write, E: Wri
     ensures bound { result ≤ 5 }
 {
     match arguments::parse_words(alloc, words) {
-        Ok(Request::Ask(arguments)) => ask_on(machine, alloc, &arguments, writer, errors),
+        Ok(Request::People(request)) => people_on(machine, alloc, &request, writer, errors),
         Ok(Request::Serve(arguments)) => serve_on(machine, alloc, &arguments, writer, errors),
         Ok(Request::Node(arguments)) => node_on(machine, &arguments, writer, errors),
         Ok(Request::Loop(ports)) => {
             let outcome = nbt_loop::run(machine, alloc, ports, writer, errors);
             conclude_written(outcome.map_err(Failure::from), writer)
         }
-        Ok(request) => conclude_read(alloc, Ok(request), reader, writer),
+        Ok(request) => conclude_read(alloc, Ok(request), reader, writer, errors),
         Err(failure) => {
-            tell_word(&failure, errors);
-            conclude_read(alloc, Err(failure), reader, writer)
+            tell_words(alloc, &failure, words, errors);
+            conclude_read(alloc, Err(failure), reader, writer, errors)
         }
     }
 }
 
-/// Says which word can't be read, if that is the failure.
-fn tell_word<E: Write>(failure: &Failure, errors: &mut E) {
-    if let Failure::Word(bad) = failure {
-        bad.tell(errors);
+/// Says what is wrong with the words, if that is the failure and has no text of its own.
+fn tell_words<S: AsStr, E: Write>(alloc: Global, failure: &Failure, words: &[S], errors: &mut E) {
+    match failure {
+        Failure::Words(complaint) => complaint.tell(alloc, errors),
+        Failure::Unreadable => {
+            if let Ok(words) = nbt_usage::read(alloc, words) {
+                reason::tell_words(&words, errors);
+            }
+        }
+        _ => {}
     }
 }
 
-/// Asks a question. With status 0, 1 or 5 it was asked, and the text of how it came out was printed.
-fn ask_on<M: Net + time::Clock, W: Write, E: Write>(
+/// Does what a command for people asks for. With status 0, 1 or 5 it was done, and printed.
+fn people_on<M: Net + time::Clock + Files, W: Write, E: Write>(
     machine: &M,
     alloc: Global,
-    arguments: &AskArguments,
+    request: &nbt_people::Request,
     writer: &mut W,
     errors: &mut E,
 ) -> u8
     ensures bound { result ≤ 5 }
-    ensures asked { ((3 ≤ result) × (result ≤ 4)) ⊎ AskedHere arguments.now result (W.contents writer.old) (W.contents writer.new) }
+    ensures done { ((3 ≤ result) × (result ≤ 4)) ⊎ Runs request.now result (W.contents writer.old) (W.contents writer.new) }
 {
-    match commands::ask::run(machine, alloc, arguments, errors) {
-        Ok(told) => conclude_told(&told, writer),
+    match nbt_people::run(machine, alloc, request, writer, errors) {
+        Ok(status) => status,
         Err(fault) => conclude_fault(fault, writer),
     }
-}
-
-/// Prints how a question came out, and returns its status.
-fn conclude_told<W: Write>(told: &Told, writer: &mut W) -> u8
-    ensures { (result ≡ 3) ⊎ ((result ≡ answer_status told.now.answer)
-        × Appends (W.contents writer.old) (W.contents writer.new) (string_bytes told.now.text)) }
-{
-    match write_told(told, writer) {
-        Ok(()) => told.answer.status(),
-        Err(_error) => Fault::Output.status(),
-    }
-}
-
-/// Writes how a question came out.
-fn write_told<W: Write>(told: &Told, writer: &mut W) -> io::Result<()>
-    ensures { OnOk result (Appends (W.contents writer.old) (W.contents writer.new) (string_bytes told.now.text)) }
-{
-    writer.write_all(told.text.as_bytes())?;
-    writer.flush()
 }
 
 /// Runs a server. With status 0 it went through its turns, and printed what it has to.
@@ -222,23 +228,39 @@ pub fn command_without_words<W: Write>(alloc: Global, error: io::Error, writer: 
     conclude(Err(failure), writer)
 }
 
-/// Does what the words ask for, where they could be read, without a machine. Prints its output, or the text of the failure, and
-/// returns the status.
-fn conclude_read<R: Read, W: Write>(
+/// Does what the words ask for, where they could be read, without a machine. Prints its output, or the text of the failure, says in
+/// `errors` why its input can't be read, and returns the status.
+fn conclude_read<R: Read, W: Write, E: Write>(
     alloc: Global,
     asked: Result<Request, Failure>,
     reader: &mut R,
     writer: &mut W,
+    errors: &mut E,
 ) -> u8
     ensures bound { result ≤ 4 }
     ensures memory { result ≡ 4
         → Appends (W.contents writer.old) (W.contents writer.new) (one_line (codes "memory")) }
 {
     let outcome = match asked {
-        Ok(request) => run_request(alloc, request, reader),
+        Ok(request) => run_telling(alloc, request, reader, errors),
         Err(failure) => Err(failure),
     };
     conclude(outcome, writer)
+}
+
+/// The whole output of a command. Where its input can't be read, a line in `errors` says why.
+fn run_telling<R: Read, E: Write>(
+    alloc: Global,
+    request: Request,
+    reader: &mut R,
+    errors: &mut E,
+) -> Result<Printed, Failure> {
+    let line = reason::input_of(&request);
+    let outcome = run_request(alloc, request, reader);
+    if let Err(Failure::Unreadable) = &outcome {
+        reason::tell(line, errors);
+    }
+    outcome
 }
 
 /// The whole output of a command. Those that open sockets have no machine here to open them on.
@@ -250,9 +272,10 @@ fn run_request<R: Read>(
     match request {
         Request::Answer(arguments) => commands::answer::run(alloc, &arguments),
         Request::Show(arguments) => commands::show::run(alloc, &arguments),
+        Request::Explain(arguments) => commands::explain::run(alloc, arguments, reader),
         Request::Check => commands::check::run(alloc, reader),
         Request::Sim => commands::sim::run(alloc, reader),
-        Request::Ask(_) | Request::Serve(_) | Request::Node(_) | Request::Loop(_) => Err(
+        Request::People(_) | Request::Serve(_) | Request::Node(_) | Request::Loop(_) => Err(
             Failure::Fault(Fault::Device),
         ),
     }

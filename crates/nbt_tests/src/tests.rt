@@ -1,6 +1,7 @@
 //! What `command` and `command_on` print, and how they end.
 
 use arrayvec::ArrayVec;
+use expect::expect_eq_in;
 use nbt_prog::command;
 use std::io;
 use std::io::{Read, Write};
@@ -9,13 +10,18 @@ use std::process::Abort;
 mod answer;
 mod check;
 mod datagrams;
+mod expect;
+mod explain;
 mod failures;
+mod hosts;
 mod lengths;
 mod looping;
 mod machine;
 mod messages;
+mod nbns;
 mod network;
 mod people;
+mod reasons;
 mod release;
 mod replies;
 mod serving;
@@ -115,6 +121,6 @@ fn expect_of_input<R: Abort + AllocGlobal, I: Read>(
 ) {
     let mut paper = LimitedWriter::new();
     let got = command(rt.alloc(), words, input, &mut paper);
-    assert_eq!(rt; paper.text.as_slice(), text, "{words:?}");
-    assert_eq!(rt; got, status, "{words:?}");
+    expect_eq_in(rt, &words, &paper.text.as_slice(), &text);
+    expect_eq_in(rt, &words, &got, &status);
 }

@@ -6,6 +6,7 @@ use std::test::Fail;
 
 mod calls;
 mod datagrams;
+mod expect;
 mod leases;
 mod names;
 mod node;

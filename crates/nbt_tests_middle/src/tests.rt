@@ -1,6 +1,7 @@
 //! One file for each subject.
 
 mod engine;
+mod expect;
 mod lines;
 mod ports;
 mod printing;

@@ -1,9 +1,12 @@
 //! One file for each subject.
 
+mod expect;
 mod explain;
 mod host;
+mod hosting;
 mod journal;
 mod lookups;
+mod nbns;
 mod replies;
 mod samba;
 mod spelling;

@@ -4,6 +4,7 @@
 //! is told by [`bad_time`], [`bad_port`], [`bad_number`] or [`bad_wait`], in the same text as other wrong usage.
 #![tactic(auto)]
 
+mod argument;
 mod network;
 mod people;
 mod program;
@@ -16,4 +17,7 @@ pub use network::{
 pub use people::{ONCE, PeopleCommand, TWICE, bad_wait};
 pub use program::{DGRAM, SESSION, bad_time, no_text};
 pub use refusal::{Refusal, Text};
-pub use words::{AnswerWords, AskWords, NodeWords, ServeWords, ShowWords, Words, read};
+pub use words::{
+    AnswerWords, AskWords, HostWords, NbnsWords, NodeWords, PeopleWords, ServeWords, ShowWords,
+    Words, read,
+};

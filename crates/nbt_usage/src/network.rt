@@ -5,10 +5,10 @@ ghost use Rattle.clap.specs.Words.{kind_of};
 ghost use Rattle.nbt_usage.specs.Limits.{least_of, most_of};
 ghost use Rattle.nbt_usage.specs.Refusal.{IsWrongUsage};
 
+use crate::argument::{Argument, Description, Form, Presence, command_of};
 use crate::refusal::Refusal;
-use clap::builder::ValueParser;
+use clap::Error;
 use clap::error::ErrorKind;
-use clap::{Arg, ArgAction, Command, Error};
 use nbt_lease::{LIFE_MOST, LONGEST_MOST};
 use std::alloc::{AllocError, Global};
 
@@ -118,102 +118,115 @@ pub const FOREVER: &str = "forever";
 /// The argument that names the first of three ports.
 pub const PORT: &str = "port";
 
+const BIND_ARGUMENT: Argument = Argument {
+    name: BIND,
+    form: Form::Word("BIND"),
+    presence: Presence::Needed,
+    help: "The own address and port, as A.B.C.D:PORT in decimal with no leading zeros; for port 0 the system chooses one, which is not printed",
+};
+
+const SERVER_ARGUMENT: Argument = Argument {
+    name: SERVER,
+    form: Form::Word("SERVER"),
+    presence: Presence::Needed,
+    help: "The name server's address and port",
+};
+
+const LIFE_ARGUMENT: Argument = Argument {
+    name: LIFE,
+    form: Form::Word("LIFE"),
+    presence: Presence::Needed,
+    help: "The greatest life of a datagram, in milliseconds: from 1 to 60000",
+};
+
+const LONGEST_ARGUMENT: Argument = Argument {
+    name: LONGEST,
+    form: Form::Word("LONGEST"),
+    presence: Presence::Needed,
+    help: "The longest lease, in seconds: from 1 to 1000000",
+};
+
+const NAME_ARGUMENT: Argument = Argument {
+    name: NAME,
+    form: Form::Word("NAME"),
+    presence: Presence::Needed,
+    help: "The name to be asked for: as text, or 32 hexadecimal digits, and `.` before each label of its scope",
+};
+
+const KIND_ARGUMENT: Argument = Argument {
+    name: KIND,
+    form: Form::Choice("KIND", &KINDS),
+    presence: Presence::Needed,
+    help: "Who may hold the name: one machine, or a group",
+};
+
+const TTL_ARGUMENT: Argument = Argument {
+    name: TTL,
+    form: Form::Word("TTL"),
+    presence: Presence::Needed,
+    help: "The seconds to ask for: 0, as long as may be, to 4294967295",
+};
+
+const TURNS_ARGUMENT: Argument = Argument {
+    name: TURNS,
+    form: Form::Word("TURNS"),
+    presence: Presence::InsteadOf(FOREVER),
+    help: "How many turns: from 1 to 1000000",
+};
+
+const FOREVER_ARGUMENT: Argument = Argument {
+    name: FOREVER,
+    form: Form::Flag,
+    presence: Presence::Free,
+    help: "Goes on until a signal ends it, in place of TURNS",
+};
+
+const PORT_ARGUMENT: Argument = Argument {
+    name: PORT,
+    form: Form::Word("PORT"),
+    presence: Presence::Needed,
+    help: "The first of three ports in a row: from 1 to 65533",
+};
+
 /// The command that runs a server.
-pub fn serve_command<'a>(alloc: Global) -> Result<Command<'a>, AllocError> {
-    Command::new(alloc, SERVE)
-        .about(SERVE_ABOUT)
-        .after_help(SERVE_HELP)
-        .arg(bind(alloc))?
-        .arg(life(alloc))?
-        .arg(longest(alloc))?
-        .arg(turns(alloc)?)?
-        .arg(forever(alloc))
-}
+pub const SERVE_COMMAND: Description = Description {
+    name: SERVE,
+    about: SERVE_ABOUT,
+    help: SERVE_HELP,
+    arguments: &[
+        BIND_ARGUMENT,
+        LIFE_ARGUMENT,
+        LONGEST_ARGUMENT,
+        TURNS_ARGUMENT,
+        FOREVER_ARGUMENT,
+    ],
+};
 
 /// The command that runs an end node.
-pub fn node_command<'a>(alloc: Global) -> Result<Command<'a>, AllocError> {
-    let command = Command::new(alloc, NODE)
-        .about(NODE_ABOUT)
-        .after_help(NODE_HELP);
-    let command = with_ends(alloc, command)?;
-    let command = with_claim(alloc, command)?;
-    command.arg(turns(alloc)?)?.arg(forever(alloc))
-}
-
-/// With the node's address, its server's, and the limits that they share.
-fn with_ends<'a>(alloc: Global, command: Command<'a>) -> Result<Command<'a>, AllocError> {
-    let server = Arg::new(alloc, SERVER)
-        .value_name("SERVER")
-        .required(true)
-        .help("The name server's address and port");
-    command
-        .arg(bind(alloc))?
-        .arg(server)?
-        .arg(life(alloc))?
-        .arg(longest(alloc))
-}
-
-/// With the name that is asked for, as which kind, and for how long.
-fn with_claim<'a>(alloc: Global, command: Command<'a>) -> Result<Command<'a>, AllocError> {
-    let name = Arg::new(alloc, NAME).value_name("NAME").required(true).help(
-        "The name to be asked for: as text, or 32 hexadecimal digits, and `.` before each label of its scope",
-    );
-    let kind = Arg::new(alloc, KIND)
-        .value_name("KIND")
-        .required(true)
-        .value_parser(ValueParser::Names(&KINDS))
-        .help("Who may hold the name: one machine, or a group");
-    let ttl = Arg::new(alloc, TTL).value_name("TTL").required(true).help(
-        "The seconds to ask for: 0, as long as may be, to 4294967295",
-    );
-    command.arg(name)?.arg(kind)?.arg(ttl)
-}
+pub const NODE_COMMAND: Description = Description {
+    name: NODE,
+    about: NODE_ABOUT,
+    help: NODE_HELP,
+    arguments: &[
+        BIND_ARGUMENT,
+        SERVER_ARGUMENT,
+        LIFE_ARGUMENT,
+        LONGEST_ARGUMENT,
+        NAME_ARGUMENT,
+        KIND_ARGUMENT,
+        TTL_ARGUMENT,
+        TURNS_ARGUMENT,
+        FOREVER_ARGUMENT,
+    ],
+};
 
 /// The command that runs a server and two nodes.
-pub fn loop_command<'a>(alloc: Global) -> Result<Command<'a>, AllocError> {
-    let port = Arg::new(alloc, PORT)
-        .value_name("PORT")
-        .required(true)
-        .help("The first of three ports in a row: from 1 to 65533");
-    Command::new(alloc, LOOP)
-        .about(LOOP_ABOUT)
-        .after_help(LOOP_HELP)
-        .arg(port)
-}
-
-fn bind<'a>(alloc: Global) -> Arg<'a> {
-    Arg::new(alloc, BIND).value_name("BIND").required(true).help(
-        "The own address and port, as A.B.C.D:PORT in decimal with no leading zeros; for port 0 the system chooses one, which is not printed",
-    )
-}
-
-fn life<'a>(alloc: Global) -> Arg<'a> {
-    Arg::new(alloc, LIFE).value_name("LIFE").required(true).help(
-        "The greatest life of a datagram, in milliseconds: from 1 to 60000",
-    )
-}
-
-fn longest<'a>(alloc: Global) -> Arg<'a> {
-    Arg::new(alloc, LONGEST)
-        .value_name("LONGEST")
-        .required(true)
-        .help("The longest lease, in seconds: from 1 to 1000000")
-}
-
-fn turns<'a>(alloc: Global) -> Result<Arg<'a>, AllocError> {
-    Arg::new(alloc, TURNS)
-        .value_name("TURNS")
-        .help("How many turns: from 1 to 1000000")
-        .conflicts_with(FOREVER)?
-        .required_unless_present(FOREVER)
-}
-
-fn forever<'a>(alloc: Global) -> Arg<'a> {
-    Arg::new(alloc, FOREVER)
-        .long("forever")
-        .action(ArgAction::SetTrue)
-        .help("Goes on until a signal ends it, in place of TURNS")
-}
+pub const LOOP_COMMAND: Description = Description {
+    name: LOOP,
+    about: LOOP_ABOUT,
+    help: LOOP_HELP,
+    arguments: &[PORT_ARGUMENT],
+};
 
 /// Which of the commands.
 #[derive(Clone, Copy, Debug, PartialEq, Eq)]
@@ -271,7 +284,7 @@ fn bad_port_error(alloc: Global, value: &str) -> Result<Error, AllocError>
     let message = format!(in alloc;
         "invalid value '{value}' for '<PORT>': not a whole number from 1 to 65533"
     )?;
-    let mut command = loop_command(alloc)?.bin_name("nbt loop")?;
+    let mut command = command_of(alloc, &LOOP_COMMAND)?.bin_name("nbt loop")?;
     command.error(ErrorKind::ValueValidation, message.as_str())
 }
 
@@ -310,8 +323,8 @@ fn bad_number_error(
         "invalid value '{value}' for '<{label}>': not a whole number from {least} to {most}"
     )?;
     let mut command = match which {
-        NetworkCommand::Server => serve_command(alloc)?.bin_name("nbt serve")?,
-        NetworkCommand::Node => node_command(alloc)?.bin_name("nbt node")?,
+        NetworkCommand::Server => command_of(alloc, &SERVE_COMMAND)?.bin_name("nbt serve")?,
+        NetworkCommand::Node => command_of(alloc, &NODE_COMMAND)?.bin_name("nbt node")?,
     };
     command.error(ErrorKind::ValueValidation, message.as_str())
 }

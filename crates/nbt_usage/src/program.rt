@@ -4,19 +4,19 @@ ghost use Rattle.std.specs.Prelude.{◌≡◌, IfOk};
 ghost use Rattle.clap.specs.Words.{kind_of};
 ghost use Rattle.nbt_usage.specs.Refusal.{IsWrongUsage};
 
+use crate::argument::{Argument, Description, Form, Presence, command_of, with_commands};
 use crate::refusal::Refusal;
 use crate::{network, people};
-use clap::builder::ValueParser;
 use clap::error::ErrorKind;
-use clap::{Arg, Command, Error};
+use clap::{Command, Error};
 use std::alloc::{AllocError, Global};
 
 const ABOUT: &str =
     "NetBIOS over TCP and UDP, as RFC 1001 and RFC 1002 specify it: names, and the packets of the name service";
 
 const PROGRAM_HELP: &str = "\
-`lookup` and `status` are for people who run a network. The others are a bench on which the protocol is tried: their words and
-texts are fixed.
+`lookup`, `status`, `nbns` and `host` are for people who run a network. The others are a bench on which the protocol is tried:
+their words and texts are fixed.
 
 Examples:
   nbt lookup FILER --server 192.0.2.1
@@ -26,10 +26,10 @@ Exit status:
   0  done
   1  an address, a hexadecimal text or the input can't be read (prints `unreadable`), or octets are refused; of `lookup` and
      `status`: not found
-  2  wrong usage; of `lookup` and `status` also a word that can't be read
+  2  wrong usage; of the commands for people also a word that can't be read
   3  input or output failed; prints `device` where it can
   4  an allocation was refused; prints `memory`
-  5  no reply, of `lookup` and `status`";
+  5  of `lookup` and `status`: no reply; of `host`: a name wasn't held at the end";
 
 const ANSWER_ABOUT: &str =
     "Answers one packet to the name service, as a new server would, and prints the reply in hexadecimal";
@@ -71,8 +71,9 @@ Of a session's stream it prints a line for each packet: `message N HEX` with N o
 which begin with no whole packet. Where these have a fault, `fault WORD at PLACE` stands in place of the rest, and PLACE
 counts from the first of them.
 
-Example:
+Examples:
   nbt show name 0001290000010000000000012045474643454645454341434143414341434143414341434143414341434143410000200001c00c002000010000003c000620007f000002
+  nbt show session --explain '85:00:00:00 83:00:00:01 82'
 
 Exit status:
   0  done
@@ -173,95 +174,100 @@ const KINDS: [&str; 3] = ["name", DGRAM, SESSION];
 /// The option that tells the time.
 pub const AT: &str = "at";
 
+/// The option that explains the octets.
+pub const EXPLAIN: &str = "explain";
+
+const ANSWER_COMMAND: Description = Description {
+    name: ANSWER,
+    about: ANSWER_ABOUT,
+    help: ANSWER_HELP,
+    arguments: &[
+        Argument {
+            name: FROM,
+            form: Form::Word("FROM"),
+            presence: Presence::Needed,
+            help: "The packet's sender, as A.B.C.D:PORT in decimal with no leading zeros",
+        },
+        Argument {
+            name: HEX,
+            form: Form::Word("HEX"),
+            presence: Presence::Needed,
+            help: "The packet: an even number of hexadecimal digits of either case, or none",
+        },
+        Argument {
+            name: AT,
+            form: Form::Option("MS"),
+            presence: Presence::Default("60000"),
+            help: "The time, in milliseconds since the server began: from 0 to 1152921504606846976",
+        },
+    ],
+};
+
+const SHOW_COMMAND: Description = Description {
+    name: SHOW,
+    about: SHOW_ABOUT,
+    help: SHOW_HELP,
+    arguments: &[
+        Argument {
+            name: KIND,
+            form: Form::Choice("KIND", &KINDS),
+            presence: Presence::Needed,
+            help: "The octets' service",
+        },
+        Argument {
+            name: HEX,
+            form: Form::Word("HEX"),
+            presence: Presence::Needed,
+            help: "The octets: an even number of hexadecimal digits of either case, or none",
+        },
+        Argument {
+            name: EXPLAIN,
+            form: Form::Flag,
+            presence: Presence::Free,
+            help: "Then says the same in the words that Wireshark uses; HEX may have colons, spaces and newlines, and - reads it from standard input",
+        },
+    ],
+};
+
+const CHECK_COMMAND: Description = Description {
+    name: CHECK,
+    about: CHECK_ABOUT,
+    help: CHECK_HELP,
+    arguments: &[],
+};
+
+const SIM_COMMAND: Description = Description {
+    name: SIM,
+    about: SIM_ABOUT,
+    help: SIM_HELP,
+    arguments: &[],
+};
+
+/// The commands, in the order of the help: those for people who run a network first.
+const COMMANDS: [Description; 11] = [
+    people::LOOKUP_COMMAND,
+    people::STATUS_COMMAND,
+    people::NBNS_COMMAND,
+    people::HOST_COMMAND,
+    ANSWER_COMMAND,
+    SHOW_COMMAND,
+    CHECK_COMMAND,
+    SIM_COMMAND,
+    network::SERVE_COMMAND,
+    network::NODE_COMMAND,
+    network::LOOP_COMMAND,
+];
+
 /// The program with each of its commands.
 pub fn program<'a>(alloc: Global) -> Result<Command<'a>, AllocError> {
-    let program = with_people(alloc, without_commands(alloc)?)?;
-    let program = with_values(alloc, program)?;
-    with_network(alloc, program)
-}
-
-fn without_commands<'a>(alloc: Global) -> Result<Command<'a>, AllocError> {
-    Ok(
-        Command::new(alloc, "nbt")
-            .bin_name("nbt")?
-            .version("0.1.0")
-            .about(ABOUT)
-            .after_help(PROGRAM_HELP)
-            .subcommand_required(true)
-            .arg_required_else_help(true),
-    )
-}
-
-/// Adds the commands for people who run a network.
-fn with_people<'a>(alloc: Global, program: Command<'a>) -> Result<Command<'a>, AllocError> {
-    program
-        .subcommand(people::lookup_command(alloc)?)?
-        .subcommand(people::status_command(alloc)?)
-}
-
-/// Adds the commands that read and print, and use no network.
-fn with_values<'a>(alloc: Global, program: Command<'a>) -> Result<Command<'a>, AllocError> {
-    program
-        .subcommand(answer_command(alloc)?)?
-        .subcommand(show_command(alloc)?)?
-        .subcommand(check_command(alloc))?
-        .subcommand(sim_command(alloc))
-}
-
-/// Adds the commands over this machine's sockets.
-fn with_network<'a>(alloc: Global, program: Command<'a>) -> Result<Command<'a>, AllocError> {
-    program
-        .subcommand(network::serve_command(alloc)?)?
-        .subcommand(network::node_command(alloc)?)?
-        .subcommand(network::loop_command(alloc)?)
-}
-
-fn answer_command<'a>(alloc: Global) -> Result<Command<'a>, AllocError> {
-    let from = Arg::new(alloc, FROM).value_name("FROM").required(true).help(
-        "The packet's sender, as A.B.C.D:PORT in decimal with no leading zeros",
-    );
-    let hex = Arg::new(alloc, HEX).value_name("HEX").required(true).help(
-        "The packet: an even number of hexadecimal digits of either case, or none",
-    );
-    let at = Arg::new(alloc, AT)
-        .long("at")
-        .value_name("MS")
-        .default_value("60000")
-        .help("The time, in milliseconds since the server began: from 0 to 1152921504606846976");
-    Command::new(alloc, ANSWER)
-        .about(ANSWER_ABOUT)
-        .after_help(ANSWER_HELP)
-        .arg(from)?
-        .arg(hex)?
-        .arg(at)
-}
-
-fn show_command<'a>(alloc: Global) -> Result<Command<'a>, AllocError> {
-    let kind = Arg::new(alloc, KIND)
-        .value_name("KIND")
-        .required(true)
-        .value_parser(ValueParser::Names(&KINDS))
-        .help("The octets' service");
-    let hex = Arg::new(alloc, HEX).value_name("HEX").required(true).help(
-        "The octets: an even number of hexadecimal digits of either case, or none",
-    );
-    Command::new(alloc, SHOW)
-        .about(SHOW_ABOUT)
-        .after_help(SHOW_HELP)
-        .arg(kind)?
-        .arg(hex)
-}
-
-fn check_command<'a>(alloc: Global) -> Command<'a> {
-    Command::new(alloc, CHECK)
-        .about(CHECK_ABOUT)
-        .after_help(CHECK_HELP)
-}
-
-fn sim_command<'a>(alloc: Global) -> Command<'a> {
-    Command::new(alloc, SIM)
-        .about(SIM_ABOUT)
-        .after_help(SIM_HELP)
+    let program = Command::new(alloc, "nbt")
+        .bin_name("nbt")?
+        .version("0.1.0")
+        .about(ABOUT)
+        .after_help(PROGRAM_HELP)
+        .subcommand_required(true)
+        .arg_required_else_help(true);
+    with_commands(alloc, program, &COMMANDS)
 }
 
 /// The refusal of a time that is not as the help says, with clap's own text around it, or the one of memory.
@@ -280,7 +286,7 @@ fn bad_time_error(alloc: Global, value: &str) -> Result<Error, AllocError>
     let message = format!(in alloc;
         "invalid value '{value}' for '--at <MS>': not a whole number from 0 to 1152921504606846976"
     )?;
-    let mut command = answer_command(alloc)?.bin_name("nbt answer")?;
+    let mut command = command_of(alloc, &ANSWER_COMMAND)?.bin_name("nbt answer")?;
     command.error(ErrorKind::ValueValidation, message.as_str())
 }
 

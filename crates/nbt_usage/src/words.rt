@@ -1,14 +1,14 @@
 //! The words of each command, by their names.
 
-ghost use Rattle.std.specs.Prelude.{◌≡◌, true, false, None, Some, codes};
+ghost use Rattle.std.specs.Prelude.{◌≡◌, true, false, None, Some, IfOk, codes, map};
 ghost use Rattle.std.specs.Option.{option_map};
-ghost use Rattle.nbt_usage.specs.Inner.Words.{IsFlag, argument_of};
+ghost use Rattle.nbt_usage.specs.Inner.Words.{IsFlag, argument_of, arguments_of, value_of};
 
 use crate::refusal::Refusal;
 use crate::{network, people, program};
 use clap::ArgMatches;
 use clap::error::ErrorKind;
-use std::alloc::Global;
+use std::alloc::{AllocError, Global};
 use std::convert::AsStr;
 
 /// The words of `answer`.
@@ -29,6 +29,8 @@ pub struct ShowWords<'a> {
     pub kind: &'a str,
     /// The octets.
     pub hex: &'a str,
+    /// Whether they are explained too.
+    pub explain: bool,
 }
 
 /// The words of `serve`.
@@ -84,11 +86,64 @@ pub struct AskWords<'a> {
     pub bind: &'a str,
 }
 
-/// A command, with its words.
+/// The words of `nbns`.
 #[derive(Clone, Copy, Debug)]
-pub enum Words<'a> {
+pub struct NbnsWords<'a> {
+    /// The own address.
+    pub bind: &'a str,
+    /// The greatest life of a datagram.
+    pub life: &'a str,
+    /// The longest lease.
+    pub longest: &'a str,
+    /// After which time it ends; `None` where it has no end.
+    pub time: Option<&'a str>,
+    /// Whether it logs.
+    pub log: bool,
+    /// The path of the list of leases, if there is to be one.
+    pub leases: Option<&'a str>,
+    /// Whether Samba's registrations are left as they are.
+    pub strict: bool,
+}
+
+/// The words of `host`.
+#[derive(Debug, Drop)]
+pub struct HostWords<'a> {
+    /// The names to be held by this machine alone.
+    pub names: Vec<&'a str>,
+    /// The names to be held as groups.
+    pub groups: Vec<&'a str>,
+    /// The scope of all; nothing where there is none.
+    pub scope: &'a str,
+    /// Whether small letters stay as they are.
+    pub exact: bool,
+    /// The name server's address.
+    pub server: &'a str,
+    /// The own address.
+    pub bind: &'a str,
+    /// The greatest life of a datagram.
+    pub life: &'a str,
+    /// The longest lease.
+    pub longest: &'a str,
+    /// After which time it ends; `None` where it has no end.
+    pub time: Option<&'a str>,
+    /// Whether it logs renewals too.
+    pub log: bool,
+}
+
+/// A command for people who run a network, with its words.
+#[derive(Debug, Drop)]
+pub enum PeopleWords<'a> {
     Lookup(AskWords<'a>),
     Status(AskWords<'a>),
+    Nbns(NbnsWords<'a>),
+    Host(HostWords<'a>),
+}
+
+/// A command, with its words.
+#[derive(Debug, Drop)]
+pub enum Words<'a> {
+    /// Of those for people who run a network.
+    People(PeopleWords<'a>),
     Answer(AnswerWords<'a>),
     Show(ShowWords<'a>),
     Check,
@@ -104,7 +159,7 @@ pub fn read<'a, S: AsStr>(alloc: Global, words: &'a [S]) -> Result<Words<'a>, Re
     let mut program = program::program(alloc)?;
     let matches = program.try_get_matches_from_mut(words)?;
     let found = match matches.subcommand() {
-        Some((name, inner)) => words_of(name, inner),
+        Some((name, inner)) => words_of(alloc, name, inner)?,
         None => None,
     };
     match found {
@@ -117,10 +172,36 @@ pub fn read<'a, S: AsStr>(alloc: Global, words: &'a [S]) -> Result<Words<'a>, Re
 }
 
 /// The command of this name, with its words; `None` where there is none of that name.
-fn words_of<'a>(name: &str, matches: &ArgMatches<'a>) -> Option<Words<'a>> {
+fn words_of<'a>(
+    alloc: Global,
+    name: &str,
+    matches: &ArgMatches<'a>,
+) -> Result<Option<Words<'a>>, AllocError> {
+    if let Some(words) = people_words(alloc, name, matches)? {
+        return Ok(Some(Words::People(words)));
+    }
+    Ok(bench_words(name, matches))
+}
+
+/// Of the commands for people who run a network.
+fn people_words<'a>(
+    alloc: Global,
+    name: &str,
+    matches: &ArgMatches<'a>,
+) -> Result<Option<PeopleWords<'a>>, AllocError> {
+    let words = match name {
+        people::LOOKUP => PeopleWords::Lookup(ask_words(matches, network::SERVER)),
+        people::STATUS => PeopleWords::Status(ask_words(matches, people::HOST)),
+        people::NBNS => PeopleWords::Nbns(nbns_words(matches)),
+        people::HOST => PeopleWords::Host(host_words(alloc, matches)?),
+        _ => return Ok(None),
+    };
+    Ok(Some(words))
+}
+
+/// Of the commands of the bench.
+fn bench_words<'a>(name: &str, matches: &ArgMatches<'a>) -> Option<Words<'a>> {
     match name {
-        people::LOOKUP => Some(Words::Lookup(ask_words(matches, network::SERVER))),
-        people::STATUS => Some(Words::Status(ask_words(matches, people::HOST))),
         program::ANSWER => Some(Words::Answer(answer_words(matches))),
         program::SHOW => Some(Words::Show(show_words(matches))),
         program::CHECK => Some(Words::Check),
@@ -154,6 +235,73 @@ fn ask_words<'a>(matches: &ArgMatches<'a>, to: &str) -> AskWords<'a>
     }
 }
 
+fn nbns_words<'a>(matches: &ArgMatches<'a>) -> NbnsWords<'a>
+    ensures bind { result.bind.now ≡ argument_of matches.now (codes "bind") }
+    ensures life { result.life.now ≡ argument_of matches.now (codes "life") }
+    ensures longest { result.longest.now ≡ argument_of matches.now (codes "longest") }
+    ensures time { option_map (λ text. text.now) result.time ≡ value_of matches.now (codes "for") }
+    ensures logs { IsFlag matches.now (codes "log") true → result.log ≡ true }
+    ensures silent { IsFlag matches.now (codes "log") false → result.log ≡ false }
+    ensures leases { option_map (λ text. text.now) result.leases ≡ value_of matches.now (codes "leases") }
+    ensures strict { IsFlag matches.now (codes "strict") true → result.strict ≡ true }
+    ensures lax { IsFlag matches.now (codes "strict") false → result.strict ≡ false }
+{
+    NbnsWords {
+        bind: argument(matches, network::BIND),
+        life: argument(matches, network::LIFE),
+        longest: argument(matches, network::LONGEST),
+        time: matches.get_str(people::FOR),
+        log: matches.get_flag(people::LOG),
+        leases: matches.get_str(people::LEASES),
+        strict: matches.get_flag(people::STRICT),
+    }
+}
+
+fn host_words<'a>(alloc: Global, matches: &ArgMatches<'a>) -> Result<HostWords<'a>, AllocError>
+    ensures names { IfOk result (λ words. map (λ text. text.now) words.names.items ≡ arguments_of matches.now (codes "name")) }
+    ensures groups { IfOk result (λ words. map (λ text. text.now) words.groups.items ≡ arguments_of matches.now (codes "group")) }
+    ensures scope { IfOk result (λ words. words.scope.now ≡ argument_of matches.now (codes "scope")) }
+    ensures exact { IsFlag matches.now (codes "exact") true → IfOk result (λ words. words.exact ≡ true) }
+    ensures folded { IsFlag matches.now (codes "exact") false → IfOk result (λ words. words.exact ≡ false) }
+    ensures server { IfOk result (λ words. words.server.now ≡ argument_of matches.now (codes "server")) }
+    ensures bind { IfOk result (λ words. words.bind.now ≡ argument_of matches.now (codes "bind")) }
+    ensures life { IfOk result (λ words. words.life.now ≡ argument_of matches.now (codes "life")) }
+    ensures longest { IfOk result (λ words. words.longest.now ≡ argument_of matches.now (codes "longest")) }
+    ensures time { IfOk result (λ words. option_map (λ text. text.now) words.time ≡ value_of matches.now (codes "for")) }
+    ensures logs { IsFlag matches.now (codes "log") true → IfOk result (λ words. words.log ≡ true) }
+    ensures silent { IsFlag matches.now (codes "log") false → IfOk result (λ words. words.log ≡ false) }
+{
+    let names = arguments(alloc, matches, network::NAME)?;
+    let groups = arguments(alloc, matches, network::GROUP)?;
+    Ok(HostWords {
+        names,
+        groups,
+        scope: argument(matches, people::SCOPE),
+        exact: matches.get_flag(people::EXACT),
+        server: argument(matches, network::SERVER),
+        bind: argument(matches, network::BIND),
+        life: argument(matches, network::LIFE),
+        longest: argument(matches, network::LONGEST),
+        time: matches.get_str(people::FOR),
+        log: matches.get_flag(people::LOG),
+    })
+}
+
+/// The texts of an argument that may come again, in order.
+fn arguments<'a>(
+    alloc: Global,
+    matches: &ArgMatches<'a>,
+    name: &str,
+) -> Result<Vec<&'a str>, AllocError>
+    ensures { IfOk result (λ texts. map (λ text. text.now) texts.items ≡ arguments_of matches.now name.now) }
+{
+    let mut texts = Vec::new(alloc);
+    if let Some(found) = matches.get_strs(name) {
+        texts.extend_from_slice(found)?;
+    }
+    Ok(texts)
+}
+
 fn answer_words<'a>(matches: &ArgMatches<'a>) -> AnswerWords<'a>
     ensures from { result.from.now ≡ argument_of matches.now (codes "from") }
     ensures hex { result.hex.now ≡ argument_of matches.now (codes "hex") }
@@ -169,10 +317,13 @@ fn answer_words<'a>(matches: &ArgMatches<'a>) -> AnswerWords<'a>
 fn show_words<'a>(matches: &ArgMatches<'a>) -> ShowWords<'a>
     ensures kind { result.kind.now ≡ argument_of matches.now (codes "kind") }
     ensures hex { result.hex.now ≡ argument_of matches.now (codes "hex") }
+    ensures explained { IsFlag matches.now (codes "explain") true → result.explain ≡ true }
+    ensures plain { IsFlag matches.now (codes "explain") false → result.explain ≡ false }
 {
     ShowWords {
         kind: argument(matches, program::KIND),
         hex: argument(matches, program::HEX),
+        explain: matches.get_flag(program::EXPLAIN),
     }
 }
 

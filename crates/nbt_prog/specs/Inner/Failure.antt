@@ -1,24 +1,25 @@
 -- What each failure means for the program, and which failure an error of a library is.
-use Rattle.std.specs.Prelude.{◌≡◌, ℕ, List, [], Option, Some, None, codes}
-use Rattle.std.specs.String.{string_bytes}
+use Rattle.std.specs.Prelude.{◌≡◌, ◌≢◌, ◌⊎◌, ℕ, List, [], Option, Some, None, Ok, codes}
+use Rattle.hex.specs.Hex.{decode_of}
+use Rattle.nbt_explain.specs.Digits.{digits_in}
 use Rattle.nbt_usage.specs.declared.refusal.Refusal.{Refusal}
 use Rattle.nbt_usage.specs.declared.refusal.Refusal.TheVariants as refusal
 use Rattle.hex.specs.declared.error.FromHexError.{FromHexError}
 use Rattle.hex.specs.declared.error.FromHexError.TheVariants as hex_error
 use Rattle.nbt_engine.specs.Faults.{fault_status, fault_line}
 use Rattle.nbt_engine.specs.declared.fault.Fault.TheVariants.{Memory}
+use Rattle.nbt_people.specs.declared.failure.Failure.{Failure as PeopleFailure}
+use Rattle.nbt_people.specs.declared.failure.Failure.TheVariants as people
 use Rattle.nbt_text.specs.Lines.{one_line}
 use Rattle.nbt_prog.specs.declared.failure.Failure.{Failure}
-use Rattle.nbt_prog.specs.declared.failure.Failure.TheVariants.{Help, Usage, Unreadable, Word, Fault}
-use Rattle.nbt_prog.specs.declared.failure.BadWord.{BadWord}
-use Rattle.nbt_prog.specs.declared.failure.WordFault.{WordFault}
+use Rattle.nbt_prog.specs.declared.failure.Failure.TheVariants.{Help, Usage, Unreadable, Words, Fault}
 
 -- the status with which the program ends
 abbrev pub failure_status : Failure → ℕ
 failure_status (Help _) = 0
 failure_status (Usage _) = 2
 failure_status Unreadable = 1
-failure_status (Word _) = 2
+failure_status (Words _) = 2
 failure_status (Fault fault) = fault_status fault
 
 -- an allocation was refused
@@ -36,18 +37,20 @@ abbrev pub failure_of_hex : FromHexError → Failure
 failure_of_hex hex_error.OutOfMemory = out_of_memory
 failure_of_hex _ = Unreadable
 
--- it tells of this word, and that this is wrong with it
-pub record TellsWord (text : List ℕ) (fault : WordFault) (failure : Failure) : Type 0 where
-  pub bad : BadWord
-  pub failure_is : failure ≡ Word bad
-  pub word_is : string_bytes bad.word ≡ text
-  pub fault_is : bad.fault ≡ fault
+-- the failure of a command for people, which is its own
+abbrev pub failure_of_people : PeopleFailure → Failure
+failure_of_people (people.Usage text) = Usage text
+failure_of_people (people.Words complaint) = Words complaint
+failure_of_people people.Memory = out_of_memory
 
--- All that is printed at a failure: of help and wrong usage a text of which nothing is said; of a word that can't be read nothing,
--- since standard error tells of it.
+-- All that is printed at a failure: of help and wrong usage a text of which nothing is said; nothing of what standard error tells.
 abbrev pub failure_text : Failure → Option (List ℕ)
 failure_text (Help _) = None
 failure_text (Usage _) = None
-failure_text (Word _) = Some []
+failure_text (Words _) = Some []
 failure_text Unreadable = Some (one_line (codes "unreadable"))
 failure_text (Fault fault) = Some (fault_line fault)
+
+-- the text, without what may stand between its digits, spells no octets
+abbrev pub DigitsFail : List ℕ → Failure → Type 0
+DigitsFail text failure = (failure ≡ out_of_memory) ⊎ (((octets : List ℕ) → decode_of (digits_in text) ≢ Ok octets) × (failure ≡ Unreadable))

@@ -1,5 +1,6 @@
 //! Writers and readers that fail, and memory that is refused.
 
+use super::expect::{expect, expect_eq, expect_eq_in, expect_in};
 use super::terminal::words_of;
 use super::{LimitedWriter, expect_of_input};
 use nbt_prog::command;
@@ -27,29 +28,30 @@ fn a_writer_that_fails(rt: HostRuntime) {
         for calls in 0..text.len() {
             let mut paper = LimitedWriter::short(calls);
             let status = command(rt.alloc(), words.as_slice(), &mut io::empty(), &mut paper);
-            assert_eq!(rt; status, 3, "{line} cut at {calls}");
-            assert_eq!(rt;
-                paper.text.as_slice(),
-                &text[..calls],
-                "{line} cut at {calls}"
+            expect_eq_in(&rt, &(&line, &calls), &status, &3);
+            expect_eq_in(
+                &rt,
+                &(&line, &calls),
+                &paper.text.as_slice(),
+                &&text[..calls],
             );
         }
         let mut paper = LimitedWriter::stuck();
         let status = command(rt.alloc(), words.as_slice(), &mut io::empty(), &mut paper);
-        assert_eq!(rt; status, 3, "{line}");
-        assert_eq!(rt; paper.text.as_slice(), text, "{line}");
+        expect_eq_in(&rt, &line, &status, &3);
+        expect_eq_in(&rt, &line, &paper.text.as_slice(), &text);
     }
     let mut paper = LimitedWriter::short(0);
     let status = command(rt.alloc(), &["nbt", "--help"], &mut io::empty(), &mut paper);
-    assert_eq!(rt; status, 3);
-    assert!(rt; paper.text.is_empty());
+    expect_eq(&rt, &status, &3);
+    expect(&rt, paper.text.is_empty());
 }
 
 /// So many spaces, and then the end or an error.
 #[derive(Drop)]
-struct Spaces {
-    left: usize,
-    fails: bool,
+pub struct Spaces {
+    pub left: usize,
+    pub fails: bool,
 }
 
 impl Read for Spaces {
@@ -147,16 +149,17 @@ fn memory_that_is_refused(rt: HostRuntime) {
         let got = command(rt.alloc(), words, &mut reader, &mut paper);
         let text = paper.text.as_slice();
         if got == 4 {
-            assert_eq!(rt; text, b"memory\n".as_slice(), "{words:?}");
+            expect_eq_in(&rt, &words, &text, &b"memory\n".as_slice());
         } else {
-            assert_eq!(rt; got, status, "{words:?}");
+            expect_eq_in(&rt, &words, &got, &status);
             // A text that ends with a line's end is all that is printed.
-            assert!(rt;
+            expect_in(
+                &rt,
+                &words,
                 starts.iter().any(|start| text == *start
                     || (!start.ends_with(b"\n")
                         && text.starts_with(start)
                         && text.ends_with(b"\n"))),
-                "{words:?}"
             );
         }
     }

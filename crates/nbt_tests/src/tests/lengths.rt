@@ -1,5 +1,6 @@
 //! Octets and lines as many as may come: memory is there for all of them.
 
+use super::expect::{expect_eq_in, expect_in};
 use nbt_prog::command;
 use std::process::Abort;
 
@@ -117,8 +118,8 @@ fn expect_row<R: Abort + AllocGlobal>(rt: &R, row: &Row) {
     let status = command(rt.alloc(), words.as_slice(), &mut reader, &mut printed);
     let text = text_of(rt, &row.text);
     let message = row.words;
-    assert_eq!(rt; status, 0, "{message:?}");
-    assert!(rt; printed.as_slice() == text.as_bytes(), "{message:?}");
+    expect_eq_in(rt, &message, &status, &0);
+    expect_in(rt, &message, printed.as_slice() == text.as_bytes());
 }
 
 #[test]

@@ -1,6 +1,7 @@
 //! The command `loop`, over the sockets of this machine.
 
 use super::LimitedWriter;
+use super::expect::{expect, expect_eq, expect_eq_in};
 use super::machine::WithoutMemory;
 use super::street::{Luck, Street};
 use super::terminal::words_of;
@@ -14,6 +15,7 @@ use std::io::Write;
 use std::net::{IpAddr, Ipv4Addr, Net, SocketAddr, TcpListener, TcpStream, UdpSocket};
 use std::process::Abort;
 use std::rc::Rc;
+use std::rt::Files;
 use std::test::Fail;
 use std::time::{Clock, Duration};
 
@@ -40,9 +42,9 @@ fn a_server_and_two_nodes_twice_in_a_row(rt: HostRuntime) {
         let mut paper = LimitedWriter::new();
         let words = ["nbt", "loop", "21037"];
         let status = command_on(&rt, rt.alloc(), &words, &mut io::empty(), &mut paper);
-        assert_eq!(rt; paper.text.as_slice(), TOLD.as_bytes());
-        assert_eq!(rt; status, 0);
-        assert!(rt; paper.is_line_by_line());
+        expect_eq(&rt, &paper.text.as_slice(), &TOLD.as_bytes());
+        expect_eq(&rt, &status, &0);
+        expect(&rt, paper.is_line_by_line());
     }
 }
 
@@ -51,8 +53,8 @@ fn without_a_network(rt: HostRuntime) {
     let mut paper = LimitedWriter::new();
     let words = ["nbt", "loop", "22237"];
     let status = command(rt.alloc(), &words, &mut io::empty(), &mut paper);
-    assert_eq!(rt; paper.text.as_slice(), b"device\n".as_slice());
-    assert_eq!(rt; status, 3);
+    expect_eq(&rt, &paper.text.as_slice(), &b"device\n".as_slice());
+    expect_eq(&rt, &status, &3);
 }
 
 /// Commands whose port can't be bound, since another program has it or since its address is no address of this machine, and what is
@@ -93,7 +95,7 @@ const NOT_BOUND: [(&str, &str); 8] = [
 ];
 
 /// What a command prints that ends with `device`, and what it says on standard error.
-fn expect_device<R: Abort + AllocGlobal, M: Net + Clock, S: AsStr>(
+fn expect_device<R: Abort + AllocGlobal, M: Net + Clock + Files, S: AsStr>(
     rt: &R,
     machine: &M,
     words: &[S],
@@ -111,9 +113,9 @@ fn expect_device<R: Abort + AllocGlobal, M: Net + Clock, S: AsStr>(
         &mut paper,
         &mut errors,
     );
-    assert_eq!(rt; paper.text.as_slice(), printed.as_bytes(), "{line}");
-    assert_eq!(rt; errors.text.as_slice(), said.as_bytes(), "{line}");
-    assert_eq!(rt; status, 3, "{line}");
+    expect_eq_in(rt, &line, &paper.text.as_slice(), &printed.as_bytes());
+    expect_eq_in(rt, &line, &errors.text.as_slice(), &said.as_bytes());
+    expect_eq_in(rt, &line, &status, &3);
 }
 
 #[test]
@@ -156,8 +158,8 @@ fn ports_for_which_there_is_no_memory(rt: HostRuntime) {
             &mut io::empty(),
             &mut paper,
         );
-        assert_eq!(rt; paper.text.as_slice(), printed.as_bytes(), "{line}");
-        assert_eq!(rt; status, expected, "{line}");
+        expect_eq_in(&rt, &line, &paper.text.as_slice(), &printed.as_bytes());
+        expect_eq_in(&rt, &line, &status, &expected);
     }
 }
 
@@ -302,26 +304,23 @@ impl Write for Watcher {
 
 /// Plays `loop` where the first connection has this luck at its two ends, and TEAM at this port sends to nobody. Both calls
 /// are made with as many connections.
-fn expect_all_told<R: Abort + AllocGlobal + Net<Stream = TcpStream, Listener = TcpListener>>(
-    rt: &R,
-    caller: Luck,
-    listener: Luck,
-    teller: u16,
-    connections: usize,
-) -> Result<(), Fail> {
+fn expect_all_told<
+    R: Abort + AllocGlobal + Net<Stream = TcpStream, Listener = TcpListener> + Files,
+>(rt: &R, caller: Luck, listener: Luck, teller: u16, connections: usize) -> Result<(), Fail> {
     let street = street_of(rt, caller, listener, teller)?;
     let mut told = Watcher::of(&street)?;
     let words = ["nbt", "loop", "21137"];
     let status = command_on(&street, rt.alloc(), &words, &mut io::empty(), &mut told);
     let row = (caller, listener);
-    assert_eq!(rt;
-        told.paper.text.as_slice(),
-        TOLD_TWICE.as_bytes(),
-        "{row:?}"
+    expect_eq_in(
+        rt,
+        &row,
+        &told.paper.text.as_slice(),
+        &TOLD_TWICE.as_bytes(),
     );
-    assert_eq!(rt; status, 0, "{row:?}");
-    assert_eq!(rt; told.open.as_slice(), OPEN.as_slice(), "{row:?}");
-    assert_eq!(rt; street.connections.get(), connections, "{row:?}");
+    expect_eq_in(rt, &row, &status, &0);
+    expect_eq_in(rt, &row, &told.open.as_slice(), &OPEN.as_slice());
+    expect_eq_in(rt, &row, &street.connections.get(), &connections);
     Ok(())
 }
 
@@ -333,8 +332,8 @@ fn strangers_and_a_connection_that_fails_change_nothing(rt: HostRuntime) -> Resu
         expect_all_told(&rt, caller, listener, port, connections)?;
         let mut buffer = [0; 600];
         let (count, from) = teller.recv_from(&mut buffer)?;
-        assert_eq!(&rt; &buffer[..count], NOT_PRESENT, "{caller:?} {listener:?}");
-        assert_eq!(&rt; from, end(2, 21138), "{caller:?} {listener:?}");
+        expect_eq_in(&rt, &(&caller, &listener), &&buffer[..count], &NOT_PRESENT);
+        expect_eq_in(&rt, &(&caller, &listener), &from, &end(2, 21138));
     }
     Ok(())
 }

@@ -1,8 +1,11 @@
 //! This machine with a clock that a test sets, and another end on its network.
 
+use std::alloc::Allocator;
 use std::cell::Cell;
+use std::fs::{Metadata, OpenOptions};
 use std::io;
 use std::net::{Net, SocketAddr, TcpListener, TcpStream, UdpSocket};
+use std::rt::Files;
 use std::time::{Clock, Duration};
 
 /// A UDP port of this machine that nobody has: what is sent there comes back as an error.
@@ -108,6 +111,52 @@ impl<'a, N: Net<Stream = TcpStream, Listener = TcpListener>> Net for Machine<'a,
     }
 }
 
+impl<'a, N: Files> Files for Machine<'a, N> {
+    type File = N::File;
+
+    type Dir = N::Dir;
+
+    fn open_file(&self, how: &OpenOptions, path: &str) -> io::Result<N::File> {
+        self.host.open_file(how, path)
+    }
+
+    fn open_dir(&self, path: &str) -> io::Result<N::Dir> {
+        self.host.open_dir(path)
+    }
+
+    fn metadata(&self, path: &str) -> io::Result<Metadata> {
+        self.host.metadata(path)
+    }
+
+    fn symlink_metadata(&self, path: &str) -> io::Result<Metadata> {
+        self.host.symlink_metadata(path)
+    }
+
+    fn copy(&self, from: &str, to: &str) -> io::Result<u64> {
+        self.host.copy(from, to)
+    }
+
+    fn rename(&self, from: &str, to: &str) -> io::Result<()> {
+        self.host.rename(from, to)
+    }
+
+    fn remove_file(&self, path: &str) -> io::Result<()> {
+        self.host.remove_file(path)
+    }
+
+    fn create_dir(&self, path: &str) -> io::Result<()> {
+        self.host.create_dir(path)
+    }
+
+    fn remove_dir(&self, path: &str) -> io::Result<()> {
+        self.host.remove_dir(path)
+    }
+
+    fn remove_dir_all<B: Allocator>(&self, alloc: B, path: &str) -> io::Result<()> {
+        self.host.remove_dir_all(alloc, path)
+    }
+}
+
 /// This machine without memory for a socket.
 #[derive(Drop)]
 pub struct WithoutMemory<'a, N> {
@@ -143,5 +192,51 @@ impl<'a, N> Net for WithoutMemory<'a, N> {
 
     fn connect(&self, _addr: SocketAddr) -> io::Result<TcpStream> {
         Err(io::Error::from(io::ErrorKind::OutOfMemory))
+    }
+}
+
+impl<'a, N: Files> Files for WithoutMemory<'a, N> {
+    type File = N::File;
+
+    type Dir = N::Dir;
+
+    fn open_file(&self, how: &OpenOptions, path: &str) -> io::Result<N::File> {
+        self.host.open_file(how, path)
+    }
+
+    fn open_dir(&self, path: &str) -> io::Result<N::Dir> {
+        self.host.open_dir(path)
+    }
+
+    fn metadata(&self, path: &str) -> io::Result<Metadata> {
+        self.host.metadata(path)
+    }
+
+    fn symlink_metadata(&self, path: &str) -> io::Result<Metadata> {
+        self.host.symlink_metadata(path)
+    }
+
+    fn copy(&self, from: &str, to: &str) -> io::Result<u64> {
+        self.host.copy(from, to)
+    }
+
+    fn rename(&self, from: &str, to: &str) -> io::Result<()> {
+        self.host.rename(from, to)
+    }
+
+    fn remove_file(&self, path: &str) -> io::Result<()> {
+        self.host.remove_file(path)
+    }
+
+    fn create_dir(&self, path: &str) -> io::Result<()> {
+        self.host.create_dir(path)
+    }
+
+    fn remove_dir(&self, path: &str) -> io::Result<()> {
+        self.host.remove_dir(path)
+    }
+
+    fn remove_dir_all<B: Allocator>(&self, alloc: B, path: &str) -> io::Result<()> {
+        self.host.remove_dir_all(alloc, path)
     }
 }

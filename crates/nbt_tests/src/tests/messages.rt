@@ -3,6 +3,7 @@
 use super::terminal::{FRED, play};
 use std::net::Net;
 use std::process::Abort;
+use std::rt::Files;
 use std::time::Clock;
 
 /// The flags of requests of two sections, and their messages.
@@ -90,7 +91,7 @@ const OTHERS: [(&str, &str, &str); 15] = [
 ];
 
 /// That `show` ends with this message and length, and `check` agrees with the length.
-fn expect_message<R: Abort + AllocGlobal + Net + Clock>(
+fn expect_message<R: Abort + AllocGlobal + Net + Clock + Files>(
     rt: &R,
     octets: &str,
     message: &str,

@@ -1,6 +1,7 @@
 //! The commands that open sockets: their words, and what they do on this machine with nobody else.
 
 use super::LimitedWriter;
+use super::expect::{expect_eq_in, expect_in};
 use super::terminal::{play, words_of};
 use nbt_prog::{command, command_on};
 use std::io;
@@ -153,8 +154,8 @@ fn a_help_tells_the_limits(rt: HostRuntime) -> Result<(), Fail> {
         let mut paper = LimitedWriter::new();
         let status = command(rt.alloc(), words.as_slice(), &mut io::empty(), &mut paper);
         let text = str::from_utf8(paper.text.as_slice())?;
-        assert!(rt; text.contains(limits), "{line}: {text}");
-        assert_eq!(rt; status, 0, "{line}");
+        expect_in(&rt, &(&line, &text), text.contains(limits));
+        expect_eq_in(&rt, &line, &status, &0);
     }
     Ok(())
 }
@@ -192,13 +193,13 @@ fn with_nobody_else(rt: HostRuntime) {
             &mut io::empty(),
             &mut paper,
         );
-        assert_eq!(rt; paper.text.as_slice(), text, "{line}");
-        assert_eq!(rt; got, status, "{line}");
-        assert!(rt; paper.is_line_by_line(), "{line}");
+        expect_eq_in(&rt, &line, &paper.text.as_slice(), &text);
+        expect_eq_in(&rt, &line, &got, &status);
+        expect_in(&rt, &line, paper.is_line_by_line());
         let mut paper = LimitedWriter::new();
         let got = command(rt.alloc(), words.as_slice(), &mut io::empty(), &mut paper);
-        assert_eq!(rt; paper.text.as_slice(), b"device\n".as_slice(), "{line}");
-        assert_eq!(rt; got, 3, "{line}");
+        expect_eq_in(&rt, &line, &paper.text.as_slice(), &b"device\n".as_slice());
+        expect_eq_in(&rt, &line, &got, &3);
     }
 }
 
@@ -236,8 +237,8 @@ fn a_writer_that_failed_is_told_nothing_more(rt: HostRuntime) {
             &mut io::empty(),
             &mut paper,
         );
-        assert_eq!(rt; status, 3, "{line}");
-        assert_eq!(rt; paper.text.as_slice(), text, "{line}");
+        expect_eq_in(&rt, &line, &status, &3);
+        expect_eq_in(&rt, &line, &paper.text.as_slice(), &text);
         let mut paper = LimitedWriter::short(3);
         let status = command_on(
             &rt,
@@ -246,7 +247,12 @@ fn a_writer_that_failed_is_told_nothing_more(rt: HostRuntime) {
             &mut io::empty(),
             &mut paper,
         );
-        assert_eq!(rt; status, 3, "{line}");
-        assert_eq!(rt; paper.text.as_slice(), &text[..text.len().min(3)], "{line}");
+        expect_eq_in(&rt, &line, &status, &3);
+        expect_eq_in(
+            &rt,
+            &line,
+            &paper.text.as_slice(),
+            &&text[..text.len().min(3)],
+        );
     }
 }

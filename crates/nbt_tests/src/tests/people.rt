@@ -1,6 +1,7 @@
 //! The commands `lookup` and `status`: their words, and what they ask and print over UDP and a clock that is set.
 
 use super::LimitedWriter;
+use super::expect::{expect_eq_in, expect_in};
 use super::serving::{FAILED, NO_CLOCK, Row, expect_row, machine_of};
 use super::terminal::{play, words_of};
 use nbt_ask::{Answer, ask_here};
@@ -11,7 +12,9 @@ use nbt_prog::command_telling;
 use std::io;
 use std::net::{Net, TcpListener, TcpStream};
 use std::process::Abort;
+use std::rt::Files;
 use std::test::Fail;
+use std::time::Clock;
 
 const WORDS: &str = "\
 # Wrong usage.
@@ -109,24 +112,29 @@ const UNREADABLE: [(&str, &str); 12] = [
     ),
 ];
 
+/// What is said of words that can't be read: nothing is printed, and the status is 2.
+pub fn expect_said<R: Abort + AllocGlobal + Net + Clock + Files>(rt: &R, line: &str, said: &str) {
+    let words = words_of(rt, line);
+    let mut paper = LimitedWriter::new();
+    let mut errors = LimitedWriter::new();
+    let status = command_telling(
+        rt,
+        rt.alloc(),
+        words.as_slice(),
+        &mut io::empty(),
+        &mut paper,
+        &mut errors,
+    );
+    expect_eq_in(rt, &line, &errors.text.as_slice(), &said.as_bytes());
+    expect_in(rt, &line, errors.is_flushed());
+    expect_in(rt, &line, paper.text.is_empty());
+    expect_eq_in(rt, &line, &status, &2);
+}
+
 #[test]
 fn words_that_are_said_to_be_unreadable(rt: HostRuntime) {
     for (line, said) in UNREADABLE {
-        let words = words_of(&rt, line);
-        let mut paper = LimitedWriter::new();
-        let mut errors = LimitedWriter::new();
-        let status = command_telling(
-            &rt,
-            rt.alloc(),
-            words.as_slice(),
-            &mut io::empty(),
-            &mut paper,
-            &mut errors,
-        );
-        assert_eq!(rt; errors.text.as_slice(), said.as_bytes(), "{line}");
-        assert!(rt; errors.is_flushed(), "{line}");
-        assert!(rt; paper.text.is_empty(), "{line}");
-        assert_eq!(rt; status, 2, "{line}");
+        expect_said(&rt, line, said);
     }
 }
 
@@ -362,7 +370,7 @@ fn expect_answer<R>(
     said: &str,
 ) -> Result<(), Fail>
 where
-    R: Abort + AllocGlobal + Net<Stream = TcpStream, Listener = TcpListener>,
+    R: Abort + AllocGlobal + Net<Stream = TcpStream, Listener = TcpListener> + Files,
 {
     let machine = machine_of(rt, row)?;
     let question = Question::Holders(OTHER, Name::new(b"FRED            ", b"")?);
@@ -370,9 +378,9 @@ where
     let mut errors = LimitedWriter::new();
     let got = ask_here(&machine, own, &question, 250, &mut out, &mut errors);
     let about = row.about;
-    assert_eq!(rt; got, answer, "{about}");
-    assert_eq!(rt; out.as_str().strip_prefix("> "), Some(text), "{about}");
-    assert_eq!(rt; errors.text.as_slice(), said.as_bytes(), "{about}");
+    expect_eq_in(rt, &about, &got, &answer);
+    expect_eq_in(rt, &about, &out.as_str().strip_prefix("> "), &Some(text));
+    expect_eq_in(rt, &about, &errors.text.as_slice(), &said.as_bytes());
     Ok(())
 }
 

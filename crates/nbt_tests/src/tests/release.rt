@@ -1,6 +1,7 @@
 //! One name server and two nodes, over moments in milliseconds. A datagram lives 1,000 ms at most, the longest lease is
 //! 60 s, and all three are started at 0.
 
+use super::expect::{expect, expect_eq, expect_in};
 use arrayvec::ArrayVec;
 use nbt_lease::{Config, Moment};
 use nbt_name::{Addr, Kind, Name};
@@ -64,8 +65,8 @@ fn reply<R: Abort>(
 ) -> Result<Datagram, Fail> {
     let mut reply = ArrayVec::new();
     let is_reply = server.on_datagram(at(ms)?, from, request.as_slice(), &mut reply)?;
-    assert!(rt; is_reply);
-    assert!(rt; reply.as_slice().get(2..4) == Some(flags), "at {ms}");
+    expect(rt, is_reply);
+    expect_in(rt, &ms, reply.as_slice().get(2..4) == Some(flags));
     Ok(reply)
 }
 
@@ -84,23 +85,36 @@ fn an_early_ask_after_a_release_is_refused(rt: HostRuntime) -> Result<(), Fail> 
 
     let request = asks(&mut first, 60_000)?;
     let granted = reply(&rt, &mut server, 60_000, FIRST, &request, b"\xAD\x80")?;
-    assert!(rt; hears(&mut first, 60_000, &granted)? == Event::Granted(60));
+    expect(
+        &rt,
+        hears(&mut first, 60_000, &granted)? == Event::Granted(60),
+    );
 
     let mut release = ArrayVec::new();
     first.release(at(70_000)?, &fred()?, &mut release)?;
-    assert_eq!(rt; refusal(&mut first, 70_500)?, Some(AskFault::Quiet));
+    expect_eq(&rt, &refusal(&mut first, 70_500)?, &Some(AskFault::Quiet));
     let freed = reply(&rt, &mut server, 71_000, FIRST, &release, b"\xB4\x00")?;
-    assert!(rt; hears(&mut first, 71_000, &freed)? == Event::Freed(0));
+    expect(&rt, hears(&mut first, 71_000, &freed)? == Event::Freed(0));
 
     let request = asks(&mut second, 71_000)?;
     let granted = reply(&rt, &mut server, 71_000, SECOND, &request, b"\xAD\x80")?;
-    assert!(rt; hears(&mut second, 71_000, &granted)? == Event::Granted(60));
+    expect(
+        &rt,
+        hears(&mut second, 71_000, &granted)? == Event::Granted(60),
+    );
 
-    assert_eq!(rt; refusal(&mut first, 72_004)?, Some(AskFault::Quiet));
+    expect_eq(&rt, &refusal(&mut first, 72_004)?, &Some(AskFault::Quiet));
     let request = asks(&mut first, 72_005)?;
     let refused = reply(&rt, &mut server, 72_005, FIRST, &request, b"\xAD\x86")?;
-    assert!(rt; hears(&mut first, 72_005, &refused)? == Event::Refused(6));
-    assert_eq!(rt; first.holds(at(72_005)?, &fred()?), None);
-    assert_eq!(rt; second.holds(at(72_005)?, &fred()?), Some(Kind::Unique));
+    expect(
+        &rt,
+        hears(&mut first, 72_005, &refused)? == Event::Refused(6),
+    );
+    expect_eq(&rt, &first.holds(at(72_005)?, &fred()?), &None);
+    expect_eq(
+        &rt,
+        &second.holds(at(72_005)?, &fred()?),
+        &Some(Kind::Unique),
+    );
     Ok(())
 }

@@ -1,6 +1,7 @@
 //! The commands `serve` and `node` with another end, over UDP and a clock that is set: what they print and send.
 
 use super::LimitedWriter;
+use super::expect::{expect_eq_in, expect_in};
 use super::machine::{Machine, WELL};
 use super::terminal::{word_of, words_of};
 use nbt_prog::{command_on, command_telling};
@@ -8,6 +9,7 @@ use std::cell::Cell;
 use std::io;
 use std::net::{Net, TcpListener, TcpStream, UdpSocket};
 use std::process::Abort;
+use std::rt::Files;
 use std::test::Fail;
 use std::time::Duration;
 
@@ -85,7 +87,7 @@ nbt: 127.42.22.2:20138: receive: Connection refused (os error 111)
 
 pub const NO_CLOCK: &str = "nbt: 127.42.22.2:20138: clock: unsupported\n";
 
-const NO_TIME: &str = "nbt: 127.42.22.2:20138: clock: the time is 1970\n";
+pub const NO_TIME: &str = "nbt: 127.42.22.2:20138: clock: the time is 1970\n";
 
 const SERVERS: [Row; 9] = [
     Row {
@@ -316,7 +318,7 @@ where
 /// Runs a row's command, while the other end sends.
 pub fn expect_row<R>(rt: &R, row: &Row) -> Result<(), Fail>
 where
-    R: Abort + AllocGlobal + Net<Stream = TcpStream, Listener = TcpListener>,
+    R: Abort + AllocGlobal + Net<Stream = TcpStream, Listener = TcpListener> + Files,
 {
     let machine = machine_of(rt, row)?;
     let words = words_of(rt, row.words);
@@ -331,17 +333,17 @@ where
         &mut errors,
     );
     let about = row.about;
-    assert_eq!(rt; paper.text.as_slice(), row.text.as_bytes(), "{about}");
-    assert_eq!(rt; status, row.status, "{about}");
-    assert!(rt; paper.is_line_by_line(), "{about}");
-    assert_eq!(rt; machine.readings.get(), row.readings, "{about}");
-    assert_eq!(rt; errors.text.as_slice(), row.errors.as_bytes(), "{about}");
+    expect_eq_in(rt, &about, &paper.text.as_slice(), &row.text.as_bytes());
+    expect_eq_in(rt, &about, &status, &row.status);
+    expect_in(rt, &about, paper.is_line_by_line());
+    expect_eq_in(rt, &about, &machine.readings.get(), &row.readings);
+    expect_eq_in(rt, &about, &errors.text.as_slice(), &row.errors.as_bytes());
     let sleeps = if row.words.ends_with("--forever") {
         99
     } else {
         0
     };
-    assert_eq!(rt; machine.sleeps.get(), sleeps, "{about}");
+    expect_eq_in(rt, &about, &machine.sleeps.get(), &sleeps);
     expect_sent(rt, row, &machine.other)
 }
 
@@ -353,10 +355,10 @@ fn expect_sent<R: Abort + AllocGlobal>(rt: &R, row: &Row, other: &UdpSocket) -> 
     other.set_read_timeout(Some(Duration::from_millis(1)))?;
     for text in row.sent {
         let (count, from) = other.recv_from(&mut buffer)?;
-        assert_eq!(rt; &buffer[..count], octets(rt, text)?.as_slice(), "{about}");
-        assert_eq!(rt; from, own, "{about}");
+        expect_eq_in(rt, &about, &&buffer[..count], &octets(rt, text)?.as_slice());
+        expect_eq_in(rt, &about, &from, &own);
     }
-    assert!(rt; other.recv_from(&mut buffer).is_err(), "{about}");
+    expect_in(rt, &about, other.recv_from(&mut buffer).is_err());
     Ok(())
 }
 
@@ -422,7 +424,7 @@ const NODE_OUTLASTS: Row = Row {
 /// Runs the row's command, whose port is well after three failures and breaks again at that reading.
 fn expect_outlasting<R>(rt: &R, row: &Row, breaks_again_at: usize) -> Result<(), Fail>
 where
-    R: Abort + AllocGlobal + Net<Stream = TcpStream, Listener = TcpListener>,
+    R: Abort + AllocGlobal + Net<Stream = TcpStream, Listener = TcpListener> + Files,
 {
     let mut machine = machine_of(rt, row)?;
     machine.well_after = 3;
@@ -439,12 +441,12 @@ where
         &mut errors,
     );
     let about = row.about;
-    assert_eq!(rt; paper.text.as_slice(), row.text.as_bytes(), "{about}");
-    assert_eq!(rt; status, row.status, "{about}");
-    assert_eq!(rt; errors.text.as_slice(), row.errors.as_bytes(), "{about}");
-    assert_eq!(rt; machine.readings.get(), row.readings, "{about}");
+    expect_eq_in(rt, &about, &paper.text.as_slice(), &row.text.as_bytes());
+    expect_eq_in(rt, &about, &status, &row.status);
+    expect_eq_in(rt, &about, &errors.text.as_slice(), &row.errors.as_bytes());
+    expect_eq_in(rt, &about, &machine.readings.get(), &row.readings);
     // One wait after each failure but the last: three, and 99.
-    assert_eq!(rt; machine.sleeps.get(), 102, "{about}");
+    expect_eq_in(rt, &about, &machine.sleeps.get(), &102);
     expect_sent(rt, row, &machine.other)
 }
 
@@ -481,8 +483,8 @@ fn an_event_that_can_not_be_told(rt: HostRuntime) -> Result<(), Fail> {
             &mut io::empty(),
             &mut paper,
         );
-        assert_eq!(&rt; status, 3, "{line}");
-        assert_eq!(&rt; paper.text.as_slice(), line.as_bytes(), "{line}");
+        expect_eq_in(&rt, &line, &status, &3);
+        expect_eq_in(&rt, &line, &paper.text.as_slice(), &line.as_bytes());
     }
     Ok(())
 }

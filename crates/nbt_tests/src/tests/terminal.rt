@@ -9,9 +9,11 @@
 //!   anything.
 
 use super::LimitedWriter;
+use super::expect::{expect_eq_in, expect_in};
 use nbt_prog::{command, command_on};
 use std::net::Net;
 use std::process::Abort;
+use std::rt::Files;
 use std::time::Clock;
 
 /// FRED on the wire (RFC 1001 section 14.1).
@@ -33,7 +35,7 @@ struct Run {
 }
 
 /// Plays runs, each by `command` and on this machine by `command_on`: none of them opens a socket.
-pub fn play<R: Abort + AllocGlobal + Net + Clock>(rt: &R, runs: &str) {
+pub fn play<R: Abort + AllocGlobal + Net + Clock + Files>(rt: &R, runs: &str) {
     for text in runs.split("\n\n") {
         let run = read_run(rt, text);
         let mut paper = LimitedWriter::new();
@@ -53,13 +55,13 @@ fn expect_run<R: Abort>(rt: &R, message: &str, run: &Run, status: u8, paper: &Li
     let got = paper.text.as_slice();
     match run.text.as_str().split_once("...") {
         Some((start, end)) => {
-            assert!(rt; got.starts_with(start.as_bytes()), "{message}");
-            assert!(rt; got.ends_with(end.as_bytes()), "{message}");
+            expect_in(rt, &message, got.starts_with(start.as_bytes()));
+            expect_in(rt, &message, got.ends_with(end.as_bytes()));
         }
-        None => assert_eq!(rt; got, run.text.as_bytes(), "{message}"),
+        None => expect_eq_in(rt, &message, &got, &run.text.as_bytes()),
     }
-    assert_eq!(rt; status, run.status, "{message}");
-    assert!(rt; paper.is_flushed(), "{message}");
+    expect_eq_in(rt, &message, &status, &run.status);
+    expect_in(rt, &message, paper.is_flushed());
 }
 
 fn read_run<R: Abort + AllocGlobal>(rt: &R, text: &str) -> Run {

@@ -1,6 +1,7 @@
 //! Calls of sessions: the end that calls, and the end that listens for a node that holds FRED until 119,878 (RFC 1002
 //! section 5.2.1 and our profile).
 
+use super::expect::{expect, expect_eq, expect_in};
 use super::sessions::{SECOND, Said, packet};
 use super::{FRED, STAR, TEAM, at, fred, name_of, team};
 use arrayvec::ArrayVec;
@@ -165,12 +166,13 @@ fn calls_and_what_comes_of_them(rt: HostRuntime) -> Result<(), Fail> {
     laws::one_call_move();
     for steps in &CALLS {
         let (mut caller, begun) = Caller::begin(fred(b"")?, team(b"")?, FIRST);
-        assert!(rt; begun == CallerAnswer::Connect(FIRST));
+        expect(&rt, begun == CallerAnswer::Connect(FIRST));
         for (happens, wanted) in *steps {
             let answer = caller.on(event(&rt, *happens)?);
-            assert!(rt;
+            expect_in(
+                &rt,
+                &(&happens, &wanted),
                 answer == caller_answer(&rt, *wanted)?,
-                "{happens:?}: {wanted:?}"
             );
         }
     }
@@ -187,7 +189,7 @@ const NUMBERS: [(Failure, u8); 4] = [
 #[test]
 fn numbers_of_failures(rt: HostRuntime) {
     for (failure, number) in NUMBERS {
-        assert_eq!(rt; failure.number(), number);
+        expect_eq(&rt, &failure.number(), &number);
     }
 }
 
@@ -408,7 +410,7 @@ fn listeners_and_what_they_answer(rt: HostRuntime) -> Result<(), Fail> {
         let node = holder()?;
         let mut listener: Listener<4, 2> = Listener::new((*most).min(2));
         for step in *steps {
-            assert!(rt; play(&rt, &node, &mut listener, *step)?, "{step:?}");
+            expect_in(&rt, &step, play(&rt, &node, &mut listener, *step)?);
         }
     }
     Ok(())

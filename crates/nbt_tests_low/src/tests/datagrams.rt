@@ -1,5 +1,6 @@
 //! Datagrams from outside: the packets of our profile over RFC 1002's layouts (section 4.4), FRED's and TEAM's.
 
+use super::expect::{expect, expect_eq, expect_eq_in, expect_in};
 use super::{at, fred, patched, team};
 use arrayvec::ArrayVec;
 use nbt_dgram::laws::{
@@ -87,26 +88,26 @@ fn piece(id: u16, part: Part, more: bool, payload: &[u8]) -> Dgram<'_> {
 #[test]
 fn hello_is_read_and_written(rt: HostRuntime) -> Result<(), Fail> {
     let (dgram, count) = decode(HELLO)?;
-    assert_eq!(rt; count, 87);
-    assert_eq!(rt; dgram.msg_type().number(), 0x11);
-    assert_eq!(rt; dgram.id, 1);
-    assert_eq!(rt; dgram.source, FIRST_END);
-    assert!(rt; dgram.has_data());
-    assert!(rt; dgram.fits());
+    expect_eq(&rt, &count, &87);
+    expect_eq(&rt, &dgram.msg_type().number(), &0x11);
+    expect_eq(&rt, &dgram.id, &1);
+    expect_eq(&rt, &dgram.source, &FIRST_END);
+    expect(&rt, dgram.has_data());
+    expect(&rt, dgram.fits());
     let mut out = ArrayVec::new();
     encode(&dgram, &mut out)?;
-    assert_eq!(rt; out.as_slice(), HELLO);
+    expect_eq(&rt, &out.as_slice(), &HELLO);
     let Body::Fragment(fragment) = dgram.body else {
         return Err("no data")?;
     };
-    assert_eq!(rt; fragment.payload, b"hello".as_slice());
-    assert_eq!(rt; fragment.part.offset(), 0);
-    assert!(rt; !fragment.more);
+    expect_eq(&rt, &fragment.payload, &b"hello".as_slice());
+    expect_eq(&rt, &fragment.part.offset(), &0);
+    expect(&rt, !fragment.more);
     let Part::First(names) = fragment.part else {
         return Err("no names")?;
     };
-    assert_eq!(rt; names.source, fred(b"")?);
-    assert_eq!(rt; names.copy().destination, team(b"")?);
+    expect_eq(&rt, &names.source, &fred(b"")?);
+    expect_eq(&rt, &names.copy().destination, &team(b"")?);
     Ok(())
 }
 
@@ -142,13 +143,13 @@ const SPLITS: &[Splits] = &[
 fn data_of_512_octets_are_split(rt: HostRuntime) -> Result<(), Fail> {
     for (scope, lengths, octets) in SPLITS {
         let packets = written(&rt, scope)?;
-        assert_eq!(rt; packets.len(), 2);
+        expect_eq(&rt, &packets.len(), &2);
         for (packet, length) in packets.iter().zip(lengths) {
-            assert_eq!(rt; packet.len(), *length);
+            expect_eq(&rt, &packet.len(), &*length);
         }
         for (which, place, octet) in *octets {
             let packet = packets.get(*which).ok_or("no such packet")?;
-            assert_eq!(rt; packet.get(*place), Some(octet), "{place}");
+            expect_eq_in(&rt, &place, &packet.get(*place), &Some(octet));
         }
     }
     Ok(())
@@ -166,9 +167,13 @@ fn more_than_512_octets_are_too_long(rt: HostRuntime) -> Result<(), Fail> {
         &names.1,
         &long,
     );
-    assert!(rt; matches!(refused, Err(TooLong)));
-    assert_eq!(rt; TooLong.number(), 1);
-    assert_eq!(rt; fragments(Delivery::DirectUnique, b"", b"hello")?.len(), 1);
+    expect(&rt, matches!(refused, Err(TooLong)));
+    expect_eq(&rt, &TooLong.number(), &1);
+    expect_eq(
+        &rt,
+        &fragments(Delivery::DirectUnique, b"", b"hello")?.len(),
+        &1,
+    );
     Ok(())
 }
 
@@ -271,15 +276,15 @@ fn fragments_are_joined(rt: HostRuntime) -> Result<(), Fail> {
                     let packet = packets.get(which).ok_or("no such packet")?;
                     let octets = patched(&rt, packet, patches)?;
                     let (dgram, _) = decode(&octets)?;
-                    assert_eq!(rt; put(&mut joiner, ms, &dgram)?, expected, "{what}");
+                    expect_eq_in(&rt, &what, &put(&mut joiner, ms, &dgram)?, &expected);
                 }
                 Step::Piece(id, offset, more, expected) => {
                     let part = part_at(offset)?;
                     let dgram = piece(id, part, more, b"ab");
-                    assert_eq!(rt; put(&mut joiner, 0, &dgram)?, expected, "{what}");
+                    expect_eq_in(&rt, &what, &put(&mut joiner, 0, &dgram)?, &expected);
                 }
                 Step::Sweep(ms, emptied) => {
-                    assert_eq!(rt; joiner.sweep(at(ms)?), emptied, "{what}")
+                    expect_eq_in(&rt, &what, &joiner.sweep(at(ms)?), &emptied)
                 }
             }
         }
@@ -375,13 +380,13 @@ fn datagrams_are_for_names_that_are_held(rt: HostRuntime) -> Result<(), Fail> {
         let mut joiner: Joiner<1> = Joiner::new();
         let mut out = ArrayVec::new();
         let accepted = accept(&mut joiner, at(*ms)?, &node, *from, &octets, &mut out);
-        assert_eq!(rt; meaning_of(accepted)?, *expected, "{octets:?}");
+        expect_eq_in(&rt, &octets, &meaning_of(accepted)?, &*expected);
         let reply = if *expected == Means::Reply {
             NOT_PRESENT
         } else {
             b"".as_slice()
         };
-        assert_eq!(rt; out.as_slice(), reply);
+        expect_eq(&rt, &out.as_slice(), &reply);
     }
     Ok(())
 }
@@ -419,9 +424,9 @@ fn faults_have_their_places(rt: HostRuntime) -> Result<(), Fail> {
             kind: *kind,
             place: *place,
         };
-        assert_eq!(rt; decode(&octets).err(), Some(fault), "{patches:?}");
+        expect_eq_in(&rt, &patches, &decode(&octets).err(), &Some(fault));
     }
-    assert_eq!(rt; DgramFaultKind::BadLength.number(), 8);
+    expect_eq(&rt, &DgramFaultKind::BadLength.number(), &8);
     Ok(())
 }
 
@@ -458,12 +463,16 @@ const WORDS: [(DgramFaultKind, u8, &str); 8] = [
 #[test]
 fn numbers_and_words_of_faults(rt: HostRuntime) {
     for (kind, number, word) in WORDS {
-        assert_eq!(rt; kind.number(), number);
-        assert_eq!(rt; kind.word(), word);
-        assert_eq!(rt; DgramFaultKind::from_word(word.as_bytes()), Some(kind));
+        expect_eq(&rt, &kind.number(), &number);
+        expect_eq(&rt, &kind.word(), &word);
+        expect_eq(
+            &rt,
+            &DgramFaultKind::from_word(word.as_bytes()),
+            &Some(kind),
+        );
     }
     for word in ["", "short", "Shorter", "TooMany", "BadName"] {
-        assert_eq!(rt; DgramFaultKind::from_word(word.as_bytes()), None);
+        expect_eq(&rt, &DgramFaultKind::from_word(word.as_bytes()), &None);
     }
 }
 
@@ -477,9 +486,9 @@ fn datagrams_cut_at_every_length(rt: HostRuntime) -> Result<(), Fail> {
                 kind: DgramFaultKind::Short,
                 place,
             };
-            assert_eq!(rt; decode(&octets[..place]).err(), Some(short), "{octets:?}");
+            expect_eq_in(&rt, &octets, &decode(&octets[..place]).err(), &Some(short));
         }
-        assert!(rt; decode(&octets).is_ok(), "{octets:?}");
+        expect_in(&rt, &octets, decode(&octets).is_ok());
     }
     Ok(())
 }
@@ -503,14 +512,14 @@ fn every_type_is_read_back(rt: HostRuntime) -> Result<(), Fail> {
                     more,
                     payload: b"hello",
                 });
-                assert!(rt; is_read_back(body)?);
+                expect(&rt, is_read_back(body)?);
             }
         }
     }
     for lookup in [Lookup::Request, Lookup::Positive, Lookup::Negative] {
-        assert!(rt; is_read_back(Body::Lookup(lookup, team(b"")?))?);
+        expect(&rt, is_read_back(Body::Lookup(lookup, team(b"")?))?);
     }
-    assert!(rt; is_read_back(Body::Error(0x84))?);
+    expect(&rt, is_read_back(Body::Error(0x84))?);
     Ok(())
 }
 
@@ -538,23 +547,23 @@ fn a_datagram_of_more_than_576_octets_is_not_written(rt: HostRuntime) -> Result<
     let long = piece(1, Part::Later(0), false, &payload);
     let mut out = ArrayVec::new();
     out.push(1);
-    assert!(rt; long.fits());
-    assert_eq!(rt; encode(&long, &mut out), Err(Full));
-    assert!(rt; out.is_empty());
-    assert_eq!(rt; Full.number(), 1);
+    expect(&rt, long.fits());
+    expect_eq(&rt, &encode(&long, &mut out), &Err(Full));
+    expect(&rt, out.is_empty());
+    expect_eq(&rt, &Full.number(), &1);
     let just = piece(1, Part::Later(0), false, &payload[1..]);
-    assert!(rt; just.fits());
-    assert_eq!(rt; encode(&just, &mut out), Ok(()));
-    assert_eq!(rt; out.len(), 576);
+    expect(&rt, just.fits());
+    expect_eq(&rt, &encode(&just, &mut out), &Ok(()));
+    expect_eq(&rt, &out.len(), &576);
     Ok(())
 }
 
 #[test]
 fn a_joiner_takes_1584_octets_a_slot(rt: HostRuntime) -> Result<(), Fail> {
-    assert_eq!(rt; size_of::<Joiner<4>>(), 8 + 4 * 1584);
-    assert_eq!(rt; MsgType::of(0x16).ok_or("no type")?.number(), 0x16);
-    assert_eq!(rt; MsgType::of(0x0F), None);
-    assert_eq!(rt; Dropped::ClockBack.number(), 4);
+    expect_eq(&rt, &size_of::<Joiner<4>>(), &(8 + 4 * 1584));
+    expect_eq(&rt, &MsgType::of(0x16).ok_or("no type")?.number(), &0x16);
+    expect_eq(&rt, &MsgType::of(0x0F), &None);
+    expect_eq(&rt, &Dropped::ClockBack.number(), &4);
     Ok(())
 }
 

@@ -3,6 +3,7 @@
 
 ghost use Rattle.std.specs.Prelude.{◌≤◌, IfOk};
 
+use super::expect::{expect, expect_eq, expect_eq_in, expect_in};
 use super::{FRED, TEAM, at, name_of};
 use arrayvec::ArrayVec;
 use nbt_lease::{Config, ConfigFault, Grant, GrantFault, Moment, Released, Table, laws};
@@ -52,7 +53,7 @@ fn later(rt: &impl Abort, table: &Table, ms: u64) -> Result<Moment, Fail>
     ensures { IfOk result (λ now. table.now.last ≤ now) }
 {
     let now = at(ms)?;
-    assert!(rt; table.last() <= now, "moments go on");
+    expect_in(rt, &"moments go on", table.last() <= now);
     Ok(now)
 }
 
@@ -63,13 +64,13 @@ fn play(rt: &impl Abort, mut table: Table, steps: &[Step<'_>]) -> Result<(), Fai
             Step::Grant(ms, octets, addr, kind, ttl, expected) => {
                 let name = name_of(octets)?;
                 let answer = grant(rt, &mut table, ms, &name, addr, kind, ttl)?;
-                assert_eq!(rt; answer, expected, "{step:?}");
+                expect_eq_in(rt, &step, &answer, &expected);
             }
             Step::Join(ms, count, expected) => join(rt, &mut table, ms, count, expected)?,
             Step::Grow(ms, octets, addr, kind, ttl, expected) => {
                 let name = name_of(octets)?;
                 let answer = grow(rt, &mut table, ms, &name, addr, kind, ttl)?;
-                assert_eq!(rt; answer, expected, "{step:?}");
+                expect_eq_in(rt, &step, &answer, &expected);
             }
             Step::JoinGrowing(ms, count, expected) => {
                 join_growing(rt, &mut table, ms, count, expected)?;
@@ -86,22 +87,22 @@ fn ask(rt: &impl Abort, table: &mut Table, step: &Step<'_>) -> Result<(), Fail> 
         Step::Release(ms, addr, expected) => {
             let now = later(rt, table, ms)?;
             let released = table.release(now, &name_of(FRED)?, addr);
-            assert_eq!(rt; released, expected, "{step:?}");
+            expect_eq_in(rt, &step, &released, &expected);
         }
         Step::Leave(ms, addr, expected) => {
             let now = later(rt, table, ms)?;
             let released = table.release(now, &name_of(TEAM)?, addr);
-            assert_eq!(rt; released, expected, "{step:?}");
+            expect_eq_in(rt, &step, &released, &expected);
         }
         Step::Sweep(ms) => {
             let now = later(rt, table, ms)?;
             table.sweep(now);
-            assert!(rt; table.last() == now, "{step:?}");
+            expect_in(rt, &step, table.last() == now);
         }
         Step::LeastEnd(ms, octets, expected) => {
             let now = later(rt, table, ms)?;
             let end = table.least_end(now, &name_of(octets)?);
-            assert_eq!(rt; end, expected, "{step:?}");
+            expect_eq_in(rt, &step, &end, &expected);
         }
         Step::LeastEndAfter(ms, count, expected) => {
             let now = later(rt, table, ms)?;
@@ -110,12 +111,12 @@ fn ask(rt: &impl Abort, table: &mut Table, step: &Step<'_>) -> Result<(), Fail> 
             for _ in 0..count {
                 members.next();
             }
-            assert_eq!(rt; members.least_end(), expected, "{step:?}");
+            expect_eq_in(rt, &step, &members.least_end(), &expected);
         }
         Step::Members(ms, octets, expected) => {
             let now = later(rt, table, ms)?;
             let leases = leases(table, now, &name_of(octets)?)?;
-            assert_eq!(rt; leases.as_slice(), expected, "{step:?}");
+            expect_eq_in(rt, &step, &leases.as_slice(), &expected);
         }
         _ => return Err("a step that grants")?,
     }
@@ -146,7 +147,7 @@ fn grant(
 ) -> Result<Result<(u32, u64), GrantFault>, Fail> {
     let now = later(rt, table, ms)?;
     let answer = table.grant(now, name, addr, kind, ttl);
-    assert!(rt; table.last() == now);
+    expect(rt, table.last() == now);
     Ok(answer.map(|grant| (grant.seconds, grant.end)))
 }
 
@@ -160,7 +161,7 @@ fn join(
     let team = name_of(TEAM)?;
     for addr in 1..=count {
         let answer = grant(rt, table, ms, &team, addr, Kind::Group, 60)?;
-        assert_eq!(rt; answer, expected, "{addr}");
+        expect_eq_in(rt, &addr, &answer, &expected);
     }
     Ok(())
 }
@@ -184,8 +185,8 @@ fn grow(
     }
     let now = later(rt, table, ms)?;
     let after = leases(table, now, name)?;
-    assert_eq!(rt; after.as_slice(), before.as_slice());
-    assert_eq!(rt; table.least_end(now, name), least);
+    expect_eq(rt, &after.as_slice(), &before.as_slice());
+    expect_eq(rt, &table.least_end(now, name), &least);
     grant(rt, table, ms, name, addr, kind, ttl)
 }
 
@@ -199,7 +200,7 @@ fn join_growing(
     let team = name_of(TEAM)?;
     for addr in 1..=count {
         let answer = grow(rt, table, ms, &team, addr, Kind::Group, 60)?;
-        assert_eq!(rt; answer, expected, "{addr}");
+        expect_eq_in(rt, &addr, &answer, &expected);
     }
     Ok(())
 }
@@ -207,9 +208,9 @@ fn join_growing(
 #[test]
 fn moments_up_to_2_to_the_60(rt: HostRuntime) -> Result<(), Fail> {
     let last = at(1 << 60)?;
-    assert_eq!(rt; last.get(), 1_152_921_504_606_846_976);
-    assert!(rt; Moment::new((1 << 60) + 1).is_none());
-    assert!(rt; Moment::zero() < last);
+    expect_eq(&rt, &last.get(), &1_152_921_504_606_846_976);
+    expect(&rt, Moment::new((1 << 60) + 1).is_none());
+    expect(&rt, Moment::zero() < last);
     Ok(())
 }
 
@@ -226,21 +227,27 @@ const REFUSED_LIMITS: &[(u64, u32, usize, ConfigFault, u8)] = &[
 #[test]
 fn limits_of_a_configuration(rt: HostRuntime) -> Result<(), Fail> {
     for (life, longest, rows, fault, number) in REFUSED_LIMITS {
-        assert_eq!(rt; Config::new(*life, *longest, *rows).err(), Some(*fault));
-        assert_eq!(rt; fault.number(), *number);
+        expect_eq(
+            &rt,
+            &Config::new(*life, *longest, *rows).err(),
+            &Some(*fault),
+        );
+        expect_eq(&rt, &fault.number(), &*number);
     }
     let most = Config::new(60_000, 1_000_000, 4_096)?;
-    assert_eq!(rt;
-        (most.life(), most.longest(), most.rows()),
-        (60_000, 1_000_000, 4_096)
+    expect_eq(
+        &rt,
+        &(most.life(), most.longest(), most.rows()),
+        &(60_000, 1_000_000, 4_096),
     );
-    assert_eq!(rt;
-        (most.granted(0), most.granted(7), most.granted(u32::MAX)),
-        (1_000_000, 7, 1_000_000)
+    expect_eq(
+        &rt,
+        &(most.granted(0), most.granted(7), most.granted(u32::MAX)),
+        &(1_000_000, 7, 1_000_000),
     );
-    assert_eq!(rt; table(&rt, 4_096)?.config().rows(), 4_096);
-    assert_eq!(rt; GrantFault::TableFull.number(), 2);
-    assert_eq!(rt; GrantFault::GroupFull.number(), 3);
+    expect_eq(&rt, &table(&rt, 4_096)?.config().rows(), &4_096);
+    expect_eq(&rt, &GrantFault::TableFull.number(), &2);
+    expect_eq(&rt, &GrantFault::GroupFull.number(), &3);
     Ok(())
 }
 
@@ -259,10 +266,10 @@ const RESTS: [(u64, u64); 5] = [
 #[test]
 fn what_a_node_allows_for_clocks_that_drift(rt: HostRuntime) -> Result<(), Fail> {
     for (seconds, ms) in HOLDS {
-        assert_eq!(rt; Config::hold(seconds), ms);
+        expect_eq(&rt, &Config::hold(seconds), &ms);
     }
     for (life, ms) in RESTS {
-        assert_eq!(rt; Config::new(life, 60, 4_096)?.quiet(), ms);
+        expect_eq(&rt, &Config::new(life, 60, 4_096)?.quiet(), &ms);
     }
     laws::hold_ends_first();
     laws::rest_outlasts_datagrams();
@@ -511,17 +518,18 @@ fn a_full_table_has_room_once_half_of_it_is_over(rt: HostRuntime) -> Result<(), 
         let name = one_of_many(number)?;
         let ttl = if number % 2 == 0 { 30 } else { 60 };
         let answer = grant(&rt, &mut table, 60_000, &name, FIRST, Kind::Unique, ttl)?;
-        assert_eq!(rt;
-            answer,
-            Ok((ttl, 60_000 + 1000 * u64::from(ttl))),
-            "{number}"
+        expect_eq_in(
+            &rt,
+            &number,
+            &answer,
+            &Ok((ttl, 60_000 + 1000 * u64::from(ttl))),
         );
     }
     let further = one_of_many(4096)?;
     let full = grant(&rt, &mut table, 89_999, &further, FIRST, Kind::Unique, 60)?;
-    assert_eq!(rt; full, Err(GrantFault::TableFull));
+    expect_eq(&rt, &full, &Err(GrantFault::TableFull));
     let answer = grant(&rt, &mut table, 90_000, &further, FIRST, Kind::Unique, 60)?;
-    assert_eq!(rt; answer, Ok((60, 150_000)));
+    expect_eq(&rt, &answer, &Ok((60, 150_000)));
     Ok(())
 }
 

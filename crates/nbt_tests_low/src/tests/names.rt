@@ -1,5 +1,6 @@
 //! Names and octets from outside: RFC 1001 section 14.1, and the vectors of our profile.
 
+use super::expect::{expect, expect_eq, expect_eq_in, expect_in};
 use super::{FRED, fred};
 use arrayvec::ArrayVec;
 use indexmap::IndexMap;
@@ -48,21 +49,22 @@ fn names_are_their_wire_forms(rt: HostRuntime) -> Result<(), Fail> {
         let name = Name::new(octets, scope)?;
         let mut out = ArrayVec::new();
         name.to_wire(&mut out);
-        assert_eq!(rt; out.as_slice(), *wire);
-        assert_eq!(rt; name.wire_len(), wire.len());
+        expect_eq(&rt, &out.as_slice(), &*wire);
+        expect_eq(&rt, &name.wire_len(), &wire.len());
         let mut packet: ArrayVec<u8, 257> = ArrayVec::new();
         put_word(&mut packet, 0x2900);
         name.put_wire(&mut packet);
-        assert!(rt;
-            packet.as_slice().starts_with(b"\x29\x00") && packet.as_slice().ends_with(wire)
+        expect(
+            &rt,
+            packet.as_slice().starts_with(b"\x29\x00") && packet.as_slice().ends_with(wire),
         );
-        assert_eq!(rt; packet.len(), 2 + wire.len());
+        expect_eq(&rt, &packet.len(), &(2 + wire.len()));
         let (read, next) = read_plain(wire, 0)?;
-        assert!(rt; read == name && name.copy() == name);
-        assert_eq!(rt; next, wire.len());
-        assert!(rt; !read.is_star());
-        assert_eq!(rt; read.octets().as_slice(), octets.as_slice());
-        assert_eq!(rt; read.scope(), *scope);
+        expect(&rt, read == name && name.copy() == name);
+        expect_eq(&rt, &next, &wire.len());
+        expect(&rt, !read.is_star());
+        expect_eq(&rt, &read.octets().as_slice(), &octets.as_slice());
+        expect_eq(&rt, &read.scope(), &*scope);
     }
     Ok(())
 }
@@ -81,9 +83,9 @@ fn numbers_most_significant_octet_first(rt: HostRuntime) {
         let mut out: ArrayVec<u8, 6> = ArrayVec::new();
         put_word(&mut out, *word);
         put_long(&mut out, *long);
-        assert_eq!(rt; out.as_slice(), *octets);
-        assert_eq!(rt; read_word(out.as_slice(), 0), *word);
-        assert_eq!(rt; read_long(out.as_slice(), 2), *long);
+        expect_eq(&rt, &out.as_slice(), &*octets);
+        expect_eq(&rt, &read_word(out.as_slice(), 0), &*word);
+        expect_eq(&rt, &read_long(out.as_slice(), 2), &*long);
     }
 }
 
@@ -92,14 +94,15 @@ fn the_name_that_stands_for_all(rt: HostRuntime) -> Result<(), Fail> {
     let any = Name::any(b"")?;
     let mut wire = ArrayVec::new();
     any.to_wire(&mut wire);
-    assert_eq!(rt;
-        wire.as_slice(),
-        b" CKAAAAAAAAAAAAAAAAAAAAAAAAAAAAAA\x00".as_slice()
+    expect_eq(
+        &rt,
+        &wire.as_slice(),
+        &b" CKAAAAAAAAAAAAAAAAAAAAAAAAAAAAAA\x00".as_slice(),
     );
-    assert!(rt; any.is_star());
+    expect(&rt, any.is_star());
     let refused = Name::new(any.octets(), b"").err().ok_or("a star")?;
-    assert_eq!(rt; refused, NameRefusal::Star);
-    assert_eq!(rt; refused.number(), 1);
+    expect_eq(&rt, &refused, &NameRefusal::Star);
+    expect_eq(&rt, &refused.number(), &1);
     Ok(())
 }
 
@@ -110,8 +113,8 @@ const NO_LABELS: &[&[u8]] = &[b"\x00x", b"\x02x", b"\x01x\x00", &[64; 65]];
 fn scopes_that_are_no_labels(rt: HostRuntime) {
     for scope in NO_LABELS {
         let refused = Some(NameRefusal::BadLabel);
-        assert_eq!(rt; Name::new(FRED, scope).err(), refused, "{scope:?}");
-        assert_eq!(rt; Name::any(scope).err(), refused, "{scope:?}");
+        expect_eq_in(&rt, &scope, &Name::new(FRED, scope).err(), &refused);
+        expect_eq_in(&rt, &scope, &Name::any(scope).err(), &refused);
     }
 }
 
@@ -207,15 +210,15 @@ const READINGS: &[(&str, &[u8], usize, By, Read<'static>)] = &[
 #[test]
 fn names_at_a_place_and_their_faults(rt: HostRuntime) -> Result<(), Fail> {
     for (what, octets, place, by, expected) in READINGS {
-        assert!(rt; *place <= octets.len());
+        expect(&rt, *place <= octets.len());
         let read = match by {
             By::ReadIn => read_in(octets, *place),
             By::ReadPlain => read_plain(octets, *place),
         };
         match *expected {
-            Read::Fred(scope, next) => assert!(rt; read == Ok((fred(scope)?, next)), "{what}"),
+            Read::Fred(scope, next) => expect_in(&rt, &what, read == Ok((fred(scope)?, next))),
             Read::Fault(kind, place) => {
-                assert!(rt; read == Err(NameFault { kind, place }), "{what}")
+                expect_in(&rt, &what, read == Err(NameFault { kind, place }))
             }
         }
     }
@@ -234,13 +237,13 @@ const WORDS: [(NameFaultKind, u8, &str); 5] = [
 fn numbers_and_words_of_a_names_faults(rt: HostRuntime) -> Result<(), Fail> {
     for (kind, number, word) in WORDS {
         let text = format!(in rt.alloc(); "{kind}")?;
-        assert_eq!(rt; text.as_str(), word);
-        assert_eq!(rt; kind.number(), number);
-        assert_eq!(rt; kind.word(), word);
-        assert_eq!(rt; NameFaultKind::from_word(word.as_bytes()), Some(kind));
+        expect_eq(&rt, &text.as_str(), &word);
+        expect_eq(&rt, &kind.number(), &number);
+        expect_eq(&rt, &kind.word(), &word);
+        expect_eq(&rt, &NameFaultKind::from_word(word.as_bytes()), &Some(kind));
     }
     for word in ["", "long", "Shor", "TooMany", "BadType"] {
-        assert_eq!(rt; NameFaultKind::from_word(word.as_bytes()), None);
+        expect_eq(&rt, &NameFaultKind::from_word(word.as_bytes()), &None);
     }
     Ok(())
 }
@@ -259,7 +262,7 @@ const CUT: &[(By, &[u8], usize, usize)] = &[
 #[test]
 fn cut_at_every_length(rt: HostRuntime) {
     for (by, octets, start, end) in CUT {
-        assert!(rt; *end <= octets.len());
+        expect(&rt, *end <= octets.len());
         for place in *start..*end {
             let cut = &octets[..place];
             let read = match by {
@@ -270,7 +273,7 @@ fn cut_at_every_length(rt: HostRuntime) {
                 kind: NameFaultKind::Short,
                 place,
             });
-            assert_eq!(rt; read.err(), short, "{by:?} from {start}");
+            expect_eq_in(&rt, &(&by, &start), &read.err(), &short);
         }
     }
 }
@@ -288,27 +291,28 @@ fn short_labels(rt: &HostRuntime, count: usize) -> Result<Vec<u8>, Fail> {
 fn a_wire_form_of_255_octets_and_one_of_256(rt: HostRuntime) -> Result<(), Fail> {
     let mut scope = short_labels(&rt, 109)?;
     scope.extend_from_slice(b"\x02yz")?;
-    assert_eq!(rt; scope.len(), 221);
+    expect_eq(&rt, &scope.len(), &221);
     let longest = fred(&scope)?;
     let mut wire = ArrayVec::new();
     longest.to_wire(&mut wire);
-    assert_eq!(rt; wire.len(), 255);
-    assert!(rt; read_plain(wire.as_slice(), 0) == Ok((longest, 255)));
+    expect_eq(&rt, &wire.len(), &255);
+    expect(&rt, read_plain(wire.as_slice(), 0) == Ok((longest, 255)));
 
     let longer = short_labels(&rt, 111)?;
-    assert_eq!(rt;
-        Name::new(FRED, &longer).err(),
-        Some(NameRefusal::ScopeLong)
+    expect_eq(
+        &rt,
+        &Name::new(FRED, &longer).err(),
+        &Some(NameRefusal::ScopeLong),
     );
     let mut octets = Vec::from_slice(rt.alloc(), &FRED_ALONE[..33])?;
     octets.extend_from_slice(&longer)?;
     octets.push(0)?;
-    assert_eq!(rt; octets.len(), 256);
+    expect_eq(&rt, &octets.len(), &256);
     let long = NameFault {
         kind: NameFaultKind::Long,
         place: 253,
     };
-    assert_eq!(rt; read_plain(&octets, 0).err(), Some(long));
+    expect_eq(&rt, &read_plain(&octets, 0).err(), &Some(long));
     Ok(())
 }
 
@@ -320,11 +324,11 @@ fn names_are_keys(rt: HostRuntime) -> Result<(), Fail> {
         set.insert(fred(scope)?)?;
         map.insert(fred(scope)?, scope.len())?;
     }
-    assert_eq!(rt; set.len(), 2);
-    assert_eq!(rt; map.len(), 2);
+    expect_eq(&rt, &set.len(), &2);
+    expect_eq(&rt, &map.len(), &2);
     let fred = fred(b"")?;
-    assert!(rt; set.contains(&fred));
-    assert_eq!(rt; map.get(&fred).copied(), Some(0));
+    expect(&rt, set.contains(&fred));
+    expect_eq(&rt, &map.get(&fred).copied(), &Some(0));
     Ok(())
 }
 
@@ -333,8 +337,8 @@ fn names_are_ordered_by_their_octets_and_then_by_their_scopes(rt: HostRuntime) -
     let bare = fred(b"")?;
     let scoped = fred(b"\x01z")?;
     let later = Name::new(b"GINA            ", b"\x01a")?;
-    assert!(rt; bare < scoped);
-    assert!(rt; scoped < later);
-    assert!(rt; bare < later);
+    expect(&rt, bare < scoped);
+    expect(&rt, scoped < later);
+    expect(&rt, bare < later);
     Ok(())
 }

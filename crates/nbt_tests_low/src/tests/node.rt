@@ -2,6 +2,7 @@
 //! RFC 1002's layouts. A datagram lives 1,000 ms at most, the longest lease is 60 s, and the node is started at 0. It has
 //! room for one name.
 
+use super::expect::{expect_eq, expect_eq_in, expect_in};
 use super::{FRED, STAR, TEAM, at, fred, name_of};
 use arrayvec::ArrayVec;
 use nbt_lease::Config;
@@ -150,22 +151,22 @@ fn play(rt: &impl Abort, steps: &[Step<'_>]) -> Result<(), Fail> {
         match *step {
             Step::Ask(ms, name, kind, expected) => {
                 let asked = node.ask(at(ms)?, &name_of(name)?, kind, 60, &mut out);
-                assert_eq!(rt; asked.err(), expected.err(), "{step:?}");
-                assert!(rt; out.as_slice() == expected.unwrap_or(b""), "{step:?}");
+                expect_eq_in(rt, &step, &asked.err(), &expected.err());
+                expect_in(rt, &step, out.as_slice() == expected.unwrap_or(b""));
             }
             Step::Release(ms, expected) => {
                 let released = node.release(at(ms)?, &fred(b"")?, &mut out);
-                assert_eq!(rt; released.err(), expected.err(), "{step:?}");
-                assert!(rt; out.as_slice() == expected.unwrap_or(b""), "{step:?}");
+                expect_eq_in(rt, &step, &released.err(), &expected.err());
+                expect_in(rt, &step, out.as_slice() == expected.unwrap_or(b""));
             }
             Step::Resolve(ms, expected) => {
                 let resolved = node.resolve(at(ms)?, &fred(b"")?, &mut out);
-                assert_eq!(rt; resolved.err(), expected.err(), "{step:?}");
-                assert!(rt; out.as_slice() == expected.unwrap_or(b""), "{step:?}");
+                expect_eq_in(rt, &step, &resolved.err(), &expected.err());
+                expect_in(rt, &step, out.as_slice() == expected.unwrap_or(b""));
             }
             Step::AskNames(ms, expected) => {
                 node.name_status(at(ms)?, OWN, &fred(b"")?, &mut out)?;
-                assert!(rt; out.as_slice() == expected, "{step:?}");
+                expect_in(rt, &step, out.as_slice() == expected);
             }
             _ => hear(rt, &mut node, step, &mut out)?,
         }
@@ -183,22 +184,22 @@ fn hear(
     match *step {
         Step::Poll(ms, expected) => {
             let to = node.poll(at(ms)?, out)?;
-            assert_eq!(rt; to, expected.map(|_| SERVER), "{step:?}");
-            assert!(rt; out.as_slice() == expected.unwrap_or(b""), "{step:?}");
+            expect_eq_in(rt, &step, &to, &expected.map(|_| SERVER));
+            expect_in(rt, &step, out.as_slice() == expected.unwrap_or(b""));
         }
         Step::PollBack(ms) => {
-            assert_eq!(rt; node.poll(at(ms)?, out), Err(ClockBack), "{step:?}");
+            expect_eq_in(rt, &step, &node.poll(at(ms)?, out), &Err(ClockBack));
         }
         Step::Respond(ms, from, response, expected) => {
             let octets = response.octets();
             let event = node.on_datagram(at(ms)?, from, &octets, out)?;
-            assert!(rt; event == expected, "{step:?}");
-            assert!(rt; out.is_empty(), "{step:?}");
+            expect_in(rt, &step, event == expected);
+            expect_in(rt, &step, out.is_empty());
         }
         Step::Hear(ms, from, octets, expected) => {
             let event = node.on_datagram(at(ms)?, from, octets, out)?;
-            assert!(rt; event == expected, "{step:?}");
-            assert!(rt; out.is_empty(), "{step:?}");
+            expect_in(rt, &step, event == expected);
+            expect_in(rt, &step, out.is_empty());
         }
         Step::Cut(ms, from, octets) => hear_cut(rt, node, ms, from, octets, out)?,
         Step::CutResponse(ms, from, response) => {
@@ -206,14 +207,14 @@ fn hear(
         }
         Step::Reply(ms, from, octets, expected) => {
             let event = node.on_datagram(at(ms)?, from, octets, out)?;
-            assert!(rt; event == Event::Reply, "{step:?}");
-            assert!(rt; out.as_slice() == expected, "{step:?}");
+            expect_in(rt, &step, event == Event::Reply);
+            expect_in(rt, &step, out.as_slice() == expected);
         }
         Step::Holds(ms, expected) => {
-            assert_eq!(rt; node.holds(at(ms)?, &fred(b"")?), expected, "{step:?}");
+            expect_eq_in(rt, &step, &node.holds(at(ms)?, &fred(b"")?), &expected);
         }
         Step::LookupOpen(ms, expected) => {
-            assert_eq!(rt; node.lookup_open(at(ms)?), expected, "{step:?}");
+            expect_eq_in(rt, &step, &node.lookup_open(at(ms)?), &expected);
         }
         _ => return Err("a step of the node's own")?,
     }
@@ -231,8 +232,8 @@ fn hear_cut(
 ) -> Result<(), Fail> {
     for length in 0..octets.len() {
         let event = node.on_datagram(at(ms)?, from, &octets[..length], out)?;
-        assert!(rt; event == Event::Nothing, "{length} of {octets:?}");
-        assert!(rt; out.is_empty(), "{length} of {octets:?}");
+        expect_in(rt, &(&length, &octets), event == Event::Nothing);
+        expect_in(rt, &(&length, &octets), out.is_empty());
     }
     Ok(())
 }
@@ -706,25 +707,25 @@ fn refusals_have_their_numbers_and_words(rt: HostRuntime) -> Result<(), Fail> {
     one_move();
     each_name();
     for (fault, number, word) in ASK_FAULTS {
-        assert_eq!(rt; fault.number(), number);
-        assert_eq!(rt; fault.word(), word);
-        assert_eq!(rt; AskFault::of(number), Some(fault));
+        expect_eq(&rt, &fault.number(), &number);
+        expect_eq(&rt, &fault.word(), &word);
+        expect_eq(&rt, &AskFault::of(number), &Some(fault));
     }
     for (fault, number, word) in RELEASE_FAULTS {
-        assert_eq!(rt; fault.number(), number);
-        assert_eq!(rt; fault.word(), word);
-        assert_eq!(rt; ReleaseFault::of(number), Some(fault));
+        expect_eq(&rt, &fault.number(), &number);
+        expect_eq(&rt, &fault.word(), &word);
+        expect_eq(&rt, &ReleaseFault::of(number), &Some(fault));
     }
     for (fault, number, word) in LOOKUP_FAULTS {
-        assert_eq!(rt; fault.number(), number);
-        assert_eq!(rt; fault.word(), word);
-        assert_eq!(rt; LookupFault::of(number), Some(fault));
+        expect_eq(&rt, &fault.number(), &number);
+        expect_eq(&rt, &fault.word(), &word);
+        expect_eq(&rt, &LookupFault::of(number), &Some(fault));
     }
-    assert_eq!(rt; AskFault::of(0), None);
-    assert_eq!(rt; AskFault::of(6), None);
-    assert_eq!(rt; ReleaseFault::of(2), None);
-    assert_eq!(rt; LookupFault::of(3), None);
-    assert_eq!(rt; ClockBack.number(), 4);
-    assert_eq!(rt; start()?.addr(), OWN);
+    expect_eq(&rt, &AskFault::of(0), &None);
+    expect_eq(&rt, &AskFault::of(6), &None);
+    expect_eq(&rt, &ReleaseFault::of(2), &None);
+    expect_eq(&rt, &LookupFault::of(3), &None);
+    expect_eq(&rt, &ClockBack.number(), &4);
+    expect_eq(&rt, &start()?.addr(), &OWN);
     Ok(())
 }

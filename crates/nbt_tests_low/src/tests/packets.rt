@@ -1,5 +1,6 @@
 //! Packets and messages from outside: the vectors of our profile over RFC 1002's layouts.
 
+use super::expect::{expect, expect_eq, expect_eq_in, expect_in};
 use super::{FRED, STAR, TEAM, fred, name_of, patched};
 use arrayvec::ArrayVec;
 use nbt_name::{Kind, Name, NameFaultKind, read_in};
@@ -201,15 +202,15 @@ const WRITTEN: &[Written] = &[
 /// The message is written as these octets, and what is read from them is written so again.
 fn written_and_read(rt: &impl Abort, message: &Message<'_>, octets: &[u8]) -> Result<(), Fail> {
     let mut out = ArrayVec::new();
-    assert!(rt; message.fits());
+    expect(rt, message.fits());
     encode(message, &mut out)?;
-    assert!(rt; out.as_slice() == octets, "{message:?}");
+    expect_in(rt, &message, out.as_slice() == octets);
     let (_, length) = decode(octets)?;
-    assert_eq!(rt; length, octets.len());
+    expect_eq(rt, &length, &octets.len());
     let read = read(octets).ok_or("no message")?;
-    assert!(rt; read.fits());
+    expect(rt, read.fits());
     encode(&read, &mut out)?;
-    assert!(rt; out.as_slice() == octets, "{message:?} read");
+    expect_in(rt, &message, out.as_slice() == octets);
     Ok(())
 }
 
@@ -227,15 +228,15 @@ fn messages_are_written_and_read(rt: HostRuntime) -> Result<(), Fail> {
 #[test]
 fn registration_of_fred(rt: HostRuntime) -> Result<(), Fail> {
     let (packet, length) = decode(REGISTRATION)?;
-    assert_eq!(rt; length, 68);
+    expect_eq(&rt, &length, &68);
     let Some(Message::Registration(read)) = classify(&packet) else {
         return Err(Fail::from("no registration"));
     };
-    assert_eq!(rt; read.id, 1);
-    assert!(rt; read.name == fred(b"")?);
-    assert_eq!(rt; read.kind, Kind::Unique);
-    assert_eq!(rt; read.addr, 0x7F000002);
-    assert_eq!(rt; read.ttl, 60);
+    expect_eq(&rt, &read.id, &1);
+    expect(&rt, read.name == fred(b"")?);
+    expect_eq(&rt, &read.kind, &Kind::Unique);
+    expect_eq(&rt, &read.addr, &0x7F000002);
+    expect_eq(&rt, &read.ttl, &60);
     Ok(())
 }
 
@@ -288,7 +289,7 @@ fn faults_and_their_places(rt: HostRuntime) -> Result<(), Fail> {
             kind: *kind,
             place: *place,
         };
-        assert_eq!(rt; decode(&octets).err(), Some(fault), "{patches:?}");
+        expect_eq_in(&rt, &patches, &decode(&octets).err(), &Some(fault));
     }
     Ok(())
 }
@@ -306,13 +307,13 @@ const WORDS: [(FaultKind, u8, &str); 6] = [
 fn numbers_and_words_of_a_packets_faults(rt: HostRuntime) -> Result<(), Fail> {
     for (kind, number, word) in WORDS {
         let text = format!(in rt.alloc(); "{kind}")?;
-        assert_eq!(rt; text.as_str(), word);
-        assert_eq!(rt; kind.number(), number);
-        assert_eq!(rt; kind.word(), word);
-        assert_eq!(rt; FaultKind::from_word(word.as_bytes()), Some(kind));
+        expect_eq(&rt, &text.as_str(), &word);
+        expect_eq(&rt, &kind.number(), &number);
+        expect_eq(&rt, &kind.word(), &word);
+        expect_eq(&rt, &FaultKind::from_word(word.as_bytes()), &Some(kind));
     }
     for word in ["", "TooMan", "toomany", "Full", "BadType"] {
-        assert_eq!(rt; FaultKind::from_word(word.as_bytes()), None);
+        expect_eq(&rt, &FaultKind::from_word(word.as_bytes()), &None);
     }
     Ok(())
 }
@@ -395,7 +396,7 @@ fn lines_of_the_table(rt: HostRuntime) -> Result<(), Fail> {
     one_message();
     for (octets, patches, word) in LINES {
         let octets = patched(&rt, octets, patches)?;
-        assert_eq!(rt; word_of(&octets)?, *word, "{patches:?}");
+        expect_eq_in(&rt, &patches, &word_of(&octets)?, &*word);
     }
     Ok(())
 }
@@ -427,10 +428,10 @@ fn packets_cut_at_every_length(rt: HostRuntime) -> Result<(), Fail> {
                 kind: FaultKind::Name(NameFaultKind::Short),
                 place,
             };
-            assert_eq!(rt; decode(cut).err(), Some(short), "{cut:?}");
-            assert!(rt; read(cut).is_none(), "{cut:?}");
+            expect_eq_in(&rt, &cut, &decode(cut).err(), &Some(short));
+            expect_in(&rt, &cut, read(cut).is_none());
         }
-        assert!(rt; read(octets).is_some(), "{octets:?}");
+        expect_in(&rt, &octets, read(octets).is_some());
     }
     Ok(())
 }
@@ -457,16 +458,16 @@ fn chain_of_1000_pointers(rt: &HostRuntime, first: u8) -> Result<Vec<u8>, Fail> 
 fn a_name_at_the_end_of_1000_pointers(rt: HostRuntime) -> Result<(), Fail> {
     let octets = chain_of_1000_pointers(&rt, 12)?;
     let (_, length) = decode(&octets)?;
-    assert_eq!(rt; length, 2_068);
-    assert_eq!(rt; octets.len(), 2_068);
-    assert!(rt; read_in(&octets, 2_056) == Ok((fred(b"")?, 2_058)));
+    expect_eq(&rt, &length, &2_068);
+    expect(&rt, octets.len() == 2_068);
+    expect(&rt, read_in(&octets, 2_056) == Ok((fred(b"")?, 2_058)));
 
     let octets = chain_of_1000_pointers(&rt, 56)?;
     let to_itself = Fault {
         kind: FaultKind::Name(NameFaultKind::BadPointer),
         place: 56,
     };
-    assert_eq!(rt; decode(&octets).err(), Some(to_itself));
+    expect_eq(&rt, &decode(&octets).err(), &Some(to_itself));
     Ok(())
 }
 
@@ -476,20 +477,26 @@ fn octets_after_the_packet_are_not_looked_at(rt: HostRuntime) -> Result<(), Fail
     let mut more = Vec::from_slice(rt.alloc(), REGISTRATION)?;
     more.extend_from_slice(b"\xFF\xFF\xFF")?;
     let (_, length) = decode(&more)?;
-    assert_eq!(rt; length, 68);
-    assert!(rt; matches!(read(&more), Some(Message::Registration(_))));
+    expect_eq(&rt, &length, &68);
+    expect(&rt, matches!(read(&more), Some(Message::Registration(_))));
     Ok(())
 }
 
 #[test]
 fn entries_and_status_names(rt: HostRuntime) -> Result<(), Fail> {
     spelled_message_fits();
-    assert!(rt; entry_octets(Kind::Unique, 0x7F000002) == *b"\x20\x00\x7F\x00\x00\x02");
-    assert!(rt; entry_octets(Kind::Group, 0xC0000201) == *b"\xA0\x00\xC0\x00\x02\x01");
+    expect(
+        &rt,
+        entry_octets(Kind::Unique, 0x7F000002) == *b"\x20\x00\x7F\x00\x00\x02",
+    );
+    expect(
+        &rt,
+        entry_octets(Kind::Group, 0xC0000201) == *b"\xA0\x00\xC0\x00\x02\x01",
+    );
     let unique = status_name_octets(FRED, Kind::Unique);
-    assert!(rt; unique == *b"FRED            \x24\x00");
+    expect(&rt, unique == *b"FRED            \x24\x00");
     let group = status_name_octets(TEAM, Kind::Group);
-    assert!(rt; group == *b"TEAM            \xA4\x00");
+    expect(&rt, group == *b"TEAM            \xA4\x00");
     Ok(())
 }
 
@@ -500,7 +507,7 @@ fn a_written_form_of_576_octets_and_one_longer(rt: HostRuntime) -> Result<(), Fa
     let entries = [0x20; 522];
     for (count, length) in [(86, 576), (87, 0)] {
         let end = 6 * count;
-        assert!(rt; end <= entries.len());
+        expect(&rt, end <= entries.len());
         let found = Message::Found {
             id: 1,
             name: fred(b"\x03abc")?,
@@ -508,13 +515,13 @@ fn a_written_form_of_576_octets_and_one_longer(rt: HostRuntime) -> Result<(), Fa
             entries: &entries[..end],
             cut: false,
         };
-        assert!(rt; found.fits());
+        expect(&rt, found.fits());
         let mut out = ArrayVec::new();
         let written = encode(&found, &mut out);
-        assert_eq!(rt; written.is_err(), count == 87);
-        assert_eq!(rt; out.len(), length);
+        expect_eq(&rt, &written.is_err(), &(count == 87));
+        expect_eq(&rt, &out.len(), &length);
     }
-    assert_eq!(rt; Full.number(), 7);
+    expect_eq(&rt, &Full.number(), &7);
     Ok(())
 }
 
@@ -526,9 +533,9 @@ fn as_many_entries_as_have_room_beside_a_name(rt: HostRuntime) -> Result<(), Fai
         longest[place] = 63;
     }
     longest[192] = 28;
-    assert_eq!(rt; entries_most(&fred(b"")?), 86);
-    assert_eq!(rt; entries_most(&fred(b"\x03abc")?), 86);
-    assert_eq!(rt; entries_most(&fred(b"\x04abcd")?), 85);
-    assert_eq!(rt; entries_most(&fred(&longest)?), 49);
+    expect_eq(&rt, &entries_most(&fred(b"")?), &86);
+    expect_eq(&rt, &entries_most(&fred(b"\x03abc")?), &86);
+    expect_eq(&rt, &entries_most(&fred(b"\x04abcd")?), &85);
+    expect_eq(&rt, &entries_most(&fred(&longest)?), &49);
     Ok(())
 }

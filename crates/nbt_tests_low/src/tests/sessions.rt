@@ -2,6 +2,7 @@
 
 ghost use Rattle.std.specs.Prelude.{◌≤◌, length, IfOk};
 
+use super::expect::{expect, expect_eq, expect_eq_in, expect_in};
 use super::{FRED, TEAM, fred, name_of, patched};
 use nbt_name::{Addr, Name};
 use nbt_session::{
@@ -73,12 +74,13 @@ fn packets_are_their_texts(rt: HostRuntime) -> Result<(), Fail> {
         let packet = packet(&rt, *said)?;
         let mut octets = Vec::from_slice(rt.alloc(), b"\xFF")?;
         encode(&packet, &mut octets)?;
-        assert_eq!(rt; octets[0], 0xFF);
-        assert_eq!(rt; &octets[1..], *text, "{said:?}");
+        expect_eq(&rt, &octets[0], &0xFF);
+        expect_eq_in(&rt, &said, &&octets[1..], &*text);
         let mut stream = Stream::new(rt.alloc());
-        assert!(rt;
+        expect_in(
+            &rt,
+            &said,
             stream.take(&octets[1..]) == Ok((text.len(), Some(packet))),
-            "{said:?}"
         );
     }
     Ok(())
@@ -102,16 +104,13 @@ fn play_cut<R: Abort + AllocGlobal>(
             held = held.saturating_add(taken);
             let Some(answer) = answer else { break };
             let (said, _) = TEXTS.get(came).ok_or("a packet more")?;
-            assert!(rt;
-                answer == packet(rt, *said)?,
-                "{said:?} in pieces of {size}"
-            );
+            expect_in(rt, &(&said, &size), answer == packet(rt, *said)?);
             came = came.saturating_add(1);
             held = 0;
         }
     }
-    assert_eq!(rt; came, TEXTS.len(), "in pieces of {size}");
-    assert_eq!(rt; held, more, "in pieces of {size}");
+    expect_eq_in(rt, &size, &came, &TEXTS.len());
+    expect_eq_in(rt, &size, &held, &more);
     Ok(())
 }
 
@@ -137,13 +136,11 @@ fn session_packets_cut_at_every_length(rt: HostRuntime) -> Result<(), Fail> {
         for place in 0..text.len() {
             let mut stream = Stream::new(rt.alloc());
             let (cut, rest) = text.split_at(place);
-            assert!(rt;
-                stream.take(cut) == Ok((place, None)),
-                "{said:?} at {place}"
-            );
-            assert!(rt;
+            expect_in(&rt, &(&said, &place), stream.take(cut) == Ok((place, None)));
+            expect_in(
+                &rt,
+                &(&said, &place),
                 stream.take(rest) == Ok((rest.len(), Some(packet(&rt, *said)?))),
-                "{said:?} at {place}"
             );
         }
     }
@@ -184,12 +181,12 @@ fn see_fault<R: Abort + AllocGlobal>(
     let last = octets.len().max(1) - 1;
     let mut stream = Stream::new(rt.alloc());
     for piece in [octets, b"", KEEP_ALIVE] {
-        assert_eq!(rt; stream.take(piece), Err(fault));
+        expect_eq(rt, &stream.take(piece), &Err(fault));
     }
     let mut stream = Stream::new(rt.alloc());
-    assert_eq!(rt; stream.take(&octets[..last]), Ok((last, None)));
+    expect_eq(rt, &stream.take(&octets[..last]), &Ok((last, None)));
     for piece in [&octets[last..], KEEP_ALIVE, b""] {
-        assert_eq!(rt; stream.take(piece), Err(fault));
+        expect_eq(rt, &stream.take(piece), &Err(fault));
     }
     Ok(())
 }
@@ -199,14 +196,14 @@ fn see_fault_in_parts(rt: &impl Abort, octets: &[u8], fault: StreamFault) -> Res
     let last = octets.len().max(1) - 1;
     let mut pieces = Pieces::new();
     for piece in [octets, b"", KEEP_ALIVE] {
-        assert_eq!(rt; pieces.take(piece), Err(fault));
+        expect_eq(rt, &pieces.take(piece), &Err(fault));
     }
     let mut pieces = Pieces::new();
     for octet in &octets[..last] {
-        assert_eq!(rt; pieces.take(&[*octet]), Ok((1, None)));
+        expect_eq(rt, &pieces.take(&[*octet]), &Ok((1, None)));
     }
     for piece in [&octets[last..], KEEP_ALIVE, b""] {
-        assert_eq!(rt; pieces.take(piece), Err(fault));
+        expect_eq(rt, &pieces.take(piece), &Err(fault));
     }
     Ok(())
 }
@@ -236,14 +233,14 @@ const NUMBERS: [(FaultKind, u8, &str); 4] = [
 #[test]
 fn numbers_and_words_of_faults(rt: HostRuntime) {
     for (kind, number, word) in NUMBERS {
-        assert_eq!(rt; kind.number(), number);
-        assert_eq!(rt; kind.word(), word);
+        expect_eq(&rt, &kind.number(), &number);
+        expect_eq(&rt, &kind.word(), &word);
         let fault = StreamFault::Malformed(Fault { kind, place: 0 });
-        assert_eq!(rt; fault.number(), number);
+        expect_eq(&rt, &fault.number(), &number);
     }
-    assert_eq!(rt; StreamFault::OutOfMemory.number(), 5);
-    assert_eq!(rt; EncodeFault::TooLong.number(), 1);
-    assert_eq!(rt; EncodeFault::OutOfMemory.number(), 2);
+    expect_eq(&rt, &StreamFault::OutOfMemory.number(), &5);
+    expect_eq(&rt, &EncodeFault::TooLong.number(), &1);
+    expect_eq(&rt, &EncodeFault::OutOfMemory.number(), &2);
 }
 
 /// What comes of a call: a part, or none.
@@ -307,8 +304,8 @@ fn parts_in_one_piece(rt: HostRuntime) -> Result<(), Fail> {
         let mut rest = *octets;
         for (count, comes) in *calls {
             let (taken, returned) = pieces.take(rest)?;
-            assert_eq!(rt; taken, *count, "{comes:?}");
-            assert!(rt; returned == part(&rt, *comes)?, "{comes:?}");
+            expect_eq_in(&rt, &comes, &taken, &*count);
+            expect_in(&rt, &comes, returned == part(&rt, *comes)?);
             rest = &rest[taken..];
         }
     }
@@ -331,18 +328,18 @@ fn the_longest_message_octet_by_octet(rt: HostRuntime) -> Result<(), Fail> {
     let mut stream = Stream::new(rt.alloc());
     for octet in &sent[..last] {
         let (taken, packet) = stream.take(&[*octet])?;
-        assert_eq!(rt; taken, 1);
-        assert!(rt; packet.is_none());
+        expect_eq(&rt, &taken, &1);
+        expect(&rt, packet.is_none());
     }
     let mut piece = Vec::from_slice(rt.alloc(), &sent[last..])?;
     piece.push(b'!')?;
     let (taken, packet) = stream.take(&piece)?;
-    assert_eq!(rt; taken, 1);
+    expect_eq(&rt, &taken, &1);
     let Some(Packet::Message(octets)) = packet else {
         return Err("no message")?;
     };
-    assert_eq!(rt; sent.len(), 131_075);
-    assert!(rt; octets.as_slice() == &sent[4..]);
+    expect(&rt, sent.len() == 131_075);
+    expect(&rt, octets.as_slice() == &sent[4..]);
     Ok(())
 }
 
@@ -361,30 +358,30 @@ fn parts_of_data<R: Abort + AllocGlobal>(rt: &R, size: usize) -> Result<usize, F
             match part {
                 None => break,
                 Some(Part::MessageData(lent)) => {
-                    assert!(rt; !lent.is_empty());
+                    expect(rt, !lent.is_empty());
                     came.extend_from_slice(lent)?;
                     parts = parts.saturating_add(1);
                 }
                 Some(other) => {
-                    assert_eq!(rt; came.len(), 131_071 * others.len().min(1));
+                    expect_eq(rt, &came.len(), &(131_071 * others.len().min(1)));
                     others.push(other)?;
                 }
             }
         }
-        assert_eq!(rt; rest.len(), 0);
+        expect_eq(rt, &rest.len(), &0);
     }
-    assert_eq!(rt; octets.len(), 131_075);
-    assert!(rt; came.as_slice() == &octets[4..]);
-    assert_eq!(rt; others.len(), 2);
-    assert!(rt; others[0] == Part::MessageStart(131_071));
-    assert!(rt; others[1] == Part::MessageEnd);
+    expect(rt, octets.len() == 131_075);
+    expect(rt, came.as_slice() == &octets[4..]);
+    expect(rt, others.len() == 2);
+    expect(rt, others[0] == Part::MessageStart(131_071));
+    expect(rt, others[1] == Part::MessageEnd);
     Ok(parts)
 }
 
 #[test]
 fn the_longest_message_in_pieces(rt: HostRuntime) -> Result<(), Fail> {
     for (size, parts) in [(1, 131_071), (1_460, 90), (131_075, 1)] {
-        assert_eq!(rt; parts_of_data(&rt, size)?, parts, "in pieces of {size}");
+        expect_eq_in(&rt, &size, &parts_of_data(&rt, size)?, &parts);
     }
     Ok(())
 }
@@ -409,13 +406,16 @@ fn the_longest_request_octet_by_octet(rt: HostRuntime) -> Result<(), Fail> {
     };
     let mut octets = Vec::new(rt.alloc());
     encode(&request, &mut octets)?;
-    assert_eq!(rt; octets.len(), 514);
+    expect_eq(&rt, &octets.len(), &514);
     let mut pieces = Pieces::new();
     let last = octets.len().max(1) - 1;
     for octet in &octets[..last] {
-        assert_eq!(rt; pieces.take(&[*octet]), Ok((1, None)));
+        expect_eq(&rt, &pieces.take(&[*octet]), &Ok((1, None)));
     }
-    assert!(rt; pieces.take(&octets[last..]) == Ok((1, Some(Part::Other(request)))));
+    expect(
+        &rt,
+        pieces.take(&octets[last..]) == Ok((1, Some(Part::Other(request)))),
+    );
     Ok(())
 }
 
@@ -425,13 +425,13 @@ fn a_message_of_131072_octets_is_too_long(rt: HostRuntime) -> Result<(), Fail> {
     octets.resize(131_071, b'x')?;
     let mut out = Vec::new(rt.alloc());
     encode(&packet(&rt, Said::Message(&octets))?, &mut out)?;
-    assert_eq!(rt; out.len(), 131_075);
-    assert_eq!(rt; &out[..5], b"\x00\x01\xFF\xFFx".as_slice());
+    expect(&rt, out.len() == 131_075);
+    expect_eq(&rt, &&out[..5], &b"\x00\x01\xFF\xFFx".as_slice());
     octets.push(b'x')?;
     out.truncate(2);
     let refused = encode(&packet(&rt, Said::Message(&octets))?, &mut out);
-    assert_eq!(rt; refused, Err(EncodeFault::TooLong));
-    assert_eq!(rt; out.as_slice(), b"\x00\x01".as_slice());
+    expect_eq(&rt, &refused, &Err(EncodeFault::TooLong));
+    expect_eq(&rt, &out.as_slice(), &b"\x00\x01".as_slice());
     Ok(())
 }
 
@@ -464,22 +464,26 @@ fn refused_memory_leaves_the_stream(rt: HostRuntime) -> Result<(), Fail> {
     laws::one_answer();
     let mut stream = Stream::new(rt.alloc());
     let mut sent = Vec::new(rt.alloc());
-    assert!(rt; take(&mut stream, b"\x00\x00\x01\x00") == Ok((4, None)));
+    expect(&rt, take(&mut stream, b"\x00\x00\x01\x00") == Ok((4, None)));
     for place in 0..255u8 {
         sent.push(place)?;
-        assert!(rt; take(&mut stream, &[place]) == Ok((1, None)));
+        expect(&rt, take(&mut stream, &[place]) == Ok((1, None)));
     }
     sent.push(0xFF)?;
     let message = packet(&rt, Said::Message(&sent))?;
-    assert!(rt; take(&mut stream, b"\xFF\x85\x00\x00\x00") == Ok((1, Some(message))));
+    expect(
+        &rt,
+        take(&mut stream, b"\xFF\x85\x00\x00\x00") == Ok((1, Some(message))),
+    );
     for (piece, taken, said) in &MEMORY {
         let wanted = match said {
             Some(said) => Some(packet(&rt, *said)?),
             None => None,
         };
-        assert!(rt;
+        expect_in(
+            &rt,
+            &said,
             take(&mut stream, *piece) == Ok((*taken, wanted)),
-            "{said:?}"
         );
     }
     Ok(())
@@ -492,15 +496,16 @@ fn refused_memory_leaves_the_octets(rt: HostRuntime) -> Result<(), Fail> {
     for count in 0..200 {
         let mut written = encode(&Packet::Retarget(SECOND), &mut octets);
         if written == Err(EncodeFault::OutOfMemory) {
-            assert_eq!(rt; octets.len(), 10 * count);
+            expect_eq(&rt, &octets.len(), &(10 * count));
             written = encode(&Packet::Retarget(SECOND), &mut octets);
         }
-        assert_eq!(rt; written, Ok(()));
-        assert_eq!(rt; octets.len(), 10 * (count + 1));
+        expect_eq(&rt, &written, &Ok(()));
+        expect_eq(&rt, &octets.len(), &(10 * (count + 1)));
         let last = octets.len().max(10) - 10;
-        assert_eq!(rt;
-            &octets[last..],
-            b"\x84\x00\x00\x06\x7F\x00\x00\x03\x00\x8B".as_slice()
+        expect_eq(
+            &rt,
+            &&octets[last..],
+            &b"\x84\x00\x00\x06\x7F\x00\x00\x03\x00\x8B".as_slice(),
         );
     }
     Ok(())

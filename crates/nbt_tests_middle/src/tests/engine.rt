@@ -1,5 +1,6 @@
 //! A server and a node over a port in memory: the life of a datagram 1,000 ms, the longest lease 60 s, all started at 0.
 
+use super::expect::{expect, expect_eq, expect_eq_in};
 use arrayvec::ArrayVec;
 use nbt_engine::{
     Counts, Datagram, Device, MemoryClock, MemoryPort, Port, Seen, Want, node_turn, serve_turns,
@@ -44,7 +45,7 @@ fn serve<R: Abort>(
     server: &mut Server,
     turns: u64,
 ) -> Result<Counts, Device> {
-    assert!(rt; port.failures() < 1 << 62);
+    expect(rt, port.failures() < 1 << 62);
     serve_turns(port, clock, server, turns)
 }
 
@@ -56,7 +57,7 @@ fn turn<R: Abort>(
     node: &mut Node<2>,
     want: &Want,
 ) -> Result<Seen, Device> {
-    assert!(rt; port.failures() < 1 << 62);
+    expect(rt, port.failures() < 1 << 62);
     node_turn(port, clock, node, SERVER, want)
 }
 
@@ -81,9 +82,9 @@ fn play<R: Abort + AllocGlobal>(rt: &R, turns: &Turns) -> Result<(), Fail> {
         &mut started(rt, 4096, 0)?,
         receives,
     )?;
-    assert_eq!(rt; counts.receives, receives);
-    assert_eq!(rt; counts.replies, replies);
-    assert_eq!(rt; counts.lost, lost);
+    expect_eq(rt, &counts.receives, &receives);
+    expect_eq(rt, &counts.replies, &replies);
+    expect_eq(rt, &counts.lost, &lost);
     expect_sent(rt, &port, turns.sent)
 }
 
@@ -147,7 +148,7 @@ fn expect_reply<R: Abort + AllocGlobal>(
         octets(rt, asks)?.as_slice(),
         &mut out,
     )?;
-    assert_eq!(rt; out.as_slice(), octets(rt, gives)?.as_slice());
+    expect_eq(rt, &out.as_slice(), &octets(rt, gives)?.as_slice());
     Ok(())
 }
 
@@ -221,21 +222,22 @@ fn go_on<R: Abort + AllocGlobal>(
     failure: &Failure,
 ) -> Result<(), Fail> {
     let call = failure.call;
-    assert_eq!(rt; serve(rt, port, clock, server, 2), Err(Device), "{call}");
-    assert_eq!(rt; port.failures(), 1, "{call}");
-    assert_eq!(rt; server.last(), moment(failure.last)?, "{call}");
+    expect_eq_in(rt, &call, &serve(rt, port, clock, server, 2), &Err(Device));
+    expect_eq_in(rt, &call, &port.failures(), &1);
+    expect_eq_in(rt, &call, &server.last(), &moment(failure.last)?);
     expect_reply(rt, server, QUERY, failure.query)?;
     let wanted = Counts {
         receives: failure.turns,
         replies: failure.replies,
         lost: 0,
     };
-    assert_eq!(rt;
-        serve(rt, port, clock, server, failure.turns)?,
-        wanted,
-        "{call}"
+    expect_eq_in(
+        rt,
+        &call,
+        &serve(rt, port, clock, server, failure.turns)?,
+        &wanted,
     );
-    assert_eq!(rt; port.failures(), 1, "{call}");
+    expect_eq_in(rt, &call, &port.failures(), &1);
     expect_sent(rt, port, failure.sent)
 }
 
@@ -289,13 +291,17 @@ fn nothing_lost(rt: HostRuntime) -> Result<(), Fail> {
         replies: 4096,
         lost: 0,
     };
-    assert_eq!(&rt;
-        serve(&rt, &mut port, &mut clock, &mut server, 4096),
-        Ok(wanted)
+    expect_eq(
+        &rt,
+        &serve(&rt, &mut port, &mut clock, &mut server, 4096),
+        &Ok(wanted),
     );
-    assert_eq!(&rt; port.sent().len(), 4096);
+    expect_eq(&rt, &port.sent().len(), &4096);
     for datagram in port.sent() {
-        assert!(&rt; matches!(datagram.octets.as_slice(), [_, _, 0xAD, 0x80, ..]));
+        expect(
+            &rt,
+            matches!(datagram.octets.as_slice(), [_, _, 0xAD, 0x80, ..]),
+        );
     }
     Ok(())
 }
@@ -349,15 +355,16 @@ fn a_name_is_asked_for_granted_and_renewed(rt: HostRuntime) -> Result<(), Fail> 
     let want = fred()?;
     for seen in SEEN {
         let got = turn(&rt, &mut port, &mut clock, &mut node, &want)?;
-        assert_eq!(&rt; got, seen);
+        expect_eq(&rt, &got, &seen);
         if seen == Seen::Granted(60) {
             expect_sent(&rt, &port, &[(SERVER, REGISTRATION)])?;
         }
     }
     expect_sent(&rt, &port, &[REQUEST, STATUS_REPLY, REFRESHING])?;
-    assert_eq!(&rt;
-        node.holds(moment(149_877)?, &want.name),
-        Some(Kind::Unique)
+    expect_eq(
+        &rt,
+        &node.holds(moment(149_877)?, &want.name),
+        &Some(Kind::Unique),
     );
     Ok(())
 }
@@ -369,22 +376,25 @@ fn a_request_that_was_not_sent_is_sent_again(rt: HostRuntime) -> Result<(), Fail
     let mut clock = clock(&rt, &[60_000, 65_000])?;
     let mut node = node()?;
     let want = fred()?;
-    assert_eq!(&rt;
-        turn(&rt, &mut port, &mut clock, &mut node, &want),
-        Err(Device)
+    expect_eq(
+        &rt,
+        &turn(&rt, &mut port, &mut clock, &mut node, &want),
+        &Err(Device),
     );
-    assert_eq!(&rt; port.failures(), 1);
+    expect_eq(&rt, &port.failures(), &1);
     // It is asking: it doesn't hold the name, and asks for it again at 65,000 alone.
     let mut out = ArrayVec::new();
-    assert_eq!(&rt; node.holds(moment(60_000)?, &want.name), None);
-    assert_eq!(&rt;
-        node.ask(moment(60_000)?, &want.name, want.kind, 60, &mut out),
-        Err(AskFault::Busy)
+    expect_eq(&rt, &node.holds(moment(60_000)?, &want.name), &None);
+    expect_eq(
+        &rt,
+        &node.ask(moment(60_000)?, &want.name, want.kind, 60, &mut out),
+        &Err(AskFault::Busy),
     );
-    assert_eq!(&rt; node.poll(moment(64_999)?, &mut out), Ok(None));
-    assert_eq!(&rt;
-        turn(&rt, &mut port, &mut clock, &mut node, &want)?,
-        Seen::Nothing
+    expect_eq(&rt, &node.poll(moment(64_999)?, &mut out), &Ok(None));
+    expect_eq(
+        &rt,
+        &turn(&rt, &mut port, &mut clock, &mut node, &want)?,
+        &Seen::Nothing,
     );
     expect_sent(&rt, &port, &[(SERVER, REGISTRATION)])
 }
@@ -435,23 +445,25 @@ fn node_goes_on<R: Abort + AllocGlobal>(
 ) -> Result<(), Fail> {
     let mut node = node()?;
     let want = fred()?;
-    assert_eq!(rt;
-        four_turns(rt, port, clock, &mut node, &want),
-        Err(Device),
-        "{call}"
+    expect_eq_in(
+        rt,
+        &call,
+        &four_turns(rt, port, clock, &mut node, &want),
+        &Err(Device),
     );
-    assert_eq!(rt; port.failures(), 1, "{call}");
+    expect_eq_in(rt, &call, &port.failures(), &1);
     // Before the grant has come it doesn't hold the name, and after it no failure loses it.
     let holds = node.holds(moment(100_000)?, &want.name);
-    assert_eq!(rt; holds.is_some(), call >= 2, "{call}");
-    assert_eq!(rt;
-        four_turns(rt, port, clock, &mut node, &want),
-        Ok(()),
-        "{call}"
+    expect_eq_in(rt, &call, &holds.is_some(), &(call >= 2));
+    expect_eq_in(
+        rt,
+        &call,
+        &four_turns(rt, port, clock, &mut node, &want),
+        &Ok(()),
     );
-    assert_eq!(rt; port.failures(), 1, "{call}");
+    expect_eq_in(rt, &call, &port.failures(), &1);
     let held = node.holds(moment(149_877)?, &want.name);
-    assert_eq!(rt; held, Some(Kind::Unique), "{call}");
+    expect_eq_in(rt, &call, &held, &Some(Kind::Unique));
     expect_sent(rt, port, sent)
 }
 

@@ -1,5 +1,6 @@
 //! The lines of an input, and the words that they say.
 
+use super::expect::{expect_eq, expect_in};
 use nbt_text::{NEWLINE, digits_of, end_line, lines_of, words_said};
 use std::process::Abort;
 use std::test::Fail;
@@ -40,9 +41,9 @@ fn lines_and_the_words_that_they_say(rt: HostRuntime) -> Result<(), Fail> {
     ];
     for (input, wanted) in rows {
         let text = told(&rt, input)?;
-        assert_eq!(&rt; text.as_str(), wanted);
+        expect_eq(&rt, &text.as_str(), &wanted);
     }
-    assert_eq!(&rt; NEWLINE, b'\n');
+    expect_eq(&rt, &NEWLINE, &b'\n');
     Ok(())
 }
 
@@ -57,7 +58,7 @@ fn digits_after_hex(rt: HostRuntime) {
         (b"46", None),
     ];
     for (text, digits) in rows {
-        assert!(rt; digits_of(text) == digits, "{text:?}");
+        expect_in(&rt, &text, digits_of(text) == digits);
     }
 }
 
@@ -67,9 +68,9 @@ fn lines_of_2_000_and_words_as_many(rt: HostRuntime) -> Result<(), Fail> {
     for _ in 0..2_000 {
         input.push_str("a b\n")?;
     }
-    assert_eq!(&rt; lines_of(rt.alloc(), input.as_bytes())?.len(), 2_001);
+    expect_eq(&rt, &lines_of(rt.alloc(), input.as_bytes())?.len(), &2_001);
     // The last word of a line and the first one of the next are one where line feeds end no word.
     let words = words_said(rt.alloc(), input.as_bytes())?.ok_or("no words")?;
-    assert_eq!(&rt; words.len(), 2_001);
+    expect_eq(&rt, &words.len(), &2_001);
     Ok(())
 }

@@ -1,5 +1,6 @@
 //! Ports over UDP, and the machine's clock.
 
+use super::expect::{expect, expect_eq, expect_eq_in};
 use arrayvec::ArrayVec;
 use nbt_engine::{Clock, Device, MachineClock, Port, UdpPort};
 use nbt_name::Addr;
@@ -27,7 +28,7 @@ fn pair(port: u16) -> [Addr; 2] {
 
 /// These octets are sent.
 fn send<R: Abort>(rt: &R, port: &mut UdpPort, to: Addr, octets: &[u8]) -> Result<(), Device> {
-    assert!(rt; port.failures() < 1 << 62);
+    expect(rt, port.failures() < 1 << 62);
     port.send(to, octets)
 }
 
@@ -37,7 +38,7 @@ fn receive<R: Abort>(
     port: &mut UdpPort,
     octets: &mut ArrayVec<u8, 2048>,
 ) -> Result<Option<Addr>, Device> {
-    assert!(rt; port.failures() < 1 << 62);
+    expect(rt, port.failures() < 1 << 62);
     port.receive(octets)
 }
 
@@ -45,25 +46,25 @@ fn receive<R: Abort>(
 fn datagrams_go_over_udp(rt: HostRuntime) -> Result<(), Fail> {
     let mut near = UdpPort::bind(&rt, HERE)?;
     let mut far = UdpPort::bind(&rt, THERE)?;
-    assert!(&rt; UdpPort::bind(&rt, HERE).is_err());
-    assert_eq!(&rt; near.local()?, HERE);
-    assert_eq!(&rt; near.addr(), HERE);
+    expect(&rt, UdpPort::bind(&rt, HERE).is_err());
+    expect_eq(&rt, &near.local()?, &HERE);
+    expect_eq(&rt, &near.addr(), &HERE);
     // For port 0 the machine chooses one.
     let chosen = UdpPort::bind(&rt, Addr { port: 0, ..HERE })?.local()?;
-    assert_eq!(&rt; chosen.ip, HERE.ip);
-    assert!(&rt; chosen.port > 0);
+    expect_eq(&rt, &chosen.ip, &HERE.ip);
+    expect(&rt, chosen.port > 0);
     let mut octets = ArrayVec::new();
     send(&rt, &mut near, THERE, b"hello")?;
-    assert_eq!(&rt; receive(&rt, &mut far, &mut octets)?, Some(HERE));
-    assert_eq!(&rt; octets.as_slice(), b"hello".as_slice());
-    assert_eq!(&rt; receive(&rt, &mut far, &mut octets)?, None);
-    assert_eq!(&rt; far.failures(), 0);
+    expect_eq(&rt, &receive(&rt, &mut far, &mut octets)?, &Some(HERE));
+    expect_eq(&rt, &octets.as_slice(), &b"hello".as_slice());
+    expect_eq(&rt, &receive(&rt, &mut far, &mut octets)?, &None);
+    expect_eq(&rt, &far.failures(), &0);
     // There is no way to port 0: what is sent there is lost, and the device is well.
     let nowhere = Addr { port: 0, ..THERE };
-    assert_eq!(&rt; send(&rt, &mut near, nowhere, b"hello"), Ok(()));
-    assert_eq!(&rt; near.failures(), 0);
+    expect_eq(&rt, &send(&rt, &mut near, nowhere, b"hello"), &Ok(()));
+    expect_eq(&rt, &near.failures(), &0);
     // The year is past 2001.
-    assert!(&rt; MachineClock::new(&rt).now().get() > 1_000_000_000_000);
+    expect(&rt, MachineClock::new(&rt).now().get() > 1_000_000_000_000);
     Ok(())
 }
 
@@ -75,12 +76,12 @@ fn a_datagram_stands_alone_in_the_buffer(rt: HostRuntime) -> Result<(), Fail> {
     let mut octets = ArrayVec::new();
     for sent in [b"the first".as_slice(), b"second", b"", b"3"] {
         send(&rt, &mut near, there, sent)?;
-        assert_eq!(&rt; receive(&rt, &mut far, &mut octets)?, Some(here));
-        assert_eq!(&rt; octets.as_slice(), sent);
+        expect_eq(&rt, &receive(&rt, &mut far, &mut octets)?, &Some(here));
+        expect_eq(&rt, &octets.as_slice(), &sent);
     }
     // Nothing comes, and nothing stands there.
-    assert_eq!(&rt; receive(&rt, &mut far, &mut octets)?, None);
-    assert!(&rt; octets.is_empty());
+    expect_eq(&rt, &receive(&rt, &mut far, &mut octets)?, &None);
+    expect(&rt, octets.is_empty());
     Ok(())
 }
 
@@ -112,11 +113,17 @@ fn a_datagram_is_cut_at_2048_octets_alone(rt: HostRuntime) -> Result<(), Fail> {
     let mut octets = ArrayVec::new();
     for (sent, taken) in LENGTHS {
         send(&rt, &mut near, there, counted(&rt, sent)?.as_slice())?;
-        assert_eq!(&rt; receive(&rt, &mut far, &mut octets)?, Some(here), "{sent}");
-        assert_eq!(&rt;
-            octets.as_slice(),
-            counted(&rt, taken)?.as_slice(),
-            "{sent}"
+        expect_eq_in(
+            &rt,
+            &sent,
+            &receive(&rt, &mut far, &mut octets)?,
+            &Some(here),
+        );
+        expect_eq_in(
+            &rt,
+            &sent,
+            &octets.as_slice(),
+            &counted(&rt, taken)?.as_slice(),
         );
     }
     Ok(())
@@ -129,16 +136,24 @@ fn a_datagram_that_udp_can_not_carry_is_a_failure(rt: HostRuntime) -> Result<(),
     let mut far = UdpPort::bind(&rt, there)?;
     // A datagram of IPv4 has 65,535 octets at most, of which 28 are headers (RFC 791, RFC 768).
     let long = counted(&rt, 65_508)?;
-    assert_eq!(&rt; send(&rt, &mut near, there, long.as_slice()), Err(Device));
-    assert_eq!(&rt; near.failures(), 1);
-    assert_eq!(&rt; send(&rt, &mut near, there, long.as_slice()), Err(Device));
-    assert_eq!(&rt; near.failures(), 2);
+    expect_eq(
+        &rt,
+        &send(&rt, &mut near, there, long.as_slice()),
+        &Err(Device),
+    );
+    expect_eq(&rt, &near.failures(), &1);
+    expect_eq(
+        &rt,
+        &send(&rt, &mut near, there, long.as_slice()),
+        &Err(Device),
+    );
+    expect_eq(&rt, &near.failures(), &2);
     // What is sent after it comes.
     let mut octets = ArrayVec::new();
     send(&rt, &mut near, there, b"hello")?;
-    assert_eq!(&rt; receive(&rt, &mut far, &mut octets)?, Some(here));
-    assert_eq!(&rt; octets.as_slice(), b"hello".as_slice());
-    assert_eq!(&rt; far.failures(), 0);
+    expect_eq(&rt, &receive(&rt, &mut far, &mut octets)?, &Some(here));
+    expect_eq(&rt, &octets.as_slice(), &b"hello".as_slice());
+    expect_eq(&rt, &far.failures(), &0);
     Ok(())
 }
 
@@ -182,8 +197,8 @@ fn a_clock_without_a_moment_tells_the_last_one_again(rt: HostRuntime) -> Result<
     let mut clock = MachineClock::new(&machine);
     for (shows, told) in TIMES {
         machine.shows.set(shows);
-        assert_eq!(&rt; clock.now(), moment(told)?, "{told}");
-        assert_eq!(&rt; clock.last(), moment(told)?, "{told}");
+        expect_eq_in(&rt, &told, &clock.now(), &moment(told)?);
+        expect_eq_in(&rt, &told, &clock.last(), &moment(told)?);
     }
     Ok(())
 }

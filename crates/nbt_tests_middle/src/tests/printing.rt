@@ -1,6 +1,7 @@
 //! Addresses, numbers, octets, packets, datagrams, sessions and vectors as text. What `show` and `check` print is tested
 //! with the commands.
 
+use super::expect::{expect, expect_eq, expect_eq_in, expect_in};
 use nbt_name::Addr;
 use nbt_rows::{EVERY_KIND, octets};
 use nbt_show::{write_dgram, write_packet, write_session, write_verdicts};
@@ -14,8 +15,8 @@ fn address_of_the_name_service(rt: HostRuntime) {
         ip: 0xC612_8901,
         port: 137,
     };
-    assert!(rt; parse_address("198.18.137.1:137") == Some(address));
-    assert!(rt; parse_address("198.18.137.01:137").is_none());
+    expect(&rt, parse_address("198.18.137.1:137") == Some(address));
+    expect(&rt, parse_address("198.18.137.01:137").is_none());
 }
 
 const NUMBERS: [(&[u8], Option<u64>); 5] = [
@@ -29,7 +30,7 @@ const NUMBERS: [(&[u8], Option<u64>); 5] = [
 #[test]
 fn numbers_in_digits_alone(rt: HostRuntime) {
     for (text, number) in NUMBERS {
-        assert!(rt; parse_number(text) == number, "{text:?}");
+        expect_in(&rt, &text, parse_number(text) == number);
     }
 }
 
@@ -106,8 +107,8 @@ fn play<R: Abort + AllocGlobal>(rt: &R, rows: &[Row]) -> Result<(), Fail> {
     for (prints, octets, well, wanted) in rows {
         let mut text = String::from_str(rt.alloc(), "> ")?;
         let got = print(*prints, octets, &mut text)?;
-        assert_eq!(rt; text.as_str(), *wanted);
-        assert_eq!(rt; got, *well, "{wanted}");
+        expect_eq(rt, &text.as_str(), &*wanted);
+        expect_eq_in(rt, &wanted, &got, &*well);
     }
     Ok(())
 }
@@ -153,13 +154,14 @@ fn expect_cut<R: Abort + AllocGlobal>(rt: &R, prints: Prints, whole: &[u8]) -> R
     };
     for length in 0..whole.len() {
         let mut text = String::new(rt.alloc());
-        assert_eq!(rt;
-            print(prints, &whole[..length], &mut text)?,
-            well,
-            "{length}"
+        expect_eq_in(
+            rt,
+            &length,
+            &print(prints, &whole[..length], &mut text)?,
+            &well,
         );
         let wanted = format!(in rt.alloc(); "{words} {length}\n")?;
-        assert!(rt; text == wanted, "{text}");
+        expect_in(rt, &text, text == wanted);
     }
     Ok(())
 }
@@ -209,8 +211,11 @@ fn a_message_of_60_000_octets(rt: HostRuntime) -> Result<(), Fail> {
     // A session message's header has its length, 0xEA60 (RFC 1002 section 4.3.6).
     let octets = repeated(&rt, b"\x00\x00\xea\x60", 0xA5, MANY)?;
     let mut text = String::new(rt.alloc());
-    assert!(&rt; write_session(octets.as_slice(), &mut text)?);
-    assert!(&rt; text == digits(&rt, "message 60000 ", MANY, "\nrest 0\n")?);
+    expect(&rt, write_session(octets.as_slice(), &mut text)?);
+    expect(
+        &rt,
+        text == digits(&rt, "message 60000 ", MANY, "\nrest 0\n")?,
+    );
     Ok(())
 }
 
@@ -226,8 +231,8 @@ fn a_datagram_of_1_000_octets_of_data(rt: HostRuntime) -> Result<(), Fail> {
         "\nlength 1082\n",
     )?;
     let mut text = String::new(rt.alloc());
-    assert!(&rt; write_dgram(octets.as_slice(), &mut text)?);
-    assert!(&rt; text == wanted);
+    expect(&rt, write_dgram(octets.as_slice(), &mut text)?);
+    expect(&rt, text == wanted);
     Ok(())
 }
 
@@ -242,8 +247,8 @@ fn a_packet_of_86_entries_that_is_cut(rt: HostRuntime) -> Result<(), Fail> {
         "\nmessage found\nlength 572\n",
     )?;
     let mut text = String::new(rt.alloc());
-    assert!(&rt; write_packet(octets.as_slice(), &mut text)?);
-    assert!(&rt; text == wanted);
+    expect(&rt, write_packet(octets.as_slice(), &mut text)?);
+    expect(&rt, text == wanted);
     Ok(())
 }
 
@@ -253,9 +258,9 @@ fn as_many_octets_in_hexadecimal_and_back(rt: HostRuntime) -> Result<(), Fail> {
     let wanted = digits(&rt, "", MANY, "")?;
     let mut text = String::new(rt.alloc());
     write_hexadecimal(octets.as_slice(), &mut text)?;
-    assert!(&rt; text == wanted);
+    expect(&rt, text == wanted);
     let back = octets_of(rt.alloc(), wanted.as_bytes())?.ok_or("no octets")?;
-    assert!(&rt; back.as_slice() == octets.as_slice());
+    expect(&rt, back.as_slice() == octets.as_slice());
     Ok(())
 }
 
@@ -269,8 +274,8 @@ fn many_keep_alives_and_many_packets_of_a_session(rt: HostRuntime) -> Result<(),
     }
     wanted.push_str("rest 0\n")?;
     let mut text = String::new(rt.alloc());
-    assert!(&rt; write_session(octets.as_slice(), &mut text)?);
-    assert!(&rt; text == wanted);
+    expect(&rt, write_session(octets.as_slice(), &mut text)?);
+    expect(&rt, text == wanted);
     Ok(())
 }
 
@@ -284,9 +289,9 @@ fn vectors_of_2_000_lines_and_words_as_many(rt: HostRuntime) -> Result<(), Fail>
     }
     wanted.push_str("2000 passed, 0 failed\n")?;
     let mut text = String::new(rt.alloc());
-    assert!(&rt; write_verdicts(input.as_bytes(), &mut text)?);
-    assert!(&rt; text == wanted);
+    expect(&rt, write_verdicts(input.as_bytes(), &mut text)?);
+    expect(&rt, text == wanted);
     // Five words a line, of which the last one goes on to the next.
-    assert_eq!(&rt; words_of(rt.alloc(), input.as_bytes())?.len(), 8_001);
+    expect_eq(&rt, &words_of(rt.alloc(), input.as_bytes())?.len(), &8_001);
     Ok(())
 }

@@ -1,5 +1,6 @@
 //! Scripts and what they print. The rest is tested with the command.
 
+use super::expect::{expect, expect_eq, expect_eq_in, expect_in};
 use nbt_sim::play;
 use std::process::Abort;
 use std::test::Fail;
@@ -132,36 +133,36 @@ const BAD_LINES: [&str; 9] = [
 fn a_name_is_asked_for_and_held_and_a_line_that_can_not_be_read_ends_the_script(
     rt: HostRuntime,
 ) -> Result<(), Fail> {
-    expect(&rt, &SCRIPTS)
+    expect_prints(&rt, &SCRIPTS)
 }
 
 #[test]
 fn a_fast_server_and_a_slow_holder_within_the_drift_bound_and_beyond_it(
     rt: HostRuntime,
 ) -> Result<(), Fail> {
-    expect(&rt, &[AHEAD, WITHIN, BEYOND, STOPPED])
+    expect_prints(&rt, &[AHEAD, WITHIN, BEYOND, STOPPED])
 }
 
 #[test]
 fn clocks_move_by_a_number_for_each_end(rt: HostRuntime) -> Result<(), Fail> {
     let before = "advance 1 1 1 1\nconfig 1000 60 4096 2\n";
-    expect(&rt, &[(before, false, "line 1: unreadable\n")])?;
+    expect_prints(&rt, &[(before, false, "line 1: unreadable\n")])?;
     for line in BAD_LINES {
         let script = format!(in rt.alloc(); "config 1000 60 4096 2\nkept\n{line}\nkept\n")?;
         let mut out = String::new(rt.alloc());
-        assert!(&rt; !play(script.as_bytes(), &mut out)?, "{line}");
-        assert_eq!(&rt; out.as_str(), "kept\nline 3: unreadable\n");
+        expect_in(&rt, &line, !play(script.as_bytes(), &mut out)?);
+        expect_eq(&rt, &out.as_str(), &"kept\nline 3: unreadable\n");
     }
     Ok(())
 }
 
 /// Each script prints its text, and is read to its end or not.
-fn expect<R: Abort + AllocGlobal>(rt: &R, rows: &[Row]) -> Result<(), Fail> {
+fn expect_prints<R: Abort + AllocGlobal>(rt: &R, rows: &[Row]) -> Result<(), Fail> {
     for (script, well, text) in rows {
         let mut out = String::new(rt.alloc());
         let got = play(script.as_bytes(), &mut out)?;
-        assert_eq!(rt; out.as_str(), *text);
-        assert_eq!(rt; got, *well, "{script}");
+        expect_eq(rt, &out.as_str(), &*text);
+        expect_eq_in(rt, &script, &got, &*well);
     }
     Ok(())
 }
@@ -185,8 +186,8 @@ fn a_script_of_2_000_events(rt: HostRuntime) -> Result<(), Fail> {
         )?;
     }
     let mut out = String::new(rt.alloc());
-    assert!(&rt; play(script.as_bytes(), &mut out)?);
-    assert!(&rt; out == wanted);
+    expect(&rt, play(script.as_bytes(), &mut out)?);
+    expect(&rt, out == wanted);
     Ok(())
 }
 
@@ -202,10 +203,10 @@ fn refused_memory_ends_a_script_or_loses_a_datagram(rt: HostRuntime) {
     let whole = b"ok\nok\nsent 0\nsent 1\n".as_slice();
     match got {
         Ok(well) => {
-            assert!(rt; well);
+            expect(&rt, well);
             let lost = b"ok\nok\nsent 0\nlost\n".as_slice();
-            assert!(rt; printed == whole || printed == lost);
+            expect(&rt, printed == whole || printed == lost);
         }
-        Err(_) => assert!(rt; whole.starts_with(printed)),
+        Err(_) => expect(&rt, whole.starts_with(printed)),
     }
 }

@@ -1,5 +1,6 @@
 //! The server's replies to datagrams: the life of a datagram 1,000 ms, the longest lease 60 s.
 
+use super::expect::{expect, expect_eq, expect_eq_in, expect_in};
 use arrayvec::ArrayVec;
 use nbt_name::Addr;
 use nbt_rows::{
@@ -14,7 +15,7 @@ use std::test::Fail;
 type Row = (u64, u32, &'static str, &'static str);
 
 /// The reply to these octets.
-fn expect<R: Abort>(
+fn expect_reply<R: Abort>(
     rt: &R,
     server: &mut Server,
     at: u64,
@@ -25,8 +26,8 @@ fn expect<R: Abort>(
     let from = Addr { ip, port: 137 };
     let mut out = ArrayVec::new();
     let is_reply = server.on_datagram(moment(at)?, from, asks, &mut out)?;
-    assert_eq!(rt; out.as_slice(), gives, "{asks:?} at {at}");
-    assert_eq!(rt; is_reply, !gives.is_empty(), "{asks:?} at {at}");
+    expect_eq_in(rt, &(asks, at), &out.as_slice(), &gives);
+    expect_eq_in(rt, &(asks, at), &is_reply, &!gives.is_empty());
     Ok(())
 }
 
@@ -35,7 +36,7 @@ fn play<R: Abort + AllocGlobal>(rt: &R, server: &mut Server, rows: &[Row]) -> Re
     for (at, ip, asks, gives) in rows {
         let asks = octets(rt, asks)?;
         let gives = octets(rt, gives)?;
-        expect(rt, server, *at, *ip, asks.as_slice(), gives.as_slice())?;
+        expect_reply(rt, server, *at, *ip, asks.as_slice(), gives.as_slice())?;
     }
     Ok(())
 }
@@ -156,7 +157,7 @@ fn join<R: Abort + AllocGlobal>(
     for addr in addresses.0..=addresses.1 {
         let asks = ended(rt, asks, addr)?;
         let gives = ended(rt, gives, addr)?;
-        expect(rt, server, 60_500, addr, asks.as_slice(), gives.as_slice())?;
+        expect_reply(rt, server, 60_500, addr, asks.as_slice(), gives.as_slice())?;
     }
     Ok(())
 }
@@ -189,8 +190,8 @@ fn play_group<R: Abort + AllocGlobal>(
             Step::Query(at, asks, gives, last, length) => {
                 let asks = octets(rt, asks)?;
                 let gives = listed(rt, gives, last)?;
-                assert_eq!(rt; gives.len(), length);
-                expect(rt, server, at, FIRST, asks.as_slice(), gives.as_slice())?;
+                expect_eq(rt, &gives.len(), &length);
+                expect_reply(rt, server, at, FIRST, asks.as_slice(), gives.as_slice())?;
             }
         }
     }
@@ -666,7 +667,7 @@ fn cut<R: Abort + AllocGlobal>(rt: &R, server: &mut Server, at: u64) -> Result<(
     for words in EVERY_KIND {
         let whole = octets(rt, words)?;
         for length in 0..whole.len() {
-            expect(rt, server, at, FIRST, &whole[..length], b"")?;
+            expect_reply(rt, server, at, FIRST, &whole[..length], b"")?;
         }
     }
     Ok(())
@@ -706,24 +707,24 @@ fn expect_back<R: Abort>(rt: &R, server: &mut Server, at: u64) -> Result<(), Fai
     };
     let mut out = ArrayVec::new();
     let got = server.on_datagram(moment(at)?, from, REGISTRATION_OCTETS, &mut out);
-    assert_eq!(rt; got.err(), Some(ServerFault::ClockBack), "{at}");
-    assert!(rt; out.is_empty(), "{at}");
+    expect_eq_in(rt, &at, &got.err(), &Some(ServerFault::ClockBack));
+    expect_in(rt, &at, out.is_empty());
     Ok(())
 }
 
 /// Moments go back in the silence and after it.
 fn go_back<R: Abort + AllocGlobal>(rt: &R, server: &mut Server) -> Result<(), Fail> {
-    expect(rt, server, 10_000, FIRST, REGISTRATION_OCTETS, b"")?;
+    expect_reply(rt, server, 10_000, FIRST, REGISTRATION_OCTETS, b"")?;
     expect_back(rt, server, 9_999)?;
     play(rt, server, &AFTER_THE_SILENCE)?;
     expect_back(rt, server, 59_000)?;
-    assert!(rt; server.last() == moment(60_000)?);
+    expect(rt, server.last() == moment(60_000)?);
     Ok(())
 }
 
 #[test]
 fn a_moment_that_goes_back_is_refused_in_the_silence_too(rt: HostRuntime) -> Result<(), Fail> {
-    assert_eq!(&rt; ServerFault::ClockBack.number(), 1);
+    expect_eq(&rt, &ServerFault::ClockBack.number(), &1);
     go_back(&rt, &mut started(&rt, 4096, 0)?)
 }
 
@@ -742,7 +743,7 @@ fn expect_one_of_many<R: Abort + AllocGlobal>(
         "00 NB again NB 60s unique 127.0.0.2",
     )?;
     let gives = one_of_many_in_words(rt, number, head, tail)?;
-    expect(rt, server, 60_000, FIRST, asks.as_slice(), gives.as_slice())
+    expect_reply(rt, server, 60_000, FIRST, asks.as_slice(), gives.as_slice())
 }
 
 #[test]
@@ -792,9 +793,9 @@ fn refused_memory_is_told_and_the_same_request_is_granted_later(
     };
     let mut out = ArrayVec::new();
     if let Err(fault) = server.on_datagram(moment(60_000)?, from, REGISTRATION_OCTETS, &mut out) {
-        assert_eq!(&rt; fault, ServerFault::OutOfMemory);
-        assert!(&rt; out.is_empty());
-        expect(
+        expect_eq(&rt, &fault, &ServerFault::OutOfMemory);
+        expect(&rt, out.is_empty());
+        expect_reply(
             &rt,
             &mut server,
             60_000,
@@ -802,7 +803,7 @@ fn refused_memory_is_told_and_the_same_request_is_granted_later(
             QUERY_OCTETS,
             NOT_FOUND_OCTETS,
         )?;
-        expect(
+        expect_reply(
             &rt,
             &mut server,
             60_000,
@@ -811,7 +812,7 @@ fn refused_memory_is_told_and_the_same_request_is_granted_later(
             GRANTED_OCTETS,
         )?;
     } else {
-        assert_eq!(&rt; out.as_slice(), GRANTED_OCTETS);
+        expect_eq(&rt, &out.as_slice(), &GRANTED_OCTETS);
     }
     Ok(())
 }
@@ -854,11 +855,11 @@ fn expect_at_last<R: Abort>(
     let from = Addr { ip, port: 137 };
     let mut out = ArrayVec::new();
     if let Err(fault) = server.on_datagram(moment(at)?, from, asks, &mut out) {
-        assert_eq!(rt; fault, ServerFault::OutOfMemory, "{asks:?} at {at}");
-        assert!(rt; out.is_empty(), "{asks:?} at {at}");
-        return expect(rt, server, at, ip, asks, gives);
+        expect_eq_in(rt, &(asks, at), &fault, &ServerFault::OutOfMemory);
+        expect_in(rt, &(asks, at), out.is_empty());
+        return expect_reply(rt, server, at, ip, asks, gives);
     }
-    assert_eq!(rt; out.as_slice(), gives, "{asks:?} at {at}");
+    expect_eq_in(rt, &(asks, at), &out.as_slice(), &gives);
     Ok(())
 }
 

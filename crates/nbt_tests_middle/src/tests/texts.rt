@@ -1,5 +1,6 @@
 //! Names as text.
 
+use super::expect::{expect_eq, expect_eq_in, expect_in};
 use nbt_name::Name;
 use nbt_text::laws::printed_name_is_read;
 use nbt_text::{parse_name, with_octets, write_name};
@@ -8,7 +9,7 @@ use std::process::Abort;
 fn expect_printed<R: Abort + AllocGlobal>(rt: &R, name: &Name, text: &str) {
     let mut printed = String::new(rt.alloc());
     write_name(name, &mut printed).expect(rt, "memory");
-    assert_eq!(rt; printed.as_str(), text);
+    expect_eq(rt, &printed.as_str(), &text);
 }
 
 /// The text is read as the name of these octets, and the name is printed as the text.
@@ -16,8 +17,8 @@ fn expect_name<R: Abort + AllocGlobal>(rt: &R, text: &str, octets: &[u8], scope:
     match parse_name(text.as_bytes()) {
         None => panic!(rt; "{text:?} is no name"),
         Some(name) => {
-            assert_eq!(rt; name.octets().as_slice(), octets, "{text:?}");
-            assert_eq!(rt; name.scope(), scope, "{text:?}");
+            expect_eq_in(rt, &text, &name.octets().as_slice(), &octets);
+            expect_eq_in(rt, &text, &name.scope(), &scope);
             expect_printed(rt, &name, text);
         }
     }
@@ -146,7 +147,7 @@ fn texts_that_are_no_names(rt: HostRuntime) {
         b"FRED.hex:4g",
     ];
     for text in rows {
-        assert!(rt; parse_name(text).is_none(), "{text:?}");
+        expect_in(&rt, &text, parse_name(text).is_none());
     }
 }
 
@@ -180,7 +181,7 @@ fn labels_of_63_octets_and_scopes_of_221(rt: HostRuntime) {
         for (prefix, letter) in [("", "a"), ("hex:", "fF")] {
             let text = with_labels(&rt, prefix, letter, labels);
             let name = parse_name(text.as_bytes());
-            assert_eq!(rt; name.is_some(), is_name, "{text:?}");
+            expect_eq_in(&rt, &text, &name.is_some(), &is_name);
         }
     }
 }

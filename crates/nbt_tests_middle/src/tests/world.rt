@@ -1,6 +1,7 @@
 //! Worlds, event by event, with what comes of each: a server at 127.0.0.1, nodes at 127.0.0.2 and 127.0.0.3, the life of a
 //! datagram 1,000 ms, the longest lease 60 s.
 
+use super::expect::{expect, expect_eq, expect_eq_in};
 use Does::{
     Advance, Ask, Crash, Deliver, Join, NameStatus, Poll, Release, Resolve, Start, Stranger, Tick,
 };
@@ -112,7 +113,7 @@ fn event<R: AllocGlobal>(rt: &R, does: Does) -> Result<Event, Fail> {
 fn apart<R: Abort>(rt: &R, world: &World, name: &Name) {
     for i in 0..3 {
         for j in 0..3 {
-            assert!(rt; world.no_two_holders(i, j, name));
+            expect(rt, world.no_two_holders(i, j, name));
         }
     }
 }
@@ -123,7 +124,7 @@ fn play<R: Abort + AllocGlobal>(rt: &R, world: &mut World, rows: &[Row]) -> Resu
     let team = Name::new(TEAM, b"")?;
     for (number, (does, outcome)) in rows.iter().enumerate() {
         let got = world.step(&event(rt, *does)?)?;
-        assert_eq!(rt; got, *outcome, "row {number}");
+        expect_eq_in(rt, &number, &got, &*outcome);
         apart(rt, world, &fred);
         apart(rt, world, &team);
     }
@@ -133,9 +134,9 @@ fn play<R: Abort + AllocGlobal>(rt: &R, world: &mut World, rows: &[Row]) -> Resu
 /// These nodes hold the name.
 fn holders<R: Abort>(rt: &R, world: &World, name: &[u8; 16], nodes: &[usize]) -> Result<(), Fail> {
     let holders = world.holders(&Name::new(name, b"")?);
-    assert_eq!(rt; holders.len(), nodes.len());
+    expect_eq(rt, &holders.len(), &nodes.len());
     for (holder, node) in holders.as_slice().iter().zip(nodes) {
-        assert_eq!(rt; holder.node, *node);
+        expect_eq(rt, &holder.node, &*node);
     }
     Ok(())
 }
@@ -323,7 +324,7 @@ fn a_run_in_which_a_node_renews_goes_on_to_its_end(rt: HostRuntime) -> Result<()
         (&OVER, &[]),
     ];
     for (rows, nodes) in tables {
-        assert_eq!(&rt; world.run(events(&rt, rows)?.as_slice()), Ok(()));
+        expect_eq(&rt, &world.run(events(&rt, rows)?.as_slice()), &Ok(()));
         holders(&rt, &world, FRED, nodes)?;
     }
     Ok(())
@@ -362,7 +363,7 @@ fn cut<R: Abort + AllocGlobal>(
             let mut octets = Vec::new(rt.alloc());
             octets.extend_from_slice(&whole[..length])?;
             let got = world.step(&Event::Stranger { from, to, octets })?;
-            assert_eq!(rt; got, Taken, "{length} of {words}");
+            expect_eq_in(rt, &(length, words), &got, &Taken);
         }
     }
     Ok(())
@@ -428,7 +429,7 @@ fn two_nodes_hold_a_group(rt: HostRuntime) -> Result<(), Fail> {
     play(&rt, &mut world, &GROUP)?;
     holders(&rt, &world, TEAM, &[1, 2])?;
     for holder in world.holders(&Name::new(TEAM, b"")?).as_slice() {
-        assert_eq!(&rt; holder.kind, Kind::Group);
+        expect_eq(&rt, &holder.kind, &Kind::Group);
     }
     Ok(())
 }
@@ -545,11 +546,11 @@ fn readings_of_ends_that_the_world_has_not_are_not_looked_at(rt: HostRuntime) ->
     play(&rt, &mut world, &READINGS_OF_ENDS_THAT_THE_WORLD_HAS_NOT)?;
     play(&rt, &mut world, &TAKEN_BY_THE_END_THAT_IS_THERE)?;
     holders(&rt, &world, FRED, &[1])?;
-    assert_eq!(&rt; world.clock().get(), 90_000);
-    assert!(&rt; world.kept());
+    expect_eq(&rt, &world.clock().get(), &90_000);
+    expect(&rt, world.kept());
     play(&rt, &mut world, &READINGS_OF_ITS_ENDS)?;
-    assert_eq!(&rt; world.clock().get(), 91_000);
-    assert!(&rt; !world.kept());
+    expect_eq(&rt, &world.clock().get(), &91_000);
+    expect(&rt, !world.kept());
     Ok(())
 }
 
@@ -564,9 +565,9 @@ const SAME: [Addr; 2] = [
 #[test]
 fn addresses_are_two_to_nine_and_apart_in_their_32_bits(rt: HostRuntime) -> Result<(), Fail> {
     let config = config(4096)?;
-    assert!(&rt; World::new(rt.alloc(), config, &SAME).is_err());
-    assert!(&rt; World::new(rt.alloc(), config, &ENDS[..1]).is_err());
-    assert!(&rt; World::new(rt.alloc(), config, &ENDS[..2]).is_ok());
+    expect(&rt, World::new(rt.alloc(), config, &SAME).is_err());
+    expect(&rt, World::new(rt.alloc(), config, &ENDS[..1]).is_err());
+    expect(&rt, World::new(rt.alloc(), config, &ENDS[..2]).is_ok());
     Ok(())
 }
 
@@ -611,19 +612,19 @@ fn expect_same<R: Abort>(rt: &R, one: &mut World, other: &mut World) -> Result<(
     for name in [FRED, TEAM] {
         let name = Name::new(name, b"")?;
         let holders = other.holders(&name);
-        assert_eq!(rt; one.holders(&name).as_slice(), holders.as_slice());
+        expect_eq(rt, &one.holders(&name).as_slice(), &holders.as_slice());
     }
     for number in 0..400 {
         let delivery = Event::Deliver(number);
-        assert_eq!(rt; one.step(&delivery)?, other.step(&delivery)?, "{number}");
+        expect_eq_in(rt, &number, &one.step(&delivery)?, &other.step(&delivery)?);
     }
     let start = Event::Start(2);
-    assert_eq!(rt; one.step(&start)?, other.step(&start)?);
+    expect_eq(rt, &one.step(&start)?, &other.step(&start)?);
     let lookup = Event::Resolve {
         node: 2,
         name: Name::new(FRED, b"")?,
     };
-    assert_eq!(rt; one.step(&lookup)?, other.step(&lookup)?);
+    expect_eq(rt, &one.step(&lookup)?, &other.step(&lookup)?);
     Ok(())
 }
 
@@ -636,9 +637,9 @@ fn a_run_of_hundreds_of_events_ends_where_they_do_one_by_one(rt: HostRuntime) ->
             happen(&mut stepped, event(&rt, does)?, &mut list)?;
         }
     }
-    assert!(&rt; list.len() > 300);
+    expect(&rt, list.len() > 300);
     let mut run = world(&rt)?;
-    assert_eq!(&rt; run.run(list.as_slice()), Ok(()));
+    expect_eq(&rt, &run.run(list.as_slice()), &Ok(()));
     expect_same(&rt, &mut run, &mut stepped)
 }
 
@@ -665,7 +666,7 @@ fn expect_replies<R: Abort + AllocGlobal>(
 ) -> Result<(), Fail> {
     play(rt, world, &UP)?;
     for (number, event) in events.iter().enumerate() {
-        assert_eq!(rt; world.step(event)?, Sent(number));
+        expect_eq(rt, &world.step(event)?, &Sent(number));
     }
     Ok(())
 }
@@ -677,7 +678,7 @@ fn expect_as_many<R: Abort + AllocGlobal>(
     events: &[Event],
 ) -> Result<(), Fail> {
     play(rt, world, &UP)?;
-    assert_eq!(rt; world.run(events), Ok(()));
+    expect_eq(rt, &world.run(events), &Ok(()));
     play(rt, world, &[(Resolve(1, FRED), Sent(4096))])
 }
 
@@ -706,8 +707,8 @@ fn refused_memory_stops_a_run_before_its_event_or_loses_a_datagram(
     ];
     let events = steps.as_slice();
     if let Err((number, OutOfMemory)) = world.run(events) {
-        assert!(&rt; number >= 3);
-        assert!(&rt; number < events.len());
+        expect(&rt, number >= 3);
+        expect(&rt, number < events.len());
         world.run(&events[number..])?;
     }
     let first = world.step(&Event::Deliver(1));
@@ -715,7 +716,7 @@ fn refused_memory_stops_a_run_before_its_event_or_loses_a_datagram(
         Ok(outcome) => outcome,
         Err(_) => world.step(&Event::Deliver(1))?,
     };
-    assert_eq!(&rt; taken, Taken);
+    expect_eq(&rt, &taken, &Taken);
     holders(&rt, &world, FRED, &[1])
 }
 
@@ -758,7 +759,7 @@ fn expect_at_last<R: Abort + AllocGlobal>(
     if got == Err(OutOfMemory) || got == Ok(Lost) {
         got = world.step(&happens);
     }
-    assert_eq!(rt; got, Ok(outcome));
+    expect_eq(rt, &got, &Ok(outcome));
     Ok(())
 }
 

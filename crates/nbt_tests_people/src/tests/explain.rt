@@ -1,6 +1,7 @@
 //! Packets, datagrams and sessions in words, why packets spell no message, and HEX with marks between its digits. The expected
 //! texts are RFC 1002's sections 4.2 to 4.4, read by hand, and Wireshark's words.
 
+use super::expect::{expect_eq_in, expect_in};
 use hex::FromHexError;
 use nbt_explain::{
     Reason, explain_dgram, explain_packet, explain_session, read_digits, reason_of, write_sentence,
@@ -36,10 +37,11 @@ fn play<R: Abort + AllocGlobal>(rt: &R, of: Of, rows: &[Row]) -> Result<(), Fail
         let mut text = String::from_str(rt.alloc(), "> ")?;
         let octets = octets(rt, words)?;
         explain(of, octets.as_slice(), &mut text)?;
-        assert_eq!(rt;
-            text.as_str().strip_prefix("> "),
-            Some(*expected),
-            "{words}"
+        expect_eq_in(
+            rt,
+            &words,
+            &text.as_str().strip_prefix("> "),
+            &Some(*expected),
         );
     }
     Ok(())
@@ -286,8 +288,8 @@ fn why_a_packet_spells_no_message(rt: HostRuntime) -> Result<(), Fail> {
         let mut text = String::new(rt.alloc());
         let octets = octets(&rt, words)?;
         let told = tell(octets.as_slice(), &mut text)?;
-        assert!(rt; told == *reason, "{words}");
-        assert_eq!(rt; text.as_str(), *sentence, "{words}");
+        expect_in(&rt, &words, told == *reason);
+        expect_eq_in(&rt, &words, &text.as_str(), &*sentence);
     }
     Ok(())
 }
@@ -392,12 +394,13 @@ const REFUSED: [(&[u8], FromHexError); 5] = [
 fn digits_with_marks_between(rt: HostRuntime) -> Result<(), Fail> {
     for (text, expected) in READ {
         let octets = read_digits(rt.alloc(), text).map_err(|_| "no octets")?;
-        assert_eq!(rt; octets.as_slice(), expected, "{text:?}");
+        expect_eq_in(&rt, &text, &octets.as_slice(), &expected);
     }
     for (text, error) in REFUSED {
-        assert!(rt;
+        expect_in(
+            &rt,
+            &text,
             read_digits(rt.alloc(), text).err() == Some(error),
-            "{text:?}"
         );
     }
     Ok(())

@@ -1,6 +1,7 @@
 //! A host of several names over a port in memory: the life of a datagram 1,000 ms, so that a name rests for 2,004 ms, the longest
 //! lease 60 s, which is held for 59,878 ms, all started at 0.
 
+use super::expect::{expect, expect_eq, expect_eq_in, expect_in};
 use arrayvec::ArrayVec;
 use nbt_engine::{Datagram, Device, MemoryClock, MemoryPort, Port, Want};
 use nbt_host::{Clocks, Goal, News, Reading, Stage, give_back, host_turn, waking_turn};
@@ -63,7 +64,7 @@ fn turn<R: Abort>(
     node: &mut Node<3>,
     goals: &mut [Goal],
 ) -> Result<(), Device> {
-    assert!(rt; port.failures() < 1 << 62);
+    expect(rt, port.failures() < 1 << 62);
     host_turn(port, clock, node, SERVER, goals)
 }
 
@@ -87,8 +88,8 @@ fn play_turns<R: Abort>(
     for (first, _, _, lapsed, news) in turns {
         turn(rt, port, clock, node, goals)?;
         for goal in goals.iter() {
-            assert_eq!(rt; goal.lapsed, *lapsed, "{first}");
-            assert_eq!(rt; goal.news, *news, "{first}");
+            expect_eq_in(rt, &first, &goal.lapsed, &*lapsed);
+            expect_eq_in(rt, &first, &goal.news, &*news);
         }
     }
     Ok(())
@@ -305,8 +306,8 @@ fn three_are_granted<R: Abort>(
         turn(rt, port, clock, node, goals)?;
         for (place, goal) in goals.iter().enumerate() {
             let news = if place == granted { IS_GRANTED } else { None };
-            assert_eq!(rt; goal.news, news, "{place}");
-            assert_eq!(rt; goal.held, place <= granted, "{place}");
+            expect_eq_in(rt, &place, &goal.news, &news);
+            expect_eq_in(rt, &place, &goal.held, &(place <= granted));
         }
     }
     Ok(())
@@ -418,10 +419,10 @@ fn end<R: Abort + AllocGlobal>(
 ) -> Result<(), Fail> {
     let mut port = port(rt, ending.given)?;
     let mut clock = clock(rt, ending.moments)?;
-    assert!(rt; port.failures() < 1 << 62);
+    expect(rt, port.failures() < 1 << 62);
     give_back(&mut port, &mut clock, node, SERVER, goals, 1_000)?;
     for (goal, stage) in goals.iter().zip(ending.stages) {
-        assert_eq!(rt; goal.stage, stage);
+        expect_eq(rt, &goal.stage, &stage);
     }
     expect_sent(rt, &port, ending.sent)
 }
@@ -471,7 +472,7 @@ fn slept_until(before: u64, day: u64, after: u64) -> Result<bool, Fail> {
 #[test]
 fn a_sleep_is_seen_from_201_ms_on(rt: HostRuntime) -> Result<(), Fail> {
     for (before, day, after, slept) in &READINGS {
-        assert_eq!(&rt; slept_until(*before, *day, *after)?, *slept, "{day}");
+        expect_eq_in(&rt, &day, &slept_until(*before, *day, *after)?, &*slept);
     }
     Ok(())
 }
@@ -499,7 +500,7 @@ fn waking<R: Abort>(
     goals: &mut [Goal],
     last: &mut Reading,
 ) -> Result<bool, Fail> {
-    assert!(rt; port.failures() < 1 << 62);
+    expect(rt, port.failures() < 1 << 62);
     let config = config(4096)?;
     Ok(waking_turn(port, clocks, node, SERVER, config, goals, last)?)
 }
@@ -514,10 +515,10 @@ fn play_waking<R: Abort>(
     let mut last = reading(0, 1_000_000, 0)?;
     for (moments, day, _, slept) in &WAKING {
         let woke = waking(rt, port, clocks, &mut node, goals, &mut last)?;
-        assert_eq!(rt; woke, *slept, "{day}");
-        assert_eq!(rt; last, reading(moments[0], *day, moments[1])?);
+        expect_eq_in(rt, &day, &woke, &*slept);
+        expect_eq(rt, &last, &reading(moments[0], *day, moments[1])?);
         for goal in goals.iter() {
-            assert!(rt; !goal.lapsed, "{day}");
+            expect_in(rt, &day, !goal.lapsed);
         }
     }
     Ok(())

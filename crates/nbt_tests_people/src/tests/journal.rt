@@ -1,6 +1,7 @@
 //! What a name server's user reads of it. The expected lines are written by hand from the rules, and the times are those of a
 //! calendar.
 
+use super::expect::{expect_eq, expect_eq_in};
 use nbt_journal::{
     Dates, Limiter, Told, claimed_in, told_of_reply, told_of_silence, write_leases, write_time,
     write_told,
@@ -44,10 +45,11 @@ fn times_of_day(rt: HostRuntime) -> Result<(), Fail> {
     for (second, expected) in TIMES {
         let mut text = String::from_str(rt.alloc(), "> ")?;
         write_time(second, &mut text)?;
-        assert_eq!(&rt;
-            text.as_str().strip_prefix("> "),
-            Some(expected),
-            "{second}"
+        expect_eq_in(
+            &rt,
+            &second,
+            &text.as_str().strip_prefix("> "),
+            &Some(expected),
         );
     }
     Ok(())
@@ -128,7 +130,7 @@ fn expect_line<R: Abort + AllocGlobal>(
 ) -> Result<(), Fail> {
     let mut text = String::from_str(rt.alloc(), "> ")?;
     write_told(THEN, told, left_out, &mut text)?;
-    assert_eq!(rt; text.as_str().strip_prefix("> "), Some(expected));
+    expect_eq(rt, &text.as_str().strip_prefix("> "), &Some(expected));
     Ok(())
 }
 
@@ -208,10 +210,11 @@ fn whose_name_a_request_is_about(rt: HostRuntime) -> Result<(), Fail> {
             Some((name, addr)) => Some((named(name)?, addr)),
             None => None,
         };
-        assert_eq!(&rt;
-            claimed_in(octets(&rt, words)?.as_slice()),
-            claim,
-            "{words}"
+        expect_eq_in(
+            &rt,
+            &words,
+            &claimed_in(octets(&rt, words)?.as_slice()),
+            &claim,
         );
     }
     Ok(())
@@ -249,7 +252,7 @@ const LIMITED: [(u64, Option<u64>); 18] = [
 fn ten_lines_in_a_second(rt: HostRuntime) -> Result<(), Fail> {
     let mut limiter = Limiter::new();
     for (at, expected) in LIMITED {
-        assert_eq!(&rt; limiter.take(moment(at)?), expected, "{at}");
+        expect_eq_in(&rt, &at, &limiter.take(moment(at)?), &expected);
     }
     Ok(())
 }
@@ -280,9 +283,10 @@ fn the_list_of_live_leases(rt: HostRuntime) -> Result<(), Fail> {
     ))?;
     let mut text = String::from_str(rt.alloc(), "> ")?;
     write_leases(&dates()?, moment(11_000)?, rows.as_slice(), &mut text)?;
-    assert_eq!(&rt;
-        text.as_str(),
-        "> FRED#20 unique 127.0.0.2 2026-11-24T23:59:59Z\nTEAM#20 group 192.0.2.7 2026-11-25T00:00:00Z\nNODEB.LAB.TEST unique 0.0.0.0 2026-11-25T00:04:58Z\nFILER#00 unique 1.2.3.4 2026-11-24T23:59:59Z\n"
+    expect_eq(
+        &rt,
+        &text.as_str(),
+        &"> FRED#20 unique 127.0.0.2 2026-11-24T23:59:59Z\nTEAM#20 group 192.0.2.7 2026-11-25T00:00:00Z\nNODEB.LAB.TEST unique 0.0.0.0 2026-11-25T00:04:58Z\nFILER#00 unique 1.2.3.4 2026-11-24T23:59:59Z\n",
     );
     Ok(())
 }
@@ -310,7 +314,7 @@ fn a_clock_that_is_set_dates_moments_anew(rt: HostRuntime) -> Result<(), Fail> {
         } else {
             dates()?
         };
-        assert_eq!(&rt; followed, expected, "{time}");
+        expect_eq_in(&rt, &time, &followed, &expected);
     }
     Ok(())
 }
@@ -321,8 +325,8 @@ fn a_moment_before_1970_is_dated_to_it(rt: HostRuntime) -> Result<(), Fail> {
         moment: moment(10_000)?,
         time: Moment::zero(),
     };
-    assert_eq!(&rt; late.second_at(9_000), 0);
-    assert_eq!(&rt; late.second_at(10_999), 0);
-    assert_eq!(&rt; late.second_at(11_000), 1);
+    expect_eq(&rt, &late.second_at(9_000), &0);
+    expect_eq(&rt, &late.second_at(10_999), &0);
+    expect_eq(&rt, &late.second_at(11_000), &1);
     Ok(())
 }

@@ -1,5 +1,6 @@
 //! Lookups of a node at 127.0.0.2 over a port in memory, at a server at 127.0.0.1.
 
+use super::expect::{expect, expect_eq, expect_eq_in};
 use arrayvec::ArrayVec;
 use nbt_ask::{Answer, ask, patience_of};
 use nbt_engine::{Fault, Port};
@@ -69,8 +70,8 @@ fn play<R: Abort + AllocGlobal>(rt: &R, lookup: &Lookup) -> Result<(), Fail> {
     let mut clock = clock(rt, lookup.moments)?;
     let mut node: Node<1> = Node::start(OWN, SERVER, config(16)?, moment(0)?);
     let mut left = ArrayVec::new();
-    assert!(rt; port.failures() < 1 << 62);
-    assert!(rt; lookup.patience < 1 << 62);
+    expect(rt, port.failures() < 1 << 62);
+    expect(rt, lookup.patience < 1 << 62);
     let ending = look_up(
         &mut port,
         &mut clock,
@@ -80,11 +81,11 @@ fn play<R: Abort + AllocGlobal>(rt: &R, lookup: &Lookup) -> Result<(), Fail> {
         lookup.most,
         &mut left,
     )?;
-    assert_eq!(rt; ending, lookup.ending);
+    expect_eq(rt, &ending, &lookup.ending);
     expect_sent(rt, &port, lookup.sent)?;
     if ending == Ending::Told {
         let (_, words) = lookup.given.last().ok_or("nothing given")?;
-        assert_eq!(rt; left.as_slice(), octets(rt, words)?.as_slice(), "{words}");
+        expect_eq_in(rt, &words, &left.as_slice(), &octets(rt, words)?.as_slice());
     }
     Ok(())
 }
@@ -207,7 +208,7 @@ fn play_asked<R: Abort + AllocGlobal>(rt: &R, asked: &Asked) -> Result<(), Fail>
     let mut port = port(rt, asked.given)?;
     let mut clock = clock(rt, asked.moments)?;
     let mut text = String::from_str(rt.alloc(), "> ")?;
-    assert!(rt; port.failures() < 1 << 62);
+    expect(rt, port.failures() < 1 << 62);
     let answer = ask(
         &mut port,
         &mut clock,
@@ -216,8 +217,8 @@ fn play_asked<R: Abort + AllocGlobal>(rt: &R, asked: &Asked) -> Result<(), Fail>
         asked.patience,
         &mut text,
     )?;
-    assert_eq!(rt; answer, asked.answer);
-    assert_eq!(rt; text.as_str().strip_prefix("> "), Some(asked.text));
+    expect_eq(rt, &answer, &asked.answer);
+    expect_eq(rt, &text.as_str().strip_prefix("> "), &Some(asked.text));
     expect_sent(rt, &port, asked.sent)
 }
 
@@ -280,7 +281,7 @@ fn questions_as_commands_ask_them(rt: HostRuntime) -> Result<(), Fail> {
         (Answer::NotFound, 1),
         (Answer::NoReply, 5),
     ] {
-        assert_eq!(rt; answer.status(), status);
+        expect_eq(&rt, &answer.status(), &status);
     }
     Ok(())
 }
@@ -293,7 +294,7 @@ fn a_question_whose_port_fails(rt: HostRuntime) -> Result<(), Fail> {
         port.fail_after(calls);
         let mut clock = clock(&rt, &[0])?;
         let mut text = String::new(rt.alloc());
-        assert!(rt; port.failures() < 1 << 62);
+        expect(&rt, port.failures() < 1 << 62);
         let answer = ask(
             &mut port,
             &mut clock,
@@ -302,17 +303,17 @@ fn a_question_whose_port_fails(rt: HostRuntime) -> Result<(), Fail> {
             15_000,
             &mut text,
         );
-        assert_eq!(rt; answer, Err(Fault::Device));
-        assert!(rt; text.is_empty());
-        assert_eq!(rt; port.failures(), 1);
-        assert_eq!(rt; port.sent().len(), sent);
+        expect_eq(&rt, &answer, &Err(Fault::Device));
+        expect(&rt, text.is_empty());
+        expect_eq(&rt, &port.failures(), &1);
+        expect_eq(&rt, &port.sent().len(), &sent);
     }
     Ok(())
 }
 
 #[test]
 fn how_long_is_waited(rt: HostRuntime) {
-    assert_eq!(rt; patience_of(3, 5_000), 15_000);
-    assert_eq!(rt; patience_of(2, 1), 5_001);
-    assert_eq!(rt; patience_of(1, 250), 250);
+    expect_eq(&rt, &patience_of(3, 5_000), &15_000);
+    expect_eq(&rt, &patience_of(2, 1), &5_001);
+    expect_eq(&rt, &patience_of(1, 250), &250);
 }

@@ -1,5 +1,6 @@
 //! What is told of replies to lookups. The expected lines are those of RFC 1002 sections 4.2.13, 4.2.14 and 4.2.18, read by hand.
 
+use super::expect::{expect_eq, expect_eq_in};
 use nbt_rows::octets;
 use nbt_tell::{Reply, rcode_words, write_reply};
 use std::process::Abort;
@@ -8,16 +9,17 @@ use std::test::Fail;
 /// A reply as words, what it was, and what is told of it.
 type Row = (&'static str, Reply, &'static str);
 
-fn expect<R: Abort + AllocGlobal>(rt: &R, rows: &[Row]) -> Result<(), Fail> {
+fn expect_replies<R: Abort + AllocGlobal>(rt: &R, rows: &[Row]) -> Result<(), Fail> {
     for (words, reply, expected) in rows {
         let mut text = String::from_str(rt.alloc(), "> ")?;
         let octets = octets(rt, words)?;
         let told = write_reply(octets.as_slice(), &mut text)?;
-        assert_eq!(rt; told, *reply, "{words}");
-        assert_eq!(rt;
-            text.as_str().strip_prefix("> "),
-            Some(*expected),
-            "{words}"
+        expect_eq_in(rt, &words, &told, &*reply);
+        expect_eq_in(
+            rt,
+            &words,
+            &text.as_str().strip_prefix("> "),
+            &Some(*expected),
         );
     }
     Ok(())
@@ -25,7 +27,7 @@ fn expect<R: Abort + AllocGlobal>(rt: &R, rows: &[Row]) -> Result<(), Fail> {
 
 #[test]
 fn who_holds_a_name(rt: HostRuntime) -> Result<(), Fail> {
-    expect(
+    expect_replies(
         &rt,
         &[
             (
@@ -62,7 +64,7 @@ fn who_holds_a_name(rt: HostRuntime) -> Result<(), Fail> {
 
 #[test]
 fn why_nobody_holds_a_name(rt: HostRuntime) -> Result<(), Fail> {
-    expect(
+    expect_replies(
         &rt,
         &[
             (
@@ -93,7 +95,7 @@ fn why_nobody_holds_a_name(rt: HostRuntime) -> Result<(), Fail> {
 /// The names and the line of the unit id of status replies by real programs, and of one by nobody.
 #[test]
 fn which_names_an_end_holds(rt: HostRuntime) -> Result<(), Fail> {
-    expect(
+    expect_replies(
         &rt,
         &[
             // nmbd as an end node.
@@ -121,7 +123,7 @@ fn which_names_an_end_holds(rt: HostRuntime) -> Result<(), Fail> {
 /// The statistics may be missing or short (RFC 1002 section 4.2.18 has 46 octets; our profile looks at six, if they are there).
 #[test]
 fn unit_ids_that_are_not_there(rt: HostRuntime) -> Result<(), Fail> {
-    expect(
+    expect_replies(
         &rt,
         &[
             ("0001 8400 reply STAR NBSTAT 0s 0001 00", Reply::Found, ""),
@@ -151,7 +153,7 @@ fn unit_ids_that_are_not_there(rt: HostRuntime) -> Result<(), Fail> {
 
 #[test]
 fn octets_that_are_no_replies(rt: HostRuntime) -> Result<(), Fail> {
-    expect(
+    expect_replies(
         &rt,
         &[
             ("-", Reply::Other, ""),
@@ -180,10 +182,14 @@ fn a_long_reply(rt: HostRuntime) -> Result<(), Fail> {
         reply.extend_from_slice(entry.as_slice())?;
     }
     let mut text = String::new(rt.alloc());
-    assert_eq!(rt; write_reply(reply.as_slice(), &mut text)?, Reply::Found);
-    assert_eq!(rt; text.as_str().lines().count(), 300);
+    expect_eq(
+        &rt,
+        &write_reply(reply.as_slice(), &mut text)?,
+        &Reply::Found,
+    );
+    expect_eq(&rt, &text.as_str().lines().count(), &300);
     for line in text.as_str().lines() {
-        assert_eq!(rt; line, "127.0.0.2 group");
+        expect_eq(&rt, &line, &"127.0.0.2 group");
     }
     Ok(())
 }
@@ -202,6 +208,6 @@ fn rcodes_in_words(rt: HostRuntime) {
         (8, "unknown"),
         (255, "unknown"),
     ] {
-        assert_eq!(rt; rcode_words(rcode), words, "{rcode}");
+        expect_eq_in(&rt, &rcode, &rcode_words(rcode), &words);
     }
 }

@@ -1,6 +1,7 @@
 //! Registrations as Samba's programs send them, taken at a port: the packets of real programs stand in `nbt_vectors` too. The
 //! life of a datagram is 1,000 ms, the longest lease 60 s, and the server started at 0.
 
+use super::expect::{expect, expect_eq, expect_eq_in, expect_in};
 use arrayvec::ArrayVec;
 use nbt_engine::{Counts, Device, MemoryClock, Port, UdpPort, serve_turns};
 use nbt_name::Addr;
@@ -112,8 +113,8 @@ fn claim<R: AllocGlobal>(rt: &R, id: &str, flags: &str, tail: &str) -> Result<Ve
 /// These octets are left as they are.
 fn expect_left<R: Abort + AllocGlobal>(rt: &R, given: &[u8], words: &str) -> Result<(), Fail> {
     let mut taken = Vec::from_slice(rt.alloc(), given)?;
-    assert!(rt; !take_registration(taken.as_mut_slice()), "{words}");
-    assert_eq!(rt; taken.as_slice(), given, "{words}");
+    expect_in(rt, &words, !take_registration(taken.as_mut_slice()));
+    expect_eq_in(rt, &words, &taken.as_slice(), &given);
     Ok(())
 }
 
@@ -121,11 +122,16 @@ fn expect_left<R: Abort + AllocGlobal>(rt: &R, given: &[u8], words: &str) -> Res
 fn registrations_of_other_forms_are_taken_by_one_octet(rt: HostRuntime) -> Result<(), Fail> {
     for (id, before, afterwards, tail) in TAKEN {
         let mut taken = claim(&rt, id, before, tail)?;
-        assert!(&rt; take_registration(taken.as_mut_slice()), "{before} {tail}");
-        assert_eq!(&rt;
-            taken.as_slice(),
-            claim(&rt, id, afterwards, tail)?.as_slice(),
-            "{before} {tail}"
+        expect_in(
+            &rt,
+            &(before, tail),
+            take_registration(taken.as_mut_slice()),
+        );
+        expect_eq_in(
+            &rt,
+            &(before, tail),
+            &taken.as_slice(),
+            &claim(&rt, id, afterwards, tail)?.as_slice(),
         );
     }
     Ok(())
@@ -229,7 +235,7 @@ fn serve<R: Abort, P: Port>(
     clock: &mut MemoryClock,
     server: &mut Server,
 ) -> Result<Counts, Device> {
-    assert!(rt; port.failures() < 1 << 62);
+    expect(rt, port.failures() < 1 << 62);
     serve_turns(port, clock, server, 9)
 }
 
@@ -238,8 +244,8 @@ fn a_server_over_the_port_grants_what_samba_registers(rt: HostRuntime) -> Result
     let mut over = SambaPort::new(port(&rt, &COMES)?);
     let mut clock = clock(&rt, &[60_000])?;
     let counts = serve(&rt, &mut over, &mut clock, &mut started(&rt, 4096, 0)?)?;
-    assert_eq!(&rt; counts.receives, 9);
-    assert_eq!(&rt; counts.replies, 7);
+    expect_eq(&rt, &counts.receives, &9);
+    expect_eq(&rt, &counts.replies, &7);
     expect_sent(&rt, over.beneath(), &REPLIES)
 }
 
@@ -248,7 +254,7 @@ fn a_server_over_the_port_beneath_does_not(rt: HostRuntime) -> Result<(), Fail> 
     let mut beneath = port(&rt, &COMES)?;
     let mut clock = clock(&rt, &[60_000])?;
     let counts = serve(&rt, &mut beneath, &mut clock, &mut started(&rt, 4096, 0)?)?;
-    assert_eq!(&rt; counts.replies, 4);
+    expect_eq(&rt, &counts.replies, &4);
     expect_sent(&rt, &beneath, &REPLIES_BENEATH)
 }
 
@@ -261,14 +267,15 @@ fn a_failure_beneath_is_a_failure(rt: HostRuntime) -> Result<(), Fail> {
         let mut over = SambaPort::new(beneath);
         let mut clock = clock(&rt, &[60_000])?;
         let mut server = started(&rt, 4096, 0)?;
-        assert_eq!(&rt;
-            serve(&rt, &mut over, &mut clock, &mut server),
-            Err(Device),
-            "{call}"
+        expect_eq_in(
+            &rt,
+            &call,
+            &serve(&rt, &mut over, &mut clock, &mut server),
+            &Err(Device),
         );
-        assert_eq!(&rt; over.failures(), 1, "{call}");
-        assert_eq!(&rt; over.beneath().failures(), 1, "{call}");
-        assert!(&rt; over.beneath().sent().is_empty(), "{call}");
+        expect_eq_in(&rt, &call, &over.failures(), &1);
+        expect_eq_in(&rt, &call, &over.beneath().failures(), &1);
+        expect_in(&rt, &call, over.beneath().sent().is_empty());
     }
     Ok(())
 }
@@ -290,12 +297,12 @@ fn receive<R: Abort, P: Port>(
     port: &mut P,
     octets: &mut ArrayVec<u8, 2048>,
 ) -> Result<Option<Addr>, Device> {
-    assert!(rt; port.failures() < 1 << 62);
+    expect(rt, port.failures() < 1 << 62);
     port.receive(octets)
 }
 
 fn send<R: Abort, P: Port>(rt: &R, port: &mut P, octets: &[u8]) -> Result<(), Device> {
-    assert!(rt; port.failures() < 1 << 62);
+    expect(rt, port.failures() < 1 << 62);
     port.send(THERE, octets)
 }
 
@@ -310,18 +317,19 @@ fn over_udp_too_and_the_cause_of_a_failure_is_known(rt: HostRuntime) -> Result<(
         &mut near,
         claim(&rt, "60f4", "7900", NODEB)?.as_slice(),
     )?;
-    assert_eq!(&rt; receive(&rt, &mut far, &mut came)?, Some(HERE));
-    assert_eq!(&rt;
-        came.as_slice(),
-        claim(&rt, "60f4", "2900", NODEB)?.as_slice()
+    expect_eq(&rt, &receive(&rt, &mut far, &mut came)?, &Some(HERE));
+    expect_eq(
+        &rt,
+        &came.as_slice(),
+        &claim(&rt, "60f4", "2900", NODEB)?.as_slice(),
     );
-    assert_eq!(&rt; receive(&rt, &mut far, &mut came)?, None);
-    assert!(&rt; near.cause().is_none());
+    expect_eq(&rt, &receive(&rt, &mut far, &mut came)?, &None);
+    expect(&rt, near.cause().is_none());
     // A datagram of IPv4 has 65,535 octets at most (RFC 791).
     let mut long = Vec::new(rt.alloc());
     long.resize(65_508, 0)?;
-    assert_eq!(&rt; send(&rt, &mut near, long.as_slice()), Err(Device));
-    assert_eq!(&rt; near.failures(), 1);
-    assert!(&rt; near.cause().is_some());
+    expect_eq(&rt, &send(&rt, &mut near, long.as_slice()), &Err(Device));
+    expect_eq(&rt, &near.failures(), &1);
+    expect(&rt, near.cause().is_some());
     Ok(())
 }

@@ -1,5 +1,6 @@
 //! Names, addresses and times as people write them, and what suffixes mean.
 
+use super::expect::expect_eq_in;
 use nbt_name::Kind;
 use nbt_spelling::laws::printed_octets_are_read;
 use nbt_spelling::{Case, read_address, read_duration, read_name, suffix_words, write_octets};
@@ -34,7 +35,7 @@ fn expect_outcomes<R: Abort + AllocGlobal>(
 ) -> Result<(), Fail> {
     for (word, scope, expected) in rows {
         let text = outcome(rt, case, *word, *scope)?;
-        assert_eq!(rt; text.as_str(), *expected, "{word} {scope}");
+        expect_eq_in(rt, &(word, scope), &text.as_str(), &*expected);
     }
     Ok(())
 }
@@ -135,7 +136,7 @@ fn addresses_with_and_without_a_port(rt: HostRuntime) -> Result<(), Fail> {
             Some(address) => write_address(address, &mut printed)?,
             None => printed.push_str("none")?,
         }
-        assert_eq!(rt; printed.as_str(), expected, "{text}");
+        expect_eq_in(&rt, &text, &printed.as_str(), &expected);
     }
     Ok(())
 }
@@ -162,7 +163,7 @@ fn times_with_their_units(rt: HostRuntime) {
         ("+5s", None),
         ("", None),
     ] {
-        assert_eq!(rt; read_duration(text.as_bytes()), expected, "{text}");
+        expect_eq_in(&rt, &text, &read_duration(text.as_bytes()), &expected);
     }
 }
 
@@ -180,6 +181,6 @@ fn suffixes_in_words(rt: HostRuntime) {
         (0x20, Kind::Group, ""),
         (0x42, Kind::Unique, ""),
     ] {
-        assert_eq!(rt; suffix_words(suffix, kind), words, "{suffix}");
+        expect_eq_in(&rt, &suffix, &suffix_words(suffix, kind), &words);
     }
 }

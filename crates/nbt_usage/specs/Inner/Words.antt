@@ -1,12 +1,20 @@
 -- What clap found of the words.
-use Rattle.std.specs.Prelude.{◌≡◌, ◌⊎◌, ℕ, List, [], Bool, true, false, None, Some, codes}
-use Rattle.std.specs.Option.{unwrap_or}
-use Rattle.clap.specs.Words.{first_value, found_of, one_text}
+use Rattle.std.specs.Prelude.{◌≡◌, ◌⊎◌, ℕ, List, [], Bool, Option, true, false, None, Some, codes}
+use Rattle.std.specs.Option.{unwrap_or, option_map}
+use Rattle.clap.specs.Words.{first_value, found_of, matched_of, one_text, raw_values}
 use Rattle.clap.specs.declared.parser.matches.ArgMatches.{ArgMatches}
 
--- the text of the argument with this name, or none
+-- the first text of the argument with this name, if it has one
+abbrev pub value_of : ArgMatches → List ℕ → Option (List ℕ)
+value_of matches name = first_value (found_of matches) name
+
+-- that text, or none
 abbrev pub argument_of : ArgMatches → List ℕ → List ℕ
-argument_of matches name = unwrap_or (first_value (found_of matches) name) []
+argument_of matches name = unwrap_or (value_of matches name) []
+
+-- all texts of it, in order
+abbrev pub arguments_of : ArgMatches → List ℕ → List (List ℕ)
+arguments_of matches name = unwrap_or (option_map raw_values (matched_of (found_of matches) name)) []
 
 -- the option with this name was given, or was not
 abbrev pub IsFlag : ArgMatches → List ℕ → Bool → Type 0

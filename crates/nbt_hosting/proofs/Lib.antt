@@ -1,0 +1,16 @@
+-- What several proofs share; the proof of a function is in the folder of its module and its name.
+
+-- the lines of names, one after the other
+mod Lines
+-- one turn, by what its calls returned
+mod OneTurn
+-- a turn of which nothing is printed
+mod Quiet
+-- what is known of a host by its fields, said of the host
+mod Opened
+-- a host begins, and what follows from how its calls came out
+mod Beginning
+-- what a host keeps of its names when it starts
+mod Starting
+-- the end of a host, by how the giving back came out
+mod Endings

@@ -1,0 +1,50 @@
+-- A name server and its journal begin, over this machine.
+use Rattle.std.proofs.Common.{◌≡◌, ℕ, ◌+◌, List, [], Bool, Option, refl, subst}
+use Rattle.std.specs.Io.KnownBytes.{Appends}
+use Rattle.nbt_name.specs.declared.addr.Addr.{Addr}
+use Rattle.nbt_lease.specs.Config.{milliseconds}
+use Rattle.nbt_server.specs.Serving.{ServerValue}
+use Rattle.nbt_server.specs.Calls.{ServerStarts}
+use Rattle.nbt_engine.specs.Udp.{UdpValue, MachineTells}
+use Rattle.nbt_journal.specs.Dates.{second_at}
+use Rattle.nbt_journal.specs.Limiting.{LimiterValue}
+use Rattle.nbt_journal.specs.declared.dates.Dates.{Dates}
+use Rattle.nbt_nbns.specs.Begin.{IsBegin}
+use Rattle.nbt_nbns.specs.Here.{Nbns, Begins, log_of, leases_of}
+use Rattle.nbt_nbns.specs.Keeping.{KeeperValue}
+use Rattle.nbt_nbns.specs.Places.{FileValue}
+use Rattle.nbt_nbns.specs.declared.here.NbnsArguments.{NbnsArguments}
+use Rattle.nbt_nbns.specs.declared.journal.Journal.{Journal}
+
+-- what a server and its journal are at first
+abbrev pub at_first : NbnsArguments → (start time : ℕ) → ServerValue → Option (List ℕ) → Nbns
+at_first a start time server text = record { port = record { addr = a.bind; failures = 0 }; clock = start; server = server; watcher = record { dates = record { moment = start; time = time }; day = time; log = log_of a.log; leases = leases_of a.leases }; text = text }
+
+pub is_at_first : (a : NbnsArguments) (start time day clock : ℕ) (port : UdpValue) (server : ServerValue) (log : Option LimiterValue) (leases : Option (KeeperValue FileValue)) (text : Option (List ℕ))
+    → port ≡ record { addr = a.bind; failures = 0 } → clock ≡ start → day ≡ time → log ≡ log_of a.log → leases ≡ leases_of a.leases
+    → ◌≡◌ {A = Nbns} (record { port = port; clock = clock; server = server; watcher = record { dates = record { moment = start; time = time }; day = day; log = log; leases = leases }; text = text }) (at_first a start time server text)
+is_at_first a start time day clock port server log leases text p c d l k = cc
+
+pub begins : (a : NbnsArguments) (goes : (start : ℕ) → Nbns → Nbns → Type 0) (old_text begun_text text : Option (List ℕ)) (start day time : ℕ) (first : ServerValue) (here new : Nbns)
+    → MachineTells 0 start start → MachineTells day time time
+    → ((at : Addr) × (line : List ℕ) × IsBegin at a.config.longest (second_at (record { moment = start; time = time }) (start + milliseconds a.config.longest)) line × Appends old_text begun_text line)
+    → ServerStarts a.config start first → here ≡ at_first a start time first begun_text → new.text ≡ text → goes start here new → Begins a goes old_text text
+begins a goes old_text begun_text text start day time first here new start_told time_told is_first starts is text_is run = record {
+  at = is_first.0;
+  start = start;
+  day = day;
+  time = time;
+  line = is_first.1;
+  begun_text = begun_text;
+  first = first;
+  port = new.port;
+  clock = new.clock;
+  last = new.server;
+  journal = new.watcher;
+  start_told = start_told;
+  time_told = time_told;
+  is_first = is_first.2;
+  printed = is_first.3;
+  starts = starts;
+  goes_on = subst (λ (t : Option (List ℕ)). goes start (at_first a start time first begun_text) (record new { text = t })) text_is (subst (λ (n : Nbns). goes start n new) is run);
+}

@@ -1,0 +1,9 @@
+pub mod Begin
+pub mod Here
+pub mod Journaling
+pub mod Keeping
+pub mod Limits
+pub mod Logging
+pub mod Places
+pub mod Turning
+pub mod Watching

@@ -1,0 +1,61 @@
+-- A name server that stays up, and is watched (our profile).
+use Rattle.std.specs.Prelude.{◌≡◌, ℕ, ◌≤◌, ◌⊎◌, List, Option, Some, None}
+use Rattle.nbt_server.specs.Serving.{ServerValue}
+use Rattle.nbt_engine.specs.PortCalls.{PortCall}
+use Rattle.nbt_engine.specs.Serving.{Breaks}
+use Rattle.nbt_net.specs.Staying.{StaysUp, GivesUp, IsCutOff}
+use Rattle.nbt_net.specs.declared.limits.TheConstants.{FOREVER}
+use Rattle.nbt_nbns.specs.Turning.{WatchesTurn}
+use Rattle.nbt_nbns.specs.declared.staying.Shown.{Shown}
+
+-- a port, a clock and a server, what watches the server, and what is printed
+pub record Watching (P C V : Type 0) : Type 0 where
+  pub port : P
+  pub clock : C
+  pub server : ServerValue
+  pub watcher : V
+  pub text : Option (List ℕ)
+
+-- what a watcher makes of the server after a turn and of what it is shown, and what it prints
+abbrev pub Sight : (V : Type 0) → Type 1
+Sight V = V → ServerValue → Shown → (old_text : Option (List ℕ)) → V → (text : Option (List ℕ)) → Type 0
+
+-- One turn, and a reading of the clock after it.
+pub record ShowsTurn {P C : Type 0} (does : P → PortCall → P → Type 0) (tells : C → ℕ → C → Type 0)
+    (old_port : P) (old_clock : C) (old : ServerValue) (shown : Shown) (port : P) (clock : C) (new : ServerValue) : Type 0 where
+  pub turn_clock : C
+  pub turn : WatchesTurn does tells old_port old_clock old shown.told port turn_clock new
+  pub now_told : tells turn_clock shown.at clock
+
+-- The same, and the watcher is shown what the turn was, and that moment.
+pub record Watches {P C V : Type 0} (does : P → PortCall → P → Type 0) (tells : C → ℕ → C → Type 0) (sees : Sight V) (old : Watching P C V) (shown : Shown) (new : Watching P C V) : Type 0 where
+  pub turn : ShowsTurn does tells old.port old.clock old.server shown new.port new.clock new.server
+  pub seen : sees old.watcher new.server shown old.text new.watcher new.text
+
+-- One turn in which the device fails: nothing is shown.
+pub record BreaksWatching {P C V : Type 0} (does : P → PortCall → P → Type 0) (tells : C → ℕ → C → Type 0) (old new : Watching P C V) : Type 0 where
+  pub breaks : Breaks does tells 1 old.port old.clock old.server new.port new.clock new.server
+  pub watcher_is : new.watcher ≡ old.watcher
+  pub text_is : new.text ≡ old.text
+
+-- its time is over
+abbrev pub IsOver : (until : Option ℕ) → (now : ℕ) → Type 0
+IsOver None now = ⊥
+IsOver (Some until) now = until ≤ now
+
+-- a turn after which it isn't
+abbrev pub WatchesOn : {P C V : Type 0} → (P → PortCall → P → Type 0) → (C → ℕ → C → Type 0) → Sight V → (until : Option ℕ) → Watching P C V → Shown → Watching P C V → Type 0
+WatchesOn does tells sees until old shown new = Watches does tells sees old shown new × (¬ IsOver until shown.at)
+
+-- the last turn, after which it is
+abbrev pub WatchesLast : {P C V : Type 0} → (P → PortCall → P → Type 0) → (C → ℕ → C → Type 0) → Sight V → (until : Option ℕ) → Watching P C V → Watching P C V → Type 0
+WatchesLast does tells sees until old new = (shown : Shown) × Watches does tells sees old shown new × IsOver until shown.at
+
+-- It stays up for good, or until its time is over.
+abbrev pub WatchesUntil : {P C V : Type 0} → (P → PortCall → P → Type 0) → (C → ℕ → C → Type 0) → Sight V → (until : Option ℕ) → Watching P C V → Watching P C V → Type 0
+WatchesUntil does tells sees until old new = StaysUp (WatchesOn does tells sees until) (BreaksWatching does tells) FOREVER old new
+    ⊎ IsCutOff (WatchesOn does tells sees until) (BreaksWatching does tells) (WatchesLast does tells sees until) FOREVER old new
+
+-- It gives up before that.
+abbrev pub WatchFails : {P C V : Type 0} → (P → PortCall → P → Type 0) → (C → ℕ → C → Type 0) → Sight V → (until : Option ℕ) → Watching P C V → Watching P C V → Type 0
+WatchFails does tells sees until old new = GivesUp (WatchesOn does tells sees until) (BreaksWatching does tells) FOREVER old new

@@ -1,0 +1,22 @@
+//! The line with which a name server begins.
+
+ghost use Rattle.std.specs.Prelude.{◌≡◌, ◌++◌, ℕ, List, OnOk};
+ghost use Rattle.std.specs.String.{string_bytes};
+ghost use Rattle.nbt_nbns.specs.Begin.{IsBegin};
+
+use nbt_journal::write_time;
+use nbt_name::Addr;
+use nbt_text::{end_line, write_address};
+use std::alloc::AllocError;
+
+/// Appends where a server serves, for how many seconds it is silent, and until when, in seconds since 1970: as `serving
+/// 0.0.0.0:137, silent for 300 s until 2026-11-24T09:17:03Z`.
+pub fn write_begin(at: Addr, silent: u32, until: u64, out: &mut String) -> Result<(), AllocError>
+    ensures { OnOk result ((line : List ℕ) × IsBegin at silent until line × (string_bytes out.new ≡ string_bytes out.old ++ line)) }
+{
+    out.push_str("serving ")?;
+    write_address(at, out)?;
+    write!(out, ", silent for {silent} s until ")?;
+    write_time(until, out)?;
+    end_line(out)
+}

@@ -1,0 +1,41 @@
+//! What is said of something that can't be written.
+
+use std::io;
+use std::io::Write;
+
+/// Says why something can't be written, at the first failure of a row.
+#[derive(Debug, Drop)]
+pub(crate) struct Complaint {
+    is_told: bool,
+}
+
+impl Complaint {
+    /// Nothing has failed yet.
+    pub fn new() -> Complaint {
+        Complaint { is_told: false }
+    }
+
+    /// It was written: the row is over.
+    pub fn end(&mut self) {
+        self.is_told = false;
+    }
+
+    /// It failed: says so as [`complain`] does, if it is the first of the row.
+    pub fn tell<E: Write>(&mut self, what: &str, error: io::Error, errors: &mut E) {
+        if !self.is_told {
+            complain(what, error, errors);
+        }
+        self.is_told = true;
+    }
+}
+
+/// Says in a line what can't be written, as `the log` or a file's path, and why, at once. What can't be written to `errors` is
+/// passed over.
+pub(crate) fn complain<E: Write>(what: &str, error: io::Error, errors: &mut E) {
+    let _ = write_line(what, error, errors);
+}
+
+fn write_line<E: Write>(what: &str, error: io::Error, errors: &mut E) -> io::Result<()> {
+    writeln!(errors, "nbt: {what} can't be written: {error}")?;
+    errors.flush()
+}

@@ -1,0 +1,137 @@
+//! Where the list of leases is kept.
+
+ghost use Rattle.std.specs.Prelude.{◌≡◌, ℕ, List, [], IfOk, OnOk, map};
+ghost use Rattle.std.specs.String.{string_bytes};
+ghost use Rattle.nbt_nbns.specs.Places.{file_of};
+
+use std::alloc::{AllocError, Global};
+use std::marker::Model;
+use std::rt::Files;
+use std::{fs, io};
+
+/// A place that has one text, which is replaced as a whole.
+pub trait Place {
+    /// What a replacing is: the place before, the text, and the place afterwards.
+    ghost puts: { Self → List ℕ → Self → Type 0 };
+
+    /// What it is called where it is said that it can't be written.
+    fn name(&self) -> &str;
+
+    /// Puts this text in place of the one that it has. A reader sees the one or the other, and never a part. Where the place
+    /// refuses it, the error says why, and the earlier text stays.
+    fn replace(&mut self, text: &str) -> io::Result<()>
+        ensures { OnOk result (puts self.old text.now self.new) };
+}
+
+/// A place over memory, which keeps each text that it took. A contract sees them in order.
+#[derive(Drop)]
+pub struct MemoryPlace {
+    alloc: Global,
+    texts: Vec<String>,
+    refusals: u64,
+}
+
+impl Model for MemoryPlace {
+    ghost use Rattle.std.specs.Prelude.{ℕ, List, map};
+    ghost use Rattle.std.specs.String.{string_bytes};
+
+    ghost Value = { List (List ℕ) };
+
+    ghost view = { λ p. map string_bytes p.texts.items };
+}
+
+impl MemoryPlace {
+    /// It has no text yet.
+    pub fn new(alloc: Global) -> MemoryPlace
+        ensures { result ≡ [] }
+    {
+        MemoryPlace {
+            alloc,
+            texts: Vec::new(alloc),
+            refusals: 0,
+        }
+    }
+
+    /// It refuses as many texts as that, and takes them again afterwards.
+    pub fn refuse(&mut self, count: u64)
+        ensures { self.new ≡ self.old }
+    {
+        self.refusals = count;
+    }
+
+    /// The texts that it took.
+    pub fn texts(&self) -> &[String]
+        ensures { map string_bytes result.now ≡ self.now }
+    {
+        self.texts.as_slice()
+    }
+}
+
+impl Place for MemoryPlace {
+    ghost use Rattle.nbt_nbns.specs.Places.{Adds};
+
+    ghost puts = { Adds };
+
+    fn name(&self) -> &str {
+        "the list of leases"
+    }
+
+    fn replace(&mut self, text: &str) -> io::Result<()> {
+        if self.refusals > 0 {
+            self.refusals -= 1;
+            return Err(io::Error::other("the place is full"));
+        }
+        let text = String::from_str(self.alloc, text)?;
+        self.texts.push(text)?;
+        Ok(())
+    }
+}
+
+/// A file of this machine. The text is written to a new file beside it, which is then renamed over it. A contract sees the two
+/// paths.
+#[derive(Drop)]
+pub struct FilePlace<'a, R: Files> {
+    machine: &'a R,
+    path: String,
+    beside: String,
+}
+
+impl<'a, R: Files> Model for FilePlace<'a, R> {
+    ghost use Rattle.std.specs.String.{string_bytes};
+    ghost use Rattle.nbt_nbns.specs.Places.{FileValue};
+
+    ghost Value = { FileValue };
+
+    ghost view = { λ p. record { path = string_bytes p.path; beside = string_bytes p.beside } };
+}
+
+impl<'a, R: Files> FilePlace<'a, R> {
+    /// The file of this path. The new file beside it has the same path with `.new` after it.
+    pub fn new(machine: &'a R, alloc: Global, path: &str) -> Result<FilePlace<'a, R>, AllocError>
+        ensures { IfOk result (λ place. place ≡ file_of path.now) }
+    {
+        let beside = format!(in alloc; "{path}.new")?;
+        let path = String::from_str(alloc, path)?;
+        Ok(FilePlace {
+            machine,
+            path,
+            beside,
+        })
+    }
+}
+
+impl<'a, R: Files> Place for FilePlace<'a, R> {
+    ghost use Rattle.nbt_nbns.specs.Places.{Stays};
+
+    ghost puts = { Stays };
+
+    /// The path of the file.
+    fn name(&self) -> &str {
+        self.path.as_str()
+    }
+
+    fn replace(&mut self, text: &str) -> io::Result<()> {
+        fs::write(self.machine, self.beside.as_str(), text)?;
+        fs::rename(self.machine, self.beside.as_str(), self.path.as_str())
+    }
+}

@@ -1,0 +1,269 @@
+//! The command `host`: its words, and what it holds and tells over UDP and clocks that are set.
+
+use super::people::expect_said;
+use super::serving::{NO_CLOCK, Row, expect_row};
+use super::terminal::play;
+use std::test::Fail;
+
+const WORDS: &str = "\
+# Wrong usage.
+$ nbt host --server 192.0.2.1 --bind 192.0.2.7
+? 2
+error: the following required arguments...
+
+$ nbt host FRED --bind 192.0.2.7
+? 2
+error: the following required arguments...
+
+$ nbt host FRED --server 192.0.2.1
+? 2
+error: the following required arguments...
+
+# Help.
+$ nbt host --help
+Holds names for this machine at a name server, and answers for them...
+";
+
+#[test]
+fn words_of_a_host(rt: HostRuntime) {
+    play(&rt, WORDS);
+}
+
+/// Words that can't be read, and what is said of them. The first that is wrong is told.
+const UNREADABLE: [(&str, &str); 14] = [
+    (
+        "nbt host # --server x --bind x --life 61s --longest x --for x",
+        "nbt: life '61s': not a time from 1ms to 60s\n",
+    ),
+    (
+        "nbt host # --server x --bind x --longest 0s --for x",
+        "nbt: longest lease '0s': not a time in whole seconds from 1s to 1000000s\n",
+    ),
+    (
+        "nbt host # --server x --bind x --for 8",
+        "nbt: time '8': not a time, as 1500ms, 300s or 5m\n",
+    ),
+    (
+        "nbt host # --server x --bind y",
+        "nbt: address 'x': no A.B.C.D or A.B.C.D:PORT in decimal\n",
+    ),
+    (
+        "nbt host # --server 192.0.2.1 --bind y",
+        "nbt: address 'y': no A.B.C.D or A.B.C.D:PORT in decimal\n",
+    ),
+    (
+        "nbt host # --server 192.0.2.1 --bind 0.0.0.0:10137",
+        "nbt: address '0.0.0.0:10137': not an address at which others find this machine\n",
+    ),
+    (
+        "nbt host # A B C D E F G H I J K L M N --server 192.0.2.1 --bind 192.0.2.7",
+        "nbt: 15 names, at most 14\n",
+    ),
+    (
+        "nbt host # A B C D E F G H I J K L --group M --group N --server 192.0.2.1 --bind 192.0.2.7",
+        "nbt: 15 names, at most 14\n",
+    ),
+    (
+        "nbt host A B # C --group #20 --server 192.0.2.1 --bind 192.0.2.7",
+        "nbt: name '#': no characters, at least 1\n",
+    ),
+    (
+        "nbt host A B --group C --group #20 --server 192.0.2.1 --bind 192.0.2.7",
+        "nbt: name '#20': no characters, at least 1\n",
+    ),
+    (
+        "nbt host A * --server 192.0.2.1 --bind 192.0.2.7",
+        "nbt: name '*': no server is asked for a name that begins with *\n",
+    ),
+    (
+        "nbt host A --scope a..b --server 192.0.2.1 --bind 192.0.2.7",
+        "nbt: name 'A': the scope can't be read\n",
+    ),
+    (
+        "nbt host A A#00 a#20 # --server 192.0.2.1 --bind 192.0.2.7",
+        "nbt: name 'a#20': given twice\n",
+    ),
+    (
+        "nbt host A B --group C --group B<20> --server 192.0.2.1 --bind 192.0.2.7",
+        "nbt: name 'B<20>': given twice\n",
+    ),
+];
+
+#[test]
+fn words_of_a_host_that_are_said_to_be_unreadable(rt: HostRuntime) {
+    for (line, said) in UNREADABLE {
+        expect_said(&rt, line, said);
+    }
+}
+
+/// The requests of the host, each for as long as may be: for FRED alone, for TEAM as a group; and its releases.
+const ASKS: &str =
+    "0001_2900_0001_0000_0000_0001_{FRED}_0020_0001_c00c_0020_0001_00000000_0006_2000_7f2a1602";
+
+const JOINS: &str =
+    "0002_2900_0001_0000_0000_0001_{TEAM}_0020_0001_c00c_0020_0001_00000000_0006_a000_7f2a1602";
+
+const RELEASES: &str =
+    "0003_3000_0001_0000_0000_0001_{FRED}_0020_0001_c00c_0020_0001_00000000_0006_2000_7f2a1602";
+
+const LEAVES: &str =
+    "0004_3000_0001_0000_0000_0001_{TEAM}_0020_0001_c00c_0020_0001_00000000_0006_a000_7f2a1602";
+
+/// The replies to them.
+const GRANTED: &str = "0001_ad80_0000_0001_0000_0000_{FRED}_0020_0001_0000003c_0006_2000_7f2a1602";
+
+const JOINED: &str = "0002_ad80_0000_0001_0000_0000_{TEAM}_0020_0001_0000003c_0006_a000_7f2a1602";
+
+const RELEASED: &str = "0003_b400_0000_0001_0000_0000_{FRED}_0020_0001_00000000_0006_2000_7f2a1602";
+
+const LEFT: &str = "0004_b400_0000_0001_0000_0000_{TEAM}_0020_0001_00000000_0006_a000_7f2a1602";
+
+const REFUSED: &str = "0001_ad86_0000_0001_0000_0000_{FRED}_0020_0001_00000000_0006_2000_7f2a1602";
+
+/// A query for FRED, and the answer to it.
+const QUERIES: &str = "0009_0100_0001_0000_0000_0000_{FRED}_0020_0001";
+
+const ANSWERS: &str = "0009_8500_0000_0001_0000_0000_{FRED}_0020_0001_00000000_0006_2000_7f2a1602";
+
+/// A refresh of FRED, and its renewal.
+const REFRESHES: &str =
+    "0002_4000_0001_0000_0000_0001_{FRED}_0020_0001_c00c_0020_0001_00000000_0006_2000_7f2a1602";
+
+const RENEWED: &str = "0002_ad80_0000_0001_0000_0000_{FRED}_0020_0001_0000003c_0006_2000_7f2a1602";
+
+/// For `fred` in the scope `lab`, as it stands.
+const ASKS_AS_IT_STANDS: &str =
+    "0001_2900_0001_0000_0000_0001_204747484347464745434143414341434143414341434143414341434143414341036c616200_0020_0001_c00c_0020_0001_00000000_0006_2000_7f2a1602";
+
+/// 2026-11-24T09:11:03Z, when the host starts; when it may ask for names, where a datagram lives 1 s; and a millisecond later.
+const START: u64 = 1_795_511_463_000;
+
+const ASK: u64 = START + 2_005;
+
+const LATER: u64 = ASK + 1;
+
+const HOSTS: [Row; 6] = [
+    Row {
+        about: "a name and a group, which are granted, held at the end and given back",
+        words: "nbt host fred --group TEAM --server 127.42.22.3:20139 --bind 127.42.22.2:20138 --longest 60s --for 2006ms",
+        moments: &[
+            START, START, START, START, START, ASK, ASK, ASK, ASK, ASK, ASK, LATER,
+        ],
+        sends: &[(8, GRANTED), (14, JOINED), (18, RELEASED), (18, LEFT)],
+        breaks_at: 0,
+        status: 0,
+        readings: 26,
+        text: "\
+host 127.42.22.2:20138 asks 127.42.22.3:20139 for 2 names
+2026-11-24T09:11:05Z granted FRED#20 60 s
+2026-11-24T09:11:05Z granted TEAM#20 60 s
+2026-11-24T09:11:05Z given back FRED#20
+2026-11-24T09:11:05Z given back TEAM#20
+",
+        errors: "",
+        sent: &[ASKS, JOINS, RELEASES, LEAVES],
+    },
+    Row {
+        about: "it answers for a name that it holds, and logs its renewal",
+        words: "nbt host FRED --server 127.42.22.3:20139 --bind 127.42.22.2:20138 --longest 60s --for 40s --log",
+        moments: &[
+            START,
+            START,
+            START,
+            START,
+            START,
+            ASK,
+            ASK,
+            ASK,
+            ASK,
+            ASK,
+            ASK,
+            LATER,
+            LATER,
+            LATER,
+            LATER,
+            LATER,
+            LATER,
+            START + 40_000,
+        ],
+        sends: &[(8, GRANTED), (14, QUERIES), (20, RENEWED), (24, RELEASED)],
+        breaks_at: 0,
+        status: 0,
+        readings: 29,
+        text: "\
+host 127.42.22.2:20138 asks 127.42.22.3:20139 for 1 name
+2026-11-24T09:11:05Z granted FRED#20 60 s
+2026-11-24T09:11:43Z renewed FRED#20 60 s
+2026-11-24T09:11:43Z given back FRED#20
+",
+        errors: "",
+        sent: &[ASKS, ANSWERS, REFRESHES, RELEASES],
+    },
+    Row {
+        about: "a name that is refused",
+        words: "nbt host FRED --server 127.42.22.3:20139 --bind 127.42.22.2:20138 --longest 60s --for 2005ms",
+        moments: &[START, START, START, START, START, ASK],
+        sends: &[(8, REFUSED)],
+        breaks_at: 0,
+        status: 5,
+        readings: 17,
+        text: "\
+host 127.42.22.2:20138 asks 127.42.22.3:20139 for 1 name
+2026-11-24T09:11:05Z refused FRED#20: held by another (6)
+2026-11-24T09:11:05Z asks again for FRED#20 after 5 s, 10 s .. at most 5 min
+2026-11-24T09:11:05Z not held FRED#20
+",
+        errors: "",
+        sent: &[ASKS],
+    },
+    Row {
+        about: "a name as it stands, with a scope, for which no reply comes; LIFE says when it asks",
+        words: "nbt host fred --exact --scope lab --server 127.42.22.3:20139 --bind 127.42.22.2:20138 --life 500ms --longest 60s --for 1010ms",
+        moments: &[START, START, START, START, START, START + 1_010],
+        sends: &[],
+        breaks_at: 0,
+        status: 5,
+        readings: 17,
+        text: "\
+host 127.42.22.2:20138 asks 127.42.22.3:20139 for 1 name
+2026-11-24T09:11:04Z not held fred.lab
+",
+        errors: "",
+        sent: &[ASKS_AS_IT_STANDS],
+    },
+    Row {
+        about: "a millisecond before it may ask, without LIFE",
+        words: "nbt host FRED --server 127.42.22.3:20139 --bind 127.42.22.2:20138 --for 2004ms",
+        moments: &[START, START, START, START, START, ASK - 1],
+        sends: &[],
+        breaks_at: 0,
+        status: 5,
+        readings: 17,
+        text: "\
+host 127.42.22.2:20138 asks 127.42.22.3:20139 for 1 name
+2026-11-24T09:11:05Z not held FRED#20
+",
+        errors: "",
+        sent: &[],
+    },
+    Row {
+        about: "a clock that can't be read",
+        words: "nbt host FRED --server 127.42.22.3:20139 --bind 127.42.22.2:20138",
+        moments: &[],
+        sends: &[],
+        breaks_at: 0,
+        status: 3,
+        readings: 1,
+        text: "device\n",
+        errors: NO_CLOCK,
+        sent: &[],
+    },
+];
+
+#[test]
+fn hosts(rt: HostRuntime) -> Result<(), Fail> {
+    for row in &HOSTS {
+        expect_row(&rt, row)?;
+    }
+    Ok(())
+}

@@ -1,0 +1,363 @@
+//! The command `nbns`: its words, and what it serves, logs and keeps over UDP and clocks that are set.
+
+use super::LimitedWriter;
+use super::expect::{expect, expect_eq};
+use super::people::expect_said;
+use super::serving::{NO_CLOCK, NO_TIME, Row, expect_row, machine_of};
+use super::terminal::{play, words_of};
+use nbt_prog::command_telling;
+use std::net::{Net, UdpSocket};
+use std::process::Abort;
+use std::rt::Files;
+use std::test::Fail;
+use std::time::Clock;
+use std::{env, fs, io, process};
+
+const WORDS: &str = "\
+# Wrong usage.
+$ nbt nbns --life
+? 2
+error: a value is required for '--life <TIME>'...
+
+$ nbt nbns 192.0.2.1
+? 2
+error: unexpected argument '192.0.2.1' found...
+
+# Help.
+$ nbt nbns --help
+Runs a name server...
+";
+
+#[test]
+fn words_of_a_name_server(rt: HostRuntime) {
+    play(&rt, WORDS);
+}
+
+/// Words that can't be read, and what is said of them. The first that is wrong is told.
+const UNREADABLE: [(&str, &str); 11] = [
+    (
+        "nbt nbns --life 0ms --longest x --for x --bind x",
+        "nbt: life '0ms': not a time from 1ms to 60s\n",
+    ),
+    (
+        "nbt nbns --life 60001ms",
+        "nbt: life '60001ms': not a time from 1ms to 60s\n",
+    ),
+    (
+        "nbt nbns --life 1",
+        "nbt: life '1': not a time from 1ms to 60s\n",
+    ),
+    (
+        "nbt nbns --longest 1500ms --for x --bind x",
+        "nbt: longest lease '1500ms': not a time in whole seconds from 1s to 1000000s\n",
+    ),
+    (
+        "nbt nbns --longest 999ms",
+        "nbt: longest lease '999ms': not a time in whole seconds from 1s to 1000000s\n",
+    ),
+    (
+        "nbt nbns --longest 1000001s",
+        "nbt: longest lease '1000001s': not a time in whole seconds from 1s to 1000000s\n",
+    ),
+    (
+        "nbt nbns --longest 9s --for 1h --bind x",
+        "nbt: time '1h': not a time, as 1500ms, 300s or 5m\n",
+    ),
+    (
+        "nbt nbns --longest 9s --bind x",
+        "nbt: longest lease 9 s, life of a datagram 1000 ms: it has to be 10 s and 20 lives at least, else a hold would lapse before it can be refreshed\n",
+    ),
+    (
+        "nbt nbns --life 16s",
+        "nbt: longest lease 300 s, life of a datagram 16000 ms: it has to be 10 s and 20 lives at least, else a hold would lapse before it can be refreshed\n",
+    ),
+    (
+        "nbt nbns --life 60s --longest 20m --bind x",
+        "nbt: address 'x': no A.B.C.D or A.B.C.D:PORT in decimal\n",
+    ),
+    (
+        "nbt nbns --bind 192.0.2.1:65536",
+        "nbt: address '192.0.2.1:65536': no A.B.C.D or A.B.C.D:PORT in decimal\n",
+    ),
+];
+
+#[test]
+fn words_of_a_name_server_that_are_said_to_be_unreadable(rt: HostRuntime) {
+    for (line, said) in UNREADABLE {
+        expect_said(&rt, line, said);
+    }
+}
+
+/// The other end's requests: for FRED, unique; its refresh, its release, and a query for it.
+const ASKS: &str =
+    "0001_2900_0001_0000_0000_0001_{FRED}_0020_0001_c00c_0020_0001_00000000_0006_6000_7f2a1603";
+
+const REFRESHES: &str =
+    "0002_4000_0001_0000_0000_0001_{FRED}_0020_0001_c00c_0020_0001_00000000_0006_6000_7f2a1603";
+
+const RELEASES: &str =
+    "0003_3000_0001_0000_0000_0001_{FRED}_0020_0001_c00c_0020_0001_00000000_0006_6000_7f2a1603";
+
+const QUERIES: &str = "0004_0100_0001_0000_0000_0000_{FRED}_0020_0001";
+
+/// For FRED at an address that isn't the sender's, which is refused.
+const ASKS_FOR_ANOTHER: &str =
+    "0005_2900_0001_0000_0000_0001_{FRED}_0020_0001_c00c_0020_0001_00000000_0006_6000_7f2a1604";
+
+/// The replies to them where the longest lease is a minute.
+const GRANTED: &str = "0001_ad80_0000_0001_0000_0000_{FRED}_0020_0001_0000003c_0006_2000_7f2a1603";
+
+const RENEWED: &str = "0002_ad80_0000_0001_0000_0000_{FRED}_0020_0001_0000003c_0006_2000_7f2a1603";
+
+const RELEASED: &str = "0003_b400_0000_0001_0000_0000_{FRED}_0020_0001_00000000_0006_2000_7f2a1603";
+
+const FOUND: &str = "0004_8580_0000_0001_0000_0000_{FRED}_0020_0001_0000003c_0006_2000_7f2a1603";
+
+const REFUSED: &str = "0005_ad85_0000_0001_0000_0000_{FRED}_0020_0001_00000000_0006_2000_7f2a1604";
+
+const NOT_FOUND: &str = "0004_8583_0000_0001_0000_0000_{FRED}_000a_0001_00000000_0000";
+
+/// As nmbd registers its names (captured, with FRED for its name), and the reply; and as a domain controller joins a group.
+const ASKS_AS_NMBD: &str =
+    "60f4_7900_0001_0000_0000_0001_{FRED}_0020_0001_c00c_0020_0001_00000014_0006_6000_7f2a1603";
+
+const GRANTED_TO_NMBD: &str =
+    "60f4_ad80_0000_0001_0000_0000_{FRED}_0020_0001_00000014_0006_2000_7f2a1603";
+
+const JOINS: &str =
+    "15e9_2800_0001_0000_0000_0001_{TEAM}_0020_0001_c00c_0020_0001_00000014_0006_c000_7f2a1603";
+
+const JOINED: &str = "15e9_ad80_0000_0001_0000_0000_{TEAM}_0020_0001_00000014_0006_a000_7f2a1603";
+
+/// 2026-11-24T09:11:03Z, when the server starts, and when it is silent no longer.
+const START: u64 = 1_795_511_463_000;
+
+const OPEN: u64 = START + 60_000;
+
+/// A millisecond before it is, and one after.
+const SILENT: u64 = OPEN - 1;
+
+const END: u64 = OPEN + 1;
+
+/// What is said of the longest lease that is not long, and of one that is.
+const LONG: &str = "nbt: longest lease 3601 s: after each start the server is silent for as long\n";
+
+const SERVERS: [Row; 9] = [
+    Row {
+        about: "silent for the longest lease, and then it serves, until its time is over",
+        words: "nbt nbns --bind 127.42.22.2:20138 --longest 60s --for 60001ms",
+        moments: &[
+            START, START, START, START, SILENT, SILENT, SILENT, OPEN, OPEN, OPEN, OPEN, OPEN, OPEN,
+            OPEN, END,
+        ],
+        sends: &[(1, ASKS), (1, REFRESHES), (1, QUERIES), (1, RELEASES)],
+        breaks_at: 0,
+        status: 0,
+        readings: 16,
+        text: "serving 127.42.22.2:20138, silent for 60 s until 2026-11-24T09:12:03Z\n",
+        errors: "",
+        sent: &[RENEWED, FOUND, RELEASED],
+    },
+    Row {
+        about: "it logs what it made of each, but of a query nothing",
+        words: "nbt nbns --bind 127.42.22.2:20138 --longest 60s --for 60001ms --log",
+        moments: &[
+            START, START, START, START, OPEN, OPEN, OPEN, OPEN, OPEN, OPEN, OPEN, OPEN, OPEN, OPEN,
+            OPEN, OPEN, OPEN, OPEN, OPEN, OPEN, OPEN, OPEN, OPEN, END,
+        ],
+        sends: &[
+            (1, ASKS),
+            (1, REFRESHES),
+            (1, ASKS_FOR_ANOTHER),
+            (1, "00"),
+            (1, FOUND),
+            (1, RELEASES),
+            (1, QUERIES),
+        ],
+        breaks_at: 0,
+        status: 0,
+        readings: 25,
+        text: "\
+serving 127.42.22.2:20138, silent for 60 s until 2026-11-24T09:12:03Z
+2026-11-24T09:12:03Z granted FRED#20 127.42.22.3 unique 60 s
+2026-11-24T09:12:03Z renewed FRED#20 127.42.22.3 unique 60 s
+2026-11-24T09:12:03Z refused FRED#20 127.42.22.4 unique: refused (5)
+2026-11-24T09:12:03Z malformed from 127.42.22.3:20139: 1 octets
+2026-11-24T09:12:03Z foreign from 127.42.22.3:20139: 62 octets
+2026-11-24T09:12:03Z released FRED#20 127.42.22.3 unique
+",
+        errors: "",
+        sent: &[GRANTED, RENEWED, REFUSED, RELEASED, NOT_FOUND],
+    },
+    Row {
+        about: "registrations of Samba's programs are taken for what they are to mean",
+        words: "nbt nbns --bind 127.42.22.2:20138 --longest 60s --for 60001ms",
+        moments: &[START, START, START, START, OPEN, OPEN, OPEN, OPEN, END],
+        sends: &[(1, ASKS_AS_NMBD), (1, JOINS)],
+        breaks_at: 0,
+        status: 0,
+        readings: 10,
+        text: "serving 127.42.22.2:20138, silent for 60 s until 2026-11-24T09:12:03Z\n",
+        errors: "",
+        sent: &[GRANTED_TO_NMBD, JOINED],
+    },
+    Row {
+        about: "unless it is strict",
+        words: "nbt nbns --bind 127.42.22.2:20138 --longest 60s --for 60001ms --strict --log",
+        moments: &[START, START, START, START, OPEN, END],
+        sends: &[(1, ASKS_AS_NMBD)],
+        breaks_at: 0,
+        status: 0,
+        readings: 7,
+        text: "\
+serving 127.42.22.2:20138, silent for 60 s until 2026-11-24T09:12:03Z
+2026-11-24T09:12:03Z malformed from 127.42.22.3:20139: 68 octets
+",
+        errors: "",
+        sent: &[],
+    },
+    Row {
+        about: "LIFE, and a longest lease of an hour, of which nothing is said",
+        words: "nbt nbns --bind 127.42.22.2:20138 --life 60s --longest 60m --for 0ms",
+        moments: &[START],
+        sends: &[],
+        breaks_at: 0,
+        status: 0,
+        readings: 6,
+        text: "serving 127.42.22.2:20138, silent for 3600 s until 2026-11-24T10:11:03Z\n",
+        errors: "",
+        sent: &[],
+    },
+    Row {
+        about: "one above an hour",
+        words: "nbt nbns --bind 127.42.22.2:20138 --longest 3601s --for 0ms",
+        moments: &[START],
+        sends: &[],
+        breaks_at: 0,
+        status: 0,
+        readings: 6,
+        text: "serving 127.42.22.2:20138, silent for 3601 s until 2026-11-24T10:11:04Z\n",
+        errors: LONG,
+        sent: &[],
+    },
+    Row {
+        about: "without them a datagram lives 1 s, and the longest lease is 5 min",
+        words: "nbt nbns --bind 127.42.22.2:20138 --for 0ms",
+        moments: &[START],
+        sends: &[],
+        breaks_at: 0,
+        status: 0,
+        readings: 6,
+        text: "serving 127.42.22.2:20138, silent for 300 s until 2026-11-24T09:16:03Z\n",
+        errors: "",
+        sent: &[],
+    },
+    Row {
+        about: "a clock that can't be read",
+        words: "nbt nbns --bind 127.42.22.2:20138 --longest 60s",
+        moments: &[],
+        sends: &[],
+        breaks_at: 0,
+        status: 3,
+        readings: 1,
+        text: "device\n",
+        errors: NO_CLOCK,
+        sent: &[],
+    },
+    Row {
+        about: "a clock that tells 1970",
+        words: "nbt nbns --bind 127.42.22.2:20138 --longest 60s",
+        moments: &[0],
+        sends: &[],
+        breaks_at: 0,
+        status: 3,
+        readings: 2,
+        text: "device\n",
+        errors: NO_TIME,
+        sent: &[],
+    },
+];
+
+#[test]
+fn name_servers(rt: HostRuntime) -> Result<(), Fail> {
+    for row in &SERVERS {
+        expect_row(&rt, row)?;
+    }
+    Ok(())
+}
+
+/// A path in the folder for temporary files that no other run of the tests has.
+fn path_for(rt: &HostRuntime, name: &str) -> Result<String, Fail> {
+    let folder = env::temp_dir(rt)?;
+    let folder = folder.as_path().to_str().ok_or("no text")?;
+    let id = process::id(rt.process());
+    Ok(format!(in rt.alloc(); "{folder}/nbt-tests-{id}-{name}")?)
+}
+
+/// A server that keeps its leases.
+const KEEPS: &str = "nbt nbns --bind 127.42.22.2:20138 --longest 60s --for 60001ms --leases";
+
+/// One is granted, and then another: a second isn't over yet, so the list has the first alone.
+const KEPT: Row = Row {
+    about: "the list of leases",
+    words: "",
+    moments: &[START, START, START, START, OPEN, OPEN, OPEN, OPEN, END],
+    sends: &[(1, ASKS), (1, JOINS)],
+    breaks_at: 0,
+    status: 0,
+    readings: 10,
+    text: "serving 127.42.22.2:20138, silent for 60 s until 2026-11-24T09:12:03Z\n",
+    errors: "",
+    sent: &[GRANTED, JOINED],
+};
+
+#[test]
+fn a_list_of_leases(rt: HostRuntime) -> Result<(), Fail> {
+    let path = path_for(&rt, "leases")?;
+    let machine = machine_of(&rt, &KEPT)?;
+    let mut words = words_of(&rt, KEEPS);
+    words.push(String::from_str(rt.alloc(), path.as_str())?)?;
+    let status = expect_ending(&rt, &machine, words.as_slice(), KEPT.text, "");
+    expect_eq(&rt, &status, &0);
+    expect_eq(
+        &rt,
+        &fs::read_to_string(&rt, path.as_str())?.as_str(),
+        &"FRED#20 unique 127.42.22.3 2026-11-24T09:13:03Z\n",
+    );
+    fs::remove_file(&rt, path.as_str())?;
+    Ok(())
+}
+
+/// What a command prints and says, and how it ends.
+fn expect_ending<R: Abort + AllocGlobal, M: Net + Clock + Files>(
+    rt: &R,
+    machine: &M,
+    words: &[String],
+    text: &str,
+    said: &str,
+) -> u8 {
+    let mut paper = LimitedWriter::new();
+    let mut errors = LimitedWriter::new();
+    let status = command_telling(
+        machine,
+        rt.alloc(),
+        words,
+        &mut io::empty(),
+        &mut paper,
+        &mut errors,
+    );
+    expect_eq(rt, &paper.text.as_slice(), &text.as_bytes());
+    expect(rt, paper.is_line_by_line());
+    expect_eq(rt, &errors.text.as_slice(), &said.as_bytes());
+    status
+}
+
+#[test]
+fn a_port_that_can_not_be_had(rt: HostRuntime) -> Result<(), Fail> {
+    let _taken = UdpSocket::bind(&rt, "127.42.22.4:20138")?;
+    let words = words_of(&rt, "nbt nbns --bind 127.42.22.4:20138");
+    let said = "nbt: 127.42.22.4:20138: Address already in use (os error 98)\n";
+    let status = expect_ending(&rt, &rt, words.as_slice(), "device\n", said);
+    expect_eq(&rt, &status, &3);
+    Ok(())
+}
