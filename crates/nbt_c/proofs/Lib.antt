@@ -1,0 +1,2 @@
+-- Moments, moves along equations, and room that is left (Calls).
+mod Calls

@@ -1,0 +1,31 @@
+-- What a node, a server or a joiner in C's memory ends as, once it is no longer lent.
+use Rattle.std.specs.Prelude.{Some}
+use Rattle.std.specs.Borrow.{Lends, MutBor, Fml}
+use Rattle.nbt_node.specs.Node.{NodeValue}
+use Rattle.nbt_c.specs.declared.held.CNode.{CNode}
+use Rattle.nbt_server.specs.Serving.{ServerValue}
+use Rattle.nbt_c.specs.declared.held.CServer.{CServer}
+use Rattle.nbt_dgram.specs.Joiner.{JoinerValue}
+use Rattle.nbt_c.specs.declared.held.CJoiner.{CJoiner}
+use Rattle.nbt_c.specs.contracts.held.CJoiner.{the_row as held_joiner}
+use Rattle.nbt_c.specs.contracts.held.CNode.{the_row}
+use Rattle.nbt_c.specs.contracts.held.CServer.{the_row as held_server}
+use Rattle.nbt_c.specs.Memory.{node_row, server_row, joiner_row}
+
+abbrev pub with_node : CNode → NodeValue → CNode
+with_node held node = record held { node = Some node }
+
+abbrev pub LendsNode : MutBor CNode → MutBor NodeValue → Fml
+LendsNode held node = Lends the_row node_row held node (with_node held.now)
+
+abbrev pub with_server : CServer → ServerValue → CServer
+with_server held server = record held { server = Some server }
+
+abbrev pub LendsServer : MutBor CServer → MutBor ServerValue → Fml
+LendsServer held server = Lends held_server server_row held server (with_server held.now)
+
+abbrev pub with_joiner : CJoiner → JoinerValue → CJoiner
+with_joiner held joiner = record held { joiner = Some joiner }
+
+abbrev pub LendsJoiner : MutBor CJoiner → MutBor JoinerValue → Fml
+LendsJoiner held joiner = Lends held_joiner joiner_row held joiner (with_joiner held.now)

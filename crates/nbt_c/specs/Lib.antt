@@ -1,0 +1,12 @@
+pub mod Accepting
+pub mod Ends
+pub mod Events
+pub mod Hearing
+pub mod Lending
+pub mod Memory
+pub mod Names
+pub mod Naming
+pub mod Sending
+pub mod Serving
+pub mod Starting
+pub mod Writing

@@ -1,0 +1,163 @@
+//! What a datagram's octets mean for a node in C's memory.
+
+ghost use Rattle.std.specs.Prelude.{◌≡◌, ℕ, List, Some, None, IsSome, IsNone, replicate};
+ghost use Rattle.nbt_dgram.specs.Accepting.{AcceptValue, accept_of};
+ghost use Rattle.nbt_dgram.specs.Joiner.{JoinerValue, joiner_of};
+ghost use Rattle.nbt_node.specs.Node.{NodeValue};
+ghost use Rattle.nbt_c.specs.Accepting.{AcceptsFor, accept_after, data_of};
+ghost use Rattle.nbt_c.specs.Ends.{addr_of};
+ghost use Rattle.nbt_c.specs.Sending.{Puts, PutsMost};
+
+use crate::ends::CAddr;
+use crate::held::{CJoiner, CNode};
+use crate::name::CName;
+use crate::results::NO_MOMENT;
+use crate::room::{put_most, put_packet};
+use arrayvec::ArrayVec;
+use nbt_dgram::{Accept, Joiner, accept};
+use nbt_lease::Moment;
+use nbt_name::Addr;
+use nbt_node::Node;
+
+/// What a datagram's octets mean for a node, as C sees it. A field that its kind doesn't name stays as it was.
+#[repr(C)]
+#[derive(Drop)]
+pub struct CAccept {
+    /// 0 nothing, 1 up, 2 reply, 3 error, 4 waiting.
+    pub kind: u8,
+    /// Of error: the code (RFC 1002 section 4.4.3).
+    pub code: u8,
+    /// Of error: the datagram's id.
+    pub id: u16,
+    /// Of reply: to whom it goes.
+    pub to: CAddr,
+    /// Of up: SOURCE_NAME.
+    pub source: CName,
+    /// Of up: DESTINATION_NAME, which the node holds.
+    pub destination: CName,
+    /// Of up: how many octets the data have.
+    pub size: usize,
+}
+
+impl CAccept {
+    /// Tells it.
+    fn tell(&mut self, outcome: &Accept<'_>)
+        ensures { self.new ≡ accept_after self.old (accept_of outcome.now) }
+    {
+        match outcome {
+            Accept::Nothing => self.kind = 0,
+            Accept::Up(names, payload) => {
+                self.kind = 1;
+                self.source = CName::of(&names.source);
+                self.destination = CName::of(&names.destination);
+                self.size = payload.as_slice().len();
+            }
+            Accept::Reply(to) => {
+                self.kind = 2;
+                self.to = CAddr::of(*to);
+            }
+            Accept::Error(id, code) => {
+                self.kind = 3;
+                self.id = *id;
+                self.code = *code;
+            }
+            Accept::Waiting => self.kind = 4,
+        }
+    }
+}
+
+/// Puts as many of the data as have room, if there are any.
+fn put_data(outcome: &Accept<'_>, data: &mut [u8])
+    ensures { PutsMost (data_of (accept_of outcome.now)) data.old data.new }
+{
+    match outcome {
+        Accept::Up(_, payload) => put_most(payload.as_slice(), data),
+        _ => put_most(&[], data),
+    }
+}
+
+/// How many octets of memory a joiner takes.
+#[unsafe(no_mangle)]
+pub extern "C" fn nbt_joiner_size() -> usize {
+    size_of::<Joiner<4>>()
+}
+
+/// How that memory is aligned.
+#[unsafe(no_mangle)]
+pub extern "C" fn nbt_joiner_align() -> usize {
+    align_of::<Joiner<4>>()
+}
+
+/// `nbt_dgram::Joiner::new`: a joiner of 4 slots without unfinished datagrams stands in the memory. That the memory is room for one,
+/// and none stands there, is the caller's.
+#[unsafe(no_mangle)]
+pub extern "C" fn nbt_joiner_start(joiner: &mut CJoiner)
+    requires { IsNone joiner.old.joiner }
+    ensures { joiner.new.joiner ≡ Some (joiner_of 0 (replicate 4 None)) }
+{
+    joiner.put(Joiner::new());
+}
+
+/// `nbt_dgram::accept`, of what C passes.
+fn hand(
+    joiner: &mut Joiner<4>,
+    now: u64,
+    node: &Node<14>,
+    own: Addr,
+    octets: &[u8],
+    told: &mut CAccept,
+    data: &mut [u8],
+    out: &mut ArrayVec<u8, 576>,
+) -> u8
+    ensures { (outcome : AcceptValue) × AcceptsFor joiner.old now node.now own octets.now result outcome out.new.items joiner.new
+        × (told.new ≡ accept_after told.old outcome) × PutsMost (data_of outcome) data.old data.new }
+{
+    out.clear();
+    let Some(now) = Moment::new(now) else {
+        told.tell(&Accept::Nothing);
+        put_data(&Accept::Nothing, data);
+        return NO_MOMENT;
+    };
+    let outcome = accept(joiner, now, node, own, octets, out);
+    told.tell(&outcome);
+    put_data(&outcome, data);
+    0
+}
+
+/// `nbt_dgram::accept`: what the octets of one datagram, which came at `now`, mean for the node, whose datagrams come to `own`. 0, and
+/// `told` says it; of up, the first octets of the data stand in `data`, as many as have room; of reply, the error packet stands at
+/// the front of `out`, `size` being how many octets it has, else 0. 253 where `now` is above 2^60 ms: nothing, and the joiner
+/// stays as it was. The node stays. That joiner and node stand in their memory is the caller's.
+#[unsafe(no_mangle)]
+pub extern "C" fn nbt_datagram_accept(
+    joiner: &mut CJoiner,
+    node: &mut CNode,
+    now: u64,
+    own: CAddr,
+    octets: &[u8],
+    told: &mut CAccept,
+    data: &mut [u8],
+    out: &mut [u8; 576],
+    size: &mut usize,
+) -> u8
+    requires joiner { IsSome joiner.old.joiner }
+    requires node { IsSome node.old.node }
+    ensures { (old : JoinerValue) (n : NodeValue) → joiner.old.joiner ≡ Some old → node.old.node ≡ Some n
+        → (new : JoinerValue) × (outcome : AcceptValue) × (sent : List ℕ) × (joiner.new.joiner ≡ Some new) × (node.new.node ≡ Some n)
+        × AcceptsFor old now n (addr_of own) octets.now result outcome sent new × (told.new ≡ accept_after told.old outcome)
+        × PutsMost (data_of outcome) data.old data.new × Puts sent out.old out.new size.new }
+{
+    let mut sent = ArrayVec::new();
+    let result = hand(
+        joiner.get(),
+        now,
+        node.get(),
+        own.addr(),
+        octets,
+        told,
+        data,
+        &mut sent,
+    );
+    *size = put_packet(sent.as_slice(), out);
+    result
+}

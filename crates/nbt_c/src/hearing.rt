@@ -1,0 +1,160 @@
+//! What a node in C's memory hears, polls and holds.
+
+ghost use Rattle.std.specs.Prelude.{◌≡◌, ℕ, List, Option, Some, IsSome};
+ghost use Rattle.nbt_name.specs.declared.addr.Addr.{Addr as End};
+ghost use Rattle.nbt_name.specs.declared.addr.Kind.{Kind as HeldKind};
+ghost use Rattle.nbt_node.specs.Moves.{Told};
+ghost use Rattle.nbt_node.specs.Node.{NodeValue};
+ghost use Rattle.nbt_c.specs.Ends.{addr_of, addr_for};
+ghost use Rattle.nbt_c.specs.Events.{event_for, lent_by};
+ghost use Rattle.nbt_c.specs.Hearing.{Hears, PollsNode, Holds, end_after, held_number};
+ghost use Rattle.nbt_c.specs.Sending.{Puts, PutsMost};
+
+use crate::ends::{CAddr, kind_number};
+use crate::event::{CEvent, lent_by};
+use crate::held::CNode;
+use crate::name::CName;
+use crate::results::{NO_MOMENT, NO_NAME};
+use crate::room::{put_most, put_packet};
+use arrayvec::ArrayVec;
+use nbt_lease::Moment;
+use nbt_name::{Addr, Kind};
+use nbt_node::{Event, Node};
+
+/// `nbt_node::Node::on_datagram`, of what C passes.
+fn hear(
+    node: &mut Node<14>,
+    now: u64,
+    from: Addr,
+    octets: &[u8],
+    told: &mut CEvent,
+    lent: &mut [u8],
+    out: &mut ArrayVec<u8, 576>,
+) -> u8
+    ensures { (heard : Told) × Hears node.old now from octets.now result node.new heard out.new.items
+        × (told.new ≡ event_for heard) × PutsMost (lent_by heard) lent.old lent.new }
+{
+    out.clear();
+    *told = CEvent::of(&Event::Nothing);
+    let Some(now) = Moment::new(now) else {
+        return NO_MOMENT;
+    };
+    match node.on_datagram(now, from, octets, out) {
+        Ok(event) => {
+            *told = CEvent::of(&event);
+            put_most(lent_by(&event), lent);
+            0
+        }
+        Err(fault) => fault.number(),
+    }
+}
+
+/// `nbt_node::Node::on_datagram`: takes a datagram of these octets, which came at `now` from `from`. 0, and `event` says what
+/// it was to the node; of found and status, the first octets of the entries or names stand in `lent`, as many as have room. A
+/// reply to `from` stands at the front of `out`, `size` being how many octets it has, else 0. Refused, the node staying as it was,
+/// `event` being nothing and `size` 0: 253 where `now` is above 2^60 ms, `ClockBack` (4) where it is before the node's start or
+/// the moment of an earlier call that wasn't refused. That a node stands in the memory is the caller's.
+#[unsafe(no_mangle)]
+pub extern "C" fn nbt_node_on_datagram(
+    node: &mut CNode,
+    now: u64,
+    from: CAddr,
+    octets: &[u8],
+    event: &mut CEvent,
+    lent: &mut [u8],
+    out: &mut [u8; 576],
+    size: &mut usize,
+) -> u8
+    requires { IsSome node.old.node }
+    ensures { (old : NodeValue) → node.old.node ≡ Some old → (new : NodeValue) × (told : Told) × (reply : List ℕ) × (node.new.node ≡ Some new)
+        × Hears old now (addr_of from) octets.now result new told reply × (event.new ≡ event_for told)
+        × PutsMost (lent_by told) lent.old lent.new × Puts reply out.old out.new size.new }
+{
+    let mut reply = ArrayVec::new();
+    let result = hear(
+        node.get(),
+        now,
+        from.addr(),
+        octets,
+        event,
+        lent,
+        &mut reply,
+    );
+    *size = put_packet(reply.as_slice(), out);
+    result
+}
+
+/// `nbt_node::Node::poll`, of what C passes.
+fn poll(node: &mut Node<14>, now: u64, to: &mut CAddr, out: &mut ArrayVec<u8, 576>) -> u8
+    ensures { (end : Option End) × PollsNode node.old now result node.new end out.new.items × (to.new ≡ end_after to.old end) }
+{
+    out.clear();
+    let Some(now) = Moment::new(now) else {
+        return NO_MOMENT;
+    };
+    match node.poll(now, out) {
+        Ok(Some(end)) => {
+            *to = CAddr::of(end);
+            0
+        }
+        Ok(None) => 0,
+        Err(fault) => fault.number(),
+    }
+}
+
+/// `nbt_node::Node::poll`: sends at most one datagram that is due at `now`. 0, and it stands at the front of `out` for the end
+/// in `to`, `size` being how many octets it has; where none is due, `size` is 0 and `to` stays. Whoever polls calls until
+/// `size` is 0. Refused, the node staying as it was and `size` being 0: 253, 4 as by `nbt_node_on_datagram`. That a node stands in
+/// the memory is the caller's.
+#[unsafe(no_mangle)]
+pub extern "C" fn nbt_node_poll(
+    node: &mut CNode,
+    now: u64,
+    to: &mut CAddr,
+    out: &mut [u8; 576],
+    size: &mut usize,
+) -> u8
+    requires { IsSome node.old.node }
+    ensures { (old : NodeValue) → node.old.node ≡ Some old → (new : NodeValue) × (end : Option End) × (octets : List ℕ) × (node.new.node ≡ Some new)
+        × PollsNode old now result new end octets × (to.new ≡ end_after to.old end) × Puts octets out.old out.new size.new }
+{
+    let mut octets = ArrayVec::new();
+    let result = poll(node.get(), now, to, &mut octets);
+    *size = put_packet(octets.as_slice(), out);
+    result
+}
+
+/// `nbt_node::Node::holds`, of what C passes.
+fn holds(node: &Node<14>, now: u64, name: &CName, held: &mut u8) -> u8
+    ensures { (kind : Option HeldKind) × Holds node.now now name.now result kind × (held.new ≡ held_number kind) }
+{
+    *held = 0;
+    let Some(now) = Moment::new(now) else {
+        return NO_MOMENT;
+    };
+    let Some(name) = name.read() else {
+        return NO_NAME;
+    };
+    *held = held_number(node.holds(now, &name));
+    0
+}
+
+fn held_number(kind: Option<Kind>) -> u8
+    ensures { result ≡ held_number kind }
+{
+    match kind {
+        None => 0,
+        Some(kind) => kind_number(kind),
+    }
+}
+
+/// `nbt_node::Node::holds`: how the node holds the name at `now`. 0, and `held` is 0 where it doesn't, 1 as one machine's and 2 as a
+/// group's. Else `held` is 0: 253, 255 as by `nbt_node_ask`. The node stays. That a node stands in the memory is the caller's.
+#[unsafe(no_mangle)]
+pub extern "C" fn nbt_node_holds(node: &mut CNode, now: u64, name: &CName, held: &mut u8) -> u8
+    requires { IsSome node.old.node }
+    ensures { (old : NodeValue) → node.old.node ≡ Some old → (kind : Option HeldKind) × (node.new.node ≡ Some old)
+        × Holds old now name.now result kind × (held.new ≡ held_number kind) }
+{
+    holds(node.get(), now, name, held)
+}

@@ -1,0 +1,126 @@
+//! A node, a name server, or a joiner of datagrams, in the memory of a program in C.
+
+ghost use Rattle.std.specs.Prelude.{◌≡◌, Option, Some, IsSome, IsNone};
+ghost use Rattle.std.specs.Borrow.{sem};
+ghost use Rattle.nbt_dgram.specs.Joiner.{JoinerValue};
+ghost use Rattle.nbt_node.specs.Node.{NodeValue};
+ghost use Rattle.nbt_server.specs.Serving.{ServerValue};
+
+use nbt_dgram::Joiner;
+use nbt_node::Node;
+use nbt_server::Server;
+use std::marker::Model;
+
+/// A node in C's memory: where the memory is, and, as far as contracts see, which node stands there, if any. Before a node is
+/// started the memory is room for one.
+#[repr(C)]
+pub struct CNode {
+    at: *mut u8,
+    ghost node: { Option NodeValue },
+}
+
+impl Model for CNode {
+    ghost use Rattle.nbt_c.specs.Memory.{rests_at, node_row};
+
+    ghost also_owns = { λ h. rests_at node_row h.at h.node };
+}
+
+impl CNode {
+    ghost use Rattle.nbt_c.specs.Lending.{LendsNode};
+
+    /// Puts a node into the room.
+    pub(crate) fn put(&mut self, node: Node<14>)
+        requires { IsNone self.old.node }
+        ensures { self.new.node ≡ Some node }
+    {
+        unsafe { (self.at as *mut Node<14>).write(node) };
+    }
+
+    /// The node that stands there.
+    pub(crate) fn get(&mut self) -> &mut Node<14>
+        requires { IsSome self.old.node }
+        ensures* writes_back { sem 𝓛 (LendsNode self.entry result) }
+        ensures value { self.old.node ≡ Some result.now }
+    {
+        unsafe { &mut *(self.at as *mut Node<14>) }
+    }
+}
+
+/// A name server in C's memory: where the memory is, and, as far as contracts see, which server stands there, if any. Before a
+/// server is started the memory is room for one, and after its end again.
+#[repr(C)]
+pub struct CServer {
+    at: *mut u8,
+    ghost server: { Option ServerValue },
+}
+
+impl Model for CServer {
+    ghost use Rattle.nbt_c.specs.Memory.{rests_at, server_row};
+
+    ghost also_owns = { λ h. rests_at server_row h.at h.server };
+}
+
+impl CServer {
+    ghost use Rattle.std.specs.Prelude.{None};
+    ghost use Rattle.nbt_c.specs.Lending.{LendsServer};
+
+    /// Puts a server into the room.
+    pub(crate) fn put(&mut self, server: Server)
+        requires { IsNone self.old.server }
+        ensures { self.new.server ≡ Some server }
+    {
+        unsafe { (self.at as *mut Server).write(server) };
+    }
+
+    /// The server that stands there.
+    pub(crate) fn get(&mut self) -> &mut Server
+        requires { IsSome self.old.server }
+        ensures* writes_back { sem 𝓛 (LendsServer self.entry result) }
+        ensures value { self.old.server ≡ Some result.now }
+    {
+        unsafe { &mut *(self.at as *mut Server) }
+    }
+
+    /// Takes the server out; the memory is room again.
+    pub(crate) fn take(&mut self) -> Server
+        requires { IsSome self.old.server }
+        ensures { (self.old.server ≡ Some result) × (self.new.server ≡ None) }
+    {
+        unsafe { (self.at as *mut Server).read() }
+    }
+}
+
+/// A joiner of 4 slots in C's memory: where the memory is, and, as far as contracts see, which joiner stands there, if any. Before
+/// one is started the memory is room for it.
+#[repr(C)]
+pub struct CJoiner {
+    at: *mut u8,
+    ghost joiner: { Option JoinerValue },
+}
+
+impl Model for CJoiner {
+    ghost use Rattle.nbt_c.specs.Memory.{rests_at, joiner_row};
+
+    ghost also_owns = { λ h. rests_at joiner_row h.at h.joiner };
+}
+
+impl CJoiner {
+    ghost use Rattle.nbt_c.specs.Lending.{LendsJoiner};
+
+    /// Puts a joiner into the room.
+    pub(crate) fn put(&mut self, joiner: Joiner<4>)
+        requires { IsNone self.old.joiner }
+        ensures { self.new.joiner ≡ Some joiner }
+    {
+        unsafe { (self.at as *mut Joiner<4>).write(joiner) };
+    }
+
+    /// The joiner that stands there.
+    pub(crate) fn get(&mut self) -> &mut Joiner<4>
+        requires { IsSome self.old.joiner }
+        ensures* writes_back { sem 𝓛 (LendsJoiner self.entry result) }
+        ensures value { self.old.joiner ≡ Some result.now }
+    {
+        unsafe { &mut *(self.at as *mut Joiner<4>) }
+    }
+}

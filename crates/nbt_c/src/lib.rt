@@ -1,0 +1,29 @@
+//! The library for programs in C, whose header is `include/nbt.h`: each export calls a crate's function, and states its
+//! clauses again.
+//!
+//! Octets and moments go in, octets come out: no socket, no clock, no thread, no global. A slice is passed as a pointer and a
+//! length. What C can get wrong with its numbers is tested. What it can get wrong with its pointers is its own condition,
+//! and stands in the header.
+#![tactic(auto)]
+
+pub mod accepting;
+pub mod ends;
+pub mod event;
+pub mod hearing;
+pub mod held;
+pub mod lease;
+pub mod name;
+pub mod naming;
+pub mod results;
+pub mod room;
+pub mod sending;
+pub mod serving;
+pub mod starting;
+pub mod wire;
+
+pub use accepting::CAccept;
+pub use ends::{CAddr, CConfig};
+pub use event::CEvent;
+pub use held::{CJoiner, CNode, CServer};
+pub use lease::CLease;
+pub use name::CName;

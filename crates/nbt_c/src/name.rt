@@ -1,0 +1,63 @@
+//! A name as C holds it.
+
+ghost use Rattle.std.specs.Prelude.{◌≡◌, ◌≤◌, length, IfSome, IfNone};
+ghost use Rattle.nbt_c.specs.Names.{filled_scope};
+
+use nbt_name::Name;
+use nbt_text::with_octets;
+
+/// The most octets of a scope (RFC 1002 section 4.1).
+const SCOPE_MOST: usize = 221;
+
+/// A name as C holds it: 238 octets, of any alignment. A call that is given one tests it.
+#[repr(C)]
+#[derive(Drop)]
+pub struct CName {
+    /// The sixteen octets, the last of them mostly a service's number.
+    pub octets: [u8; 16],
+    /// How many octets of `scope` count, 0 to 221.
+    pub scope_size: u8,
+    /// The scope: its labels, each after its length octet, without the closing zero. The library fills it up with zeros.
+    pub scope: [u8; 221],
+}
+
+impl CName {
+    ghost use Rattle.nbt_c.specs.Names.{HoldsName, name_in, stored};
+
+    /// The name that is held; `None` where `scope_size` is above 221, or the scope is no row of labels.
+    pub(crate) fn read(&self) -> Option<Name>
+        ensures read { IfSome result (λ name. HoldsName self.now × (name ≡ name_in self.now)) }
+        ensures none { IfNone result (¬ HoldsName self.now) }
+    {
+        let size = usize::from(self.scope_size);
+        if size > SCOPE_MOST {
+            return None;
+        }
+        match Name::any(&self.scope[..size]) {
+            Ok(scoped) => Some(with_octets(&self.octets, &scoped)),
+            Err(_) => None,
+        }
+    }
+
+    /// The name for C.
+    pub(crate) fn of(name: &Name) -> CName
+        ensures { result ≡ stored name.now }
+    {
+        let labels = name.scope();
+        CName {
+            octets: *name.octets(),
+            scope_size: labels.len() as u8,
+            scope: filled(labels),
+        }
+    }
+}
+
+/// The labels at the front of 221 octets, which zeros fill up.
+fn filled(labels: &[u8]) -> [u8; 221]
+    requires { length labels.now ≤ 221 }
+    ensures { result ≡ filled_scope labels.now }
+{
+    let mut scope = [0; SCOPE_MOST];
+    scope[..labels.len()].copy_from_slice(labels);
+    scope
+}

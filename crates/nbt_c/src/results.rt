@@ -1,0 +1,19 @@
+//! What any call returns beside the numbers of the crates' faults (our profile).
+
+/// A `CName` holds no name.
+pub(crate) const NO_NAME: u8 = 255;
+
+/// The caller's octets are too few.
+pub(crate) const NO_ROOM: u8 = 254;
+
+/// A moment is above 2^60 milliseconds.
+pub(crate) const NO_MOMENT: u8 = 253;
+
+/// A kind is neither 0 nor 1.
+pub(crate) const NO_KIND: u8 = 252;
+
+/// A place is above the number of the octets.
+pub(crate) const NO_PLACE: u8 = 251;
+
+/// No more leases live.
+pub(crate) const NO_LEASE: u8 = 250;

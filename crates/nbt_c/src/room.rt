@@ -1,0 +1,34 @@
+//! Octets that are put where the caller has room for them.
+
+ghost use Rattle.nbt_c.specs.Sending.{Puts, PutsMost};
+ghost use Rattle.std.specs.Prelude.{◌≡◌, ◌≤◌, ◌↔◌, ◌++◌, length, drop, IsTrue, IsFalse};
+
+/// Puts the octets at the front of `out`, where they have room; the others stay.
+pub(crate) fn put_front(octets: &[u8], out: &mut [u8]) -> bool
+    ensures room { IsTrue result ↔ (length octets.now ≤ length out.old) }
+    ensures put { IsTrue result → out.new ≡ octets.now ++ drop (length octets.now) out.old }
+    ensures left { IsFalse result → out.new ≡ out.old }
+{
+    if octets.len() > out.len() {
+        return false;
+    }
+    out[..octets.len()].copy_from_slice(octets);
+    true
+}
+
+/// Puts a packet at the front of the caller's 576 octets, the others staying. Returns how many octets it has.
+pub(crate) fn put_packet(octets: &[u8], out: &mut [u8; 576]) -> usize
+    requires { length octets.now ≤ 576 }
+    ensures { Puts octets.now out.old out.new result }
+{
+    out[..octets.len()].copy_from_slice(octets);
+    octets.len()
+}
+
+/// Puts as many of the octets at the front of `out` as have room there; the others of `out` stay.
+pub(crate) fn put_most(octets: &[u8], out: &mut [u8])
+    ensures { PutsMost octets.now out.old out.new }
+{
+    let count = octets.len().min(out.len());
+    out[..count].copy_from_slice(&octets[..count]);
+}

@@ -1,0 +1,199 @@
+//! What a node in C's memory is asked for, and sends.
+
+ghost use Rattle.std.specs.Prelude.{◌≡◌, ℕ, List, Some, IsSome};
+ghost use Rattle.nbt_node.specs.Node.{NodeValue};
+ghost use Rattle.nbt_c.specs.Ends.{addr_of};
+ghost use Rattle.nbt_c.specs.Sending.{kind_of, Puts, Asks, GivesBack, Resolves, AsksStatus};
+
+use crate::ends::CAddr;
+use crate::held::CNode;
+use crate::name::CName;
+use crate::results::{NO_KIND, NO_MOMENT, NO_NAME};
+use crate::room::put_packet;
+use arrayvec::ArrayVec;
+use nbt_lease::Moment;
+use nbt_name::{Addr, Kind};
+use nbt_node::Node;
+
+/// 0 is a name of one machine, 1 one of a group.
+fn kind_of(number: u8) -> Option<Kind>
+    ensures { result ≡ kind_of number }
+{
+    match number {
+        0 => Some(Kind::Unique),
+        1 => Some(Kind::Group),
+        _ => None,
+    }
+}
+
+/// `nbt_node::Node::ask`, of what C passes.
+fn ask(
+    node: &mut Node<14>,
+    now: u64,
+    name: &CName,
+    kind: u8,
+    ttl: u32,
+    out: &mut ArrayVec<u8, 576>,
+) -> u8
+    ensures { Asks node.old now name.now kind ttl result node.new out.new.items }
+{
+    out.clear();
+    let Some(now) = Moment::new(now) else {
+        return NO_MOMENT;
+    };
+    let Some(name) = name.read() else {
+        return NO_NAME;
+    };
+    let Some(kind) = kind_of(kind) else {
+        return NO_KIND;
+    };
+    match node.ask(now, &name, kind, ttl, out) {
+        Ok(()) => 0,
+        Err(fault) => fault.number(),
+    }
+}
+
+/// `nbt_node::Node::ask`: asks the server for the name, for `ttl` seconds or, where that is 0, as long as may be. 0, and the
+/// NAME REGISTRATION REQUEST for the server stands at the front of `out`, `size` being how many octets it has. Else the node
+/// stays as it was, and `size` is 0: 253 where `now` is above 2^60 ms, 255 where `name` holds no name, 252 where `kind` is
+/// neither 0 nor 1, or the number of the node's refusal, 1 to 5. That a node stands in the memory is the caller's.
+#[unsafe(no_mangle)]
+pub extern "C" fn nbt_node_ask(
+    node: &mut CNode,
+    now: u64,
+    name: &CName,
+    kind: u8,
+    ttl: u32,
+    out: &mut [u8; 576],
+    size: &mut usize,
+) -> u8
+    requires { IsSome node.old.node }
+    ensures { (old : NodeValue) → node.old.node ≡ Some old → (new : NodeValue) × (octets : List ℕ) × (node.new.node ≡ Some new)
+        × Asks old now name.now kind ttl result new octets × Puts octets out.old out.new size.new }
+{
+    let mut octets = ArrayVec::new();
+    let result = ask(node.get(), now, name, kind, ttl, &mut octets);
+    *size = put_packet(octets.as_slice(), out);
+    result
+}
+
+/// `nbt_node::Node::release`, of what C passes.
+fn release(node: &mut Node<14>, now: u64, name: &CName, out: &mut ArrayVec<u8, 576>) -> u8
+    ensures { GivesBack node.old now name.now result node.new out.new.items }
+{
+    out.clear();
+    let Some(now) = Moment::new(now) else {
+        return NO_MOMENT;
+    };
+    let Some(name) = name.read() else {
+        return NO_NAME;
+    };
+    match node.release(now, &name, out) {
+        Ok(()) => 0,
+        Err(fault) => fault.number(),
+    }
+}
+
+/// `nbt_node::Node::release`: gives the name back. 0, and the NAME RELEASE REQUEST for the server stands at the front of `out`,
+/// `size` being how many octets it has. Else the node stays as it was, and `size` is 0: 253, 255 as by `nbt_node_ask`, or the
+/// number of the node's refusal, 1 or 4. That a node stands in the memory is the caller's.
+#[unsafe(no_mangle)]
+pub extern "C" fn nbt_node_release(
+    node: &mut CNode,
+    now: u64,
+    name: &CName,
+    out: &mut [u8; 576],
+    size: &mut usize,
+) -> u8
+    requires { IsSome node.old.node }
+    ensures { (old : NodeValue) → node.old.node ≡ Some old → (new : NodeValue) × (octets : List ℕ) × (node.new.node ≡ Some new)
+        × GivesBack old now name.now result new octets × Puts octets out.old out.new size.new }
+{
+    let mut octets = ArrayVec::new();
+    let result = release(node.get(), now, name, &mut octets);
+    *size = put_packet(octets.as_slice(), out);
+    result
+}
+
+/// `nbt_node::Node::resolve`, of what C passes.
+fn resolve(node: &mut Node<14>, now: u64, name: &CName, out: &mut ArrayVec<u8, 576>) -> u8
+    ensures { Resolves node.old now name.now result node.new out.new.items }
+{
+    out.clear();
+    let Some(now) = Moment::new(now) else {
+        return NO_MOMENT;
+    };
+    let Some(name) = name.read() else {
+        return NO_NAME;
+    };
+    match node.resolve(now, &name, out) {
+        Ok(()) => 0,
+        Err(fault) => fault.number(),
+    }
+}
+
+/// `nbt_node::Node::resolve`: looks up at the server who holds the name. 0, and the NAME QUERY REQUEST for the server stands at
+/// the front of `out`, `size` being how many octets it has. Else the node stays as it was, and `size` is 0: 253, 255 as by
+/// `nbt_node_ask`, or the number of the node's refusal, 2, 4 or 5. That a node stands in the memory is the caller's.
+#[unsafe(no_mangle)]
+pub extern "C" fn nbt_node_resolve(
+    node: &mut CNode,
+    now: u64,
+    name: &CName,
+    out: &mut [u8; 576],
+    size: &mut usize,
+) -> u8
+    requires { IsSome node.old.node }
+    ensures { (old : NodeValue) → node.old.node ≡ Some old → (new : NodeValue) × (octets : List ℕ) × (node.new.node ≡ Some new)
+        × Resolves old now name.now result new octets × Puts octets out.old out.new size.new }
+{
+    let mut octets = ArrayVec::new();
+    let result = resolve(node.get(), now, name, &mut octets);
+    *size = put_packet(octets.as_slice(), out);
+    result
+}
+
+/// `nbt_node::Node::name_status`, of what C passes.
+fn ask_status(
+    node: &mut Node<14>,
+    now: u64,
+    to: Addr,
+    name: &CName,
+    out: &mut ArrayVec<u8, 576>,
+) -> u8
+    ensures { AsksStatus node.old now to name.now result node.new out.new.items }
+{
+    out.clear();
+    let Some(now) = Moment::new(now) else {
+        return NO_MOMENT;
+    };
+    let Some(name) = name.read() else {
+        return NO_NAME;
+    };
+    match node.name_status(now, to, &name, out) {
+        Ok(()) => 0,
+        Err(fault) => fault.number(),
+    }
+}
+
+/// `nbt_node::Node::name_status`: asks the end at `to` for the names that it holds. 0, and the NODE STATUS REQUEST for it stands at
+/// the front of `out`, `size` being how many octets it has. Else the node stays as it was, and `size` is 0: 253, 255 as by
+/// `nbt_node_ask`, or the number of the node's refusal, 2 or 4. That a node stands in the memory is the caller's.
+#[unsafe(no_mangle)]
+pub extern "C" fn nbt_node_name_status(
+    node: &mut CNode,
+    now: u64,
+    to: CAddr,
+    name: &CName,
+    out: &mut [u8; 576],
+    size: &mut usize,
+) -> u8
+    requires { IsSome node.old.node }
+    ensures { (old : NodeValue) → node.old.node ≡ Some old → (new : NodeValue) × (octets : List ℕ) × (node.new.node ≡ Some new)
+        × AsksStatus old now (addr_of to) name.now result new octets × Puts octets out.old out.new size.new }
+{
+    let mut octets = ArrayVec::new();
+    let result = ask_status(node.get(), now, to.addr(), name, &mut octets);
+    *size = put_packet(octets.as_slice(), out);
+    result
+}

@@ -1,0 +1,159 @@
+//! A name server in C's memory: it starts, takes datagrams, tells its live leases, and ends.
+
+ghost use Rattle.std.specs.Prelude.{◌≡◌, ℕ, List, Option, Some, None, IsSome, IsNone, slice_get};
+ghost use Rattle.nbt_name.specs.declared.addr.Addr.{Addr as End};
+ghost use Rattle.nbt_lease.specs.declared.lease.Lease.{Lease as HeldLease};
+ghost use Rattle.nbt_server.specs.Serving.{ServerValue};
+ghost use Rattle.nbt_c.specs.Ends.{addr_of};
+ghost use Rattle.nbt_c.specs.Sending.{Puts};
+ghost use Rattle.nbt_c.specs.Serving.{StartsServer, ServesFor, TellsLease, lease_after};
+
+use crate::ends::{CAddr, CConfig};
+use crate::held::CServer;
+use crate::lease::CLease;
+use crate::name::CName;
+use crate::results::{NO_LEASE, NO_MOMENT, NO_NAME};
+use crate::room::put_packet;
+use arrayvec::ArrayVec;
+use nbt_lease::{Config, Lease, Members, Moment};
+use nbt_name::Addr;
+use nbt_server::{Server, ServerFault};
+use std::alloc::Global;
+
+/// How many octets of memory a server takes, beside those that it asks `malloc` for.
+#[unsafe(no_mangle)]
+pub extern "C" fn nbt_server_size() -> usize {
+    size_of::<Server>()
+}
+
+/// How that memory is aligned.
+#[unsafe(no_mangle)]
+pub extern "C" fn nbt_server_align() -> usize {
+    align_of::<Server>()
+}
+
+/// `nbt_server::Server::start`: a server without leases stands in the memory. 0; else none does: the number of the first limit
+/// that isn't kept, `Life` (1), `Longest` (2), `Rows` (3), or 253 where `now` is above 2^60 ms. That the memory is room for a
+/// server, and none stands there, is the caller's.
+#[unsafe(no_mangle)]
+pub extern "C" fn nbt_server_start(
+    alloc: Global,
+    server: &mut CServer,
+    config: CConfig,
+    now: u64,
+) -> u8
+    requires { IsNone server.old.server }
+    ensures { StartsServer config now result server.new.server }
+{
+    let limits = match Config::new(config.life, config.longest, config.rows as usize) {
+        Ok(limits) => limits,
+        Err(fault) => return fault.number(),
+    };
+    let Some(now) = Moment::new(now) else {
+        return NO_MOMENT;
+    };
+    server.put(Server::start(alloc, limits, now));
+    0
+}
+
+/// Gives back the memory that the server has taken. None stands in the caller's memory then. That a server stands there is the
+/// caller's.
+#[unsafe(no_mangle)]
+pub extern "C" fn nbt_server_end(server: &mut CServer)
+    requires { IsSome server.old.server }
+    ensures { server.new.server ≡ None }
+{
+    let _ = server.take();
+}
+
+/// `nbt_server::Server::on_datagram`, of what C passes.
+fn serve(
+    server: &mut Server,
+    now: u64,
+    from: Addr,
+    octets: &[u8],
+    out: &mut ArrayVec<u8, 576>,
+) -> u8
+    ensures { ServesFor server.old now from octets.now result server.new out.new.items }
+{
+    out.clear();
+    let Some(now) = Moment::new(now) else {
+        return NO_MOMENT;
+    };
+    match server.on_datagram(now, from, octets, out) {
+        Ok(_) => 0,
+        Err(fault) => fault.number(),
+    }
+}
+
+/// `nbt_server::Server::on_datagram`: takes a datagram of these octets, which came at `now` from `from`. 0, and a reply to `from`
+/// stands at the front of `out`, `size` being how many octets it has, else 0. Refused, `size` being 0: 253 where `now` is above
+/// 2^60 ms and `ClockBack` (1), the server staying as it was; `OutOfMemory` (2), the live leases staying as they were. That a
+/// server stands in the memory is the caller's.
+#[unsafe(no_mangle)]
+pub extern "C" fn nbt_server_on_datagram(
+    server: &mut CServer,
+    now: u64,
+    from: CAddr,
+    octets: &[u8],
+    out: &mut [u8; 576],
+    size: &mut usize,
+) -> u8
+    requires { IsSome server.old.server }
+    ensures { (old : ServerValue) → server.old.server ≡ Some old → (new : ServerValue) × (reply : List ℕ) × (server.new.server ≡ Some new)
+        × ServesFor old now (addr_of from) octets.now result new reply × Puts reply out.old out.new size.new }
+{
+    let mut reply = ArrayVec::new();
+    let result = serve(server.get(), now, from.addr(), octets, &mut reply);
+    *size = put_packet(reply.as_slice(), out);
+    result
+}
+
+/// The member with this number, counted from 0.
+fn nth_of(mut members: Members<'_>, which: usize) -> Option<Lease>
+    ensures { result ≡ slice_get members.entry which }
+{
+    members.nth(which)
+}
+
+/// One of the live leases of a name, of what C passes.
+fn tell_lease(server: &Server, now: u64, name: &CName, which: usize, lease: &mut CLease) -> u8
+    ensures { (found : Option HeldLease) × TellsLease server.now now name.now which result found × (lease.new ≡ lease_after lease.old found) }
+{
+    let Some(now) = Moment::new(now) else {
+        return NO_MOMENT;
+    };
+    let Some(name) = name.read() else {
+        return NO_NAME;
+    };
+    if now.get() < server.last().get() {
+        return ServerFault::ClockBack.number();
+    }
+    let table = server.table();
+    match nth_of(table.members(now, &name), which) {
+        Some(found) => {
+            *lease = CLease::of(found);
+            0
+        }
+        None => NO_LEASE,
+    }
+}
+
+/// `nbt_lease::Table::members`: of the name's leases that live at `now`, in order of their beginnings, the one with this number,
+/// counted from 0. 0, and it stands in `lease`. Else `lease` stays: 253, 255 as by `nbt_node_ask`; `ClockBack` (1) where `now` is
+/// before the moment of the last datagram; 250 where no more leases live. The server stays. That a server stands in the memory
+/// is the caller's.
+#[unsafe(no_mangle)]
+pub extern "C" fn nbt_server_lease(
+    server: &mut CServer,
+    now: u64,
+    name: &CName,
+    which: usize,
+    lease: &mut CLease,
+) -> u8
+    requires { IsSome server.old.server }
+    ensures { (old : ServerValue) → server.old.server ≡ Some old → (found : Option HeldLease) × (server.new.server ≡ Some old)
+        × TellsLease old now name.now which result found × (lease.new ≡ lease_after lease.old found) }
+{
+    tell_lease(server.get(), now, name, which, lease)
+}

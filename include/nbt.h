@@ -1,0 +1,308 @@
+/*
+ * nbt: the NetBIOS name, datagram and session services (RFC 1001 and 1002), for programs in C.
+ *
+ * The library opens no socket, reads no clock, starts no thread and keeps nothing of its own between two calls: octets and
+ * moments go in, octets come out. Names, nodes and datagrams take no memory; a name server asks malloc for its leases.
+ *
+ * What holds of every call:
+ *
+ *   - A pointer leads to as many octets or values as its parameter says, is aligned for its type and is not null: also where a
+ *     length is 0. What it leads to may be written by no one else during the call, and two pointers of one call lead to places
+ *     that do not overlap where one of them isn't const. That is the caller's to keep; nothing tests it.
+ *   - Numbers may be any: each length, place and count is tested.
+ *   - A result is 0, or the number of what is wrong, by the names below. What a call writes where the result isn't 0 stands
+ *     above it; all else stays as it was.
+ *   - Sizes are octets, unless it says otherwise. Scopes and words are octets with a length, not texts that a zero ends.
+ */
+#ifndef NBT_H
+#define NBT_H
+
+#include <stdbool.h>
+#include <stddef.h>
+#include <stdint.h>
+
+#ifdef __cplusplus
+extern "C" {
+#endif
+
+/* What any call can return (our profile). */
+enum {
+    NBT_DONE = 0,
+    NBT_NO_NAME = 255,   /* a struct nbt_name holds no name */
+    NBT_NO_ROOM = 254,   /* the caller's octets are too few */
+    NBT_NO_MOMENT = 253, /* a moment is above 2^60 ms */
+    NBT_NO_KIND = 252,   /* a kind is neither NBT_UNIQUE nor NBT_GROUP */
+    NBT_NO_PLACE = 251,  /* a place is above the number of the octets */
+    NBT_NO_LEASE = 250   /* no more leases live */
+};
+
+/* ---- names */
+
+/*
+ * A name (RFC 1001 section 14), 238 octets. The calls below fill it in, the rest of `scope` with zeros: so two names are equal
+ * where their structs' octets are. A program may fill it in too; a call that is given one tests it.
+ */
+struct nbt_name {
+    uint8_t octets[16]; /* the last of them mostly a service's number */
+    uint8_t scope_size; /* how many octets of scope count: 0 to 221 */
+    uint8_t scope[221]; /* labels, each after its length octet, without the closing zero */
+};
+
+/* Why sixteen octets and a scope make no name, in this order (our profile). */
+enum {
+    NBT_NAME_STAR = 1,       /* the first octet is '*', with which no machine's name begins (RFC 1001 section 5.2) */
+    NBT_NAME_SCOPE_LONG = 2, /* the scope has more than 221 octets */
+    NBT_NAME_BAD_LABEL = 3   /* the scope is no row of labels of 1 to 63 octets (RFC 1002 section 4.1) */
+};
+
+/* The name of sixteen octets and a scope. */
+uint8_t nbt_name_make(const uint8_t octets[16], const uint8_t *scope, size_t scope_size, struct nbt_name *out);
+
+/* The name that stands for all names of a scope: '*' and fifteen zeros (RFC 1002 section 4.2.17). Never NBT_NAME_STAR. */
+uint8_t nbt_name_any(const uint8_t *scope, size_t scope_size, struct nbt_name *out);
+
+/* What is wrong with a word that is to spell a name (our profile). */
+enum {
+    NBT_WORD_EMPTY = 1,     /* no character stands before the suffix */
+    NBT_WORD_LONG = 2,      /* more than 15 do: *place is how many */
+    NBT_WORD_CHARACTER = 3, /* at *place, counted from 0, stands an octet outside 0x21 to 0x7E */
+    NBT_WORD_SUFFIX = 4,    /* a suffix is #20 or <20>, with two hexadecimal digits */
+    NBT_WORD_DIGITS = 5,    /* hex: stands before 32 hexadecimal digits */
+    NBT_WORD_SCOPE = 6      /* the scope can't be read */
+};
+
+/*
+ * The name that a word spells as tools do: FILER, FILER#20, FILER<20>, * or hex: and 32 digits; with the scope of a text:
+ * NETBIOS.COM, or nothing. Small letters become capitals unless `exact` is true. Writes *place: 0 where it isn't said above.
+ */
+uint8_t nbt_name_read(bool exact, const char *word, size_t word_size, const char *scope, size_t scope_size, struct nbt_name *out,
+                      size_t *place);
+
+/*
+ * The name's wire form (RFC 1002 section 4.1), 34 to 255 octets, at the front of `out`, which has `room` of them. Writes *size,
+ * how many they are. NBT_NO_NAME; NBT_NO_ROOM.
+ */
+uint8_t nbt_name_to_wire(const struct nbt_name *name, uint8_t *out, size_t room, size_t *size);
+
+/* What is wrong with octets where a name is due (RFC 1002 section 4.1; the numbers are our profile's). */
+enum {
+    NBT_WIRE_SHORT = 1,       /* the octets end within the name */
+    NBT_WIRE_BAD_LABEL = 2,   /* no label begins with this octet */
+    NBT_WIRE_BAD_HALF = 3,    /* one of the 32 letters is outside 'A' to 'P' */
+    NBT_WIRE_BAD_POINTER = 4, /* a pointer that doesn't lead to a smaller place, or one in a plain name */
+    NBT_WIRE_LONG = 5         /* with this label the wire form would pass 255 octets */
+};
+
+/*
+ * The name at a place of the octets, counted from 0, without pointers; in a packet pointers to smaller places are followed.
+ * Writes *next: the place after the name, or that of the fault. NBT_NO_PLACE: nothing is written.
+ */
+uint8_t nbt_name_from_wire(const uint8_t *octets, size_t size, size_t place, struct nbt_name *out, size_t *next);
+uint8_t nbt_name_in_packet(const uint8_t *octets, size_t size, size_t place, struct nbt_name *out, size_t *next);
+
+/* ---- ends and limits */
+
+/* An end of the network, 8 octets: numbers in the machine's own order, so that 10.0.0.1 is 0x0A000001. */
+struct nbt_addr {
+    uint32_t ip;
+    uint16_t port;
+};
+
+/* The limits that a server and its nodes share (our profile). */
+struct nbt_config {
+    uint64_t life;    /* the greatest life of one datagram, 1 to 60,000 milliseconds */
+    uint32_t longest; /* the longest lease, 1 to 1,000,000 seconds */
+    uint32_t rows;    /* the most live leases of a server, 1 to 4,096 */
+};
+
+enum {
+    NBT_CONFIG_LIFE = 1,
+    NBT_CONFIG_LONGEST = 2,
+    NBT_CONFIG_ROWS = 3
+};
+
+/* Who may hold a name (RFC 1001 section 5.2). */
+enum {
+    NBT_UNIQUE = 0, /* one machine at a time */
+    NBT_GROUP = 1   /* any number of machines */
+};
+
+/* The most octets of a packet over UDP (RFC 1002 section 6). */
+#define NBT_PACKET 576
+
+/* ---- an end node of 14 slots (RFC 1001 section 15): it takes no memory but what the program lends */
+
+/*
+ * A node: `memory` leads to nbt_node_size() octets, aligned to nbt_node_align(), which are the node's from its start on and which
+ * no one else reads or writes. The program sets `memory` before the start, copies no struct nbt_node, and may let the memory go at
+ * any time, once it calls nothing more with the node. All other calls are for a node that was started.
+ *
+ * Moments, `now`, are milliseconds of a clock that no one sets, as CLOCK_MONOTONIC: 0 to 2^60.
+ */
+struct nbt_node {
+    void *memory;
+};
+
+size_t nbt_node_size(void);
+size_t nbt_node_align(void);
+
+/* A node at `own` whose name server is at `server`. NBT_CONFIG_*; NBT_NO_MOMENT. */
+uint8_t nbt_node_start(struct nbt_node *node, struct nbt_addr own, struct nbt_addr server, struct nbt_config config, uint64_t now);
+
+/* Why a name isn't asked for, given back or looked up (our profile). They are tried in this order: CLOCK_BACK, BAD_NAME, BUSY or
+ * NOT_HELD, QUIET, FULL. */
+enum {
+    NBT_ASK_QUIET = 1,        /* the name is being given back, or rests */
+    NBT_ASK_BUSY = 2,         /* it was asked for already, or is held */
+    NBT_ASK_FULL = 3,         /* no slot is free */
+    NBT_ASK_CLOCK_BACK = 4,   /* `now` is before the start, or before an earlier call that wasn't refused */
+    NBT_ASK_BAD_NAME = 5,     /* the name begins with '*' */
+    NBT_RELEASE_NOT_HELD = 1,
+    NBT_RELEASE_CLOCK_BACK = 4,
+    NBT_LOOKUP_BUSY = 2,      /* a lookup is open */
+    NBT_LOOKUP_CLOCK_BACK = 4,
+    NBT_LOOKUP_BAD_NAME = 5,
+    NBT_CLOCK_BACK = 4
+};
+
+/*
+ * Each of these writes *size: how many octets of `out` are a packet to be sent, 0 where the result isn't 0. The packet is for the
+ * server; that of nbt_node_name_status is for `to`. `ttl` is in seconds, 0 for as long as may be. Also NBT_NO_MOMENT, NBT_NO_NAME,
+ * NBT_NO_KIND, in this order, before the node's own.
+ */
+uint8_t nbt_node_ask(struct nbt_node *node, uint64_t now, const struct nbt_name *name, uint8_t kind, uint32_t ttl,
+                     uint8_t out[NBT_PACKET], size_t *size);
+uint8_t nbt_node_release(struct nbt_node *node, uint64_t now, const struct nbt_name *name, uint8_t out[NBT_PACKET], size_t *size);
+uint8_t nbt_node_resolve(struct nbt_node *node, uint64_t now, const struct nbt_name *name, uint8_t out[NBT_PACKET], size_t *size);
+uint8_t nbt_node_name_status(struct nbt_node *node, uint64_t now, struct nbt_addr to, const struct nbt_name *name,
+                             uint8_t out[NBT_PACKET], size_t *size);
+
+/* What a datagram was to a node. A field that its kind doesn't name is 0. */
+struct nbt_event {
+    uint8_t kind;
+    uint8_t rcode;    /* of REFUSED and FREED (RFC 1002 section 4.2.6) */
+    bool cut;         /* of FOUND: the name has more entries than these */
+    uint32_t seconds; /* of GRANTED and RENEWED */
+    size_t size;      /* of FOUND: the octets of its entries, 6 each; of STATUS: of its names, 18 each */
+};
+
+enum {
+    NBT_EVENT_NOTHING = 0,   /* nothing that the node waited for */
+    NBT_EVENT_REPLY = 1,     /* a status request: the reply to its sender stands in `out` */
+    NBT_EVENT_GRANTED = 2,
+    NBT_EVENT_RENEWED = 3,
+    NBT_EVENT_REFUSED = 4,
+    NBT_EVENT_LOST = 5,
+    NBT_EVENT_FREED = 6,
+    NBT_EVENT_WAIT = 7,
+    NBT_EVENT_FOUND = 8,
+    NBT_EVENT_NOT_FOUND = 9,
+    NBT_EVENT_STATUS = 10
+};
+
+/*
+ * Takes a datagram that came from `from`. Writes *event; the first octets of its entries or names, as many as have room, to `lent`;
+ * and *size: how many octets of `out` are a reply to `from`, or 0. NBT_NO_MOMENT; NBT_CLOCK_BACK.
+ */
+uint8_t nbt_node_on_datagram(struct nbt_node *node, uint64_t now, struct nbt_addr from, const uint8_t *octets, size_t octets_size,
+                             struct nbt_event *event, uint8_t *lent, size_t lent_room, uint8_t out[NBT_PACKET], size_t *size);
+
+/* Sends at most one datagram that is due: *size octets of `out`, for *to. Call it until *size is 0. NBT_NO_MOMENT; NBT_CLOCK_BACK. */
+uint8_t nbt_node_poll(struct nbt_node *node, uint64_t now, struct nbt_addr *to, uint8_t out[NBT_PACKET], size_t *size);
+
+/* Writes *held: 0 where the node doesn't hold the name, 1 as one machine's, 2 as a group's. NBT_NO_MOMENT; NBT_NO_NAME. */
+uint8_t nbt_node_holds(struct nbt_node *node, uint64_t now, const struct nbt_name *name, uint8_t *held);
+
+/* ---- datagrams that come to a node (RFC 1001 section 17, RFC 1002 section 5.3.3) */
+
+/*
+ * A joiner of 4 slots: the fragments of up to four unfinished datagrams, which are given up after 2 seconds. `memory` is like a
+ * node's, with the size and alignment below. It takes no other memory.
+ */
+struct nbt_joiner {
+    void *memory;
+};
+
+size_t nbt_joiner_size(void);
+size_t nbt_joiner_align(void);
+void nbt_joiner_start(struct nbt_joiner *joiner);
+
+/* What a datagram's octets mean for a node. A field that its kind doesn't name stays as it was. */
+struct nbt_accept {
+    uint8_t kind;
+    uint8_t code;                /* of ERROR (RFC 1002 section 4.4.3) */
+    uint16_t id;                 /* of ERROR: the datagram's */
+    struct nbt_addr to;          /* of REPLY: to whom it goes */
+    struct nbt_name source;      /* of UP: SOURCE_NAME */
+    struct nbt_name destination; /* of UP: DESTINATION_NAME, which the node holds */
+    size_t size;                 /* of UP: how many octets the data have */
+};
+
+enum {
+    NBT_ACCEPT_NOTHING = 0, /* no datagram for a name that the node holds, or none that can be read */
+    NBT_ACCEPT_UP = 1,      /* a whole datagram for a name that the node holds */
+    NBT_ACCEPT_REPLY = 2,   /* one for a name that it doesn't hold: the error packet for `to` stands in `out` */
+    NBT_ACCEPT_ERROR = 3,   /* another end's error */
+    NBT_ACCEPT_WAITING = 4  /* other fragments are missing */
+};
+
+/*
+ * What the octets that came at `now` to the datagram port of `own`, mostly 138, mean for the node. Writes *accept; of UP the first
+ * octets of the data, as many as have room, to `data`; and *size: how many octets of `out` are an error packet, or 0. The node
+ * stays. NBT_NO_MOMENT: NOTHING.
+ */
+uint8_t nbt_datagram_accept(struct nbt_joiner *joiner, struct nbt_node *node, uint64_t now, struct nbt_addr own,
+                            const uint8_t *octets, size_t octets_size, struct nbt_accept *accept, uint8_t *data, size_t data_room,
+                            uint8_t out[NBT_PACKET], size_t *size);
+
+/* ---- a name server (RFC 1001 section 15.1.7, RFC 1002 section 5.1.4) */
+
+/*
+ * A server: `memory` leads to nbt_server_size() octets, aligned to nbt_server_align(), which are the server's from its start to its
+ * end and which no one else reads or writes. The program sets `memory` before the start and copies no struct nbt_server. For its
+ * leases the server asks malloc and realloc, which align as C says, and gives back to free: nbt_server_on_datagram alone does, and
+ * nbt_server_end gives back all. None of these calls is made from a signal handler. All other calls are for a server that was
+ * started and has not ended.
+ */
+struct nbt_server {
+    void *memory;
+};
+
+size_t nbt_server_size(void);
+size_t nbt_server_align(void);
+
+/* A server without leases. It is silent until the longest lease has passed since its start. NBT_CONFIG_*; NBT_NO_MOMENT. */
+uint8_t nbt_server_start(struct nbt_server *server, struct nbt_config config, uint64_t now);
+
+/* Gives back the memory that the server took. `memory` is the program's again. */
+void nbt_server_end(struct nbt_server *server);
+
+/* Why a server doesn't take a datagram (our profile). */
+enum {
+    NBT_SERVER_CLOCK_BACK = 1,   /* `now` is before the start, or before an earlier datagram that was not refused so */
+    NBT_SERVER_OUT_OF_MEMORY = 2 /* malloc refused: the live leases are as before */
+};
+
+/* Takes a datagram that came from `from`. Writes *size: how many octets of `out` are the reply to `from`, or 0. NBT_NO_MOMENT;
+ * NBT_SERVER_*. */
+uint8_t nbt_server_on_datagram(struct nbt_server *server, uint64_t now, struct nbt_addr from, const uint8_t *octets,
+                               size_t octets_size, uint8_t out[NBT_PACKET], size_t *size);
+
+/* A lease of a name. */
+struct nbt_lease {
+    uint32_t ip;  /* of the machine that holds the name */
+    uint8_t kind; /* 1 as one machine's, 2 as a group's */
+    uint64_t end; /* in milliseconds: the lease lives before it */
+};
+
+/*
+ * Writes *lease: of the name's leases that live at `now`, in order of their beginnings, number `which`, counted from 0. Else nothing
+ * is written: NBT_NO_MOMENT; NBT_NO_NAME; NBT_SERVER_CLOCK_BACK; NBT_NO_LEASE where no more of them live.
+ */
+uint8_t nbt_server_lease(struct nbt_server *server, uint64_t now, const struct nbt_name *name, size_t which, struct nbt_lease *lease);
+
+#ifdef __cplusplus
+}
+#endif
+
+#endif
