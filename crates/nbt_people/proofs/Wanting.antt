@@ -66,7 +66,7 @@ pub names_fail : (words : HostWords) (given : List (Bor (List ℕ))) (none : Lis
 names_fail words given none failure is empty few fails = inr (inr (inl (
   few,
   subst (λ (already : List Want). WordsFail words.exact words.scope.now Unique already words.names.items failure) empty
-    (subst (λ (ws : List (Bor (List ℕ))). WordsFail words.exact words.scope.now Unique none ws failure) is fails),
+      (subst (λ (ws : List (Bor (List ℕ))). WordsFail words.exact words.scope.now Unique none ws failure) is fails),
 )))
 
 -- the names of the first row, which are all that is wanted so far
@@ -74,13 +74,16 @@ pub names_wanted : (words : HostWords) (given : List (Bor (List ℕ))) (none alo
     → AreWanted words.exact words.scope.now Unique none given alone → AreWanted words.exact words.scope.now Unique [] words.names.items alone
 names_wanted words given none alone is empty wanted =
     subst (λ (already : List Want). AreWanted words.exact words.scope.now Unique already words.names.items alone) empty
-      (subst (λ (ws : List (Bor (List ℕ))). AreWanted words.exact words.scope.now Unique none ws alone) is wanted)
+    (subst (λ (ws : List (Bor (List ℕ))). AreWanted words.exact words.scope.now Unique none ws alone) is wanted)
 
 pub groups_fail : (words : HostWords) (names given : List (Bor (List ℕ))) (none alone wants : List Want) (failure : Failure) → names ≡ words.names.items → given ≡ words.groups.items → none ≡ []
     → wants ≡ none ++ alone → count_of words ≤ NAMES_MOST → AreWanted words.exact words.scope.now Unique none names alone → WordsFail words.exact words.scope.now Group wants given failure → NamesFail words failure
 groups_fail words names given none alone wants failure names_are is empty more few wanted fails = inr (inr (inr (
   few,
-  (alone, names_wanted words names none alone names_are empty wanted,
+  (
+    alone,
+    names_wanted words names none alone names_are empty wanted,
     subst (λ (ws : List (Bor (List ℕ))). WordsFail words.exact words.scope.now Group alone ws failure) is
-      (subst (λ (already : List Want). WordsFail words.exact words.scope.now Group already given failure) (more ∙ ap (λ (l : List Want). l ++ alone) empty) fails)),
+        (subst (λ (already : List Want). WordsFail words.exact words.scope.now Group already given failure) (more ∙ ap (λ (l : List Want). l ++ alone) empty) fails),
+  ),
 )))
