@@ -78,6 +78,19 @@ enum {
 uint8_t nbt_name_read(bool exact, const char *word, size_t word_size, const char *scope, size_t scope_size, struct nbt_name *out,
                       size_t *place);
 
+/* Room for any word that is written, and for any scope's text. */
+#define NBT_WORD 36
+#define NBT_SCOPE_TEXT 1104
+
+/*
+ * A name as text, at the front of `out`, which has room for `room` characters. Writes *size, how many they are; no zero ends them.
+ * The word is FILER#20, or hex: and 32 digits where the octets can't be written so; the scope is NETBIOS.COM, or nothing, and a
+ * label of it that can't stand as it is, is hex: and digits. nbt_name_read reads both again, where `exact` is true. NBT_NO_NAME;
+ * NBT_NO_ROOM.
+ */
+uint8_t nbt_name_to_word(const struct nbt_name *name, char *out, size_t room, size_t *size);
+uint8_t nbt_name_to_scope(const struct nbt_name *name, char *out, size_t room, size_t *size);
+
 /*
  * The name's wire form (RFC 1002 section 4.1), 34 to 255 octets, at the front of `out`, which has `room` of them. Writes *size,
  * how many they are. NBT_NO_NAME; NBT_NO_ROOM.

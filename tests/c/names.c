@@ -122,10 +122,53 @@ static void play_wire(void) {
     is_number("a label that is cut", nbt_name_to_wire(&name, out, 40, &size), NBT_NO_NAME);
 }
 
+/* ---- text */
+
+static void is_text(const char *what, const struct nbt_name *name, const char *word, const char *scope) {
+    char out[NBT_WORD + 1], text[NBT_SCOPE_TEXT];
+    struct nbt_name read;
+    size_t size = 0, text_size = 0, place;
+    memset(out, 0x55, sizeof out);
+    is_number(what, nbt_name_to_word(name, out, NBT_WORD, &size), 0);
+    is_number(what, size, strlen(word));
+    are_octets(what, out, word, strlen(word));
+    is_number(what, (unsigned char)out[size], 0x55);
+    is_number(what, nbt_name_to_scope(name, text, sizeof text, &text_size), 0);
+    is_number(what, text_size, strlen(scope));
+    are_octets(what, text, scope, strlen(scope));
+    is_number(what, nbt_name_read(true, out, size, text, text_size, &read, &place), 0);
+    are_octets(what, &read, name, sizeof read);
+}
+
+static void play_text(void) {
+    static const uint8_t netbios[] = {7, 'N', 'E', 'T', 'B', 'I', 'O', 'S', 3, 'C', 'O', 'M'}, dotted[] = {3, 'A', '.', 'B', 1, 'C'};
+    struct nbt_name name;
+    char out[8] = "-------";
+    size_t size = 7;
+    is_number("text", nbt_name_make(FRED, netbios, 12, &name), 0);
+    is_text("a word and a scope", &name, "FRED#20", "NETBIOS.COM");
+    is_number("6 octets", nbt_name_to_word(&name, out, 6, &size), NBT_NO_ROOM);
+    is_number("10 octets", nbt_name_to_scope(&name, out, 10, &size), NBT_NO_ROOM);
+    is_number("no room", size, 7);
+    are_octets("no room", out, "-------", 7);
+    is_number("text", nbt_name_make((const uint8_t *)"MARKET#1       \x1B", netbios, 0, &name), 0);
+    is_text("a mark", &name, "hex:4d41524b45542331202020202020201b", "");
+    is_number("text", nbt_name_make((const uint8_t *)"fred           \x20", dotted, 6, &name), 0);
+    is_text("small letters, and a dot in a label", &name, "hex:66726564202020202020202020202020", "hex:412e42.C");
+    is_number("text", nbt_name_any(dotted, 0, &name), 0);
+    is_text("any", &name, "*#00", "");
+    is_number("text", nbt_name_make((const uint8_t *)"FIFTEEN-LETTERS\xAF", dotted, 0, &name), 0);
+    is_text("fifteen", &name, "FIFTEEN-LETTERS#AF", "");
+    name.scope_size = 222;
+    is_number("no name", nbt_name_to_word(&name, out, 8, &size), NBT_NO_NAME);
+    is_number("no name", nbt_name_to_scope(&name, out, 8, &size), NBT_NO_NAME);
+}
+
 int main(void) {
     for (size_t row = 0; row < sizeof WORDS / sizeof WORDS[0]; row++)
         play_word(&WORDS[row]);
     play_make();
     play_wire();
+    play_text();
     return tell_rows();
 }

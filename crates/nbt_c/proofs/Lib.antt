@@ -1,2 +1,6 @@
--- Moments, moves along equations, and room that is left (Calls).
+-- Moments, moves along equations, and room that is left.
 mod Calls
+-- Forms of a name, and the dot before a scope's labels.
+mod Forms
+-- The word of sixteen octets.
+mod Spelled

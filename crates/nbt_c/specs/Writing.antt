@@ -1,6 +1,9 @@
--- What the call that writes a name's wire form answers.
-use Rattle.std.specs.Prelude.{ℕ, ◌<◌, ◌≤◌, List, ◌++◌, length, drop}
-use Rattle.nbt_name.specs.Wire.{wire}
+-- What the calls that write a form of a name answer: its wire form, its word, or the text of its scope.
+use Rattle.std.specs.Prelude.{◌≡◌, ℕ, ◌<◌, ◌≤◌, List, ◌++◌, length, drop}
+use Rattle.nbt_name.specs.Wire.{NameValue, wire}
+use Rattle.nbt_text.specs.NameText.{PrintsLabels}
+use Rattle.nbt_spelling.specs.Characters.{PrintsOctets}
+use Rattle.nbt_spelling.specs.Names.{dotted}
 use Rattle.nbt_c.specs.declared.name.CName.{CName}
 use Rattle.nbt_c.specs.Names.{HoldsName, name_in}
 
@@ -15,8 +18,19 @@ no_room = 254
 abbrev pub no_place : ℕ
 no_place = 251
 
-pub data Writes (held : CName) (room : List ℕ) (size : ℕ) : ℕ → List ℕ → ℕ → Type 0 where
-  written : HoldsName held → length (wire (name_in held)) ≤ length room
-      → Writes held room size 0 (wire (name_in held) ++ drop (length (wire (name_in held))) room) (length (wire (name_in held)))
-  has_no_room : HoldsName held → length room < length (wire (name_in held)) → Writes held room size no_room room size
-  has_no_name : ¬ HoldsName held → Writes held room size no_name room size
+-- the wire form; the word, as FILER#20; and the scope's labels with dots between them
+abbrev pub IsWire : NameValue → List ℕ → Type 0
+IsWire name octets = octets ≡ wire name
+
+abbrev pub IsWord : NameValue → List ℕ → Type 0
+IsWord name word = PrintsOctets name.octets word
+
+abbrev pub IsScopeText : NameValue → List ℕ → Type 0
+IsScopeText name text = PrintsLabels name.scope (dotted text)
+
+-- the form stands at the front of the caller's octets, the others staying, and it is counted
+pub data Writes (IsForm : NameValue → List ℕ → Type 0) (held : CName) (room : List ℕ) (size : ℕ) : ℕ → List ℕ → ℕ → Type 0 where
+  written : (form : List ℕ) → HoldsName held → IsForm (name_in held) form → length form ≤ length room
+      → Writes IsForm held room size 0 (form ++ drop (length form) room) (length form)
+  has_no_room : (form : List ℕ) → HoldsName held → IsForm (name_in held) form → length room < length form → Writes IsForm held room size no_room room size
+  has_no_name : ¬ HoldsName held → Writes IsForm held room size no_name room size

@@ -20,6 +20,7 @@ pub mod sending;
 pub mod serving;
 pub mod starting;
 pub mod wire;
+pub mod words;
 
 pub use accepting::CAccept;
 pub use ends::{CAddr, CConfig};

@@ -1,7 +1,10 @@
 //! Octets that are put where the caller has room for them.
 
 ghost use Rattle.nbt_c.specs.Sending.{Puts, PutsMost};
-ghost use Rattle.std.specs.Prelude.{◌≡◌, ◌≤◌, ◌↔◌, ◌++◌, length, drop, IsTrue, IsFalse};
+ghost use Rattle.nbt_c.specs.Writing.{no_room};
+ghost use Rattle.std.specs.Prelude.{◌≡◌, ◌<◌, ◌≤◌, ◌↔◌, ◌++◌, length, drop, IsTrue, IsFalse};
+
+use crate::results::NO_ROOM;
 
 /// Puts the octets at the front of `out`, where they have room; the others stay.
 pub(crate) fn put_front(octets: &[u8], out: &mut [u8]) -> bool
@@ -14,6 +17,20 @@ pub(crate) fn put_front(octets: &[u8], out: &mut [u8]) -> bool
     }
     out[..octets.len()].copy_from_slice(octets);
     true
+}
+
+/// Puts a form of a name at the front of `out`, the others staying, and tells how many octets it has: 0. Else nothing is written:
+/// 254 where `out` has fewer.
+pub(crate) fn put_form(form: &[u8], out: &mut [u8], size: &mut usize) -> u8
+    ensures written { length form.now ≤ length out.old
+        → (result ≡ 0) × (out.new ≡ form.now ++ drop (length form.now) out.old) × (size.new ≡ length form.now) }
+    ensures left { length out.old < length form.now → (result ≡ no_room) × (out.new ≡ out.old) × (size.new ≡ size.old) }
+{
+    if !put_front(form, out) {
+        return NO_ROOM;
+    }
+    *size = form.len();
+    0
 }
 
 /// Puts a packet at the front of the caller's 576 octets, the others staying. Returns how many octets it has.

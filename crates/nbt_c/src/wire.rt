@@ -6,11 +6,11 @@ ghost use Rattle.nbt_name.specs.Numbers.{fault_number};
 ghost use Rattle.nbt_name.specs.Reading.{NameAt, PlainNameAt, FaultAt, PlainFaultAt};
 ghost use Rattle.nbt_name.specs.Wire.{NameValue};
 ghost use Rattle.nbt_c.specs.Names.{stored};
-ghost use Rattle.nbt_c.specs.Writing.{Writes, no_place};
+ghost use Rattle.nbt_c.specs.Writing.{IsWire, Writes, no_place};
 
 use crate::name::CName;
-use crate::results::{NO_NAME, NO_PLACE, NO_ROOM};
-use crate::room::put_front;
+use crate::results::{NO_NAME, NO_PLACE};
+use crate::room::put_form;
 use arrayvec::ArrayVec;
 use nbt_name::{Name, NameFault, read_in, read_plain};
 
@@ -19,18 +19,14 @@ use nbt_name::{Name, NameFault, read_in, read_plain};
 /// fewer octets than the wire form.
 #[unsafe(no_mangle)]
 pub extern "C" fn nbt_name_to_wire(name: &CName, out: &mut [u8], size: &mut usize) -> u8
-    ensures { Writes name.now out.old size.old result out.new size.new }
+    ensures { Writes IsWire name.now out.old size.old result out.new size.new }
 {
     let Some(name) = name.read() else {
         return NO_NAME;
     };
     let mut wire = ArrayVec::new();
     name.to_wire(&mut wire);
-    if !put_front(wire.as_slice(), out) {
-        return NO_ROOM;
-    }
-    *size = wire.len();
-    0
+    put_form(wire.as_slice(), out, size)
 }
 
 /// `nbt_name::read_plain`: the name that stands at `place`, without pointers. 0, and the name stands in `out`, `next` being the

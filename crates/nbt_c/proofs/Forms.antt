@@ -1,0 +1,36 @@
+-- Forms of a name that are put where the caller has room, and the dot before a scope's labels.
+use Rattle.std.proofs.Common.{◌≡◌, ℕ, ◌<◌, ◌≤◌, List, [], ◌∷◌, ◌++◌, length, drop, refl, ap, subst, inl, inr, arith}
+use Rattle.std.proofs.lemmas.Bool.{cases_lt}
+use Rattle.std.proofs.lemmas.List.{length-append}
+use Rattle.hex.specs.Hex.{encode_lower}
+use Rattle.nbt_name.specs.Wire.{NameValue}
+use Rattle.nbt_text.specs.NameText.{PrintsComponent, PrintsLabels, label_printed, none_printed, dot, prefix}
+use Rattle.nbt_spelling.specs.Names.{dotted}
+use Rattle.nbt_c.specs.declared.name.CName.{CName}
+use Rattle.nbt_c.specs.Names.{HoldsName, name_in}
+use Rattle.nbt_c.specs.Writing.{Writes, written, has_no_room, no_room}
+use Rattle.nbt_c.proofs.Calls.{given}
+
+pub form_written : (IsForm : NameValue → List ℕ → Type 0) (held : CName) (room : List ℕ) (size : ℕ) (form : List ℕ) → HoldsName held → IsForm (name_in held) form → (r : ℕ) (after : List ℕ) (n : ℕ)
+    → (length form ≤ length room → (r ≡ 0) × (after ≡ form ++ drop (length form) room) × (n ≡ length form)) → (length room < length form → (r ≡ no_room) × (after ≡ room) × (n ≡ size)) → Writes IsForm held room size r after n
+form_written IsForm held room size form holds is r after n fits full =
+    elim (cases_lt (length room) (length form)) [
+      | inl short ↦ let f = full short in given (λ r n after. Writes IsForm held room size r after n) f.0 f.2 f.1 (has_no_room form holds is short)
+      | inr le ↦ let f = fits le in given (λ r n after. Writes IsForm held room size r after n) f.0 f.2 f.1 (written form holds is le)
+    ]
+
+-- ---- the dot before a scope's labels
+
+some_component : (octets text : List ℕ) → PrintsComponent octets octets text → 0 < length text
+some_component octets text (inl p) = omega (arith, p.0.some, ap length p.1)
+some_component octets text (inr p) = omega (arith, ap length p.1, length-append prefix (encode_lower octets))
+
+dotted_some : (text : List ℕ) → 0 < length text → dotted text ≡ dot ∷ text
+dotted_some [] h = absurd (omega (arith, h))
+dotted_some (x ∷ xs) h = refl
+
+pub behind_dot : (scope text rest : List ℕ) (x : ℕ) → PrintsLabels scope text → text ≡ x ∷ rest → dotted rest ≡ text
+behind_dot _ _ rest x none_printed e = absurd cc
+behind_dot _ _ rest x (label_printed octets scope component more printed others) e =
+    let same : component ++ more ≡ rest = cc in
+    subst (λ (r : List ℕ). dotted r ≡ dot ∷ component ++ more) same (dotted_some (component ++ more) (omega (arith, some_component octets component printed, length-append component more)))
