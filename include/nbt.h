@@ -31,7 +31,7 @@ enum {
     NBT_NO_NAME = 255,   /* a struct nbt_name holds no name */
     NBT_NO_ROOM = 254,   /* the caller's octets are too few */
     NBT_NO_MOMENT = 253, /* a moment is above 2^60 ms */
-    NBT_NO_KIND = 252,   /* a kind is neither NBT_UNIQUE nor NBT_GROUP */
+    NBT_NO_KIND = 252,   /* a kind is none of those that the call takes */
     NBT_NO_PLACE = 251,  /* a place is above the number of the octets */
     NBT_NO_LEASE = 250   /* no more leases live */
 };
@@ -226,7 +226,7 @@ uint8_t nbt_node_poll(struct nbt_node *node, uint64_t now, struct nbt_addr *to, 
 /* Writes *held: 0 where the node doesn't hold the name, 1 as one machine's, 2 as a group's. NBT_NO_MOMENT; NBT_NO_NAME. */
 uint8_t nbt_node_holds(struct nbt_node *node, uint64_t now, const struct nbt_name *name, uint8_t *held);
 
-/* ---- datagrams that come to a node (RFC 1001 section 17, RFC 1002 section 5.3.3) */
+/* ---- datagrams (RFC 1001 section 17, RFC 1002 sections 4.4 and 5.3): they take no memory but what the program lends */
 
 /*
  * A joiner of 4 slots: the fragments of up to four unfinished datagrams, which are given up after 2 seconds. `memory` is like a
@@ -267,6 +267,63 @@ enum {
 uint8_t nbt_datagram_accept(struct nbt_joiner *joiner, struct nbt_node *node, uint64_t now, struct nbt_addr own,
                             const uint8_t *octets, size_t octets_size, struct nbt_accept *accept, uint8_t *data, size_t data_room,
                             uint8_t out[NBT_PACKET], size_t *size);
+
+/* A packet of the datagram service (RFC 1002 section 4.4). A field that its kind doesn't name stays as it was. */
+struct nbt_datagram {
+    uint8_t kind;                /* MSG_TYPE, as below */
+    uint8_t code;                /* of ERROR (RFC 1002 section 4.4.3) */
+    bool first;                  /* of a fragment: F, it is the first, and has the names */
+    bool more;                   /* of a fragment: M, others follow; a whole datagram is first, and has none */
+    uint16_t id;                 /* DGM_ID */
+    uint16_t offset;             /* of a fragment: how many octets of data stand before its own */
+    struct nbt_addr from;        /* SOURCE_IP and SOURCE_PORT */
+    struct nbt_name source;      /* of a first fragment: SOURCE_NAME */
+    struct nbt_name destination; /* of a first fragment: DESTINATION_NAME; of a query and its answers: the name asked for */
+    size_t place;                /* of a fragment: where its data begin in the packet */
+    size_t size;                 /* of a fragment: how many octets of data it has */
+};
+
+/* MSG_TYPE: the first three are fragments, or whole datagrams. */
+enum {
+    NBT_DATAGRAM_UNIQUE = 0x10,
+    NBT_DATAGRAM_GROUP = 0x11,
+    NBT_DATAGRAM_BROADCAST = 0x12,
+    NBT_DATAGRAM_ERROR = 0x13,
+    NBT_DATAGRAM_QUERY = 0x14,
+    NBT_DATAGRAM_POSITIVE = 0x15,
+    NBT_DATAGRAM_NEGATIVE = 0x16
+};
+
+/* What is wrong with octets where a datagram is due (RFC 1002 section 4.4; the numbers are our profile's). */
+enum {
+    NBT_DATAGRAM_SHORT = 1,       /* the octets end within the datagram */
+    NBT_DATAGRAM_BAD_LABEL = 2,   /* no label begins with this octet */
+    NBT_DATAGRAM_BAD_HALF = 3,    /* one of the 32 letters is outside 'A' to 'P' */
+    NBT_DATAGRAM_BAD_POINTER = 4, /* a pointer, which no name of a datagram has */
+    NBT_DATAGRAM_LONG = 5,        /* with this label the wire form would pass 255 octets */
+    NBT_DATAGRAM_BAD_TYPE = 6,    /* MSG_TYPE is none of the above */
+    NBT_DATAGRAM_BAD_OFFSET = 7,  /* a first fragment with a PACKET_OFFSET */
+    NBT_DATAGRAM_BAD_LENGTH = 8   /* the names end after the octets that DGM_LENGTH counts */
+};
+
+/* The datagram that the octets begin with, whatever names a node holds. Writes *next: how many octets it has, or the fault's place. */
+uint8_t nbt_datagram_read(const uint8_t *octets, size_t size, struct nbt_datagram *out, size_t *next);
+
+/* The most octets of data of one datagram that is sent, and why more are refused (our profile). */
+#define NBT_DATA 512
+enum {
+    NBT_SPLIT_TOO_LONG = 1
+};
+
+/*
+ * The one or two packets that carry `data` from `source`, whose datagrams come to `own`, to `destination` (RFC 1002 section 5.3.2):
+ * `kind` is NBT_DATAGRAM_UNIQUE, GROUP or BROADCAST, and `id` tells one datagram of a source from another. Writes *first_size and
+ * *second_size: how many octets of each are a packet to be sent; the second is 0 where one packet has room for all, and both are
+ * where the result isn't 0. NBT_NO_NAME; NBT_NO_KIND; NBT_SPLIT_TOO_LONG.
+ */
+uint8_t nbt_datagram_split(uint8_t kind, uint16_t id, struct nbt_addr own, const struct nbt_name *source,
+                           const struct nbt_name *destination, const uint8_t *data, size_t data_size, uint8_t first[NBT_PACKET],
+                           size_t *first_size, uint8_t second[NBT_PACKET], size_t *second_size);
 
 /* ---- a name server (RFC 1001 section 15.1.7, RFC 1002 section 5.1.4) */
 

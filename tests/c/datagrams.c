@@ -98,8 +98,80 @@ static void play_parts(struct nbt_joiner *joiner, struct nbt_node *node) {
     is_number("moment", accept.kind, NBT_ACCEPT_NOTHING);
 }
 
+/* ---- without a node */
+
+static const struct nbt_addr FROM = {0x0A000009, 138};
+
+static void play_split(const struct nbt_name *fred, struct nbt_name *ned) {
+    uint8_t wanted[NBT_PACKET], first[NBT_PACKET + 1], second[NBT_PACKET + 1], data[513];
+    size_t one = 7, two = 7, count = datagram(0x06, 0, FRED, "hello", wanted);
+    memset(first, 0x55, sizeof first);
+    memset(data, 'x', sizeof data);
+    is_number("one packet", nbt_datagram_split(NBT_DATAGRAM_UNIQUE, 0x1234, FROM, ned, fred, (const uint8_t *)"hello", 5, first, &one, second, &two), 0);
+    is_number("one packet", one, count);
+    is_number("one packet", two, 0);
+    are_octets("one packet", first, wanted, count);
+    is_number("no octet behind", first[count], 0x55);
+
+    is_number("two packets", nbt_datagram_split(NBT_DATAGRAM_GROUP, 0x1234, FROM, ned, fred, data, 512, first, &one, second, &two), 0);
+    is_number("two packets", one, 576);
+    is_number("two packets", two, 32);
+    is_number("two packets", first[0], 0x11);
+    is_number("F and M", first[1], 0x07);
+    is_number("neither", second[1], 0x04);
+    is_number("PACKET_OFFSET", (size_t)second[12] * 256 + second[13], 494);
+    is_number("no octet behind", first[576], 0x55);
+
+    is_number("513 octets", nbt_datagram_split(NBT_DATAGRAM_UNIQUE, 1, FROM, ned, fred, data, 513, first, &one, second, &two), NBT_SPLIT_TOO_LONG);
+    is_number("513 octets", one + two, 0);
+    is_number("no data's kind", nbt_datagram_split(NBT_DATAGRAM_ERROR, 1, FROM, ned, fred, data, 1, first, &one, second, &two), NBT_NO_KIND);
+    ned->scope_size = 222;
+    is_number("no source", nbt_datagram_split(NBT_DATAGRAM_UNIQUE, 1, FROM, ned, fred, data, 1, first, &one, second, &two), NBT_NO_NAME);
+    is_number("no destination", nbt_datagram_split(NBT_DATAGRAM_UNIQUE, 1, FROM, fred, ned, data, 1, first, &one, second, &two), NBT_NO_NAME);
+}
+
+static void play_read(const struct nbt_name *fred) {
+    static const uint8_t error[11] = {0x13, 0x06, 0x12, 0x34, 10, 0, 0, 9, 0, 138, 0x82};
+    uint8_t packet[NBT_PACKET];
+    struct nbt_datagram told;
+    size_t next = 0, count = datagram(0x07, 0, FRED, "hel", packet);
+    memset(&told, 0x77, sizeof told);
+    is_number("read", nbt_datagram_read(packet, count, &told, &next), 0);
+    is_number("read", told.kind, NBT_DATAGRAM_UNIQUE);
+    is_number("first, and more", told.first && told.more, 1);
+    is_number("read", told.id, 0x1234);
+    is_number("read", told.from.ip, 0x0A000009);
+    is_number("read", told.from.port, 138);
+    is_number("read", told.offset, 0);
+    is_number("read", told.place, 82);
+    is_number("read", told.size, 3);
+    is_number("read", next, 85);
+    is_number("of no kind", told.code, 0x77);
+    are_octets("read", &told.destination, fred, sizeof *fred);
+    are_octets("read", told.source.octets, "NED            \0", 16);
+    is_number("cut", nbt_datagram_read(packet, 84, &told, &next), NBT_DATAGRAM_SHORT);
+    is_number("cut", next, 84);
+    packet[11] = 67;
+    is_number("names pass the length", nbt_datagram_read(packet, count, &told, &next), NBT_DATAGRAM_BAD_LENGTH);
+    is_number("names pass the length", next, 10);
+    packet[0] = 0x17;
+    is_number("type", nbt_datagram_read(packet, count, &told, &next), NBT_DATAGRAM_BAD_TYPE);
+    is_number("type", next, 0);
+
+    count = datagram(0x04, 494, 0, "p!", packet);
+    is_number("later", nbt_datagram_read(packet, count, &told, &next), 0);
+    is_number("later", told.first || told.more, 0);
+    is_number("later", told.offset, 494);
+    is_number("later", told.place, 14);
+    is_number("later", told.size, 2);
+    is_number("error", nbt_datagram_read(error, 11, &told, &next), 0);
+    is_number("error", told.kind, NBT_DATAGRAM_ERROR);
+    is_number("error", told.code, 0x82);
+    is_number("error", next, 11);
+}
+
 int main(void) {
-    struct nbt_name name;
+    struct nbt_name name, ned;
     struct nbt_node node = {aligned_alloc(nbt_node_align(), nbt_node_size())};
     struct nbt_joiner joiner = {aligned_alloc(nbt_joiner_align(), nbt_joiner_size())};
     is_number("memory", node.memory != 0 && joiner.memory != 0, 1);
@@ -108,6 +180,9 @@ int main(void) {
     hold(&node, &name);
     play_whole(&joiner, &node, &name);
     play_parts(&joiner, &node);
+    is_number("name", nbt_name_make((const uint8_t *)"NED            ", (const uint8_t *)"", 0, &ned), 0);
+    play_split(&name, &ned);
+    play_read(&name);
     free(node.memory);
     free(joiner.memory);
     return tell_rows();

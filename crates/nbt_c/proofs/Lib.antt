@@ -2,5 +2,7 @@
 mod Calls
 -- Forms of a name, and the dot before a scope's labels.
 mod Forms
+-- The packets that data are split into have room.
+mod Packets
 -- The word of sixteen octets.
 mod Spelled

@@ -7,6 +7,7 @@
 #![tactic(auto)]
 
 pub mod accepting;
+pub mod datagram;
 pub mod ends;
 pub mod event;
 pub mod hearing;
@@ -18,11 +19,13 @@ pub mod results;
 pub mod room;
 pub mod sending;
 pub mod serving;
+pub mod splitting;
 pub mod starting;
 pub mod wire;
 pub mod words;
 
 pub use accepting::CAccept;
+pub use datagram::CDgram;
 pub use ends::{CAddr, CConfig};
 pub use event::CEvent;
 pub use held::{CJoiner, CNode, CServer};
