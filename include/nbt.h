@@ -325,6 +325,68 @@ uint8_t nbt_datagram_split(uint8_t kind, uint16_t id, struct nbt_addr own, const
                            const struct nbt_name *destination, const uint8_t *data, size_t data_size, uint8_t first[NBT_PACKET],
                            size_t *first_size, uint8_t second[NBT_PACKET], size_t *second_size);
 
+/* ---- a session's stream (RFC 1001 section 16, RFC 1002 section 4.3) */
+
+/* A session packet, but for a message's octets. A field that its kind doesn't name stays as it was. */
+struct nbt_session_packet {
+    uint8_t kind;            /* TYPE, as below */
+    uint8_t code;            /* of NEGATIVE (RFC 1002 section 4.3.4) */
+    struct nbt_addr to;      /* of RETARGET: where the call is to be made */
+    struct nbt_name called;  /* of REQUEST: the name that is called */
+    struct nbt_name calling; /* of REQUEST: the name that calls */
+};
+
+enum {
+    NBT_SESSION_MESSAGE = 0x00,
+    NBT_SESSION_REQUEST = 0x81,
+    NBT_SESSION_POSITIVE = 0x82,
+    NBT_SESSION_NEGATIVE = 0x83,
+    NBT_SESSION_RETARGET = 0x84,
+    NBT_SESSION_KEEP_ALIVE = 0x85
+};
+
+/* A part of a session's stream. A field that its kind doesn't name stays as it was. */
+struct nbt_part {
+    uint8_t kind;
+    size_t size;                      /* of MESSAGE: how many octets it has, up to 131,071; of DATA: how many of the piece are its */
+    struct nbt_session_packet packet; /* of PACKET */
+};
+
+enum {
+    NBT_PART_NONE = 0,    /* the piece ends no part */
+    NBT_PART_MESSAGE = 1, /* a message begins */
+    NBT_PART_DATA = 2,    /* the first `size` octets of the piece are the message's next */
+    NBT_PART_END = 3,     /* the message is whole */
+    NBT_PART_PACKET = 4   /* a packet that is no message */
+};
+
+/*
+ * The stream of a TCP connection as it comes in, in pieces of any size. It holds no message: a program gets its octets as they come.
+ * `memory` is like a node's, with the size and alignment below. It takes no other memory.
+ */
+struct nbt_pieces {
+    void *memory;
+};
+
+size_t nbt_pieces_size(void);
+size_t nbt_pieces_align(void);
+void nbt_pieces_start(struct nbt_pieces *pieces);
+
+/* What is wrong with the octets of a stream (our profile). It stays so for ever. */
+enum {
+    NBT_STREAM_BAD_TYPE = 1,   /* no packet has this TYPE */
+    NBT_STREAM_BAD_FLAGS = 2,  /* a bit of FLAGS other than E is set */
+    NBT_STREAM_BAD_LENGTH = 3, /* packets of the type don't have this LENGTH */
+    NBT_STREAM_BAD_NAME = 4    /* a request's name can't be read */
+};
+
+/*
+ * Takes octets of a piece up to the end of one part. Writes *part, and *taken: how many it took, or the fault's place, counted from
+ * the packet's first octet. Go on with the rest of the piece until the part is NBT_PART_NONE, with an empty rest too: that a
+ * message is whole is told by the call after its last octets. NBT_STREAM_*: *part stays as it was.
+ */
+uint8_t nbt_pieces_take(struct nbt_pieces *pieces, const uint8_t *piece, size_t size, struct nbt_part *part, size_t *taken);
+
 /* ---- a name server (RFC 1001 section 15.1.7, RFC 1002 section 5.1.4) */
 
 /*

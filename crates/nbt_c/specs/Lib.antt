@@ -9,5 +9,6 @@ pub mod Names
 pub mod Naming
 pub mod Sending
 pub mod Serving
+pub mod Sessions
 pub mod Starting
 pub mod Writing

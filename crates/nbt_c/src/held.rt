@@ -1,14 +1,16 @@
-//! A node, a name server, or a joiner of datagrams, in the memory of a program in C.
+//! A node, a name server, a joiner of datagrams, or a session's stream, in the memory of a program in C.
 
 ghost use Rattle.std.specs.Prelude.{◌≡◌, Option, Some, IsSome, IsNone};
 ghost use Rattle.std.specs.Borrow.{sem};
 ghost use Rattle.nbt_dgram.specs.Joiner.{JoinerValue};
 ghost use Rattle.nbt_node.specs.Node.{NodeValue};
 ghost use Rattle.nbt_server.specs.Serving.{ServerValue};
+ghost use Rattle.nbt_session.specs.Parts.{PiecesState};
 
 use nbt_dgram::Joiner;
 use nbt_node::Node;
 use nbt_server::Server;
+use nbt_session::Pieces;
 use std::marker::Model;
 
 /// A node in C's memory: where the memory is, and, as far as contracts see, which node stands there, if any. Before a node is
@@ -122,5 +124,40 @@ impl CJoiner {
         ensures value { self.old.joiner ≡ Some result.now }
     {
         unsafe { &mut *(self.at as *mut Joiner<4>) }
+    }
+}
+
+/// A session's stream in C's memory: where the memory is, and, as far as contracts see, which stream stands there, if any. Before one
+/// is started the memory is room for it.
+#[repr(C)]
+pub struct CPieces {
+    at: *mut u8,
+    ghost pieces: { Option PiecesState },
+}
+
+impl Model for CPieces {
+    ghost use Rattle.nbt_c.specs.Memory.{rests_at, pieces_row};
+
+    ghost also_owns = { λ h. rests_at pieces_row h.at h.pieces };
+}
+
+impl CPieces {
+    ghost use Rattle.nbt_c.specs.Lending.{LendsPieces};
+
+    /// Puts a stream into the room.
+    pub(crate) fn put(&mut self, pieces: Pieces)
+        requires { IsNone self.old.pieces }
+        ensures { self.new.pieces ≡ Some pieces }
+    {
+        unsafe { (self.at as *mut Pieces).write(pieces) };
+    }
+
+    /// The stream that stands there.
+    pub(crate) fn get(&mut self) -> &mut Pieces
+        requires { IsSome self.old.pieces }
+        ensures* writes_back { sem 𝓛 (LendsPieces self.entry result) }
+        ensures value { self.old.pieces ≡ Some result.now }
+    {
+        unsafe { &mut *(self.at as *mut Pieces) }
     }
 }

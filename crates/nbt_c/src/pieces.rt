@@ -1,0 +1,104 @@
+//! A session's stream in C's memory: its octets come in pieces, and parts of them are told (RFC 1002 section 4.3).
+
+ghost use Rattle.std.specs.Prelude.{◌≡◌, [], Some, IsSome, IsNone};
+ghost use Rattle.nbt_session.specs.Parts.{PiecesState, between, part_if};
+ghost use Rattle.nbt_c.specs.Sessions.{TakesFor, part_after};
+
+use crate::held::CPieces;
+use crate::packet::CPacket;
+use nbt_session::{Part, Pieces, StreamFault};
+
+/// A part of a session's stream, as C sees it. A field that its kind doesn't name stays as it was.
+#[repr(C)]
+#[derive(Drop)]
+pub struct CPart {
+    /// 0 none, 1 a message begins, 2 octets of it, 3 it is whole, 4 another packet.
+    pub kind: u8,
+    /// Of a message that begins: how many octets it has; of octets of it: how many, and those are the first of the piece.
+    pub size: usize,
+    /// Of another packet: it.
+    pub packet: CPacket,
+}
+
+impl CPart {
+    /// Tells it.
+    fn tell(&mut self, part: &Option<Part<'_>>)
+        ensures { self.new ≡ part_after self.old (part_if part.now) }
+    {
+        match part {
+            None => self.kind = 0,
+            Some(Part::MessageStart(size)) => {
+                self.kind = 1;
+                self.size = *size;
+            }
+            Some(Part::MessageData(octets)) => {
+                self.kind = 2;
+                self.size = octets.len();
+            }
+            Some(Part::MessageEnd) => self.kind = 3,
+            Some(Part::Other(packet)) => {
+                self.kind = 4;
+                self.packet.tell(packet);
+            }
+        }
+    }
+}
+
+/// How many octets of memory a stream takes.
+#[unsafe(no_mangle)]
+pub extern "C" fn nbt_pieces_size() -> usize {
+    size_of::<Pieces>()
+}
+
+/// How that memory is aligned.
+#[unsafe(no_mangle)]
+pub extern "C" fn nbt_pieces_align() -> usize {
+    align_of::<Pieces>()
+}
+
+/// `nbt_session::Pieces::new`: a stream of which nothing came stands in the memory. That the memory is room for one, and none stands
+/// there, is the caller's.
+#[unsafe(no_mangle)]
+pub extern "C" fn nbt_pieces_start(pieces: &mut CPieces)
+    requires { IsNone pieces.old.pieces }
+    ensures { pieces.new.pieces ≡ Some (between []) }
+{
+    pieces.put(Pieces::new());
+}
+
+/// `nbt_session::Pieces::take`, of what C passes.
+fn take(pieces: &mut Pieces, piece: &[u8], part: &mut CPart, taken: &mut usize) -> u8
+    ensures { TakesFor piece.now pieces.old part.old result part.new taken.new pieces.new }
+{
+    match pieces.take(piece) {
+        Ok((count, found)) => {
+            part.tell(&found);
+            *taken = count;
+            0
+        }
+        Err(StreamFault::Malformed(fault)) => {
+            *taken = fault.place;
+            fault.kind.number()
+        }
+        Err(StreamFault::OutOfMemory) => StreamFault::OutOfMemory.number(),
+    }
+}
+
+/// `nbt_session::Pieces::take`: takes octets of the piece up to the end of one part. 0, and `part` says it, `taken` being how many
+/// octets it took; where they end no part, that is all of them, and the part is none. Octets of a message are the first of the piece.
+/// That a message is whole is told by the call after its last octets, of an empty piece too. Refused, `part` being left as it was and
+/// `taken` being the fault's place, counted from the packet's first octet: `BadType` (1), `BadFlags` (2), `BadLength` (3), `BadName`
+/// (4), and then for ever. That a stream stands in the memory is the caller's.
+#[unsafe(no_mangle)]
+pub extern "C" fn nbt_pieces_take(
+    pieces: &mut CPieces,
+    piece: &[u8],
+    part: &mut CPart,
+    taken: &mut usize,
+) -> u8
+    requires { IsSome pieces.old.pieces }
+    ensures { (old : PiecesState) → pieces.old.pieces ≡ Some old → (new : PiecesState) × (pieces.new.pieces ≡ Some new)
+        × TakesFor piece.now old part.old result part.new taken.new new }
+{
+    take(pieces.get(), piece, part, taken)
+}

@@ -1,0 +1,81 @@
+/* Rows of a session's stream: packets and a message that come in pieces, and what is wrong with octets. */
+#include <nbt.h>
+#include <stdlib.h>
+
+#include "rows.h"
+
+#define FRED "EGFCEFEECACACACACACACACACACACAAA"
+#define NED "EOEFEECACACACACACACACACACACACAAA"
+
+/* A SESSION REQUEST, a SESSION MESSAGE of five octets, a SESSION KEEPALIVE and a NEGATIVE SESSION RESPONSE (RFC 1002 section 4.3). */
+static const uint8_t REQUEST[] = "\x81\0\0\x44\x20" FRED "\0\x20" NED;
+static const uint8_t OTHERS[] = {0x00, 0, 0, 5, 'h', 'e', 'l', 'l', 'o', 0x85, 0, 0, 0, 0x83, 0, 0, 1, 0x82};
+
+static struct nbt_part part;
+
+/* Gives a piece, and compares what is told of it. */
+static void is_part(const char *what, struct nbt_pieces *pieces, const uint8_t *piece, size_t size, uint8_t kind, size_t count) {
+    size_t taken = 99;
+    is_number(what, nbt_pieces_take(pieces, piece, size, &part, &taken), 0);
+    is_number(what, part.kind, kind);
+    is_number(what, taken, count);
+}
+
+static void play_parts(struct nbt_pieces *pieces) {
+    memset(&part, 0x77, sizeof part);
+    nbt_pieces_start(pieces);
+    is_part("half a request", pieces, REQUEST, 40, NBT_PART_NONE, 40);
+    is_part("the other half", pieces, REQUEST + 40, 32, NBT_PART_PACKET, 32);
+    is_number("request", part.packet.kind, NBT_SESSION_REQUEST);
+    are_octets("called", part.packet.called.octets, "FRED           \0", 16);
+    are_octets("calling", part.packet.calling.octets, "NED            \0", 16);
+    is_number("of no kind", part.packet.code, 0x77);
+
+    is_part("a message begins", pieces, OTHERS, 18, NBT_PART_MESSAGE, 4);
+    is_number("a message begins", part.size, 5);
+    is_part("three octets", pieces, OTHERS + 4, 3, NBT_PART_DATA, 3);
+    is_number("three octets", part.size, 3);
+    is_part("none yet", pieces, OTHERS + 7, 0, NBT_PART_NONE, 0);
+    is_part("two octets", pieces, OTHERS + 7, 11, NBT_PART_DATA, 2);
+    is_part("whole", pieces, OTHERS + 9, 0, NBT_PART_END, 0);
+    is_part("keep alive", pieces, OTHERS + 9, 9, NBT_PART_PACKET, 4);
+    is_number("keep alive", part.packet.kind, NBT_SESSION_KEEP_ALIVE);
+    is_part("negative", pieces, OTHERS + 13, 5, NBT_PART_PACKET, 5);
+    is_number("negative", part.packet.kind, NBT_SESSION_NEGATIVE);
+    is_number("negative", part.packet.code, 0x82);
+}
+
+static void play_faults(struct nbt_pieces *pieces) {
+    static const uint8_t retarget[10] = {0x84, 0, 0, 6, 10, 0, 0, 7, 0, 139}, bad[4] = {0x84, 2, 0, 6}, short_one[4] = {0x84, 0, 0, 5};
+    uint8_t request[72];
+    size_t taken = 99;
+    memcpy(request, REQUEST, 72);
+    request[10] = 'Q';
+    nbt_pieces_start(pieces);
+    is_part("retarget", pieces, retarget, 10, NBT_PART_PACKET, 10);
+    is_number("retarget", part.packet.kind, NBT_SESSION_RETARGET);
+    is_number("retarget", part.packet.to.ip, 0x0A000007);
+    is_number("retarget", part.packet.to.port, 139);
+    is_number("flags", nbt_pieces_take(pieces, bad, 4, &part, &taken), NBT_STREAM_BAD_FLAGS);
+    is_number("flags", taken, 1);
+    is_number("for ever", nbt_pieces_take(pieces, retarget, 10, &part, &taken), NBT_STREAM_BAD_FLAGS);
+    nbt_pieces_start(pieces);
+    is_number("length", nbt_pieces_take(pieces, short_one, 4, &part, &taken), NBT_STREAM_BAD_LENGTH);
+    is_number("length", taken, 2);
+    nbt_pieces_start(pieces);
+    is_number("type", nbt_pieces_take(pieces, OTHERS + 4, 1, &part, &taken), NBT_STREAM_BAD_TYPE);
+    is_number("type", taken, 0);
+    nbt_pieces_start(pieces);
+    is_number("name", nbt_pieces_take(pieces, request, 72, &part, &taken), NBT_STREAM_BAD_NAME);
+    is_number("name", taken, 10);
+    is_number("no other part", part.packet.kind, NBT_SESSION_RETARGET);
+}
+
+int main(void) {
+    struct nbt_pieces pieces = {aligned_alloc(nbt_pieces_align(), nbt_pieces_size())};
+    is_number("memory", pieces.memory != 0, 1);
+    play_parts(&pieces);
+    play_faults(&pieces);
+    free(pieces.memory);
+    return tell_rows();
+}
