@@ -362,7 +362,8 @@ enum {
 
 /*
  * The stream of a TCP connection as it comes in, in pieces of any size. It holds no message: a program gets its octets as they come.
- * `memory` is like a node's, with the size and alignment below. It takes no other memory.
+ * `memory` is like a node's, with the size and alignment below; for another connection, another struct may begin there. It takes no
+ * other memory.
  */
 struct nbt_pieces {
     void *memory;

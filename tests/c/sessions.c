@@ -12,6 +12,13 @@ static const uint8_t REQUEST[] = "\x81\0\0\x44\x20" FRED "\0\x20" NED;
 static const uint8_t OTHERS[] = {0x00, 0, 0, 5, 'h', 'e', 'l', 'l', 'o', 0x85, 0, 0, 0, 0x83, 0, 0, 1, 0x82};
 
 static struct nbt_part part;
+static void *memory;
+
+/* A stream of which nothing came, where the last one was. */
+static void start(struct nbt_pieces *pieces) {
+    *pieces = (struct nbt_pieces){memory};
+    nbt_pieces_start(pieces);
+}
 
 /* Gives a piece, and compares what is told of it. */
 static void is_part(const char *what, struct nbt_pieces *pieces, const uint8_t *piece, size_t size, uint8_t kind, size_t count) {
@@ -23,7 +30,7 @@ static void is_part(const char *what, struct nbt_pieces *pieces, const uint8_t *
 
 static void play_parts(struct nbt_pieces *pieces) {
     memset(&part, 0x77, sizeof part);
-    nbt_pieces_start(pieces);
+    start(pieces);
     is_part("half a request", pieces, REQUEST, 40, NBT_PART_NONE, 40);
     is_part("the other half", pieces, REQUEST + 40, 32, NBT_PART_PACKET, 32);
     is_number("request", part.packet.kind, NBT_SESSION_REQUEST);
@@ -51,7 +58,7 @@ static void play_faults(struct nbt_pieces *pieces) {
     size_t taken = 99;
     memcpy(request, REQUEST, 72);
     request[10] = 'Q';
-    nbt_pieces_start(pieces);
+    start(pieces);
     is_part("retarget", pieces, retarget, 10, NBT_PART_PACKET, 10);
     is_number("retarget", part.packet.kind, NBT_SESSION_RETARGET);
     is_number("retarget", part.packet.to.ip, 0x0A000007);
@@ -59,23 +66,24 @@ static void play_faults(struct nbt_pieces *pieces) {
     is_number("flags", nbt_pieces_take(pieces, bad, 4, &part, &taken), NBT_STREAM_BAD_FLAGS);
     is_number("flags", taken, 1);
     is_number("for ever", nbt_pieces_take(pieces, retarget, 10, &part, &taken), NBT_STREAM_BAD_FLAGS);
-    nbt_pieces_start(pieces);
+    start(pieces);
     is_number("length", nbt_pieces_take(pieces, short_one, 4, &part, &taken), NBT_STREAM_BAD_LENGTH);
     is_number("length", taken, 2);
-    nbt_pieces_start(pieces);
+    start(pieces);
     is_number("type", nbt_pieces_take(pieces, OTHERS + 4, 1, &part, &taken), NBT_STREAM_BAD_TYPE);
     is_number("type", taken, 0);
-    nbt_pieces_start(pieces);
+    start(pieces);
     is_number("name", nbt_pieces_take(pieces, request, 72, &part, &taken), NBT_STREAM_BAD_NAME);
     is_number("name", taken, 10);
     is_number("no other part", part.packet.kind, NBT_SESSION_RETARGET);
 }
 
 int main(void) {
-    struct nbt_pieces pieces = {aligned_alloc(nbt_pieces_align(), nbt_pieces_size())};
-    is_number("memory", pieces.memory != 0, 1);
+    struct nbt_pieces pieces;
+    memory = aligned_alloc(nbt_pieces_align(), nbt_pieces_size());
+    is_number("memory", memory != 0, 1);
     play_parts(&pieces);
     play_faults(&pieces);
-    free(pieces.memory);
+    free(memory);
     return tell_rows();
 }
