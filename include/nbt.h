@@ -325,7 +325,7 @@ uint8_t nbt_datagram_split(uint8_t kind, uint16_t id, struct nbt_addr own, const
                            const struct nbt_name *destination, const uint8_t *data, size_t data_size, uint8_t first[NBT_PACKET],
                            size_t *first_size, uint8_t second[NBT_PACKET], size_t *second_size);
 
-/* ---- a session's stream (RFC 1001 section 16, RFC 1002 section 4.3) */
+/* ---- sessions (RFC 1001 section 16, RFC 1002 section 4.3): they take no memory but what the program lends */
 
 /* A session packet, but for a message's octets. A field that its kind doesn't name stays as it was. */
 struct nbt_session_packet {
@@ -387,6 +387,20 @@ enum {
  * message is whole is told by the call after its last octets. NBT_STREAM_*: *part stays as it was.
  */
 uint8_t nbt_pieces_take(struct nbt_pieces *pieces, const uint8_t *piece, size_t size, struct nbt_part *part, size_t *taken);
+
+/* Why a message has no header (our profile). */
+enum {
+    NBT_SESSION_TOO_LONG = 1 /* more than 131,071 octets */
+};
+
+/* The header of a message of `count` octets, which the program sends after it. NBT_SESSION_TOO_LONG: nothing is written. */
+uint8_t nbt_session_message(size_t count, uint8_t out[4]);
+
+/*
+ * A packet that is no message, at the front of `out`. Writes *size: how many octets of `out` are to be sent, 4 to 514, or 0 where the
+ * result isn't 0. NBT_NO_KIND; NBT_NO_NAME.
+ */
+uint8_t nbt_session_packet(const struct nbt_session_packet *packet, uint8_t out[NBT_PACKET], size_t *size);
 
 /* ---- a name server (RFC 1001 section 15.1.7, RFC 1002 section 5.1.4) */
 

@@ -1,4 +1,4 @@
-/* Rows of a session's stream: packets and a message that come in pieces, and what is wrong with octets. */
+/* Rows of sessions: packets and a message that come in pieces, what is wrong with octets, and packets that are written. */
 #include <nbt.h>
 #include <stdlib.h>
 
@@ -78,12 +78,52 @@ static void play_faults(struct nbt_pieces *pieces) {
     is_number("no other part", part.packet.kind, NBT_SESSION_RETARGET);
 }
 
+static void is_written(const char *what, const uint8_t *wanted, size_t count) {
+    uint8_t out[NBT_PACKET];
+    size_t size = 99;
+    memset(out, 0x55, sizeof out);
+    is_number(what, nbt_session_packet(&part.packet, out, &size), 0);
+    is_number(what, size, count);
+    are_octets(what, out, wanted, count);
+    is_number(what, out[count], 0x55);
+}
+
+static void play_written(struct nbt_pieces *pieces) {
+    static const uint8_t retarget[10] = {0x84, 0, 0, 6, 10, 0, 0, 7, 0, 139}, positive[4] = {0x82, 0, 0, 0}, five[4] = {0, 0, 0, 5}, most[4] = {0, 1, 0xFF, 0xFF};
+    uint8_t out[NBT_PACKET];
+    size_t size = 99;
+    start(pieces);
+    is_part("request", pieces, REQUEST, 72, NBT_PART_PACKET, 72);
+    is_written("request", REQUEST, 72);
+    is_part("retarget", pieces, retarget, 10, NBT_PART_PACKET, 10);
+    is_written("retarget", retarget, 10);
+    is_part("keep alive", pieces, OTHERS + 9, 4, NBT_PART_PACKET, 4);
+    is_written("keep alive", OTHERS + 9, 4);
+    is_part("negative", pieces, OTHERS + 13, 5, NBT_PART_PACKET, 5);
+    is_written("negative", OTHERS + 13, 5);
+    part.packet.kind = NBT_SESSION_POSITIVE;
+    is_written("positive", positive, 4);
+    part.packet.kind = NBT_SESSION_MESSAGE;
+    is_number("a message", nbt_session_packet(&part.packet, out, &size), NBT_NO_KIND);
+    is_number("a message", size, 0);
+    part.packet.kind = NBT_SESSION_REQUEST;
+    part.packet.calling.scope_size = 222;
+    is_number("no name", nbt_session_packet(&part.packet, out, &size), NBT_NO_NAME);
+    is_number("five", nbt_session_message(5, out), 0);
+    are_octets("five", out, five, 4);
+    is_number("131,071", nbt_session_message(131071, out), 0);
+    are_octets("131,071", out, most, 4);
+    is_number("131,072", nbt_session_message(131072, out), NBT_SESSION_TOO_LONG);
+    are_octets("131,072", out, most, 4);
+}
+
 int main(void) {
     struct nbt_pieces pieces;
     memory = aligned_alloc(nbt_pieces_align(), nbt_pieces_size());
     is_number("memory", memory != 0, 1);
     play_parts(&pieces);
     play_faults(&pieces);
+    play_written(&pieces);
     free(memory);
     return tell_rows();
 }

@@ -2,6 +2,8 @@
 mod Calls
 -- Forms of a name, and the dot before a scope's labels.
 mod Forms
+-- Session packets in octets.
+mod Framed
 -- The packets that data are split into have room.
 mod Packets
 -- The word of sixteen octets.

@@ -2,6 +2,7 @@ pub mod Accepting
 pub mod Datagrams
 pub mod Ends
 pub mod Events
+pub mod Framing
 pub mod Hearing
 pub mod Lending
 pub mod Memory

@@ -10,6 +10,7 @@ pub mod accepting;
 pub mod datagram;
 pub mod ends;
 pub mod event;
+pub mod framing;
 pub mod hearing;
 pub mod held;
 pub mod lease;

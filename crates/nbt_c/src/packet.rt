@@ -9,15 +9,15 @@ use nbt_session::Packet;
 /// TYPE of a SESSION MESSAGE (RFC 1002 section 4.3.1).
 const MESSAGE: u8 = 0x00;
 /// TYPE of a SESSION REQUEST.
-const REQUEST: u8 = 0x81;
+pub(crate) const REQUEST: u8 = 0x81;
 /// TYPE of a POSITIVE SESSION RESPONSE.
-const POSITIVE: u8 = 0x82;
+pub(crate) const POSITIVE: u8 = 0x82;
 /// TYPE of a NEGATIVE SESSION RESPONSE.
-const NEGATIVE: u8 = 0x83;
+pub(crate) const NEGATIVE: u8 = 0x83;
 /// TYPE of a SESSION RETARGET RESPONSE.
-const RETARGET: u8 = 0x84;
+pub(crate) const RETARGET: u8 = 0x84;
 /// TYPE of a SESSION KEEPALIVE.
-const KEEP_ALIVE: u8 = 0x85;
+pub(crate) const KEEP_ALIVE: u8 = 0x85;
 
 /// A session packet, as C sees it, but for a message's octets. A field that its kind doesn't name stays as it was.
 #[repr(C)]
