@@ -402,6 +402,60 @@ uint8_t nbt_session_message(size_t count, uint8_t out[4]);
  */
 uint8_t nbt_session_packet(const struct nbt_session_packet *packet, uint8_t out[NBT_PACKET], size_t *size);
 
+/* ---- the end that calls a session (RFC 1001 section 16.1, RFC 1002 section 5.2.1) */
+
+/* One call to a name, by a name. `memory` is like a node's, with the size and alignment below. It takes no other memory. */
+struct nbt_caller {
+    void *memory;
+};
+
+size_t nbt_caller_size(void);
+size_t nbt_caller_align(void);
+
+/* Begins a call; the program connects to `to`: the first of four tries. NBT_NO_NAME. */
+uint8_t nbt_caller_begin(struct nbt_caller *caller, const struct nbt_name *called, const struct nbt_name *calling, struct nbt_addr to);
+
+/* What happens to a connection. */
+enum {
+    NBT_CONNECTED = 0, /* it stands */
+    NBT_CAME = 1,      /* a packet came, or a message is whole */
+    NBT_LOST = 2       /* it is gone, couldn't be had, or its stream has a fault */
+};
+
+/* What the end that calls does next. A field that its kind doesn't name stays as it was. */
+struct nbt_answer {
+    uint8_t kind;
+    uint8_t failure;    /* of FAIL: why */
+    uint8_t code;       /* of FAIL because of REFUSED (RFC 1002 section 4.3.4) */
+    struct nbt_addr to; /* of CONNECT */
+};
+
+enum {
+    NBT_ANSWER_NOTHING = 0,
+    NBT_ANSWER_CONNECT = 1, /* connects there; an earlier connection is given up */
+    NBT_ANSWER_SEND = 2,    /* sends what stands in `out` */
+    NBT_ANSWER_OPEN = 3,    /* the session is open */
+    NBT_ANSWER_UP = 4,      /* the message is for the user */
+    NBT_ANSWER_CLOSED = 5,  /* the session is over */
+    NBT_ANSWER_FAIL = 6     /* the call failed, and its connection is given up */
+};
+
+/* Why a call failed (our profile). */
+enum {
+    NBT_CALL_NO_CONNECTION = 1, /* the fourth connection couldn't be had, or was lost before the call was taken */
+    NBT_CALL_REFUSED = 2,
+    NBT_CALL_PROTOCOL = 3,      /* a packet came that has no place there */
+    NBT_CALL_TOO_MANY_TRIES = 4 /* the fourth try was retargeted */
+};
+
+/*
+ * What the call does when something happens to its connection. `packet` is read where `happened` is NBT_CAME; of a message its kind
+ * alone, since its octets are the program's. Writes *answer, and *size: how many octets of `out` are to be sent, or 0. Refused, the
+ * call staying as it was, and the answer being NOTHING: NBT_NO_KIND; NBT_NO_NAME.
+ */
+uint8_t nbt_caller_on(struct nbt_caller *caller, uint8_t happened, const struct nbt_session_packet *packet, struct nbt_answer *answer,
+                      uint8_t out[NBT_PACKET], size_t *size);
+
 /* ---- a name server (RFC 1001 section 15.1.7, RFC 1002 section 5.1.4) */
 
 /*

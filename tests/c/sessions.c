@@ -117,13 +117,72 @@ static void play_written(struct nbt_pieces *pieces) {
     are_octets("131,072", out, most, 4);
 }
 
+/* ---- the end that calls */
+
+static struct nbt_answer answer;
+
+/* Tells the call what happened, and compares what it does. */
+static void is_answer(const char *what, struct nbt_caller *caller, uint8_t happened, uint8_t packet, uint8_t kind, size_t sent) {
+    uint8_t out[NBT_PACKET];
+    size_t size = 99;
+    part.packet.kind = packet;
+    is_number(what, nbt_caller_on(caller, happened, &part.packet, &answer, out, &size), 0);
+    is_number(what, answer.kind, kind);
+    is_number(what, size, sent);
+    if (sent != 0)
+        are_octets(what, out, REQUEST, sent);
+}
+
+static void play_call(void *room) {
+    struct nbt_caller first = {room}, second = {room}, third = {room}, *caller = &first;
+    const struct nbt_addr to = {0x0A000007, 139};
+    struct nbt_name fred, ned;
+    uint8_t out[NBT_PACKET];
+    size_t size = 99;
+    is_number("name", nbt_name_make((const uint8_t *)"FRED           ", (const uint8_t *)"", 0, &fred), 0);
+    is_number("name", nbt_name_make((const uint8_t *)"NED            ", (const uint8_t *)"", 0, &ned), 0);
+    memset(&part, 0, sizeof part);
+    part.packet.to.ip = 0x0A000008;
+    part.packet.to.port = 1139;
+    part.packet.code = 0x82;
+    is_number("begin", nbt_caller_begin(caller, &fred, &ned, to), 0);
+    is_answer("not connected", caller, NBT_LOST, 0, NBT_ANSWER_CONNECT, 0);
+    is_number("again", answer.to.ip, 0x0A000007);
+    is_answer("request", caller, NBT_CONNECTED, 0, NBT_ANSWER_SEND, 72);
+    is_answer("retarget", caller, NBT_CAME, NBT_SESSION_RETARGET, NBT_ANSWER_CONNECT, 0);
+    is_number("retarget", answer.to.ip, 0x0A000008);
+    is_number("retarget", answer.to.port, 1139);
+    is_number("no event", nbt_caller_on(caller, 3, &part.packet, &answer, out, &size), NBT_NO_KIND);
+    is_number("no event", answer.kind, NBT_ANSWER_NOTHING);
+    is_number("no event", size, 0);
+    part.packet.kind = 0x86;
+    is_number("no packet", nbt_caller_on(caller, NBT_CAME, &part.packet, &answer, out, &size), NBT_NO_KIND);
+    is_answer("request", caller, NBT_CONNECTED, 0, NBT_ANSWER_SEND, 72);
+    is_answer("positive", caller, NBT_CAME, NBT_SESSION_POSITIVE, NBT_ANSWER_OPEN, 0);
+    is_answer("message", caller, NBT_CAME, NBT_SESSION_MESSAGE, NBT_ANSWER_UP, 0);
+    is_answer("keep alive", caller, NBT_CAME, NBT_SESSION_KEEP_ALIVE, NBT_ANSWER_NOTHING, 0);
+    is_answer("closed", caller, NBT_LOST, 0, NBT_ANSWER_CLOSED, 0);
+
+    caller = &second;
+    is_number("begin", nbt_caller_begin(caller, &fred, &ned, to), 0);
+    is_answer("request", caller, NBT_CONNECTED, 0, NBT_ANSWER_SEND, 72);
+    is_answer("negative", caller, NBT_CAME, NBT_SESSION_NEGATIVE, NBT_ANSWER_FAIL, 0);
+    is_number("negative", answer.failure, NBT_CALL_REFUSED);
+    is_number("negative", answer.code, 0x82);
+    ned.scope_size = 222;
+    is_number("no name", nbt_caller_begin(&third, &fred, &ned, to), NBT_NO_NAME);
+}
+
 int main(void) {
+    void *room = aligned_alloc(nbt_caller_align(), nbt_caller_size());
     struct nbt_pieces pieces;
     memory = aligned_alloc(nbt_pieces_align(), nbt_pieces_size());
     is_number("memory", memory != 0, 1);
     play_parts(&pieces);
     play_faults(&pieces);
     play_written(&pieces);
+    play_call(room);
     free(memory);
+    free(room);
     return tell_rows();
 }

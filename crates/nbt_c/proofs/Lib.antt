@@ -1,5 +1,7 @@
 -- Moments, moves along equations, and room that is left.
 mod Calls
+-- A call of a session sends requests alone.
+mod Calling
 -- Forms of a name, and the dot before a scope's labels.
 mod Forms
 -- Session packets in octets.

@@ -1,4 +1,4 @@
--- What a node, a server, a joiner or a stream in C's memory ends as, once it is no longer lent.
+-- What a node, a server, a joiner, a stream or a call in C's memory ends as, once it is no longer lent.
 use Rattle.std.specs.Prelude.{Some}
 use Rattle.std.specs.Borrow.{Lends, MutBor, Fml}
 use Rattle.nbt_node.specs.Node.{NodeValue}
@@ -8,12 +8,15 @@ use Rattle.nbt_c.specs.declared.held.CServer.{CServer}
 use Rattle.nbt_dgram.specs.Joiner.{JoinerValue}
 use Rattle.nbt_c.specs.declared.held.CJoiner.{CJoiner}
 use Rattle.nbt_session.specs.Parts.{PiecesState}
+use Rattle.nbt_session.specs.Caller.{CallerValue}
 use Rattle.nbt_c.specs.declared.held.CPieces.{CPieces}
+use Rattle.nbt_c.specs.declared.held.CCaller.{CCaller}
 use Rattle.nbt_c.specs.contracts.held.CJoiner.{the_row as held_joiner}
 use Rattle.nbt_c.specs.contracts.held.CNode.{the_row}
 use Rattle.nbt_c.specs.contracts.held.CServer.{the_row as held_server}
 use Rattle.nbt_c.specs.contracts.held.CPieces.{the_row as held_pieces}
-use Rattle.nbt_c.specs.Memory.{node_row, server_row, joiner_row, pieces_row}
+use Rattle.nbt_c.specs.contracts.held.CCaller.{the_row as held_caller}
+use Rattle.nbt_c.specs.Memory.{node_row, server_row, joiner_row, pieces_row, caller_row}
 
 abbrev pub with_node : CNode → NodeValue → CNode
 with_node held node = record held { node = Some node }
@@ -38,3 +41,9 @@ with_pieces held pieces = record held { pieces = Some pieces }
 
 abbrev pub LendsPieces : MutBor CPieces → MutBor PiecesState → Fml
 LendsPieces held pieces = Lends held_pieces pieces_row held pieces (with_pieces held.now)
+
+abbrev pub with_caller : CCaller → CallerValue → CCaller
+with_caller held caller = record held { caller = Some caller }
+
+abbrev pub LendsCaller : MutBor CCaller → MutBor CallerValue → Fml
+LendsCaller held caller = Lends held_caller caller_row held caller (with_caller held.now)

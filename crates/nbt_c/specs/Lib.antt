@@ -1,4 +1,5 @@
 pub mod Accepting
+pub mod Calling
 pub mod Datagrams
 pub mod Ends
 pub mod Events

@@ -1,16 +1,17 @@
-//! A node, a name server, a joiner of datagrams, or a session's stream, in the memory of a program in C.
+//! A node, a name server, a joiner of datagrams, a session's stream, or a call, in the memory of a program in C.
 
 ghost use Rattle.std.specs.Prelude.{◌≡◌, Option, Some, IsSome, IsNone};
 ghost use Rattle.std.specs.Borrow.{sem};
 ghost use Rattle.nbt_dgram.specs.Joiner.{JoinerValue};
 ghost use Rattle.nbt_node.specs.Node.{NodeValue};
 ghost use Rattle.nbt_server.specs.Serving.{ServerValue};
+ghost use Rattle.nbt_session.specs.Caller.{CallerValue};
 ghost use Rattle.nbt_session.specs.Parts.{PiecesState};
 
 use nbt_dgram::Joiner;
 use nbt_node::Node;
 use nbt_server::Server;
-use nbt_session::Pieces;
+use nbt_session::{Caller, Pieces};
 use std::marker::Model;
 
 /// A node in C's memory: where the memory is, and, as far as contracts see, which node stands there, if any. Before a node is
@@ -159,5 +160,40 @@ impl CPieces {
         ensures value { self.old.pieces ≡ Some result.now }
     {
         unsafe { &mut *(self.at as *mut Pieces) }
+    }
+}
+
+/// A call of a session in C's memory: where the memory is, and, as far as contracts see, which call stands there, if any. Before one
+/// is started the memory is room for it.
+#[repr(C)]
+pub struct CCaller {
+    at: *mut u8,
+    ghost caller: { Option CallerValue },
+}
+
+impl Model for CCaller {
+    ghost use Rattle.nbt_c.specs.Memory.{rests_at, caller_row};
+
+    ghost also_owns = { λ h. rests_at caller_row h.at h.caller };
+}
+
+impl CCaller {
+    ghost use Rattle.nbt_c.specs.Lending.{LendsCaller};
+
+    /// Puts a call into the room.
+    pub(crate) fn put(&mut self, caller: Caller)
+        requires { IsNone self.old.caller }
+        ensures { self.new.caller ≡ Some caller }
+    {
+        unsafe { (self.at as *mut Caller).write(caller) };
+    }
+
+    /// The call that stands there.
+    pub(crate) fn get(&mut self) -> &mut Caller
+        requires { IsSome self.old.caller }
+        ensures* writes_back { sem 𝓛 (LendsCaller self.entry result) }
+        ensures value { self.old.caller ≡ Some result.now }
+    {
+        unsafe { &mut *(self.at as *mut Caller) }
     }
 }

@@ -7,6 +7,7 @@
 #![tactic(auto)]
 
 pub mod accepting;
+pub mod caller;
 pub mod datagram;
 pub mod ends;
 pub mod event;
@@ -28,10 +29,11 @@ pub mod wire;
 pub mod words;
 
 pub use accepting::CAccept;
+pub use caller::CAnswer;
 pub use datagram::CDgram;
 pub use ends::{CAddr, CConfig};
 pub use event::CEvent;
-pub use held::{CJoiner, CNode, CPieces, CServer};
+pub use held::{CCaller, CJoiner, CNode, CPieces, CServer};
 pub use lease::CLease;
 pub use name::CName;
 pub use packet::CPacket;

@@ -1,10 +1,12 @@
 //! A session packet as C sees it.
 
-ghost use Rattle.std.specs.Prelude.{◌≡◌};
+ghost use Rattle.std.specs.Prelude.{◌≡◌, IfOk, IfErr};
 
 use crate::ends::CAddr;
 use crate::name::CName;
+use crate::results::{NO_KIND, NO_NAME};
 use nbt_session::Packet;
+use std::alloc::Global;
 
 /// TYPE of a SESSION MESSAGE (RFC 1002 section 4.3.1).
 const MESSAGE: u8 = 0x00;
@@ -37,6 +39,7 @@ pub struct CPacket {
 
 impl CPacket {
     ghost use Rattle.nbt_session.specs.Packet.{packet_of};
+    ghost use Rattle.nbt_c.specs.Calling.{IsPacketIn, PacketFault};
     ghost use Rattle.nbt_c.specs.Sessions.{packet_after};
 
     /// Tells it.
@@ -61,5 +64,37 @@ impl CPacket {
             }
             Packet::KeepAlive => self.kind = KEEP_ALIVE,
         }
+    }
+
+    /// The packet that is held, or the number of what is wrong with it: 252 where its kind is no TYPE, 255 where a name of a request
+    /// holds none. A message is read without octets.
+    pub(crate) fn read(&self, alloc: Global) -> Result<Packet, u8>
+        ensures packet { IfOk result (λ packet. IsPacketIn self.now (packet_of packet)) }
+        ensures fault { IfErr result (PacketFault self.now) }
+    {
+        match self.kind {
+            MESSAGE => Ok(Packet::Message(Vec::new(alloc))),
+            REQUEST => self.read_request(),
+            POSITIVE => Ok(Packet::Positive),
+            NEGATIVE => Ok(Packet::Negative(self.code)),
+            RETARGET => Ok(Packet::Retarget(self.to.addr())),
+            KEEP_ALIVE => Ok(Packet::KeepAlive),
+            _ => Err(NO_KIND),
+        }
+    }
+
+    /// A request with the two names that are held.
+    fn read_request(&self) -> Result<Packet, u8>
+        requires { self.now.kind ≡ 0x81 }
+        ensures packet { IfOk result (λ packet. IsPacketIn self.now (packet_of packet)) }
+        ensures fault { IfErr result (PacketFault self.now) }
+    {
+        let Some(called) = self.called.read() else {
+            return Err(NO_NAME);
+        };
+        let Some(calling) = self.calling.read() else {
+            return Err(NO_NAME);
+        };
+        Ok(Packet::Request { called, calling })
     }
 }
