@@ -2,7 +2,7 @@
  * nbt: the NetBIOS name, datagram and session services (RFC 1001 and 1002), for programs in C.
  *
  * The library opens no socket, reads no clock, starts no thread and keeps nothing of its own between two calls: octets and
- * moments go in, octets come out. Names, nodes and datagrams take no memory; a name server asks malloc for its leases.
+ * moments go in, octets come out. Names, nodes, datagrams and sessions take no memory; a name server asks malloc for its leases.
  *
  * What holds of every call:
  *
