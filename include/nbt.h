@@ -437,7 +437,9 @@ enum {
     NBT_ANSWER_OPEN = 3,    /* the session is open */
     NBT_ANSWER_UP = 4,      /* the message is for the user */
     NBT_ANSWER_CLOSED = 5,  /* the session is over */
-    NBT_ANSWER_FAIL = 6     /* the call failed, and its connection is given up */
+    NBT_ANSWER_FAIL = 6,    /* the call failed, and its connection is given up */
+    NBT_ANSWER_SEND_AND_CLOSE = 7, /* of the end that listens: sends what stands in `out`, and then closes the connection */
+    NBT_ANSWER_CLOSE = 8           /* of the end that listens: closes the connection */
 };
 
 /* Why a call failed (our profile). */
@@ -455,6 +457,46 @@ enum {
  */
 uint8_t nbt_caller_on(struct nbt_caller *caller, uint8_t happened, const struct nbt_session_packet *packet, struct nbt_answer *answer,
                       uint8_t out[NBT_PACKET], size_t *size);
+
+/* ---- the end that listens (RFC 1001 section 16.1.1, RFC 1002 section 5.2.1) */
+
+/*
+ * A listener of 14 entries and 8 connections, numbered 0 to 7. `memory` is like a node's, with the size and alignment below. It takes
+ * no other memory.
+ */
+struct nbt_listener {
+    void *memory;
+};
+
+size_t nbt_listener_size(void);
+size_t nbt_listener_align(void);
+
+/* A listener that takes no calls yet; `most` of its connections may be open at a time. NBT_NO_PLACE above 8. */
+uint8_t nbt_listener_start(struct nbt_listener *listener, size_t most);
+
+/* Calls that are taken: to a name, by any or by one; here, or at another end. */
+struct nbt_entry {
+    struct nbt_name called;
+    bool by_one;              /* `calling` alone may call */
+    struct nbt_name calling;  /* read where `by_one` is true */
+    bool elsewhere;           /* the call is to be made at `retarget` instead */
+    struct nbt_addr retarget; /* read where `elsewhere` is true */
+};
+
+/* Takes calls by the entry from now on, where no earlier entry takes them. NBT_NO_NAME; NBT_NO_ROOM where 14 stand. */
+uint8_t nbt_listener_listen(struct nbt_listener *listener, const struct nbt_entry *entry);
+
+/* Takes away all entries of the name. NBT_NO_NAME. */
+uint8_t nbt_listener_unlisten(struct nbt_listener *listener, const struct nbt_name *called);
+
+/*
+ * What the listener does when something happens to a connection, by the names that the node holds at `now`: `happened` and `packet`
+ * are as for nbt_caller_on. Writes *kind: NBT_ANSWER_NOTHING, SEND, UP, SEND_AND_CLOSE or CLOSE; and *size: how many octets of `out`
+ * are to be sent, or 0. The node stays. Refused, the listener staying as it was, and *kind being NOTHING: NBT_NO_MOMENT;
+ * NBT_NO_PLACE where `slot` is above 7; NBT_NO_KIND; NBT_NO_NAME.
+ */
+uint8_t nbt_listener_on(struct nbt_listener *listener, struct nbt_node *node, uint64_t now, size_t slot, uint8_t happened,
+                        const struct nbt_session_packet *packet, uint8_t *kind, uint8_t out[NBT_PACKET], size_t *size);
 
 /* ---- a name server (RFC 1001 section 15.1.7, RFC 1002 section 5.1.4) */
 

@@ -173,6 +173,88 @@ static void play_call(void *room) {
     is_number("no name", nbt_caller_begin(&third, &fred, &ned, to), NBT_NO_NAME);
 }
 
+/* ---- the end that listens */
+
+static struct nbt_listener listener;
+static struct nbt_node node;
+
+/* Tells the listener what happened to a connection, and compares what it does, and the code or nothing that it sends. */
+static void is_done(const char *what, size_t slot, uint8_t happened, uint8_t packet, uint8_t kind, size_t sent, uint8_t code) {
+    uint8_t out[NBT_PACKET], done = 99;
+    size_t size = 99;
+    part.packet.kind = packet;
+    is_number(what, nbt_listener_on(&listener, &node, 9002, slot, happened, &part.packet, &done, out, &size), 0);
+    is_number(what, done, kind);
+    is_number(what, size, sent);
+    if (sent != 0)
+        is_number(what, out[0], packet == NBT_SESSION_REQUEST && code == 0 ? 0x82 : 0x83);
+    if (sent == 5)
+        is_number(what, out[4], code);
+}
+
+/* Makes the node hold FRED. */
+static void hold(const struct nbt_name *name) {
+    const struct nbt_addr own = {0x0A000005, 137}, server = {0x0A000001, 137};
+    const struct nbt_config limits = {.life = 1000, .longest = 3600, .rows = 4096};
+    const uint8_t record[16] = {0, 0x20, 0, 1, 0, 0, 1, 0x2C, 0, 6, 0, 0, 10, 0, 0, 5};
+    uint8_t out[NBT_PACKET], response[62] = {0}, lent[1], held;
+    struct nbt_event event;
+    size_t size;
+    is_number("start", nbt_node_start(&node, own, server, limits, 0), NBT_DONE);
+    is_number("ask", nbt_node_ask(&node, 9000, name, NBT_UNIQUE, 300, out, &size), NBT_DONE);
+    memcpy(response, out, 2);
+    response[2] = 0xAD;
+    response[3] = 0x80;
+    response[7] = 1;
+    memcpy(response + 12, out + 12, 34);
+    memcpy(response + 46, record, 16);
+    is_number("granted", nbt_node_on_datagram(&node, 9001, server, response, 62, &event, lent, 1, out, &size), NBT_DONE);
+    is_number("held", nbt_node_holds(&node, 9001, name, &held), NBT_DONE);
+    is_number("held", held, 1);
+}
+
+static void play_listener(void) {
+    struct nbt_entry entry;
+    uint8_t out[NBT_PACKET], kind = 99;
+    size_t size = 99;
+    memset(&part, 0, sizeof part);
+    memset(&entry, 0, sizeof entry);
+    is_number("name", nbt_name_make((const uint8_t *)"FRED           ", (const uint8_t *)"", 0, &part.packet.called), 0);
+    is_number("name", nbt_name_make((const uint8_t *)"NED            ", (const uint8_t *)"", 0, &part.packet.calling), 0);
+    entry.called = part.packet.called;
+    entry.by_one = true;
+    entry.calling = part.packet.called;
+    is_number("nine", nbt_listener_start(&listener, 9), NBT_NO_PLACE);
+    is_number("one", nbt_listener_start(&listener, 1), 0);
+    is_done("connected", 0, NBT_CONNECTED, 0, NBT_ANSWER_NOTHING, 0, 0);
+    hold(&part.packet.called);
+    is_done("nobody listens", 0, NBT_CAME, NBT_SESSION_REQUEST, NBT_ANSWER_SEND_AND_CLOSE, 5, 0x80);
+    is_number("listen", nbt_listener_listen(&listener, &entry), 0);
+    is_done("connected", 0, NBT_CONNECTED, 0, NBT_ANSWER_NOTHING, 0, 0);
+    is_done("not for it", 0, NBT_CAME, NBT_SESSION_REQUEST, NBT_ANSWER_SEND_AND_CLOSE, 5, 0x81);
+    entry.by_one = false;
+    is_number("listen", nbt_listener_listen(&listener, &entry), 0);
+    is_done("connected", 0, NBT_CONNECTED, 0, NBT_ANSWER_NOTHING, 0, 0);
+    is_done("taken", 0, NBT_CAME, NBT_SESSION_REQUEST, NBT_ANSWER_SEND, 4, 0);
+    is_done("message", 0, NBT_CAME, NBT_SESSION_MESSAGE, NBT_ANSWER_UP, 0, 0);
+    is_done("connected", 7, NBT_CONNECTED, 0, NBT_ANSWER_NOTHING, 0, 0);
+    is_done("one is open", 7, NBT_CAME, NBT_SESSION_REQUEST, NBT_ANSWER_SEND_AND_CLOSE, 5, 0x83);
+    is_done("no place", 0, NBT_CAME, NBT_SESSION_POSITIVE, NBT_ANSWER_CLOSE, 0, 0);
+    is_number("slot", nbt_listener_on(&listener, &node, 9002, 8, NBT_LOST, &part.packet, &kind, out, &size), NBT_NO_PLACE);
+    is_number("slot", kind + size, 0);
+    is_number("moment", nbt_listener_on(&listener, &node, UINT64_MAX, 0, NBT_LOST, &part.packet, &kind, out, &size), NBT_NO_MOMENT);
+    is_number("event", nbt_listener_on(&listener, &node, 9002, 0, 3, &part.packet, &kind, out, &size), NBT_NO_KIND);
+    is_number("unlisten", nbt_listener_unlisten(&listener, &entry.called), 0);
+    is_done("connected", 0, NBT_CONNECTED, 0, NBT_ANSWER_NOTHING, 0, 0);
+    is_done("nobody listens", 0, NBT_CAME, NBT_SESSION_REQUEST, NBT_ANSWER_SEND_AND_CLOSE, 5, 0x80);
+    for (size_t count = 0; count < 14; count++)
+        is_number("14", nbt_listener_listen(&listener, &entry), 0);
+    is_number("15", nbt_listener_listen(&listener, &entry), NBT_NO_ROOM);
+    entry.called.scope_size = 222;
+    is_number("no name", nbt_listener_listen(&listener, &entry), NBT_NO_NAME);
+    is_number("no name", nbt_listener_unlisten(&listener, &entry.called), NBT_NO_NAME);
+}
+
 int main(void) {
     void *room = aligned_alloc(nbt_caller_align(), nbt_caller_size());
     struct nbt_pieces pieces;
@@ -182,6 +264,11 @@ int main(void) {
     play_faults(&pieces);
     play_written(&pieces);
     play_call(room);
+    listener.memory = aligned_alloc(nbt_listener_align(), nbt_listener_size());
+    node.memory = aligned_alloc(nbt_node_align(), nbt_node_size());
+    play_listener();
+    free(listener.memory);
+    free(node.memory);
     free(memory);
     free(room);
     return tell_rows();

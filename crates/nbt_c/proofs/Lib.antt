@@ -6,6 +6,8 @@ mod Calling
 mod Forms
 -- Session packets in octets.
 mod Framed
+-- A listener sends no message.
+mod Listened
 -- The packets that data are split into have room.
 mod Packets
 -- The word of sixteen octets.

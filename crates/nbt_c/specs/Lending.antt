@@ -1,4 +1,4 @@
--- What a node, a server, a joiner, a stream or a call in C's memory ends as, once it is no longer lent.
+-- What a node, a server, a joiner, a stream, a call or a listener in C's memory ends as, once it is no longer lent.
 use Rattle.std.specs.Prelude.{Some}
 use Rattle.std.specs.Borrow.{Lends, MutBor, Fml}
 use Rattle.nbt_node.specs.Node.{NodeValue}
@@ -11,12 +11,15 @@ use Rattle.nbt_session.specs.Parts.{PiecesState}
 use Rattle.nbt_session.specs.Caller.{CallerValue}
 use Rattle.nbt_c.specs.declared.held.CPieces.{CPieces}
 use Rattle.nbt_c.specs.declared.held.CCaller.{CCaller}
+use Rattle.nbt_session.specs.Listener.{ListenerValue}
+use Rattle.nbt_c.specs.declared.held.CListener.{CListener}
 use Rattle.nbt_c.specs.contracts.held.CJoiner.{the_row as held_joiner}
 use Rattle.nbt_c.specs.contracts.held.CNode.{the_row}
 use Rattle.nbt_c.specs.contracts.held.CServer.{the_row as held_server}
 use Rattle.nbt_c.specs.contracts.held.CPieces.{the_row as held_pieces}
 use Rattle.nbt_c.specs.contracts.held.CCaller.{the_row as held_caller}
-use Rattle.nbt_c.specs.Memory.{node_row, server_row, joiner_row, pieces_row, caller_row}
+use Rattle.nbt_c.specs.contracts.held.CListener.{the_row as held_listener}
+use Rattle.nbt_c.specs.Memory.{node_row, server_row, joiner_row, pieces_row, caller_row, listener_row}
 
 abbrev pub with_node : CNode → NodeValue → CNode
 with_node held node = record held { node = Some node }
@@ -47,3 +50,9 @@ with_caller held caller = record held { caller = Some caller }
 
 abbrev pub LendsCaller : MutBor CCaller → MutBor CallerValue → Fml
 LendsCaller held caller = Lends held_caller caller_row held caller (with_caller held.now)
+
+abbrev pub with_listener : CListener → ListenerValue → CListener
+with_listener held listener = record held { listener = Some listener }
+
+abbrev pub LendsListener : MutBor CListener → MutBor ListenerValue → Fml
+LendsListener held listener = Lends held_listener listener_row held listener (with_listener held.now)

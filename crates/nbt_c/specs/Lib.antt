@@ -6,6 +6,7 @@ pub mod Events
 pub mod Framing
 pub mod Hearing
 pub mod Lending
+pub mod Listening
 pub mod Memory
 pub mod Names
 pub mod Naming

@@ -108,7 +108,7 @@ pub extern "C" fn nbt_caller_begin(
 }
 
 /// What happened, of what C passes.
-fn event_of(alloc: Global, happened: u8, packet: &CPacket) -> Result<Event, u8>
+pub(crate) fn event_of(alloc: Global, happened: u8, packet: &CPacket) -> Result<Event, u8>
     ensures event { IfOk result (λ event. IsEvent happened packet.now (event_value event)) }
     ensures fault { IfErr result (EventFault happened packet.now) }
 {

@@ -1,10 +1,10 @@
 //! Session packets that a program in C writes, without memory (RFC 1002 section 4.3).
 
-ghost use Rattle.std.specs.Prelude.{◌≡◌, ℕ, ◌<◌, ◌≤◌, ◌/◌, ◌%◌, List, ◌∷◌, length};
+ghost use Rattle.std.specs.Prelude.{◌≡◌, ◌≢◌, ℕ, ◌<◌, ◌≤◌, ◌/◌, ◌%◌, List, ◌∷◌, length};
 ghost use Rattle.nbt_session.specs.declared.fault.EncodeFault.TheVariants.{TooLong};
 ghost use Rattle.nbt_session.specs.declared.packet.PacketType.TheVariants.{Message};
 ghost use Rattle.nbt_session.specs.Numbers.{encode_fault_number};
-ghost use Rattle.nbt_session.specs.Packet.{header, request, retarget, text};
+ghost use Rattle.nbt_session.specs.Packet.{header, packet_of, request, retarget, text, type_of};
 ghost use Rattle.nbt_c.specs.Ends.{addr_of};
 ghost use Rattle.nbt_c.specs.Framing.{WritesPacket, WritesRequest};
 ghost use Rattle.nbt_c.specs.Sending.{Puts};
@@ -16,7 +16,7 @@ use crate::room::put_packet;
 use arrayvec::ArrayVec;
 use byteorder::{BigEndian, ByteOrder};
 use nbt_name::{Name, put_long, put_word};
-use nbt_session::EncodeFault;
+use nbt_session::{EncodeFault, Packet};
 
 /// The most octets of a message: what 17 bits of length can say (RFC 1002 section 4.3.1).
 const MESSAGE_MOST: usize = 0x1FFFF;
@@ -115,4 +115,19 @@ fn frame(kind: u8, body: &[u8], out: &mut ArrayVec<u8, 576>) -> u8
     out.try_extend_from_slice(&header).unwrap();
     out.try_extend_from_slice(body).unwrap();
     0
+}
+
+/// Leaves in `out` the text of a packet that is no message.
+pub(crate) fn put_text(packet: &Packet, out: &mut ArrayVec<u8, 576>)
+    requires { type_of (packet_of packet.now) ≢ Message }
+    ensures { out.new.items ≡ text (packet_of packet.now) }
+{
+    let _ = match packet {
+        Packet::Message(_) => 0,
+        Packet::Request { called, calling } => write_names(called, calling, out),
+        Packet::Positive => frame(POSITIVE, &[], out),
+        Packet::Negative(code) => frame(NEGATIVE, &[*code], out),
+        Packet::Retarget(to) => write_retarget(CAddr::of(*to), out),
+        Packet::KeepAlive => frame(KEEP_ALIVE, &[], out),
+    };
 }

@@ -1,4 +1,4 @@
-//! A node, a name server, a joiner of datagrams, a session's stream, or a call, in the memory of a program in C.
+//! A node, a name server, a joiner of datagrams, a session's stream, a call, or a listener, in the memory of a program in C.
 
 ghost use Rattle.std.specs.Prelude.{◌≡◌, Option, Some, IsSome, IsNone};
 ghost use Rattle.std.specs.Borrow.{sem};
@@ -6,12 +6,13 @@ ghost use Rattle.nbt_dgram.specs.Joiner.{JoinerValue};
 ghost use Rattle.nbt_node.specs.Node.{NodeValue};
 ghost use Rattle.nbt_server.specs.Serving.{ServerValue};
 ghost use Rattle.nbt_session.specs.Caller.{CallerValue};
+ghost use Rattle.nbt_session.specs.Listener.{ListenerValue};
 ghost use Rattle.nbt_session.specs.Parts.{PiecesState};
 
 use nbt_dgram::Joiner;
 use nbt_node::Node;
 use nbt_server::Server;
-use nbt_session::{Caller, Pieces};
+use nbt_session::{Caller, Listener, Pieces};
 use std::marker::Model;
 
 /// A node in C's memory: where the memory is, and, as far as contracts see, which node stands there, if any. Before a node is
@@ -195,5 +196,40 @@ impl CCaller {
         ensures value { self.old.caller ≡ Some result.now }
     {
         unsafe { &mut *(self.at as *mut Caller) }
+    }
+}
+
+/// A listener in C's memory: where the memory is, and, as far as contracts see, which listener stands there, if any. Before
+/// one is started the memory is room for it.
+#[repr(C)]
+pub struct CListener {
+    at: *mut u8,
+    ghost listener: { Option ListenerValue },
+}
+
+impl Model for CListener {
+    ghost use Rattle.nbt_c.specs.Memory.{rests_at, listener_row};
+
+    ghost also_owns = { λ h. rests_at listener_row h.at h.listener };
+}
+
+impl CListener {
+    ghost use Rattle.nbt_c.specs.Lending.{LendsListener};
+
+    /// Puts a listener into the room.
+    pub(crate) fn put(&mut self, listener: Listener<14, 8>)
+        requires { IsNone self.old.listener }
+        ensures { self.new.listener ≡ Some listener }
+    {
+        unsafe { (self.at as *mut Listener<14, 8>).write(listener) };
+    }
+
+    /// The listener that stands there.
+    pub(crate) fn get(&mut self) -> &mut Listener<14, 8>
+        requires { IsSome self.old.listener }
+        ensures* writes_back { sem 𝓛 (LendsListener self.entry result) }
+        ensures value { self.old.listener ≡ Some result.now }
+    {
+        unsafe { &mut *(self.at as *mut Listener<14, 8>) }
     }
 }
