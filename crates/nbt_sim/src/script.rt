@@ -43,13 +43,13 @@ fn play_line(
 {
     match parse_line(alloc, line)? {
         Line::Blank => Ok(true),
-        Line::Says(instruction) => does(alloc, stage, &instruction, out),
+        Line::Says(instruction) => follow(alloc, stage, &instruction, out),
         Line::Unreadable => Ok(false),
     }
 }
 
 /// Does what a line asks for, and appends what it prints. Returns whether it can be done.
-fn does(
+pub fn follow(
     alloc: Global,
     stage: &mut Option<ScriptWorld>,
     instruction: &Instruction,

@@ -1,0 +1,46 @@
+-- The shapes of a picture as elements of an SVG document (SVG 1.1 sections 9 and 10).
+use Rattle.std.specs.Prelude.{ℕ, List, [], ◌++◌, codes}
+use Rattle.std.specs.Fmt.{decimal}
+use Rattle.nbt_draw.specs.declared.shapes.Class.{Class}
+use Rattle.nbt_draw.specs.declared.shapes.Class.TheVariants as c
+use Rattle.nbt_draw.specs.declared.shapes.Shape.{Shape}
+use Rattle.nbt_draw.specs.declared.shapes.Shape.TheVariants as s
+use Rattle.nbt_draw.specs.Escaping.{written}
+
+-- what a class is called; a colour is a number
+abbrev pub class_text : Class → List ℕ
+class_text c.Page = codes "page"
+class_text c.Band = codes "band"
+class_text c.Time = codes "time"
+class_text c.Silence = codes "silence"
+class_text c.Column = codes "column"
+class_text (c.Hold colour) = codes "hold c" ++ decimal colour
+class_text (c.GroupHold colour) = codes "hold g" ++ decimal colour
+class_text (c.Lease colour) = codes "lease c" ++ decimal colour
+class_text (c.GroupLease colour) = codes "lease dashed c" ++ decimal colour
+class_text c.Arrow = codes "arrow"
+class_text c.Stray = codes "stray"
+class_text c.Cross = codes "cross"
+class_text c.Dot = codes "dot"
+class_text c.Words = codes "words"
+class_text c.Side = codes "side"
+class_text c.Heading = codes "heading"
+
+-- an attribute whose value is a number
+abbrev pub attribute : (name : List ℕ) → ℕ → List ℕ
+attribute name value = codes " " ++ name ++ codes "=\"" ++ decimal value ++ codes "\""
+
+abbrev pub class_attribute : Class → List ℕ
+class_attribute class = codes " class=\"" ++ class_text class ++ codes "\""
+
+-- a shape's element, on a line of its own
+abbrev pub shape_text : Shape → List ℕ
+shape_text (s.Block class x y width height) = codes "<rect" ++ class_attribute class ++ attribute (codes "x") x ++ attribute (codes "y") y
+    ++ attribute (codes "width") width ++ attribute (codes "height") height ++ codes "/>\n"
+shape_text (s.Line class x y to_x to_y) = codes "<line" ++ class_attribute class ++ attribute (codes "x1") x ++ attribute (codes "y1") y
+    ++ attribute (codes "x2") to_x ++ attribute (codes "y2") to_y ++ codes "/>\n"
+shape_text (s.Round class x y) = codes "<circle" ++ class_attribute class ++ attribute (codes "cx") x ++ attribute (codes "cy") y ++ codes " r=\"4\"/>\n"
+shape_text (s.Text class x y words) = codes "<text" ++ class_attribute class ++ attribute (codes "x") x ++ attribute (codes "y") y
+    ++ codes ">" ++ written words.now ++ codes "</text>\n"
+shape_text (s.Upright class x y words) = codes "<text" ++ class_attribute class ++ codes " transform=\"translate(" ++ decimal x ++ codes " " ++ decimal y
+    ++ codes ") rotate(90)\">" ++ written words.now ++ codes "</text>\n"

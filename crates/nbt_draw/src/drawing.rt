@@ -1,0 +1,63 @@
+//! A script as a picture.
+
+use crate::chart::Chart;
+use crate::picture::write_picture;
+use crate::watching::{finish, watch};
+use nbt_sim::{Line, ScriptWorld, follow, parse_line};
+use nbt_text::lines_of;
+use std::alloc::{AllocError, Global};
+
+/// Appends the picture of a script: an SVG document. A script's lines are played as `nbt_sim::play` plays them. The first one
+/// that can't be read, or asks for what can't be done, ends the script: its number is returned, counted from 1 and with the
+/// blank ones among them, and the picture shows what came before it. `None` where there was none. `AllocError` only where
+/// memory was refused; to a server, memory refused is a datagram lost.
+pub fn draw(script: &[u8], out: &mut String) -> Result<Option<usize>, AllocError> {
+    let alloc = *out.allocator();
+    let mut chart = Chart::new(alloc);
+    let stopped = chart_script(alloc, script, &mut chart)?;
+    write_picture(alloc, &chart, out)?;
+    Ok(stopped)
+}
+
+/// Keeps what the lines of a script do. Returns the number of the line that ends it, if one does.
+fn chart_script(
+    alloc: Global,
+    script: &[u8],
+    chart: &mut Chart,
+) -> Result<Option<usize>, AllocError> {
+    let lines = lines_of(alloc, script)?;
+    let mut stage = None;
+    let mut stopped = None;
+    'lines: for (index, line) in lines.iter().enumerate() {
+        if !chart_line(alloc, line, &mut stage, chart)? {
+            stopped = Some(index + 1);
+            break 'lines;
+        }
+    }
+    if let Some(stage) = &stage {
+        finish(alloc, chart, &stage.world)?;
+    }
+    Ok(stopped)
+}
+
+/// Does what a line says, and keeps it. Returns whether it can be read, and done.
+fn chart_line(
+    alloc: Global,
+    line: &[u8],
+    stage: &mut Option<ScriptWorld>,
+    chart: &mut Chart,
+) -> Result<bool, AllocError> {
+    let instruction = match parse_line(alloc, line)? {
+        Line::Blank => return Ok(true),
+        Line::Unreadable => return Ok(false),
+        Line::Says(instruction) => instruction,
+    };
+    let mut printed = String::new(alloc);
+    if !follow(alloc, stage, &instruction, &mut printed)? {
+        return Ok(false);
+    }
+    if let Some(stage) = stage {
+        watch(alloc, chart, &instruction, &stage.world, printed.as_str())?;
+    }
+    Ok(true)
+}
