@@ -158,10 +158,10 @@ impl Layout {
         }
     }
 
-    /// Where an end's own clock reads so many milliseconds: in the band above the first row at which it reads more, as far down
-    /// as it is from the reading before to the one after; or where the columns end.
+    /// Where an end's own clock comes to so many milliseconds: in the band above the first row at which it has come there, as far
+    /// down as it is from the reading before to the one after; or where the columns end.
     fn moment(&self, rows: &[Row], column: usize, reading: u64) -> u64 {
-        let next = first_after(rows, column, reading);
+        let next = first_from(rows, column, reading);
         let Some(place) = self.places.as_slice().get(next) else {
             return self.foot;
         };
@@ -183,13 +183,13 @@ fn reading_at(rows: &[Row], column: usize, number: usize) -> u64 {
     }
 }
 
-/// The number of the first row at which an end reads more than this, by halves; that of the rows where there is none.
-fn first_after(rows: &[Row], column: usize, reading: u64) -> usize {
+/// The number of the first row at which an end reads this or more, by halves; how many rows there are where there is none.
+fn first_from(rows: &[Row], column: usize, reading: u64) -> usize {
     let mut low = 0;
     let mut high = rows.len();
     'halves: while low < high {
         let middle = low + (high - low) / 2;
-        if reading_at(rows, column, middle) > reading {
+        if reading_at(rows, column, middle) >= reading {
             high = middle;
         } else {
             low = middle + 1;

@@ -7,13 +7,9 @@
 
 mod chart;
 mod drawing;
-mod escaping;
 mod layout;
-pub mod laws;
-mod palette;
 mod picture;
 mod said;
-mod shapes;
 mod watching;
 
 pub use drawing::draw;

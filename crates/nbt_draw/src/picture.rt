@@ -4,9 +4,8 @@ use crate::chart::{Chart, Flight, Row, Sign, Sort, Span};
 use crate::layout::{
     BAND, Layout, NAMES_IN_LINE, NAMES_LINE, NAMES_TOP, ROW, flight_of, goes_right, lay_out,
 };
-use crate::palette::{COLOURS, HEAD, LOOKS, TAIL, VIEW, WIDTH};
-use crate::shapes::{Class, Shape, write_shape};
 use nbt_name::{Kind, Name};
+use nbt_svg::{COLOURS, Class, Shape, WIDTH, write_head, write_shape, write_tail};
 use nbt_text::{write_address, write_name};
 use std::alloc::{AllocError, Global};
 
@@ -14,11 +13,7 @@ use std::alloc::{AllocError, Global};
 pub fn write_picture(alloc: Global, chart: &Chart, out: &mut String) -> Result<(), AllocError> {
     let layout = lay_out(alloc, chart)?;
     let height = layout.foot.saturating_add(ROW);
-    out.push_str(HEAD)?;
-    write!(out, "{height}")?;
-    out.push_str(VIEW)?;
-    write!(out, "{height}")?;
-    out.push_str(LOOKS)?;
+    write_head(height, out)?;
     write_block(Class::Page, 0, 0, WIDTH, height, out)?;
     write_bands(alloc, chart, &layout, out)?;
     for span in chart.spans.iter() {
@@ -31,7 +26,7 @@ pub fn write_picture(alloc: Global, chart: &Chart, out: &mut String) -> Result<(
         write_row(chart, &layout, number, row, out)?;
     }
     write_top(alloc, chart, &layout, out)?;
-    out.push_str(TAIL)
+    write_tail(out)
 }
 
 fn write_block(
@@ -256,7 +251,7 @@ fn write_span(
     let x = layout.x(span.column);
     match span.sort {
         Sort::Up => write_line(Class::Column, x, y, x, to_y, out),
-        Sort::Silence => write_block(Class::Silence, x.saturating_add(3), y, 6, height, out),
+        Sort::Silence => write_block(Class::Silence, x.saturating_sub(5), y, 10, height, out),
         Sort::Hold => {
             let left = lane_x(layout, span);
             write_block(hold_class(span), left, y, 8, height, out)?;

@@ -204,12 +204,11 @@ fn start(
     }
     put(chart, number, Sign::Start, words, None, world)?;
     let from = chart.last_row();
-    chart.begin(lasting(number, Sort::Up, 0, from))?;
     if number == 0 {
         let over = world.reading(0).get().saturating_add(chart.silence);
         chart.begin(lasting(0, Sort::Silence, over, from))?;
     }
-    Ok(())
+    chart.begin(lasting(number, Sort::Up, 0, from))
 }
 
 /// Something that lasts from here on and has no name.

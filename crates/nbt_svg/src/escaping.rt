@@ -2,7 +2,7 @@
 
 ghost use Rattle.std.specs.Prelude.{◌≡◌, ◌++◌, OnOk};
 ghost use Rattle.std.specs.String.{string_bytes};
-ghost use Rattle.nbt_draw.specs.Escaping.{written, written_octet};
+ghost use Rattle.nbt_svg.specs.Escaping.{written, written_octet};
 
 use std::alloc::AllocError;
 

@@ -6,9 +6,6 @@
 /// How many colours there are: the seventh name has the first one's again.
 pub const COLOURS: usize = 6;
 
-/// The width of a picture.
-pub const WIDTH: u64 = 1200;
-
 /// What stands before the height, the height again, and the shapes.
 pub const HEAD: &str = "\
 <?xml version=\"1.0\" encoding=\"UTF-8\"?>
@@ -63,6 +60,3 @@ pub const LOOKS: &str = "\" font-family=\"sans-serif\" font-size=\"12\">
 <pattern id=\"g5\" width=\"5\" height=\"5\" patternUnits=\"userSpaceOnUse\" patternTransform=\"rotate(45)\"><rect width=\"2\" height=\"5\" fill=\"#56b4e9\"/></pattern>
 </defs>
 ";
-
-/// What stands after the shapes.
-pub const TAIL: &str = "</svg>\n";

@@ -3,7 +3,7 @@
 
 ghost use Rattle.std.specs.Prelude.{◌≡◌, ◌++◌, OnOk};
 ghost use Rattle.std.specs.String.{string_bytes};
-ghost use Rattle.nbt_draw.specs.Shapes.{class_text, shape_text};
+ghost use Rattle.nbt_svg.specs.Shapes.{class_text, shape_text};
 
 use crate::escaping::write_escaped;
 use std::alloc::AllocError;

@@ -1,11 +1,11 @@
 -- The shapes of a picture as elements of an SVG document (SVG 1.1 sections 9 and 10).
 use Rattle.std.specs.Prelude.{ℕ, List, [], ◌++◌, codes}
 use Rattle.std.specs.Fmt.{decimal}
-use Rattle.nbt_draw.specs.declared.shapes.Class.{Class}
-use Rattle.nbt_draw.specs.declared.shapes.Class.TheVariants as c
-use Rattle.nbt_draw.specs.declared.shapes.Shape.{Shape}
-use Rattle.nbt_draw.specs.declared.shapes.Shape.TheVariants as s
-use Rattle.nbt_draw.specs.Escaping.{written}
+use Rattle.nbt_svg.specs.declared.shape.Class.{Class}
+use Rattle.nbt_svg.specs.declared.shape.Class.TheVariants as c
+use Rattle.nbt_svg.specs.declared.shape.Shape.{Shape}
+use Rattle.nbt_svg.specs.declared.shape.Shape.TheVariants as s
+use Rattle.nbt_svg.specs.Escaping.{written}
 
 -- what a class is called; a colour is a number
 abbrev pub class_text : Class → List ℕ
@@ -44,3 +44,7 @@ shape_text (s.Text class x y words) = codes "<text" ++ class_attribute class ++ 
     ++ codes ">" ++ written words.now ++ codes "</text>\n"
 shape_text (s.Upright class x y words) = codes "<text" ++ class_attribute class ++ codes " transform=\"translate(" ++ decimal x ++ codes " " ++ decimal y
     ++ codes ") rotate(90)\">" ++ written words.now ++ codes "</text>\n"
+
+-- what stands after the shapes
+abbrev pub tail_text : List ℕ
+tail_text = codes "</svg>\n"
