@@ -26,23 +26,16 @@ class_text c.Words = codes "words"
 class_text c.Side = codes "side"
 class_text c.Heading = codes "heading"
 
--- an attribute whose value is a number
-abbrev pub attribute : (name : List ℕ) → ℕ → List ℕ
-attribute name value = codes " " ++ name ++ codes "=\"" ++ decimal value ++ codes "\""
-
-abbrev pub class_attribute : Class → List ℕ
-class_attribute class = codes " class=\"" ++ class_text class ++ codes "\""
-
 -- a shape's element, on a line of its own
 abbrev pub shape_text : Shape → List ℕ
-shape_text (s.Block class x y width height) = codes "<rect" ++ class_attribute class ++ attribute (codes "x") x ++ attribute (codes "y") y
-    ++ attribute (codes "width") width ++ attribute (codes "height") height ++ codes "/>\n"
-shape_text (s.Line class x y to_x to_y) = codes "<line" ++ class_attribute class ++ attribute (codes "x1") x ++ attribute (codes "y1") y
-    ++ attribute (codes "x2") to_x ++ attribute (codes "y2") to_y ++ codes "/>\n"
-shape_text (s.Round class x y) = codes "<circle" ++ class_attribute class ++ attribute (codes "cx") x ++ attribute (codes "cy") y ++ codes " r=\"4\"/>\n"
-shape_text (s.Text class x y words) = codes "<text" ++ class_attribute class ++ attribute (codes "x") x ++ attribute (codes "y") y
-    ++ codes ">" ++ written words.now ++ codes "</text>\n"
-shape_text (s.Upright class x y words) = codes "<text" ++ class_attribute class ++ codes " transform=\"translate(" ++ decimal x ++ codes " " ++ decimal y
+shape_text (s.Block class x y width height) = codes "<rect class=\"" ++ class_text class ++ codes "\" x=\"" ++ decimal x ++ codes "\" y=\"" ++ decimal y
+    ++ codes "\" width=\"" ++ decimal width ++ codes "\" height=\"" ++ decimal height ++ codes "\"/>\n"
+shape_text (s.Line class x y to_x to_y) = codes "<line class=\"" ++ class_text class ++ codes "\" x1=\"" ++ decimal x ++ codes "\" y1=\"" ++ decimal y
+    ++ codes "\" x2=\"" ++ decimal to_x ++ codes "\" y2=\"" ++ decimal to_y ++ codes "\"/>\n"
+shape_text (s.Round class x y) = codes "<circle class=\"" ++ class_text class ++ codes "\" cx=\"" ++ decimal x ++ codes "\" cy=\"" ++ decimal y ++ codes "\" r=\"4\"/>\n"
+shape_text (s.Text class x y words) = codes "<text class=\"" ++ class_text class ++ codes "\" x=\"" ++ decimal x ++ codes "\" y=\"" ++ decimal y ++ codes "\">"
+    ++ written words.now ++ codes "</text>\n"
+shape_text (s.Upright class x y words) = codes "<text class=\"" ++ class_text class ++ codes "\" transform=\"translate(" ++ decimal x ++ codes " " ++ decimal y
     ++ codes ") rotate(90)\">" ++ written words.now ++ codes "</text>\n"
 
 -- what stands after the shapes

@@ -155,7 +155,8 @@ fn write_block(
 {
     out.push_str("<rect class=\"")?;
     write_class(class, out)?;
-    writeln!(out, "\" x=\"{x}\" y=\"{y}\" width=\"{width}\" height=\"{height}\"/>")
+    write!(out, "\" x=\"{x}\" y=\"{y}\" width=\"{width}\" height=\"{height}")?;
+    out.push_str("\"/>\n")
 }
 
 fn write_line(
@@ -170,7 +171,8 @@ fn write_line(
 {
     out.push_str("<line class=\"")?;
     write_class(class, out)?;
-    writeln!(out, "\" x1=\"{x}\" y1=\"{y}\" x2=\"{to_x}\" y2=\"{to_y}\"/>")
+    write!(out, "\" x1=\"{x}\" y1=\"{y}\" x2=\"{to_x}\" y2=\"{to_y}")?;
+    out.push_str("\"/>\n")
 }
 
 fn write_round(class: Class, x: u64, y: u64, out: &mut String) -> Result<(), AllocError>
@@ -178,7 +180,8 @@ fn write_round(class: Class, x: u64, y: u64, out: &mut String) -> Result<(), All
 {
     out.push_str("<circle class=\"")?;
     write_class(class, out)?;
-    writeln!(out, "\" cx=\"{x}\" cy=\"{y}\" r=\"4\"/>")
+    write!(out, "\" cx=\"{x}\" cy=\"{y}")?;
+    out.push_str("\" r=\"4\"/>\n")
 }
 
 fn write_text(
