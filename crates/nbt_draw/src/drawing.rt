@@ -1,8 +1,7 @@
 //! A script as a picture.
 
-use crate::chart::Chart;
-use crate::picture::write_picture;
 use crate::watching::{finish, watch};
+use nbt_chart::{Chart, write_picture};
 use nbt_sim::{Line, ScriptWorld, follow, parse_line};
 use nbt_text::lines_of;
 use std::alloc::{AllocError, Global};

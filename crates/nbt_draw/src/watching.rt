@@ -1,7 +1,7 @@
 //! What a chart keeps of each line of a script.
 
-use crate::chart::{Chart, ENDS_MOST, Flight, Row, Sign, Sort, Span, Spot};
 use crate::said::{claimed_in, write_ask, write_doing, write_said};
+use nbt_chart::{Chart, ENDS_MOST, Flight, Row, Sign, Sort, Span, Spot};
 use nbt_lease::{Config, Lease, Moment};
 use nbt_name::{Addr, Kind, Name};
 use nbt_node::Node;
