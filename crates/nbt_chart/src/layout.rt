@@ -110,10 +110,10 @@ pub fn flight_of<'a>(row: &Row, flights: &'a [Flight]) -> Option<&'a Flight> {
     flights.get(row.sends?)
 }
 
-/// Whether a datagram goes to the right: to an end of a greater number, or to the edge.
+/// Whether a datagram goes to the right: to an end of a greater number, to the edge, or around to the end that sent it.
 pub fn goes_right(flight: &Flight) -> bool {
     match flight.to {
-        Some(to) => flight.from < to,
+        Some(to) => flight.from <= to,
         None => true,
     }
 }

@@ -1,5 +1,9 @@
 //! A chart as an SVG document.
 
+ghost use Rattle.std.specs.Prelude.{OnOk};
+ghost use Rattle.std.specs.String.{string_bytes};
+ghost use Rattle.nbt_chart.specs.Picture.{Draws};
+
 use crate::chart::{Chart, Flight, Row, Sign, Sort, Span};
 use crate::layout::{
     BAND, Layout, NAMES_IN_LINE, NAMES_LINE, NAMES_TOP, ROW, flight_of, goes_right, lay_out,
@@ -36,7 +40,9 @@ fn write_block(
     width: u64,
     height: u64,
     out: &mut String,
-) -> Result<(), AllocError> {
+) -> Result<(), AllocError>
+    ensures { OnOk result (Draws (string_bytes out.old) (string_bytes out.new)) }
+{
     write_shape(
         &Shape::Block {
             class,
@@ -56,7 +62,9 @@ fn write_line(
     to_x: u64,
     to_y: u64,
     out: &mut String,
-) -> Result<(), AllocError> {
+) -> Result<(), AllocError>
+    ensures { OnOk result (Draws (string_bytes out.old) (string_bytes out.new)) }
+{
     write_shape(
         &Shape::Line {
             class,
@@ -75,7 +83,9 @@ fn write_text(
     y: u64,
     words: &[u8],
     out: &mut String,
-) -> Result<(), AllocError> {
+) -> Result<(), AllocError>
+    ensures { OnOk result (Draws (string_bytes out.old) (string_bytes out.new)) }
+{
     write_shape(
         &Shape::Text {
             class,
@@ -91,7 +101,9 @@ fn write_text(
 const ARM: u64 = 5;
 
 /// Appends a cross.
-fn write_cross(x: u64, y: u64, out: &mut String) -> Result<(), AllocError> {
+fn write_cross(x: u64, y: u64, out: &mut String) -> Result<(), AllocError>
+    ensures { OnOk result (Draws (string_bytes out.old) (string_bytes out.new)) }
+{
     let left = x.saturating_sub(ARM);
     let right = x.saturating_add(ARM);
     let above = y.saturating_sub(ARM);
@@ -109,7 +121,9 @@ fn write_top(
     chart: &Chart,
     layout: &Layout,
     out: &mut String,
-) -> Result<(), AllocError> {
+) -> Result<(), AllocError>
+    ensures { OnOk result (Draws (string_bytes out.old) (string_bytes out.new)) }
+{
     write_text(Class::Heading, 10, 22, b"A run of nbt sim", out)?;
     write_text(Class::Time, 10, 42, KEY, out)?;
     for (place, name) in chart.names.iter().enumerate() {
@@ -130,7 +144,9 @@ fn write_name_key(
     place: usize,
     name: &Name,
     out: &mut String,
-) -> Result<(), AllocError> {
+) -> Result<(), AllocError>
+    ensures { OnOk result (Draws (string_bytes out.old) (string_bytes out.new)) }
+{
     let x = ((place % NAMES_IN_LINE) as u64).saturating_mul(NAMES_STEP).saturating_add(10);
     let y = ((place / NAMES_IN_LINE) as u64).saturating_mul(NAMES_LINE).saturating_add(NAMES_TOP);
     write_block(Class::Hold(colour_of(place)), x, y.saturating_sub(10), 14, 10, out)?;
@@ -151,7 +167,9 @@ fn write_end(
     layout: &Layout,
     number: usize,
     out: &mut String,
-) -> Result<(), AllocError> {
+) -> Result<(), AllocError>
+    ensures { OnOk result (Draws (string_bytes out.old) (string_bytes out.new)) }
+{
     let x = layout.x(number).saturating_sub(30);
     let y = layout.head;
     let mut words = String::new(alloc);
@@ -174,7 +192,9 @@ fn write_bands(
     chart: &Chart,
     layout: &Layout,
     out: &mut String,
-) -> Result<(), AllocError> {
+) -> Result<(), AllocError>
+    ensures { OnOk result (Draws (string_bytes out.old) (string_bytes out.new)) }
+{
     for (number, row) in chart.rows.iter().enumerate() {
         let Some(place) = layout.places.as_slice().get(number) else {
             return Ok(());
@@ -194,7 +214,9 @@ fn write_band(
     row: &Row,
     band: u64,
     out: &mut String,
-) -> Result<(), AllocError> {
+) -> Result<(), AllocError>
+    ensures { OnOk result (Draws (string_bytes out.old) (string_bytes out.new)) }
+{
     write_block(Class::Band, 0, band, WIDTH, BAND, out)?;
     let y = band.saturating_add(15);
     write_moment(alloc, row.clock, 10, y, out)?;
@@ -214,7 +236,9 @@ fn write_moment(
     x: u64,
     y: u64,
     out: &mut String,
-) -> Result<(), AllocError> {
+) -> Result<(), AllocError>
+    ensures { OnOk result (Draws (string_bytes out.old) (string_bytes out.new)) }
+{
     let seconds = ms / 1000;
     let rest = ms % 1000;
     let words = format!(in alloc; "{seconds}.{rest:03} s")?;
@@ -241,7 +265,9 @@ fn write_span(
     layout: &Layout,
     span: &Span,
     out: &mut String,
-) -> Result<(), AllocError> {
+) -> Result<(), AllocError>
+    ensures { OnOk result (Draws (string_bytes out.old) (string_bytes out.new)) }
+{
     let y = layout.spot(chart, span.column, span.from);
     let to_y = match span.to {
         Some(to) => layout.spot(chart, span.column, to),
@@ -289,7 +315,9 @@ fn write_side(
     x: u64,
     y: u64,
     out: &mut String,
-) -> Result<(), AllocError> {
+) -> Result<(), AllocError>
+    ensures { OnOk result (Draws (string_bytes out.old) (string_bytes out.new)) }
+{
     let mut words = String::new(alloc);
     if let Some(name) = chart.names.as_slice().get(span.name) {
         write_name(name, &mut words)?;
@@ -300,7 +328,7 @@ fn write_side(
     write_shape(
         &Shape::Upright {
             class: Class::Side,
-            x: x.saturating_sub(9),
+            x: x.saturating_sub(11),
             y: y.saturating_add(4),
             words: words.as_bytes(),
         },
@@ -323,7 +351,9 @@ fn write_lines(
     number: usize,
     row: &Row,
     out: &mut String,
-) -> Result<(), AllocError> {
+) -> Result<(), AllocError>
+    ensures { OnOk result (Draws (string_bytes out.old) (string_bytes out.new)) }
+{
     let x = layout.x(row.column);
     let y = layout.y(number);
     match row.sign {
@@ -356,7 +386,9 @@ fn write_flight(
     x: u64,
     y: u64,
     out: &mut String,
-) -> Result<(), AllocError> {
+) -> Result<(), AllocError>
+    ensures { OnOk result (Draws (string_bytes out.old) (string_bytes out.new)) }
+{
     let Some(flight) = chart.flights.as_slice().get(flight) else {
         return Ok(());
     };
@@ -379,7 +411,9 @@ fn write_loss(
     x: u64,
     y: u64,
     out: &mut String,
-) -> Result<(), AllocError> {
+) -> Result<(), AllocError>
+    ensures { OnOk result (Draws (string_bytes out.old) (string_bytes out.new)) }
+{
     let Some(flight) = chart.flights.as_slice().get(flight) else {
         return Ok(());
     };
@@ -408,7 +442,9 @@ fn write_miss(
     x: u64,
     y: u64,
     out: &mut String,
-) -> Result<(), AllocError> {
+) -> Result<(), AllocError>
+    ensures { OnOk result (Draws (string_bytes out.old) (string_bytes out.new)) }
+{
     if let Some(flight) = chart.flights.as_slice().get(flight) {
         let from_x = layout.x(flight.from);
         let from_y = layout.departure(flight);
@@ -421,7 +457,9 @@ fn write_miss(
 const STUB: u64 = 60;
 
 /// Appends the way of a datagram that is never delivered, with its words; one for an address that is no end's leads to the edge.
-fn write_stub(layout: &Layout, flight: &Flight, out: &mut String) -> Result<(), AllocError> {
+fn write_stub(layout: &Layout, flight: &Flight, out: &mut String) -> Result<(), AllocError>
+    ensures { OnOk result (Draws (string_bytes out.old) (string_bytes out.new)) }
+{
     let x = layout.x(flight.from);
     let y = layout.departure(flight);
     let to_y = y.saturating_add(ROW - 6);
@@ -454,7 +492,9 @@ fn write_row(
     number: usize,
     row: &Row,
     out: &mut String,
-) -> Result<(), AllocError> {
+) -> Result<(), AllocError>
+    ensures { OnOk result (Draws (string_bytes out.old) (string_bytes out.new)) }
+{
     let x = layout.x(row.column);
     let y = layout.y(number);
     match row.sign {
@@ -463,11 +503,14 @@ fn write_row(
         Sign::Crash => write_cross(x, y, out)?,
         _ => {}
     }
+    let words_x = x.saturating_add(if comes_from_itself(chart, row) { LOOP + 10 } else { 10 });
     let words_y = y.saturating_add(if comes_from_the_right(chart, row) { 15 } else { 4 });
-    write_text(Class::Words, x.saturating_add(10), words_y, row.words.as_bytes(), out)
+    write_text(Class::Words, words_x, words_y, row.words.as_bytes(), out)
 }
 
-fn write_dot(x: u64, y: u64, out: &mut String) -> Result<(), AllocError> {
+fn write_dot(x: u64, y: u64, out: &mut String) -> Result<(), AllocError>
+    ensures { OnOk result (Draws (string_bytes out.old) (string_bytes out.new)) }
+{
     write_shape(
         &Shape::Round {
             class: Class::Dot,
@@ -478,18 +521,30 @@ fn write_dot(x: u64, y: u64, out: &mut String) -> Result<(), AllocError> {
     )
 }
 
+/// The end that sent the datagram that comes in this row, if an end's datagram does.
+fn sender_of(chart: &Chart, row: &Row) -> Option<usize> {
+    let number = match row.sign {
+        Sign::Arrival(number) => number,
+        Sign::Loss(number) => number,
+        Sign::Miss(number) => number,
+        _ => return None,
+    };
+    Some(chart.flights.as_slice().get(number)?.from)
+}
+
 /// Whether a datagram comes in this row from the right of its column: then the words stand below its line.
 fn comes_from_the_right(chart: &Chart, row: &Row) -> bool {
-    let flight = match row.sign {
-        Sign::Arrival(flight) => flight,
-        Sign::Loss(flight) => flight,
-        Sign::Miss(flight) => flight,
-        Sign::StrangerArrival => return true,
-        Sign::StrangerMiss => return true,
-        _ => return false,
-    };
-    match chart.flights.as_slice().get(flight) {
-        Some(flight) => flight.from > row.column,
-        None => false,
+    match row.sign {
+        Sign::StrangerArrival => true,
+        Sign::StrangerMiss => true,
+        _ => match sender_of(chart, row) {
+            Some(from) => from > row.column,
+            None => false,
+        },
     }
+}
+
+/// Whether a datagram comes in this row from the end itself: then the words stand beside its way.
+fn comes_from_itself(chart: &Chart, row: &Row) -> bool {
+    sender_of(chart, row) == Some(row.column)
 }

@@ -1,5 +1,10 @@
 //! A script as a picture.
 
+ghost use Rattle.std.specs.Prelude.{ℕ, List, IfOk};
+ghost use Rattle.nbt_text.specs.Lines.{lines};
+ghost use Rattle.nbt_sim.specs.ScriptWorld.{PlaysLine, world_of};
+ghost use Rattle.nbt_draw.specs.Drawing.{EndsAt};
+
 use crate::watching::{finish, watch};
 use nbt_chart::{Chart, write_picture};
 use nbt_sim::{Line, ScriptWorld, follow, parse_line};
@@ -10,7 +15,9 @@ use std::alloc::{AllocError, Global};
 /// that can't be read, or asks for what can't be done, ends the script: its number is returned, counted from 1 and with the
 /// blank ones among them, and the picture shows what came before it. `None` where there was none. `AllocError` only where
 /// memory was refused; to a server, memory refused is a datagram lost.
-pub fn draw(script: &[u8], out: &mut String) -> Result<Option<usize>, AllocError> {
+pub fn draw(script: &[u8], out: &mut String) -> Result<Option<usize>, AllocError>
+    ensures { IfOk result (EndsAt (lines script.now)) }
+{
     let alloc = *out.allocator();
     let mut chart = Chart::new(alloc);
     let stopped = chart_script(alloc, script, &mut chart)?;
@@ -23,20 +30,27 @@ fn chart_script(
     alloc: Global,
     script: &[u8],
     chart: &mut Chart,
-) -> Result<Option<usize>, AllocError> {
+) -> Result<Option<usize>, AllocError>
+    ensures { IfOk result (EndsAt (lines script.now)) }
+{
     let lines = lines_of(alloc, script)?;
     let mut stage = None;
-    let mut stopped = None;
     'lines: for (index, line) in lines.iter().enumerate() {
         if !chart_line(alloc, line, &mut stage, chart)? {
-            stopped = Some(index + 1);
-            break 'lines;
+            close(alloc, chart, &stage)?;
+            return Ok(Some(index + 1));
         }
     }
-    if let Some(stage) = &stage {
-        finish(alloc, chart, &stage.world)?;
+    close(alloc, chart, &stage)?;
+    Ok(None)
+}
+
+/// Keeps what was over by the end of the script.
+fn close(alloc: Global, chart: &mut Chart, stage: &Option<ScriptWorld>) -> Result<(), AllocError> {
+    match stage {
+        Some(stage) => finish(alloc, chart, &stage.world),
+        None => Ok(()),
     }
-    Ok(stopped)
 }
 
 /// Does what a line says, and keeps it. Returns whether it can be read, and done.
@@ -45,7 +59,9 @@ fn chart_line(
     line: &[u8],
     stage: &mut Option<ScriptWorld>,
     chart: &mut Chart,
-) -> Result<bool, AllocError> {
+) -> Result<bool, AllocError>
+    ensures { IfOk result (λ well. (text : List ℕ) × PlaysLine (world_of stage.old) line.now well (world_of stage.new) text) }
+{
     let instruction = match parse_line(alloc, line)? {
         Line::Blank => return Ok(true),
         Line::Unreadable => return Ok(false),

@@ -4,7 +4,7 @@ ghost use Rattle.std.specs.Prelude.{◌≡◌, ◌++◌, ℕ, List, [], None, Ma
 ghost use Rattle.std.specs.String.{string_bytes};
 ghost use Rattle.nbt_text.specs.Lines.{lines};
 ghost use Rattle.nbt_sim.specs.Script.{LineDoes, Fits, Plays};
-ghost use Rattle.nbt_sim.specs.Inner.ScriptWorld.{PlaysLine, world_of};
+ghost use Rattle.nbt_sim.specs.ScriptWorld.{PlaysLine, world_of};
 
 use crate::instruction::{Instruction, Line, parse_line};
 use crate::script_world::ScriptWorld;

@@ -1,5 +1,5 @@
 -- The shapes of a picture as elements of an SVG document (SVG 1.1 sections 9 and 10).
-use Rattle.std.specs.Prelude.{ℕ, List, [], ◌++◌, codes}
+use Rattle.std.specs.Prelude.{ℕ, List, [], ◌∷◌, ◌++◌, codes}
 use Rattle.std.specs.Fmt.{decimal}
 use Rattle.nbt_svg.specs.declared.shape.Class.{Class}
 use Rattle.nbt_svg.specs.declared.shape.Class.TheVariants as c
@@ -37,6 +37,11 @@ shape_text (s.Text class x y words) = codes "<text class=\"" ++ class_text class
     ++ written words.now ++ codes "</text>\n"
 shape_text (s.Upright class x y words) = codes "<text class=\"" ++ class_text class ++ codes "\" transform=\"translate(" ++ decimal x ++ codes " " ++ decimal y
     ++ codes ") rotate(90)\">" ++ written words.now ++ codes "</text>\n"
+
+-- shapes one after the other
+abbrev pub shapes_text : List Shape → List ℕ
+shapes_text [] = []
+shapes_text (shape ∷ shapes) = shape_text shape ++ shapes_text shapes
 
 -- what stands after the shapes
 abbrev pub tail_text : List ℕ

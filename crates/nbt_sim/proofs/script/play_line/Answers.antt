@@ -1,6 +1,6 @@
 use Rattle.std.proofs.Common.{[], sym}
 use Rattle.std.proofs.lemmas.List.{append-nil}
-use Rattle.nbt_sim.specs.Inner.ScriptWorld.{world_of, is_passed_over, is_unreadable}
+use Rattle.nbt_sim.specs.ScriptWorld.{world_of, is_passed_over, is_unreadable}
 use Rattle.nbt_sim.specs.Script.{says_nothing}
 use Rattle.nbt_sim.proofs.Playing.{blank_in, nothing_in, played_said}
 use Rattle.nbt_sim.proofs.script.play_line.Goals as goal
