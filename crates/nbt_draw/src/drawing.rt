@@ -1,13 +1,14 @@
 //! A script as a picture.
 
-ghost use Rattle.std.specs.Prelude.{ℕ, List, IfOk};
+ghost use Rattle.std.specs.Prelude.{ℕ, List, IfOk, MatchBool};
 ghost use Rattle.nbt_text.specs.Lines.{lines};
+ghost use Rattle.nbt_sim.specs.Script.{LineDoes, Fits};
 ghost use Rattle.nbt_sim.specs.ScriptWorld.{PlaysLine, world_of};
 ghost use Rattle.nbt_draw.specs.Drawing.{EndsAt};
 
 use crate::watching::{finish, watch};
 use nbt_chart::{Chart, write_picture};
-use nbt_sim::{Line, ScriptWorld, follow, parse_line};
+use nbt_sim::{Instruction, Line, ScriptWorld, follow, parse_line};
 use nbt_text::lines_of;
 use std::alloc::{AllocError, Global};
 
@@ -62,17 +63,42 @@ fn chart_line(
 ) -> Result<bool, AllocError>
     ensures { IfOk result (λ well. (text : List ℕ) × PlaysLine (world_of stage.old) line.now well (world_of stage.new) text) }
 {
-    let instruction = match parse_line(alloc, line)? {
-        Line::Blank => return Ok(true),
-        Line::Unreadable => return Ok(false),
-        Line::Says(instruction) => instruction,
-    };
+    match parse_line(alloc, line)? {
+        Line::Blank => Ok(true),
+        Line::Says(instruction) => chart_instruction(alloc, stage, &instruction, chart),
+        Line::Unreadable => Ok(false),
+    }
+}
+
+/// Does what a line asks for, and keeps it. Returns whether it can be done.
+fn chart_instruction(
+    alloc: Global,
+    stage: &mut Option<ScriptWorld>,
+    instruction: &Instruction,
+    chart: &mut Chart,
+) -> Result<bool, AllocError>
+    ensures { IfOk result (λ done. MatchBool done
+        ((text : List ℕ) × LineDoes (world_of stage.old) instruction.now (world_of stage.new) text)
+        (¬ Fits (world_of stage.old) instruction.now)) }
+{
     let mut printed = String::new(alloc);
-    if !follow(alloc, stage, &instruction, &mut printed)? {
+    if !follow(alloc, stage, instruction, &mut printed)? {
         return Ok(false);
     }
-    if let Some(stage) = stage {
-        watch(alloc, chart, &instruction, &stage.world, printed.as_str())?;
-    }
+    see(alloc, chart, instruction, stage, printed.as_str())?;
     Ok(true)
+}
+
+/// Keeps what a line did that printed this.
+fn see(
+    alloc: Global,
+    chart: &mut Chart,
+    instruction: &Instruction,
+    stage: &Option<ScriptWorld>,
+    printed: &str,
+) -> Result<(), AllocError> {
+    match stage {
+        Some(stage) => watch(alloc, chart, instruction, &stage.world, printed),
+        None => Ok(()),
+    }
 }
