@@ -155,7 +155,10 @@ impl Chart {
 
     /// The end at this address, if there is one.
     pub fn end_at(&self, addr: Addr) -> Option<usize> {
-        self.addrs.as_slice().iter().position(|other| *other == addr)
+        self.addrs
+            .as_slice()
+            .iter()
+            .position(|other| *other == addr)
     }
 
     /// The row that was put last.

@@ -26,6 +26,7 @@ pub const NAMES_TOP: u64 = 66;
 
 /// The height of a line of names, and how many stand in one.
 pub const NAMES_LINE: u64 = 18;
+
 pub const NAMES_IN_LINE: usize = 6;
 
 /// What the headings of the columns take.
@@ -81,7 +82,9 @@ pub fn lay_out(alloc: Global, chart: &Chart) -> Result<Layout, AllocError> {
 /// Where the columns begin, below the lines of so many names.
 fn head_of(names: usize) -> u64 {
     let lines = names / NAMES_IN_LINE + 1;
-    (lines as u64).saturating_mul(NAMES_LINE).saturating_add(NAMES_TOP + HEADINGS)
+    (lines as u64)
+        .saturating_mul(NAMES_LINE)
+        .saturating_add(NAMES_TOP + HEADINGS)
 }
 
 /// Whether a clock went on between a row and the one before it; so it is at the first row.
@@ -129,7 +132,9 @@ fn step_of(ends: usize) -> u64 {
 impl Layout {
     /// Where the column of an end is.
     pub fn x(&self, column: usize) -> u64 {
-        (column as u64).saturating_mul(self.step).saturating_add(FIRST_COLUMN)
+        (column as u64)
+            .saturating_mul(self.step)
+            .saturating_add(FIRST_COLUMN)
     }
 
     /// The middle of a row.
@@ -171,7 +176,8 @@ impl Layout {
         let late = reading_at(rows, column, next);
         let early = reading_at(rows, column, next.saturating_sub(1));
         let part = reading.saturating_sub(early).saturating_mul(BAND);
-        band.saturating_add(part / late.saturating_sub(early).max(1)).min(place.y)
+        band.saturating_add(part / late.saturating_sub(early).max(1))
+            .min(place.y)
     }
 }
 

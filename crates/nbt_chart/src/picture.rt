@@ -86,15 +86,7 @@ fn write_text(
 ) -> Result<(), AllocError>
     ensures { OnOk result (Draws (string_bytes out.old) (string_bytes out.new)) }
 {
-    write_shape(
-        &Shape::Text {
-            class,
-            x,
-            y,
-            words,
-        },
-        out,
-    )
+    write_shape(&Shape::Text { class, x, y, words }, out)
 }
 
 /// How far the arms of a cross reach.
@@ -113,7 +105,8 @@ fn write_cross(x: u64, y: u64, out: &mut String) -> Result<(), AllocError>
 }
 
 /// What the signs of a picture mean.
-const KEY: &[u8] = b"Bar: a node holds a name (hatched: as a group). Thin line: the server's lease (dashed: of a group). Grey: the server is silent. Band: time passes, shortened. Cross: lost, or never delivered.";
+const KEY: &[u8] =
+    b"Bar: a node holds a name (hatched: as a group). Thin line: the server's lease (dashed: of a group). Grey: the server is silent. Band: time passes, shortened. Cross: lost, or never delivered.";
 
 /// Appends what heads the picture: the signs, the names with their colours, and the ends with their addresses.
 fn write_top(
@@ -147,9 +140,20 @@ fn write_name_key(
 ) -> Result<(), AllocError>
     ensures { OnOk result (Draws (string_bytes out.old) (string_bytes out.new)) }
 {
-    let x = ((place % NAMES_IN_LINE) as u64).saturating_mul(NAMES_STEP).saturating_add(10);
-    let y = ((place / NAMES_IN_LINE) as u64).saturating_mul(NAMES_LINE).saturating_add(NAMES_TOP);
-    write_block(Class::Hold(colour_of(place)), x, y.saturating_sub(10), 14, 10, out)?;
+    let x = ((place % NAMES_IN_LINE) as u64)
+        .saturating_mul(NAMES_STEP)
+        .saturating_add(10);
+    let y = ((place / NAMES_IN_LINE) as u64)
+        .saturating_mul(NAMES_LINE)
+        .saturating_add(NAMES_TOP);
+    write_block(
+        Class::Hold(colour_of(place)),
+        x,
+        y.saturating_sub(10),
+        14,
+        10,
+        out,
+    )?;
     let mut words = String::new(alloc);
     write_name(name, &mut words)?;
     write_text(Class::Words, x.saturating_add(20), y, words.as_bytes(), out)
@@ -178,7 +182,13 @@ fn write_end(
     } else {
         write!(words, "n{number}")?;
     }
-    write_text(Class::Heading, x, y.saturating_sub(24), words.as_bytes(), out)?;
+    write_text(
+        Class::Heading,
+        x,
+        y.saturating_sub(24),
+        words.as_bytes(),
+        out,
+    )?;
     let mut address = String::new(alloc);
     if let Some(addr) = chart.addrs.as_slice().get(number) {
         write_address(*addr, &mut address)?;
@@ -230,13 +240,7 @@ fn write_band(
 }
 
 /// Appends a moment in seconds, with its milliseconds.
-fn write_moment(
-    alloc: Global,
-    ms: u64,
-    x: u64,
-    y: u64,
-    out: &mut String,
-) -> Result<(), AllocError>
+fn write_moment(alloc: Global, ms: u64, x: u64, y: u64, out: &mut String) -> Result<(), AllocError>
     ensures { OnOk result (Draws (string_bytes out.old) (string_bytes out.new)) }
 {
     let seconds = ms / 1000;
@@ -247,6 +251,7 @@ fn write_moment(
 
 /// How far beside a column the first lane is, and how far two lanes are from each other.
 const LANE_FIRST: u64 = 16;
+
 const LANE_STEP: u64 = 18;
 
 /// How many lanes stand beside one another; all others are drawn in the last.
@@ -255,7 +260,9 @@ const LANES_APART: usize = 5;
 /// Where a lane is, to the left of its column.
 fn lane_x(layout: &Layout, span: &Span) -> u64 {
     let lane = span.lane.min(LANES_APART) as u64;
-    layout.x(span.column).saturating_sub(LANE_FIRST + LANE_STEP * lane)
+    layout
+        .x(span.column)
+        .saturating_sub(LANE_FIRST + LANE_STEP * lane)
 }
 
 /// Appends what lasts beside a column.
@@ -465,7 +472,13 @@ fn write_stub(layout: &Layout, flight: &Flight, out: &mut String) -> Result<(), 
     let to_y = y.saturating_add(ROW - 6);
     if flight.to.is_none() {
         write_line(Class::Arrow, x, y, WIDTH, to_y, out)?;
-        return write_text(Class::Words, x.saturating_add(10), to_y, flight.words.as_bytes(), out);
+        return write_text(
+            Class::Words,
+            x.saturating_add(10),
+            to_y,
+            flight.words.as_bytes(),
+            out,
+        );
     }
     let is_right = goes_right(flight);
     let to_x = if is_right {
@@ -503,8 +516,16 @@ fn write_row(
         Sign::Crash => write_cross(x, y, out)?,
         _ => {}
     }
-    let words_x = x.saturating_add(if comes_from_itself(chart, row) { LOOP + 10 } else { 10 });
-    let words_y = y.saturating_add(if comes_from_the_right(chart, row) { 15 } else { 4 });
+    let words_x = x.saturating_add(if comes_from_itself(chart, row) {
+        LOOP + 10
+    } else {
+        10
+    });
+    let words_y = y.saturating_add(if comes_from_the_right(chart, row) {
+        15
+    } else {
+        4
+    });
     write_text(Class::Words, words_x, words_y, row.words.as_bytes(), out)
 }
 

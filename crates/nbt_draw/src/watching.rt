@@ -401,12 +401,7 @@ fn put(
 }
 
 /// Looks at what a datagram may have changed at the end that it came to.
-fn look(
-    chart: &mut Chart,
-    world: &World,
-    column: usize,
-    octets: &[u8],
-) -> Result<(), AllocError> {
+fn look(chart: &mut Chart, world: &World, column: usize, octets: &[u8]) -> Result<(), AllocError> {
     let Some((name, addr)) = claimed_in(octets) else {
         return Ok(());
     };
@@ -460,7 +455,10 @@ fn look_at_lease(
 /// The live lease of a name that a machine has.
 fn lease_of(server: &Server, now: Moment, name: &Name, addr: u32) -> Option<Lease> {
     let moment = now.max(server.last());
-    server.table().members(moment, name).find(|lease| lease.addr == addr)
+    server
+        .table()
+        .members(moment, name)
+        .find(|lease| lease.addr == addr)
 }
 
 /// A name is held or leased now: this begins at the last row, or goes on.

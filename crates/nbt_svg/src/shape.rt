@@ -66,7 +66,11 @@ pub enum Shape<'a> {
         to_y: u64,
     },
     /// A dot around a place.
-    Round { class: Class, x: u64, y: u64 },
+    Round {
+        class: Class,
+        x: u64,
+        y: u64,
+    },
     /// A text that begins at a place.
     Text {
         class: Class,
@@ -128,18 +132,8 @@ pub fn write_shape(shape: &Shape<'_>, out: &mut String) -> Result<(), AllocError
             to_y,
         } => write_line(*class, *x, *y, *to_x, *to_y, out),
         Shape::Round { class, x, y } => write_round(*class, *x, *y, out),
-        Shape::Text {
-            class,
-            x,
-            y,
-            words,
-        } => write_text(*class, *x, *y, words, out),
-        Shape::Upright {
-            class,
-            x,
-            y,
-            words,
-        } => write_upright(*class, *x, *y, words, out),
+        Shape::Text { class, x, y, words } => write_text(*class, *x, *y, words, out),
+        Shape::Upright { class, x, y, words } => write_upright(*class, *x, *y, words, out),
     }
 }
 
@@ -155,7 +149,10 @@ fn write_block(
 {
     out.push_str("<rect class=\"")?;
     write_class(class, out)?;
-    write!(out, "\" x=\"{x}\" y=\"{y}\" width=\"{width}\" height=\"{height}")?;
+    write!(
+        out,
+        "\" x=\"{x}\" y=\"{y}\" width=\"{width}\" height=\"{height}"
+    )?;
     out.push_str("\"/>\n")
 }
 
