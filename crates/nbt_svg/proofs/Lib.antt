@@ -2,3 +2,5 @@
 
 -- what is written of a text is read as that text
 pub mod Reading
+-- elements that are written part by part
+pub mod Joining

@@ -26,17 +26,24 @@ class_text c.Words = codes "words"
 class_text c.Side = codes "side"
 class_text c.Heading = codes "heading"
 
--- a shape's element, on a line of its own
+-- a text's element, on a line of its own; that of one which goes down
+abbrev pub text_element : Class → (x y : ℕ) → (words : List ℕ) → List ℕ
+text_element class x y words = codes "<text class=\"" ++ class_text class ++ codes "\" x=\"" ++ decimal x ++ codes "\" y=\"" ++ decimal y ++ codes "\">"
+    ++ written words ++ codes "</text>\n"
+
+abbrev pub upright_element : Class → (x y : ℕ) → (words : List ℕ) → List ℕ
+upright_element class x y words = codes "<text class=\"" ++ class_text class ++ codes "\" transform=\"translate(" ++ decimal x ++ codes " " ++ decimal y
+    ++ codes ") rotate(90)\">" ++ written words ++ codes "</text>\n"
+
+-- a shape's element, likewise
 abbrev pub shape_text : Shape → List ℕ
 shape_text (s.Block class x y width height) = codes "<rect class=\"" ++ class_text class ++ codes "\" x=\"" ++ decimal x ++ codes "\" y=\"" ++ decimal y
     ++ codes "\" width=\"" ++ decimal width ++ codes "\" height=\"" ++ decimal height ++ codes "\"/>\n"
 shape_text (s.Line class x y to_x to_y) = codes "<line class=\"" ++ class_text class ++ codes "\" x1=\"" ++ decimal x ++ codes "\" y1=\"" ++ decimal y
     ++ codes "\" x2=\"" ++ decimal to_x ++ codes "\" y2=\"" ++ decimal to_y ++ codes "\"/>\n"
 shape_text (s.Round class x y) = codes "<circle class=\"" ++ class_text class ++ codes "\" cx=\"" ++ decimal x ++ codes "\" cy=\"" ++ decimal y ++ codes "\" r=\"4\"/>\n"
-shape_text (s.Text class x y words) = codes "<text class=\"" ++ class_text class ++ codes "\" x=\"" ++ decimal x ++ codes "\" y=\"" ++ decimal y ++ codes "\">"
-    ++ written words.now ++ codes "</text>\n"
-shape_text (s.Upright class x y words) = codes "<text class=\"" ++ class_text class ++ codes "\" transform=\"translate(" ++ decimal x ++ codes " " ++ decimal y
-    ++ codes ") rotate(90)\">" ++ written words.now ++ codes "</text>\n"
+shape_text (s.Text class x y words) = text_element class x y words.now
+shape_text (s.Upright class x y words) = upright_element class x y words.now
 
 -- shapes one after the other
 abbrev pub shapes_text : List Shape → List ℕ

@@ -3,7 +3,7 @@
 
 ghost use Rattle.std.specs.Prelude.{◌≡◌, ◌++◌, OnOk};
 ghost use Rattle.std.specs.String.{string_bytes};
-ghost use Rattle.nbt_svg.specs.Shapes.{class_text, shape_text};
+ghost use Rattle.nbt_svg.specs.Shapes.{class_text, shape_text, text_element, upright_element};
 
 use crate::escaping::write_escaped;
 use std::alloc::AllocError;
@@ -149,11 +149,10 @@ fn write_block(
 {
     out.push_str("<rect class=\"")?;
     write_class(class, out)?;
-    write!(
+    writeln!(
         out,
-        "\" x=\"{x}\" y=\"{y}\" width=\"{width}\" height=\"{height}"
-    )?;
-    out.push_str("\"/>\n")
+        "\" x=\"{x}\" y=\"{y}\" width=\"{width}\" height=\"{height}\"/>"
+    )
 }
 
 fn write_line(
@@ -168,8 +167,10 @@ fn write_line(
 {
     out.push_str("<line class=\"")?;
     write_class(class, out)?;
-    write!(out, "\" x1=\"{x}\" y1=\"{y}\" x2=\"{to_x}\" y2=\"{to_y}")?;
-    out.push_str("\"/>\n")
+    writeln!(
+        out,
+        "\" x1=\"{x}\" y1=\"{y}\" x2=\"{to_x}\" y2=\"{to_y}\"/>"
+    )
 }
 
 fn write_round(class: Class, x: u64, y: u64, out: &mut String) -> Result<(), AllocError>
@@ -177,8 +178,7 @@ fn write_round(class: Class, x: u64, y: u64, out: &mut String) -> Result<(), All
 {
     out.push_str("<circle class=\"")?;
     write_class(class, out)?;
-    write!(out, "\" cx=\"{x}\" cy=\"{y}")?;
-    out.push_str("\" r=\"4\"/>\n")
+    writeln!(out, "\" cx=\"{x}\" cy=\"{y}\" r=\"4\"/>")
 }
 
 fn write_text(
@@ -188,13 +188,13 @@ fn write_text(
     words: &[u8],
     out: &mut String,
 ) -> Result<(), AllocError>
-    ensures { OnOk result (string_bytes out.new ≡ string_bytes out.old ++ shape_text (Shape.Text class x y words)) }
+    ensures { OnOk result (string_bytes out.new ≡ string_bytes out.old ++ text_element class x y words.now) }
 {
     out.push_str("<text class=\"")?;
     write_class(class, out)?;
     write!(out, "\" x=\"{x}\" y=\"{y}\">")?;
     write_escaped(words, out)?;
-    out.push_str("</text>\n")
+    writeln!(out, "</text>")
 }
 
 fn write_upright(
@@ -204,11 +204,11 @@ fn write_upright(
     words: &[u8],
     out: &mut String,
 ) -> Result<(), AllocError>
-    ensures { OnOk result (string_bytes out.new ≡ string_bytes out.old ++ shape_text (Shape.Upright class x y words)) }
+    ensures { OnOk result (string_bytes out.new ≡ string_bytes out.old ++ upright_element class x y words.now) }
 {
     out.push_str("<text class=\"")?;
     write_class(class, out)?;
     write!(out, "\" transform=\"translate({x} {y}) rotate(90)\">")?;
     write_escaped(words, out)?;
-    out.push_str("</text>\n")
+    writeln!(out, "</text>")
 }

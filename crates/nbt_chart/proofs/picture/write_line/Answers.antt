@@ -1,0 +1,5 @@
+use Rattle.nbt_chart.proofs.Drawing.{OnOk-map, draws_one}
+use Rattle.nbt_chart.proofs.picture.write_line.Goals as goal
+
+pub returns : goal.returns
+returns c = OnOk-map c.write_shape.result c.write_shape.ensures (λ e. draws_one _ _ _ e)
