@@ -33,7 +33,7 @@ enum {
     NBT_NO_MOMENT = 253, /* a moment is above 2^60 ms */
     NBT_NO_KIND = 252,   /* a kind is none of those that the call takes */
     NBT_NO_PLACE = 251,  /* a place is above the number of the octets */
-    NBT_NO_LEASE = 250   /* no more leases live */
+    NBT_NO_LEASE = 250   /* there are no more leases */
 };
 
 /* ---- names */
@@ -503,9 +503,9 @@ uint8_t nbt_listener_on(struct nbt_listener *listener, struct nbt_node *node, ui
 /*
  * A server: `memory` leads to nbt_server_size() octets, aligned to nbt_server_align(), which are the server's from its start to its
  * end and which no one else reads or writes. The program sets `memory` before the start and copies no struct nbt_server. For its
- * leases the server asks malloc and realloc, which align as C says, and gives back to free: nbt_server_on_datagram alone does, and
- * nbt_server_end gives back all. None of these calls is made from a signal handler. All other calls are for a server that was
- * started and has not ended.
+ * leases the server asks malloc and realloc, which align as C says, and gives back to free: nbt_server_on_datagram does, and
+ * nbt_server_row for as long as it runs; nbt_server_end gives back all. None of these calls is made from a signal handler. All other
+ * calls are for a server that was started and has not ended.
  */
 struct nbt_server {
     void *memory;
@@ -543,6 +543,14 @@ struct nbt_lease {
  * is written: NBT_NO_MOMENT; NBT_NO_NAME; NBT_SERVER_CLOCK_BACK; NBT_NO_LEASE where no more of them live.
  */
 uint8_t nbt_server_lease(struct nbt_server *server, uint64_t now, const struct nbt_name *name, size_t which, struct nbt_lease *lease);
+
+/*
+ * Writes *name and *lease: of all leases of all names, number `which`, counted from 0. Those of one name stand together, in order of
+ * their beginnings. A lease that is over may stand among them: its `end` is not after the moment then. The numbers stay until the
+ * next datagram. Asks malloc for a list of all of them, and gives it back. Else nothing is written: NBT_SERVER_OUT_OF_MEMORY;
+ * NBT_NO_LEASE where there are no more.
+ */
+uint8_t nbt_server_row(struct nbt_server *server, size_t which, struct nbt_name *name, struct nbt_lease *lease);
 
 #ifdef __cplusplus
 }

@@ -9,6 +9,10 @@
 static const struct nbt_config LIMITS = {.life = 1000, .longest = 3600, .rows = 4};
 static const uint8_t FRED[16] = "FRED            ";
 
+/* Two machines, and the moment from which the server speaks. */
+static const uint32_t FIRST = 0x0A000005, SECOND = 0x0A000006;
+static const uint64_t SPEAKS = 1000 + 3600000;
+
 /* A NAME REGISTRATION REQUEST (opcode 5) or NAME RELEASE REQUEST (opcode 6) of FRED for an address (RFC 1002 section 4.2). */
 static size_t request(uint8_t opcode, bool group, uint32_t ip, uint32_t ttl, uint8_t *out) {
     const uint8_t head[12] = {0x12, 0x34, (uint8_t)(opcode << 3 | (opcode == 5)), 0, 0, 1, 0, 0, 0, 0, 0, 1};
@@ -47,53 +51,72 @@ static void play_start(struct nbt_server *server) {
     is_number("start", nbt_server_start(server, LIMITS, 1000), NBT_DONE);
 }
 
+/* All leases of the server, name by name: two of FRED's. */
+static void play_rows(struct nbt_server *server, const struct nbt_name *name) {
+    struct nbt_name listed = {0};
+    struct nbt_lease lease = {0};
+    is_number("first row", nbt_server_row(server, 0, &listed, &lease), NBT_DONE);
+    are_octets("first row", &listed, name, sizeof listed);
+    is_number("first row", lease.ip, FIRST);
+    is_number("first row", lease.kind, 2);
+    is_number("first row", lease.end, SPEAKS + 300000);
+    is_number("second row", nbt_server_row(server, 1, &listed, &lease), NBT_DONE);
+    are_octets("second row", &listed, name, sizeof listed);
+    is_number("second row", lease.ip, SECOND);
+    listed.octets[0] = 'X';
+    is_number("no third row", nbt_server_row(server, 2, &listed, &lease), NBT_NO_LEASE);
+    is_number("no third row", listed.octets[0], 'X');
+    is_number("no third row", lease.ip, SECOND);
+    is_number("no row far behind", nbt_server_row(server, SIZE_MAX, &listed, &lease), NBT_NO_LEASE);
+}
+
 static void play_leases(struct nbt_server *server, const struct nbt_name *name) {
-    const uint32_t first = 0x0A000005, second = 0x0A000006;
-    const uint64_t speaks = 1000 + 3600000;
     uint8_t packet[NBT_PACKET], out[NBT_PACKET + 1];
     struct nbt_lease lease = {9, 9, 9};
     struct nbt_name none = *name;
     none.scope_size = 255;
-    size_t size = 9, count = request(5, true, first, 300, packet);
+    size_t size = 9, count = request(5, true, FIRST, 300, packet);
     memset(out, 0x55, sizeof out);
-    is_number("silent", nbt_server_on_datagram(server, speaks - 1, at(first), packet, count, out, &size), NBT_DONE);
+    is_number("silent", nbt_server_on_datagram(server, SPEAKS - 1, at(FIRST), packet, count, out, &size), NBT_DONE);
     is_number("silent", size, 0);
     is_number("silent", out[0], 0x55);
-    is_number("granted", nbt_server_on_datagram(server, speaks, at(first), packet, count, out, &size), NBT_DONE);
+    is_number("granted", nbt_server_on_datagram(server, SPEAKS, at(FIRST), packet, count, out, &size), NBT_DONE);
     is_number("granted", size, 62);
     is_number("granted", out[3] & 0x0F, 0);
     is_number("no octet behind", out[62], 0x55);
     are_octets("of this name", out + 12, packet + 12, 34);
-    count = request(5, true, second, 600, packet);
-    is_number("second", nbt_server_on_datagram(server, speaks + 5, at(second), packet, count, out, &size), NBT_DONE);
-    is_number("of another", nbt_server_on_datagram(server, speaks + 5, at(first), packet, count, out, &size), NBT_DONE);
+    count = request(5, true, SECOND, 600, packet);
+    is_number("second", nbt_server_on_datagram(server, SPEAKS + 5, at(SECOND), packet, count, out, &size), NBT_DONE);
+    is_number("of another", nbt_server_on_datagram(server, SPEAKS + 5, at(FIRST), packet, count, out, &size), NBT_DONE);
     is_number("of another", out[3] & 0x0F, 5);
-    is_number("back", nbt_server_on_datagram(server, speaks, at(first), packet, count, out, &size), NBT_SERVER_CLOCK_BACK);
+    is_number("back", nbt_server_on_datagram(server, SPEAKS, at(FIRST), packet, count, out, &size), NBT_SERVER_CLOCK_BACK);
     is_number("back", size, 0);
 
-    is_number("first lease", nbt_server_lease(server, speaks + 6, name, 0, &lease), NBT_DONE);
-    is_number("first lease", lease.ip, first);
+    is_number("first lease", nbt_server_lease(server, SPEAKS + 6, name, 0, &lease), NBT_DONE);
+    is_number("first lease", lease.ip, FIRST);
     is_number("first lease", lease.kind, 2);
-    is_number("first lease", lease.end, speaks + 300000);
-    is_number("second lease", nbt_server_lease(server, speaks + 6, name, 1, &lease), NBT_DONE);
-    is_number("second lease", lease.ip, second);
-    is_number("no third", nbt_server_lease(server, speaks + 6, name, 2, &lease), NBT_NO_LEASE);
-    is_number("no third", lease.ip, second);
-    is_number("far behind", nbt_server_lease(server, speaks + 6, name, SIZE_MAX, &lease), NBT_NO_LEASE);
-    is_number("no name", nbt_server_lease(server, speaks + 6, &none, 0, &lease), NBT_NO_NAME);
-    is_number("lease, back", nbt_server_lease(server, speaks, name, 0, &lease), NBT_SERVER_CLOCK_BACK);
-    is_number("one is over", nbt_server_lease(server, speaks + 300000, name, 0, &lease), NBT_DONE);
-    is_number("one is over", lease.ip, second);
+    is_number("first lease", lease.end, SPEAKS + 300000);
+    is_number("second lease", nbt_server_lease(server, SPEAKS + 6, name, 1, &lease), NBT_DONE);
+    is_number("second lease", lease.ip, SECOND);
+    is_number("no third", nbt_server_lease(server, SPEAKS + 6, name, 2, &lease), NBT_NO_LEASE);
+    is_number("no third", lease.ip, SECOND);
+    is_number("far behind", nbt_server_lease(server, SPEAKS + 6, name, SIZE_MAX, &lease), NBT_NO_LEASE);
+    is_number("no name", nbt_server_lease(server, SPEAKS + 6, &none, 0, &lease), NBT_NO_NAME);
+    is_number("lease, back", nbt_server_lease(server, SPEAKS, name, 0, &lease), NBT_SERVER_CLOCK_BACK);
+    is_number("one is over", nbt_server_lease(server, SPEAKS + 300000, name, 0, &lease), NBT_DONE);
+    is_number("one is over", lease.ip, SECOND);
+
+    play_rows(server, name);
 
     count = query(packet);
-    is_number("query", nbt_server_on_datagram(server, speaks + 7, at(first), packet, count, out, &size), NBT_DONE);
+    is_number("query", nbt_server_on_datagram(server, SPEAKS + 7, at(FIRST), packet, count, out, &size), NBT_DONE);
     is_number("query", size, 68);
     is_number("query", out[3] & 0x0F, 0);
-    count = request(6, true, first, 0, packet);
-    is_number("release", nbt_server_on_datagram(server, speaks + 8, at(first), packet, count, out, &size), NBT_DONE);
-    is_number("release", nbt_server_lease(server, speaks + 8, name, 0, &lease), NBT_DONE);
-    is_number("release", lease.ip, second);
-    is_number("garbage", nbt_server_on_datagram(server, speaks + 9, at(first), packet, 11, out, &size), NBT_DONE);
+    count = request(6, true, FIRST, 0, packet);
+    is_number("release", nbt_server_on_datagram(server, SPEAKS + 8, at(FIRST), packet, count, out, &size), NBT_DONE);
+    is_number("release", nbt_server_lease(server, SPEAKS + 8, name, 0, &lease), NBT_DONE);
+    is_number("release", lease.ip, SECOND);
+    is_number("garbage", nbt_server_on_datagram(server, SPEAKS + 9, at(FIRST), packet, 11, out, &size), NBT_DONE);
     is_number("garbage", size, 0);
 }
 

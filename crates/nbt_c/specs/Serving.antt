@@ -1,6 +1,7 @@
 -- What the calls of a name server in C's memory answer.
 use Rattle.std.specs.Prelude.{◌≡◌, ℕ, ◌<◌, ◌≤◌, List, [], Option, Some, None, slice_get}
 use Rattle.nbt_name.specs.declared.addr.Addr.{Addr}
+use Rattle.nbt_name.specs.Wire.{NameValue}
 use Rattle.nbt_packet.specs.Message.{MessageValue}
 use Rattle.nbt_packet.specs.Spelling.{AreWritten}
 use Rattle.nbt_lease.specs.declared.fault.ConfigFault.TheVariants.{Life, Longest, Rows}
@@ -16,7 +17,7 @@ use Rattle.nbt_c.specs.declared.ends.CConfig.{CConfig}
 use Rattle.nbt_c.specs.declared.lease.CLease.{CLease}
 use Rattle.nbt_c.specs.declared.name.CName.{CName}
 use Rattle.nbt_c.specs.Ends.{kind_number}
-use Rattle.nbt_c.specs.Names.{HoldsName, name_in}
+use Rattle.nbt_c.specs.Names.{HoldsName, name_in, stored}
 use Rattle.nbt_c.specs.Sending.{no_moment}
 use Rattle.nbt_c.specs.Writing.{no_name}
 
@@ -55,3 +56,17 @@ pub data TellsLease (server : ServerValue) (now : ℕ) (held : CName) (which : �
   is_late : now ≤ last_moment → HoldsName held → now < server.last → TellsLease server now held which (server_fault_number ClockBack) None
   has_no_name : now ≤ last_moment → ¬ HoldsName held → TellsLease server now held which no_name None
   has_no_moment : last_moment < now → TellsLease server now held which no_moment None
+
+-- a row of the table that a call tells stands where the caller asked for its name and its lease
+abbrev pub name_of_row : CName → Option (NameValue × Lease) → CName
+name_of_row before None = before
+name_of_row before (Some row) = stored row.0
+
+abbrev pub lease_of_row : CLease → Option (NameValue × Lease) → CLease
+lease_of_row before None = before
+lease_of_row before (Some row) = lease_for row.1
+
+pub data TellsRow (server : ServerValue) (which : ℕ) : ℕ → Option (NameValue × Lease) → Type 0 where
+  tells_row : (row : NameValue × Lease) → slice_get server.table.rows which ≡ Some row → TellsRow server which 0 (Some row)
+  tells_no_row : slice_get server.table.rows which ≡ None → TellsRow server which no_lease None
+  lacks_room : TellsRow server which (server_fault_number OutOfMemory) None

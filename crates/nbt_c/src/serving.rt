@@ -2,11 +2,12 @@
 
 ghost use Rattle.std.specs.Prelude.{◌≡◌, ℕ, List, Option, Some, None, IsSome, IsNone, slice_get};
 ghost use Rattle.nbt_name.specs.declared.addr.Addr.{Addr as End};
+ghost use Rattle.nbt_name.specs.Wire.{NameValue};
 ghost use Rattle.nbt_lease.specs.declared.lease.Lease.{Lease as HeldLease};
 ghost use Rattle.nbt_server.specs.Serving.{ServerValue};
 ghost use Rattle.nbt_c.specs.Ends.{addr_of};
 ghost use Rattle.nbt_c.specs.Sending.{Puts};
-ghost use Rattle.nbt_c.specs.Serving.{StartsServer, ServesFor, TellsLease, lease_after};
+ghost use Rattle.nbt_c.specs.Serving.{StartsServer, ServesFor, TellsLease, TellsRow, lease_after, name_of_row, lease_of_row};
 
 use crate::ends::{CAddr, CConfig};
 use crate::held::CServer;
@@ -16,7 +17,7 @@ use crate::results::{NO_LEASE, NO_MOMENT, NO_NAME};
 use crate::room::put_packet;
 use arrayvec::ArrayVec;
 use nbt_lease::{Config, Lease, Members, Moment};
-use nbt_name::Addr;
+use nbt_name::{Addr, Name};
 use nbt_server::{Server, ServerFault};
 use std::alloc::Global;
 
@@ -156,4 +157,48 @@ pub extern "C" fn nbt_server_lease(
         × TellsLease old now name.now which result found × (lease.new ≡ lease_after lease.old found) }
 {
     tell_lease(server.get(), now, name, which, lease)
+}
+
+/// One of the rows of the server's table, of what C passes.
+fn tell_row(
+    alloc: Global,
+    server: &Server,
+    which: usize,
+    name: &mut CName,
+    lease: &mut CLease,
+) -> u8
+    ensures { (found : Option (NameValue × HeldLease)) × TellsRow server.now which result found
+        × (name.new ≡ name_of_row name.old found) × (lease.new ≡ lease_of_row lease.old found) }
+{
+    let mut rows: Vec<(Name, Lease)> = Vec::new(alloc);
+    let Ok(()) = server.table().list_rows(&mut rows) else {
+        return ServerFault::OutOfMemory.number();
+    };
+    match rows.get(which) {
+        Some(row) => {
+            *name = CName::of(&row.0);
+            *lease = CLease::of(row.1);
+            0
+        }
+        None => NO_LEASE,
+    }
+}
+
+/// `nbt_lease::Table::list_rows`: of all rows of the table, the one with this number, counted from 0, each name's in order of
+/// their beginnings. A lease that is over may stand among them: its end tells. 0, and the row's name stands in `name`, its lease in
+/// `lease`. Else both stay: `OutOfMemory` (2) where memory for a list of the rows is refused; 250 where there are no more. The
+/// server stays. That a server stands in the memory is the caller's.
+#[unsafe(no_mangle)]
+pub extern "C" fn nbt_server_row(
+    alloc: Global,
+    server: &mut CServer,
+    which: usize,
+    name: &mut CName,
+    lease: &mut CLease,
+) -> u8
+    requires { IsSome server.old.server }
+    ensures { (old : ServerValue) → server.old.server ≡ Some old → (found : Option (NameValue × HeldLease)) × (server.new.server ≡ Some old)
+        × TellsRow old which result found × (name.new ≡ name_of_row name.old found) × (lease.new ≡ lease_of_row lease.old found) }
+{
+    tell_row(alloc, server.get(), which, name, lease)
 }
