@@ -13,6 +13,9 @@ mod network;
 mod node_call;
 mod world;
 
+pub use clocks::Clocks;
 pub use ends::Holder;
 pub use event::{Event, OutOfMemory, Outcome};
+pub use network::Datagram;
+pub use node_call::SLOTS;
 pub use world::{Addrs, World};

@@ -2,7 +2,9 @@
 
 ghost use Rattle.std.specs.Prelude.{◌≡◌, ◌≤◌, ◌<◌, ◌↔◌, ℕ, Some, None, List, length, take, slice_get, slice_index, slice_index_or, IsOk, IsTrue, IfSome, IfOk, OnOk, IfErr, OnErr, MatchResult, Contains};
 ghost use Rattle.nbt_name.specs.declared.addr.Kind.{Kind as KindValue};
-ghost use Rattle.nbt_world.specs.World.{WorldValue, AreAddrs, IsEnd, IsFresh, addr_of};
+ghost use Rattle.std.specs.Option.{option_map};
+ghost use Rattle.nbt_world.specs.Drift.{reading as reading_of};
+ghost use Rattle.nbt_world.specs.World.{WorldValue, AreAddrs, IsEnd, IsFresh, addr_of, node_of};
 ghost use Rattle.nbt_world.specs.Step.{Advances, Step, number_in, TakesNoMemory};
 ghost use Rattle.nbt_world.specs.Safety.{Run, holding, MayHold, IsSafe, RunsSafely};
 ghost use Rattle.nbt_world.specs.Inner.Kept.{AreRead};
@@ -13,9 +15,12 @@ use crate::clocks::{Clocks, ENDS_MOST, Least, at_beginning, watch};
 use crate::ends::{Ends, Holder, are_apart};
 use crate::event::{Event, OutOfMemory, Outcome};
 use crate::network::{Datagram, give, reply};
+use crate::node_call::SLOTS;
 use arrayvec::ArrayVec;
 use nbt_lease::{Config, Moment};
 use nbt_name::{Addr, Kind, Name};
+use nbt_node::Node;
+use nbt_server::Server;
 use std::alloc::Global;
 use std::marker::Model;
 use thiserror::Error;
@@ -322,6 +327,48 @@ impl World {
         ensures { result ≡ self.now.kept }
     {
         self.kept
+    }
+
+    /// What the end of this number reads; 0 where there is none. Takes no memory.
+    pub fn reading(&self, number: usize) -> Moment
+        ensures { result ≡ reading_of self.now.now number }
+    {
+        self.clocks.reading(number)
+    }
+
+    /// The address of the end of this number, if there is one: 0 is the server, and the nodes are numbered from 1. Takes no
+    /// memory.
+    pub fn addr(&self, number: usize) -> Option<Addr>
+        ensures { result ≡ addr_of self.now.ends number }
+    {
+        self.ends.addr(number)
+    }
+
+    /// The server, where it is up. Takes no memory.
+    pub fn server(&self) -> Option<&Server>
+        ensures { option_map (λ server. server.now) result ≡ self.now.ends.server }
+    {
+        self.ends.server.as_ref()
+    }
+
+    /// The node of this number, where there is one and it is up. Takes no memory.
+    pub fn node(&self, number: usize) -> Option<&Node<SLOTS>>
+        ensures { option_map (λ node. node.now) result ≡ node_of self.now.ends number }
+    {
+        if number == 0 {
+            return None;
+        }
+        match self.ends.nodes.as_slice().get(number - 1) {
+            Some(end) => end.node.as_ref(),
+            None => None,
+        }
+    }
+
+    /// Every datagram that an end sent so far, in order: the place of each is its number. Takes no memory.
+    pub fn sent(&self) -> &[Datagram]
+        ensures { result.now ≡ self.now.sent }
+    {
+        self.sent.as_slice()
     }
 
     /// The nodes that hold the name now, each by its own reading, with their kinds, in order of their numbers. Takes no
