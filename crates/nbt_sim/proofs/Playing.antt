@@ -9,8 +9,8 @@ use Rattle.nbt_sim.specs.declared.instruction.Instruction.{Instruction}
 use Rattle.nbt_sim.specs.declared.instruction.Line.{Line}
 use Rattle.nbt_sim.specs.declared.instruction.Line.TheVariants as line
 use Rattle.nbt_sim.specs.Line.{Says}
-use Rattle.nbt_sim.specs.Inner.Line.{LineIs, passed_over, said, unreadable}
-use Rattle.nbt_sim.specs.Inner.ScriptWorld.{PlaysLine, is_passed_over, is_done, is_unreadable}
+use Rattle.nbt_sim.specs.Line.{LineIs, passed_over, said, unreadable}
+use Rattle.nbt_sim.specs.ScriptWorld.{PlaysLine, is_passed_over, is_done, is_unreadable}
 use Rattle.nbt_sim.specs.Script.{LineDoes, Fits, says_what_does_not_fit, Plays, ends, passes_over, does, stops}
 
 -- ---- what stands in a line that was read

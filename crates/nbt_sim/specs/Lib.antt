@@ -1,5 +1,5 @@
 pub mod Arguments
-pub mod Inner
 pub mod Line
 pub mod Script
+pub mod ScriptWorld
 pub mod Words

@@ -4,9 +4,11 @@ use Rattle.std.specs.Global.{Vec}
 use Rattle.nbt_text.specs.Address.{SpellsAddress}
 use Rattle.nbt_text.specs.NameText.{SpellsName}
 use Rattle.nbt_text.specs.Number.{SpellsNumber}
-use Rattle.nbt_text.specs.Lines.{SpellsOctets}
+use Rattle.nbt_text.specs.Lines.{SpellsOctets, IsPassedOver, words as words_of}
 use Rattle.nbt_world.specs.declared.event.Event.TheVariants as event
 use Rattle.nbt_sim.specs.declared.instruction.Instruction.{Instruction}
+use Rattle.nbt_sim.specs.declared.instruction.Line.{Line}
+use Rattle.nbt_sim.specs.declared.instruction.Line.TheVariants as line
 use Rattle.nbt_sim.specs.declared.instruction.Instruction.TheVariants as instruction
 use Rattle.nbt_sim.specs.declared.verb.Verb.{Verb}
 use Rattle.nbt_sim.specs.declared.verb.Verb.TheVariants.{Config, At, Advance, Start, Crash, Ask, Release, Resolve, Status, Poll, Deliver, Stranger, Holders, Kept}
@@ -46,3 +48,9 @@ SaysOf Kept = Makes NoMore (λ v. instruction.Kept)
 -- What the words of a line say.
 pub data Says : List (List ℕ) → Instruction → Type 0 where
   says : (verb : Verb) (rest : List (List ℕ)) (i : Instruction) → SaysOf verb rest i → Says (verb_word verb ∷ rest) i
+
+-- What stands in a line.
+pub data LineIs (text : List ℕ) : Line → Type 0 where
+  passed_over : IsPassedOver text → LineIs text line.Blank
+  said : (i : Instruction) → ¬ (IsPassedOver text) → Says (words_of text) i → LineIs text (line.Says i)
+  unreadable : ¬ (IsPassedOver text) → ((i : Instruction) → ¬ Says (words_of text) i) → LineIs text line.Unreadable

@@ -6,7 +6,7 @@ ghost use Rattle.nbt_sim.specs.declared.instruction.Instruction.{Instruction};
 ghost use Rattle.nbt_sim.specs.declared.instruction.Instruction.TheVariants as instruction;
 ghost use Rattle.nbt_sim.specs.declared.verb.Verb.TheVariants as verbs;
 ghost use Rattle.nbt_sim.specs.Line.{Says, SaysOf};
-ghost use Rattle.nbt_sim.specs.Inner.Line.{LineIs};
+ghost use Rattle.nbt_sim.specs.Line.{LineIs};
 
 use crate::argument::{Argument, Arguments};
 use crate::verb::{Verb, verb_of};

@@ -12,4 +12,6 @@ mod script_world;
 mod verb;
 mod words;
 
-pub use script::play;
+pub use instruction::{Instruction, Line, parse_line};
+pub use script::{follow, play};
+pub use script_world::ScriptWorld;

@@ -4,7 +4,7 @@ ghost use Rattle.std.specs.Prelude.{◌≡◌, ◌++◌, ℕ, List, [], None, Ma
 ghost use Rattle.std.specs.String.{string_bytes};
 ghost use Rattle.nbt_text.specs.Lines.{lines};
 ghost use Rattle.nbt_sim.specs.Script.{LineDoes, Fits, Plays};
-ghost use Rattle.nbt_sim.specs.Inner.ScriptWorld.{PlaysLine, world_of};
+ghost use Rattle.nbt_sim.specs.ScriptWorld.{PlaysLine, world_of};
 
 use crate::instruction::{Instruction, Line, parse_line};
 use crate::script_world::ScriptWorld;
@@ -43,13 +43,13 @@ fn play_line(
 {
     match parse_line(alloc, line)? {
         Line::Blank => Ok(true),
-        Line::Says(instruction) => does(alloc, stage, &instruction, out),
+        Line::Says(instruction) => follow(alloc, stage, &instruction, out),
         Line::Unreadable => Ok(false),
     }
 }
 
 /// Does what a line asks for, and appends what it prints. Returns whether it can be done.
-fn does(
+pub fn follow(
     alloc: Global,
     stage: &mut Option<ScriptWorld>,
     instruction: &Instruction,

@@ -26,7 +26,7 @@ const PORT: u16 = 137;
 /// A world.
 #[derive(Drop)]
 pub struct ScriptWorld {
-    world: World,
+    pub world: World,
 }
 
 impl ScriptWorld {

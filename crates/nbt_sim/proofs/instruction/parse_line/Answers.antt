@@ -1,4 +1,4 @@
-use Rattle.nbt_sim.specs.Inner.Line.{passed_over, said, unreadable}
+use Rattle.nbt_sim.specs.Line.{passed_over, said, unreadable}
 use Rattle.nbt_sim.proofs.instruction.parse_line.Goals as goal
 
 pub returns-in_default : goal.returns-in_default

@@ -2,7 +2,7 @@ use Rattle.std.proofs.Common.{◌≡◌, ◌+◌, ◌++◌, ℕ, List, drop}
 use Rattle.std.specs.String.{string_bytes}
 use Rattle.nbt_text.specs.Texts.{texts}
 use Rattle.nbt_text.specs.Lines.{lines}
-use Rattle.nbt_sim.specs.Inner.ScriptWorld.{world_of}
+use Rattle.nbt_sim.specs.ScriptWorld.{world_of}
 use Rattle.nbt_sim.proofs.Playing.{Continues}
 use Rattle.nbt_sim.proofs.script.play.Given as goal
 

@@ -1,6 +1,6 @@
 use Rattle.std.proofs.Common.{[], sym}
 use Rattle.std.proofs.lemmas.List.{append-nil}
-use Rattle.nbt_sim.specs.Inner.ScriptWorld.{world_of, is_passed_over, is_unreadable}
+use Rattle.nbt_sim.specs.ScriptWorld.{world_of, is_passed_over, is_unreadable}
 use Rattle.nbt_sim.specs.Script.{says_nothing}
 use Rattle.nbt_sim.proofs.Playing.{blank_in, nothing_in, played_said}
 use Rattle.nbt_sim.proofs.script.play_line.Goals as goal
@@ -10,7 +10,7 @@ returns-in-Blank c = ([], sym (append-nil _), is_passed_over (blank_in c.args.li
 
 pub returns-in-Says : goal.returns-in-Says
 returns-in-Says c =
-    played_said c.does.result (world_of c.args.stage.now) (world_of c.does.new.stage) c.args.line.now _ _ c.in_ok-parse_line.field-0 c.in-Says.instruction c.in_ok-parse_line.ensures c.in-Says.is c.does.ensures
+    played_said c.follow.result (world_of c.args.stage.now) (world_of c.follow.new.stage) c.args.line.now _ _ c.in_ok-parse_line.field-0 c.in-Says.instruction c.in_ok-parse_line.ensures c.in-Says.is c.follow.ensures
 
 pub returns-in-Unreadable : goal.returns-in-Unreadable
 returns-in-Unreadable c =
