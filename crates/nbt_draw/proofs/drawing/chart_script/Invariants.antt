@@ -1,0 +1,12 @@
+use Rattle.std.proofs.Common.{◌≡◌, ◌+◌, ℕ, List, drop}
+use Rattle.nbt_text.specs.Texts.{texts}
+use Rattle.nbt_text.specs.Lines.{lines}
+use Rattle.nbt_sim.specs.ScriptWorld.{world_of}
+use Rattle.nbt_sim.proofs.Playing.{Continues}
+use Rattle.nbt_draw.proofs.drawing.chart_script.Given as goal
+
+abbrev pub invariant-lines : goal.invariant-lines
+invariant-lines l = record {
+  whole : texts l.line-items ≡ lines l.fn.script;
+  printed : (text : List ℕ) × Continues (l.index + 1) (world_of l.stage) (texts (drop l.index l.line-items)) (lines l.fn.script) text;
+}
