@@ -26,7 +26,8 @@ _nbt() {
         show) words='name dgram session --explain --help' ;;
         serve) words='--forever --help' ;;
         node) words='unique group --forever --help' ;;
-        check | sim | loop) words='--help' ;;
+        sim) words='--draw --help' ;;
+        check | loop) words='--help' ;;
         help) words='lookup status nbns host answer show check sim serve node loop' ;;
         esac
     fi

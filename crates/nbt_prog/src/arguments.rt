@@ -32,6 +32,8 @@ pub enum Request {
     Explain(ExplainArguments),
     Check,
     Sim,
+    /// Of `sim --draw`.
+    Draw,
     Serve(ServeArguments),
     Node(NodeArguments),
     Loop(Ports),
@@ -53,6 +55,7 @@ fn request_of(alloc: Global, words: &Words<'_>) -> Result<Request, Failure>
         Words::Show(words) => show_request(alloc, words),
         Words::Check => Ok(Request::Check),
         Words::Sim => Ok(Request::Sim),
+        Words::Draw => Ok(Request::Draw),
         Words::Serve(words) => Ok(Request::Serve(serve_arguments(alloc, words)?)),
         Words::Node(words) => Ok(Request::Node(node_arguments(alloc, words)?)),
         Words::Loop(port) => Ok(Request::Loop(loop_ports(alloc, port)?)),

@@ -2,6 +2,7 @@
 
 pub mod answer;
 pub mod check;
+pub mod draw;
 pub mod explain;
 pub mod show;
 pub mod sim;

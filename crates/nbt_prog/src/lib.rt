@@ -256,7 +256,7 @@ fn run_telling<R: Read, E: Write>(
     errors: &mut E,
 ) -> Result<Printed, Failure> {
     let line = reason::input_of(&request);
-    let outcome = run_request(alloc, request, reader);
+    let outcome = run_request(alloc, request, reader, errors);
     if let Err(Failure::Unreadable) = &outcome {
         reason::tell(line, errors);
     }
@@ -264,10 +264,11 @@ fn run_telling<R: Read, E: Write>(
 }
 
 /// The whole output of a command. Those that open sockets have no machine here to open them on.
-fn run_request<R: Read>(
+fn run_request<R: Read, E: Write>(
     alloc: Global,
     request: Request,
     reader: &mut R,
+    errors: &mut E,
 ) -> Result<Printed, Failure> {
     match request {
         Request::Answer(arguments) => commands::answer::run(alloc, &arguments),
@@ -275,6 +276,7 @@ fn run_request<R: Read>(
         Request::Explain(arguments) => commands::explain::run(alloc, arguments, reader),
         Request::Check => commands::check::run(alloc, reader),
         Request::Sim => commands::sim::run(alloc, reader),
+        Request::Draw => commands::draw::run(alloc, reader, errors),
         Request::People(_) | Request::Serve(_) | Request::Node(_) | Request::Loop(_) => Err(
             Failure::Fault(Fault::Device),
         ),

@@ -75,3 +75,13 @@ fn write_line<E: Write>(line: &str, errors: &mut E) -> io::Result<()> {
     errors.write_all(line.as_bytes())?;
     errors.flush()
 }
+
+/// Says which line of a script can't be read, or asks for what can't be done.
+pub fn tell_line<E: Write>(number: usize, errors: &mut E) {
+    let _ = write_number(number, errors);
+}
+
+fn write_number<E: Write>(number: usize, errors: &mut E) -> io::Result<()> {
+    writeln!(errors, "nbt: line {number}: unreadable")?;
+    errors.flush()
+}

@@ -131,8 +131,14 @@ What a node does prints `sent K`, with the number of the datagram counted from 0
 A delivery prints `nobody`, `lost`, `down`, `sent K` where the end replies, or `taken`. A line that can't be read prints
 `line K: unreadable` and ends the script. Lines end with a line feed alone: one that ends with CR LF is unreadable.
 
-Example:
+With --draw it prints one SVG in place of the lines: a column for each end, time downwards and shortened, an arrow for each
+delivery, a cross where a datagram never comes, a bar beside a node as long as it holds a name, and a thin line beside the
+server as long as its lease lives. Names after the hundredth have no bars. A line that can't be read ends the picture, and
+standard error says which.
+
+Examples:
   printf 'config 1000 60 4096 1\\nstart s\\nstart n1\\nat 60000\\nask n1 FRED unique 60\\ndeliver 0\\n' | nbt sim
+  nbt sim --draw <script >picture.svg
 
 Exit status:
   0  done
@@ -176,6 +182,9 @@ pub const AT: &str = "at";
 
 /// The option that explains the octets.
 pub const EXPLAIN: &str = "explain";
+
+/// The option that draws a picture in place of printing lines.
+pub const DRAW: &str = "draw";
 
 const ANSWER_COMMAND: Description = Description {
     name: ANSWER,
@@ -240,7 +249,12 @@ const SIM_COMMAND: Description = Description {
     name: SIM,
     about: SIM_ABOUT,
     help: SIM_HELP,
-    arguments: &[],
+    arguments: &[Argument {
+        name: DRAW,
+        form: Form::Flag,
+        presence: Presence::Free,
+        help: "Prints a picture of the run in place of the lines, as SVG",
+    }],
 };
 
 /// The commands, in the order of the help: those for people who run a network first.

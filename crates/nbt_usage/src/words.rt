@@ -148,6 +148,8 @@ pub enum Words<'a> {
     Show(ShowWords<'a>),
     Check,
     Sim,
+    /// Of `sim --draw`.
+    Draw,
     Serve(ServeWords<'a>),
     Node(NodeWords<'a>),
     /// With the first of its ports.
@@ -205,7 +207,7 @@ fn bench_words<'a>(name: &str, matches: &ArgMatches<'a>) -> Option<Words<'a>> {
         program::ANSWER => Some(Words::Answer(answer_words(matches))),
         program::SHOW => Some(Words::Show(show_words(matches))),
         program::CHECK => Some(Words::Check),
-        program::SIM => Some(Words::Sim),
+        program::SIM => Some(sim_words(matches)),
         network::SERVE => Some(Words::Serve(serve_words(matches))),
         network::NODE => Some(Words::Node(node_words(matches))),
         network::LOOP => Some(Words::Loop(argument(matches, network::PORT))),
@@ -324,6 +326,17 @@ fn show_words<'a>(matches: &ArgMatches<'a>) -> ShowWords<'a>
         kind: argument(matches, program::KIND),
         hex: argument(matches, program::HEX),
         explain: matches.get_flag(program::EXPLAIN),
+    }
+}
+
+fn sim_words<'a>(matches: &ArgMatches<'a>) -> Words<'a>
+    ensures drawn { IsFlag matches.now (codes "draw") true → result ≡ Words.Draw }
+    ensures printed { IsFlag matches.now (codes "draw") false → result ≡ Words.Sim }
+{
+    if matches.get_flag(program::DRAW) {
+        Words::Draw
+    } else {
+        Words::Sim
     }
 }
 
