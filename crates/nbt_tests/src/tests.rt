@@ -31,7 +31,7 @@ mod street;
 mod terminal;
 
 /// The most that a test prints.
-const ROOM: usize = 4096;
+const ROOM: usize = 8192;
 
 /// A writer that takes `at_once` octets a call, and fails at its first call past `calls`. It tells whether each line
 /// was flushed before the next.

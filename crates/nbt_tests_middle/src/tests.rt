@@ -1,5 +1,6 @@
 //! One file for each subject.
 
+mod drawings;
 mod engine;
 mod expect;
 mod lines;

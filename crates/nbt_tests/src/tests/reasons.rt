@@ -20,7 +20,7 @@ const NO_HEX: &str = "nbt: HEX: not an even number of hexadecimal digits\n";
 const NO_HEX_IN_INPUT: &str =
     "nbt: standard input: not an even number of hexadecimal digits, or more than 1048576 octets\n";
 
-const WORDS: [Row; 17] = [
+const WORDS: [Row; 18] = [
     (
         "nbt answer 1.2.3 00",
         "",
@@ -63,6 +63,12 @@ const WORDS: [Row; 17] = [
         "nbt: name '*': no name that can be held\n",
     ),
     ("nbt show name --explain -", "0g", 1, NO_HEX_IN_INPUT),
+    (
+        "nbt sim --draw",
+        "\n# x\nconfig x",
+        1,
+        "nbt: line 3: unreadable\n",
+    ),
     // Nothing is said of what is printed.
     ("nbt answer 127.0.0.2:137 8094", "", 0, ""),
     ("nbt show name 00", "", 1, ""),
@@ -103,12 +109,16 @@ fn refused_memory_and_words_that_can_not_be_read_are_said(rt: HostRuntime) {
 }
 
 /// Commands that read their input, and what is said of more than they take.
-const READERS: [(&str, &str); 3] = [
+const READERS: [(&str, &str); 4] = [
     (
         "nbt check",
         "nbt: standard input: more than 1048576 octets\n",
     ),
     ("nbt sim", "nbt: standard input: more than 1048576 octets\n"),
+    (
+        "nbt sim --draw",
+        "nbt: standard input: more than 1048576 octets\n",
+    ),
     ("nbt show dgram --explain -", NO_HEX_IN_INPUT),
 ];
 
