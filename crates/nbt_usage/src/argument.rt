@@ -1,7 +1,11 @@
 //! The arguments of a command as rows of a table, and the command that `clap` makes of them.
 
+ghost use Rattle.std.specs.Prelude.{◌≡◌, IfOk};
+ghost use Rattle.clap.specs.Words.{kind_of};
+
 use clap::builder::ValueParser;
-use clap::{Arg, ArgAction, Command};
+use clap::error::ErrorKind;
+use clap::{Arg, ArgAction, Command, Error};
 use std::alloc::{AllocError, Global};
 
 /// How an argument is written. Each form but a flag has the word that stands for its value in the help.
@@ -70,7 +74,7 @@ pub fn command_of<'a>(alloc: Global, description: &Description) -> Result<Comman
 pub fn with_commands<'a>(
     alloc: Global,
     mut program: Command<'a>,
-    descriptions: &[Description],
+    descriptions: &[&Description],
 ) -> Result<Command<'a>, AllocError> {
     for description in descriptions {
         program = program.subcommand(command_of(alloc, description)?)?;
@@ -90,6 +94,7 @@ fn with_arguments<'a>(
     Ok(command)
 }
 
+/// The argument as `clap` takes it.
 fn arg_of<'a>(alloc: Global, argument: &Argument) -> Result<Arg<'a>, AllocError> {
     let arg = Arg::new(alloc, argument.name).help(argument.help);
     with_presence(
@@ -98,6 +103,7 @@ fn arg_of<'a>(alloc: Global, argument: &Argument) -> Result<Arg<'a>, AllocError>
     )
 }
 
+/// In this form; an option has this name.
 fn with_form<'a>(arg: Arg<'a>, name: &'static str, form: Form) -> Arg<'a> {
     match form {
         Form::Word(shown) => arg.value_name(shown),
@@ -118,6 +124,7 @@ fn with_form<'a>(arg: Arg<'a>, name: &'static str, form: Form) -> Arg<'a> {
     }
 }
 
+/// It has to be there, or needn't, as this says.
 fn with_presence<'a>(arg: Arg<'a>, presence: Presence) -> Result<Arg<'a>, AllocError> {
     match presence {
         Presence::Needed => Ok(arg.required(true)),
@@ -126,4 +133,18 @@ fn with_presence<'a>(arg: Arg<'a>, presence: Presence) -> Result<Arg<'a>, AllocE
         Presence::Unless(other) => arg.required_unless_present(other),
         Presence::InsteadOf(other) => arg.conflicts_with(other)?.required_unless_present(other),
     }
+}
+
+/// The error of a value of this command, called so, that is not what the help says.
+pub fn bad_value_error(
+    alloc: Global,
+    description: &Description,
+    called: &str,
+    message: &[&str],
+) -> Result<Error, AllocError>
+    ensures { IfOk result (λ e. kind_of e ≡ ErrorKind.ValueValidation) }
+{
+    let message = message.concat(alloc)?;
+    let mut command = command_of(alloc, description)?.bin_name(called)?;
+    command.error(ErrorKind::ValueValidation, message.as_str())
 }

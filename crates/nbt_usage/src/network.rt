@@ -5,10 +5,10 @@ ghost use Rattle.clap.specs.Words.{kind_of};
 ghost use Rattle.nbt_usage.specs.Limits.{least_of, most_of};
 ghost use Rattle.nbt_usage.specs.Refusal.{IsWrongUsage};
 
-use crate::argument::{Argument, Description, Form, Presence, command_of};
+use crate::argument::{Argument, Description, Form, Presence, bad_value_error, with_commands};
 use crate::refusal::Refusal;
-use clap::Error;
 use clap::error::ErrorKind;
+use clap::{Command, Error};
 use nbt_lease::{LIFE_MOST, LONGEST_MOST};
 use std::alloc::{AllocError, Global};
 
@@ -189,7 +189,7 @@ const PORT_ARGUMENT: Argument = Argument {
 };
 
 /// The command that runs a server.
-pub const SERVE_COMMAND: Description = Description {
+pub static SERVE_COMMAND: Description = Description {
     name: SERVE,
     about: SERVE_ABOUT,
     help: SERVE_HELP,
@@ -203,7 +203,7 @@ pub const SERVE_COMMAND: Description = Description {
 };
 
 /// The command that runs an end node.
-pub const NODE_COMMAND: Description = Description {
+pub static NODE_COMMAND: Description = Description {
     name: NODE,
     about: NODE_ABOUT,
     help: NODE_HELP,
@@ -221,12 +221,21 @@ pub const NODE_COMMAND: Description = Description {
 };
 
 /// The command that runs a server and two nodes.
-pub const LOOP_COMMAND: Description = Description {
+pub static LOOP_COMMAND: Description = Description {
     name: LOOP,
     about: LOOP_ABOUT,
     help: LOOP_HELP,
     arguments: &[PORT_ARGUMENT],
 };
+
+/// With the commands that open sockets.
+pub fn with_network_commands<'a>(
+    alloc: Global,
+    program: Command<'a>,
+) -> Result<Command<'a>, AllocError> {
+    let commands = [&SERVE_COMMAND, &NODE_COMMAND, &LOOP_COMMAND];
+    with_commands(alloc, program, &commands)
+}
 
 /// Which of the commands.
 #[derive(Clone, Copy, Debug, PartialEq, Eq)]
@@ -281,11 +290,12 @@ pub fn bad_port(alloc: Global, value: &str) -> Refusal
 fn bad_port_error(alloc: Global, value: &str) -> Result<Error, AllocError>
     ensures { IfOk result (λ e. kind_of e ≡ ErrorKind.ValueValidation) }
 {
-    let message = format!(in alloc;
-        "invalid value '{value}' for '<PORT>': not a whole number from 1 to 65533"
-    )?;
-    let mut command = command_of(alloc, &LOOP_COMMAND)?.bin_name("nbt loop")?;
-    command.error(ErrorKind::ValueValidation, message.as_str())
+    let message = [
+        "invalid value '",
+        value,
+        "' for '<PORT>': not a whole number from 1 to 65533",
+    ];
+    bad_value_error(alloc, &LOOP_COMMAND, "nbt loop", &message)
 }
 
 /// The refusal of a number that is out of its limits, with clap's own text around it, or the one of memory.
@@ -319,12 +329,17 @@ fn bad_number_error(
     };
     let least = limited.least();
     let most = limited.most();
-    let message = format!(in alloc;
-        "invalid value '{value}' for '<{label}>': not a whole number from {least} to {most}"
-    )?;
-    let mut command = match which {
-        NetworkCommand::Server => command_of(alloc, &SERVE_COMMAND)?.bin_name("nbt serve")?,
-        NetworkCommand::Node => command_of(alloc, &NODE_COMMAND)?.bin_name("nbt node")?,
-    };
-    command.error(ErrorKind::ValueValidation, message.as_str())
+    let limits = format!(in alloc; "{least} to {most}")?;
+    let message = [
+        "invalid value '",
+        value,
+        "' for '<",
+        label,
+        ">': not a whole number from ",
+        limits.as_str(),
+    ];
+    match which {
+        NetworkCommand::Server => bad_value_error(alloc, &SERVE_COMMAND, "nbt serve", &message),
+        NetworkCommand::Node => bad_value_error(alloc, &NODE_COMMAND, "nbt node", &message),
+    }
 }

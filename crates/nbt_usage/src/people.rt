@@ -4,11 +4,11 @@ ghost use Rattle.std.specs.Prelude.{◌≡◌, IfOk};
 ghost use Rattle.clap.specs.Words.{kind_of};
 ghost use Rattle.nbt_usage.specs.Refusal.{IsWrongUsage};
 
-use crate::argument::{Argument, Description, Form, Presence, command_of};
+use crate::argument::{Argument, Description, Form, Presence, bad_value_error, with_commands};
 use crate::network::{BIND, GROUP, LIFE, LONGEST, NAME, SERVER};
 use crate::refusal::Refusal;
-use clap::Error;
 use clap::error::ErrorKind;
+use clap::{Command, Error};
 use std::alloc::{AllocError, Global};
 
 const LOOKUP_ABOUT: &str = "Asks a name server who holds a name";
@@ -218,7 +218,7 @@ const FOR_OPTION: Argument = Argument {
 };
 
 /// The command that asks a server who holds a name.
-pub const LOOKUP_COMMAND: Description = Description {
+pub static LOOKUP_COMMAND: Description = Description {
     name: LOOKUP,
     about: LOOKUP_ABOUT,
     help: LOOKUP_HELP,
@@ -239,7 +239,7 @@ pub const LOOKUP_COMMAND: Description = Description {
 };
 
 /// The command that asks a host which names it holds.
-pub const STATUS_COMMAND: Description = Description {
+pub static STATUS_COMMAND: Description = Description {
     name: STATUS,
     about: STATUS_ABOUT,
     help: STATUS_HELP,
@@ -265,7 +265,7 @@ pub const STATUS_COMMAND: Description = Description {
 };
 
 /// The command that runs a name server.
-pub const NBNS_COMMAND: Description = Description {
+pub static NBNS_COMMAND: Description = Description {
     name: NBNS,
     about: NBNS_ABOUT,
     help: NBNS_HELP,
@@ -301,7 +301,7 @@ pub const NBNS_COMMAND: Description = Description {
 };
 
 /// The command that holds names for this machine.
-pub const HOST_COMMAND: Description = Description {
+pub static HOST_COMMAND: Description = Description {
     name: HOST,
     about: HOST_ABOUT,
     help: HOST_HELP,
@@ -339,6 +339,20 @@ pub const HOST_COMMAND: Description = Description {
     ],
 };
 
+/// With the commands for people who run a network.
+pub fn with_people_commands<'a>(
+    alloc: Global,
+    program: Command<'a>,
+) -> Result<Command<'a>, AllocError> {
+    let commands = [
+        &LOOKUP_COMMAND,
+        &STATUS_COMMAND,
+        &NBNS_COMMAND,
+        &HOST_COMMAND,
+    ];
+    with_commands(alloc, program, &commands)
+}
+
 /// Which of these commands.
 #[derive(Clone, Copy, Debug, PartialEq, Eq)]
 pub enum PeopleCommand {
@@ -359,12 +373,13 @@ pub fn bad_wait(alloc: Global, which: PeopleCommand, value: &str) -> Refusal
 fn bad_wait_error(alloc: Global, which: PeopleCommand, value: &str) -> Result<Error, AllocError>
     ensures { IfOk result (λ e. kind_of e ≡ ErrorKind.ValueValidation) }
 {
-    let message = format!(in alloc;
-        "invalid value '{value}' for '--wait <TIME>': not a time from 1ms to 5s"
-    )?;
-    let mut command = match which {
-        PeopleCommand::Lookup => command_of(alloc, &LOOKUP_COMMAND)?.bin_name("nbt lookup")?,
-        PeopleCommand::Status => command_of(alloc, &STATUS_COMMAND)?.bin_name("nbt status")?,
-    };
-    command.error(ErrorKind::ValueValidation, message.as_str())
+    let message = [
+        "invalid value '",
+        value,
+        "' for '--wait <TIME>': not a time from 1ms to 5s",
+    ];
+    match which {
+        PeopleCommand::Lookup => bad_value_error(alloc, &LOOKUP_COMMAND, "nbt lookup", &message),
+        PeopleCommand::Status => bad_value_error(alloc, &STATUS_COMMAND, "nbt status", &message),
+    }
 }

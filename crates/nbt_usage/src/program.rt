@@ -4,9 +4,10 @@ ghost use Rattle.std.specs.Prelude.{◌≡◌, IfOk};
 ghost use Rattle.clap.specs.Words.{kind_of};
 ghost use Rattle.nbt_usage.specs.Refusal.{IsWrongUsage};
 
-use crate::argument::{Argument, Description, Form, Presence, command_of, with_commands};
+use crate::argument::{Argument, Description, Form, Presence, bad_value_error, with_commands};
+use crate::network::with_network_commands;
+use crate::people::with_people_commands;
 use crate::refusal::Refusal;
-use crate::{network, people};
 use clap::error::ErrorKind;
 use clap::{Command, Error};
 use std::alloc::{AllocError, Global};
@@ -186,7 +187,7 @@ pub const EXPLAIN: &str = "explain";
 /// The option that draws a picture in place of printing lines.
 pub const DRAW: &str = "draw";
 
-const ANSWER_COMMAND: Description = Description {
+static ANSWER_COMMAND: Description = Description {
     name: ANSWER,
     about: ANSWER_ABOUT,
     help: ANSWER_HELP,
@@ -212,7 +213,7 @@ const ANSWER_COMMAND: Description = Description {
     ],
 };
 
-const SHOW_COMMAND: Description = Description {
+static SHOW_COMMAND: Description = Description {
     name: SHOW,
     about: SHOW_ABOUT,
     help: SHOW_HELP,
@@ -238,14 +239,14 @@ const SHOW_COMMAND: Description = Description {
     ],
 };
 
-const CHECK_COMMAND: Description = Description {
+static CHECK_COMMAND: Description = Description {
     name: CHECK,
     about: CHECK_ABOUT,
     help: CHECK_HELP,
     arguments: &[],
 };
 
-const SIM_COMMAND: Description = Description {
+static SIM_COMMAND: Description = Description {
     name: SIM,
     about: SIM_ABOUT,
     help: SIM_HELP,
@@ -257,31 +258,31 @@ const SIM_COMMAND: Description = Description {
     }],
 };
 
-/// The commands, in the order of the help: those for people who run a network first.
-const COMMANDS: [Description; 11] = [
-    people::LOOKUP_COMMAND,
-    people::STATUS_COMMAND,
-    people::NBNS_COMMAND,
-    people::HOST_COMMAND,
-    ANSWER_COMMAND,
-    SHOW_COMMAND,
-    CHECK_COMMAND,
-    SIM_COMMAND,
-    network::SERVE_COMMAND,
-    network::NODE_COMMAND,
-    network::LOOP_COMMAND,
-];
-
-/// The program with each of its commands.
+/// The program with each of its commands, in the order of the help: those for people who run a network first.
 pub fn program<'a>(alloc: Global) -> Result<Command<'a>, AllocError> {
-    let program = Command::new(alloc, "nbt")
-        .bin_name("nbt")?
+    let program = with_people_commands(alloc, empty_program(alloc).bin_name("nbt")?)?;
+    with_network_commands(alloc, with_bench_commands(alloc, program)?)
+}
+
+/// With the commands that try the protocol on octets.
+fn with_bench_commands<'a>(alloc: Global, program: Command<'a>) -> Result<Command<'a>, AllocError> {
+    let commands = [&ANSWER_COMMAND, &SHOW_COMMAND, &CHECK_COMMAND, &SIM_COMMAND];
+    with_commands(alloc, program, &commands)
+}
+
+/// The program without its commands, which wants one of them.
+fn empty_program<'a>(alloc: Global) -> Command<'a> {
+    described_program(alloc)
+        .subcommand_required(true)
+        .arg_required_else_help(true)
+}
+
+/// The program with its version and its help alone.
+fn described_program<'a>(alloc: Global) -> Command<'a> {
+    Command::new(alloc, "nbt")
         .version("0.1.0")
         .about(ABOUT)
         .after_help(PROGRAM_HELP)
-        .subcommand_required(true)
-        .arg_required_else_help(true);
-    with_commands(alloc, program, &COMMANDS)
 }
 
 /// The refusal of a time that is not as the help says, with clap's own text around it, or the one of memory.
@@ -297,11 +298,12 @@ pub fn bad_time(alloc: Global, value: &str) -> Refusal
 fn bad_time_error(alloc: Global, value: &str) -> Result<Error, AllocError>
     ensures { IfOk result (λ e. kind_of e ≡ ErrorKind.ValueValidation) }
 {
-    let message = format!(in alloc;
-        "invalid value '{value}' for '--at <MS>': not a whole number from 0 to 1152921504606846976"
-    )?;
-    let mut command = command_of(alloc, &ANSWER_COMMAND)?.bin_name("nbt answer")?;
-    command.error(ErrorKind::ValueValidation, message.as_str())
+    let message = [
+        "invalid value '",
+        value,
+        "' for '--at <MS>': not a whole number from 0 to 1152921504606846976",
+    ];
+    bad_value_error(alloc, &ANSWER_COMMAND, "nbt answer", &message)
 }
 
 /// The refusal of a word that is no UTF-8, with clap's own text around it, or the one of memory.

@@ -6,8 +6,8 @@ ghost use Rattle.nbt_usage.specs.Inner.Words.{IsFlag, argument_of, arguments_of,
 
 use crate::refusal::Refusal;
 use crate::{network, people, program};
-use clap::ArgMatches;
 use clap::error::ErrorKind;
+use clap::{ArgMatches, Command};
 use std::alloc::{AllocError, Global};
 use std::convert::AsStr;
 
@@ -159,17 +159,44 @@ pub enum Words<'a> {
 /// Sorts the program's words, of which the first is its own name.
 pub fn read<'a, S: AsStr>(alloc: Global, words: &'a [S]) -> Result<Words<'a>, Refusal> {
     let mut program = program::program(alloc)?;
-    let matches = program.try_get_matches_from_mut(words)?;
-    let found = match matches.subcommand() {
-        Some((name, inner)) => words_of(alloc, name, inner)?,
-        None => None,
-    };
-    match found {
+    read_by(alloc, &mut program, words)
+}
+
+/// Sorts the words as this program does.
+fn read_by<'a, S: AsStr>(
+    alloc: Global,
+    program: &mut Command<'a>,
+    words: &'a [S],
+) -> Result<Words<'a>, Refusal> {
+    match words_by(alloc, program, words)? {
         Some(words) => Ok(words),
-        None => {
-            let message = "a command is needed";
-            Err(program.error(ErrorKind::MissingSubcommand, message)?)?
-        }
+        None => Err(no_command(program)),
+    }
+}
+
+/// The command that this program finds in them, with its words; `None` where there is none.
+fn words_by<'a, S: AsStr>(
+    alloc: Global,
+    program: &mut Command<'a>,
+    words: &'a [S],
+) -> Result<Option<Words<'a>>, Refusal> {
+    let matches = program.try_get_matches_from_mut(words)?;
+    Ok(words_in(alloc, &matches)?)
+}
+
+/// The command that was found, with its words; `None` where there is none.
+fn words_in<'a>(alloc: Global, matches: &ArgMatches<'a>) -> Result<Option<Words<'a>>, AllocError> {
+    match matches.subcommand() {
+        Some((name, inner)) => words_of(alloc, name, inner),
+        None => Ok(None),
+    }
+}
+
+/// The refusal of words without a command, or the one of memory.
+fn no_command<'a>(program: &mut Command<'a>) -> Refusal {
+    match program.error(ErrorKind::MissingSubcommand, "a command is needed") {
+        Ok(error) => Refusal::from(error),
+        Err(_) => Refusal::Memory,
     }
 }
 
