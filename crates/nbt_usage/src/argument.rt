@@ -27,6 +27,48 @@ pub enum Form {
     Flag,
 }
 
+impl Form {
+    /// The word that stands for its value in the help.
+    fn shown(self) -> Option<&'static str> {
+        match self {
+            Form::Word(shown)
+            | Form::Words(shown)
+            | Form::Choice(shown, _)
+            | Form::Option(shown)
+            | Form::Options(shown)
+            | Form::OptionChoice(shown, _) => Some(shown),
+            Form::Flag => None,
+        }
+    }
+
+    /// The values of which it is one, where there are such.
+    fn values(self) -> Option<&'static [&'static str]> {
+        match self {
+            Form::Choice(_, values) | Form::OptionChoice(_, values) => Some(values),
+            _ => None,
+        }
+    }
+
+    /// What is done where it is met, but to keep its value.
+    fn action(self) -> Option<ArgAction> {
+        match self {
+            Form::Words(_) | Form::Options(_) => Some(ArgAction::Append),
+            Form::Flag => Some(ArgAction::SetTrue),
+            _ => None,
+        }
+    }
+
+    /// Whether it stands in its place, and not after its name.
+    fn is_placed(self) -> bool {
+        matches!(self, Form::Word(_) | Form::Words(_) | Form::Choice(_, _))
+    }
+
+    /// Whether it may be several words at once.
+    fn is_many(self) -> bool {
+        matches!(self, Form::Words(_))
+    }
+}
+
 /// Whether an argument has to be there.
 #[derive(Clone, Copy)]
 pub enum Presence {
@@ -105,22 +147,27 @@ fn arg_of<'a>(alloc: Global, argument: &Argument) -> Result<Arg<'a>, AllocError>
 
 /// In this form; an option has this name.
 fn with_form<'a>(arg: Arg<'a>, name: &'static str, form: Form) -> Arg<'a> {
-    match form {
-        Form::Word(shown) => arg.value_name(shown),
-        Form::Words(shown) => arg
-            .value_name(shown)
-            .num_args(1..)
-            .action(ArgAction::Append),
-        Form::Choice(shown, values) => arg
-            .value_name(shown)
-            .value_parser(ValueParser::Names(values)),
-        Form::Option(shown) => arg.long(name).value_name(shown),
-        Form::Options(shown) => arg.long(name).value_name(shown).action(ArgAction::Append),
-        Form::OptionChoice(shown, values) => arg
-            .long(name)
-            .value_name(shown)
-            .value_parser(ValueParser::Names(values)),
-        Form::Flag => arg.long(name).action(ArgAction::SetTrue),
+    let arg = if form.is_placed() {
+        arg
+    } else {
+        arg.long(name)
+    };
+    let arg = match form.shown() {
+        Some(shown) => arg.value_name(shown),
+        None => arg,
+    };
+    let arg = match form.values() {
+        Some(values) => arg.value_parser(ValueParser::Names(values)),
+        None => arg,
+    };
+    let arg = match form.action() {
+        Some(action) => arg.action(action),
+        None => arg,
+    };
+    if form.is_many() {
+        arg.num_args(1..)
+    } else {
+        arg
     }
 }
 
