@@ -10,6 +10,7 @@ use std::process::Abort;
 mod answer;
 mod check;
 mod datagrams;
+mod ending;
 mod expect;
 mod explain;
 mod failures;

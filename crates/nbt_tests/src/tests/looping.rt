@@ -1,15 +1,15 @@
 //! The command `loop`, over the sockets of this machine.
 
 use super::LimitedWriter;
+use super::ending::{Ending, expect_ending};
 use super::expect::{expect, expect_eq, expect_eq_in};
-use super::machine::WithoutMemory;
+use super::machine::{WithFiles, WithoutMemory};
 use super::street::{Luck, Street};
 use super::terminal::words_of;
 use arrayvec::ArrayVec;
-use nbt_prog::{command, command_on, command_telling};
+use nbt_prog::{command, command_on};
 use std::alloc::AllocError;
 use std::cell::Cell;
-use std::convert::AsStr;
 use std::io;
 use std::io::Write;
 use std::net::{IpAddr, Ipv4Addr, Net, SocketAddr, TcpListener, TcpStream, UdpSocket};
@@ -17,7 +17,7 @@ use std::process::Abort;
 use std::rc::Rc;
 use std::rt::Files;
 use std::test::Fail;
-use std::time::{Clock, Duration};
+use std::time::Duration;
 
 /// All that is told.
 const TOLD: &str = "\
@@ -94,38 +94,18 @@ const NOT_BOUND: [(&str, &str); 8] = [
     ),
 ];
 
-/// What a command prints that ends with `device`, and what it says on standard error.
-fn expect_device<R: Abort + AllocGlobal, M: Net + Clock + Files, S: AsStr>(
-    rt: &R,
-    machine: &M,
-    words: &[S],
-    printed: &str,
-    said: &str,
-    line: &str,
-) {
-    let mut paper = LimitedWriter::new();
-    let mut errors = LimitedWriter::new();
-    let status = command_telling(
-        machine,
-        rt.alloc(),
-        words,
-        &mut io::empty(),
-        &mut paper,
-        &mut errors,
-    );
-    expect_eq_in(rt, &line, &paper.text.as_slice(), &printed.as_bytes());
-    expect_eq_in(rt, &line, &errors.text.as_slice(), &said.as_bytes());
-    expect_eq_in(rt, &line, &status, &3);
-}
-
 #[test]
 fn ports_that_can_not_be_had(rt: HostRuntime) -> Result<(), Fail> {
     let _taken = UdpSocket::bind(&rt, "127.42.24.1:22337")?;
     let _datagrams = UdpSocket::bind(&rt, end(2, 22238))?;
     let _sessions = TcpListener::bind(&rt, end(2, 22439))?;
     for (line, said) in NOT_BOUND {
-        let words = words_of(&rt, line);
-        expect_device(&rt, &rt, words.as_slice(), "device\n", said, line);
+        let ending = Ending {
+            status: 3,
+            text: "device\n",
+            errors: said,
+        };
+        expect_ending(&rt, line, &rt, words_of(&rt, line).as_slice(), &ending);
     }
     Ok(())
 }
@@ -147,7 +127,10 @@ const BINDING: [(&str, &str, u8); 3] = [
 
 #[test]
 fn ports_for_which_there_is_no_memory(rt: HostRuntime) {
-    let machine = WithoutMemory { host: &rt };
+    let machine = WithFiles {
+        rest: &WithoutMemory { host: &rt },
+        files: &rt,
+    };
     for (line, printed, expected) in BINDING {
         let words = words_of(&rt, line);
         let mut paper = LimitedWriter::new();
@@ -309,8 +292,12 @@ fn expect_all_told<
 >(rt: &R, caller: Luck, listener: Luck, teller: u16, connections: usize) -> Result<(), Fail> {
     let street = street_of(rt, caller, listener, teller)?;
     let mut told = Watcher::of(&street)?;
+    let machine = WithFiles {
+        rest: &street,
+        files: rt,
+    };
     let words = ["nbt", "loop", "21137"];
-    let status = command_on(&street, rt.alloc(), &words, &mut io::empty(), &mut told);
+    let status = command_on(&machine, rt.alloc(), &words, &mut io::empty(), &mut told);
     let row = (caller, listener);
     expect_eq_in(
         rt,
@@ -357,14 +344,15 @@ const WHY_WITHOUT_CALLS: &str = "nbt: 127.0.0.2:21139: accept: invalid input par
 #[test]
 fn a_socket_that_listens_and_fails_ends_all(rt: HostRuntime) -> Result<(), Fail> {
     let street = street_of(&rt, Luck::Well, Luck::Refused, ABOVE)?;
-    let words = ["nbt", "loop", "21137"];
-    expect_device(
-        &rt,
-        &street,
-        &words,
-        TOLD_WITHOUT_CALLS,
-        WHY_WITHOUT_CALLS,
-        "loop",
-    );
+    let machine = WithFiles {
+        rest: &street,
+        files: &rt,
+    };
+    let ending = Ending {
+        status: 3,
+        text: TOLD_WITHOUT_CALLS,
+        errors: WHY_WITHOUT_CALLS,
+    };
+    expect_ending(&rt, "loop", &machine, &["nbt", "loop", "21137"], &ending);
     Ok(())
 }

@@ -111,52 +111,6 @@ impl<'a, N: Net<Stream = TcpStream, Listener = TcpListener>> Net for Machine<'a,
     }
 }
 
-impl<'a, N: Files> Files for Machine<'a, N> {
-    type File = N::File;
-
-    type Dir = N::Dir;
-
-    fn open_file(&self, how: &OpenOptions, path: &str) -> io::Result<N::File> {
-        self.host.open_file(how, path)
-    }
-
-    fn open_dir(&self, path: &str) -> io::Result<N::Dir> {
-        self.host.open_dir(path)
-    }
-
-    fn metadata(&self, path: &str) -> io::Result<Metadata> {
-        self.host.metadata(path)
-    }
-
-    fn symlink_metadata(&self, path: &str) -> io::Result<Metadata> {
-        self.host.symlink_metadata(path)
-    }
-
-    fn copy(&self, from: &str, to: &str) -> io::Result<u64> {
-        self.host.copy(from, to)
-    }
-
-    fn rename(&self, from: &str, to: &str) -> io::Result<()> {
-        self.host.rename(from, to)
-    }
-
-    fn remove_file(&self, path: &str) -> io::Result<()> {
-        self.host.remove_file(path)
-    }
-
-    fn create_dir(&self, path: &str) -> io::Result<()> {
-        self.host.create_dir(path)
-    }
-
-    fn remove_dir(&self, path: &str) -> io::Result<()> {
-        self.host.remove_dir(path)
-    }
-
-    fn remove_dir_all<B: Allocator>(&self, alloc: B, path: &str) -> io::Result<()> {
-        self.host.remove_dir_all(alloc, path)
-    }
-}
-
 /// This machine without memory for a socket.
 #[derive(Drop)]
 pub struct WithoutMemory<'a, N> {
@@ -195,48 +149,87 @@ impl<'a, N> Net for WithoutMemory<'a, N> {
     }
 }
 
-impl<'a, N: Files> Files for WithoutMemory<'a, N> {
-    type File = N::File;
+/// The clock and the network of `rest`, and the files of `files`.
+#[derive(Clone, Copy)]
+pub struct WithFiles<'a, N, F> {
+    pub rest: &'a N,
+    pub files: &'a F,
+}
 
-    type Dir = N::Dir;
-
-    fn open_file(&self, how: &OpenOptions, path: &str) -> io::Result<N::File> {
-        self.host.open_file(how, path)
+impl<'a, N: Clock, F> Clock for WithFiles<'a, N, F> {
+    fn monotonic(&self) -> io::Result<Duration> {
+        self.rest.monotonic()
     }
 
-    fn open_dir(&self, path: &str) -> io::Result<N::Dir> {
-        self.host.open_dir(path)
+    fn since_1970(&self) -> io::Result<Duration> {
+        self.rest.since_1970()
+    }
+
+    fn sleep(&self, duration: Duration) {
+        self.rest.sleep(duration)
+    }
+}
+
+impl<'a, N: Net, F> Net for WithFiles<'a, N, F> {
+    type Stream = N::Stream;
+
+    type Listener = N::Listener;
+
+    fn bind(&self, addr: SocketAddr) -> io::Result<N::Listener> {
+        self.rest.bind(addr)
+    }
+
+    fn bind_udp(&self, addr: SocketAddr) -> io::Result<UdpSocket> {
+        self.rest.bind_udp(addr)
+    }
+
+    fn connect(&self, addr: SocketAddr) -> io::Result<N::Stream> {
+        self.rest.connect(addr)
+    }
+}
+
+impl<'a, N, F: Files> Files for WithFiles<'a, N, F> {
+    type File = F::File;
+
+    type Dir = F::Dir;
+
+    fn open_file(&self, how: &OpenOptions, path: &str) -> io::Result<F::File> {
+        self.files.open_file(how, path)
+    }
+
+    fn open_dir(&self, path: &str) -> io::Result<F::Dir> {
+        self.files.open_dir(path)
     }
 
     fn metadata(&self, path: &str) -> io::Result<Metadata> {
-        self.host.metadata(path)
+        self.files.metadata(path)
     }
 
     fn symlink_metadata(&self, path: &str) -> io::Result<Metadata> {
-        self.host.symlink_metadata(path)
+        self.files.symlink_metadata(path)
     }
 
     fn copy(&self, from: &str, to: &str) -> io::Result<u64> {
-        self.host.copy(from, to)
+        self.files.copy(from, to)
     }
 
     fn rename(&self, from: &str, to: &str) -> io::Result<()> {
-        self.host.rename(from, to)
+        self.files.rename(from, to)
     }
 
     fn remove_file(&self, path: &str) -> io::Result<()> {
-        self.host.remove_file(path)
+        self.files.remove_file(path)
     }
 
     fn create_dir(&self, path: &str) -> io::Result<()> {
-        self.host.create_dir(path)
+        self.files.create_dir(path)
     }
 
     fn remove_dir(&self, path: &str) -> io::Result<()> {
-        self.host.remove_dir(path)
+        self.files.remove_dir(path)
     }
 
     fn remove_dir_all<B: Allocator>(&self, alloc: B, path: &str) -> io::Result<()> {
-        self.host.remove_dir_all(alloc, path)
+        self.files.remove_dir_all(alloc, path)
     }
 }

@@ -1,17 +1,14 @@
 //! The command `nbns`: its words, and what it serves, logs and keeps over UDP and clocks that are set.
 
-use super::LimitedWriter;
-use super::expect::{expect, expect_eq};
+use super::ending::{Ending, expect_ending};
+use super::expect::expect_eq;
+use super::machine::WithFiles;
 use super::people::expect_said;
 use super::serving::{NO_CLOCK, NO_TIME, Row, expect_row, machine_of};
 use super::terminal::{play, words_of};
-use nbt_prog::command_telling;
-use std::net::{Net, UdpSocket};
-use std::process::Abort;
-use std::rt::Files;
+use std::net::UdpSocket;
 use std::test::Fail;
-use std::time::Clock;
-use std::{env, fs, io, process};
+use std::{env, fs, process};
 
 const WORDS: &str = "\
 # Wrong usage.
@@ -317,8 +314,16 @@ fn a_list_of_leases(rt: HostRuntime) -> Result<(), Fail> {
     let machine = machine_of(&rt, &KEPT)?;
     let mut words = words_of(&rt, KEEPS);
     words.push(String::from_str(rt.alloc(), path.as_str())?)?;
-    let status = expect_ending(&rt, &machine, words.as_slice(), KEPT.text, "");
-    expect_eq(&rt, &status, &0);
+    let machine = WithFiles {
+        rest: &machine,
+        files: &rt,
+    };
+    let ending = Ending {
+        status: 0,
+        text: KEPT.text,
+        errors: "",
+    };
+    expect_ending(&rt, KEPT.about, &machine, words.as_slice(), &ending);
     expect_eq(
         &rt,
         &fs::read_to_string(&rt, path.as_str())?.as_str(),
@@ -328,36 +333,15 @@ fn a_list_of_leases(rt: HostRuntime) -> Result<(), Fail> {
     Ok(())
 }
 
-/// What a command prints and says, and how it ends.
-fn expect_ending<R: Abort + AllocGlobal, M: Net + Clock + Files>(
-    rt: &R,
-    machine: &M,
-    words: &[String],
-    text: &str,
-    said: &str,
-) -> u8 {
-    let mut paper = LimitedWriter::new();
-    let mut errors = LimitedWriter::new();
-    let status = command_telling(
-        machine,
-        rt.alloc(),
-        words,
-        &mut io::empty(),
-        &mut paper,
-        &mut errors,
-    );
-    expect_eq(rt, &paper.text.as_slice(), &text.as_bytes());
-    expect(rt, paper.is_line_by_line());
-    expect_eq(rt, &errors.text.as_slice(), &said.as_bytes());
-    status
-}
-
 #[test]
 fn a_port_that_can_not_be_had(rt: HostRuntime) -> Result<(), Fail> {
     let _taken = UdpSocket::bind(&rt, "127.42.22.4:20138")?;
     let words = words_of(&rt, "nbt nbns --bind 127.42.22.4:20138");
-    let said = "nbt: 127.42.22.4:20138: Address already in use (os error 98)\n";
-    let status = expect_ending(&rt, &rt, words.as_slice(), "device\n", said);
-    expect_eq(&rt, &status, &3);
+    let ending = Ending {
+        status: 3,
+        text: "device\n",
+        errors: "nbt: 127.42.22.4:20138: Address already in use (os error 98)\n",
+    };
+    expect_ending(&rt, "nbns", &rt, words.as_slice(), &ending);
     Ok(())
 }

@@ -1,15 +1,14 @@
 //! The commands `lookup` and `status`: their words, and what they ask and print over UDP and a clock that is set.
 
 use super::LimitedWriter;
-use super::expect::{expect_eq_in, expect_in};
+use super::ending::{Ending, expect_ending};
+use super::expect::expect_eq_in;
 use super::serving::{FAILED, NO_CLOCK, Row, expect_row, machine_of};
 use super::terminal::{play, words_of};
 use nbt_ask::{Answer, ask_here};
 use nbt_engine::Fault;
 use nbt_lookup::Question;
 use nbt_name::{Addr, Name};
-use nbt_prog::command_telling;
-use std::io;
 use std::net::{Net, TcpListener, TcpStream};
 use std::process::Abort;
 use std::rt::Files;
@@ -114,21 +113,12 @@ const UNREADABLE: [(&str, &str); 12] = [
 
 /// What is said of words that can't be read: nothing is printed, and the status is 2.
 pub fn expect_said<R: Abort + AllocGlobal + Net + Clock + Files>(rt: &R, line: &str, said: &str) {
-    let words = words_of(rt, line);
-    let mut paper = LimitedWriter::new();
-    let mut errors = LimitedWriter::new();
-    let status = command_telling(
-        rt,
-        rt.alloc(),
-        words.as_slice(),
-        &mut io::empty(),
-        &mut paper,
-        &mut errors,
-    );
-    expect_eq_in(rt, &line, &errors.text.as_slice(), &said.as_bytes());
-    expect_in(rt, &line, errors.is_flushed());
-    expect_in(rt, &line, paper.text.is_empty());
-    expect_eq_in(rt, &line, &status, &2);
+    let ending = Ending {
+        status: 2,
+        text: "",
+        errors: said,
+    };
+    expect_ending(rt, line, rt, words_of(rt, line).as_slice(), &ending);
 }
 
 #[test]

@@ -1,10 +1,11 @@
 //! The commands `serve` and `node` with another end, over UDP and a clock that is set: what they print and send.
 
 use super::LimitedWriter;
+use super::ending::{Ending, expect_ending};
 use super::expect::{expect_eq_in, expect_in};
-use super::machine::{Machine, WELL};
+use super::machine::{Machine, WELL, WithFiles};
 use super::terminal::{word_of, words_of};
-use nbt_prog::{command_on, command_telling};
+use nbt_prog::command_on;
 use std::cell::Cell;
 use std::io;
 use std::net::{Net, TcpListener, TcpStream, UdpSocket};
@@ -320,29 +321,31 @@ pub fn expect_row<R>(rt: &R, row: &Row) -> Result<(), Fail>
 where
     R: Abort + AllocGlobal + Net<Stream = TcpStream, Listener = TcpListener> + Files,
 {
-    let machine = machine_of(rt, row)?;
-    let words = words_of(rt, row.words);
-    let mut paper = LimitedWriter::new();
-    let mut errors = LimitedWriter::new();
-    let status = command_telling(
-        &machine,
-        rt.alloc(),
-        words.as_slice(),
-        &mut io::empty(),
-        &mut paper,
-        &mut errors,
-    );
-    let about = row.about;
-    expect_eq_in(rt, &about, &paper.text.as_slice(), &row.text.as_bytes());
-    expect_eq_in(rt, &about, &status, &row.status);
-    expect_in(rt, &about, paper.is_line_by_line());
-    expect_eq_in(rt, &about, &machine.readings.get(), &row.readings);
-    expect_eq_in(rt, &about, &errors.text.as_slice(), &row.errors.as_bytes());
     let sleeps = if row.words.ends_with("--forever") {
         99
     } else {
         0
     };
+    expect_row_on(rt, row, &machine_of(rt, row)?, sleeps)
+}
+
+/// Runs a row's command on this machine, which sleeps so often.
+fn expect_row_on<R>(rt: &R, row: &Row, machine: &Machine<'_, R>, sleeps: usize) -> Result<(), Fail>
+where
+    R: Abort + AllocGlobal + Net<Stream = TcpStream, Listener = TcpListener> + Files,
+{
+    let about = row.about;
+    let on = WithFiles {
+        rest: machine,
+        files: rt,
+    };
+    let ending = Ending {
+        status: row.status,
+        text: row.text,
+        errors: row.errors,
+    };
+    expect_ending(rt, about, &on, words_of(rt, row.words).as_slice(), &ending);
+    expect_eq_in(rt, &about, &machine.readings.get(), &row.readings);
     expect_eq_in(rt, &about, &machine.sleeps.get(), &sleeps);
     expect_sent(rt, row, &machine.other)
 }
@@ -421,7 +424,8 @@ const NODE_OUTLASTS: Row = Row {
     sent: &[ASKS, REFRESHES],
 };
 
-/// Runs the row's command, whose port is well after three failures and breaks again at that reading.
+/// Runs the row's command, whose port is well after three failures and breaks again at that reading. It waits after each failure but
+/// the last: three times, and 99.
 fn expect_outlasting<R>(rt: &R, row: &Row, breaks_again_at: usize) -> Result<(), Fail>
 where
     R: Abort + AllocGlobal + Net<Stream = TcpStream, Listener = TcpListener> + Files,
@@ -429,25 +433,7 @@ where
     let mut machine = machine_of(rt, row)?;
     machine.well_after = 3;
     machine.breaks_again_at = breaks_again_at;
-    let words = words_of(rt, row.words);
-    let mut paper = LimitedWriter::new();
-    let mut errors = LimitedWriter::new();
-    let status = command_telling(
-        &machine,
-        rt.alloc(),
-        words.as_slice(),
-        &mut io::empty(),
-        &mut paper,
-        &mut errors,
-    );
-    let about = row.about;
-    expect_eq_in(rt, &about, &paper.text.as_slice(), &row.text.as_bytes());
-    expect_eq_in(rt, &about, &status, &row.status);
-    expect_eq_in(rt, &about, &errors.text.as_slice(), &row.errors.as_bytes());
-    expect_eq_in(rt, &about, &machine.readings.get(), &row.readings);
-    // One wait after each failure but the last: three, and 99.
-    expect_eq_in(rt, &about, &machine.sleeps.get(), &102);
-    expect_sent(rt, row, &machine.other)
+    expect_row_on(rt, row, &machine, 102)
 }
 
 #[test]
@@ -477,7 +463,10 @@ fn an_event_that_can_not_be_told(rt: HostRuntime) -> Result<(), Fail> {
         let words = words_of(&rt, row.words);
         let mut paper = LimitedWriter::stuck();
         let status = command_on(
-            &machine,
+            &WithFiles {
+                rest: &machine,
+                files: &rt,
+            },
             rt.alloc(),
             words.as_slice(),
             &mut io::empty(),

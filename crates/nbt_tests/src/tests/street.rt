@@ -1,8 +1,6 @@
 //! This machine's network with strangers on it, and with connections that fail.
 
-use std::alloc::Allocator;
 use std::cell::Cell;
-use std::fs::{Metadata, OpenOptions};
 use std::io;
 use std::io::{Read, Write};
 use std::net::{
@@ -10,7 +8,6 @@ use std::net::{
 };
 use std::os::fd::{AsRawFd, RawFd};
 use std::rc::Rc;
-use std::rt::Files;
 use std::time::{Clock, Duration};
 
 /// A status request for the name `*`, which a node replies to.
@@ -258,51 +255,5 @@ impl<'a, N> Clock for Street<'a, N> {
 
     fn since_1970(&self) -> io::Result<Duration> {
         Err(io::Error::from(io::ErrorKind::Unsupported))
-    }
-}
-
-impl<'a, N: Files> Files for Street<'a, N> {
-    type File = N::File;
-
-    type Dir = N::Dir;
-
-    fn open_file(&self, how: &OpenOptions, path: &str) -> io::Result<N::File> {
-        self.machine.open_file(how, path)
-    }
-
-    fn open_dir(&self, path: &str) -> io::Result<N::Dir> {
-        self.machine.open_dir(path)
-    }
-
-    fn metadata(&self, path: &str) -> io::Result<Metadata> {
-        self.machine.metadata(path)
-    }
-
-    fn symlink_metadata(&self, path: &str) -> io::Result<Metadata> {
-        self.machine.symlink_metadata(path)
-    }
-
-    fn copy(&self, from: &str, to: &str) -> io::Result<u64> {
-        self.machine.copy(from, to)
-    }
-
-    fn rename(&self, from: &str, to: &str) -> io::Result<()> {
-        self.machine.rename(from, to)
-    }
-
-    fn remove_file(&self, path: &str) -> io::Result<()> {
-        self.machine.remove_file(path)
-    }
-
-    fn create_dir(&self, path: &str) -> io::Result<()> {
-        self.machine.create_dir(path)
-    }
-
-    fn remove_dir(&self, path: &str) -> io::Result<()> {
-        self.machine.remove_dir(path)
-    }
-
-    fn remove_dir_all<B: Allocator>(&self, alloc: B, path: &str) -> io::Result<()> {
-        self.machine.remove_dir_all(alloc, path)
     }
 }
