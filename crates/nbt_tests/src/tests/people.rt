@@ -379,16 +379,16 @@ const NO_ADDRESS: &str = "nbt: 192.0.2.1:20138: Cannot assign requested address 
 
 #[test]
 fn questions_over_this_machine(rt: HostRuntime) -> Result<(), Fail> {
-    expect_answer(
-        &rt,
-        &LOOKUPS[2],
-        OWN,
-        Ok(Answer::NotFound),
-        "not found: no such name (3)\n",
-        "",
-    )?;
-    expect_answer(&rt, &LOOKUPS[3], OWN, Ok(Answer::NoReply), "no reply\n", "")?;
-    expect_answer(&rt, &PORT_FAILS, OWN, Err(Fault::Device), "", FAILED)?;
-    expect_answer(&rt, &CLOCK_FAILS, OWN, Err(Fault::NoClock), "", NO_CLOCK)?;
-    expect_answer(&rt, &PORT_FAILS, NOBODY, Err(Fault::NoPort), "", NO_ADDRESS)
+    let nobody = "not found: no such name (3)\n";
+    let answers = [
+        (&LOOKUPS[2], OWN, Ok(Answer::NotFound), nobody, ""),
+        (&LOOKUPS[3], OWN, Ok(Answer::NoReply), "no reply\n", ""),
+        (&PORT_FAILS, OWN, Err(Fault::Device), "", FAILED),
+        (&CLOCK_FAILS, OWN, Err(Fault::NoClock), "", NO_CLOCK),
+        (&PORT_FAILS, NOBODY, Err(Fault::NoPort), "", NO_ADDRESS),
+    ];
+    for (row, own, answer, text, said) in answers {
+        expect_answer(&rt, row, own, answer, text, said)?;
+    }
+    Ok(())
 }

@@ -25,6 +25,13 @@ const SECOND: Addr = Addr {
     port: 137,
 };
 
+/// The flags of a grant, of a refusal, and of the reply to a release (RFC 1002 sections 4.2.5, 4.2.6 and 4.2.10).
+const GRANTED: &[u8] = b"\xAD\x80";
+
+const REFUSED: &[u8] = b"\xAD\x86";
+
+const FREED: &[u8] = b"\xB4\x00";
+
 type Datagram = ArrayVec<u8, 576>;
 
 fn at(ms: u64) -> Result<Moment, Fail> {
@@ -76,45 +83,71 @@ fn hears<'a>(node: &mut Node<2>, ms: u64, reply: &'a Datagram) -> Result<Event<'
     Ok(node.on_datagram(at(ms)?, SERVER, reply.as_slice(), &mut out)?)
 }
 
+/// The node's datagram comes to the server, which replies with these flags; by the reply the node is told this.
+fn tells<R: Abort>(
+    rt: &R,
+    server: &mut Server,
+    node: &mut Node<2>,
+    ms: u64,
+    from: Addr,
+    request: &Datagram,
+    flags: &[u8],
+    told: Event<'_>,
+) -> Result<(), Fail> {
+    let reply = reply(rt, server, ms, from, request, flags)?;
+    expect_in(rt, &ms, hears(node, ms, &reply)? == told);
+    Ok(())
+}
+
+/// The node asks for FRED, and is told this.
+fn ask<R: Abort>(
+    rt: &R,
+    server: &mut Server,
+    node: &mut Node<2>,
+    ms: u64,
+    from: Addr,
+    flags: &[u8],
+    told: Event<'_>,
+) -> Result<(), Fail> {
+    let request = asks(node, ms)?;
+    tells(rt, server, node, ms, from, &request, flags, told)
+}
+
+/// The first node releases FRED at 70,000, and asks too early; the release comes to the server at 71,000.
+fn release<R: Abort>(rt: &R, server: &mut Server, first: &mut Node<2>) -> Result<(), Fail> {
+    let mut request = ArrayVec::new();
+    first.release(at(70_000)?, &fred()?, &mut request)?;
+    expect_eq(rt, &refusal(first, 70_500)?, &Some(AskFault::Quiet));
+    let told = Event::Freed(0);
+    tells(rt, server, first, 71_000, FIRST, &request, FREED, told)
+}
+
+fn play<R: Abort>(
+    rt: &R,
+    server: &mut Server,
+    first: &mut Node<2>,
+    second: &mut Node<2>,
+) -> Result<(), Fail> {
+    let granted = Event::Granted(60);
+    ask(rt, server, first, 60_000, FIRST, GRANTED, granted)?;
+    release(rt, server, first)?;
+    ask(rt, server, second, 71_000, SECOND, GRANTED, granted)?;
+    expect_eq(rt, &refusal(first, 72_004)?, &Some(AskFault::Quiet));
+    let refused = Event::Refused(6);
+    ask(rt, server, first, 72_005, FIRST, REFUSED, refused)?;
+    let now = at(72_005)?;
+    expect_eq(rt, &first.holds(now, &fred()?), &None);
+    expect_eq(rt, &second.holds(now, &fred()?), &Some(Kind::Unique));
+    Ok(())
+}
+
 #[test]
 fn an_early_ask_after_a_release_is_refused(rt: HostRuntime) -> Result<(), Fail> {
     let config = Config::new(1000, 60, 4096)?;
-    let mut server = Server::start(rt.alloc(), config, at(0)?);
-    let mut first = start(FIRST)?;
-    let mut second = start(SECOND)?;
-
-    let request = asks(&mut first, 60_000)?;
-    let granted = reply(&rt, &mut server, 60_000, FIRST, &request, b"\xAD\x80")?;
-    expect(
+    play(
         &rt,
-        hears(&mut first, 60_000, &granted)? == Event::Granted(60),
-    );
-
-    let mut release = ArrayVec::new();
-    first.release(at(70_000)?, &fred()?, &mut release)?;
-    expect_eq(&rt, &refusal(&mut first, 70_500)?, &Some(AskFault::Quiet));
-    let freed = reply(&rt, &mut server, 71_000, FIRST, &release, b"\xB4\x00")?;
-    expect(&rt, hears(&mut first, 71_000, &freed)? == Event::Freed(0));
-
-    let request = asks(&mut second, 71_000)?;
-    let granted = reply(&rt, &mut server, 71_000, SECOND, &request, b"\xAD\x80")?;
-    expect(
-        &rt,
-        hears(&mut second, 71_000, &granted)? == Event::Granted(60),
-    );
-
-    expect_eq(&rt, &refusal(&mut first, 72_004)?, &Some(AskFault::Quiet));
-    let request = asks(&mut first, 72_005)?;
-    let refused = reply(&rt, &mut server, 72_005, FIRST, &request, b"\xAD\x86")?;
-    expect(
-        &rt,
-        hears(&mut first, 72_005, &refused)? == Event::Refused(6),
-    );
-    expect_eq(&rt, &first.holds(at(72_005)?, &fred()?), &None);
-    expect_eq(
-        &rt,
-        &second.holds(at(72_005)?, &fred()?),
-        &Some(Kind::Unique),
-    );
-    Ok(())
+        &mut Server::start(rt.alloc(), config, at(0)?),
+        &mut start(FIRST)?,
+        &mut start(SECOND)?,
+    )
 }

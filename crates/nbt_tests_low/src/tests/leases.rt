@@ -58,24 +58,24 @@ fn later(rt: &impl Abort, table: &Table, ms: u64) -> Result<Moment, Fail>
 }
 
 /// A table goes through the steps.
-fn play(rt: &impl Abort, mut table: Table, steps: &[Step<'_>]) -> Result<(), Fail> {
+fn play(rt: &impl Abort, table: &mut Table, steps: &[Step<'_>]) -> Result<(), Fail> {
     for step in steps {
         match *step {
             Step::Grant(ms, octets, addr, kind, ttl, expected) => {
                 let name = name_of(octets)?;
-                let answer = grant(rt, &mut table, ms, &name, addr, kind, ttl)?;
+                let answer = grant(rt, table, ms, &name, addr, kind, ttl)?;
                 expect_eq_in(rt, &step, &answer, &expected);
             }
-            Step::Join(ms, count, expected) => join(rt, &mut table, ms, count, expected)?,
+            Step::Join(ms, count, expected) => join(rt, table, ms, count, expected)?,
             Step::Grow(ms, octets, addr, kind, ttl, expected) => {
                 let name = name_of(octets)?;
-                let answer = grow(rt, &mut table, ms, &name, addr, kind, ttl)?;
+                let answer = grow(rt, table, ms, &name, addr, kind, ttl)?;
                 expect_eq_in(rt, &step, &answer, &expected);
             }
             Step::JoinGrowing(ms, count, expected) => {
-                join_growing(rt, &mut table, ms, count, expected)?;
+                join_growing(rt, table, ms, count, expected)?;
             }
-            _ => ask(rt, &mut table, step)?,
+            _ => ask(rt, table, step)?,
         }
     }
     Ok(())
@@ -320,7 +320,7 @@ const FRED_BELONGS_TO_ITS_OWNER_UNTIL_120_000: &[Step<'static>] = &[
 fn fred_belongs_to_its_owner_until_120_000(rt: HostRuntime) -> Result<(), Fail> {
     play(
         &rt,
-        table(&rt, 4096)?,
+        &mut table(&rt, 4096)?,
         FRED_BELONGS_TO_ITS_OWNER_UNTIL_120_000,
     )
 }
@@ -334,7 +334,7 @@ const RELEASE_BY_THE_OWNER_ALONE: &[Step<'static>] = &[
 
 #[test]
 fn release_by_the_owner_alone(rt: HostRuntime) -> Result<(), Fail> {
-    play(&rt, table(&rt, 4096)?, RELEASE_BY_THE_OWNER_ALONE)
+    play(&rt, &mut table(&rt, 4096)?, RELEASE_BY_THE_OWNER_ALONE)
 }
 
 const MEMBERS_IN_ORDER_OF_THEIR_BEGINNINGS: &[Step<'static>] = &[
@@ -349,7 +349,11 @@ const MEMBERS_IN_ORDER_OF_THEIR_BEGINNINGS: &[Step<'static>] = &[
 
 #[test]
 fn members_in_order_of_their_beginnings(rt: HostRuntime) -> Result<(), Fail> {
-    play(&rt, table(&rt, 4096)?, MEMBERS_IN_ORDER_OF_THEIR_BEGINNINGS)
+    play(
+        &rt,
+        &mut table(&rt, 4096)?,
+        MEMBERS_IN_ORDER_OF_THEIR_BEGINNINGS,
+    )
 }
 
 /// The member with the least end is renewed, then released, then its lease ends; and one that has a later end is.
@@ -392,7 +396,7 @@ const THE_LEAST_END_OF_A_GROUP: &[Step<'static>] = &[
 
 #[test]
 fn the_least_end_of_a_group(rt: HostRuntime) -> Result<(), Fail> {
-    play(&rt, table(&rt, 4096)?, THE_LEAST_END_OF_A_GROUP)
+    play(&rt, &mut table(&rt, 4096)?, THE_LEAST_END_OF_A_GROUP)
 }
 
 /// The 1,000th member's end is the least; it is renewed, the 999th's is it then, and all the others' once that is released.
@@ -421,7 +425,7 @@ const THE_LEAST_END_OF_1_000: &[Step<'static>] = &[
 
 #[test]
 fn the_least_end_of_1_000(rt: HostRuntime) -> Result<(), Fail> {
-    play(&rt, table(&rt, 4096)?, THE_LEAST_END_OF_1_000)
+    play(&rt, &mut table(&rt, 4096)?, THE_LEAST_END_OF_1_000)
 }
 
 const A_GROUP_OF_1_000_IS_FULL_BEFORE_A_TABLE_OF_1_000: &[Step<'static>] = &[
@@ -453,7 +457,7 @@ const A_GROUP_OF_1_000_IS_FULL_BEFORE_A_TABLE_OF_1_000: &[Step<'static>] = &[
 fn a_group_of_1_000_is_full_before_a_table_of_1_000(rt: HostRuntime) -> Result<(), Fail> {
     play(
         &rt,
-        table(&rt, 1_000)?,
+        &mut table(&rt, 1_000)?,
         A_GROUP_OF_1_000_IS_FULL_BEFORE_A_TABLE_OF_1_000,
     )
 }
@@ -474,7 +478,7 @@ const A_TABLE_OF_999_IS_FULL_BEFORE_A_GROUP_OF_1_000: &[Step<'static>] = &[
 fn a_table_of_999_is_full_before_a_group_of_1_000(rt: HostRuntime) -> Result<(), Fail> {
     play(
         &rt,
-        table(&rt, 999)?,
+        &mut table(&rt, 999)?,
         A_TABLE_OF_999_IS_FULL_BEFORE_A_GROUP_OF_1_000,
     )
 }
@@ -496,7 +500,7 @@ const A_TABLE_OF_ONE_LEASE_HAS_ROOM_ONCE_IT_IS_OVER: &[Step<'static>] = &[
 fn a_table_of_one_lease_has_room_once_it_is_over(rt: HostRuntime) -> Result<(), Fail> {
     play(
         &rt,
-        table(&rt, 1)?,
+        &mut table(&rt, 1)?,
         A_TABLE_OF_ONE_LEASE_HAS_ROOM_ONCE_IT_IS_OVER,
     )
 }
@@ -510,27 +514,37 @@ fn one_of_many(number: u16) -> Result<Name, Fail> {
     Ok(Name::new(&octets, b"")?)
 }
 
-/// Of 4,096 names every second one ends at 90,000, and the others at 120,000.
-#[test]
-fn a_full_table_has_room_once_half_of_it_is_over(rt: HostRuntime) -> Result<(), Fail> {
-    let mut table = table(&rt, 4096)?;
+/// Grants 4,096 names: every second one ends at 90,000, and the others at 120,000.
+fn fill(rt: &impl Abort, table: &mut Table) -> Result<(), Fail> {
     for number in 0..4096u16 {
         let name = one_of_many(number)?;
         let ttl = if number % 2 == 0 { 30 } else { 60 };
-        let answer = grant(&rt, &mut table, 60_000, &name, FIRST, Kind::Unique, ttl)?;
+        let answer = grant(rt, table, 60_000, &name, FIRST, Kind::Unique, ttl)?;
         expect_eq_in(
-            &rt,
+            rt,
             &number,
             &answer,
             &Ok((ttl, 60_000 + 1000 * u64::from(ttl))),
         );
     }
-    let further = one_of_many(4096)?;
-    let full = grant(&rt, &mut table, 89_999, &further, FIRST, Kind::Unique, 60)?;
-    expect_eq(&rt, &full, &Err(GrantFault::TableFull));
-    let answer = grant(&rt, &mut table, 90_000, &further, FIRST, Kind::Unique, 60)?;
-    expect_eq(&rt, &answer, &Ok((60, 150_000)));
     Ok(())
+}
+
+/// One name more has no room while all live, and has room then.
+fn see_room(rt: &impl Abort, table: &mut Table) -> Result<(), Fail> {
+    let further = one_of_many(4096)?;
+    let full = grant(rt, table, 89_999, &further, FIRST, Kind::Unique, 60)?;
+    expect_eq(rt, &full, &Err(GrantFault::TableFull));
+    let answer = grant(rt, table, 90_000, &further, FIRST, Kind::Unique, 60)?;
+    expect_eq(rt, &answer, &Ok((60, 150_000)));
+    Ok(())
+}
+
+#[test]
+fn a_full_table_has_room_once_half_of_it_is_over(rt: HostRuntime) -> Result<(), Fail> {
+    let mut table = table(&rt, 4096)?;
+    fill(&rt, &mut table)?;
+    see_room(&rt, &mut table)
 }
 
 /// A new name, new members, and renewals that move the end may be refused memory. A renewal that moves no end takes none.
@@ -554,7 +568,7 @@ const EACH_GROWTH: &[Step<'static>] = &[
 /// the leases are as before, and the same call with memory gives what the rule says.
 #[test]
 fn refused_memory_leaves_the_leases(rt: HostRuntime) -> Result<(), Fail> {
-    play(&rt, table(&rt, 4096)?, EACH_GROWTH)
+    play(&rt, &mut table(&rt, 4096)?, EACH_GROWTH)
 }
 
 #[test]

@@ -6,7 +6,7 @@ use Does::{
     Advance, Ask, Crash, Deliver, Join, NameStatus, Poll, Release, Resolve, Start, Stranger, Tick,
 };
 use nbt_name::{Addr, Kind, Name};
-use nbt_rows::{EVERY_KIND, REGISTRATION, config, octets, one_of_many};
+use nbt_rows::{EVERY_KIND, REGISTRATION, config, octets, one_of_many_in_words};
 use nbt_world::Outcome::{self, Done, Down, Lost, Nobody, Nothing, Refused, Sent, Taken};
 use nbt_world::{Event, OutOfMemory, World};
 use std::process::Abort;
@@ -141,14 +141,25 @@ fn holders<R: Abort>(rt: &R, world: &World, name: &[u8; 16], nodes: &[usize]) ->
     Ok(())
 }
 
-/// So go the events of each table, and then these nodes hold FRED.
-fn play_all<R: Abort + AllocGlobal>(rt: &R, tables: &[(&[Row], &[usize])]) -> Result<(), Fail> {
-    let mut world = world(rt)?;
-    for (rows, nodes) in tables {
-        play(rt, &mut world, rows)?;
-        holders(rt, &world, FRED, nodes)?;
+/// Rows, and the nodes that hold FRED after them.
+type Part<'a> = (&'a [Row], &'a [usize]);
+
+/// So go the events of each part, and then these nodes hold FRED.
+fn play_parts<R: Abort + AllocGlobal>(
+    rt: &R,
+    world: &mut World,
+    parts: &[Part<'_>],
+) -> Result<(), Fail> {
+    for (rows, nodes) in parts {
+        play(rt, world, rows)?;
+        holders(rt, world, FRED, nodes)?;
     }
     Ok(())
+}
+
+/// The same in a new world.
+fn play_all<R: Abort + AllocGlobal>(rt: &R, parts: &[Part<'_>]) -> Result<(), Fail> {
+    play_parts(rt, &mut world(rt)?, parts)
 }
 
 const CRASHED: [Row; 17] = [
@@ -243,10 +254,7 @@ const WHERE_THE_LEASE_ENDS: [Row; 4] = [
 fn a_hold_is_over_122_ms_before_its_lease_at_whose_end_another_is_granted(
     rt: HostRuntime,
 ) -> Result<(), Fail> {
-    let ends: [(&[Row], &[usize]); 2] = [
-        (&BEFORE_THE_LEASE_ENDS, &[]),
-        (&WHERE_THE_LEASE_ENDS, &[2]),
-    ];
+    let ends: [Part<'_>; 2] = [(&BEFORE_THE_LEASE_ENDS, &[]), (&WHERE_THE_LEASE_ENDS, &[2])];
     for (rows, nodes) in ends {
         play_all(
             &rt,
@@ -262,25 +270,25 @@ fn a_hold_is_over_122_ms_before_its_lease_at_whose_end_another_is_granted(
 }
 
 /// What is polled 30 seconds after the last sending is the refresh; it goes there and back.
-const RENEWED: [[Row; 4]; 3] = [
-    [
-        (Tick(30_000), Done),
-        (Poll(1), Sent(2)),
-        (Deliver(2), Sent(3)),
-        (Deliver(3), Taken),
-    ],
-    [
-        (Tick(30_000), Done),
-        (Poll(1), Sent(4)),
-        (Deliver(4), Sent(5)),
-        (Deliver(5), Taken),
-    ],
-    [
-        (Tick(30_000), Done),
-        (Poll(1), Sent(6)),
-        (Deliver(6), Sent(7)),
-        (Deliver(7), Taken),
-    ],
+const RENEWED: [Row; 4] = [
+    (Tick(30_000), Done),
+    (Poll(1), Sent(2)),
+    (Deliver(2), Sent(3)),
+    (Deliver(3), Taken),
+];
+
+const RENEWED_AGAIN: [Row; 4] = [
+    (Tick(30_000), Done),
+    (Poll(1), Sent(4)),
+    (Deliver(4), Sent(5)),
+    (Deliver(5), Taken),
+];
+
+const RENEWED_ONCE_MORE: [Row; 4] = [
+    (Tick(30_000), Done),
+    (Poll(1), Sent(6)),
+    (Deliver(6), Sent(7)),
+    (Deliver(7), Taken),
 ];
 
 /// The last refresh is of 150,000, and a hold for 60 seconds lasts 59,878 ms.
@@ -288,19 +296,18 @@ const ALMOST_OVER: [Row; 2] = [(Tick(59_877), Done), (Poll(2), Nothing)];
 
 const OVER: [Row; 1] = [(Tick(1), Done)];
 
+const RENEWING: [Part<'static>; 6] = [
+    (&ASKED, &[1]),
+    (&RENEWED, &[1]),
+    (&RENEWED_AGAIN, &[1]),
+    (&RENEWED_ONCE_MORE, &[1]),
+    (&ALMOST_OVER, &[1]),
+    (&OVER, &[]),
+];
+
 #[test]
 fn a_node_that_renews_holds_its_name_throughout(rt: HostRuntime) -> Result<(), Fail> {
-    play_all(
-        &rt,
-        &[
-            (&ASKED, &[1]),
-            (&RENEWED[0], &[1]),
-            (&RENEWED[1], &[1]),
-            (&RENEWED[2], &[1]),
-            (&ALMOST_OVER, &[1]),
-            (&OVER, &[]),
-        ],
-    )
+    play_all(&rt, &RENEWING)
 }
 
 /// The events of the rows.
@@ -312,22 +319,22 @@ fn events<R: AllocGlobal>(rt: &R, rows: &[Row]) -> Result<Vec<Event>, Fail> {
     Ok(events)
 }
 
-#[test]
-fn a_run_in_which_a_node_renews_goes_on_to_its_end(rt: HostRuntime) -> Result<(), Fail> {
-    let mut world = world(&rt)?;
-    let tables: [(&[Row], &[usize]); 6] = [
-        (&ASKED, &[1]),
-        (&RENEWED[0], &[1]),
-        (&RENEWED[1], &[1]),
-        (&RENEWED[2], &[1]),
-        (&ALMOST_OVER, &[1]),
-        (&OVER, &[]),
-    ];
-    for (rows, nodes) in tables {
-        expect_eq(&rt, &world.run(events(&rt, rows)?.as_slice()), &Ok(()));
-        holders(&rt, &world, FRED, nodes)?;
+/// The events of each part go on to their end in one run, and then these nodes hold FRED.
+fn run_parts<R: Abort + AllocGlobal>(
+    rt: &R,
+    world: &mut World,
+    parts: &[Part<'_>],
+) -> Result<(), Fail> {
+    for (rows, nodes) in parts {
+        expect_eq(rt, &world.run(events(rt, rows)?.as_slice()), &Ok(()));
+        holders(rt, world, FRED, nodes)?;
     }
     Ok(())
+}
+
+#[test]
+fn a_run_in_which_a_node_renews_goes_on_to_its_end(rt: HostRuntime) -> Result<(), Fail> {
+    run_parts(&rt, &mut world(&rt)?, &RENEWING)
 }
 
 const STRANGERS: [Row; 9] = [
@@ -423,15 +430,18 @@ const GROUP: [Row; 10] = [
     (Deliver(3), Taken),
 ];
 
-#[test]
-fn two_nodes_hold_a_group(rt: HostRuntime) -> Result<(), Fail> {
-    let mut world = world(&rt)?;
-    play(&rt, &mut world, &GROUP)?;
-    holders(&rt, &world, TEAM, &[1, 2])?;
+fn expect_group<R: Abort + AllocGlobal>(rt: &R, world: &mut World) -> Result<(), Fail> {
+    play(rt, world, &GROUP)?;
+    holders(rt, world, TEAM, &[1, 2])?;
     for holder in world.holders(&Name::new(TEAM, b"")?).as_slice() {
-        expect_eq(&rt, &holder.kind, &Kind::Group);
+        expect_eq(rt, &holder.kind, &Kind::Group);
     }
     Ok(())
+}
+
+#[test]
+fn two_nodes_hold_a_group(rt: HostRuntime) -> Result<(), Fail> {
+    expect_group(&rt, &mut world(&rt)?)
 }
 
 const LOOKUPS: [Row; 9] = [
@@ -540,18 +550,21 @@ const READINGS_OF_ITS_ENDS: [Row; 1] = [(
     Done,
 )];
 
+fn expect_readings<R: Abort + AllocGlobal>(rt: &R, world: &mut World) -> Result<(), Fail> {
+    play(rt, world, &READINGS_OF_ENDS_THAT_THE_WORLD_HAS_NOT)?;
+    play(rt, world, &TAKEN_BY_THE_END_THAT_IS_THERE)?;
+    holders(rt, world, FRED, &[1])?;
+    expect_eq(rt, &world.clock().get(), &90_000);
+    expect(rt, world.kept());
+    play(rt, world, &READINGS_OF_ITS_ENDS)?;
+    expect_eq(rt, &world.clock().get(), &91_000);
+    expect(rt, !world.kept());
+    Ok(())
+}
+
 #[test]
 fn readings_of_ends_that_the_world_has_not_are_not_looked_at(rt: HostRuntime) -> Result<(), Fail> {
-    let mut world = world(&rt)?;
-    play(&rt, &mut world, &READINGS_OF_ENDS_THAT_THE_WORLD_HAS_NOT)?;
-    play(&rt, &mut world, &TAKEN_BY_THE_END_THAT_IS_THERE)?;
-    holders(&rt, &world, FRED, &[1])?;
-    expect_eq(&rt, &world.clock().get(), &90_000);
-    expect(&rt, world.kept());
-    play(&rt, &mut world, &READINGS_OF_ITS_ENDS)?;
-    expect_eq(&rt, &world.clock().get(), &91_000);
-    expect(&rt, !world.kept());
-    Ok(())
+    expect_readings(&rt, &mut world(&rt)?)
 }
 
 const SAME: [Addr; 2] = [
@@ -628,31 +641,50 @@ fn expect_same<R: Abort>(rt: &R, one: &mut World, other: &mut World) -> Result<(
     Ok(())
 }
 
+/// Rounds of events, each after what came of the one before it. Returns the list of all.
+fn rounds<R: AllocGlobal>(rt: &R, world: &mut World, count: usize) -> Result<Vec<Event>, Fail> {
+    let mut list = Vec::new(rt.alloc());
+    for _ in 0..count {
+        for does in ROUND {
+            happen(world, event(rt, does)?, &mut list)?;
+        }
+    }
+    Ok(list)
+}
+
+/// What a world did one by one, a new one does in one run.
+fn expect_same_run<R: Abort + AllocGlobal>(
+    rt: &R,
+    stepped: &mut World,
+    list: &[Event],
+) -> Result<(), Fail> {
+    expect(rt, list.len() > 300);
+    let mut run = world(rt)?;
+    expect_eq(rt, &run.run(list), &Ok(()));
+    expect_same(rt, &mut run, stepped)
+}
+
 #[test]
 fn a_run_of_hundreds_of_events_ends_where_they_do_one_by_one(rt: HostRuntime) -> Result<(), Fail> {
     let mut stepped = world(&rt)?;
-    let mut list = Vec::new(rt.alloc());
-    for _ in 0..12 {
-        for does in ROUND {
-            happen(&mut stepped, event(&rt, does)?, &mut list)?;
-        }
-    }
-    expect(&rt, list.len() > 300);
-    let mut run = world(&rt)?;
-    expect_eq(&rt, &run.run(list.as_slice()), &Ok(()));
-    expect_same(&rt, &mut run, &mut stepped)
+    let list = rounds(&rt, &mut stepped, 12)?;
+    expect_same_run(&rt, &mut stepped, list.as_slice())
 }
 
 /// The registrations of 4,096 names by the stranger at 127.0.0.2.
 fn registrations<R: AllocGlobal>(rt: &R) -> Result<Vec<Event>, Fail> {
-    let head = octets(rt, "2900 two-parts")?;
-    let tail = octets(rt, "00 NB again NB 60s unique 127.0.0.2")?;
     let mut events = Vec::new(rt.alloc());
     for number in 0..4096 {
+        let octets = one_of_many_in_words(
+            rt,
+            number,
+            "2900 two-parts",
+            "00 NB again NB 60s unique 127.0.0.2",
+        )?;
         events.push(Event::Stranger {
             from: FIRST,
             to: 0,
-            octets: one_of_many(rt, number, head.as_slice(), tail.as_slice())?,
+            octets,
         })?;
     }
     Ok(events)
@@ -689,26 +721,11 @@ fn nothing_lost_in_a_world(rt: HostRuntime) -> Result<(), Fail> {
     expect_as_many(&rt, &mut with_a_stranger(&rt)?, events.as_slice())
 }
 
-/// With memory all events are taken. `rt try --test --fail-alloc N` refuses the Nth allocation: one that the world
-/// needed stops the run before its event, which is then taken once more; one that the server needed loses a datagram,
-/// which comes again.
-#[test]
-fn refused_memory_stops_a_run_before_its_event_or_loses_a_datagram(
-    rt: HostRuntime,
-) -> Result<(), Fail> {
-    let mut world = world(&rt)?;
-    let steps = [
-        Event::Start(0),
-        Event::Start(1),
-        Event::Tick(60_000),
-        asks(1, FRED, Kind::Unique)?,
-        Event::Deliver(0),
-        Event::Deliver(0),
-    ];
-    let events = steps.as_slice();
+/// The events are taken, and the delivery of the grant: what is refused memory happens once more.
+fn run_at_last<R: Abort>(rt: &R, world: &mut World, events: &[Event]) -> Result<(), Fail> {
     if let Err((number, OutOfMemory)) = world.run(events) {
-        expect(&rt, number >= 3);
-        expect(&rt, number < events.len());
+        expect(rt, number >= 3);
+        expect(rt, number < events.len());
         world.run(&events[number..])?;
     }
     let first = world.step(&Event::Deliver(1));
@@ -716,8 +733,27 @@ fn refused_memory_stops_a_run_before_its_event_or_loses_a_datagram(
         Ok(outcome) => outcome,
         Err(_) => world.step(&Event::Deliver(1))?,
     };
-    expect_eq(&rt, &taken, &Taken);
-    holders(&rt, &world, FRED, &[1])
+    expect_eq(rt, &taken, &Taken);
+    holders(rt, world, FRED, &[1])
+}
+
+/// With memory all events are taken. `rt try --test --fail-alloc N` refuses the Nth allocation: one that the world
+/// needed stops the run before its event, which is then taken once more; one that the server needed loses a datagram,
+/// which comes again.
+#[test]
+fn refused_memory_stops_a_run_before_its_event_or_loses_a_datagram(
+    rt: HostRuntime,
+) -> Result<(), Fail> {
+    let ask = asks(1, FRED, Kind::Unique)?;
+    let events = [
+        Event::Start(0),
+        Event::Start(1),
+        Event::Tick(60_000),
+        ask,
+        Event::Deliver(0),
+        Event::Deliver(0),
+    ];
+    run_at_last(&rt, &mut world(&rt)?, events.as_slice())
 }
 
 /// Each growth of a world: what is sent, and the leases of its server.

@@ -85,26 +85,66 @@ fn rows_of<R: AllocGlobal>(rt: &R, turns: &[Turn]) -> Result<Vec<Row>, Fail> {
     Ok(rows)
 }
 
-fn staged<R: AllocGlobal>(rt: &R, turns: &[Turn], logs: bool, lists: bool) -> Result<Stage, Fail> {
-    let keeper = Keeper::new(rt.alloc(), MemoryPlace::new(rt.alloc()));
-    Ok(Stage {
-        port: port(rt, rows_of(rt, turns)?.as_slice())?,
-        clock: clock(rt, moments_of(rt, turns)?.as_slice())?,
-        server: started(rt, 4096, 0)?,
-        journal: Journal {
-            dates: Dates {
-                moment: moment(0)?,
-                time: moment(DAY)?,
-            },
-            day: clock(rt, times_of(rt, turns)?.as_slice())?,
-            log: if logs {
-                Some(Logger::new(rt.alloc()))
-            } else {
-                None
-            },
-            leases: if lists { Some(keeper) } else { None },
-        },
+fn journal_of<R: AllocGlobal>(
+    rt: &R,
+    turns: &[Turn],
+    logs: bool,
+    lists: bool,
+) -> Result<Journal<MemoryClock, MemoryPlace>, Fail> {
+    let dates = Dates {
+        moment: moment(0)?,
+        time: moment(DAY)?,
+    };
+    let day = clock(rt, times_of(rt, turns)?.as_slice())?;
+    let log = if logs {
+        Some(Logger::new(rt.alloc()))
+    } else {
+        None
+    };
+    let leases = if lists {
+        Some(Keeper::new(rt.alloc(), MemoryPlace::new(rt.alloc())))
+    } else {
+        None
+    };
+    Ok(Journal {
+        dates,
+        day,
+        log,
+        leases,
     })
+}
+
+fn staged<R: AllocGlobal>(rt: &R, turns: &[Turn], logs: bool, lists: bool) -> Result<Stage, Fail> {
+    let clock = clock(rt, moments_of(rt, turns)?.as_slice())?;
+    let port = port(rt, rows_of(rt, turns)?.as_slice())?;
+    let journal = journal_of(rt, turns, logs, lists)?;
+    Ok(Stage {
+        port,
+        clock,
+        server: started(rt, 4096, 0)?,
+        journal,
+    })
+}
+
+/// Goes on up to a moment, and writes what it prints and what it says of errors.
+fn watch<R: Abort + time::Clock, W: Write>(
+    rt: &R,
+    stage: &mut Stage,
+    until: u64,
+    printed: &mut W,
+    errors: &mut Vec<u8>,
+) -> Result<(), Fail> {
+    expect(rt, stage.port.failures() <= 1 << 61);
+    Ok(watch_on(
+        &mut stage.port,
+        &mut stage.clock,
+        &mut stage.server,
+        &mut stage.journal,
+        Some(moment(until)?),
+        rt,
+        printed,
+        errors,
+    )?)
 }
 
 /// Goes on up to a moment. Returns what is printed, and what is said of errors.
@@ -115,17 +155,7 @@ fn go_on<R: Abort + AllocGlobal + time::Clock>(
 ) -> Result<(Vec<u8>, Vec<u8>), Fail> {
     let mut printed = Vec::new(rt.alloc());
     let mut errors = Vec::new(rt.alloc());
-    expect(rt, stage.port.failures() <= 1 << 61);
-    watch_on(
-        &mut stage.port,
-        &mut stage.clock,
-        &mut stage.server,
-        &mut stage.journal,
-        Some(moment(until)?),
-        rt,
-        &mut printed,
-        &mut errors,
-    )?;
+    watch(rt, stage, until, &mut printed, &mut errors)?;
     Ok((printed, errors))
 }
 
@@ -143,9 +173,12 @@ fn expect_lists<R: Abort>(
     Ok(())
 }
 
-fn play<R: Abort + AllocGlobal + time::Clock>(rt: &R, row: &Watched) -> Result<(), Fail> {
-    let mut stage = staged(rt, row.turns, row.logs, !row.lists.is_empty())?;
-    let (printed, errors) = go_on(rt, &mut stage, row.until)?;
+fn expect_watched<R: Abort + AllocGlobal + time::Clock>(
+    rt: &R,
+    row: &Watched,
+    stage: &mut Stage,
+) -> Result<(), Fail> {
+    let (printed, errors) = go_on(rt, stage, row.until)?;
     expect_eq_in(
         rt,
         &row.printed,
@@ -157,6 +190,11 @@ fn play<R: Abort + AllocGlobal + time::Clock>(rt: &R, row: &Watched) -> Result<(
         expect_lists(rt, &stage.journal, row.lists)?;
     }
     expect_sent(rt, &stage.port, row.sent)
+}
+
+fn play<R: Abort + AllocGlobal + time::Clock>(rt: &R, row: &Watched) -> Result<(), Fail> {
+    let mut stage = staged(rt, row.turns, row.logs, !row.lists.is_empty())?;
+    expect_watched(rt, row, &mut stage)
 }
 
 const RELEASED: &str = "0002 b400 reply FRED NB 0s unique 127.0.0.2";
@@ -318,22 +356,38 @@ fn watched_servers(rt: HostRuntime) -> Result<(), Fail> {
     Ok(())
 }
 
+/// Goes on up to a moment, and this is printed, and said of errors.
+fn expect_said<R: Abort + AllocGlobal + time::Clock>(
+    rt: &R,
+    stage: &mut Stage,
+    until: u64,
+    printed: &str,
+    errors: &str,
+) -> Result<(), Fail> {
+    let (got, said) = go_on(rt, stage, until)?;
+    expect_eq(rt, &got.as_slice(), &printed.as_bytes());
+    expect_eq(rt, &said.as_slice(), &errors.as_bytes());
+    Ok(())
+}
+
+fn see_failed_port<R: Abort + AllocGlobal + time::Clock>(
+    rt: &R,
+    stage: &mut Stage,
+) -> Result<(), Fail> {
+    stage.port.fail_after(0);
+    expect_said(
+        rt,
+        stage,
+        60_000,
+        "2026-11-24T09:12:03Z granted FRED#20 127.0.0.2 unique 60 s\n",
+        "nbt: the port failed; going on\nnbt: the port is well again after 1 failures in a row\n",
+    )?;
+    expect_sent(rt, &stage.port, &[(FIRST, GRANTED)])
+}
+
 #[test]
 fn a_port_that_fails_is_said_and_passed_over(rt: HostRuntime) -> Result<(), Fail> {
-    let mut stage = staged(&rt, EACH, true, true)?;
-    stage.port.fail_after(0);
-    let (printed, errors) = go_on(&rt, &mut stage, 60_000)?;
-    expect_eq(
-        &rt,
-        &printed.as_slice(),
-        &b"2026-11-24T09:12:03Z granted FRED#20 127.0.0.2 unique 60 s\n".as_slice(),
-    );
-    expect_eq(
-        &rt,
-        &errors.as_slice(),
-        &b"nbt: the port failed; going on\nnbt: the port is well again after 1 failures in a row\n".as_slice(),
-    );
-    expect_sent(&rt, &stage.port, &[(FIRST, GRANTED)])
+    see_failed_port(&rt, &mut staged(&rt, EACH, true, true)?)
 }
 
 /// Turns of a server whose place refuses the first two lists.
@@ -344,53 +398,55 @@ const FULL: &[Turn] = &[
     (62_000, 0, (FIRST, "")),
 ];
 
+/// The journal keeps its list in a place that refuses as many.
+fn keep_refused<R: AllocGlobal>(
+    rt: &R,
+    journal: &mut Journal<MemoryClock, MemoryPlace>,
+    count: u64,
+) {
+    let mut place = MemoryPlace::new(rt.alloc());
+    place.refuse(count);
+    journal.leases = Some(Keeper::new(rt.alloc(), place));
+}
+
+fn see_refused_lists<R: Abort + AllocGlobal + time::Clock>(
+    rt: &R,
+    stage: &mut Stage,
+) -> Result<(), Fail> {
+    keep_refused(rt, &mut stage.journal, 2);
+    let said = "nbt: the list of leases can't be written: the place is full\n";
+    expect_said(rt, stage, 61_500, "", said)?;
+    expect_lists(rt, &stage.journal, &[])?;
+    expect_said(rt, stage, 62_000, "", "")?;
+    let list = "FRED#20 unique 127.0.0.2 2026-11-24T09:13:03Z\n";
+    expect_lists(rt, &stage.journal, &[list])
+}
+
 #[test]
 fn a_list_that_can_not_be_written_is_said_once_and_tried_again(
     rt: HostRuntime,
 ) -> Result<(), Fail> {
-    let mut stage = staged(&rt, FULL, false, false)?;
-    let mut place = MemoryPlace::new(rt.alloc());
-    place.refuse(2);
-    stage.journal.leases = Some(Keeper::new(rt.alloc(), place));
-    let (_, errors) = go_on(&rt, &mut stage, 61_500)?;
+    see_refused_lists(&rt, &mut staged(&rt, FULL, false, false)?)
+}
+
+fn see_full_log<R: Abort + AllocGlobal + time::Clock>(
+    rt: &R,
+    stage: &mut Stage,
+) -> Result<(), Fail> {
+    let mut room = [0; 8];
+    let mut errors = Vec::new(rt.alloc());
+    watch(rt, stage, 64_000, &mut &mut room[..], &mut errors)?;
     expect_eq(
-        &rt,
+        rt,
         &errors.as_slice(),
-        &b"nbt: the list of leases can't be written: the place is full\n".as_slice(),
+        &b"nbt: the log can't be written: failed to write whole buffer\n".as_slice(),
     );
-    expect_lists(&rt, &stage.journal, &[])?;
-    let (_, errors) = go_on(&rt, &mut stage, 62_000)?;
-    expect(&rt, errors.is_empty());
-    expect_lists(
-        &rt,
-        &stage.journal,
-        &["FRED#20 unique 127.0.0.2 2026-11-24T09:13:03Z\n"],
-    )
+    expect_sent(rt, &stage.port, ALL_SENT)
 }
 
 #[test]
 fn a_log_that_can_not_be_written_is_said_once_a_row(rt: HostRuntime) -> Result<(), Fail> {
-    let mut stage = staged(&rt, EACH, true, true)?;
-    let mut room = [0; 8];
-    let mut errors = Vec::new(rt.alloc());
-    expect(&rt, stage.port.failures() <= 1 << 61);
-    let mut short = &mut room[..];
-    watch_on(
-        &mut stage.port,
-        &mut stage.clock,
-        &mut stage.server,
-        &mut stage.journal,
-        Some(moment(64_000)?),
-        &rt,
-        &mut short,
-        &mut errors,
-    )?;
-    expect_eq(
-        &rt,
-        &errors.as_slice(),
-        &b"nbt: the log can't be written: failed to write whole buffer\n".as_slice(),
-    );
-    expect_sent(&rt, &stage.port, ALL_SENT)
+    see_full_log(&rt, &mut staged(&rt, EACH, true, true)?)
 }
 
 /// A writer that counts what was written, and what of it was flushed.
@@ -412,38 +468,38 @@ impl Write for Paper {
     }
 }
 
+/// Paper on which nothing was written.
+const BLANK: Paper = Paper {
+    written: 0,
+    flushed: 0,
+};
+
 #[test]
-fn all_that_is_printed_is_flushed(rt: HostRuntime) -> Result<(), Fail> {
-    let mut paper = Paper {
-        written: 0,
-        flushed: 0,
-    };
+fn the_first_line_is_flushed(rt: HostRuntime) -> Result<(), Fail> {
+    let arguments = arguments(0, false)?;
+    let mut paper = BLANK;
     let mut errors = Vec::new(rt.alloc());
-    run_nbns(
-        &rt,
-        rt.alloc(),
-        &arguments(0, false)?,
-        &mut paper,
-        &mut errors,
-    )?;
-    let begun = paper.written;
-    expect(&rt, begun > 0);
-    expect_eq(&rt, &paper.flushed, &begun);
-    let mut stage = staged(&rt, EACH, true, false)?;
-    expect(&rt, stage.port.failures() <= 1 << 61);
-    watch_on(
-        &mut stage.port,
-        &mut stage.clock,
-        &mut stage.server,
-        &mut stage.journal,
-        Some(moment(60_000)?),
-        &rt,
-        &mut paper,
-        &mut errors,
-    )?;
-    expect_eq(&rt, &paper.written, &begun.saturating_add(59));
+    run_nbns(&rt, rt.alloc(), &arguments, &mut paper, &mut errors)?;
+    expect(&rt, paper.written > 0);
     expect_eq(&rt, &paper.flushed, &paper.written);
     Ok(())
+}
+
+fn see_flushed<R: Abort + AllocGlobal + time::Clock>(
+    rt: &R,
+    stage: &mut Stage,
+) -> Result<(), Fail> {
+    let mut paper = BLANK;
+    let mut errors = Vec::new(rt.alloc());
+    watch(rt, stage, 60_000, &mut paper, &mut errors)?;
+    expect_eq(rt, &paper.written, &59);
+    expect_eq(rt, &paper.flushed, &59);
+    Ok(())
+}
+
+#[test]
+fn all_that_is_printed_is_flushed(rt: HostRuntime) -> Result<(), Fail> {
+    see_flushed(&rt, &mut staged(&rt, EACH, true, false)?)
 }
 
 #[test]
@@ -467,35 +523,38 @@ fn path_for(rt: &HostRuntime, name: &str) -> Result<String, Fail> {
     Ok(format!(in rt.alloc(); "{folder}/nbt-{id}-{name}")?)
 }
 
+/// Replaces a file's text. Returns the one that it has then, and the one that is read by who had it open before.
+fn replaced(rt: &HostRuntime, path: &str) -> Result<(String, String), Fail> {
+    let mut place = FilePlace::new(rt, rt.alloc(), path)?;
+    place.replace("one\n")?;
+    let before = fs::open(rt, path)?;
+    place.replace("two\n")?;
+    let text = fs::read_to_string(rt, path)?;
+    Ok((text, io::read_to_string(rt.alloc(), before)?))
+}
+
+/// Whether there is a file of the path with this behind it.
+fn is_there(rt: &HostRuntime, path: &str, end: &str) -> Result<bool, Fail> {
+    let path = format!(in rt.alloc(); "{path}{end}")?;
+    Ok(fs::open(rt, path.as_str()).is_ok())
+}
+
+/// Whether a file of the path with this behind it can have a text.
+fn can_be_replaced(rt: &HostRuntime, path: &str, end: &str) -> Result<bool, Fail> {
+    let path = format!(in rt.alloc(); "{path}{end}")?;
+    let mut place = FilePlace::new(rt, rt.alloc(), path.as_str())?;
+    Ok(place.replace("one\n").is_ok())
+}
+
 #[test]
 fn a_file_has_one_list_or_the_other(rt: HostRuntime) -> Result<(), Fail> {
     let path = path_for(&rt, "one-or-the-other")?;
-    let mut place = FilePlace::new(&rt, rt.alloc(), path.as_str())?;
-    place.replace("one\n")?;
-    let before = fs::open(&rt, path.as_str())?;
-    place.replace("two\n")?;
-    expect_eq(
-        &rt,
-        &fs::read_to_string(&rt, path.as_str())?.as_str(),
-        &"two\n",
-    );
-    // Who had it open before goes on reading the list that it had then.
-    expect_eq(
-        &rt,
-        &io::read_to_string(rt.alloc(), before)?.as_str(),
-        &"one\n",
-    );
+    let (text, before) = replaced(&rt, path.as_str())?;
+    expect_eq(&rt, &(text.as_str(), before.as_str()), &("two\n", "one\n"));
     // The new file has become the old one.
-    let beside = format!(in rt.alloc(); "{path}.new")?;
-    expect(&rt, fs::open(&rt, beside.as_str()).is_err());
+    expect(&rt, !is_there(&rt, path.as_str(), ".new")?);
     fs::remove_file(&rt, path.as_str())?;
-    let nowhere = format!(in rt.alloc(); "{path}/nowhere")?;
-    expect(
-        &rt,
-        FilePlace::new(&rt, rt.alloc(), nowhere.as_str())?
-            .replace("one\n")
-            .is_err(),
-    );
+    expect(&rt, !can_be_replaced(&rt, path.as_str(), "/nowhere")?);
     Ok(())
 }
 
@@ -514,6 +573,26 @@ fn arguments(port: u16, strict: bool) -> Result<NbnsArguments, Fail> {
     })
 }
 
+/// The same, with its list of leases in the file of this path.
+fn arguments_with_leases(
+    rt: &HostRuntime,
+    port: u16,
+    strict: bool,
+    path: &str,
+) -> Result<NbnsArguments, Fail> {
+    let mut arguments = arguments(port, strict)?;
+    arguments.leases = Some(String::from_str(rt.alloc(), path)?);
+    Ok(arguments)
+}
+
+/// Runs a server. Returns how it ended, what it printed, and what it said of errors.
+fn run(rt: &HostRuntime, arguments: &NbnsArguments) -> (Result<(), Fault>, Vec<u8>, Vec<u8>) {
+    let mut printed = Vec::new(rt.alloc());
+    let mut errors = Vec::new(rt.alloc());
+    let ended = run_nbns(rt, rt.alloc(), arguments, &mut printed, &mut errors);
+    (ended, printed, errors)
+}
+
 /// The first line has a time of day, which no test can foresee.
 fn expect_begin<R: Abort>(rt: &R, printed: &[u8], before: &[u8]) -> Result<(), Fail> {
     expect_eq(
@@ -528,17 +607,11 @@ fn expect_begin<R: Abort>(rt: &R, printed: &[u8], before: &[u8]) -> Result<(), F
 fn a_server_over_this_machine(rt: HostRuntime) -> Result<(), Fail> {
     let path = path_for(&rt, "leases")?;
     for strict in [false, true] {
-        let mut arguments = arguments(20_171, strict)?;
-        arguments.leases = Some(String::from_str(rt.alloc(), path.as_str())?);
-        let mut printed = Vec::new(rt.alloc());
-        let mut errors = Vec::new(rt.alloc());
-        run_nbns(&rt, rt.alloc(), &arguments, &mut printed, &mut errors)?;
-        expect_begin(
-            &rt,
-            printed.as_slice(),
-            b"serving 127.42.23.3:20171, silent for 60 s until ",
-        )?;
-        expect(&rt, errors.is_empty());
+        let arguments = arguments_with_leases(&rt, 20_171, strict, path.as_str())?;
+        let (ended, printed, errors) = run(&rt, &arguments);
+        expect(&rt, ended.is_ok() && errors.is_empty());
+        let before = b"serving 127.42.23.3:20171, silent for 60 s until ";
+        expect_begin(&rt, printed.as_slice(), before)?;
         expect_eq(&rt, &fs::read_to_string(&rt, path.as_str())?.as_str(), &"");
         fs::remove_file(&rt, path.as_str())?;
     }
@@ -547,15 +620,8 @@ fn a_server_over_this_machine(rt: HostRuntime) -> Result<(), Fail> {
 
 #[test]
 fn a_server_tells_the_port_that_it_got(rt: HostRuntime) -> Result<(), Fail> {
-    let mut printed = Vec::new(rt.alloc());
-    let mut errors = Vec::new(rt.alloc());
-    run_nbns(
-        &rt,
-        rt.alloc(),
-        &arguments(0, false)?,
-        &mut printed,
-        &mut errors,
-    )?;
+    let (ended, printed, _) = run(&rt, &arguments(0, false)?);
+    expect(&rt, ended.is_ok());
     expect(&rt, printed.as_slice().starts_with(b"serving 127.42.23.3:"));
     expect(
         &rt,
@@ -567,11 +633,9 @@ fn a_server_tells_the_port_that_it_got(rt: HostRuntime) -> Result<(), Fail> {
 #[test]
 fn a_list_whose_file_can_not_be_had(rt: HostRuntime) -> Result<(), Fail> {
     let path = path_for(&rt, "no-folder/leases")?;
-    let mut arguments = arguments(0, false)?;
-    arguments.leases = Some(String::from_str(rt.alloc(), path.as_str())?);
-    let mut printed = Vec::new(rt.alloc());
-    let mut errors = Vec::new(rt.alloc());
-    run_nbns(&rt, rt.alloc(), &arguments, &mut printed, &mut errors)?;
+    let arguments = arguments_with_leases(&rt, 0, false, path.as_str())?;
+    let (ended, _, errors) = run(&rt, &arguments);
+    expect(&rt, ended.is_ok());
     let expected = format!(in rt.alloc();
         "nbt: {path} can't be written: No such file or directory (os error 2)\n"
     )?;
@@ -607,13 +671,8 @@ fn a_first_line_that_can_not_be_written(rt: HostRuntime) -> Result<(), Fail> {
 fn a_port_that_can_not_be_had(rt: HostRuntime) -> Result<(), Fail> {
     let arguments = arguments(20_172, false)?;
     let _taken = UdpPort::bind(&rt, arguments.bind)?;
-    let mut printed = Vec::new(rt.alloc());
-    let mut errors = Vec::new(rt.alloc());
-    expect_eq(
-        &rt,
-        &run_nbns(&rt, rt.alloc(), &arguments, &mut printed, &mut errors),
-        &Err(Fault::NoPort),
-    );
+    let (ended, printed, errors) = run(&rt, &arguments);
+    expect_eq(&rt, &ended, &Err(Fault::NoPort));
     expect(&rt, printed.is_empty());
     expect_eq(
         &rt,
