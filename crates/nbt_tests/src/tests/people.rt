@@ -153,6 +153,34 @@ const NOT_FOUND: &str = "0001_8583_0000_0001_0000_0000_{FRED}_000a_0001_00000000
 const NAMES: &str =
     "0001_8400_0000_0001_0000_0000_{STAR}_0021_0001_00000000_0041_01_46524544202020202020202020202020_2400_005056c00008_00000000000000000000000000000000000000000000000000000000000000000000000000000000";
 
+const NOBODY_HAS_IT: Row = Row {
+    about: "a name that nobody has",
+    words: "nbt lookup FRED --server 127.42.22.3:20139 --bind 127.42.22.2:20138",
+    moments: &[1_000_000],
+    sends: &[(4, NOT_FOUND)],
+    breaks_at: 0,
+    status: 1,
+    readings: 5,
+    text: "not found: no such name (3)\n",
+    errors: "",
+    sent: &[QUERY],
+};
+
+const NO_REPLY: Row = Row {
+    about: "no reply to one try in 250 ms",
+    words: "nbt lookup FRED --server 127.42.22.3:20139 --bind 127.42.22.2:20138 --tries 1 --wait 250ms",
+    moments: &[
+        1_000_000, 1_000_000, 1_000_000, 1_000_000, 1_000_000, 1_000_249, 1_000_249, 1_000_250,
+    ],
+    sends: &[],
+    breaks_at: 0,
+    status: 5,
+    readings: 8,
+    text: "no reply\n",
+    errors: "",
+    sent: &[QUERY],
+};
+
 const LOOKUPS: [Row; 9] = [
     Row {
         about: "a name of two ends, where small letters are folded, and another id is passed over",
@@ -178,32 +206,8 @@ const LOOKUPS: [Row; 9] = [
         errors: "",
         sent: &[QUERY_AS_IT_STANDS],
     },
-    Row {
-        about: "a name that nobody has",
-        words: "nbt lookup FRED --server 127.42.22.3:20139 --bind 127.42.22.2:20138",
-        moments: &[1_000_000],
-        sends: &[(4, NOT_FOUND)],
-        breaks_at: 0,
-        status: 1,
-        readings: 5,
-        text: "not found: no such name (3)\n",
-        errors: "",
-        sent: &[QUERY],
-    },
-    Row {
-        about: "no reply to one try in 250 ms",
-        words: "nbt lookup FRED --server 127.42.22.3:20139 --bind 127.42.22.2:20138 --tries 1 --wait 250ms",
-        moments: &[
-            1_000_000, 1_000_000, 1_000_000, 1_000_000, 1_000_000, 1_000_249, 1_000_249, 1_000_250,
-        ],
-        sends: &[],
-        breaks_at: 0,
-        status: 5,
-        readings: 8,
-        text: "no reply\n",
-        errors: "",
-        sent: &[QUERY],
-    },
+    NOBODY_HAS_IT,
+    NO_REPLY,
     Row {
         about: "no reply to two tries",
         words: "nbt lookup FRED --server 127.42.22.3:20139 --bind 127.42.22.2:20138 --tries 2 --wait 1ms",
@@ -381,8 +385,8 @@ const NO_ADDRESS: &str = "nbt: 192.0.2.1:20138: Cannot assign requested address 
 fn questions_over_this_machine(rt: HostRuntime) -> Result<(), Fail> {
     let nobody = "not found: no such name (3)\n";
     let answers = [
-        (&LOOKUPS[2], OWN, Ok(Answer::NotFound), nobody, ""),
-        (&LOOKUPS[3], OWN, Ok(Answer::NoReply), "no reply\n", ""),
+        (&NOBODY_HAS_IT, OWN, Ok(Answer::NotFound), nobody, ""),
+        (&NO_REPLY, OWN, Ok(Answer::NoReply), "no reply\n", ""),
         (&PORT_FAILS, OWN, Err(Fault::Device), "", FAILED),
         (&CLOCK_FAILS, OWN, Err(Fault::NoClock), "", NO_CLOCK),
         (&PORT_FAILS, NOBODY, Err(Fault::NoPort), "", NO_ADDRESS),
