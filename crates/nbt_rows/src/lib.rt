@@ -11,6 +11,6 @@ pub use limits::{config, moment, started};
 pub use memory::{Row, clock, expect_sent, port};
 pub use packets::{
     EVERY_KIND, FIRST, FOUND, GRANTED, NOT_FOUND, QUERY, REFRESH, REFUSED, REGISTRATION, RELEASE,
-    RIVAL, SECOND, one_of_many, one_of_many_in_words,
+    RIVAL, SECOND, one_of_many, registration_of_many,
 };
 pub use pieces::octets;

@@ -44,32 +44,9 @@ pub const EVERY_KIND: [&str; 12] = [
     "0009 bc00 reply FRED NB 00000005 0002 2900",
 ];
 
-/// The registration by 127.0.0.2, or the reply to it, of one of 65,536 names of fourteen N and two octets, where `head`
-/// is its flags and counts, and `tail` what comes after the name.
+/// One of 65,536 packets, each with a name of its own, of fourteen N and two octets: `head` is its flags and counts in words, and
+/// `tail` what comes after the name.
 pub fn one_of_many<R: AllocGlobal>(
-    rt: &R,
-    number: u16,
-    head: &[u8],
-    tail: &[u8],
-) -> Result<Vec<u8>, Fail> {
-    let [high, low] = number.to_be_bytes();
-    let letters = [
-        b'A' + high / 16,
-        b'A' + high % 16,
-        b'A' + low / 16,
-        b'A' + low % 16,
-    ];
-    let mut octets = Vec::new(rt.alloc());
-    octets.extend_from_slice(&number.to_be_bytes())?;
-    octets.extend_from_slice(head)?;
-    octets.extend_from_slice(b" EOEOEOEOEOEOEOEOEOEOEOEOEOEO")?;
-    octets.extend_from_slice(&letters)?;
-    octets.extend_from_slice(tail)?;
-    Ok(octets)
-}
-
-/// The same, where the head and the tail are words.
-pub fn one_of_many_in_words<R: AllocGlobal>(
     rt: &R,
     number: u16,
     head: &str,
@@ -77,5 +54,28 @@ pub fn one_of_many_in_words<R: AllocGlobal>(
 ) -> Result<Vec<u8>, Fail> {
     let head = octets(rt, head)?;
     let tail = octets(rt, tail)?;
-    one_of_many(rt, number, head.as_slice(), tail.as_slice())
+    let [high, low] = number.to_be_bytes();
+    let letters = [
+        b'A' + high / 16,
+        b'A' + high % 16,
+        b'A' + low / 16,
+        b'A' + low % 16,
+    ];
+    let mut packet = Vec::new(rt.alloc());
+    packet.extend_from_slice(&number.to_be_bytes())?;
+    packet.extend_from_slice(head.as_slice())?;
+    packet.extend_from_slice(b" EOEOEOEOEOEOEOEOEOEOEOEOEOEO")?;
+    packet.extend_from_slice(&letters)?;
+    packet.extend_from_slice(tail.as_slice())?;
+    Ok(packet)
+}
+
+/// The registration of one of 65,536 names by 127.0.0.2.
+pub fn registration_of_many<R: AllocGlobal>(rt: &R, number: u16) -> Result<Vec<u8>, Fail> {
+    one_of_many(
+        rt,
+        number,
+        "2900 two-parts",
+        "00 NB again NB 60s unique 127.0.0.2",
+    )
 }

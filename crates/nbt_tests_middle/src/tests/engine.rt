@@ -10,7 +10,7 @@ use nbt_name::{Addr, Kind, Name};
 use nbt_node::{AskFault, Node};
 use nbt_rows::{
     FOUND, GRANTED, NOT_FOUND, QUERY, REFRESH, REFUSED, REGISTRATION, RIVAL, Row, clock, config,
-    expect_sent, moment, octets, one_of_many_in_words, port, started,
+    expect_sent, moment, octets, port, registration_of_many, started,
 };
 use nbt_server::Server;
 use std::collections::VecDeque;
@@ -266,12 +266,7 @@ fn a_failure_at_any_call_is_told_once(rt: HostRuntime) -> Result<(), Fail> {
 fn port_of_many<R: AllocGlobal>(rt: &R) -> Result<MemoryPort, Fail> {
     let mut incoming = VecDeque::new(rt.alloc());
     for number in 0..4096 {
-        let octets = one_of_many_in_words(
-            rt,
-            number,
-            "2900 two-parts",
-            "00 NB again NB 60s unique 127.0.0.2",
-        )?;
+        let octets = registration_of_many(rt, number)?;
         let datagram = Datagram {
             addr: FIRST,
             octets,

@@ -5,7 +5,7 @@ use arrayvec::ArrayVec;
 use nbt_name::Addr;
 use nbt_rows::{
     EVERY_KIND, FIRST, FOUND, GRANTED, NOT_FOUND, QUERY, REFRESH, REFUSED, REGISTRATION, RELEASE,
-    RIVAL, SECOND, moment, octets, one_of_many_in_words, started,
+    RIVAL, SECOND, moment, octets, one_of_many, registration_of_many, started,
 };
 use nbt_server::{Server, ServerFault};
 use std::process::Abort;
@@ -736,13 +736,8 @@ fn expect_one_of_many<R: Abort + AllocGlobal>(
     head: &str,
     tail: &str,
 ) -> Result<(), Fail> {
-    let asks = one_of_many_in_words(
-        rt,
-        number,
-        "2900 two-parts",
-        "00 NB again NB 60s unique 127.0.0.2",
-    )?;
-    let gives = one_of_many_in_words(rt, number, head, tail)?;
+    let asks = registration_of_many(rt, number)?;
+    let gives = one_of_many(rt, number, head, tail)?;
     expect_reply(rt, server, 60_000, FIRST, asks.as_slice(), gives.as_slice())
 }
 

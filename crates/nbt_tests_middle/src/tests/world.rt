@@ -6,7 +6,7 @@ use Does::{
     Advance, Ask, Crash, Deliver, Join, NameStatus, Poll, Release, Resolve, Start, Stranger, Tick,
 };
 use nbt_name::{Addr, Kind, Name};
-use nbt_rows::{EVERY_KIND, REGISTRATION, config, octets, one_of_many_in_words};
+use nbt_rows::{EVERY_KIND, REGISTRATION, config, octets, registration_of_many};
 use nbt_world::Outcome::{self, Done, Down, Lost, Nobody, Nothing, Refused, Sent, Taken};
 use nbt_world::{Event, OutOfMemory, World};
 use std::process::Abort;
@@ -675,12 +675,7 @@ fn a_run_of_hundreds_of_events_ends_where_they_do_one_by_one(rt: HostRuntime) ->
 fn registrations<R: AllocGlobal>(rt: &R) -> Result<Vec<Event>, Fail> {
     let mut events = Vec::new(rt.alloc());
     for number in 0..4096 {
-        let octets = one_of_many_in_words(
-            rt,
-            number,
-            "2900 two-parts",
-            "00 NB again NB 60s unique 127.0.0.2",
-        )?;
+        let octets = registration_of_many(rt, number)?;
         events.push(Event::Stranger {
             from: FIRST,
             to: 0,
