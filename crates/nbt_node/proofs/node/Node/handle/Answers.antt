@@ -1,6 +1,6 @@
-use Rattle.std.proofs.Common.{◌≡◌, Option, Some, None, refl, subst}
+use Rattle.std.proofs.Common.{Option, None, subst}
 use Rattle.nbt_packet.specs.declared.message.Message.{Message}
-use Rattle.nbt_packet.specs.Message.{MessageValue, message_of, message_if}
+use Rattle.nbt_packet.specs.Message.{message_of, message_if}
 use Rattle.nbt_node.specs.Datagrams.{Says, spelled, unspelled}
 use Rattle.nbt_node.specs.Moves.{told_of}
 use Rattle.nbt_node.proofs.node.Node.handle.Goals as goal
