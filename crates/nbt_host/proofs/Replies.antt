@@ -1,27 +1,21 @@
 -- What is said of a message, and what is sent back.
 use Rattle.std.proofs.Common.{◌≡◌, ℕ, ◌<◌, List, [], ◌∷◌, Some, None, Ok, Err, refl, sym, subst}
-use Rattle.std.specs.Prelude.{Option, Result, OnOk, OnErr, ◌↔◌}
+use Rattle.std.specs.Prelude.{Option, Result, OnOk, OnErr}
 use Rattle.nbt_name.specs.declared.addr.Addr.{Addr}
 use Rattle.nbt_name.specs.Wire.{NameValue}
 use Rattle.nbt_packet.specs.declared.message.Message.{Message}
 use Rattle.nbt_packet.specs.declared.message.Message.TheVariants as m
-use Rattle.nbt_packet.specs.Message.{MessageValue, message_of, message_if}
-use Rattle.nbt_packet.specs.Spelling.{Spells}
+use Rattle.nbt_packet.specs.Message.{MessageValue, message_of}
 use Rattle.nbt_node.specs.Node.{NodeValue}
 use Rattle.nbt_node.specs.Moves.{Told}
-use Rattle.nbt_node.specs.Datagrams.{Handles}
+use Rattle.nbt_node.specs.Datagrams.{Handles, Says}
 use Rattle.nbt_engine.specs.declared.port.Device.{Device}
 use Rattle.nbt_engine.specs.PortCalls.{PortCall, came, sent, send_failed, sending, receiving, Chain}
 use Rattle.nbt_engine.proofs.Chains.{chain_one}
 use Rattle.nbt_host.specs.declared.news.Notice.{Notice}
-use Rattle.nbt_host.specs.Answering.{Says, own_reply, sent_back, notice_of}
+use Rattle.nbt_host.specs.Answering.{own_reply, sent_back, notice_of}
 use Rattle.nbt_host.specs.Hosting.{sending_to, HostHears, hears_nothing, hears, hears_back, LosesReply, loses_reply}
 use Rattle.nbt_host.specs.Inner.Parts.{Listens, LosesListening, loses_send}
-
--- the message that was read is the one that the octets spell
-pub says_read : (found : Option Message) (octets : List ℕ) → ((message : MessageValue) → (message_if found ≡ Some message) ↔ Spells octets message) → Says octets (message_if found)
-says_read None octets reads = λ message s. let e = (reads message).1 s in absurd cc
-says_read (Some message) octets reads = (reads (message_of message)).0 refl
 
 -- what is no query is replied to by the node itself, or not at all
 pub sent_back_other : (node : NodeValue) (now : ℕ) (message : Message) (told : Told) (reply : List ℕ) → ((id : ℕ) (name : NameValue) → message ≡ m.Query id name → ⊥)

@@ -4,17 +4,11 @@ use Rattle.nbt_name.specs.declared.addr.Kind.{Kind}
 use Rattle.nbt_name.specs.Wire.{NameValue}
 use Rattle.nbt_packet.specs.Message.{MessageValue, query, registered, released, nb}
 use Rattle.nbt_packet.specs.Text.{answer_octets, entry}
-use Rattle.nbt_packet.specs.Spelling.{Spells}
 use Rattle.nbt_node.specs.Node.{NodeValue, holds}
 use Rattle.nbt_node.specs.Moves.{Told, replied, is_granted, is_renewed, is_refused, is_lost, is_freed}
 use Rattle.nbt_host.specs.declared.news.News.{News}
 use Rattle.nbt_host.specs.declared.news.News.TheVariants as n
 use Rattle.nbt_host.specs.declared.news.Notice.{Notice}
-
--- what octets say: the message that they spell, or that they spell none
-abbrev pub Says : List ℕ → Option MessageValue → Type 0
-Says octets None = (message : MessageValue) → ¬ Spells octets message
-Says octets (Some message) = Spells octets message
 
 -- The positive reply to a query for a name of the node: R, AA and RD set, the TTL 0, and the node's one entry (RFC 1002
 -- section 4.2.13).

@@ -7,7 +7,7 @@ use Rattle.nbt_node.specs.declared.fault.ReleaseFault.{ReleaseFault}
 use Rattle.nbt_node.specs.Node.{NodeValue}
 use Rattle.nbt_node.specs.Moves.{give_back, Told}
 use Rattle.nbt_node.specs.Calls.{ask_refusal, release_refusal, Sends}
-use Rattle.nbt_node.specs.Datagrams.{Handles}
+use Rattle.nbt_node.specs.Datagrams.{Handles, Says}
 use Rattle.nbt_engine.specs.PortCalls.{PortCall, nothing_came, came, receive_failed, sent, send_failed}
 use Rattle.nbt_engine.specs.Turning.{AsksFor, PollsAll, BreaksPolls}
 use Rattle.nbt_host.specs.declared.goal.Goal.{Goal}
@@ -15,7 +15,7 @@ use Rattle.nbt_host.specs.declared.goal.Stage.{Stage}
 use Rattle.nbt_host.specs.declared.goal.Stage.TheVariants.{Wanted}
 use Rattle.nbt_host.specs.declared.news.Notice.{Notice}
 use Rattle.nbt_host.specs.Goals.{may_ask, seen, heard_by}
-use Rattle.nbt_host.specs.Answering.{Says, sent_back, notice_of}
+use Rattle.nbt_host.specs.Answering.{sent_back, notice_of}
 
 -- what is sent to an end, if anything
 abbrev pub sending_to : Addr → Option (List ℕ) → List PortCall

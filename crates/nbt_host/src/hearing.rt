@@ -61,10 +61,10 @@ fn hear<P: Port, const N: usize>(
     let Some(from) = from else {
         return Ok(None);
     };
-    let Ok(event) = node.on_datagram(now, from, octets, out) else {
+    let message = read(octets);
+    let Ok(event) = node.handle(now, from, &message, out) else {
         return Ok(None);
     };
-    let message = read(octets);
     send_back(port, node, now, from, &message, event, out)?;
     Ok(notice_of(&message, event))
 }

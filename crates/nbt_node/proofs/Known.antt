@@ -1,9 +1,8 @@
 -- What is known of each name after a change of the slots.
 use Rattle.std.proofs.Common.{◌≡◌, ◌≢◌, ℕ, zero, ◌<◌, Bool, true, false, cond, List, [], ◌∷◌, length, map, suc, get_or, Option, Some, None, refl, sym, ap, subst, ◌∙◌, arith, inl, inr}
 use Rattle.std.specs.Prelude.{◌⊎◌, ◌||◌, replicate}
-use Rattle.std.proofs.lemmas.Bool.{and_parts, and_from, false_from_ne_true}
 use Rattle.nbt_name.specs.Wire.{NameValue, same_name}
-use Rattle.nbt_name.proofs.Same.{same_name-true, same_name-same, same_name-other, name_tells}
+use Rattle.nbt_name.proofs.Same.{same_name-same, same_name-other, name_tells}
 use Rattle.nbt_node.specs.declared.state.State.{State}
 use Rattle.nbt_node.specs.declared.state.State.TheVariants.{Idle, Asking, Held, Releasing, Resting}
 use Rattle.nbt_node.specs.declared.state.Slot.{Slot}

@@ -7,3 +7,4 @@ pub mod Due
 pub mod Steps
 pub mod OneMove
 pub mod OneCall
+pub mod Reading

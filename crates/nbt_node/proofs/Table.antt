@@ -1,5 +1,5 @@
 -- Lines of the table of moves, from what the code knows of a state.
-use Rattle.std.proofs.Common.{◌≡◌, ◌≢◌, ℕ, ◌+◌, ◌*◌, Bool, false, eqb, Option, Some, None, refl, sym, arith, inl, inr, ne_eqb, eq-eqb}
+use Rattle.std.proofs.Common.{◌≡◌, ◌≢◌, ℕ, Bool, false, eqb, Option, Some, None, refl, sym, arith, inl, inr, ne_eqb, eq-eqb}
 use Rattle.std.proofs.lemmas.Bool.Decides.{eqb_tells}
 use Rattle.std.specs.Prelude.{◌||◌}
 use Rattle.nbt_name.specs.declared.addr.Kind.{Kind}

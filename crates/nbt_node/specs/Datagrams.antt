@@ -81,6 +81,11 @@ NodeTakes old now from (not_found id rcode name) = Ends old now from (not_found 
 NodeTakes old now from (status id name names) = Ends old now from (status id name names) (lists names)
 NodeTakes old now from message = Idles old now
 
+-- what octets say: the message that they spell, or that they spell none
+abbrev pub Says : List ℕ → Option MessageValue → Type 0
+Says octets None = (message : MessageValue) → ¬ Spells octets message
+Says octets (Some message) = Spells octets message
+
 -- and what octets do, by the message that they spell, if any
 pub data NodeTakesOctets (old : NodeValue) (now : ℕ) (from : Addr) (octets : List ℕ) : NodeValue → Option MessageValue → Told → Type 0 where
   spelled : (message : MessageValue) (new : NodeValue) (sent : Option MessageValue) (told : Told) → Spells octets message → NodeTakes old now from message new sent told → NodeTakesOctets old now from octets new sent told

@@ -13,7 +13,6 @@ use Rattle.nbt_node.specs.declared.state.State.{State}
 use Rattle.nbt_node.specs.declared.state.State.TheVariants.{Idle, Asking, Held, Releasing, Resting}
 use Rattle.nbt_node.specs.declared.transaction.Transaction.{Transaction}
 use Rattle.nbt_node.specs.Transaction.{is_next, opened, again, put_off, wait_until}
-use Rattle.nbt_node.specs.Settling.{settled}
 use Rattle.nbt_node.specs.Node.{NodeValue, state_at, changed}
 
 -- what happens to a name: it is asked for, given back or polled, or the server says something about it

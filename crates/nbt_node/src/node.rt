@@ -1,6 +1,6 @@
 //! An end node: the names that it asks for and holds.
 
-ghost use Rattle.std.specs.Prelude.{◌≡◌, ℕ, ◌≤◌, ◌<◌, ◌↔◌, [], Option, None, IsNone, OnOk, OnErr, IfOk, IsErr};
+ghost use Rattle.std.specs.Prelude.{◌≡◌, ℕ, ◌≤◌, ◌<◌, ◌↔◌, List, [], Option, None, IsNone, OnOk, OnErr, IfOk, IsErr};
 ghost use Rattle.std.specs.Result.{result_err};
 
 use crate::asking::{claim, id_after, release};
@@ -45,12 +45,12 @@ impl<const N: usize> Model for Node<N> {
 
 impl<const N: usize> Node<N> {
     ghost use Rattle.nbt_name.specs.declared.addr.Kind.{Kind as NameKind};
-    ghost use Rattle.nbt_packet.specs.Message.{MessageValue, message_of, registered, released, wait};
+    ghost use Rattle.nbt_packet.specs.Message.{MessageValue, message_of, message_if, registered, released, wait};
     ghost use Rattle.nbt_node.specs.Node.{slots_most, holds, changed, settled_node, state_at, lookup_open, AreDistinct};
     ghost use Rattle.nbt_node.specs.Moves.{ask, give_back, told_of};
     ghost use Rattle.nbt_packet.specs.Spelling.{AreWritten};
     ghost use Rattle.nbt_node.specs.Calls.{started, ask_refusal, release_refusal, resolve_refusal, status_refusal, Sends, Opens, Polls, slot_due};
-    ghost use Rattle.nbt_node.specs.Datagrams.{NodeHears, Lists, Ends, NodeTakes, Handles, is_listed_for};
+    ghost use Rattle.nbt_node.specs.Datagrams.{NodeHears, Lists, Ends, NodeTakes, Handles, Says, is_listed_for};
 
     /// A node at `addr` whose name server is at `server`. It knows nothing, and asks for nothing until more than
     /// `Config::quiet()` has passed: two lives of a datagram, and what its clock may be fast by (our profile). All moments
@@ -362,12 +362,29 @@ impl<const N: usize> Node<N> {
         ensures ok { IfOk result (λ event. Handles self.old now from octets.now self.new (told_of event) out.new.items) }
         ensures err { OnErr result ((self.new ≡ self.old) × (out.new.items ≡ [])) }
     {
+        let message = read(octets);
+        self.handle(now, from, &message, out)
+    }
+
+    /// Handles a datagram that was read before, as `on_datagram` handles its octets: `message` is what they spell, if they
+    /// spell one. Refused as there.
+    pub fn handle<'a>(
+        &mut self,
+        now: Moment,
+        from: Addr,
+        message: &Option<Message<'a>>,
+        out: &mut ArrayVec<u8, 576>,
+    ) -> Result<Event<'a>, ClockBack>
+        ensures refused { IsErr result ↔ (now < self.old.last) }
+        ensures ok { IfOk result (λ event. (octets : List ℕ) → Says octets (message_if message.now) → Handles self.old now from octets self.new (told_of event) out.new.items) }
+        ensures err { OnErr result ((self.new ≡ self.old) × (out.new.items ≡ [])) }
+    {
         out.clear();
         if now.get() < self.last.get() {
             return Err(ClockBack);
         }
-        match read(octets) {
-            Some(message) => Ok(self.take(now, from, &message, out)),
+        match message {
+            Some(message) => Ok(self.take(now, from, message, out)),
             None => {
                 self.settle(now);
                 Ok(Event::Nothing)

@@ -1,22 +1,14 @@
-use Rattle.std.proofs.Common.{◌≡◌, Option, Some, None, refl}
-use Rattle.nbt_packet.specs.Message.{MessageValue, message_of}
-use Rattle.nbt_node.specs.Datagrams.{spelled, unspelled}
+use Rattle.std.proofs.lemmas.Result.{IfOk-weaker}
+use Rattle.nbt_node.specs.declared.event.Event.{Event}
+use Rattle.nbt_node.specs.Datagrams.{Handles, Says}
 use Rattle.nbt_node.specs.Moves.{told_of}
+use Rattle.std.specs.Prelude.{List, ℕ}
+use Rattle.nbt_packet.specs.Message.{message_if}
+use Rattle.nbt_node.proofs.Reading.{says_read}
 use Rattle.nbt_node.proofs.node.Node.on_datagram.Goals as goal
 
-pub returns-in-Some-clause-ok : goal.returns-in-Some-clause-ok
-returns-in-Some-clause-ok g c = record {
-  sent = c.take.ensures.0;
-  takes = spelled (message_of c.in-Some.message) c.take.new.self c.take.ensures.0 (told_of c.take.result) ((c.in-Some.ensures (message_of c.in-Some.message)).0 refl) c.take.ensures.1;
-  written = c.take.ensures.2;
-}
-
-pub returns-in-None-clause-ok : goal.returns-in-None-clause-ok
-returns-in-None-clause-ok g c = record {
-  sent = None;
-  takes = unspelled c.settle.new.self (λ message spells. none_is message ((c.in-None.ensures message).1 spells)) c.settle.ensures.node;
-  written = c.clear.ensures;
-}
-  where
-    none_is : (message : MessageValue) → ◌≡◌ {A = Option MessageValue} None (Some message) → ⊥
-    none_is message e = cc
+pub returns-clause-ok : goal.returns-clause-ok
+returns-clause-ok g c =
+    IfOk-weaker c.handle.result (λ (event : Event). (octets : List ℕ) → Says octets (message_if c.read-message.result) → Handles c.args.self.now c.args.now c.args.from octets c.handle.new.self (told_of event) c.handle.new.out.items)
+    (λ (event : Event). Handles c.args.self.now c.args.now c.args.from c.args.octets.now c.handle.new.self (told_of event) c.handle.new.out.items)
+    (λ (event : Event) handles. handles c.args.octets.now (says_read c.read-message.result c.args.octets.now c.read-message.ensures)) c.handle.ensures.ok
