@@ -11,12 +11,12 @@ use crate::commands::answer::AnswerArguments;
 use crate::commands::explain::{ExplainArguments, Source};
 use crate::commands::show::{Service, ShowArguments};
 use crate::failure::Failure;
+use nbt_args::{AnswerWords, ShowWords, Words};
 use nbt_explain::read_digits;
 use nbt_lease::Moment;
 use nbt_loop::Ports;
 use nbt_net::{NodeArguments, ServeArguments};
 use nbt_text::{parse_address, parse_number};
-use nbt_usage::{AnswerWords, ShowWords, Words};
 use network::{loop_ports, node_arguments, serve_arguments};
 use std::alloc::Global;
 use std::convert::AsStr;
@@ -25,7 +25,7 @@ use std::convert::AsStr;
 #[derive(Debug, Drop)]
 pub enum Request {
     /// Of the commands for people who run a network.
-    People(nbt_people::Request),
+    People(nbt_admin::Request),
     Answer(AnswerArguments),
     Show(ShowArguments),
     /// Of `show --explain`.
@@ -41,7 +41,7 @@ pub enum Request {
 
 /// Reads the words, of which the first is the program's name. Wrong usage is found before a text that can't be read.
 pub fn parse_words<S: AsStr>(alloc: Global, words: &[S]) -> Result<Request, Failure> {
-    request_of(alloc, &nbt_usage::read(alloc, words)?)
+    request_of(alloc, &nbt_args::read(alloc, words)?)
 }
 
 /// What the words of a command ask for.
@@ -50,7 +50,7 @@ fn request_of(alloc: Global, words: &Words<'_>) -> Result<Request, Failure>
     ensures failure { IfErr result (IsRefusalOf words.now) }
 {
     match words {
-        Words::People(words) => Ok(Request::People(nbt_people::request_of(alloc, words)?)),
+        Words::People(words) => Ok(Request::People(nbt_admin::request_of(alloc, words)?)),
         Words::Answer(words) => Ok(Request::Answer(answer_arguments(alloc, words)?)),
         Words::Show(words) => show_request(alloc, words),
         Words::Check => Ok(Request::Check),
@@ -122,8 +122,8 @@ fn service_of(kind: &str) -> Service
     ensures session { (result ≡ Session) ↔ (kind.now ≡ codes "session") }
 {
     match kind {
-        nbt_usage::DGRAM => Service::Dgram,
-        nbt_usage::SESSION => Service::Session,
+        nbt_args::DGRAM => Service::Dgram,
+        nbt_args::SESSION => Service::Session,
         _ => Service::Name,
     }
 }
@@ -135,7 +135,7 @@ fn time_or_usage(alloc: Global, text: &str) -> Result<Moment, Failure>
 {
     match parse_time(text) {
         Some(at) => Ok(at),
-        None => Err(nbt_usage::bad_time(alloc, text))?,
+        None => Err(nbt_args::bad_time(alloc, text))?,
     }
 }
 

@@ -3,9 +3,9 @@
 ghost use Rattle.std.specs.Prelude.{◌≡◌, ◌≤◌};
 
 use hex::FromHexError;
+use nbt_admin::Complaint;
+use nbt_args::{Refusal, Text};
 use nbt_engine::Fault;
-use nbt_people::Complaint;
-use nbt_usage::{Refusal, Text};
 use std::alloc::{AllocError, AllocFailed};
 use std::io;
 use thiserror::Error;
@@ -104,16 +104,16 @@ impl From<Refusal> for Failure {
     }
 }
 
-impl From<nbt_people::Failure> for Failure {
+impl From<nbt_admin::Failure> for Failure {
     ghost use Rattle.nbt_prog.specs.Inner.Failure.{failure_of_people};
 
     ghost from_gives = { λ error failure. failure ≡ failure_of_people error };
 
-    fn from(error: nbt_people::Failure) -> Failure {
+    fn from(error: nbt_admin::Failure) -> Failure {
         match error {
-            nbt_people::Failure::Usage(text) => Failure::Usage(text),
-            nbt_people::Failure::Words(complaint) => Failure::Words(complaint),
-            nbt_people::Failure::Memory => Failure::Fault(Fault::Memory),
+            nbt_admin::Failure::Usage(text) => Failure::Usage(text),
+            nbt_admin::Failure::Words(complaint) => Failure::Words(complaint),
+            nbt_admin::Failure::Memory => Failure::Fault(Fault::Memory),
         }
     }
 }

@@ -10,7 +10,7 @@ ghost use Rattle.std.specs.declared.io.ErrorKind.TheVariants.{InvalidData};
 ghost use Rattle.std.specs.Io.KnownBytes.{Appends};
 ghost use Rattle.nbt_net.specs.Node.{RunsNodeHere};
 ghost use Rattle.nbt_net.specs.Serve.{RunsServerHere};
-ghost use Rattle.nbt_people.specs.Running.{Runs};
+ghost use Rattle.nbt_admin.specs.Running.{Runs};
 ghost use Rattle.nbt_text.specs.Lines.{one_line};
 ghost use Rattle.nbt_prog.specs.Inner.Failure.{failure_status, failure_text};
 ghost use Rattle.nbt_prog.specs.Inner.Outcome.{status_of_outcome, text_of_outcome};
@@ -130,7 +130,7 @@ fn tell_words<S: AsStr, E: Write>(alloc: Global, failure: &Failure, words: &[S],
     match failure {
         Failure::Words(complaint) => complaint.tell(alloc, errors),
         Failure::Unreadable => {
-            if let Ok(words) = nbt_usage::read(alloc, words) {
+            if let Ok(words) = nbt_args::read(alloc, words) {
                 reason::tell_words(&words, errors);
             }
         }
@@ -142,14 +142,14 @@ fn tell_words<S: AsStr, E: Write>(alloc: Global, failure: &Failure, words: &[S],
 fn people_on<M: Net + time::Clock + Files, W: Write, E: Write>(
     machine: &M,
     alloc: Global,
-    request: &nbt_people::Request,
+    request: &nbt_admin::Request,
     writer: &mut W,
     errors: &mut E,
 ) -> u8
     ensures bound { result ≤ 5 }
     ensures done { ((3 ≤ result) × (result ≤ 4)) ⊎ Runs request.now result (W.contents writer.old) (W.contents writer.new) }
 {
-    match nbt_people::run(machine, alloc, request, writer, errors) {
+    match nbt_admin::run(machine, alloc, request, writer, errors) {
         Ok(status) => status,
         Err(fault) => conclude_fault(fault, writer),
     }
@@ -222,7 +222,7 @@ pub fn command_without_words<W: Write>(alloc: Global, error: io::Error, writer: 
         → Appends (W.contents writer.old) (W.contents writer.new) (one_line (codes "memory")) }
 {
     let failure = match error.kind() {
-        io::ErrorKind::InvalidData => nbt_usage::no_text(alloc).into(),
+        io::ErrorKind::InvalidData => nbt_args::no_text(alloc).into(),
         _ => Failure::from(error),
     };
     conclude(Err(failure), writer)

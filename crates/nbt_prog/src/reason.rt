@@ -1,8 +1,8 @@
 //! Why a command printed `unreadable` or `memory`, as standard error tells it (our profile). What can't be written there is passed over.
 
 use crate::arguments::Request;
+use nbt_args::Words;
 use nbt_text::parse_address;
-use nbt_usage::Words;
 use std::io;
 use std::io::Write;
 use thiserror::Error;

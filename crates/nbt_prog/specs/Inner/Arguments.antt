@@ -5,7 +5,7 @@ use Rattle.nbt_lease.specs.Config.{last_moment}
 use Rattle.nbt_loop.specs.declared.ports.TheConstants.{FIRST_PORT_MOST}
 use Rattle.nbt_text.specs.Address.{SpellsAddress}
 use Rattle.nbt_text.specs.Number.{SpellsNumber}
-use Rattle.nbt_usage.specs.declared.words.AnswerWords.{AnswerWords}
+use Rattle.nbt_args.specs.declared.words.AnswerWords.{AnswerWords}
 use Rattle.nbt_prog.specs.Inner.Failure.{failure_status, out_of_memory}
 use Rattle.nbt_name.specs.declared.addr.Addr.{Addr}
 use Rattle.nbt_prog.specs.declared.commands.answer.AnswerArguments.{AnswerArguments}

@@ -2,14 +2,14 @@
 use Rattle.std.specs.Prelude.{◌≡◌, ◌≢◌, ◌⊎◌, ℕ, List, [], Option, Some, None, Ok, codes}
 use Rattle.hex.specs.Hex.{decode_of}
 use Rattle.nbt_explain.specs.Digits.{digits_in}
-use Rattle.nbt_usage.specs.declared.refusal.Refusal.{Refusal}
-use Rattle.nbt_usage.specs.declared.refusal.Refusal.TheVariants as refusal
+use Rattle.nbt_args.specs.declared.refusal.Refusal.{Refusal}
+use Rattle.nbt_args.specs.declared.refusal.Refusal.TheVariants as refusal
 use Rattle.hex.specs.declared.error.FromHexError.{FromHexError}
 use Rattle.hex.specs.declared.error.FromHexError.TheVariants as hex_error
 use Rattle.nbt_engine.specs.Faults.{fault_status, fault_line}
 use Rattle.nbt_engine.specs.declared.fault.Fault.TheVariants.{Memory}
-use Rattle.nbt_people.specs.declared.failure.Failure.{Failure as PeopleFailure}
-use Rattle.nbt_people.specs.declared.failure.Failure.TheVariants as people
+use Rattle.nbt_admin.specs.declared.failure.Failure.{Failure as PeopleFailure}
+use Rattle.nbt_admin.specs.declared.failure.Failure.TheVariants as people
 use Rattle.nbt_text.specs.Lines.{one_line}
 use Rattle.nbt_prog.specs.declared.failure.Failure.{Failure}
 use Rattle.nbt_prog.specs.declared.failure.Failure.TheVariants.{Help, Usage, Unreadable, Words, Fault}

@@ -10,11 +10,11 @@ use Rattle.nbt_text.specs.NameText.{SpellsName}
 use Rattle.nbt_text.specs.Number.{SpellsNumber}
 use Rattle.nbt_net.specs.declared.node.NodeArguments.{NodeArguments}
 use Rattle.nbt_net.specs.declared.serve.ServeArguments.{ServeArguments}
-use Rattle.nbt_usage.specs.Limits.{least_of, most_of}
-use Rattle.nbt_usage.specs.declared.network.NumberArgument.{NumberArgument}
-use Rattle.nbt_usage.specs.declared.network.NumberArgument.TheVariants.{Life, Longest, Ttl, Turns}
-use Rattle.nbt_usage.specs.declared.words.NodeWords.{NodeWords}
-use Rattle.nbt_usage.specs.declared.words.ServeWords.{ServeWords}
+use Rattle.nbt_args.specs.Limits.{least_of, most_of}
+use Rattle.nbt_args.specs.declared.network.NumberArgument.{NumberArgument}
+use Rattle.nbt_args.specs.declared.network.NumberArgument.TheVariants.{Life, Longest, Ttl, Turns}
+use Rattle.nbt_args.specs.declared.words.NodeWords.{NodeWords}
+use Rattle.nbt_args.specs.declared.words.ServeWords.{ServeWords}
 use Rattle.nbt_prog.specs.Inner.Arguments.{IsAddress}
 use Rattle.nbt_prog.specs.Inner.Failure.{failure_status, out_of_memory}
 use Rattle.nbt_prog.specs.declared.failure.Failure.{Failure}

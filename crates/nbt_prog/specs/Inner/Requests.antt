@@ -1,14 +1,14 @@
 -- What the words of a command ask for.
 use Rattle.std.specs.Prelude.{◌≡◌, ◌≢◌, ◌↔◌, ◌⊎◌, ℕ, List, true, false, Ok, codes}
 use Rattle.hex.specs.Hex.{decode_of}
-use Rattle.nbt_usage.specs.declared.words.ShowWords.{ShowWords}
-use Rattle.nbt_usage.specs.declared.words.Words.{Words}
-use Rattle.nbt_usage.specs.declared.words.Words.TheVariants as words
+use Rattle.nbt_args.specs.declared.words.ShowWords.{ShowWords}
+use Rattle.nbt_args.specs.declared.words.Words.{Words}
+use Rattle.nbt_args.specs.declared.words.Words.TheVariants as words
 use Rattle.nbt_prog.specs.Inner.Arguments.{AreGiven, IsFailureOf, IsHexadecimal, IsPort, IsUsageFailure, SpellsPort}
 use Rattle.nbt_prog.specs.Inner.Failure.{out_of_memory, failure_of_people, DigitsFail}
 use Rattle.nbt_prog.specs.Inner.Network.{ServeGiven, ServeFails, NodeGiven, NodeFails}
-use Rattle.nbt_people.specs.Requests.{AsksFor as PeopleAskFor, Refuses}
-use Rattle.nbt_people.specs.declared.failure.Failure.{Failure as PeopleFailure}
+use Rattle.nbt_admin.specs.Requests.{AsksFor as PeopleAskFor, Refuses}
+use Rattle.nbt_admin.specs.declared.failure.Failure.{Failure as PeopleFailure}
 use Rattle.nbt_prog.specs.declared.arguments.Request.{Request}
 use Rattle.nbt_prog.specs.declared.arguments.Request.TheVariants as request
 use Rattle.nbt_prog.specs.Inner.Show.{IsDigits}

@@ -1,20 +1,20 @@
 //! What the words ask of the commands that open sockets.
 
 ghost use Rattle.std.specs.Prelude.{◌≡◌, ◌≤◌, ◌↔◌, IfOk, IfErr, IsSome, IfSome, codes};
-ghost use Rattle.nbt_usage.specs.Limits.{least_of, most_of};
+ghost use Rattle.nbt_args.specs.Limits.{least_of, most_of};
 ghost use Rattle.nbt_prog.specs.Inner.Arguments.{IsPort, IsUsageFailure, SpellsPort};
 ghost use Rattle.nbt_prog.specs.Inner.Network.{ServeGiven, ServeFails, NodeGiven, NodeFails, IsConfigOf, AreLimits, IsWithin, SpellsWithin, SpellsTurns, AreTurns, IsHeld, SpellsHeld};
 ghost use Rattle.nbt_name.specs.Wire.{IsStar};
 ghost use Rattle.nbt_name.specs.declared.addr.Kind.TheVariants.{Group};
 
 use crate::failure::Failure;
+use nbt_args::{NetworkCommand, NodeWords, NumberArgument, ServeWords};
 use nbt_engine::Want;
 use nbt_lease::{Config, ROWS_MOST};
 use nbt_loop::Ports;
 use nbt_name::{Kind, Name};
 use nbt_net::{NodeArguments, ServeArguments};
 use nbt_text::{parse_address, parse_name, parse_number};
-use nbt_usage::{NetworkCommand, NodeWords, NumberArgument, ServeWords};
 use std::alloc::Global;
 
 /// Reads the arguments of `serve`. A number out of its limits is wrong usage, and is found before an address that can't be
@@ -62,7 +62,7 @@ pub fn loop_ports(alloc: Global, port: &str) -> Result<Ports, Failure>
 {
     match parse_ports(port) {
         Some(ports) => Ok(ports),
-        None => Err(nbt_usage::bad_port(alloc, port))?,
+        None => Err(nbt_args::bad_port(alloc, port))?,
     }
 }
 
@@ -120,7 +120,7 @@ fn number(
 {
     match parse_within(limited, text) {
         Some(number) => Ok(number),
-        None => Err(nbt_usage::bad_number(alloc, which, limited, text))?,
+        None => Err(nbt_args::bad_number(alloc, which, limited, text))?,
     }
 }
 
@@ -174,7 +174,7 @@ fn kind_of(text: &str) -> Kind
     ensures { (result ≡ Group) ↔ (text.now ≡ codes "group") }
 {
     match text {
-        nbt_usage::GROUP => Kind::Group,
+        nbt_args::GROUP => Kind::Group,
         _ => Kind::Unique,
     }
 }

@@ -1,7 +1,7 @@
 use Rattle.std.proofs.Common.{refl}
 use Rattle.std.specs.Prelude.{◌≢◌, slice_index}
 use Rattle.nbt_text.specs.NameText.{SpellsName}
-use Rattle.nbt_people.proofs.Reading.{both, some, none}
+use Rattle.nbt_admin.proofs.Reading.{both, some, none}
 use Rattle.nbt_prog.proofs.arguments.network.name_to_hold.Goals as goal
 
 pub returns-in-Some-clause-read : goal.returns-in-Some-clause-read

@@ -1,7 +1,7 @@
 use Rattle.std.proofs.Common.{◌≤◌, refl}
 use Rattle.nbt_text.specs.Number.{SpellsNumber}
-use Rattle.nbt_usage.specs.Limits.{least_of, most_of}
-use Rattle.nbt_people.proofs.Reading.{both, some, none}
+use Rattle.nbt_args.specs.Limits.{least_of, most_of}
+use Rattle.nbt_admin.proofs.Reading.{both, some, none}
 use Rattle.nbt_prog.proofs.arguments.network.parse_within.Goals as goal
 
 pub returns-in-Some-clause-read : goal.returns-in-Some-clause-read

@@ -1,0 +1,31 @@
+-- What a command for people does on this machine, what it prints, and with which status it ends (our profile).
+use Rattle.std.specs.Prelude.{◌≡◌, ℕ, Bool, if◌then◌else◌, List, Option}
+use Rattle.std.specs.Io.KnownBytes.{Appends}
+use Rattle.nbt_ask.specs.Answers.{answer_status}
+use Rattle.nbt_ask.specs.Asking.{AsksHere}
+use Rattle.nbt_ask.specs.declared.answer.Answer.{Answer}
+use Rattle.nbt_hosting.specs.Running.{HostsHere}
+use Rattle.nbt_hosting.specs.declared.arguments.HostArguments.{HostArguments}
+use Rattle.nbt_nbns.specs.Here.{RunsNbns}
+use Rattle.nbt_admin.specs.declared.asking.AskArguments.{AskArguments}
+use Rattle.nbt_admin.specs.declared.request.Request.{Request}
+use Rattle.nbt_admin.specs.declared.request.Request.TheVariants as request
+
+-- It was asked, the text of how that came out was appended, and the status is that of the answer.
+pub record AskedHere (a : AskArguments) (status : ℕ) (old_text text : Option (List ℕ)) : Type 0 where
+  pub answer : Answer
+  pub told : List ℕ
+  pub asks : AsksHere a.bind a.question a.patience answer told
+  pub appends : Appends old_text text told
+  pub status_is : status ≡ answer_status answer
+
+-- It held its names as long as it could, and the status says whether all were held at the end.
+pub record HostedHere (a : HostArguments) (status : ℕ) (old_text text : Option (List ℕ)) : Type 0 where
+  pub all : Bool
+  pub hosts : HostsHere a all old_text text
+  pub status_is : status ≡ (if all then 0 else 5)
+
+abbrev pub Runs : Request → (status : ℕ) → (old_text text : Option (List ℕ)) → Type 0
+Runs (request.Ask a) status old_text text = AskedHere a status old_text text
+Runs (request.Nbns a) status old_text text = (status ≡ 0) × RunsNbns a old_text text
+Runs (request.Host a) status old_text text = HostedHere a status old_text text

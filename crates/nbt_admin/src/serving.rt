@@ -1,0 +1,44 @@
+//! The command `nbns`: what its words ask for.
+
+ghost use Rattle.std.specs.Prelude.{◌≡◌, IfOk, IfErr};
+ghost use Rattle.std.specs.Option.{option_map};
+ghost use Rattle.std.specs.String.{string_bytes};
+ghost use Rattle.nbt_admin.specs.Serving.{NbnsGiven, NbnsFails};
+
+use crate::failure::Failure;
+use crate::naming::end_of;
+use crate::timing::{config_of, ending_of, fit};
+use nbt_args::NbnsWords;
+use nbt_nbns::NbnsArguments;
+use std::alloc::{AllocError, Global};
+
+/// Reads the arguments of `nbns`. The first that is wrong is told: the life, the longest lease, the time, a longest lease that is too
+/// short for a network, the address.
+pub fn nbns_arguments(alloc: Global, words: &NbnsWords<'_>) -> Result<NbnsArguments, Failure>
+    ensures given { IfOk result (NbnsGiven words.now) }
+    ensures failure { IfErr result (NbnsFails words.now) }
+{
+    let config = config_of(alloc, words.life, words.longest)?;
+    let time = ending_of(alloc, words.time)?;
+    fit(config)?;
+    let bind = end_of(alloc, words.bind)?;
+    let leases = path_of(alloc, words.leases)?;
+    Ok(NbnsArguments {
+        bind,
+        config,
+        time,
+        log: words.log,
+        leases,
+        strict: words.strict,
+    })
+}
+
+/// The path of a file, if there is one.
+fn path_of(alloc: Global, text: Option<&str>) -> Result<Option<String>, AllocError>
+    ensures { IfOk result (λ path. option_map string_bytes path ≡ option_map (λ t. t.now) text.entry) }
+{
+    match text {
+        Some(text) => Ok(Some(String::from_str(alloc, text)?)),
+        None => Ok(None),
+    }
+}
