@@ -2,8 +2,8 @@
 use Rattle.std.specs.Prelude.{◌≡◌, ◌≢◌, ℕ, ◌+◌, ◌*◌, ◌/◌, ◌%◌, List, [], ◌∷◌, ◌++◌, take, drop, slice_index, codes}
 use Rattle.nbt_packet.specs.Message.{kind_in, nb, nbstat}
 use Rattle.nbt_packet.specs.Packet.{RecordValue}
-use Rattle.nbt_spelling.specs.Characters.{PrintsOctets}
-use Rattle.nbt_spelling.specs.Others.{words_of}
+use Rattle.nbt_text.specs.SuffixedNames.{PrintsOctets}
+use Rattle.nbt_text.specs.Suffixes.{words_of}
 use Rattle.nbt_tell.specs.Holders.{dotted, kind_word}
 use Rattle.nbt_tell.specs.Names.{flag_words, unit_text}
 use Rattle.nbt_tell.specs.Rows.{PrintsRows}

@@ -10,8 +10,8 @@ ghost use Rattle.nbt_explain.specs.Rows.{IsEntryLine, IsNameLine, PrintsData, af
 use crate::naming::write_in_brackets;
 use crate::words::node_word;
 use nbt_packet::Record;
-use nbt_spelling::{suffix_words, write_octets};
 use nbt_tell::{kind_of, kind_word, write_dotted, write_name_flags, write_unit_id};
+use nbt_text::{suffix_words, write_octets};
 use std::alloc::AllocError;
 
 /// Type NB, a name's entries (RFC 1002 section 4.2.1.3).

@@ -3,7 +3,7 @@ use Rattle.std.specs.Prelude.{◌≡◌, ◌≢◌, ℕ, nat_eq, if◌then◌els
 use Rattle.std.specs.Fmt.{decimal}
 use Rattle.nbt_name.specs.declared.addr.Addr.{Addr}
 use Rattle.nbt_name.specs.Wire.{NameValue}
-use Rattle.nbt_spelling.specs.Characters.{PrintsOctets}
+use Rattle.nbt_text.specs.SuffixedNames.{PrintsOctets}
 use Rattle.nbt_text.specs.Address.{dotted, address_text}
 use Rattle.nbt_text.specs.Lines.{newline}
 use Rattle.nbt_text.specs.NameText.{PrintsName}

@@ -3,8 +3,8 @@ use Rattle.std.specs.Prelude.{◌≡◌, ℕ, ◌/◌, ◌%◌, nat_eq, nat_lt, 
 use Rattle.std.specs.Str.{bytes_eq}
 use Rattle.hex.specs.Hex.{encode_lower}
 use Rattle.nbt_packet.specs.Message.{kind_in}
-use Rattle.nbt_spelling.specs.Characters.{PrintsOctets}
-use Rattle.nbt_spelling.specs.Others.{words_of}
+use Rattle.nbt_text.specs.SuffixedNames.{PrintsOctets}
+use Rattle.nbt_text.specs.Suffixes.{words_of}
 use Rattle.nbt_text.specs.Lines.{newline}
 use Rattle.nbt_tell.specs.Holders.{kind_word}
 

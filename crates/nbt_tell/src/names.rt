@@ -6,8 +6,7 @@ ghost use Rattle.nbt_tell.specs.Names.{flag_words, meaning, after_word, IsNameLi
 ghost use Rattle.nbt_tell.specs.Rows.{PrintsRows};
 
 use crate::holders::{kind_of, kind_word};
-use nbt_spelling::{suffix_words, write_octets};
-use nbt_text::write_hexadecimal;
+use nbt_text::{suffix_words, write_hexadecimal, write_octets};
 use std::alloc::AllocError;
 
 /// Appends a line for each name, and one for the unit id, where it is there and isn't zero.

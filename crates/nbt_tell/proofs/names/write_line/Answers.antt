@@ -1,7 +1,7 @@
 use Rattle.std.proofs.Common.{◌++◌, subst, refl, append_assoc, take, List, ℕ}
 use Rattle.std.specs.String.{string_bytes}
 use Rattle.nbt_text.proofs.Joining.{OnOk-map}
-use Rattle.nbt_spelling.specs.Characters.{PrintsOctets}
+use Rattle.nbt_text.specs.SuffixedNames.{PrintsOctets}
 use Rattle.nbt_tell.specs.Names.{after_word}
 use Rattle.nbt_tell.proofs.names.write_line.Goals as goal
 
