@@ -1,4 +1,4 @@
--- What is told of a status reply: an end's names, and its unit id (RFC 1002 section 4.2.18; the words are our profile's).
+-- What is printed of a status reply: a node's names, and its unit id (RFC 1002 section 4.2.18; the words are our profile's).
 use Rattle.std.specs.Prelude.{◌≡◌, ℕ, ◌/◌, ◌%◌, nat_eq, nat_lt, ◌||◌, if◌then◌else◌, List, [], ◌∷◌, ◌++◌, take, replicate, length, slice_index, codes}
 use Rattle.std.specs.Str.{bytes_eq}
 use Rattle.hex.specs.Hex.{encode_lower}
@@ -6,7 +6,7 @@ use Rattle.nbt_packet.specs.Message.{kind_in}
 use Rattle.nbt_text.specs.SuffixedNames.{PrintsOctets}
 use Rattle.nbt_text.specs.Suffixes.{words_of}
 use Rattle.nbt_text.specs.Lines.{newline}
-use Rattle.nbt_tell.specs.Holders.{kind_word}
+use Rattle.nbt_show.specs.Holders.{kind_word}
 
 -- ---- a name of eighteen octets: the sixteen, and NAME_FLAGS
 

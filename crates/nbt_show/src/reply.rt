@@ -4,10 +4,10 @@ ghost use Rattle.std.specs.Prelude.{◌≡◌, ◌+◌, ℕ, List, ◌++◌, IfO
 ghost use Rattle.std.specs.String.{string_bytes};
 ghost use Rattle.nbt_packet.specs.Packet.{RecordValue, packet_of};
 ghost use Rattle.nbt_packet.specs.Message.{MessageIs, message_of};
-ghost use Rattle.nbt_tell.specs.Replies.{TellsMessage, TellsReply};
+ghost use Rattle.nbt_show.specs.Replies.{PrintsReplyMessage, PrintsReply};
 
 use crate::holders::{write_holders, write_not_found};
-use crate::names::write_names;
+use crate::node_status::write_names;
 use nbt_packet::{Message, Packet, classify, decode};
 use std::alloc::AllocError;
 
@@ -18,7 +18,7 @@ pub enum Reply {
     Found,
     /// The name that was asked for isn't there.
     NotFound,
-    /// It is no reply to a lookup, and nothing is told of it.
+    /// It is no reply to a lookup, and nothing is printed of it.
     Other,
 }
 
@@ -28,7 +28,7 @@ pub enum Reply {
 /// its flags and what its suffix means, and one for the unit id, where it is there and isn't zero (RFC 1002 section 4.2.18). Of
 /// any other message, and of octets that begin with no packet, nothing.
 pub fn write_reply(octets: &[u8], out: &mut String) -> Result<Reply, AllocError>
-    ensures { IfOk result (λ reply. (text : List ℕ) × TellsReply octets.now reply text × (string_bytes out.new ≡ string_bytes out.old ++ text)) }
+    ensures { IfOk result (λ reply. (text : List ℕ) × PrintsReply octets.now reply text × (string_bytes out.new ≡ string_bytes out.old ++ text)) }
 {
     let Ok((packet, _)) = decode(octets) else {
         return Ok(Reply::Other);
@@ -46,7 +46,7 @@ fn write_message(
     out: &mut String,
 ) -> Result<Reply, AllocError>
     requires { MessageIs (packet_of packet.now) (message_of message.now) }
-    ensures { IfOk result (λ reply. (text : List ℕ) × TellsMessage (packet_of packet.now) (message_of message.now) reply text
+    ensures { IfOk result (λ reply. (text : List ℕ) × PrintsReplyMessage (packet_of packet.now) (message_of message.now) reply text
         × (string_bytes out.new ≡ string_bytes out.old ++ text)) }
 {
     match message {

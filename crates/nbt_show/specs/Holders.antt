@@ -1,11 +1,11 @@
--- What is told of a reply that says who holds a name (RFC 1002 sections 4.2.13 and 4.2.14; the words are our profile's).
+-- What is printed of a reply that says who holds a name (RFC 1002 sections 4.2.13 and 4.2.14; the words are our profile's).
 use Rattle.std.specs.Prelude.{◌≡◌, ℕ, Bool, true, false, List, [], ◌++◌, slice_index, codes}
 use Rattle.std.specs.Fmt.{decimal}
 use Rattle.nbt_name.specs.declared.addr.Kind.{Kind}
 use Rattle.nbt_name.specs.declared.addr.Kind.TheVariants.{Unique, Group}
 use Rattle.nbt_packet.specs.Message.{kind_in}
 use Rattle.nbt_text.specs.Lines.{newline}
-use Rattle.nbt_tell.specs.Rcodes.{rcode_words}
+use Rattle.nbt_show.specs.Rcodes.{rcode_words}
 
 -- who may hold a name
 abbrev pub kind_word : Kind → List ℕ

@@ -4,8 +4,8 @@ use Rattle.std.proofs.lemmas.Result.{IfOk-weaker}
 use Rattle.std.specs.String.{string_bytes}
 use Rattle.nbt_packet.specs.Message.{MessageValue, MessageIs, message_of}
 use Rattle.nbt_packet.specs.Packet.{packet_of}
-use Rattle.nbt_tell.specs.Replies.{a_message, no_message, no_packet}
-use Rattle.nbt_tell.proofs.reply.write_reply.Goals as goal
+use Rattle.nbt_show.specs.Replies.{a_message, no_message, no_packet}
+use Rattle.nbt_show.proofs.reply.write_reply.Goals as goal
 
 pub returns-in_default : goal.returns-in_default
 returns-in_default c = ([], no_packet c.in_default.field-0 ((c.in_default.ensures.fault c.in_default.field-0).0 refl), sym (append-nil (string_bytes c.args.out.now)))

@@ -3,8 +3,8 @@
 ghost use Rattle.std.specs.Prelude.{◌≡◌, ◌++◌, [], ◌∷◌, ℕ, List, OnOk};
 ghost use Rattle.std.specs.String.{string_bytes};
 ghost use Rattle.nbt_packet.specs.Message.{kind_in};
-ghost use Rattle.nbt_tell.specs.Holders.{kind_word, dotted, entry_line, IsEntryLine, cut_text, not_found_text};
-ghost use Rattle.nbt_tell.specs.Rows.{PrintsRows};
+ghost use Rattle.nbt_show.specs.Holders.{kind_word, dotted, entry_line, IsEntryLine, cut_text, not_found_text};
+ghost use Rattle.nbt_show.specs.Rows.{PrintsRows};
 
 use crate::rcode::rcode_words;
 use nbt_name::Kind;

@@ -1,7 +1,7 @@
 //! RCODEs in words.
 
 ghost use Rattle.std.specs.Prelude.{◌≡◌};
-ghost use Rattle.nbt_tell.specs.Rcodes.{rcode_words};
+ghost use Rattle.nbt_show.specs.Rcodes.{rcode_words};
 
 /// What the RCODE of a negative response says: in the words of the table of RFC 1002 sections 4.2.6, 4.2.11 and 4.2.14, shortened;
 /// `unknown` for one that no table there has.

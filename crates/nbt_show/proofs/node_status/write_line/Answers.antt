@@ -2,8 +2,8 @@ use Rattle.std.proofs.Common.{◌++◌, subst, refl, append_assoc, take, List, �
 use Rattle.std.specs.String.{string_bytes}
 use Rattle.nbt_text.proofs.Joining.{OnOk-map}
 use Rattle.nbt_text.specs.SuffixedNames.{PrintsOctets}
-use Rattle.nbt_tell.specs.Names.{after_word}
-use Rattle.nbt_tell.proofs.names.write_line.Goals as goal
+use Rattle.nbt_show.specs.NodeStatus.{after_word}
+use Rattle.nbt_show.proofs.node_status.write_line.Goals as goal
 
 pub returns : goal.returns
 returns c =

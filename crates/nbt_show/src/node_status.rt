@@ -2,8 +2,8 @@
 
 ghost use Rattle.std.specs.Prelude.{◌≡◌, ℕ, List, [], ◌∷◌, ◌++◌, OnOk, if◌then◌else◌};
 ghost use Rattle.std.specs.String.{string_bytes};
-ghost use Rattle.nbt_tell.specs.Names.{flag_words, meaning, after_word, IsNameLine, pair, unit_line, unit_text};
-ghost use Rattle.nbt_tell.specs.Rows.{PrintsRows};
+ghost use Rattle.nbt_show.specs.NodeStatus.{flag_words, meaning, after_word, IsNameLine, pair, unit_line, unit_text};
+ghost use Rattle.nbt_show.specs.Rows.{PrintsRows};
 
 use crate::holders::{kind_of, kind_word};
 use nbt_text::{suffix_words, write_hexadecimal, write_octets};

@@ -3,10 +3,10 @@ use Rattle.std.proofs.lemmas.List.{append-nil}
 use Rattle.std.specs.String.{string_bytes}
 use Rattle.nbt_packet.specs.Message.{MessageIs, status, internet_record, nbstat}
 use Rattle.nbt_packet.specs.Packet.{packet_of}
-use Rattle.nbt_tell.specs.Holders.{cut_text, not_found_text}
-use Rattle.nbt_tell.specs.Names.{unit_text}
-use Rattle.nbt_tell.proofs.Others.{tells_other}
-use Rattle.nbt_tell.proofs.reply.write_message.Goals as goal
+use Rattle.nbt_show.specs.Holders.{cut_text, not_found_text}
+use Rattle.nbt_show.specs.NodeStatus.{unit_text}
+use Rattle.nbt_show.proofs.NoReply.{prints_nothing}
+use Rattle.nbt_show.proofs.reply.write_message.Goals as goal
 
 pub returns-in_ok-write_holders-in-Found : goal.returns-in_ok-write_holders-in-Found
 returns-in_ok-write_holders-in-Found c =
@@ -30,4 +30,4 @@ returns-in_ok-write_names-in-Status c =
 
 pub returns-in_default : goal.returns-in_default
 returns-in_default c =
-    ([], tells_other (packet_of c.args.packet.now) c.args.message.now c.in_default.not-Found c.in_default.not-NotFound c.in_default.not-Status, sym (append-nil (string_bytes c.args.out.now)))
+    ([], prints_nothing (packet_of c.args.packet.now) c.args.message.now c.in_default.not-Found c.in_default.not-NotFound c.in_default.not-Status, sym (append-nil (string_bytes c.args.out.now)))
