@@ -1,6 +1,6 @@
 -- What the words of `lookup` and `status` ask (our profile).
 use Rattle.std.specs.Prelude.{◌≡◌, ◌⊎◌}
-use Rattle.nbt_spelling.specs.Others.{SpellsEnd}
+use Rattle.nbt_text.specs.Address.{SpellsEnd}
 use Rattle.nbt_lookup.specs.declared.question.Question.{Question}
 use Rattle.nbt_lookup.specs.declared.question.Question.TheVariants as q
 use Rattle.nbt_args.specs.declared.words.AskWords.{AskWords}

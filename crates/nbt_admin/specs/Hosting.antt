@@ -5,7 +5,7 @@ use Rattle.nbt_engine.specs.declared.turning.Want.{Want}
 use Rattle.nbt_name.specs.Wire.{NameValue}
 use Rattle.nbt_name.specs.declared.addr.Kind.{Kind}
 use Rattle.nbt_name.specs.declared.addr.Kind.TheVariants.{Unique, Group}
-use Rattle.nbt_spelling.specs.Others.{SpellsEnd}
+use Rattle.nbt_text.specs.Address.{SpellsEnd}
 use Rattle.nbt_hosting.specs.declared.arguments.HostArguments.{HostArguments}
 use Rattle.nbt_args.specs.declared.words.HostWords.{HostWords}
 use Rattle.nbt_admin.specs.Times.{IsConfigOf, AreLimits, LimitsFail, SpellsEnding, IsEnding, EndingFails}

@@ -3,7 +3,7 @@ use Rattle.std.specs.Prelude.{◌≡◌, ◌⊎◌}
 use Rattle.std.specs.Option.{option_map}
 use Rattle.std.specs.String.{string_bytes}
 use Rattle.nbt_lease.specs.Config.{ConfigValue}
-use Rattle.nbt_spelling.specs.Others.{SpellsEnd}
+use Rattle.nbt_text.specs.Address.{SpellsEnd}
 use Rattle.nbt_nbns.specs.declared.here.NbnsArguments.{NbnsArguments}
 use Rattle.nbt_args.specs.declared.words.NbnsWords.{NbnsWords}
 use Rattle.nbt_admin.specs.Times.{IsConfigOf, AreLimits, LimitsFail, IsFitting, FittingFails, SpellsEnding, IsEnding, EndingFails}

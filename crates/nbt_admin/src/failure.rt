@@ -21,7 +21,7 @@ pub enum WordFault {
     Anywhere,
     /// It spells no name.
     #[error("{0}")]
-    Name(nbt_spelling::Fault),
+    Name(nbt_text::Fault),
     /// It spells a name that begins with `*`, for which no server is asked.
     #[error("no server is asked for a name that begins with *")]
     Star,

@@ -8,7 +8,7 @@ use crate::failure::{Complaint, Failure, WordFault};
 use nbt_ask::TRY;
 use nbt_lease::{Config, LIFE_MOST, LONGEST_MOST, ROWS_MOST};
 use nbt_nbns::{Judged, judge};
-use nbt_spelling::read_duration;
+use nbt_text::read_duration;
 use std::alloc::Global;
 
 /// The milliseconds of a second.

@@ -3,8 +3,8 @@ use Rattle.std.specs.Prelude.{ℕ, List, ◌++◌, codes}
 use Rattle.nbt_lookup.specs.declared.looking.Ending.{Ending}
 use Rattle.nbt_lookup.specs.declared.looking.Ending.TheVariants as e
 use Rattle.nbt_node.specs.declared.fault.LookupFault.{LookupFault}
-use Rattle.nbt_tell.specs.declared.reply.Reply.TheVariants as r
-use Rattle.nbt_tell.specs.Replies.{TellsReply}
+use Rattle.nbt_show.specs.declared.reply.Reply.TheVariants as r
+use Rattle.nbt_show.specs.Replies.{PrintsReply}
 use Rattle.nbt_text.specs.Lines.{newline}
 use Rattle.nbt_ask.specs.declared.answer.Answer.{Answer}
 use Rattle.nbt_ask.specs.declared.answer.Answer.TheVariants as a
@@ -22,8 +22,8 @@ silence = codes "no reply" ++ newline
 -- What is told of an ending: what the reply's octets say, or that none came, also where the node asked nothing, or where the
 -- octets are no reply to a lookup.
 pub data TellsEnding : Ending → (octets : List ℕ) → Answer → List ℕ → Type 0 where
-  tells_found : (octets text : List ℕ) → TellsReply octets r.Found text → TellsEnding e.Told octets a.Found text
-  tells_not_found : (octets text : List ℕ) → TellsReply octets r.NotFound text → TellsEnding e.Told octets a.NotFound text
-  tells_other : (octets text : List ℕ) → TellsReply octets r.Other text → TellsEnding e.Told octets a.NoReply (text ++ silence)
+  tells_found : (octets text : List ℕ) → PrintsReply octets r.Found text → TellsEnding e.Told octets a.Found text
+  tells_not_found : (octets text : List ℕ) → PrintsReply octets r.NotFound text → TellsEnding e.Told octets a.NotFound text
+  tells_other : (octets text : List ℕ) → PrintsReply octets r.Other text → TellsEnding e.Told octets a.NoReply (text ++ silence)
   tells_silence : (octets : List ℕ) → TellsEnding e.NoReply octets a.NoReply silence
   tells_refusal : (octets : List ℕ) (fault : LookupFault) → TellsEnding (e.Refused fault) octets a.NoReply silence

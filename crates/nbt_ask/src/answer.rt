@@ -5,7 +5,7 @@ ghost use Rattle.std.specs.String.{string_bytes};
 ghost use Rattle.nbt_ask.specs.Answers.{answer_status, silence, TellsEnding};
 
 use nbt_lookup::Ending;
-use nbt_tell::{Reply, write_reply};
+use nbt_show::{Reply, write_reply};
 use std::alloc::AllocError;
 
 /// How a lookup came out.

@@ -5,7 +5,7 @@ use Rattle.std.proofs.lemmas.List.{length-append}
 use Rattle.hex.specs.Hex.{encode_lower}
 use Rattle.nbt_name.specs.Wire.{NameValue}
 use Rattle.nbt_text.specs.NameText.{PrintsComponent, PrintsLabels, label_printed, none_printed, dot, prefix}
-use Rattle.nbt_spelling.specs.Names.{dotted}
+use Rattle.nbt_text.specs.ScopedNames.{dotted}
 use Rattle.nbt_c.specs.declared.name.CName.{CName}
 use Rattle.nbt_c.specs.Names.{HoldsName, name_in}
 use Rattle.nbt_c.specs.Writing.{Writes, written, has_no_room, no_room}

@@ -9,13 +9,13 @@ use Rattle.hex.specs.Hex.{decode_of, encode_upper, encode_with, upper_digits}
 use Rattle.hex.proofs.HexLemmas.{decode_of-ok, length-encode_with}
 use Rattle.nbt_name.specs.Wire.{AreOctets}
 use Rattle.nbt_text.specs.NameText.{prefix}
-use Rattle.nbt_spelling.specs.declared.casing.Case.{Case}
-use Rattle.nbt_spelling.specs.declared.casing.Case.TheVariants.{Exact, Folded}
-use Rattle.nbt_spelling.specs.Characters.{IsMark, IsCutAt, IsFront, blank, cased, fifteen, SpellsOctets, in_characters, in_digits, IsSeen, PrintsOctets, in_capitals}
-use Rattle.nbt_spelling.specs.Inner.Blanks.{IsBlank}
-use Rattle.nbt_spelling.proofs.Filling.{front_is_one, last_is, length-fifteen}
-use Rattle.nbt_spelling.proofs.Printed.{printed_spells}
-use Rattle.nbt_spelling.proofs.Words.{cut_is_one}
+use Rattle.nbt_text.specs.declared.casing.Case.{Case}
+use Rattle.nbt_text.specs.declared.casing.Case.TheVariants.{Exact, Folded}
+use Rattle.nbt_text.specs.SuffixedNames.{IsMark, IsCutAt, IsFront, blank, cased, fifteen, SpellsOctets, in_characters, in_digits, IsSeen, PrintsOctets, in_capitals}
+use Rattle.nbt_text.specs.Inner.Blanks.{IsBlank}
+use Rattle.nbt_text.proofs.Filling.{front_is_one, last_is, length-fifteen}
+use Rattle.nbt_text.proofs.PrintedOctets.{printed_spells}
+use Rattle.nbt_text.proofs.Words.{cut_is_one}
 
 -- the word that is tried: the characters before a blank, and the suffix
 abbrev pub word_by : List ℕ → ℕ → List ℕ

@@ -4,10 +4,10 @@ use Rattle.nbt_name.specs.declared.fault.NameRefusal.TheVariants.{Star, ScopeLon
 use Rattle.nbt_name.specs.Numbers.{refusal_number}
 use Rattle.nbt_name.specs.Scope.{IsScope}
 use Rattle.nbt_name.specs.Wire.{name_of}
-use Rattle.nbt_spelling.specs.declared.casing.Case.{Case}
-use Rattle.nbt_spelling.specs.declared.casing.Case.TheVariants.{Folded, Exact}
-use Rattle.nbt_spelling.specs.declared.fault.Fault.{Fault}
-use Rattle.nbt_spelling.specs.declared.fault.Fault.TheVariants as f
+use Rattle.nbt_text.specs.declared.casing.Case.{Case}
+use Rattle.nbt_text.specs.declared.casing.Case.TheVariants.{Folded, Exact}
+use Rattle.nbt_text.specs.declared.fault.Fault.{Fault}
+use Rattle.nbt_text.specs.declared.fault.Fault.TheVariants as f
 use Rattle.nbt_c.specs.declared.name.CName.{CName}
 use Rattle.nbt_c.specs.Names.{stored}
 

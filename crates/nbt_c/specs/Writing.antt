@@ -2,8 +2,8 @@
 use Rattle.std.specs.Prelude.{◌≡◌, ℕ, ◌<◌, ◌≤◌, List, ◌++◌, length, drop}
 use Rattle.nbt_name.specs.Wire.{NameValue, wire}
 use Rattle.nbt_text.specs.NameText.{PrintsLabels}
-use Rattle.nbt_spelling.specs.Characters.{PrintsOctets}
-use Rattle.nbt_spelling.specs.Names.{dotted}
+use Rattle.nbt_text.specs.SuffixedNames.{PrintsOctets}
+use Rattle.nbt_text.specs.ScopedNames.{dotted}
 use Rattle.nbt_c.specs.declared.name.CName.{CName}
 use Rattle.nbt_c.specs.Names.{HoldsName, name_in}
 

@@ -2,15 +2,15 @@
 
 ghost use Rattle.std.specs.Prelude.{◌≡◌, ◌≢◌};
 ghost use Rattle.nbt_name.specs.Wire.{NameValue};
-ghost use Rattle.nbt_spelling.specs.declared.fault.Fault.{Fault as Wrong};
-ghost use Rattle.nbt_spelling.specs.Names.{SpellsName, MisspellsName};
-ghost use Rattle.nbt_spelling.specs.Numbers.{fault_number};
+ghost use Rattle.nbt_text.specs.declared.fault.Fault.{Fault as Wrong};
+ghost use Rattle.nbt_text.specs.ScopedNames.{SpellsName, MisspellsName};
+ghost use Rattle.nbt_text.specs.Faults.{fault_number};
 ghost use Rattle.nbt_c.specs.Names.{stored};
 ghost use Rattle.nbt_c.specs.Naming.{Makes, MakesAny, case_of, place_in};
 
 use crate::name::CName;
 use nbt_name::Name;
-use nbt_spelling::{Case, Fault, read_name};
+use nbt_text::{Case, Fault, read_name};
 
 /// `nbt_name::Name::new`: the name of sixteen octets and a scope, given as its labels, each after its length octet, without
 /// the closing zero. 0, and the name stands in `out`; or, `out` being left as it was, the first refusal's number: `Star` (1),
@@ -43,7 +43,7 @@ pub extern "C" fn nbt_name_any(scope: &[u8], out: &mut CName) -> u8
     }
 }
 
-/// `nbt_spelling::read_name`: the name whose sixteen octets the word spells, as `FILER`, `FILER#20`, `FILER<20>`, `*` or `hex:`
+/// `nbt_text::read_name`: the name whose sixteen octets the word spells, as `FILER`, `FILER#20`, `FILER<20>`, `*` or `hex:`
 /// and 32 digits, and whose scope the text does, as `NETBIOS.COM`, or nothing. Small letters become capitals unless `exact`.
 /// 0, and the name stands in `out`; or the first fault's number, 1 to 6, `out` being left as it was. `place` is then how many
 /// characters there are for `Long` (2), the character's place for `Character` (3), and 0 for all else.

@@ -3,10 +3,10 @@
 ghost use Rattle.std.specs.Prelude.{◌≡◌, ℕ, ◌+◌, ◌*◌, ◌≤◌, List, [], ◌∷◌, ◌++◌, ◌↔◌, IsTrue, length};
 ghost use Rattle.hex.specs.Hex.{encode_lower, encode_upper};
 ghost use Rattle.nbt_text.specs.NameText.{IsPlain, PrintsComponent, PrintsLabels, StandsAsItIs, prefix};
-ghost use Rattle.nbt_spelling.specs.declared.casing.Case.TheVariants.{Exact, Folded};
-ghost use Rattle.nbt_spelling.specs.Characters.{IsCutAt, PrintsOctets, SpellsOctets};
-ghost use Rattle.nbt_spelling.specs.Inner.Blanks.{IsBlank};
-ghost use Rattle.nbt_spelling.specs.Names.{dotted};
+ghost use Rattle.nbt_text.specs.declared.casing.Case.TheVariants.{Exact, Folded};
+ghost use Rattle.nbt_text.specs.SuffixedNames.{IsCutAt, PrintsOctets, SpellsOctets};
+ghost use Rattle.nbt_text.specs.Inner.Blanks.{IsBlank};
+ghost use Rattle.nbt_text.specs.ScopedNames.{dotted};
 ghost use Rattle.nbt_c.specs.Writing.{IsScopeText, IsWord, Writes};
 
 use crate::name::CName;
@@ -14,8 +14,7 @@ use crate::results::NO_NAME;
 use crate::room::put_form;
 use arrayvec::ArrayVec;
 use nbt_name::Name;
-use nbt_spelling::{Case, read_octets};
-use nbt_text::digits_of;
+use nbt_text::{Case, digits_of, read_octets};
 
 /// How many of the octets stand before the suffix (RFC 1001 section 14, our profile).
 const FRONT_MOST: usize = 15;
@@ -26,7 +25,7 @@ const CAPITAL_DIGITS: &[u8; 16] = b"0123456789ABCDEF";
 /// Room for the text of any scope: up to five characters for an octet.
 type Text = ArrayVec<u8, 1105>;
 
-/// The name's sixteen octets as `nbt_spelling::write_octets` prints them, 4 to 36 characters: `FILER#20`, or `hex:` and 32 digits.
+/// The name's sixteen octets as `nbt_text::write_octets` prints them, 4 to 36 characters: `FILER#20`, or `hex:` and 32 digits.
 /// 0, and they stand at the front of `out`, `size` being how many there are. Else nothing is written: 255 where `name` holds no
 /// name, 254 where `out` has fewer octets.
 #[unsafe(no_mangle)]
@@ -63,7 +62,7 @@ fn undotted(labels: &[u8]) -> &[u8]
     }
 }
 
-/// The word of sixteen octets, as `nbt_spelling::write_octets` has it.
+/// The word of sixteen octets, as `nbt_text::write_octets` has it.
 fn word_of(octets: &[u8; 16]) -> Text
     ensures { PrintsOctets octets.now result.items }
 {

@@ -2,7 +2,7 @@
 
 use nbt_name::{Kind, Name};
 use nbt_packet::{Message, Registration, read};
-use nbt_tell::{kind_word, rcode_words};
+use nbt_show::{kind_word, rcode_words};
 use nbt_text::write_name;
 use std::alloc::AllocError;
 

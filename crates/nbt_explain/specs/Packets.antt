@@ -5,7 +5,7 @@ use Rattle.nbt_packet.specs.declared.fault.Fault.{Fault}
 use Rattle.nbt_packet.specs.declared.packet.Question.{Question}
 use Rattle.nbt_packet.specs.Message.{opcode_of, rcode_of}
 use Rattle.nbt_packet.specs.Packet.{PacketValue, RecordValue, PacketIs, PacketFault}
-use Rattle.nbt_tell.specs.Rcodes.{rcode_words}
+use Rattle.nbt_show.specs.Rcodes.{rcode_words}
 use Rattle.nbt_text.specs.Lines.{newline}
 use Rattle.nbt_explain.specs.Parts.{PrintsNamed, type_and_class}
 use Rattle.nbt_explain.specs.Rows.{PrintsData}

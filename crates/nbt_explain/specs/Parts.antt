@@ -1,8 +1,8 @@
 -- Names, types and classes in words (our profile).
 use Rattle.std.specs.Prelude.{◌≡◌, ◌≢◌, ℕ, nat_eq, if◌then◌else◌, List, [], ◌∷◌, ◌++◌, slice_index, codes}
 use Rattle.nbt_name.specs.Wire.{NameValue}
-use Rattle.nbt_spelling.specs.Characters.{PrintsOctets}
-use Rattle.nbt_spelling.specs.Others.{unique_words, group_words}
+use Rattle.nbt_text.specs.SuffixedNames.{PrintsOctets}
+use Rattle.nbt_text.specs.Suffixes.{unique_words, group_words}
 use Rattle.nbt_text.specs.NameText.{PrintsName}
 use Rattle.nbt_explain.specs.Rows.{in_brackets}
 use Rattle.nbt_explain.specs.Words.{with_number}

@@ -2,11 +2,11 @@
 use Rattle.std.specs.Prelude.{◌≡◌, ◌≢◌, ℕ, ◌+◌, ◌*◌, ◌/◌, ◌%◌, List, [], ◌∷◌, ◌++◌, take, drop, slice_index, codes}
 use Rattle.nbt_packet.specs.Message.{kind_in, nb, nbstat}
 use Rattle.nbt_packet.specs.Packet.{RecordValue}
-use Rattle.nbt_spelling.specs.Characters.{PrintsOctets}
-use Rattle.nbt_spelling.specs.Others.{words_of}
-use Rattle.nbt_tell.specs.Holders.{dotted, kind_word}
-use Rattle.nbt_tell.specs.Names.{flag_words, unit_text}
-use Rattle.nbt_tell.specs.Rows.{PrintsRows}
+use Rattle.nbt_text.specs.SuffixedNames.{PrintsOctets}
+use Rattle.nbt_text.specs.Suffixes.{words_of}
+use Rattle.nbt_show.specs.Holders.{dotted, kind_word}
+use Rattle.nbt_show.specs.NodeStatus.{flag_words, unit_text}
+use Rattle.nbt_show.specs.Rows.{PrintsRows}
 use Rattle.nbt_text.specs.Lines.{newline}
 use Rattle.nbt_explain.specs.Words.{node_word}
 

@@ -11,7 +11,7 @@ use crate::rows::write_rdata;
 use crate::sentence::write_reason;
 use crate::words::{write_duration, write_flag, write_four_digits, write_numbered};
 use nbt_packet::{Packet, Question, Record, decode};
-use nbt_tell::rcode_words;
+use nbt_show::rcode_words;
 use nbt_text::end_line;
 use std::alloc::AllocError;
 

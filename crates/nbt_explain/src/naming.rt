@@ -7,8 +7,7 @@ ghost use Rattle.nbt_explain.specs.Rows.{in_brackets};
 
 use crate::words::write_numbered;
 use nbt_name::{Kind, Name};
-use nbt_spelling::{suffix_words, write_octets};
-use nbt_text::write_name;
+use nbt_text::{suffix_words, write_name, write_octets};
 use std::alloc::AllocError;
 
 /// Where the suffix of a name stands (RFC 1001 section 14).

@@ -3,15 +3,15 @@
 ghost use Rattle.std.specs.Prelude.{◌≡◌, ℕ, List, ◌++◌, OnOk};
 ghost use Rattle.std.specs.String.{string_bytes};
 ghost use Rattle.nbt_packet.specs.Packet.{record_of};
-ghost use Rattle.nbt_tell.specs.Names.{unit_text};
-ghost use Rattle.nbt_tell.specs.Rows.{PrintsRows};
+ghost use Rattle.nbt_show.specs.NodeStatus.{unit_text};
+ghost use Rattle.nbt_show.specs.Rows.{PrintsRows};
 ghost use Rattle.nbt_explain.specs.Rows.{IsEntryLine, IsNameLine, PrintsData, after_names, after_word, entry_line, names_in, node_in};
 
 use crate::naming::write_in_brackets;
 use crate::words::node_word;
 use nbt_packet::Record;
-use nbt_spelling::{suffix_words, write_octets};
-use nbt_tell::{kind_of, kind_word, write_dotted, write_name_flags, write_unit_id};
+use nbt_show::{kind_of, kind_word, write_dotted, write_name_flags, write_unit_id};
+use nbt_text::{suffix_words, write_octets};
 use std::alloc::AllocError;
 
 /// Type NB, a name's entries (RFC 1002 section 4.2.1.3).

@@ -3,7 +3,7 @@ use Rattle.std.specs.Prelude.{◌≡◌, ℕ, ◌<◌, ◌≤◌, List, [], ◌�
 use Rattle.nbt_lease.specs.declared.lease.Lease.{Lease}
 use Rattle.nbt_lease.specs.Lease.{Rows}
 use Rattle.nbt_name.specs.Wire.{NameValue}
-use Rattle.nbt_tell.specs.Holders.{kind_word}
+use Rattle.nbt_show.specs.Holders.{kind_word}
 use Rattle.nbt_text.specs.Address.{dotted}
 use Rattle.nbt_text.specs.Lines.{newline}
 use Rattle.nbt_journal.specs.declared.dates.Dates.{Dates}

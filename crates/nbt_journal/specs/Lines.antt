@@ -3,12 +3,12 @@ use Rattle.std.specs.Prelude.{◌≡◌, ◌≢◌, ℕ, nat_eq, if◌then◌els
 use Rattle.std.specs.Fmt.{decimal}
 use Rattle.nbt_name.specs.declared.addr.Addr.{Addr}
 use Rattle.nbt_name.specs.Wire.{NameValue}
-use Rattle.nbt_spelling.specs.Characters.{PrintsOctets}
+use Rattle.nbt_text.specs.SuffixedNames.{PrintsOctets}
 use Rattle.nbt_text.specs.Address.{dotted, address_text}
 use Rattle.nbt_text.specs.Lines.{newline}
 use Rattle.nbt_text.specs.NameText.{PrintsName}
-use Rattle.nbt_tell.specs.Holders.{kind_word}
-use Rattle.nbt_tell.specs.Rcodes.{rcode_words}
+use Rattle.nbt_show.specs.Holders.{kind_word}
+use Rattle.nbt_show.specs.Rcodes.{rcode_words}
 use Rattle.nbt_journal.specs.Dates.{IsTimeText}
 use Rattle.nbt_journal.specs.declared.told.Claim.{Claim}
 use Rattle.nbt_journal.specs.declared.told.Told.{Told}

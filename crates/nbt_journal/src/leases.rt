@@ -9,7 +9,7 @@ use crate::time::write_time;
 use crate::word::{write_dotted, write_word};
 use nbt_lease::{Lease, Moment};
 use nbt_name::Name;
-use nbt_tell::kind_word;
+use nbt_show::kind_word;
 use nbt_text::end_line;
 use std::alloc::AllocError;
 

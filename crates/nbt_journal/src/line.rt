@@ -8,7 +8,7 @@ use crate::time::write_time;
 use crate::told::{Claim, Told};
 use crate::word::{write_dotted, write_word};
 use nbt_name::Addr;
-use nbt_tell::{kind_word, rcode_words};
+use nbt_show::{kind_word, rcode_words};
 use nbt_text::{end_line, write_address};
 use std::alloc::AllocError;
 

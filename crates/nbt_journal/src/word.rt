@@ -6,8 +6,7 @@ ghost use Rattle.nbt_text.specs.Address.{dotted};
 ghost use Rattle.nbt_journal.specs.Lines.{PrintsWord};
 
 use nbt_name::Name;
-use nbt_spelling::write_octets;
-use nbt_text::write_name;
+use nbt_text::{write_name, write_octets};
 use std::alloc::AllocError;
 
 /// Appends a name as `FILER#20`; one in a scope as the bench's commands print it, with its scope.

@@ -12,3 +12,7 @@ pub mod Sessions
 pub mod Vectors
 -- what stands in a line, and the verdicts on the lines so far
 pub mod LineByLine
+-- rows that are printed one after the other
+pub mod Rows
+-- nothing is printed of messages that are no replies
+mod NoReply

@@ -1,6 +1,11 @@
 pub mod DgramText
+pub mod Holders
 pub mod Inner
+pub mod NodeStatus
 pub mod PacketText
+pub mod Rcodes
+pub mod Replies
+pub mod Rows
 pub mod SessionText
 pub mod Vector
 pub mod Verdicts

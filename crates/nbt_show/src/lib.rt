@@ -1,16 +1,27 @@
-//! What `show` and `check` print: packets, datagrams, sessions, and verdicts on vectors, as text (our profile).
+//! Packets, datagrams, sessions and replies as text (our profile).
 //!
-//! Nothing here knows the command line: octets and lines come in, and texts go out at the end of a `String`.
+//! `write_packet`, `write_dgram`, `write_session` and `write_verdicts` have the fixed texts of `show` and `check`. `write_reply`
+//! has what the commands that run a network print of a reply: an address a line as `192.0.2.7 unique`, or why there is none;
+//! a node's names, a line each, as `FILER#20 unique active  file server`. Octets and lines come in, and texts go out at the
+//! end of a `String`.
 #![tactic(auto)]
 
 mod dgram_text;
+mod holders;
+mod node_status;
 mod packet_text;
+mod rcode;
+mod reply;
 mod session_packet;
 mod session_text;
 mod vector;
 mod verdicts;
 
 pub use dgram_text::write_dgram;
+pub use holders::{kind_of, kind_word, write_dotted};
+pub use node_status::{write_name_flags, write_unit_id};
 pub use packet_text::write_packet;
+pub use rcode::rcode_words;
+pub use reply::{Reply, write_reply};
 pub use session_text::write_session;
 pub use verdicts::write_verdicts;

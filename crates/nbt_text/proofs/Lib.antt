@@ -2,11 +2,21 @@
 
 -- what is left to read after a piece gets shorter
 pub mod Splitting
+-- texts that are written one after another
+pub mod Joining
 -- decimal numbers as they are printed, and the marks between them: the text of an address
 pub mod AddressText
 -- how the parts of a name's text end, and what is left to read
 pub mod NameText
 -- what is printed of a name spells it
 pub mod PrintedNames
--- texts that are written one after another
-pub mod Joining
+-- how a word is cut, and that it spells one thing
+pub mod Words
+-- characters filled up to fifteen, and their suffix
+pub mod Filling
+-- what is printed of sixteen octets spells them
+pub mod PrintedOctets
+-- digits in hexadecimal, and what is known of an option
+pub mod Deciding
+-- the digits of a time, and the colon of an address
+pub mod Times

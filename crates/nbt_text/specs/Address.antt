@@ -1,7 +1,8 @@
 -- An address as text (our profile).
-use Rattle.std.specs.Prelude.{◌≡◌, ℕ, ◌/◌, ◌%◌, ◌^◌, ◌<◌, List, ◌++◌, codes}
+use Rattle.std.specs.Prelude.{◌≡◌, ℕ, ◌/◌, ◌%◌, ◌^◌, ◌<◌, ◌⊎◌, List, ◌++◌, codes}
 use Rattle.std.specs.Fmt.{decimal}
 use Rattle.nbt_name.specs.declared.addr.Addr.{Addr}
+use Rattle.nbt_text.specs.Lines.{HasNo}
 
 -- the four octets in decimal, the first one highest, with a dot between two
 abbrev pub dotted : ℕ → List ℕ
@@ -17,3 +18,7 @@ pub record SpellsAddress (text : List ℕ) (address : Addr) : Type 0 where
   pub ip_fits : address.ip < 2 ^ 32
   pub port_fits : address.port < 2 ^ 16
   pub text_is : text ≡ address_text address
+
+-- As people write it: A.B.C.D:PORT, or A.B.C.D, which is at port 137 (RFC 1002 section 4.2.1)
+abbrev pub SpellsEnd : List ℕ → Addr → Type 0
+SpellsEnd text address = ((¬ HasNo 0x3A text) × SpellsAddress text address) ⊎ (HasNo 0x3A text × SpellsAddress (text ++ codes ":137") address)

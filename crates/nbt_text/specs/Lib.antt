@@ -1,5 +1,11 @@
 pub mod Address
+pub mod Faults
+pub mod Inner
 pub mod Lines
 pub mod NameText
 pub mod Number
+pub mod ScopedNames
+pub mod Suffixes
+pub mod SuffixedNames
 pub mod Texts
+pub mod Times

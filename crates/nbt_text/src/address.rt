@@ -1,12 +1,14 @@
-//! An address as text: `A.B.C.D:PORT` (our profile).
+//! An address as text: `A.B.C.D:PORT`, and for people without the port too (our profile).
 
-ghost use Rattle.std.specs.Prelude.{◌≡◌, ℕ, ◌+◌, ◌*◌, ◌<◌, ◌≤◌, ◌^◌, ◌⊎◌, ◌++◌, ◌∷◌, ◌↔◌, List, IfSome, IsSomeAnd, OnOk, IsTrue, Some, length, slice_index};
+ghost use Rattle.std.specs.Prelude.{◌≡◌, ℕ, ◌+◌, ◌*◌, ◌<◌, ◌≤◌, ◌^◌, ◌⊎◌, ◌++◌, ◌∷◌, ◌↔◌, List, IfSome, IfOk, IsSomeAnd, OnOk, IsTrue, Some, length, slice_index};
 ghost use Rattle.std.specs.Fmt.{decimal};
 ghost use Rattle.std.specs.String.{string_bytes};
-ghost use Rattle.nbt_text.specs.Address.{SpellsAddress, address_text};
+ghost use Rattle.nbt_name.specs.declared.addr.Addr.{Addr as End};
+ghost use Rattle.nbt_text.specs.Address.{SpellsAddress, SpellsEnd, address_text};
 
+use crate::pieces::split_at_first;
 use nbt_name::Addr;
-use std::alloc::AllocError;
+use std::alloc::{AllocError, Global};
 
 /// Reads `A.B.C.D:PORT`, where A to D are 0 to 255 and PORT is 0 to 65,535, in decimal without a leading zero.
 pub fn parse_address(text: &str) -> Option<Addr>
@@ -21,6 +23,21 @@ pub fn parse_address(text: &str) -> Option<Addr>
         ip: joined(first, second, third, fourth),
         port,
     })
+}
+
+/// Reads `A.B.C.D:PORT`, or `A.B.C.D`, which is at port 137 (RFC 1002 section 4.2.1): in decimal without leading zeros.
+/// `None` where it is neither.
+pub fn read_address(alloc: Global, text: &str) -> Result<Option<Addr>, AllocError>
+    ensures { IfOk result (λ found. (address : End) → (found ≡ Some address) ↔ SpellsEnd text.now address) }
+{
+    let (_, port) = split_at_first(b':', text.as_bytes());
+    match port {
+        Some(_) => Ok(parse_address(text)),
+        None => {
+            let whole = format!(in alloc; "{text}:137")?;
+            Ok(parse_address(whole.as_str()))
+        }
+    }
 }
 
 /// Appends `A.B.C.D:PORT`.

@@ -1,20 +1,36 @@
-//! What the commands read and print as text: names, addresses, numbers and octets, and the lines and words of an input
-//! (our profile).
+//! Names, addresses, times and numbers as text, in the fixed form and as people write them (our profile).
 //!
-//! Nothing here knows the command line: texts come in as octets, and go out at the end of a `String`.
+//! The fixed form is that of the bench's commands: `parse_name`, `parse_address` and `parse_number` read it, and `write_name`
+//! and `write_address` write it. The commands that run a network read and print what people and other tools write:
+//! `read_name`, `read_octets`, `read_address` and `read_duration`, `write_octets` and `suffix_words`. Texts come in as octets
+//! and go out at the end of a `String`.
 #![tactic(auto)]
 
 mod address;
+mod casing;
+mod duration;
+mod fault;
 mod hexadecimal;
 pub mod laws;
 mod lines;
 mod name_text;
 mod number;
 mod pieces;
+mod scoped_name;
+mod suffix;
+mod suffixed_printing;
+mod suffixed_reading;
 
-pub use address::{parse_address, write_address};
+pub use address::{parse_address, read_address, write_address};
+pub use casing::Case;
+pub use duration::read_duration;
+pub use fault::Fault;
 pub use hexadecimal::write_hexadecimal;
 pub use lines::{NEWLINE, end_line, lines_of, octets_of, words_of, words_said};
 pub use name_text::{digits_of, parse_name, with_octets, write_name};
 pub use number::parse_number;
 pub use pieces::split_at_first;
+pub use scoped_name::read_name;
+pub use suffix::suffix_words;
+pub use suffixed_printing::write_octets;
+pub use suffixed_reading::read_octets;

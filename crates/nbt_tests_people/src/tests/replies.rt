@@ -2,7 +2,7 @@
 
 use super::expect::{expect_eq, expect_eq_in};
 use nbt_rows::octets;
-use nbt_tell::{Reply, rcode_words, write_reply};
+use nbt_show::{Reply, rcode_words, write_reply};
 use std::process::Abort;
 use std::test::Fail;
 

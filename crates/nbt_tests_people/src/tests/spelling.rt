@@ -2,9 +2,11 @@
 
 use super::expect::expect_eq_in;
 use nbt_name::Kind;
-use nbt_spelling::laws::printed_octets_are_read;
-use nbt_spelling::{Case, read_address, read_duration, read_name, suffix_words, write_octets};
-use nbt_text::{write_address, write_hexadecimal};
+use nbt_text::laws::printed_octets_are_read;
+use nbt_text::{
+    Case, read_address, read_duration, read_name, suffix_words, write_address, write_hexadecimal,
+    write_octets,
+};
 use std::process::Abort;
 use std::test::Fail;
 

@@ -1,7 +1,7 @@
 use Rattle.std.proofs.Common.{◌≡◌, ℕ, true, false, List, Option, Some, None, refl, subst}
 use Rattle.std.specs.Prelude.{IsSome, IfSome}
 use Rattle.nbt_lease.specs.Config.{IsLongest, milliseconds}
-use Rattle.nbt_spelling.specs.Others.{SpellsTime}
+use Rattle.nbt_text.specs.Times.{SpellsTime}
 use Rattle.nbt_admin.specs.Times.{SpellsLongest, IsLongestText}
 use Rattle.nbt_admin.proofs.timing.parse_longest.Goals as goal
 

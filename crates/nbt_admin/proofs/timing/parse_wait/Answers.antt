@@ -1,5 +1,5 @@
 use Rattle.std.proofs.Common.{◌≤◌, refl}
-use Rattle.nbt_spelling.specs.Others.{SpellsTime}
+use Rattle.nbt_text.specs.Times.{SpellsTime}
 use Rattle.nbt_admin.proofs.Reading.{both, some, none}
 use Rattle.nbt_admin.proofs.timing.parse_wait.Goals as goal
 

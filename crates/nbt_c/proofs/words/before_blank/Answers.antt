@@ -1,7 +1,7 @@
 use Rattle.std.proofs.Common.{◌<◌, drop, length, arith, rules}
 use Rattle.std.specs.Prelude.{slice_index}
-use Rattle.nbt_spelling.specs.Inner.Blanks.{IsBlank}
-use Rattle.nbt_spelling.proofs.Filling.{cut_found}
+use Rattle.nbt_text.specs.Inner.Blanks.{IsBlank}
+use Rattle.nbt_text.proofs.Filling.{cut_found}
 use Rattle.nbt_c.proofs.words.before_blank.Goals.{then-octets-test+else-not-is_blank, else-octets-test}
 use Rattle.nbt_c.proofs.words.before_blank.Goals as goal
 

@@ -1,6 +1,6 @@
 use Rattle.std.proofs.Common.{ℕ, ◌<◌, ◌≤◌, ◌-◌, length}
 use Rattle.std.specs.Prelude.{slice_index}
-use Rattle.nbt_spelling.specs.Inner.Blanks.{IsBlank}
+use Rattle.nbt_text.specs.Inner.Blanks.{IsBlank}
 use Rattle.nbt_c.proofs.words.before_blank.Given as goal
 
 abbrev pub invariant-octets : goal.invariant-octets

@@ -1,6 +1,6 @@
 use Rattle.std.proofs.Common.{◌≡◌, true≢false, sym, subst, ◌∙◌}
 use Rattle.std.proofs.lemmas.Slice.Eq.{bytes_eq-Decides}
-use Rattle.nbt_spelling.specs.Characters.{SpellsOctets}
+use Rattle.nbt_text.specs.SuffixedNames.{SpellsOctets}
 use Rattle.nbt_c.proofs.words.spells.Goals as goal
 
 pub returns-in-Ok : goal.returns-in-Ok

@@ -2,8 +2,8 @@ use Rattle.std.proofs.Common.{rules, ◌≡◌, ℕ, List, ◌++◌, length, tru
 use Rattle.hex.specs.Hex.{encode_lower}
 use Rattle.nbt_name.specs.Wire.{AreOctets}
 use Rattle.nbt_text.specs.NameText.{prefix}
-use Rattle.nbt_spelling.specs.declared.casing.Case.TheVariants.{Exact, Folded}
-use Rattle.nbt_spelling.specs.Characters.{SpellsOctets, PrintsOctets, in_hexadecimal}
+use Rattle.nbt_text.specs.declared.casing.Case.TheVariants.{Exact, Folded}
+use Rattle.nbt_text.specs.SuffixedNames.{SpellsOctets, PrintsOctets, in_hexadecimal}
 use Rattle.nbt_c.proofs.Spelled.{front_few, spelled_prints, printed_is_spelled}
 use Rattle.nbt_c.proofs.words.word_of.Goals as goal
 

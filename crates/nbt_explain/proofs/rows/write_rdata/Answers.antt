@@ -1,6 +1,6 @@
 use Rattle.std.proofs.Common.{[], ◌++◌, sym, arith}
 use Rattle.std.proofs.lemmas.List.{append-nil}
-use Rattle.nbt_tell.specs.Names.{unit_text}
+use Rattle.nbt_show.specs.NodeStatus.{unit_text}
 use Rattle.nbt_text.proofs.Joining.{OnOk-map}
 use Rattle.nbt_explain.specs.Rows.{entries, names, others, after_names}
 use Rattle.nbt_explain.proofs.rows.write_rdata.Goals as goal

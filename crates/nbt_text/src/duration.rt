@@ -1,0 +1,52 @@
+//! Times with their units.
+
+ghost use Rattle.std.specs.Prelude.{◌≡◌, ◌↔◌, ℕ, Some, IsTrue};
+ghost use Rattle.nbt_text.specs.SuffixedNames.{IsCutAt};
+ghost use Rattle.nbt_text.specs.Inner.Blanks.{IsNoDigit};
+ghost use Rattle.nbt_text.specs.Times.{IsUnit, SpellsTime};
+
+use crate::number::parse_number;
+
+/// The milliseconds of a second, and of a minute.
+const SECOND: u64 = 1_000;
+
+const MINUTE: u64 = 60_000;
+
+/// Reads a time, as `5m`, `300s` or `1500ms`: a number in decimal digits, and its unit. In milliseconds, fewer than 2^64.
+pub fn read_duration(text: &[u8]) -> Option<u64>
+    ensures { (time : ℕ) → (result ≡ Some time) ↔ SpellsTime text.now time }
+{
+    let (digits, unit) = digits_before(text);
+    let each = unit_of(unit)?;
+    parse_number(digits)?.checked_mul(each)
+}
+
+/// The digits that a text begins with, and the rest.
+fn digits_before(text: &[u8]) -> (&[u8], &[u8])
+    ensures { IsCutAt IsNoDigit text.now result.0.now result.1.now }
+{
+    let mut count = 0;
+    'octets: while count < text.len() && is_digit(text[count]) {
+        count += 1;
+    }
+    text.split_at(count)
+}
+
+/// Whether an octet is a digit.
+fn is_digit(octet: u8) -> bool
+    ensures { IsTrue result ↔ (¬ IsNoDigit octet) }
+{
+    b'0' <= octet && octet <= b'9'
+}
+
+/// The milliseconds of a unit.
+fn unit_of(unit: &[u8]) -> Option<u64>
+    ensures { (each : ℕ) → (result ≡ Some each) ↔ IsUnit unit.now each }
+{
+    match unit {
+        [b'm', b's'] => Some(1),
+        [b's'] => Some(SECOND),
+        [b'm'] => Some(MINUTE),
+        _ => None,
+    }
+}
