@@ -1,5 +1,5 @@
 -- A grant and a release have one outcome.
-use Rattle.std.proofs.Common.{◌≡◌, ℕ, List, [], ◌∷◌, ◌++◌, length, Result, Ok, Err, max, refl, sym, ap, ◌∙◌, subst, ⊎_elim, arith}
+use Rattle.std.proofs.Common.{◌≡◌, ℕ, List, [], ◌∷◌, ◌++◌, length, true, false, Result, Ok, Err, max, refl, sym, ap, ◌∙◌, subst, ⊎_elim, arith}
 use Rattle.std.proofs.lemmas.Bool.{cases_lt}
 use Rattle.nbt_name.specs.Wire.{NameValue}
 use Rattle.nbt_lease.specs.declared.lease.Lease.{Lease}
@@ -25,7 +25,7 @@ new_lease config now count a leases allowed none =
     ⊎_elim
     (λ room.
     ⊎_elim
-    (λ free. record { result = Ok (grant_until config a (end_of config now a)); after = leases ++ begun config now a ∷ []; rule = begins allowed none room free })
+    (λ free. record { result = Ok (grant_until config a (end_of config now a) false); after = leases ++ begun config now a ∷ []; rule = begins allowed none room free })
     (λ full. record { result = Err TableFull; after = leases; rule = table_full allowed none room full })
     (cases_lt count config.rows))
     (λ full. record { result = Err GroupFull; after = leases; rule = group_full allowed none full })
@@ -37,7 +37,7 @@ granted_case config now count a leases =
     (λ allowed.
     ⊎_elim
     (λ (own : Own a.addr leases). record {
-      result = Ok (grant_until config a (max own.lease.end (end_of config now a)));
+      result = Ok (grant_until config a (max own.lease.end (end_of config now a)) true);
       after = own.before ++ renewed config now a own.lease ∷ own.behind;
       rule = renews allowed own.before own.behind own.lease own.is own.owner_is;
     })
@@ -61,7 +61,7 @@ same_grant config now count a leases r s x y apart (active no') (begins allowed 
 same_grant config now count a leases r s x y apart (renews allowed _ _ _ _ _) (active no') = absurd (no' allowed)
 same_grant config now count a leases r s x y apart (renews _ before behind lease is own) (renews _ before' behind' lease' is' own') =
     let parts = one_own a.addr before behind before' behind' lease lease' (subst AreApart is apart) (sym is ∙ is') own own' in
-    (λ i. Ok (grant_until config a (max (parts.1 i).end (end_of config now a))), λ i. parts.0 i ++ renewed config now a (parts.1 i) ∷ parts.2 i)
+    (λ i. Ok (grant_until config a (max (parts.1 i).end (end_of config now a)) true), λ i. parts.0 i ++ renewed config now a (parts.1 i) ∷ parts.2 i)
 same_grant config now count a leases r s x y apart (renews _ before behind lease is own) (group_full _ none _) = absurd (not_none a.addr leases before behind lease is own none)
 same_grant config now count a leases r s x y apart (renews _ before behind lease is own) (table_full _ none _ _) = absurd (not_none a.addr leases before behind lease is own none)
 same_grant config now count a leases r s x y apart (renews _ before behind lease is own) (begins _ none _ _) = absurd (not_none a.addr leases before behind lease is own none)

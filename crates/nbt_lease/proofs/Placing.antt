@@ -19,7 +19,7 @@ use Rattle.nbt_lease.specs.Config.{ConfigValue, granted}
 use Rattle.nbt_lease.specs.Inner.Index.{Entries, members_of, rows_of, AreLive, IsMember, Renewed, Moves, Ended}
 use Rattle.nbt_lease.specs.declared.standing.Standing.{Standing}
 use Rattle.nbt_lease.specs.Inner.Standing.{StandsIn}
-use Rattle.nbt_lease.specs.Inner.Placing.{HoldsLive, Places, granted_until}
+use Rattle.nbt_lease.specs.Inner.Placing.{HoldsLive, Places}
 use Rattle.nbt_lease.proofs.Rows.{same_leases}
 use Rattle.nbt_lease.proofs.Counts.{same_count}
 use Rattle.nbt_lease.proofs.Sound.{all_joined, all_replaced, all_without, sound_granted}
@@ -104,14 +104,14 @@ module _ (table : TableValue) (now : ℕ) (name : NameValue) (a : Asked) where
   leases_here es before behind lease holds is = ap (λ (f : Leases). f name) (sym holds.leases) ∙ is.is
 
   -- the asker's lease is renewed
-  pub renews_lease : (es : Entries) (until : ℕ) (after : Leases) → HoldsLive table now es → IsAllowed a (leases_at now table.rows name) → Renewed es name a.addr (end_of table.config now a) until after → Places table now name a (Ok until) after
+  pub renews_lease : (es : Entries) (until : ℕ) (after : Leases) → HoldsLive table now es → IsAllowed a (leases_at now table.rows name) → Renewed es name a.addr (end_of table.config now a) until after → Places table now name a (Ok (grant_until table.config a until true)) after
   renews_lease es until after holds allowed r =
       let leases : List Lease = r.before ++ record r.lease { end = until } ∷ r.behind in
       record {
         rule = λ _. record {
           leases = leases;
           rule =
-              subst (λ (u : ℕ). GrantCase table.config now (live_count now table.rows) a (leases_at now table.rows name) (Ok (grant_until table.config a u)) (r.before ++ record r.lease { end = u } ∷ r.behind)) (sym r.until_is)
+              subst (λ (u : ℕ). GrantCase table.config now (live_count now table.rows) a (leases_at now table.rows name) (Ok (grant_until table.config a u true)) (r.before ++ record r.lease { end = u } ∷ r.behind)) (sym r.until_is)
               (renews allowed r.before r.behind r.lease (leases_here es r.before r.behind r.lease holds r.member) r.member.owner_is);
           after_is = r.after_is ∙ ap (at_name name leases) holds.leases;
         };
@@ -132,7 +132,7 @@ module _ (table : TableValue) (now : ℕ) (name : NameValue) (a : Asked) where
       record {
         rule = λ other. absurd (other refl);
         memory = λ _. record {
-          result = grant_until table.config a (max m.lease.end (end_of table.config now a));
+          result = grant_until table.config a (max m.lease.end (end_of table.config now a)) true;
           after = at_name name leases (leases_at now table.rows);
           rule = record { leases = leases; rule = renews allowed m.before m.behind m.lease is m.member.owner_is; after_is = refl };
           other = λ e.
@@ -144,7 +144,7 @@ module _ (table : TableValue) (now : ℕ) (name : NameValue) (a : Asked) where
 
   -- a lease begins
   pub begins_lease : (es : Entries) (after : Leases) → HoldsLive table now es → IsAllowed a (leases_at now table.rows name) → HasNone a.addr (leases_at now table.rows name) → length (leases_at now table.rows name) < members_most → live_count now table.rows < table.config.rows
-      → after ≡ at_name name (members_of es name ++ begun table.config now a ∷ []) (members_of es) → Places table now name a (Ok (end_of table.config now a)) after
+      → after ≡ at_name name (members_of es name ++ begun table.config now a ∷ []) (members_of es) → Places table now name a (Ok (grant_until table.config a (end_of table.config now a) false)) after
   begins_lease es after holds allowed none room vacant is = record {
     rule = λ _. record {
       leases = leases_at now table.rows name ++ begun table.config now a ∷ [];
@@ -166,7 +166,7 @@ module _ (table : TableValue) (now : ℕ) (name : NameValue) (a : Asked) where
       record {
         rule = λ other. absurd (other refl);
         memory = λ _. record {
-          result = grant_until table.config a (end_of table.config now a);
+          result = grant_until table.config a (end_of table.config now a) false;
           after = at_name name (leases name ++ new ∷ []) leases;
           rule = record { leases = leases name ++ new ∷ []; rule = begins allowed none room vacant; after_is = refl };
           other = λ e. longer (leases name) new (sym (here name (leases name ++ new ∷ []) leases) ∙ ap (λ (f : Leases). f name) e);
@@ -174,23 +174,8 @@ module _ (table : TableValue) (now : ℕ) (name : NameValue) (a : Asked) where
         refused = same;
       }
 
--- the end that was returned, with the seconds granted
-pub granted_is : (table : TableValue) (a : Asked) (seconds : ℕ) (result : Result ℕ GrantFault) (grant : Result Grant GrantFault) → seconds ≡ granted table.config.longest a.ttl
-    → MatchResult result (λ end. grant ≡ Ok (record { seconds = seconds; end = end })) (λ fault. grant ≡ Err fault) → grant ≡ granted_until table.config a result
-granted_is table a seconds (Ok end) grant is h = h ∙ (λ i. Ok (record { seconds = is i; end = end }))
-granted_is table a seconds (Err fault) grant is h = h
-
--- the same fault
-pub same_fault : (config : ConfigValue) (a : Asked) (result : Result ℕ GrantFault) (fault : GrantFault) → granted_until config a result ≡ Err fault → result ≡ Err fault
-same_fault config a (Ok end) fault e = absurd cc
-same_fault config a (Err other) fault e = let same : other ≡ fault = cc in cc
-
-pub refused_so : (config : ConfigValue) (a : Asked) (result : Result ℕ GrantFault) (P : Type 0) → OnErr result P → OnErr (granted_until config a result) P
-refused_so config a (Ok end) P h = h
-refused_so config a (Err fault) P h = h
-
-pub sound_placed : (table : TableValue) (now : ℕ) (name : NameValue) (a : Asked) (result : Result ℕ GrantFault) (after : Leases) → Places table now name a result after → IsSound table.config now (leases_at now table.rows) → IsSound table.config now after
-sound_placed table now name a (Ok end) after placed sound = sound_granted table now name a (Ok (grant_until table.config a end)) after sound (placed.rule (λ e. cc))
+pub sound_placed : (table : TableValue) (now : ℕ) (name : NameValue) (a : Asked) (result : Result Grant GrantFault) (after : Leases) → Places table now name a result after → IsSound table.config now (leases_at now table.rows) → IsSound table.config now after
+sound_placed table now name a (Ok grant) after placed sound = sound_granted table now name a (Ok grant) after sound (placed.rule (λ e. cc))
 sound_placed table now name a (Err fault) after placed sound = subst (IsSound table.config now) (sym placed.refused) sound
 
 -- ---- none is over afterwards
@@ -206,11 +191,11 @@ live_granted config now count a leases after result onward (renews _ before behi
     all_replaced (λ l. now < l.end) before behind lease (renewed config now a lease) (λ live. omega (arith, live, onward)) (subst (AreLive now) is h)
 live_granted config now count a leases after result onward (begins _ _ _ _) h = all_joined (λ l. now < l.end) leases (begun config now a ∷ []) h (onward, tt)
 
-pub live_placed : (table : TableValue) (now : ℕ) (name : NameValue) (a : Asked) (result : Result ℕ GrantFault) (after : Leases) → now < end_of table.config now a → Places table now name a result after → ((q : NameValue) → AreLive now (leases_at now table.rows q)) → (q : NameValue) → AreLive now (after q)
-live_placed table now name a (Ok end) after onward placed live =
+pub live_placed : (table : TableValue) (now : ℕ) (name : NameValue) (a : Asked) (result : Result Grant GrantFault) (after : Leases) → now < end_of table.config now a → Places table now name a result after → ((q : NameValue) → AreLive now (leases_at now table.rows q)) → (q : NameValue) → AreLive now (after q)
+live_placed table now name a (Ok grant) after onward placed live =
     let g = placed.rule (λ e. cc) in
     subst (λ (f : Leases). (q : NameValue) → AreLive now (f q)) (sym g.after_is)
-    (live_at now name g.leases (leases_at now table.rows) (live_granted table.config now (live_count now table.rows) a (leases_at now table.rows name) g.leases (Ok (grant_until table.config a end)) onward g.rule (live name)) live)
+    (live_at now name g.leases (leases_at now table.rows) (live_granted table.config now (live_count now table.rows) a (leases_at now table.rows name) g.leases (Ok grant) onward g.rule (live name)) live)
 live_placed table now name a (Err fault) after onward placed live = subst (λ (f : Leases). (q : NameValue) → AreLive now (f q)) (sym placed.refused) live
 
 live_released : (now addr : ℕ) (leases after : List Lease) (result : Released) → ReleaseCase addr leases result after → AreLive now leases → AreLive now after

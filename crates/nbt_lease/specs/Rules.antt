@@ -1,5 +1,5 @@
 -- What a grant and a release make of the live leases (our profile).
-use Rattle.std.specs.Prelude.{◌≡◌, ◌≢◌, ℕ, ◌+◌, ◌<◌, ◌≤◌, ◌⊎◌, max, List, [], ◌∷◌, ◌++◌, length, Option, Some, None, Result, Ok, Err, Any, All, Contains}
+use Rattle.std.specs.Prelude.{◌≡◌, ◌≢◌, ℕ, ◌+◌, ◌<◌, ◌≤◌, ◌⊎◌, max, Bool, true, false, List, [], ◌∷◌, ◌++◌, length, Option, Some, None, Result, Ok, Err, Any, All, Contains}
 use Rattle.nbt_name.specs.declared.addr.Kind.{Kind}
 use Rattle.nbt_name.specs.declared.addr.Kind.TheVariants.{Unique, Group}
 use Rattle.nbt_name.specs.Wire.{NameValue}
@@ -31,8 +31,8 @@ pub data IsAllowed (a : Asked) (leases : List Lease) : Type 0 where
 abbrev pub end_of : ConfigValue → ℕ → Asked → ℕ
 end_of config now a = now + milliseconds (granted config.longest a.ttl)
 
-abbrev pub grant_until : ConfigValue → Asked → ℕ → Grant
-grant_until config a end = record { seconds = granted config.longest a.ttl; end = end }
+abbrev pub grant_until : ConfigValue → Asked → (end : ℕ) → (renewed : Bool) → Grant
+grant_until config a end renewed = record { seconds = granted config.longest a.ttl; end = end; renewed = renewed }
 
 -- a lease that begins, and one that is renewed: its end never comes earlier
 abbrev pub begun : ConfigValue → ℕ → Asked → Lease
@@ -46,11 +46,11 @@ renewed config now a lease = record lease { end = max lease.end (end_of config n
 pub data GrantCase (config : ConfigValue) (now count : ℕ) (a : Asked) (leases : List Lease) : Result Grant GrantFault → List Lease → Type 0 where
   active : ¬ IsAllowed a leases → GrantCase config now count a leases (Err Active) leases
   renews : IsAllowed a leases → (before after : List Lease) (lease : Lease) → leases ≡ before ++ lease ∷ after → lease.addr ≡ a.addr
-      → GrantCase config now count a leases (Ok (grant_until config a (max lease.end (end_of config now a)))) (before ++ renewed config now a lease ∷ after)
+      → GrantCase config now count a leases (Ok (grant_until config a (max lease.end (end_of config now a)) true)) (before ++ renewed config now a lease ∷ after)
   group_full : IsAllowed a leases → HasNone a.addr leases → members_most ≤ length leases → GrantCase config now count a leases (Err GroupFull) leases
   table_full : IsAllowed a leases → HasNone a.addr leases → length leases < members_most → config.rows ≤ count → GrantCase config now count a leases (Err TableFull) leases
   begins : IsAllowed a leases → HasNone a.addr leases → length leases < members_most → count < config.rows
-      → GrantCase config now count a leases (Ok (grant_until config a (end_of config now a))) (leases ++ begun config now a ∷ [])
+      → GrantCase config now count a leases (Ok (grant_until config a (end_of config now a) false)) (leases ++ begun config now a ∷ [])
 
 -- A grant changes the leases of its name alone.
 pub record Grants (table : TableValue) (now : ℕ) (name : NameValue) (a : Asked) (result : Result Grant GrantFault) (after : Leases) : Type 0 where

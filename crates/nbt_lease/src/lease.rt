@@ -21,6 +21,8 @@ pub struct Grant {
     /// The end of the lease after the call, in milliseconds. A renewal doesn't shorten a lease, so the end may be later
     /// than that of the seconds granted.
     pub end: u64,
+    /// Whether the asker's live lease was renewed. Else a lease begins.
+    pub renewed: bool,
 }
 
 /// What a release found (our profile).

@@ -5,6 +5,7 @@ ghost use Rattle.std.specs.List.{IsDistinct};
 ghost use Rattle.std.specs.Map.{keys_of};
 ghost use Rattle.nbt_name.specs.Wire.{NameValue, same_name};
 ghost use Rattle.nbt_lease.specs.Lease.{TableValue, is_live, leases_at, HasNone};
+ghost use Rattle.nbt_lease.specs.Config.{granted};
 ghost use Rattle.nbt_lease.specs.Rules.{Asked, begun, Releases};
 ghost use Rattle.nbt_lease.specs.Inner.Placing.{HoldsLive, MayBegin, Places};
 ghost use Rattle.nbt_lease.specs.Inner.Index.{members_of, rows_of};
@@ -119,10 +120,7 @@ impl Table {
             end: ms + 1000 * u64::from(seconds),
         };
         drop_expired::<Brand>(&mut self.index, ms, Blank::new(1));
-        renew_or_begin(&mut self.index, self.config.rows(), name, lease).map(|end| Grant {
-            seconds,
-            end,
-        })
+        renew_or_begin(&mut self.index, self.config.rows(), name, lease, seconds)
     }
 
     /// Takes out the address's live lease of the name, of either kind: `Gone`. Where it has none, `NoLease` where the
@@ -228,16 +226,17 @@ fn drop_expired<L: Ledger>(index: &mut Index, now: u64, blank: Blank)
     index.drop_expired(now, &mut looks);
 }
 
-/// Renews the lease of the lease's address, or begins one; returns its end. All leases live.
+/// Renews the lease of the lease's address, or begins one, for so many seconds. All leases live.
 fn renew_or_begin(
     index: &mut Index,
     most: usize,
     name: &Name,
     lease: Lease,
-) -> Result<u64, GrantFault>
+    seconds: u32,
+) -> Result<Grant, GrantFault>
     requires names { IsDistinct same_name (keys_of index.old) }
     requires fits { length (rows_of index.old) ≤ most }
-    ensures rule { (table : TableValue) (now : ℕ) (a : Asked) → HoldsLive table now index.old → table.config.rows ≡ most → lease ≡ begun table.config now a → Places table now name.now a result (members_of index.new) }
+    ensures rule { (table : TableValue) (now : ℕ) (a : Asked) → HoldsLive table now index.old → table.config.rows ≡ most → lease ≡ begun table.config now a → seconds ≡ granted table.config.longest a.ttl → Places table now name.now a result (members_of index.new) }
     ensures fits { length (rows_of index.new) ≤ most }
     ensures names { IsDistinct same_name (keys_of index.new) }
 {
@@ -249,20 +248,30 @@ fn renew_or_begin(
         return Err(GrantFault::OutOfMemory);
     };
     if let Some(end) = renewed {
-        return Ok(end);
+        return Ok(Grant {
+            seconds,
+            end,
+            renewed: true,
+        });
     }
     if standing.is_full() {
         return Err(GrantFault::GroupFull);
     }
-    begin(index, most, name, lease)
+    begin(index, most, name, lease, seconds)
 }
 
-/// Begins a lease, which goes last; returns its end. All leases live.
-fn begin(index: &mut Index, most: usize, name: &Name, lease: Lease) -> Result<u64, GrantFault>
+/// Begins a lease, which goes last, for so many seconds. All leases live.
+fn begin(
+    index: &mut Index,
+    most: usize,
+    name: &Name,
+    lease: Lease,
+    seconds: u32,
+) -> Result<Grant, GrantFault>
     requires none { HasNone lease.addr (members_of index.old name.now) }
     requires names { IsDistinct same_name (keys_of index.old) }
     requires fits { length (rows_of index.old) ≤ most }
-    ensures rule { (table : TableValue) (now : ℕ) (a : Asked) → HoldsLive table now index.old → table.config.rows ≡ most → lease ≡ begun table.config now a
+    ensures rule { (table : TableValue) (now : ℕ) (a : Asked) → HoldsLive table now index.old → table.config.rows ≡ most → lease ≡ begun table.config now a → seconds ≡ granted table.config.longest a.ttl
         → MayBegin a (leases_at now table.rows name.now) → Places table now name.now a result (members_of index.new) }
     ensures fits { length (rows_of index.new) ≤ most }
     ensures names { IsDistinct same_name (keys_of index.new) }
@@ -273,7 +282,11 @@ fn begin(index: &mut Index, most: usize, name: &Name, lease: Lease) -> Result<u6
     if let Err(_) = index.begin(name, lease) {
         return Err(GrantFault::OutOfMemory);
     }
-    Ok(lease.end)
+    Ok(Grant {
+        seconds,
+        end: lease.end,
+        renewed: false,
+    })
 }
 
 /// Ends the address's lease of the name. All leases live.

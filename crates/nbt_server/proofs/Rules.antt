@@ -1,17 +1,18 @@
--- What the code has found, as a line of the server's rules; and that replies have a written form, which is short.
-use Rattle.std.proofs.Common.{◌≡◌, ◌≢◌, true, false, ℕ, zero, suc, ◌-◌, ◌++◌, ◌*◌, ◌%◌, ◌<◌, ◌≤◌, List, [], ◌∷◌, take, length, length-append, append_assoc, append-nil, ap, ◌∙◌, Option, Some, None, Result, Ok, Err, sym, subst, refl, arith}
+-- What the code has found, as a line of the server's rules and what was done by it; and that replies have a written form, which
+-- is short.
+use Rattle.std.proofs.Common.{◌≡◌, true, false, ℕ, zero, suc, ◌-◌, ◌++◌, ◌*◌, ◌%◌, ◌<◌, ◌≤◌, List, [], ◌∷◌, take, length, length-append, append_assoc, append-nil, ap, ◌∙◌, Option, Some, None, Result, Ok, Err, sym, subst, refl, arith}
 use Rattle.std.proofs.lemmas.Bool.{lt-ltb, le-ltb}
 use Rattle.std.proofs.lemmas.List.{length-take}
 use Rattle.std.proofs.lemmas.List.Elements.{All-contains, All-from_recursion}
-use Rattle.std.specs.Prelude.{OnErr, IsErr, is_ok, min, nat_lt}
+use Rattle.std.specs.Prelude.{IfOk, OnErr, Bool, min, nat_lt, nat_eq, is_some, if◌then◌else◌}
 use Rattle.nbt_name.specs.declared.addr.Kind.{Kind}
 use Rattle.nbt_name.specs.declared.addr.Kind.TheVariants.{Unique, Group}
 use Rattle.nbt_name.specs.Wire.{NameValue}
 use Rattle.nbt_packet.specs.declared.message.Message.{Message}
 use Rattle.nbt_packet.specs.declared.message.Message.TheVariants as code
 use Rattle.nbt_packet.specs.declared.message.Registration.{Registration}
-use Rattle.nbt_packet.specs.Message.{MessageValue, message_of, Fits, query, released, not_found}
-use Rattle.nbt_packet.specs.Spelling.{HasFewRows}
+use Rattle.nbt_packet.specs.Message.{MessageValue, message_of, query, registered, release, released, not_found}
+use Rattle.nbt_packet.specs.Spelling.{AreWritten}
 use Rattle.nbt_packet.specs.Text.{entry}
 use Rattle.nbt_lease.specs.declared.fault.GrantFault.{GrantFault}
 use Rattle.nbt_lease.specs.declared.fault.GrantFault.TheVariants as faults
@@ -20,22 +21,118 @@ use Rattle.nbt_lease.specs.declared.lease.Lease.{Lease}
 use Rattle.nbt_lease.specs.declared.lease.Released.{Released}
 use Rattle.nbt_lease.specs.declared.lease.Released.TheVariants as outcomes
 use Rattle.nbt_lease.specs.Lease.{Leases, TableValue, members_most, AreSound, leases_at}
-use Rattle.nbt_lease.specs.Rules.{Grants, IsLeastEnd}
-use Rattle.nbt_server.specs.Serving.{AsksFor, IsOwn, IsForNodes, asked_in, refused_error, name_error, refusal, found_reply, grant_reply, release_rcode, entries, Serves, registers, refuses, refuses_overwrite, releases, refuses_release, finds, finds_none, passes_over}
+use Rattle.nbt_lease.specs.Rules.{Grants, Releases, IsLeastEnd}
+use Rattle.nbt_server.specs.declared.outcome.Claim.{Claim}
+use Rattle.nbt_server.specs.declared.outcome.Refusal.{Refusal}
+use Rattle.nbt_server.specs.declared.outcome.Refusal.TheVariants as why
+use Rattle.nbt_server.specs.declared.outcome.Outcome.{Outcome}
+use Rattle.nbt_server.specs.declared.outcome.Outcome.TheVariants as o
+use Rattle.nbt_server.specs.Outcomes.{rcode_of, not_own, refusal_by, claim, claim_in, grant_outcome, release_outcome, done_by, Does, has_reply, IsUnanswered, no_message, for_nodes, request, IsDone}
+use Rattle.nbt_server.specs.Serving.{AsksFor, IsOwn, IsForNodes, asked_in, refused_error, name_error, fault_rcode, refusal as refusal_reply, found_reply, grant_reply, release_rcode, entries, Serves, registers, refuses, refuses_overwrite, releases, refuses_release, finds, finds_none, passes_over, ServerValue, ServesOctets, is_silent, is_no_message, serves}
 
--- a reply to a registration or refresh of the sender's own
-pub is_leased : (table : TableValue) (now ip : ℕ) (r : Registration) (result : Result Grant GrantFault) (after : Leases) (reply : MessageValue) → IsOwn ip r.name r.addr
-    → Grants table now r.name (asked_in r) result after → reply ≡ grant_reply r result → (m : MessageValue) → AsksFor m r → Serves table now ip m (Some reply) after
-is_leased table now ip r result after reply own rule is m asks = subst (λ (x : MessageValue). Serves table now ip m (Some x) after) (sym is) (registers m r result after asks own rule)
+-- ---- one outcome of a call
 
--- and to one that is not
-pub is_refused : (table : TableValue) (now ip : ℕ) (r : Registration) (reply : MessageValue) → ¬ IsOwn ip r.name r.addr → reply ≡ refusal refused_error r
-    → (m : MessageValue) → AsksFor m r → Serves table now ip m (Some reply) (leases_at now table.rows)
-is_refused table now ip r reply other is m asks = subst (λ (x : MessageValue). Serves table now ip m (Some x) (leases_at now table.rows)) (sym is) (refuses m r asks other)
+pub on_ok : {T E : Type 0} {P Q : T → Type 0} (r : Result T E) → IfOk r P → ((x : T) → P x → Q x) → IfOk r Q
+on_ok (Ok x) h make = make x h
+on_ok (Err e) h make = tt
+
+pub on_err : {T E P Q : Type 0} (r : Result T E) → OnErr r P → (P → Q) → OnErr r Q
+on_err (Ok x) h make = tt
+on_err (Err e) h make = make h
+
+-- ---- what was done, with the written form of the reply
+
+-- a refusal's RCODE is that of its rule
+grant_rcode : (leases : List Lease) (fault : GrantFault) → rcode_of (refusal_by leases fault) ≡ fault_rcode fault
+grant_rcode leases faults.Active = refl
+grant_rcode leases faults.TableFull = refl
+grant_rcode leases faults.GroupFull = refl
+grant_rcode leases faults.OutOfMemory = refl
+
+either_rcode : (star : Bool) → rcode_of (if star then why.Star else why.NotOwn) ≡ refused_error
+either_rcode true = refl
+either_rcode false = refl
+
+module _ (table : TableValue) (now ip : ℕ) (r : Registration) (outcome : Outcome) (out : List ℕ) (m : MessageValue) (asks : AsksFor m r) where
+  -- a registration or refresh of the sender's own is granted
+  pub does_grant : (grant : Grant) (after : Leases) → IsOwn ip r.name r.addr → Grants table now r.name (asked_in r) (Ok grant) after → outcome ≡ grant_outcome (claim_in r) grant
+      → AreWritten (Some (grant_reply r (Ok grant))) out → Does table now ip m outcome out after
+  does_grant grant after own rule is written = (Some (grant_reply r (Ok grant)), registers m r (Ok grant) after asks own rule, is, written)
+
+  -- or refused
+  pub does_refuse : (fault : GrantFault) (refusal : Refusal) (after : Leases) → IsOwn ip r.name r.addr → Grants table now r.name (asked_in r) (Err fault) after → after ≡ leases_at now table.rows
+      → refusal ≡ refusal_by (after r.name) fault → outcome ≡ o.Refused (claim_in r) refusal → AreWritten (Some (registered (rcode_of refusal) (record r { ttl = 0 }))) out → Does table now ip m outcome out after
+  does_refuse fault refusal after own rule same by is written = (
+    Some (grant_reply r (Err fault)),
+    registers m r (Err fault) after asks own rule,
+    is ∙ ap (o.Refused (claim_in r)) (by ∙ ap (λ (ls : Leases). refusal_by (ls r.name) fault) same),
+    subst (λ (n : ℕ). AreWritten (Some (registered n (record r { ttl = 0 }))) out) (ap rcode_of by ∙ grant_rcode (after r.name) fault) written,
+  )
+
+  -- what is not the sender's own is refused
+  pub does_refuse_other : (refusal : Refusal) → ¬ IsOwn ip r.name r.addr → refusal ≡ not_own ip r.addr → outcome ≡ o.Refused (claim_in r) refusal
+      → AreWritten (Some (registered (rcode_of refusal) (record r { ttl = 0 }))) out → Does table now ip m outcome out (leases_at now table.rows)
+  does_refuse_other refusal other by is written = (
+    Some (refusal_reply refused_error r),
+    refuses m r asks other,
+    is ∙ ap (o.Refused (claim_in r)) by,
+    subst (λ (n : ℕ). AreWritten (Some (registered n (record r { ttl = 0 }))) out) (ap rcode_of by ∙ either_rcode (nat_eq r.addr ip)) written,
+  )
+
+module _ (table : TableValue) (now ip id : ℕ) (c : Claim) (outcome : Outcome) (out : List ℕ) where
+  -- a release of the sender's own
+  pub does_release : (result : Released) (after : Leases) → IsOwn ip c.name c.addr → Releases table now c.name c.addr result after → outcome ≡ release_outcome (leases_at now table.rows c.name) c result
+      → AreWritten (Some (released id (release_rcode result) c.name c.kind c.addr)) out → Does table now ip (release id c.name c.kind c.addr) outcome out after
+  does_release result after own rule is written = (Some (released id (release_rcode result) c.name c.kind c.addr), releases id c.name c.kind c.addr result after own rule, is, written)
+
+  -- one that is not
+  pub does_refuse_release : (refusal : Refusal) → ¬ IsOwn ip c.name c.addr → refusal ≡ not_own ip c.addr → outcome ≡ o.NotReleased c refusal
+      → AreWritten (Some (released id (rcode_of refusal) c.name c.kind c.addr)) out → Does table now ip (release id c.name c.kind c.addr) outcome out (leases_at now table.rows)
+  does_refuse_release refusal other by is written = (
+    Some (released id refused_error c.name c.kind c.addr),
+    refuses_release id c.name c.kind c.addr other,
+    is ∙ ap (o.NotReleased c) by,
+    subst (λ (n : ℕ). AreWritten (Some (released id n c.name c.kind c.addr)) out) (ap rcode_of by ∙ either_rcode (nat_eq c.addr ip)) written,
+  )
+
+-- ---- whether there is a reply
+
+grant_replies : (renewed : Bool) (c : Claim) (seconds : ℕ) → has_reply (if renewed then o.Renewed c seconds else o.Granted c seconds) ≡ true
+grant_replies true c seconds = refl
+grant_replies false c seconds = refl
+
+release_replies : (leases : List Lease) (c : Claim) (result : Released) → has_reply (release_outcome leases c result) ≡ true
+release_replies leases c outcomes.Gone = refl
+release_replies leases c outcomes.NoLease = refl
+release_replies leases c outcomes.OfOthers = refl
+
+message_replies : {table : TableValue} {now ip : ℕ} {m : MessageValue} {reply : Option MessageValue} {after : Leases} (does : Serves table now ip m reply after) → has_reply (done_by does) ≡ is_some reply
+message_replies (registers m r (Ok grant) after asks own rule) = grant_replies grant.renewed (claim_in r) grant.seconds
+message_replies (registers m r (Err fault) after asks own rule) = refl
+message_replies (refuses m r asks other) = refl
+message_replies (refuses_overwrite r) = refl
+message_replies {table} {now} (releases id name kind addr result after own rule) = release_replies (leases_at now table.rows name) (claim name kind addr) result
+message_replies (refuses_release id name kind addr other) = refl
+message_replies (finds id name end least) = refl
+message_replies (finds_none id name none) = refl
+message_replies (passes_over m nodes) = refl
+
+pub unanswered_replies : (octets : List ℕ) (outcome : Outcome) → IsUnanswered octets outcome → has_reply outcome ≡ false
+unanswered_replies octets _ (no_message none) = refl
+unanswered_replies octets _ (for_nodes m spelled nodes) = refl
+unanswered_replies octets _ (request m name spelled other is) = refl
+
+pub replies : {server : ServerValue} {now ip : ℕ} {octets : List ℕ} {reply : Option MessageValue} {after : Leases} (does : ServesOctets server now ip octets reply after) (outcome : Outcome)
+    → IsDone does outcome → has_reply outcome ≡ is_some reply
+replies {octets = octets} (is_silent early) outcome done = unanswered_replies octets outcome done
+replies (is_no_message none) outcome done = ap has_reply done
+replies (serves m reply after speaks spelled does) outcome done = ap has_reply done ∙ message_replies does
+
+-- ---- messages
 
 -- what is none of the messages that a server has a rule for
 pub is_for_nodes : (m : Message) → ((r : Registration) → m ≡ code.Registration r → ⊥) → ((r : Registration) → m ≡ code.Overwrite r → ⊥) → ((r : Registration) → m ≡ code.Refresh r → ⊥)
-    → ((id : ℕ) (name : NameValue) (kind : Kind) (addr : ℕ) → m ≡ code.Release id name kind addr → ⊥) → ((id : ℕ) (name : NameValue) → message_of m ≢ query id name) → IsForNodes (message_of m)
+    → ((id : ℕ) (name : NameValue) (kind : Kind) (addr : ℕ) → m ≡ code.Release id name kind addr → ⊥) → ((id : ℕ) (name : NameValue) → m ≡ code.Query id name → ⊥) → IsForNodes (message_of m)
 is_for_nodes (code.Registration r) a b c d e = a r refl
 is_for_nodes (code.Overwrite r) a b c d e = b r refl
 is_for_nodes (code.Refresh r) a b c d e = c r refl
@@ -48,40 +145,6 @@ is_for_nodes (code.Found id name ttl entries cut) a b c d e = tt
 is_for_nodes (code.NotFound id rcode name) a b c d e = tt
 is_for_nodes (code.Status id name names) a b c d e = tt
 is_for_nodes (code.Wait id name ttl) a b c d e = tt
-
--- what holds anyway holds where there is an error
-pub either : {A E : Type 0} {P : Type 0} (r : Result A E) → P → OnErr r P
-either (Ok a) p = tt
-either (Err e) p = p
-
--- ---- replies have a written form, and it is short
-
-abbrev pub IsShort : Option MessageValue → Type 0
-IsShort None = Unit {0}
-IsShort (Some reply) = Fits reply × HasFewRows reply
-
-grant_is_short : (r : Registration) (result : Result Grant GrantFault) → IsShort (Some (grant_reply r result))
-grant_is_short r (Ok grant) = (omega arith, tt)
-grant_is_short r (Err faults.Active) = (omega arith, tt)
-grant_is_short r (Err faults.TableFull) = (omega arith, tt)
-grant_is_short r (Err faults.GroupFull) = (omega arith, tt)
-grant_is_short r (Err faults.OutOfMemory) = (omega arith, tt)
-
-release_is_short : (id : ℕ) (name : NameValue) (kind : Kind) (addr : ℕ) (result : Released) → IsShort (Some (released id (release_rcode result) name kind addr))
-release_is_short id name kind addr outcomes.Gone = (omega arith, tt)
-release_is_short id name kind addr outcomes.NoLease = (omega arith, tt)
-release_is_short id name kind addr outcomes.OfOthers = (omega arith, tt)
-
-pub is_short : (table : TableValue) (now ip : ℕ) (m : MessageValue) (reply : Option MessageValue) (after : Leases) → ((id : ℕ) (name : NameValue) → m ≢ query id name)
-    → Serves table now ip m reply after → IsShort reply
-is_short table now ip m _ after no_query (registers _ r result _ asks own rule) = grant_is_short r result
-is_short table now ip m _ after no_query (refuses _ r asks other) = (omega arith, tt)
-is_short table now ip _ _ after no_query (refuses_overwrite r) = (omega arith, tt)
-is_short table now ip _ _ after no_query (releases id name kind addr result _ own rule) = release_is_short id name kind addr result
-is_short table now ip _ _ after no_query (refuses_release id name kind addr other) = (omega arith, tt)
-is_short table now ip _ _ after no_query (finds id name end least) = absurd (no_query id name refl)
-is_short table now ip _ _ after no_query (finds_none id name none) = absurd (no_query id name refl)
-is_short table now ip m _ after no_query (passes_over _ is) = tt
 
 -- ---- what a query finds
 
@@ -112,37 +175,17 @@ entries_fit room leases end some_room most least =
 pub entries_short : (room : ℕ) (leases : List Lease) → length (entries (take room leases)) ≤ 6 * room
 entries_short room leases = omega (arith, length-entries (take room leases), length-take room leases)
 
--- what is not the code's query is no query
-pub is_no_query : (m : Message) → ((id : ℕ) (name : NameValue) → m ≡ code.Query id name → ⊥) → (id : ℕ) (name : NameValue) → message_of m ≢ query id name
-is_no_query (code.Query i n) other id name e = other i n refl
-is_no_query (code.Registration r) other id name e = absurd cc
-is_no_query (code.Overwrite r) other id name e = absurd cc
-is_no_query (code.Refresh r) other id name e = absurd cc
-is_no_query (code.Release i n k a) other id name e = absurd cc
-is_no_query (code.StatusRequest i n) other id name e = absurd cc
-is_no_query (code.Registered rcode r) other id name e = absurd cc
-is_no_query (code.Released i rcode n k a) other id name e = absurd cc
-is_no_query (code.Found i n ttl es cut) other id name e = absurd cc
-is_no_query (code.NotFound i rcode n) other id name e = absurd cc
-is_no_query (code.Status i n ns) other id name e = absurd cc
-is_no_query (code.Wait i n ttl) other id name e = absurd cc
-
-pub is_error : {A E : Type 0} (r : Result A E) → is_ok r ≡ false → IsErr r
-is_error (Ok a) e = absurd cc
-is_error (Err e) is = refl
-
 -- a query leaves the leases as they were, after a sweep too
-pub finds_after : (table : TableValue) (now ip id end : ℕ) (name : NameValue) (after : Leases) → after ≡ leases_at now table.rows → IsLeastEnd (after name) (Some end)
-    → Serves table now ip (query id name) (Some (found_reply id name now end (after name))) after
-finds_after table now ip id end name after same least =
-    subst (λ (ls : Leases). Serves table now ip (query id name) (Some (found_reply id name now end (ls name))) ls) (sym same)
-    (finds id name end (subst (λ (ls : Leases). IsLeastEnd (ls name) (Some end)) same least))
+module _ (table : TableValue) (now ip id : ℕ) (name : NameValue) (after : Leases) (same : after ≡ leases_at now table.rows) (outcome : Outcome) (out : List ℕ) where
+  pub does_find : (end : ℕ) → IsLeastEnd (after name) (Some end) → outcome ≡ o.Found name → AreWritten (Some (found_reply id name now end (after name))) out → Does table now ip (query id name) outcome out after
+  does_find end least is written =
+      subst (λ (ls : Leases). IsLeastEnd (ls name) (Some end) → AreWritten (Some (found_reply id name now end (ls name))) out → Does table now ip (query id name) outcome out ls) (sym same)
+      (λ least_now written_now. (Some (found_reply id name now end (leases_at now table.rows name)), finds id name end least_now, is, written_now)) least written
 
-pub finds_none_after : (table : TableValue) (now ip id : ℕ) (name : NameValue) (after : Leases) → after ≡ leases_at now table.rows → after name ≡ []
-    → Serves table now ip (query id name) (Some (not_found id name_error (Some name))) after
-finds_none_after table now ip id name after same none =
-    subst (λ (ls : Leases). Serves table now ip (query id name) (Some (not_found id name_error (Some name))) ls) (sym same)
-    (finds_none id name (subst (λ (ls : Leases). ls name ≡ []) same none))
+  pub does_find_none : after name ≡ [] → outcome ≡ o.NotFound name → AreWritten (Some (not_found id name_error (Some name))) out → Does table now ip (query id name) outcome out after
+  does_find_none none is written =
+      subst (λ (ls : Leases). ls name ≡ [] → Does table now ip (query id name) outcome out ls) (sym same)
+      (λ none_now. (Some (not_found id name_error (Some name)), finds_none id name none_now, is, written)) none
 
 -- the least end is a lease's, and none ends too late
 pub ends_in_time : (ls : List Lease) (latest end : ℕ) → IsLeastEnd ls (Some end) → AreSound latest ls → end ≤ latest

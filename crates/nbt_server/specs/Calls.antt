@@ -1,11 +1,13 @@
 -- What a server's calls make of it: it starts, takes a datagram, or has no memory for one (our profile). Which leases live
 -- afterwards is all that is said of its table.
-use Rattle.std.specs.Prelude.{◌≡◌, ℕ, ◌≤◌, List, [], Option, IfSome}
+use Rattle.std.specs.Prelude.{◌≡◌, ℕ, ◌≤◌, List, [], Option, IfSome, is_some}
 use Rattle.nbt_packet.specs.Message.{MessageValue}
-use Rattle.nbt_packet.specs.Spelling.{Spells}
+use Rattle.nbt_packet.specs.Spelling.{Spells, AreWritten}
 use Rattle.nbt_packet.specs.Text.{text}
 use Rattle.nbt_lease.specs.Config.{ConfigValue}
 use Rattle.nbt_lease.specs.Lease.{leases_at}
+use Rattle.nbt_server.specs.declared.outcome.Outcome.{Outcome}
+use Rattle.nbt_server.specs.Outcomes.{has_reply, IsDone}
 use Rattle.nbt_server.specs.Serving.{ServerValue, ServesOctets, OctetsNeedMemory}
 
 -- a server that starts: it has no lease
@@ -24,6 +26,14 @@ pub record ServerTakes (old : ServerValue) (now ip : ℕ) (octets : List ℕ) (r
   pub start : new.start ≡ old.start
   pub last : new.last ≡ now
   pub config : new.table.config ≡ old.table.config
+
+-- This is what it did with a datagram that it took, which says whether there is a reply; `out` is its written form, or empty.
+pub record ServerHandles (old : ServerValue) (now ip : ℕ) (octets : List ℕ) (outcome : Outcome) (out : List ℕ) (new : ServerValue) : Type 0 where
+  pub reply : Option MessageValue
+  pub takes : ServerTakes old now ip octets reply new
+  pub done : IsDone takes.serves outcome
+  pub has_reply_is : has_reply outcome ≡ is_some reply
+  pub written : AreWritten reply out
 
 -- Memory was refused to it for a datagram that changes the leases: they are as before.
 pub record ServerForgets (old : ServerValue) (now ip : ℕ) (octets : List ℕ) (new : ServerValue) : Type 0 where

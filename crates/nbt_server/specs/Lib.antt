@@ -1,4 +1,5 @@
 pub mod Serving
+pub mod Outcomes
 pub mod Calls
 pub mod Numbers
 pub mod OneAnswer

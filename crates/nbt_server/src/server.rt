@@ -6,7 +6,8 @@ ghost use Rattle.nbt_lease.specs.Config.{IsConfig};
 ghost use Rattle.nbt_lease.specs.Lease.{leases_at, IsSound};
 
 use crate::fault::ServerFault;
-use crate::serving::serve;
+use crate::outcome::Outcome;
+use crate::serving::{serve, unanswered};
 use arrayvec::ArrayVec;
 use nbt_lease::{Config, Moment, Table};
 use nbt_name::Addr;
@@ -36,7 +37,7 @@ impl Model for Server {
 impl Server {
     ghost use Rattle.nbt_packet.specs.Spelling.{AreWritten};
     ghost use Rattle.nbt_server.specs.Serving.{ServerValue, speaks_from};
-    ghost use Rattle.nbt_server.specs.Calls.{ServerStarts, ServerTakes, ServerForgets};
+    ghost use Rattle.nbt_server.specs.Calls.{ServerStarts, ServerTakes, ServerHandles, ServerForgets};
 
     /// A server without leases, which starts at `now`. It takes no memory.
     pub fn start(alloc: Global, config: Config, now: Moment) -> Server
@@ -49,9 +50,9 @@ impl Server {
         }
     }
 
-    /// Takes a datagram of these octets, which came at `now` from `from`. With `true`, the reply to `from` stands in
-    /// `out`, at most 576 octets; with `false` there is none, and `out` is empty (RFC 1002 section 5.1.4; the rules that
-    /// are our profile's are marked so):
+    /// Takes a datagram of these octets, which came at `now` from `from`, and returns what it did. The reply to `from` stands
+    /// in `out`, at most 576 octets; `out` is empty where there is none (RFC 1002 section 5.1.4; the rules that are our
+    /// profile's are marked so):
     ///
     /// - Until the longest lease has passed since the start there is no reply, and no lease changes (our profile).
     /// - A registration or refresh is granted for its TTL, at most the longest lease, a TTL of 0 asking for that; or
@@ -68,6 +69,40 @@ impl Server {
     /// Refused in this order, `out` being empty: `ClockBack` (1) where `now` is before the start, or before an earlier
     /// datagram that was no `ClockBack`: nothing changes. `OutOfMemory` (2) where memory was refused to a registration or
     /// refresh that changes the leases: start and live leases stay, and the last moment is `now`.
+    pub fn handle(
+        &mut self,
+        now: Moment,
+        from: Addr,
+        octets: &[u8],
+        out: &mut ArrayVec<u8, 576>,
+    ) -> Result<Outcome, ServerFault>
+        ensures handled { IfOk result (λ outcome. ServerHandles self.old now from.ip octets.now outcome out.new.items self.new) }
+
+        // When it is refused, and what that leaves.
+        ensures clock_back { IsErrOf result ServerFault.ClockBack ↔ (now < self.old.last) }
+        ensures unchanged { IsErrOf result ServerFault.ClockBack → self.new ≡ self.old }
+        ensures memory { IsErrOf result ServerFault.OutOfMemory → ServerForgets self.old now from.ip octets.now self.new }
+        ensures empty { OnErr result (out.new.items ≡ []) }
+    {
+        out.clear();
+        if now.get() < self.last.get() {
+            return Err(ServerFault::ClockBack);
+        }
+        self.last = now;
+        let Some(message) = read(octets) else {
+            return Ok(Outcome::NoMessage);
+        };
+        if now.get() < self.speaks_from() {
+            return Ok(unanswered(message));
+        }
+        match serve(&mut self.table, now, from.ip, message, out) {
+            Ok(outcome) => Ok(outcome),
+            Err(_) => Err(ServerFault::OutOfMemory),
+        }
+    }
+
+    /// Takes a datagram as [`Server::handle`] does. Returns whether there is a reply to `from`, which stands in `out` then, at
+    /// most 576 octets; else `out` is empty. Refused as there.
     pub fn on_datagram(
         &mut self,
         now: Moment,
@@ -84,20 +119,9 @@ impl Server {
         ensures memory { IsErrOf result ServerFault.OutOfMemory → ServerForgets self.old now from.ip octets.now self.new }
         ensures empty { OnErr result (out.new.items ≡ []) }
     {
-        out.clear();
-        if now.get() < self.last.get() {
-            return Err(ServerFault::ClockBack);
-        }
-        self.last = now;
-        if now.get() < self.speaks_from() {
-            return Ok(false);
-        }
-        let Some(message) = read(octets) else {
-            return Ok(false);
-        };
-        match serve(&mut self.table, now, from.ip, message, out) {
-            Ok(is_reply) => Ok(is_reply),
-            Err(_) => Err(ServerFault::OutOfMemory),
+        match self.handle(now, from, octets, out) {
+            Ok(outcome) => Ok(outcome.has_reply()),
+            Err(fault) => Err(fault),
         }
     }
 

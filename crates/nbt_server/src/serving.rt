@@ -1,209 +1,248 @@
 //! What a name server does with a message (RFC 1002 section 5.1.4).
 
-ghost use Rattle.std.specs.Prelude.{◌≡◌, ◌≢◌, ℕ, ◌+◌, ◌*◌, ◌<◌, ◌≤◌, ◌↔◌, Option, Some, IsTrue, IfOk, IfSome, IsNone, OnErr, [], length, is_some};
-ghost use Rattle.nbt_name.specs.declared.addr.Kind.{Kind};
-ghost use Rattle.nbt_name.specs.Wire.{NameValue};
-ghost use Rattle.nbt_packet.specs.Message.{MessageValue, message_of, message_if, query, release, released};
-ghost use Rattle.nbt_packet.specs.Spelling.{AreWritten};
-ghost use Rattle.nbt_packet.specs.Text.{text, entries_most};
+ghost use Rattle.std.specs.Prelude.{◌≡◌, ◌≢◌, ℕ, List, ◌+◌, ◌*◌, ◌<◌, ◌≤◌, ◌↔◌, Option, Some, IfOk, IfSome, IfNone, OnErr, [], length};
+ghost use Rattle.nbt_packet.specs.Message.{MessageValue, message_of, query, release, registered, released};
+ghost use Rattle.nbt_packet.specs.Spelling.{Spells, AreWritten};
+ghost use Rattle.nbt_packet.specs.Text.{entries_most};
 ghost use Rattle.nbt_lease.specs.Config.{IsConfig, milliseconds};
 ghost use Rattle.nbt_lease.specs.declared.config.TheConstants.{LONGEST_MOST};
 ghost use Rattle.nbt_lease.specs.Lease.{leases_at, latest_end, AreSound};
 ghost use Rattle.nbt_lease.specs.Rules.{IsLeastEnd};
-ghost use Rattle.nbt_server.specs.Serving.{AsksFor, IsOwn, fault_rcode, refusal, release_rcode, seconds_until, entries, listed, is_cut, Serves, NeedsMemory};
-ghost use Rattle.nbt_packet.specs.Spelling.{Spells};
+ghost use Rattle.nbt_server.specs.Outcomes.{rcode_of, claim_in, not_own, holder, refusal_by, grant_outcome, IsUnanswered, Does};
+ghost use Rattle.nbt_server.specs.Serving.{AsksFor, IsOwn, seconds_until, entries, listed, is_cut, NeedsMemory};
 
+use crate::outcome::{Claim, Outcome, Refusal};
 use arrayvec::ArrayVec;
-use nbt_lease::{GrantFault, Moment, Released, Table};
-use nbt_name::{Kind, Name};
+use nbt_lease::{Grant, GrantFault, Moment, Released, Table};
+use nbt_name::Name;
 use nbt_packet::{Message, Registration, entries_most, entry_octets, write};
 use std::alloc::AllocError;
 
-/// RCODE SRV_ERR: the server can't (RFC 1002 section 4.2.6).
-const SERVER_ERROR: u8 = 2;
 /// RCODE NAM_ERR: the name isn't there (RFC 1002 section 4.2.14).
 const NAME_ERROR: u8 = 3;
-/// RCODE RFS_ERR: the server refuses (RFC 1002 section 4.2.6).
-const REFUSED: u8 = 5;
-/// RCODE ACT_ERR: another machine has the name (RFC 1002 section 4.2.6).
-const ACTIVE: u8 = 6;
 
 /// The most octets of a response's entries: 86 of six octets each, beside a name without a scope (RFC 1002 section
 /// 4.2.13).
 const ENTRIES_OCTETS: usize = 516;
 
-/// Does with a message from an end at `ip` what the rules say. With `true` the reply stands in `out`; with `false` there
-/// is none, and `out` stays empty.
+/// Does with a message from the address `ip` what the rules say, and returns what that was. The reply stands in `out`, if
+/// there is one; else `out` stays empty.
 pub(crate) fn serve(
     table: &mut Table,
     now: Moment,
     ip: u32,
     message: Message<'_>,
     out: &mut ArrayVec<u8, 576>,
-) -> Result<bool, AllocError>
+) -> Result<Outcome, AllocError>
     requires limits { IsConfig table.old.config }
     requires time { table.old.last ≤ now }
     requires empty { out.old.items ≡ [] }
-    ensures served { IfOk result (λ is_reply. (reply : Option MessageValue)
-        × Serves table.old now ip (message_of message.entry) reply (leases_at now table.new.rows)
-        × (is_reply ≡ is_some reply) × AreWritten reply out.new.items) }
+    ensures does { IfOk result (λ outcome. Does table.old now ip (message_of message.entry) outcome out.new.items (leases_at now table.new.rows)) }
     ensures memory { OnErr result (NeedsMemory table.old now ip (message_of message.entry)) }
     ensures refused { OnErr result ((leases_at now table.new.rows ≡ leases_at now table.old.rows) × (out.new.items ≡ [])) }
     ensures config { table.new.config ≡ table.old.config }
     ensures last { table.new.last ≤ now }
 {
-    let message = match message {
-        Message::Query { id, name } => {
-            find(table, now, id, name, out);
-            return Ok(true);
-        }
-        other => other,
-    };
-    let Some(reply) = reply_to(table, now, ip, message)? else {
-        return Ok(false);
-    };
-    write(&reply, out);
-    Ok(true)
-}
-
-/// The reply to a message that is no query, and what it does to the table.
-fn reply_to(
-    table: &mut Table,
-    now: Moment,
-    ip: u32,
-    message: Message<'_>,
-) -> Result<Option<Message<'static>>, AllocError>
-    requires time { table.old.last ≤ now }
-    requires no_query { (id : ℕ) (name : NameValue) → message_of message ≢ query id name }
-    ensures served { IfOk result (λ reply. Serves table.old now ip (message_of message.entry) (message_if reply) (leases_at now table.new.rows)) }
-    ensures memory { OnErr result (NeedsMemory table.old now ip (message_of message.entry)) }
-    ensures refused { OnErr result (leases_at now table.new.rows ≡ leases_at now table.old.rows) }
-    ensures config { table.new.config ≡ table.old.config }
-    ensures last { table.new.last ≤ now }
-{
     match message {
-        Message::Registration(asked) => Ok(Some(lease(table, now, ip, asked)?)),
-        Message::Refresh(asked) => Ok(Some(lease(table, now, ip, asked)?)),
-        Message::Overwrite(asked) => Ok(Some(refuse(asked, REFUSED))),
+        Message::Registration(asked) => lease(table, now, ip, asked, out),
+        Message::Refresh(asked) => lease(table, now, ip, asked, out),
+        Message::Overwrite(asked) => Ok(refuse(asked, Refusal::Overwrite, out)),
         Message::Release {
             id,
             name,
             kind,
             addr,
-        } => {
-            let rcode = release(table, now, ip, &name, addr);
-            Ok(Some(Message::Released {
-                id,
-                rcode,
-                name,
-                kind,
-                addr,
-            }))
-        }
-        _ => Ok(None),
+        } => Ok(release(table, now, ip, id, Claim { name, kind, addr }, out)),
+        Message::Query { id, name } => Ok(find(table, now, id, name, out)),
+        _ => Ok(Outcome::ForNodes),
     }
 }
 
-/// Whether an end speaks of itself, and of one name (our profile).
-fn is_own(ip: u32, name: &Name, addr: u32) -> bool
-    ensures { IsTrue result ↔ IsOwn ip name.now addr }
+/// What there is to say of a message before the server speaks (our profile).
+pub(crate) fn unanswered(message: Message<'_>) -> Outcome
+    ensures { (octets : List ℕ) → Spells octets (message_of message.entry) → IsUnanswered octets result }
 {
-    addr == ip && !name.is_star()
+    match message {
+        Message::Registration(asked) => Outcome::Silent(asked.name),
+        Message::Overwrite(asked) => Outcome::Silent(asked.name),
+        Message::Refresh(asked) => Outcome::Silent(asked.name),
+        Message::Release { name, .. } => Outcome::Silent(name),
+        Message::Query { name, .. } => Outcome::Silent(name),
+        _ => Outcome::ForNodes,
+    }
 }
 
-/// The reply to a registration or a refresh (RFC 1002 section 5.1.4.1).
+/// Why a request isn't the sender's own, about one name; none where it is (our profile).
+fn refusal_of(ip: u32, name: &Name, addr: u32) -> Option<Refusal>
+    ensures own { IfNone result (IsOwn ip name.now addr) }
+    ensures other { IfSome result (λ refusal. (¬ IsOwn ip name.now addr) × (refusal ≡ not_own ip addr)) }
+{
+    if addr != ip {
+        return Some(Refusal::NotOwn);
+    }
+    if name.is_star() {
+        return Some(Refusal::Star);
+    }
+    None
+}
+
+/// Grants what a registration or a refresh asks for, or refuses it (RFC 1002 section 5.1.4.1).
 fn lease(
     table: &mut Table,
     now: Moment,
     ip: u32,
     asked: Registration,
-) -> Result<Message<'static>, AllocError>
+    out: &mut ArrayVec<u8, 576>,
+) -> Result<Outcome, AllocError>
     requires { table.old.last ≤ now }
-    ensures served { IfOk result (λ reply. (m : MessageValue) → AsksFor m asked
-        → Serves table.old now ip m (Some (message_of reply)) (leases_at now table.new.rows)) }
+    ensures does { IfOk result (λ outcome. (m : MessageValue) → AsksFor m asked → Does table.old now ip m outcome out.new.items (leases_at now table.new.rows)) }
     ensures memory { OnErr result ((m : MessageValue) → AsksFor m asked → NeedsMemory table.old now ip m) }
-    ensures refused { OnErr result (leases_at now table.new.rows ≡ leases_at now table.old.rows) }
+    ensures refused { OnErr result ((leases_at now table.new.rows ≡ leases_at now table.old.rows) × (out.new.items ≡ out.old.items)) }
     ensures config { table.new.config ≡ table.old.config }
     ensures last { table.new.last ≤ now }
 {
-    if !is_own(ip, &asked.name, asked.addr) {
-        return Ok(refuse(asked, REFUSED));
+    if let Some(refusal) = refusal_of(ip, &asked.name, asked.addr) {
+        return Ok(refuse(asked, refusal, out));
     }
     let fault = match table.grant(now, &asked.name, asked.addr, asked.kind, asked.ttl) {
-        Ok(grant) => {
-            return Ok(Message::Registered {
-                rcode: 0,
-                registration: Registration {
-                    ttl: grant.seconds,
-                    ..asked
-                },
-            });
-        }
+        Ok(grant) => return Ok(accept(asked, grant, out)),
         Err(fault) => fault,
     };
-    let Some(rcode) = rcode_of(fault) else {
+    let Some(refusal) = refusal_by(fault, table, now, &asked.name) else {
         return Err(AllocError);
     };
-    Ok(refuse(asked, rcode))
+    Ok(refuse(asked, refusal, out))
 }
 
-/// The RCODE of a grant's refusal; none where memory was refused (RFC 1002 section 4.2.6; which is which is our
-/// profile).
-fn rcode_of(fault: GrantFault) -> Option<u8>
-    ensures rcode { IfSome result (λ rcode. (rcode ≡ fault_rcode fault) × (fault ≢ GrantFault.OutOfMemory)) }
-    ensures memory { IsNone result → fault ≡ GrantFault.OutOfMemory }
+/// Why a grant is refused; none where there is no memory for it.
+fn refusal_by(fault: GrantFault, table: &Table, now: Moment, name: &Name) -> Option<Refusal>
+    requires { table.now.last ≤ now }
+    ensures refusal { IfSome result (λ refusal. (refusal ≡ refusal_by (leases_at now table.now.rows name.now) fault) × (fault ≢ GrantFault.OutOfMemory)) }
+    ensures memory { IfNone result (fault ≡ GrantFault.OutOfMemory) }
 {
     match fault {
-        GrantFault::Active => Some(ACTIVE),
-        GrantFault::TableFull | GrantFault::GroupFull => Some(SERVER_ERROR),
+        GrantFault::Active => Some(Refusal::Active(holder(table, now, name))),
+        GrantFault::TableFull => Some(Refusal::TableFull),
+        GrantFault::GroupFull => Some(Refusal::GroupFull),
         GrantFault::OutOfMemory => None,
     }
 }
 
-/// A negative response to a registration: what was asked, with a TTL of 0 (RFC 1002 section 4.2.6).
-fn refuse(asked: Registration, rcode: u8) -> Message<'static>
-    ensures { message_of result ≡ refusal rcode asked }
+/// The address of the first live lease of a name; 0 where there is none.
+fn holder(table: &Table, now: Moment, name: &Name) -> u32
+    requires { table.now.last ≤ now }
+    ensures { result ≡ holder (leases_at now table.now.rows name.now) }
 {
-    Message::Registered {
-        rcode,
-        registration: Registration { ttl: 0, ..asked },
+    match table.members(now, name).next() {
+        Some(lease) => lease.addr,
+        None => 0,
     }
 }
 
-/// Releases a name, and returns the RCODE of the response (RFC 1002 section 5.1.4.1).
-fn release(table: &mut Table, now: Moment, ip: u32, name: &Name, addr: u32) -> u8
+/// Leaves in `out` the positive response to a registration or a refresh (RFC 1002 section 4.2.5).
+fn accept(asked: Registration, grant: Grant, out: &mut ArrayVec<u8, 576>) -> Outcome
+    ensures outcome { result ≡ grant_outcome (claim_in asked) grant }
+    ensures written { AreWritten (Some (registered 0 (record asked { ttl = grant.seconds }))) out.new.items }
+{
+    let claim = respond(asked, 0, grant.seconds, out);
+    if grant.renewed {
+        Outcome::Renewed(claim, grant.seconds)
+    } else {
+        Outcome::Granted(claim, grant.seconds)
+    }
+}
+
+/// Leaves in `out` the negative response to a registration, a refresh or an overwrite, with a TTL of 0 (RFC 1002 section
+/// 4.2.6).
+fn refuse(asked: Registration, refusal: Refusal, out: &mut ArrayVec<u8, 576>) -> Outcome
+    ensures outcome { result ≡ Outcome.Refused (claim_in asked) refusal }
+    ensures written { AreWritten (Some (registered (rcode_of refusal) (record asked { ttl = 0 }))) out.new.items }
+{
+    Outcome::Refused(respond(asked, refusal.rcode(), 0, out), refusal)
+}
+
+/// Leaves in `out` a response to a registration, a refresh or an overwrite; returns what that was about.
+fn respond(asked: Registration, rcode: u8, ttl: u32, out: &mut ArrayVec<u8, 576>) -> Claim
+    requires { rcode ≤ 15 }
+    ensures claim { result ≡ claim_in asked }
+    ensures written { AreWritten (Some (registered rcode (record asked { ttl = ttl }))) out.new.items }
+{
+    let claim = Claim::from_registration(&asked);
+    let registration = Registration { ttl, ..asked };
+    write(
+        &Message::Registered {
+            rcode,
+            registration,
+        },
+        out,
+    );
+    claim
+}
+
+/// Releases a name, or refuses to (RFC 1002 section 5.1.4.1).
+fn release(
+    table: &mut Table,
+    now: Moment,
+    ip: u32,
+    id: u16,
+    claim: Claim,
+    out: &mut ArrayVec<u8, 576>,
+) -> Outcome
     requires { table.old.last ≤ now }
-    ensures served { (id : ℕ) (kind : Kind)
-        → Serves table.old now ip (release id name.now kind addr) (Some (released id result name.now kind addr)) (leases_at now table.new.rows) }
+    ensures does { Does table.old now ip (release id claim.name claim.kind claim.addr) result out.new.items (leases_at now table.new.rows) }
     ensures config { table.new.config ≡ table.old.config }
     ensures last { table.new.last ≤ now }
 {
-    if !is_own(ip, name, addr) {
-        return REFUSED;
+    if let Some(refusal) = refusal_of(ip, &claim.name, claim.addr) {
+        return refuse_release(id, claim, refusal, out);
     }
-    released_rcode(table.release(now, name, addr))
+    match table.release(now, &claim.name, claim.addr) {
+        Released::Gone => {
+            respond_release(id, 0, &claim, out);
+            Outcome::Released(claim)
+        }
+        Released::NoLease => {
+            respond_release(id, 0, &claim, out);
+            Outcome::NotLeased(claim)
+        }
+        Released::OfOthers => {
+            let holder = holder(table, now, &claim.name);
+            refuse_release(id, claim, Refusal::Active(holder), out)
+        }
+    }
 }
 
-/// The RCODE of a release's response (RFC 1002 section 4.2.11).
-fn released_rcode(outcome: Released) -> u8
-    ensures value { result ≡ release_rcode outcome }
-    ensures bound { result ≤ 15 }
+/// Leaves in `out` the negative response to a release (RFC 1002 section 4.2.11).
+fn refuse_release(id: u16, claim: Claim, refusal: Refusal, out: &mut ArrayVec<u8, 576>) -> Outcome
+    ensures outcome { result ≡ Outcome.NotReleased claim refusal }
+    ensures written { AreWritten (Some (released id (rcode_of refusal) claim.name claim.kind claim.addr)) out.new.items }
 {
-    match outcome {
-        Released::Gone | Released::NoLease => 0,
-        Released::OfOthers => ACTIVE,
-    }
+    respond_release(id, refusal.rcode(), &claim, out);
+    Outcome::NotReleased(claim, refusal)
 }
 
-/// Leaves in `out` the response to a query: the first leases of the name, as many as have room, with the seconds until the
+/// Leaves in `out` a response to a release (RFC 1002 sections 4.2.10 and 4.2.11).
+fn respond_release(id: u16, rcode: u8, claim: &Claim, out: &mut ArrayVec<u8, 576>)
+    requires { rcode ≤ 15 }
+    ensures { AreWritten (Some (released id rcode claim.now.name claim.now.kind claim.now.addr)) out.new.items }
+{
+    let reply = Message::Released {
+        id,
+        rcode,
+        name: claim.name.copy(),
+        kind: claim.kind,
+        addr: claim.addr,
+    };
+    write(&reply, out);
+}
+
+/// Leaves in `out` the response to a query, and returns which it is: the first leases of the name, as many as have room, with the seconds until the
 /// first of all its leases ends; or that the name isn't there (RFC 1002 sections 4.2.13 and 4.2.14). Leases that are over
 /// go first, so that the least end is looked up.
-fn find(table: &mut Table, now: Moment, id: u16, name: Name, out: &mut ArrayVec<u8, 576>)
+fn find(table: &mut Table, now: Moment, id: u16, name: Name, out: &mut ArrayVec<u8, 576>) -> Outcome
     requires limits { IsConfig table.old.config }
     requires time { table.old.last ≤ now }
-    ensures served { (reply : MessageValue)
-        × ((ip : ℕ) → Serves table.old now ip (query id name) (Some reply) (leases_at now table.new.rows))
-        × (out.new.items ≡ text reply) × Spells out.new.items reply }
+    ensures does { (ip : ℕ) → Does table.old now ip (query id name) result out.new.items (leases_at now table.new.rows) }
     ensures config { table.new.config ≡ table.old.config }
     ensures last { table.new.last ≤ now }
 {
@@ -213,18 +252,20 @@ fn find(table: &mut Table, now: Moment, id: u16, name: Name, out: &mut ArrayVec<
         let missing = Message::NotFound {
             id,
             rcode: NAME_ERROR,
-            name: Some(name),
+            name: Some(name.copy()),
         };
-        return write(&missing, out);
+        write(&missing, out);
+        return Outcome::NotFound(name);
     };
     let found = Message::Found {
         id,
-        name,
+        name: name.copy(),
         ttl: seconds_left(now, end),
         entries: listed.entries.as_slice(),
         cut: listed.cut,
     };
     write(&found, out);
+    Outcome::Found(name)
 }
 
 /// The seconds from a moment to an end, rounded up.

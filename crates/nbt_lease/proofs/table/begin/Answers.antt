@@ -1,4 +1,5 @@
-use Rattle.std.proofs.Common.{◌≡◌, ◌+◌, ℕ, ◌<◌, ◌≤◌, [], ◌∷◌, ◌++◌, length, Err, Ok, sym, ap, subst, ◌∙◌, arith}
+use Rattle.std.proofs.Common.{◌≡◌, ◌+◌, ℕ, ◌<◌, ◌≤◌, [], ◌∷◌, ◌++◌, length, false, Err, Ok, sym, ap, subst, ◌∙◌, arith}
+use Rattle.nbt_lease.specs.declared.lease.Grant.{Grant}
 use Rattle.nbt_lease.specs.declared.lease.Lease.{Lease}
 use Rattle.nbt_lease.specs.declared.fault.GrantFault.TheVariants.{TableFull, OutOfMemory}
 use Rattle.nbt_lease.specs.Lease.{at_name}
@@ -9,16 +10,16 @@ use Rattle.nbt_lease.proofs.Placing.{refuses, runs_out, begins_lease}
 use Rattle.nbt_lease.proofs.table.begin.Goals as goal
 
 pub returns-then-count-most-clause-rule : goal.returns-then-count-most-clause-rule
-returns-then-count-most-clause-rule c table now a holds most_is lease_is may =
+returns-then-count-most-clause-rule c table now a holds most_is lease_is seconds_is may =
     refuses table now c.args.name.now a TableFull (members_of c.args.index.now) (λ e. cc) holds.leases
     (table_full may.allowed may.none may.room (omega (arith, c.count.ensures, c.if-count-most.true, holds.count, most_is)))
 
 pub returns-in-Err-clause-rule : goal.returns-in-Err-clause-rule
-returns-in-Err-clause-rule c table now a holds most_is lease_is may =
+returns-in-Err-clause-rule c table now a holds most_is lease_is seconds_is may =
     runs_out table now c.args.name.now a (members_of c.begin.new.self) may.allowed may.none may.room (omega (arith, c.count.ensures, c.if-count-most.false, holds.count, most_is)) (c.in-Err.ensures.unchanged ∙ holds.leases)
 
 pub returns-clause-rule : goal.returns-clause-rule
-returns-clause-rule c table now a holds most_is lease_is may =
-    subst (λ (end : ℕ). Places table now c.args.name.now a (Ok end) (members_of c.begin.new.self)) (sym (ap (λ (l : Lease). l.end) lease_is))
+returns-clause-rule c table now a holds most_is lease_is seconds_is may =
+    subst (λ (g : Grant). Places table now c.args.name.now a (Ok g) (members_of c.begin.new.self)) (λ i. record { seconds = sym seconds_is i; end = (sym lease_is i).end; renewed = false })
     (begins_lease table now c.args.name.now a c.args.index.now (members_of c.begin.new.self) holds may.allowed may.none may.room (omega (arith, c.count.ensures, c.if-count-most.false, holds.count, most_is))
     (c.in_default.ensures.begun ∙ ap (λ (l : Lease). at_name c.args.name.now (members_of c.args.index.now c.args.name.now ++ l ∷ []) (members_of c.args.index.now)) lease_is))

@@ -11,13 +11,13 @@ use Rattle.nbt_lease.proofs.Placing.{ok_is, err_is, none_is, room_left, holds_on
 use Rattle.nbt_lease.proofs.table.renew_or_begin.Goals as goal
 
 pub returns-then-not-allows-clause-rule : goal.returns-then-not-allows-clause-rule
-returns-then-not-allows-clause-rule c table now a holds most_is lease_is =
+returns-then-not-allows-clause-rule c table now a holds most_is lease_is seconds_is =
     let found = stands_so table now c.args.name.now c.args.lease.addr a.addr c.args.index.now c.members.result.now c.find-standing.result holds (ap (λ (l : Lease). l.addr) lease_is) c.members.ensures c.find-standing.ensures in
     let allows = c.allows.ensures (leases_at now table.rows c.args.name.now) a found (sym (ap (λ (l : Lease). l.kind) lease_is)) in
     refuses table now c.args.name.now a Active (members_of c.args.index.now) (λ e. cc) holds.leases (active (λ allowed. both_ways c.allows.result c.if-not-allows.true (allows.1 allowed)))
 
 pub returns-in_default-clause-rule : goal.returns-in_default-clause-rule
-returns-in_default-clause-rule c table now a holds most_is lease_is =
+returns-in_default-clause-rule c table now a holds most_is lease_is seconds_is =
     let found = stands_so table now c.args.name.now c.args.lease.addr a.addr c.args.index.now c.members.result.now c.find-standing.result holds (ap (λ (l : Lease). l.addr) lease_is) c.members.ensures c.find-standing.ensures in
     let allows = c.allows.ensures (leases_at now table.rows c.args.name.now) a found (sym (ap (λ (l : Lease). l.kind) lease_is)) in
     let moves = err_is c.renew.result _ c.in_default.not-Ok c.renew.ensures.moves in
@@ -26,16 +26,17 @@ returns-in_default-clause-rule c table now a holds most_is lease_is =
     (subst (λ (l : Lease). Moves c.args.index.now c.args.name.now l.addr l.end) lease_is moves) (same ∙ holds.leases)
 
 pub returns-in-Some-clause-rule : goal.returns-in-Some-clause-rule
-returns-in-Some-clause-rule c table now a holds most_is lease_is =
+returns-in-Some-clause-rule c table now a holds most_is lease_is seconds_is =
     let found = stands_so table now c.args.name.now c.args.lease.addr a.addr c.args.index.now c.members.result.now c.find-standing.result holds (ap (λ (l : Lease). l.addr) lease_is) c.members.ensures c.find-standing.ensures in
     let allows = c.allows.ensures (leases_at now table.rows c.args.name.now) a found (sym (ap (λ (l : Lease). l.kind) lease_is)) in
     let renewed = ok_is c.renew.result c.in-Ok.renewed _ c.in-Ok.is c.renew.ensures.renewed in
     let here = subst (λ (o : Option ℕ). IfSome o (λ until. Renewed c.args.index.now c.args.name.now c.args.lease.addr c.args.lease.end until (members_of c.renew.new.self))) c.in-Some.is renewed in
-    renews_lease table now c.args.name.now a c.args.index.now c.in-Some.end (members_of c.renew.new.self) holds (allows.0 c.if-not-allows.false)
-    (subst (λ (l : Lease). Renewed c.args.index.now c.args.name.now l.addr l.end c.in-Some.end (members_of c.renew.new.self)) lease_is here)
+    subst (λ (s : ℕ). Places table now c.args.name.now a (Ok (record { seconds = s; end = c.in-Some.end; renewed = true })) (members_of c.renew.new.self)) (sym seconds_is)
+    (renews_lease table now c.args.name.now a c.args.index.now c.in-Some.end (members_of c.renew.new.self) holds (allows.0 c.if-not-allows.false)
+    (subst (λ (l : Lease). Renewed c.args.index.now c.args.name.now l.addr l.end c.in-Some.end (members_of c.renew.new.self)) lease_is here))
 
 pub returns-then-is_full-clause-rule : goal.returns-then-is_full-clause-rule
-returns-then-is_full-clause-rule c table now a holds most_is lease_is =
+returns-then-is_full-clause-rule c table now a holds most_is lease_is seconds_is =
     let found = stands_so table now c.args.name.now c.args.lease.addr a.addr c.args.index.now c.members.result.now c.find-standing.result holds (ap (λ (l : Lease). l.addr) lease_is) c.members.ensures c.find-standing.ensures in
     let allows = c.allows.ensures (leases_at now table.rows c.args.name.now) a found (sym (ap (λ (l : Lease). l.kind) lease_is)) in
     let none = none_is c.in-Ok.renewed _ c.in_default-renewed.not-Some (ok_is c.renew.result c.in-Ok.renewed _ c.in-Ok.is c.renew.ensures.none) in
@@ -50,12 +51,12 @@ begin-requires-clause-none c =
     subst (λ (f : Leases). HasNone c.args.lease.addr (f c.args.name.now)) (sym same) none
 
 pub returns-clause-rule : goal.returns-clause-rule
-returns-clause-rule c table now a holds most_is lease_is =
+returns-clause-rule c table now a holds most_is lease_is seconds_is =
     let found = stands_so table now c.args.name.now c.args.lease.addr a.addr c.args.index.now c.members.result.now c.find-standing.result holds (ap (λ (l : Lease). l.addr) lease_is) c.members.ensures c.find-standing.ensures in
     let allows = c.allows.ensures (leases_at now table.rows c.args.name.now) a found (sym (ap (λ (l : Lease). l.kind) lease_is)) in
     let none = none_is c.in-Ok.renewed _ c.in_default-renewed.not-Some (ok_is c.renew.result c.in-Ok.renewed _ c.in-Ok.is c.renew.ensures.none) in
     let same = none_is c.in-Ok.renewed _ c.in_default-renewed.not-Some (ok_is c.renew.result c.in-Ok.renewed _ c.in-Ok.is c.renew.ensures.none_left) in
-    c.begin.ensures.rule table now a (holds_on table now c.args.index.now c.renew.new.self holds same c.renew.ensures.count) most_is lease_is
+    c.begin.ensures.rule table now a (holds_on table now c.args.index.now c.renew.new.self holds same c.renew.ensures.count) most_is lease_is seconds_is
     (record {
       allowed = allows.0 c.if-not-allows.false;
       none = none_so table now c.args.name.now c.args.lease.addr a.addr c.args.index.now holds (ap (λ (l : Lease). l.addr) lease_is) none;

@@ -1,20 +1,16 @@
-use Rattle.std.proofs.Common.{Some, ap, subst, arith}
-use Rattle.nbt_packet.specs.Message.{found, not_found}
+use Rattle.std.proofs.Common.{ap, refl, subst, arith}
 use Rattle.nbt_packet.specs.Text.{entries_most}
 use Rattle.nbt_lease.specs.Config.{ConfigValue}
 use Rattle.nbt_lease.specs.Lease.{leases_at, latest_end}
 use Rattle.nbt_lease.specs.Rules.{IsLeastEnd}
-use Rattle.nbt_server.proofs.Rules.{entries_fit, entries_short, ends_in_time, finds_after, finds_none_after}
+use Rattle.nbt_server.proofs.Rules.{entries_fit, entries_short, ends_in_time, does_find, does_find_none}
 use Rattle.nbt_server.proofs.serving.find.Goals as goal
 
-pub returns-in_default-clause-served : goal.returns-in_default-clause-served
-returns-in_default-clause-served c =
-    let after = leases_at c.args.now c.sweep.new.self.rows in (
-      not_found c.args.id 3 (Some c.args.name),
-      λ ip. finds_none_after c.args.table.now c.args.now ip c.args.id c.args.name after c.sweep.ensures.leases (subst (IsLeastEnd (after c.args.name)) c.in_default.is c.list-listed.ensures.end),
-      c.write.ensures.0,
-      c.write.ensures.1,
-    )
+pub returns-in_default-clause-does : goal.returns-in_default-clause-does
+returns-in_default-clause-does c =
+    let after = leases_at c.args.now c.sweep.new.self.rows in
+    λ ip. does_find_none c.args.table.now c.args.now ip c.args.id c.args.name after c.sweep.ensures.leases _ c.write.new.out.items (subst (IsLeastEnd (after c.args.name)) c.in_default.is c.list-listed.ensures.end) refl
+    (rw c.copy.ensures at c.write.ensures)
 
 pub seconds_left-requires : goal.seconds_left-requires
 seconds_left-requires c =
@@ -32,14 +28,10 @@ write-requires-2-clause-fits c =
 
 pub write-requires-2-clause-row_count : goal.write-requires-2-clause-row_count
 write-requires-2-clause-row_count c =
-    rw (c.as_slice.ensures.value, c.list-listed.ensures.entries) (entries_short (entries_most c.args.name) (leases_at c.args.now c.sweep.new.self.rows c.args.name))
+    rw (c.copy-2.ensures, c.as_slice.ensures.value, c.list-listed.ensures.entries) (entries_short (entries_most c.args.name) (leases_at c.args.now c.sweep.new.self.rows c.args.name))
 
-pub returns-clause-served : goal.returns-clause-served
-returns-clause-served c =
-    let after = leases_at c.args.now c.sweep.new.self.rows in (
-      found c.args.id c.args.name c.seconds_left.result c.as_slice.result.now c.list-listed.result.cut,
-      λ ip. rw (c.seconds_left.ensures, c.as_slice.ensures.value, c.list-listed.ensures.entries, c.list-listed.ensures.cut)
-          (finds_after c.args.table.now c.args.now ip c.args.id c.in-Some.end c.args.name after c.sweep.ensures.leases (subst (IsLeastEnd (after c.args.name)) c.in-Some.is c.list-listed.ensures.end)),
-      c.write-2.ensures.0,
-      c.write-2.ensures.1,
-    )
+pub returns-clause-does : goal.returns-clause-does
+returns-clause-does c =
+    let after = leases_at c.args.now c.sweep.new.self.rows in
+    λ ip. does_find c.args.table.now c.args.now ip c.args.id c.args.name after c.sweep.ensures.leases _ c.write-2.new.out.items c.in-Some.end (subst (IsLeastEnd (after c.args.name)) c.in-Some.is c.list-listed.ensures.end) refl
+    (rw (c.copy-2.ensures, c.seconds_left.ensures, c.as_slice.ensures.value, c.list-listed.ensures.entries, c.list-listed.ensures.cut) at c.write-2.ensures)

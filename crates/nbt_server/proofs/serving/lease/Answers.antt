@@ -1,18 +1,17 @@
-use Rattle.std.proofs.Common.{◌≡◌, Ok, Err, refl, ap, ◌∙◌, ℕ}
-use Rattle.std.proofs.lemmas.Bool.{both_ways}
+use Rattle.std.proofs.Common.{◌≡◌}
 use Rattle.nbt_lease.specs.declared.fault.GrantFault.TheVariants.{OutOfMemory}
-use Rattle.nbt_server.specs.Serving.{refusal}
-use Rattle.nbt_server.proofs.Rules.{is_leased, is_refused}
+use Rattle.nbt_server.proofs.Rules.{does_grant, does_refuse, does_refuse_other}
 use Rattle.nbt_server.proofs.serving.lease.Goals as goal
 
-pub returns-then-not-is_own-clause-served : goal.returns-then-not-is_own-clause-served
-returns-then-not-is_own-clause-served c = is_refused _ _ _ _ _ (λ own. both_ways _ c.if-not-is_own.true (c.is_own.ensures.1 own)) c.refuse.ensures
+pub returns-in-Some-clause-does : goal.returns-in-Some-clause-does
+returns-in-Some-clause-does c = λ m asks.
+    does_refuse_other c.args.table.now c.args.now c.args.ip c.args.asked c.refuse.result c.refuse.new.out.items m asks c.in-Some.refusal c.in-Some.ensures.other.0 c.in-Some.ensures.other.1 c.refuse.ensures.outcome c.refuse.ensures.written
 
-pub returns-in-Ok-clause-served : goal.returns-in-Ok-clause-served
-returns-in-Ok-clause-served c = is_leased _ _ _ _ (Ok c.in-Ok.grant) _ _ (c.is_own.ensures.0 c.if-not-is_own.false) (c.in-Ok.ensures.rule (λ e. absurd cc)) refl
+pub returns-in-Ok-clause-does : goal.returns-in-Ok-clause-does
+returns-in-Ok-clause-does c = λ m asks.
+    does_grant c.args.table.now c.args.now c.args.ip c.args.asked c.accept.result c.accept.new.out.items m asks c.in-Ok.grant _ c.in_default.ensures.own (c.in-Ok.ensures.rule (λ e. absurd cc)) c.accept.ensures.outcome c.accept.ensures.written
 
-pub returns-clause-served : goal.returns-clause-served
-returns-clause-served c =
-    is_leased _ _ _ _ (Err c.in-Err.fault) _ _ (c.is_own.ensures.0 c.if-not-is_own.false)
-    (c.in-Err.ensures.rule (λ e. let same : c.in-Err.fault ≡ OutOfMemory = cc in c.in-Some.ensures.rcode.1 same))
-    (c.refuse-2.ensures ∙ ap (λ (x : ℕ). refusal x c.args.asked) c.in-Some.ensures.rcode.0)
+pub returns-clause-does : goal.returns-clause-does
+returns-clause-does c = λ m asks.
+    does_refuse c.args.table.now c.args.now c.args.ip c.args.asked c.refuse-2.result c.refuse-2.new.out.items m asks c.in-Err.fault c.in-Some-refusal_by.refusal _ c.in_default.ensures.own
+    (c.in-Err.ensures.rule (λ e. let same : c.in-Err.fault ≡ OutOfMemory = cc in c.in-Some-refusal_by.ensures.refusal.1 same)) c.in-Err.ensures.refused c.in-Some-refusal_by.ensures.refusal.0 c.refuse-2.ensures.outcome c.refuse-2.ensures.written

@@ -1,16 +1,34 @@
-use Rattle.std.proofs.Common.{refl, Some}
-use Rattle.nbt_server.proofs.Rules.{is_short, is_no_query}
+use Rattle.std.proofs.Common.{None, refl, Some}
+use Rattle.nbt_server.specs.Serving.{by_registration, by_refresh, refuses_overwrite, passes_over}
+use Rattle.nbt_server.specs.Outcomes.{Does}
+use Rattle.nbt_server.proofs.Rules.{is_for_nodes, on_ok, on_err}
 use Rattle.nbt_server.proofs.serving.serve.Goals as goal
 
-pub returns-in-Query-clause-served : goal.returns-in-Query-clause-served
-returns-in-Query-clause-served c = (Some c.find.ensures.served.0, rw c.in-Query.is (c.find.ensures.served.1 c.args.ip), refl, (c.find.ensures.served.2, c.find.ensures.served.3))
+pub returns-in-Registration-clause-does : goal.returns-in-Registration-clause-does
+returns-in-Registration-clause-does c = rw c.in-Registration.is (on_ok c.lease.result c.lease.ensures.does (λ outcome does. does _ (by_registration _)))
 
-pub write-requires-clause-fits : goal.write-requires-clause-fits
-write-requires-clause-fits c =
-    let short = is_short _ _ _ _ _ _ (is_no_query _ c.in_default.not-Query) c.in_ok-reply.ensures.served in
-    let it = rw c.in-Some.is at short in it.0
+pub returns-in-Registration-clause-memory : goal.returns-in-Registration-clause-memory
+returns-in-Registration-clause-memory c = rw c.in-Registration.is (on_err c.lease.result c.lease.ensures.memory (λ needs. needs _ (by_registration _)))
 
-pub write-requires-clause-row_count : goal.write-requires-clause-row_count
-write-requires-clause-row_count c =
-    let short = is_short _ _ _ _ _ _ (is_no_query _ c.in_default.not-Query) c.in_ok-reply.ensures.served in
-    let it = rw c.in-Some.is at short in it.1
+pub returns-in-Refresh-clause-does : goal.returns-in-Refresh-clause-does
+returns-in-Refresh-clause-does c = rw c.in-Refresh.is (on_ok c.lease-in-Refresh.result c.lease-in-Refresh.ensures.does (λ outcome does. does _ (by_refresh _)))
+
+pub returns-in-Refresh-clause-memory : goal.returns-in-Refresh-clause-memory
+returns-in-Refresh-clause-memory c = rw c.in-Refresh.is (on_err c.lease-in-Refresh.result c.lease-in-Refresh.ensures.memory (λ needs. needs _ (by_refresh _)))
+
+pub returns-in-Overwrite-clause-does : goal.returns-in-Overwrite-clause-does
+returns-in-Overwrite-clause-does c = rw c.in-Overwrite.is (_, refuses_overwrite c.in-Overwrite.asked, c.refuse.ensures.outcome, c.refuse.ensures.written)
+
+pub returns-in-Release-clause-does : goal.returns-in-Release-clause-does
+returns-in-Release-clause-does c = rw c.in-Release.is c.release.ensures.does
+
+pub returns-in-Query-clause-does : goal.returns-in-Query-clause-does
+returns-in-Query-clause-does c = rw c.in-Query.is (c.find.ensures.does c.args.ip)
+
+pub returns-in_default-clause-does : goal.returns-in_default-clause-does
+returns-in_default-clause-does c = (
+  None,
+  passes_over _ (is_for_nodes _ c.in_default.not-Registration c.in_default.not-Overwrite c.in_default.not-Refresh c.in_default.not-Release c.in_default.not-Query),
+  refl,
+  c.requires.empty,
+)

@@ -8,22 +8,22 @@ use Rattle.nbt_lease.specs.Config.{granted}
 use Rattle.nbt_lease.specs.Lease.{TableValue, Leases, is_live, leases_at, live_count, IsSound}
 use Rattle.nbt_lease.specs.Rules.{asked, end_of, Grants}
 use Rattle.nbt_lease.specs.Inner.Index.{members_of, rows_of, AreLive}
-use Rattle.nbt_lease.specs.Inner.Placing.{Places, granted_until}
+use Rattle.nbt_lease.specs.Inner.Placing.{Places}
 use Rattle.nbt_lease.proofs.Sound.{sound_later}
 use Rattle.nbt_lease.proofs.Changes.{live_at_most}
 use Rattle.nbt_lease.proofs.Flat.{leases_members}
-use Rattle.nbt_lease.proofs.Placing.{Left, left_over, holds_live, granted_is, same_fault, refused_so, sound_placed, live_placed}
+use Rattle.nbt_lease.proofs.Placing.{Left, left_over, holds_live, sound_placed, live_placed}
 use Rattle.nbt_lease.proofs.table.Table.grant.Goals as goal
 
-seconds_are : (c : goal.After-map) → c.granted-seconds.result ≡ granted c.args.self.now.config.longest c.args.ttl
+seconds_are : (c : goal.After-renew_or_begin) → c.granted-seconds.result ≡ granted c.args.self.now.config.longest c.args.ttl
 seconds_are c = c.granted-seconds.ensures.value ∙ ap (λ (v : TableValue). granted v.config.longest c.args.ttl) c.self.view_is
 
-left : (c : goal.After-map) → Left c.args.now c.self.inside.index c.drop_expired.new.index
+left : (c : goal.After-renew_or_begin) → Left c.args.now c.self.inside.index c.drop_expired.new.index
 left c =
     left_over c.args.now c.self.inside.index c.drop_expired.new.index c.self.invariant.0 c.drop_expired.ensures.names
     (subst (λ (m : ℕ). (q : NameValue) → members_of c.drop_expired.new.index q ≡ filter (is_live m) (members_of c.self.inside.index q)) c.get-ms.ensures.value c.drop_expired.ensures.leases)
 
-placed : (c : goal.After-map) → Places c.args.self.now c.args.now c.args.name.now (asked c.args.addr c.args.kind c.args.ttl) c.renew_or_begin.result (members_of c.renew_or_begin.new.index)
+placed : (c : goal.After-renew_or_begin) → Places c.args.self.now c.args.now c.args.name.now (asked c.args.addr c.args.kind c.args.ttl) c.renew_or_begin.result (members_of c.renew_or_begin.new.index)
 placed c =
     let t = c.args.self.now in
     let a = asked c.args.addr c.args.kind c.args.ttl in
@@ -32,10 +32,10 @@ placed c =
     let seconds : c.from.result ≡ granted t.config.longest c.args.ttl = c.from.ensures ∙ seconds_are c in
     let at : c.get-ms.result ≡ c.args.now = c.get-ms.ensures.value in
     c.renew_or_begin.ensures.rule t c.args.now a (holds_live t c.args.now c.self.inside.index c.drop_expired.new.index rows_are (left c)) most_is
-    (λ i. record { addr = c.args.addr; kind = c.args.kind; end = at i + 1000 * seconds i })
+    (λ i. record { addr = c.args.addr; kind = c.args.kind; end = at i + 1000 * seconds i }) (seconds_are c)
 
 -- all leases live afterwards
-live_rows : (c : goal.After-map) → leases_at c.args.now (rows_of c.renew_or_begin.new.index) ≡ members_of c.renew_or_begin.new.index
+live_rows : (c : goal.After-renew_or_begin) → leases_at c.args.now (rows_of c.renew_or_begin.new.index) ≡ members_of c.renew_or_begin.new.index
 live_rows c =
     let t = c.args.self.now in
     let a = asked c.args.addr c.args.kind c.args.ttl in
@@ -44,27 +44,15 @@ live_rows c =
     (live_placed t c.args.now c.args.name.now a c.renew_or_begin.result (members_of c.renew_or_begin.new.index) (omega (arith, c.granted-seconds.ensures.bounds.0, seconds_are c)) (placed c)
     (subst (λ (f : Leases). (q : NameValue) → AreLive c.args.now (f q)) ((left c).leases ∙ rows_are) (left c).live))
 
-result_is : (c : goal.After-map) → c.map.result ≡ granted_until c.args.self.now.config (asked c.args.addr c.args.kind c.args.ttl) c.renew_or_begin.result
-result_is c =
-    let told : MatchResult c.renew_or_begin.result (λ end. c.map.result ≡ Ok (record { seconds = c.granted-seconds.result; end = end })) (λ fault. c.map.result ≡ Err fault) = search rules in
-    granted_is c.args.self.now (asked c.args.addr c.args.kind c.args.ttl) c.granted-seconds.result c.renew_or_begin.result c.map.result (seconds_are c) told
-
 pub returns-clause-rule : goal.returns-clause-rule
 returns-clause-rule c other =
-    let t = c.args.self.now in
-    let a = asked c.args.addr c.args.kind c.args.ttl in
-    subst (λ (f : Leases). Grants t c.args.now c.args.name.now a c.map.result f) (sym (live_rows c))
-    (subst (λ (r : Result Grant GrantFault). Grants t c.args.now c.args.name.now a r (members_of c.renew_or_begin.new.index)) (sym (result_is c))
-    ((placed c).rule (λ none. other (result_is c ∙ ap (granted_until t.config a) none))))
+    subst (λ (f : Leases). Grants c.args.self.now c.args.now c.args.name.now (asked c.args.addr c.args.kind c.args.ttl) c.renew_or_begin.result f) (sym (live_rows c)) ((placed c).rule other)
 
 pub returns-clause-memory : goal.returns-clause-memory
-returns-clause-memory c none = (placed c).memory (same_fault c.args.self.now.config (asked c.args.addr c.args.kind c.args.ttl) c.renew_or_begin.result OutOfMemory (sym (result_is c) ∙ none))
+returns-clause-memory c none = (placed c).memory none
 
 pub returns-clause-refused : goal.returns-clause-refused
-returns-clause-refused c =
-    let same : Type 0 = members_of c.renew_or_begin.new.index ≡ leases_at c.args.now c.args.self.now.rows in
-    subst (λ (f : Leases). OnErr c.map.result (f ≡ leases_at c.args.now c.args.self.now.rows)) (sym (live_rows c))
-    (subst (λ (r : Result Grant GrantFault). OnErr r same) (sym (result_is c)) (refused_so c.args.self.now.config (asked c.args.addr c.args.kind c.args.ttl) c.renew_or_begin.result same (placed c).refused))
+returns-clause-refused c = subst (λ (f : Leases). OnErr c.renew_or_begin.result (f ≡ leases_at c.args.now c.args.self.now.rows)) (sym (live_rows c)) (placed c).refused
 
 pub returns-clause-room : goal.returns-clause-room
 returns-clause-room c = omega (arith, c.renew_or_begin.ensures.fits, c.rows.ensures.value, live_at_most c.args.now (rows_of c.renew_or_begin.new.index), ap (λ (v : TableValue). v.config.rows) c.self.view_is)

@@ -1,0 +1,82 @@
+use Rattle.std.proofs.Common.{◌≡◌, ℕ, ◌≤◌, List, Option, Some, None, refl, subst, arith}
+use Rattle.std.specs.Prelude.{IfSome}
+use Rattle.nbt_packet.specs.Message.{MessageValue, message_of}
+use Rattle.nbt_packet.specs.Spelling.{Spells, AreWritten}
+use Rattle.nbt_packet.specs.Text.{text}
+use Rattle.nbt_lease.specs.Lease.{leases_at}
+use Rattle.nbt_server.specs.declared.outcome.Outcome.{Outcome}
+use Rattle.nbt_server.specs.Calls.{ServerHandles}
+use Rattle.nbt_server.specs.Outcomes.{Does}
+use Rattle.nbt_server.specs.Serving.{ServerValue, speaks_from, ServesOctets, is_silent, is_no_message, serves}
+use Rattle.nbt_server.proofs.Rules.{replies, unanswered_replies}
+use Rattle.nbt_server.proofs.server.Server.handle.Goals as goal
+use Rattle.nbt_server.proofs.server.Server.handle.Goals.{in-Ok, in-Err}
+
+-- a reply's written form spells it
+spelled_by : (reply : Option MessageValue) (octets : List ℕ) → AreWritten reply octets → IfSome reply (λ message. Spells (text message) message)
+spelled_by None octets written = tt
+spelled_by (Some message) octets written = subst (λ (xs : List ℕ). Spells xs message) written.0 written.1
+
+-- what was done with a message is what was done with the octets that spell it
+handles : (old new : ServerValue) (now ip : ℕ) (octets : List ℕ) (m : MessageValue) (outcome : Outcome) (out : List ℕ) → old.last ≤ now → speaks_from old ≤ now → Spells octets m
+    → new.start ≡ old.start → new.last ≡ now → new.table.config ≡ old.table.config → Does old.table now ip m outcome out (leases_at now new.table.rows) → ServerHandles old now ip octets outcome out new
+handles old new now ip octets m outcome out onward speaks spelled start last config (reply, does, done, written) =
+    let octets_do : ServesOctets old now ip octets reply (leases_at now new.table.rows) = serves m reply (leases_at now new.table.rows) speaks spelled does in
+    record {
+      reply = reply;
+      takes = record { goes_on = onward; serves = octets_do; spelled = spelled_by reply out written; start = start; last = last; config = config };
+      done = done;
+      has_reply_is = replies octets_do outcome done;
+      written = written;
+    }
+
+pub returns-in_default-clause-handled : goal.returns-in_default-clause-handled
+returns-in_default-clause-handled c =
+    rw (← c.self.view_is) (record {
+      reply = None;
+      takes = record { goes_on = omega arith; serves = is_no_message (λ m s. let e = (c.in_default.ensures m).1 s in absurd cc); spelled = tt; start = refl; last = refl; config = refl };
+      done = refl;
+      has_reply_is = refl;
+      written = c.clear.ensures;
+    })
+
+pub returns-then-get-speaks_from-clause-handled : goal.returns-then-get-speaks_from-clause-handled
+returns-then-get-speaks_from-clause-handled c =
+    let done = c.unanswered.ensures c.args.octets.now ((c.in-Some.ensures (message_of c.in-Some.message)).0 refl) in
+    rw (← c.self.view_is) (record {
+      reply = None;
+      takes = record { goes_on = omega arith; serves = is_silent (omega arith); spelled = tt; start = refl; last = refl; config = refl };
+      done = done;
+      has_reply_is = unanswered_replies c.args.octets.now c.unanswered.result done;
+      written = c.clear.ensures;
+    })
+
+pub returns-clause-handled : goal.returns-clause-handled
+returns-clause-handled c =
+    elim c.match-serve.branch [
+      | in-Ok w ↦
+          let s = w.in-Ok.ensures.does in
+          rw (w.result-is, ← c.self.view_is)
+          (handles _ _ _ _ _ _ w.in-Ok.outcome _ (omega arith) (omega arith) ((c.in-Some.ensures (message_of c.in-Some.message)).0 refl) refl refl w.in-Ok.ensures.config s)
+      | in-Err w ↦ rw w.result-is tt
+    ]
+
+pub returns-clause-memory : goal.returns-clause-memory
+returns-clause-memory c = λ is.
+    elim c.match-serve.branch [
+      | in-Ok w ↦ let e = rw w.result-is at is in absurd cc
+      | in-Err w ↦
+          rw (← c.self.view_is) (record {
+            goes_on = omega arith;
+            needs = record {
+              message = message_of c.in-Some.message;
+              speaks = omega arith;
+              spelled = (c.in-Some.ensures (message_of c.in-Some.message)).0 refl;
+              needs = w.in-Err.ensures.memory;
+            };
+            leases = w.in-Err.ensures.refused.0;
+            start = refl;
+            last = refl;
+            config = w.in-Err.ensures.config;
+          })
+    ]
