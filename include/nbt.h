@@ -2,13 +2,14 @@
  * nbt: the NetBIOS name, datagram and session services (RFC 1001 and 1002), for programs in C.
  *
  * The library opens no socket, reads no clock, starts no thread and keeps nothing of its own between two calls: octets and
- * moments go in, octets come out. Names, nodes, datagrams and sessions take no memory; a name server asks malloc for its leases.
+ * times go in, octets come out. Names, nodes, datagrams and sessions take no memory; a name server asks malloc for its leases.
  *
  * What holds of every call:
  *
  *   - A pointer leads to as many octets or values as its parameter says, is aligned for its type and is not null: also where a
  *     length is 0. What it leads to may be written by no one else during the call, and two pointers of one call lead to places
- *     that do not overlap where one of them isn't const. That is the caller's to keep; nothing tests it.
+ *     that do not overlap where one of them isn't const. The caller must ensure it; nothing tests it.
+ *   - No two calls run at the same time with the same object: a program with threads has one lock for each object.
  *   - Numbers may be any: each length, place and count is tested.
  *   - A result is 0, or the number of what is wrong, by the names below. What a call writes where the result isn't 0 stands
  *     above it; all else stays as it was.
@@ -21,6 +22,17 @@
 #include <stddef.h>
 #include <stdint.h>
 
+/* What the compiler is to refuse where it doesn't hold, from C11 and C++11 on. */
+#if defined(__cplusplus) && __cplusplus >= 201103L
+#define NBT_ASSERT(holds, text) static_assert(holds, text)
+#elif defined(__STDC_VERSION__) && __STDC_VERSION__ >= 201112L
+#define NBT_ASSERT(holds, text) _Static_assert(holds, text)
+#else
+#define NBT_ASSERT(holds, text) struct nbt_asserts_nothing
+#endif
+
+NBT_ASSERT(sizeof(void *) == 8 && sizeof(size_t) == 8, "nbt: pointers and sizes have 64 bits");
+
 #ifdef __cplusplus
 extern "C" {
 #endif
@@ -29,8 +41,8 @@ extern "C" {
 enum {
     NBT_DONE = 0,
     NBT_NO_NAME = 255,   /* a struct nbt_name holds no name */
-    NBT_NO_ROOM = 254,   /* the caller's octets are too few */
-    NBT_NO_MOMENT = 253, /* a moment is above 2^60 ms */
+    NBT_NO_ROOM = 254,   /* the caller's buffer is too small */
+    NBT_NO_MOMENT = 253, /* a time is above 2^60 ms */
     NBT_NO_KIND = 252,   /* a kind is none of those that the call takes */
     NBT_NO_PLACE = 251,  /* a place is above the number of the octets */
     NBT_NO_LEASE = 250   /* there are no more leases */
@@ -47,6 +59,7 @@ struct nbt_name {
     uint8_t scope_size; /* how many octets of scope count: 0 to 221 */
     uint8_t scope[221]; /* labels, each after its length octet, without the closing zero */
 };
+NBT_ASSERT(sizeof(struct nbt_name) == 238 && offsetof(struct nbt_name, scope) == 17, "nbt: struct nbt_name");
 
 /* Why sixteen octets and a scope make no name, in this order (our profile). */
 enum {
@@ -78,12 +91,12 @@ enum {
 uint8_t nbt_name_read(bool exact, const char *word, size_t word_size, const char *scope, size_t scope_size, struct nbt_name *out,
                       size_t *place);
 
-/* Room for any word that is written, and for any scope's text. */
+/* The size of a buffer for any word that is written, and for any scope's text. */
 #define NBT_WORD 36
 #define NBT_SCOPE_TEXT 1104
 
 /*
- * A name as text, at the front of `out`, which has room for `room` characters. Writes *size, how many they are; no zero ends them.
+ * A name as text, at the front of `out`, a buffer of `room` characters. Writes *size, how many they are; no zero ends them.
  * The word is FILER#20, or hex: and 32 digits where the octets can't be written so; the scope is NETBIOS.COM, or nothing, and a
  * label of it that can't stand as it is, is hex: and digits. nbt_name_read reads both again, where `exact` is true. NBT_NO_NAME;
  * NBT_NO_ROOM.
@@ -113,13 +126,14 @@ enum {
 uint8_t nbt_name_from_wire(const uint8_t *octets, size_t size, size_t place, struct nbt_name *out, size_t *next);
 uint8_t nbt_name_in_packet(const uint8_t *octets, size_t size, size_t place, struct nbt_name *out, size_t *next);
 
-/* ---- ends and limits */
+/* ---- endpoints and limits */
 
-/* An end of the network, 8 octets: numbers in the machine's own order, so that 10.0.0.1 is 0x0A000001. */
+/* An endpoint, 8 octets: numbers in the machine's byte order, so that 10.0.0.1 is 0x0A000001. */
 struct nbt_addr {
     uint32_t ip;
     uint16_t port;
 };
+NBT_ASSERT(sizeof(struct nbt_addr) == 8 && offsetof(struct nbt_addr, port) == 4, "nbt: struct nbt_addr");
 
 /* The limits that a server and its nodes share (our profile). */
 struct nbt_config {
@@ -127,6 +141,7 @@ struct nbt_config {
     uint32_t longest; /* the longest lease, 1 to 1,000,000 seconds */
     uint32_t rows;    /* the most live leases of a server, 1 to 4,096 */
 };
+NBT_ASSERT(sizeof(struct nbt_config) == 16 && offsetof(struct nbt_config, rows) == 12, "nbt: struct nbt_config");
 
 enum {
     NBT_CONFIG_LIFE = 1,
@@ -143,30 +158,38 @@ enum {
 /* The most octets of a packet over UDP (RFC 1002 section 6). */
 #define NBT_PACKET 576
 
-/* ---- an end node of 14 slots (RFC 1001 section 15): it takes no memory but what the program lends */
+/* ---- a node of 14 slots (RFC 1001 section 15): it takes no memory but what the program provides */
 
 /*
  * A node: `memory` leads to nbt_node_size() octets, aligned to nbt_node_align(), which are the node's from its start on and which
  * no one else reads or writes. The program sets `memory` before the start, copies no struct nbt_node, and may let the memory go at
  * any time, once it calls nothing more with the node. All other calls are for a node that was started.
  *
- * Moments, `now`, are milliseconds of a clock that no one sets, as CLOCK_MONOTONIC: 0 to 2^60.
+ * Times, `now`, are milliseconds of a monotonic clock, as CLOCK_MONOTONIC: 0 to 2^60.
  */
 struct nbt_node {
     void *memory;
 };
 
+/* A node's memory: what the two functions return, and a type of that size and alignment, so that it can be static. */
+#define NBT_NODE_SIZE 4944
+#define NBT_NODE_ALIGN 8
+union nbt_node_memory {
+    uint64_t aligned;
+    uint8_t octets[NBT_NODE_SIZE];
+};
+NBT_ASSERT(sizeof(union nbt_node_memory) == NBT_NODE_SIZE, "nbt: union nbt_node_memory");
 size_t nbt_node_size(void);
 size_t nbt_node_align(void);
 
 /* A node at `own` whose name server is at `server`. NBT_CONFIG_*; NBT_NO_MOMENT. */
 uint8_t nbt_node_start(struct nbt_node *node, struct nbt_addr own, struct nbt_addr server, struct nbt_config config, uint64_t now);
 
-/* Why a name isn't asked for, given back or looked up (our profile). They are tried in this order: CLOCK_BACK, BAD_NAME, BUSY or
+/* Why a name isn't registered, released or looked up (our profile). They are tried in this order: CLOCK_BACK, BAD_NAME, BUSY or
  * NOT_HELD, QUIET, FULL. */
 enum {
-    NBT_ASK_QUIET = 1,        /* the name is being given back, or rests */
-    NBT_ASK_BUSY = 2,         /* it was asked for already, or is held */
+    NBT_ASK_QUIET = 1,        /* the name is being released, or rests */
+    NBT_ASK_BUSY = 2,         /* it is being registered, or is held */
     NBT_ASK_FULL = 3,         /* no slot is free */
     NBT_ASK_CLOCK_BACK = 4,   /* `now` is before the start, or before an earlier call that wasn't refused */
     NBT_ASK_BAD_NAME = 5,     /* the name begins with '*' */
@@ -198,6 +221,7 @@ struct nbt_event {
     uint32_t seconds; /* of GRANTED and RENEWED */
     size_t size;      /* of FOUND: the octets of its entries, 6 each; of STATUS: of its names, 18 each */
 };
+NBT_ASSERT(sizeof(struct nbt_event) == 16 && offsetof(struct nbt_event, seconds) == 4, "nbt: struct nbt_event");
 
 enum {
     NBT_EVENT_NOTHING = 0,   /* nothing that the node waited for */
@@ -214,7 +238,7 @@ enum {
 };
 
 /*
- * Takes a datagram that came from `from`. Writes *event; the first octets of its entries or names, as many as have room, to `lent`;
+ * Handles a datagram that came from `from`. Writes *event; the first octets of its entries or names, as many as fit, to `lent`;
  * and *size: how many octets of `out` are a reply to `from`, or 0. NBT_NO_MOMENT; NBT_CLOCK_BACK.
  */
 uint8_t nbt_node_on_datagram(struct nbt_node *node, uint64_t now, struct nbt_addr from, const uint8_t *octets, size_t octets_size,
@@ -226,7 +250,7 @@ uint8_t nbt_node_poll(struct nbt_node *node, uint64_t now, struct nbt_addr *to, 
 /* Writes *held: 0 where the node doesn't hold the name, 1 as one machine's, 2 as a group's. NBT_NO_MOMENT; NBT_NO_NAME. */
 uint8_t nbt_node_holds(struct nbt_node *node, uint64_t now, const struct nbt_name *name, uint8_t *held);
 
-/* ---- datagrams (RFC 1001 section 17, RFC 1002 sections 4.4 and 5.3): they take no memory but what the program lends */
+/* ---- datagrams (RFC 1001 section 17, RFC 1002 sections 4.4 and 5.3): they take no memory but what the program provides */
 
 /*
  * A joiner of 4 slots: the fragments of up to four unfinished datagrams, which are given up after 2 seconds. `memory` is like a
@@ -236,6 +260,14 @@ struct nbt_joiner {
     void *memory;
 };
 
+/* A joiner's memory: what the two functions return, and a type of that size and alignment, so that it can be static. */
+#define NBT_JOINER_SIZE 6344
+#define NBT_JOINER_ALIGN 8
+union nbt_joiner_memory {
+    uint64_t aligned;
+    uint8_t octets[NBT_JOINER_SIZE];
+};
+NBT_ASSERT(sizeof(union nbt_joiner_memory) == NBT_JOINER_SIZE, "nbt: union nbt_joiner_memory");
 size_t nbt_joiner_size(void);
 size_t nbt_joiner_align(void);
 void nbt_joiner_start(struct nbt_joiner *joiner);
@@ -250,18 +282,19 @@ struct nbt_accept {
     struct nbt_name destination; /* of UP: DESTINATION_NAME, which the node holds */
     size_t size;                 /* of UP: how many octets the data have */
 };
+NBT_ASSERT(sizeof(struct nbt_accept) == 496 && offsetof(struct nbt_accept, source) == 12, "nbt: struct nbt_accept");
 
 enum {
     NBT_ACCEPT_NOTHING = 0, /* no datagram for a name that the node holds, or none that can be read */
     NBT_ACCEPT_UP = 1,      /* a whole datagram for a name that the node holds */
     NBT_ACCEPT_REPLY = 2,   /* one for a name that it doesn't hold: the error packet for `to` stands in `out` */
-    NBT_ACCEPT_ERROR = 3,   /* another end's error */
+    NBT_ACCEPT_ERROR = 3,   /* another endpoint's error */
     NBT_ACCEPT_WAITING = 4  /* other fragments are missing */
 };
 
 /*
  * What the octets that came at `now` to the datagram port of `own`, mostly 138, mean for the node. Writes *accept; of UP the first
- * octets of the data, as many as have room, to `data`; and *size: how many octets of `out` are an error packet, or 0. The node
+ * octets of the data, as many as fit, to `data`; and *size: how many octets of `out` are an error packet, or 0. The node
  * stays. NBT_NO_MOMENT: NOTHING.
  */
 uint8_t nbt_datagram_accept(struct nbt_joiner *joiner, struct nbt_node *node, uint64_t now, struct nbt_addr own,
@@ -282,6 +315,7 @@ struct nbt_datagram {
     size_t place;                /* of a fragment: where its data begin in the packet */
     size_t size;                 /* of a fragment: how many octets of data it has */
 };
+NBT_ASSERT(sizeof(struct nbt_datagram) == 512 && offsetof(struct nbt_datagram, from) == 8, "nbt: struct nbt_datagram");
 
 /* MSG_TYPE: the first three are fragments, or whole datagrams. */
 enum {
@@ -318,14 +352,14 @@ enum {
 /*
  * The one or two packets that carry `data` from `source`, whose datagrams come to `own`, to `destination` (RFC 1002 section 5.3.2):
  * `kind` is NBT_DATAGRAM_UNIQUE, GROUP or BROADCAST, and `id` tells one datagram of a source from another. Writes *first_size and
- * *second_size: how many octets of each are a packet to be sent; the second is 0 where one packet has room for all, and both are
+ * *second_size: how many octets of each are a packet to be sent; the second is 0 where all fit into one packet, and both are
  * where the result isn't 0. NBT_NO_NAME; NBT_NO_KIND; NBT_SPLIT_TOO_LONG.
  */
 uint8_t nbt_datagram_split(uint8_t kind, uint16_t id, struct nbt_addr own, const struct nbt_name *source,
                            const struct nbt_name *destination, const uint8_t *data, size_t data_size, uint8_t first[NBT_PACKET],
                            size_t *first_size, uint8_t second[NBT_PACKET], size_t *second_size);
 
-/* ---- sessions (RFC 1001 section 16, RFC 1002 section 4.3): they take no memory but what the program lends */
+/* ---- sessions (RFC 1001 section 16, RFC 1002 section 4.3): they take no memory but what the program provides */
 
 /* A session packet, but for a message's octets. A field that its kind doesn't name stays as it was. */
 struct nbt_session_packet {
@@ -335,6 +369,7 @@ struct nbt_session_packet {
     struct nbt_name called;  /* of REQUEST: the name that is called */
     struct nbt_name calling; /* of REQUEST: the name that calls */
 };
+NBT_ASSERT(sizeof(struct nbt_session_packet) == 488 && offsetof(struct nbt_session_packet, to) == 4, "nbt: struct nbt_session_packet");
 
 enum {
     NBT_SESSION_MESSAGE = 0x00,
@@ -351,6 +386,7 @@ struct nbt_part {
     size_t size;                      /* of MESSAGE: how many octets it has, up to 131,071; of DATA: how many of the piece are its */
     struct nbt_session_packet packet; /* of PACKET */
 };
+NBT_ASSERT(sizeof(struct nbt_part) == 504 && offsetof(struct nbt_part, packet) == 16, "nbt: struct nbt_part");
 
 enum {
     NBT_PART_NONE = 0,    /* the piece ends no part */
@@ -369,6 +405,14 @@ struct nbt_pieces {
     void *memory;
 };
 
+/* A stream's memory: what the two functions return, and a type of that size and alignment, so that it can be static. */
+#define NBT_PIECES_SIZE 584
+#define NBT_PIECES_ALIGN 8
+union nbt_pieces_memory {
+    uint64_t aligned;
+    uint8_t octets[NBT_PIECES_SIZE];
+};
+NBT_ASSERT(sizeof(union nbt_pieces_memory) == NBT_PIECES_SIZE, "nbt: union nbt_pieces_memory");
 size_t nbt_pieces_size(void);
 size_t nbt_pieces_align(void);
 void nbt_pieces_start(struct nbt_pieces *pieces);
@@ -402,13 +446,21 @@ uint8_t nbt_session_message(size_t count, uint8_t out[4]);
  */
 uint8_t nbt_session_packet(const struct nbt_session_packet *packet, uint8_t out[NBT_PACKET], size_t *size);
 
-/* ---- the end that calls a session (RFC 1001 section 16.1, RFC 1002 section 5.2.1) */
+/* ---- the calling endpoint of a session (RFC 1001 section 16.1, RFC 1002 section 5.2.1) */
 
 /* One call to a name, by a name. `memory` is like a node's, with the size and alignment below. It takes no other memory. */
 struct nbt_caller {
     void *memory;
 };
 
+/* A call's memory: what the two functions return, and a type of that size and alignment, so that it can be static. */
+#define NBT_CALLER_SIZE 512
+#define NBT_CALLER_ALIGN 8
+union nbt_caller_memory {
+    uint64_t aligned;
+    uint8_t octets[NBT_CALLER_SIZE];
+};
+NBT_ASSERT(sizeof(union nbt_caller_memory) == NBT_CALLER_SIZE, "nbt: union nbt_caller_memory");
 size_t nbt_caller_size(void);
 size_t nbt_caller_align(void);
 
@@ -422,13 +474,14 @@ enum {
     NBT_LOST = 2       /* it is gone, couldn't be had, or its stream has a fault */
 };
 
-/* What the end that calls does next. A field that its kind doesn't name stays as it was. */
+/* What the calling endpoint does next. A field that its kind doesn't name stays as it was. */
 struct nbt_answer {
     uint8_t kind;
     uint8_t failure;    /* of FAIL: why */
     uint8_t code;       /* of FAIL because of REFUSED (RFC 1002 section 4.3.4) */
     struct nbt_addr to; /* of CONNECT */
 };
+NBT_ASSERT(sizeof(struct nbt_answer) == 12 && offsetof(struct nbt_answer, to) == 4, "nbt: struct nbt_answer");
 
 enum {
     NBT_ANSWER_NOTHING = 0,
@@ -438,13 +491,13 @@ enum {
     NBT_ANSWER_UP = 4,      /* the message is for the user */
     NBT_ANSWER_CLOSED = 5,  /* the session is over */
     NBT_ANSWER_FAIL = 6,    /* the call failed, and its connection is given up */
-    NBT_ANSWER_SEND_AND_CLOSE = 7, /* of the end that listens: sends what stands in `out`, and then closes the connection */
-    NBT_ANSWER_CLOSE = 8           /* of the end that listens: closes the connection */
+    NBT_ANSWER_SEND_AND_CLOSE = 7, /* of the listening endpoint: sends what stands in `out`, and then closes the connection */
+    NBT_ANSWER_CLOSE = 8           /* of the listening endpoint: closes the connection */
 };
 
 /* Why a call failed (our profile). */
 enum {
-    NBT_CALL_NO_CONNECTION = 1, /* the fourth connection couldn't be had, or was lost before the call was taken */
+    NBT_CALL_NO_CONNECTION = 1, /* the fourth connection couldn't be had, or was lost before the call was accepted */
     NBT_CALL_REFUSED = 2,
     NBT_CALL_PROTOCOL = 3,      /* a packet came that has no place there */
     NBT_CALL_TOO_MANY_TRIES = 4 /* the fourth try was retargeted */
@@ -458,7 +511,7 @@ enum {
 uint8_t nbt_caller_on(struct nbt_caller *caller, uint8_t happened, const struct nbt_session_packet *packet, struct nbt_answer *answer,
                       uint8_t out[NBT_PACKET], size_t *size);
 
-/* ---- the end that listens (RFC 1001 section 16.1.1, RFC 1002 section 5.2.1) */
+/* ---- the listening endpoint (RFC 1001 section 16.1.1, RFC 1002 section 5.2.1) */
 
 /*
  * A listener of 14 entries and 8 connections, numbered 0 to 7. `memory` is like a node's, with the size and alignment below. It takes
@@ -468,13 +521,21 @@ struct nbt_listener {
     void *memory;
 };
 
+/* A listener's memory: what the two functions return, and a type of that size and alignment, so that it can be static. */
+#define NBT_LISTENER_SIZE 7304
+#define NBT_LISTENER_ALIGN 8
+union nbt_listener_memory {
+    uint64_t aligned;
+    uint8_t octets[NBT_LISTENER_SIZE];
+};
+NBT_ASSERT(sizeof(union nbt_listener_memory) == NBT_LISTENER_SIZE, "nbt: union nbt_listener_memory");
 size_t nbt_listener_size(void);
 size_t nbt_listener_align(void);
 
-/* A listener that takes no calls yet; `most` of its connections may be open at a time. NBT_NO_PLACE above 8. */
+/* A listener that accepts no calls yet; `most` of its connections may be open at a time. NBT_NO_PLACE above 8. */
 uint8_t nbt_listener_start(struct nbt_listener *listener, size_t most);
 
-/* Calls that are taken: to a name, by any or by one; here, or at another end. */
+/* Calls that are accepted: to a name, by any or by one; here, or at another endpoint. */
 struct nbt_entry {
     struct nbt_name called;
     bool by_one;              /* `calling` alone may call */
@@ -482,11 +543,12 @@ struct nbt_entry {
     bool elsewhere;           /* the call is to be made at `retarget` instead */
     struct nbt_addr retarget; /* read where `elsewhere` is true */
 };
+NBT_ASSERT(sizeof(struct nbt_entry) == 488 && offsetof(struct nbt_entry, retarget) == 480, "nbt: struct nbt_entry");
 
-/* Takes calls by the entry from now on, where no earlier entry takes them. NBT_NO_NAME; NBT_NO_ROOM where 14 stand. */
+/* Accepts calls by the entry from now on, where no earlier entry accepts them. NBT_NO_NAME; NBT_NO_ROOM where 14 stand. */
 uint8_t nbt_listener_listen(struct nbt_listener *listener, const struct nbt_entry *entry);
 
-/* Takes away all entries of the name. NBT_NO_NAME. */
+/* Removes all entries of the name. NBT_NO_NAME. */
 uint8_t nbt_listener_unlisten(struct nbt_listener *listener, const struct nbt_name *called);
 
 /*
@@ -503,30 +565,38 @@ uint8_t nbt_listener_on(struct nbt_listener *listener, struct nbt_node *node, ui
 /*
  * A server: `memory` leads to nbt_server_size() octets, aligned to nbt_server_align(), which are the server's from its start to its
  * end and which no one else reads or writes. The program sets `memory` before the start and copies no struct nbt_server. For its
- * leases the server asks malloc and realloc, which align as C says, and gives back to free: nbt_server_on_datagram does, and
- * nbt_server_row for as long as it runs; nbt_server_end gives back all. None of these calls is made from a signal handler. All other
+ * leases the server calls malloc and realloc, which align as C says, and free: nbt_server_on_datagram does, and nbt_server_row
+ * while it runs; nbt_server_end frees all. None of these calls is made from a signal handler. All other
  * calls are for a server that was started and has not ended.
  */
 struct nbt_server {
     void *memory;
 };
 
+/* A server's memory: what the two functions return, and a type of that size and alignment, so that it can be static. */
+#define NBT_SERVER_SIZE 184
+#define NBT_SERVER_ALIGN 8
+union nbt_server_memory {
+    uint64_t aligned;
+    uint8_t octets[NBT_SERVER_SIZE];
+};
+NBT_ASSERT(sizeof(union nbt_server_memory) == NBT_SERVER_SIZE, "nbt: union nbt_server_memory");
 size_t nbt_server_size(void);
 size_t nbt_server_align(void);
 
 /* A server without leases. It is silent until the longest lease has passed since its start. NBT_CONFIG_*; NBT_NO_MOMENT. */
 uint8_t nbt_server_start(struct nbt_server *server, struct nbt_config config, uint64_t now);
 
-/* Gives back the memory that the server took. `memory` is the program's again. */
+/* Frees the memory that the server allocated. `memory` is the program's again. */
 void nbt_server_end(struct nbt_server *server);
 
-/* Why a server doesn't take a datagram (our profile). */
+/* Why a server doesn't handle a datagram (our profile). */
 enum {
     NBT_SERVER_CLOCK_BACK = 1,   /* `now` is before the start, or before an earlier datagram that was not refused so */
-    NBT_SERVER_OUT_OF_MEMORY = 2 /* malloc refused: the live leases are as before */
+    NBT_SERVER_OUT_OF_MEMORY = 2 /* the live leases are as before */
 };
 
-/* Takes a datagram that came from `from`. Writes *size: how many octets of `out` are the reply to `from`, or 0. NBT_NO_MOMENT;
+/* Handles a datagram that came from `from`. Writes *size: how many octets of `out` are the reply to `from`, or 0. NBT_NO_MOMENT;
  * NBT_SERVER_*. */
 uint8_t nbt_server_on_datagram(struct nbt_server *server, uint64_t now, struct nbt_addr from, const uint8_t *octets,
                                size_t octets_size, uint8_t out[NBT_PACKET], size_t *size);
@@ -535,8 +605,9 @@ uint8_t nbt_server_on_datagram(struct nbt_server *server, uint64_t now, struct n
 struct nbt_lease {
     uint32_t ip;  /* of the machine that holds the name */
     uint8_t kind; /* 1 as one machine's, 2 as a group's */
-    uint64_t end; /* in milliseconds: the lease lives before it */
+    uint64_t end; /* when it expires, in milliseconds: the lease lives before that */
 };
+NBT_ASSERT(sizeof(struct nbt_lease) == 16 && offsetof(struct nbt_lease, kind) == 4, "nbt: struct nbt_lease");
 
 /*
  * Writes *lease: of the name's leases that live at `now`, in order of their beginnings, number `which`, counted from 0. Else nothing
@@ -546,8 +617,8 @@ uint8_t nbt_server_lease(struct nbt_server *server, uint64_t now, const struct n
 
 /*
  * Writes *name and *lease: of all leases of all names, number `which`, counted from 0. Those of one name stand together, in order of
- * their beginnings. A lease that is over may stand among them: its `end` is not after the moment then. The numbers stay until the
- * next datagram. Asks malloc for a list of all of them, and gives it back. Else nothing is written: NBT_SERVER_OUT_OF_MEMORY;
+ * their beginnings. An expired lease may stand among them: its `end` is not after the time then. The numbers stay until the
+ * next datagram. Allocates a list of all of them, and frees it. Else nothing is written: NBT_SERVER_OUT_OF_MEMORY;
  * NBT_NO_LEASE where there are no more.
  */
 uint8_t nbt_server_row(struct nbt_server *server, size_t which, struct nbt_name *name, struct nbt_lease *lease);

@@ -3,7 +3,8 @@
  *
  *     nbns ADDRESS [PORT [LONGEST]]        nbns 10.0.0.1
  *
- * Port 137 needs rights. LONGEST is the longest lease in seconds, 3600 where none is given: so long the server is silent at first.
+ * Port 137 needs privileges. LONGEST is the longest lease in seconds, 3600 if it isn't given. The server answers nothing until that
+ * time has passed since its start, so that no lease of an earlier run can still be alive; it says so, and when it begins to answer.
  */
 #define _POSIX_C_SOURCE 200809L
 #include <arpa/inet.h>
@@ -29,7 +30,7 @@ static uint64_t milliseconds(void) {
     return (uint64_t)now.tv_sec * 1000 + (uint64_t)now.tv_nsec / 1000000;
 }
 
-/* Takes one datagram, and sends the reply, if any. */
+/* Handles one datagram, and sends the reply, if any. */
 static void hear(struct nbt_server *server, int port) {
     uint8_t octets[2048], out[NBT_PACKET];
     struct sockaddr_in end;
@@ -64,16 +65,25 @@ int main(int count, char **words) {
     sigaction(SIGINT, &action, 0);
     sigaction(SIGTERM, &action, 0);
 
-    struct nbt_server server = {aligned_alloc(nbt_server_align(), nbt_server_size())};
-    if (server.memory == 0 || nbt_server_start(&server, config, milliseconds()) != NBT_DONE)
+    static union nbt_server_memory memory;
+    struct nbt_server server = {&memory};
+    uint64_t started = milliseconds();
+    bool silent = true;
+    if (nbt_server_start(&server, config, started) != NBT_DONE)
         return 1;
+    printf("silent for %u seconds\n", (unsigned)config.longest);
+    fflush(stdout);
     while (!stopped) {
+        if (silent && milliseconds() >= started + (uint64_t)config.longest * 1000) {
+            silent = false;
+            printf("answering\n");
+            fflush(stdout);
+        }
         struct pollfd wait = {.fd = port, .events = POLLIN};
         if (poll(&wait, 1, 1000) == 1)
             hear(&server, port);
     }
     nbt_server_end(&server);
-    free(server.memory);
     close(port);
     return 0;
 }

@@ -1,9 +1,10 @@
 /*
- * An end node on poll(2): asks a name server for a name, holds it, answers status requests, and gives it back at SIGINT or SIGTERM.
+ * A node on poll(2): registers a name at a name server, holds it, answers status requests, and releases it at SIGINT or SIGTERM.
+ * A name that is refused, lost or freed is requested again after 10 seconds, and one that got no reply as soon as the node gives up.
  *
  *     node NAME OWN SERVER [PORT]        node 'FILER#20' 10.0.0.5 10.0.0.1
  *
- * Port 137 needs rights; with PORT both ends are there.
+ * Port 137 needs privileges. With PORT, node and server both use that port.
  */
 #define _POSIX_C_SOURCE 200809L
 #include <arpa/inet.h>
@@ -16,6 +17,9 @@
 #include <sys/socket.h>
 #include <time.h>
 #include <unistd.h>
+
+/* How long to wait before a name is requested again that was refused, lost or freed, in milliseconds. */
+#define REST 10000
 
 static volatile sig_atomic_t stopped;
 
@@ -45,24 +49,39 @@ static void poll_node(struct nbt_node *node, int port) {
         send_to(port, to, out, size);
 }
 
-/* Takes one datagram. */
-static void hear(struct nbt_node *node, int port) {
+/* Handles one datagram. Returns what it was to the node. */
+static uint8_t hear(struct nbt_node *node, int port) {
     static const char *const words[] = {"nothing", "replied", "granted", "renewed", "refused", "lost", "freed", "wait", "found", "not found", "status"};
     uint8_t octets[2048], lent[2048], out[NBT_PACKET];
     struct sockaddr_in end;
     socklen_t end_size = sizeof end;
     ssize_t count = recvfrom(port, octets, sizeof octets, 0, (struct sockaddr *)&end, &end_size);
     if (count < 0)
-        return;
+        return NBT_EVENT_NOTHING;
     struct nbt_addr from = {ntohl(end.sin_addr.s_addr), ntohs(end.sin_port)};
     struct nbt_event event;
     size_t size;
     if (nbt_node_on_datagram(node, milliseconds(), from, octets, (size_t)count, &event, lent, sizeof lent, out, &size) != NBT_DONE)
-        return;
+        return NBT_EVENT_NOTHING;
     send_to(port, from, out, size);
     if (event.kind != NBT_EVENT_NOTHING)
         printf("%s\n", words[event.kind]);
     fflush(stdout);
+    return event.kind;
+}
+
+/*
+ * Requests the name where the node allows it: not right after the start, while the name rests, and not while it is requested or held.
+ * So a request that got no reply, three times within 15 seconds, is made again.
+ */
+static void request(struct nbt_node *node, int port, struct nbt_addr server, const struct nbt_name *name) {
+    uint8_t out[NBT_PACKET];
+    size_t size;
+    if (nbt_node_ask(node, milliseconds(), name, NBT_UNIQUE, 0, out, &size) != NBT_DONE)
+        return;
+    printf("requested\n");
+    fflush(stdout);
+    send_to(port, server, out, size);
 }
 
 int main(int count, char **words) {
@@ -87,22 +106,21 @@ int main(int count, char **words) {
     sigaction(SIGTERM, &action, 0);
 
     struct nbt_config config = {.life = 1000, .longest = 3600, .rows = 4096};
-    struct nbt_node node = {aligned_alloc(nbt_node_align(), nbt_node_size())};
-    if (node.memory == 0 || nbt_node_start(&node, own, server, config, milliseconds()) != NBT_DONE)
+    static union nbt_node_memory memory;
+    struct nbt_node node = {&memory};
+    if (nbt_node_start(&node, own, server, config, milliseconds()) != NBT_DONE)
         return 1;
 
     uint8_t out[NBT_PACKET];
-    bool asked = false;
+    uint64_t request_from = 0;
     while (!stopped) {
-        /* Right after the start the name rests: it is asked for as soon as the node allows it. */
-        if (!asked && nbt_node_ask(&node, milliseconds(), &name, NBT_UNIQUE, 0, out, &size) == NBT_DONE) {
-            asked = true;
-            send_to(port, server, out, size);
-        }
+        if (milliseconds() >= request_from)
+            request(&node, port, server, &name);
         poll_node(&node, port);
         struct pollfd wait = {.fd = port, .events = POLLIN};
-        if (poll(&wait, 1, 250) == 1)
-            hear(&node, port);
+        uint8_t event = poll(&wait, 1, 250) == 1 ? hear(&node, port) : (uint8_t)NBT_EVENT_NOTHING;
+        if (event == NBT_EVENT_REFUSED || event == NBT_EVENT_LOST || event == NBT_EVENT_FREED)
+            request_from = milliseconds() + REST;
     }
     if (nbt_node_release(&node, milliseconds(), &name, out, &size) == NBT_DONE) {
         send_to(port, server, out, size);
@@ -111,6 +129,5 @@ int main(int count, char **words) {
             hear(&node, port);
     }
     close(port);
-    free(node.memory);
     return 0;
 }

@@ -2,10 +2,16 @@
 mod Calls
 -- A call of a session sends requests alone.
 mod Calling
+-- What crosses to C lies there as the header declares it.
+mod Crossing
 -- Forms of a name, and the dot before a scope's labels.
 mod Forms
 -- Session packets in octets.
 mod Framed
+-- The handle of each object.
+mod Handles
+-- A value in C's memory, of whatever type: it is put there, and borrowed.
+mod InMemory
 -- A listener sends no message.
 mod Listened
 -- The packets that data are split into have room.

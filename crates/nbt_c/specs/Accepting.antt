@@ -14,7 +14,7 @@ pub data AcceptsFor (old : JoinerValue) (now : ℕ) (node : NodeValue) (own : Ad
   accepts : (outcome : AcceptValue) (sent : List ℕ) (new : JoinerValue) → now ≤ last_moment → Accepts old now node own octets outcome sent new → AcceptsFor old now node own octets 0 outcome sent new
   has_no_moment : last_moment < now → AcceptsFor old now node own octets no_moment nothing [] old
 
--- what an outcome is told as: its kind, and what that names; all else stays
+-- what an outcome is reported as: its kind, and what that names; all else stays
 abbrev pub accept_after : CAccept → AcceptValue → CAccept
 accept_after before nothing = record before { kind = 0 }
 accept_after before (up names payload) = record before { kind = 1; source = stored names.source; destination = stored names.destination; size = length payload }

@@ -1,4 +1,4 @@
--- What the calls of the end that calls a session answer.
+-- What the calls of the calling endpoint of a session answer.
 use Rattle.std.specs.Prelude.{◌≡◌, ◌≢◌, ℕ, List, [], Option, Some, None}
 use Rattle.nbt_name.specs.declared.addr.Addr.{Addr}
 use Rattle.nbt_session.specs.declared.caller.CallerState.TheVariants.{Connecting}
@@ -18,7 +18,7 @@ use Rattle.nbt_c.specs.Names.{HoldsName, name_in}
 use Rattle.nbt_c.specs.Sending.{no_kind}
 use Rattle.nbt_c.specs.Writing.{no_name}
 
--- a packet that C tells of; of a message that it is one, and its octets stay with the program
+-- a packet that C passes; of a message that it is one, and its octets stay with the program
 pub data IsPacketIn (held : CPacket) : PacketValue → Type 0 where
   is_message : held.kind ≡ octet_of Message → IsPacketIn held (message [])
   is_request : held.kind ≡ octet_of Request → HoldsName held.called → HoldsName held.calling → IsPacketIn held (request (name_in held.called) (name_in held.calling))
@@ -43,7 +43,7 @@ pub data EventFault (happened : ℕ) (held : CPacket) : ℕ → Type 0 where
   is_none : happened ≢ 0 → happened ≢ 1 → happened ≢ 2 → EventFault happened held no_kind
   packet_bad : (number : ℕ) → happened ≡ 1 → PacketFault held number → EventFault happened held number
 
--- what an answer is told as: its kind, and what that names; all else stays
+-- what an answer is reported as: its kind, and what that names; all else stays
 abbrev pub with_failure : CAnswer → Failure → CAnswer
 with_failure before NoConnection = before
 with_failure before (Refused code) = record before { code = code }

@@ -16,7 +16,7 @@ use Rattle.nbt_c.specs.Names.{HoldsName, name_in, stored}
 use Rattle.nbt_c.specs.Sending.{no_kind}
 use Rattle.nbt_c.specs.Writing.{no_name}
 
--- What a datagram is told as: what its kind names; all else stays. The data begin behind the 14 octets of a head with DGM_LENGTH
+-- What a datagram is reported as: what its kind names; all else stays. The data begin behind the 14 octets of a head with DGM_LENGTH
 -- and PACKET_OFFSET, and behind the names.
 abbrev pub with_part : CDgram → Part → CDgram
 with_part before (First names) = record before { first = true; offset = 0; source = stored names.source; destination = stored names.destination }

@@ -1,4 +1,4 @@
--- Ends of the network as C passes them.
+-- Endpoints as C passes them.
 use Rattle.std.specs.Prelude.{ℕ}
 use Rattle.nbt_name.specs.declared.addr.Addr.{Addr}
 use Rattle.nbt_name.specs.declared.addr.Kind.{Kind}

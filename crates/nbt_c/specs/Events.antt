@@ -1,4 +1,4 @@
--- What a node tells a program in C.
+-- What a node reports to a program in C.
 use Rattle.std.specs.Prelude.{ℕ, Bool, false, List, [], length}
 use Rattle.nbt_node.specs.Moves.{Told, nothing, replied, is_granted, is_renewed, is_refused, is_lost, is_freed, waits, finds, finds_none, lists}
 use Rattle.nbt_c.specs.declared.event.CEvent.{CEvent}

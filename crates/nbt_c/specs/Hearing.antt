@@ -1,4 +1,4 @@
--- What the calls by which a node in C's memory hears, polls and is asked for its names answer.
+-- What the calls by which a node in C's memory handles datagrams, polls and tells its names answer.
 use Rattle.std.specs.Prelude.{ℕ, ◌<◌, ◌≤◌, List, [], Option, Some, None}
 use Rattle.nbt_name.specs.declared.addr.Addr.{Addr}
 use Rattle.nbt_name.specs.declared.addr.Kind.{Kind}
@@ -23,7 +23,7 @@ pub data Hears (old : NodeValue) (now : ℕ) (from : Addr) (octets : List ℕ) :
   is_late : now ≤ last_moment → now < old.last → Hears old now from octets clock_back old nothing []
   has_no_moment : last_moment < now → Hears old now from octets no_moment old nothing []
 
--- the end that a poll names stands where the caller asked for it; where nothing is sent, what stood there stays
+-- the endpoint that a poll names stands where the caller asked for it; where nothing is sent, what stood there stays
 abbrev pub end_after : CAddr → Option Addr → CAddr
 end_after before None = before
 end_after before (Some to) = addr_for to

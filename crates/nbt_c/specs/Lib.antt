@@ -13,5 +13,6 @@ pub mod Naming
 pub mod Sending
 pub mod Serving
 pub mod Sessions
+pub mod Sizes
 pub mod Starting
 pub mod Writing

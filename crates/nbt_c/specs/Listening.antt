@@ -1,4 +1,4 @@
--- What the calls of the end that listens answer.
+-- What the calls of the listening endpoint answer.
 use Rattle.std.specs.Prelude.{◌≡◌, ◌≢◌, ℕ, ◌<◌, ◌≤◌, Bool, true, false, if◌then◌else◌, List, [], ◌∷◌, ◌++◌, length, replicate, Option, Some, None}
 use Rattle.nbt_name.specs.Wire.{NameValue}
 use Rattle.nbt_lease.specs.Config.{last_moment}
@@ -55,7 +55,7 @@ pub data StopsListening (called : CName) (old : ListenerValue) : ℕ → Listene
 
 -- ---- connections
 
--- what an answer is told as: its kind alone
+-- what an answer is reported as: its kind alone
 abbrev pub kind_of : ListenerAnswerValue → ℕ
 kind_of nothing = 0
 kind_of (send packet) = 2

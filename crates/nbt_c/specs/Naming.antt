@@ -28,7 +28,7 @@ abbrev pub case_of : (exact : Bool) → Case
 case_of true = Exact
 case_of false = Folded
 
--- the number that a fault tells
+-- the number that a fault has
 abbrev pub place_in : Fault → ℕ
 place_in (f.Long count) = count
 place_in (f.Character place) = place

@@ -16,7 +16,7 @@ use Rattle.nbt_c.specs.declared.name.CName.{CName}
 use Rattle.nbt_c.specs.Names.{HoldsName, name_in}
 use Rattle.nbt_c.specs.Writing.{no_name}
 
--- what a call returns where a moment is above 2^60, and where a kind is none (our profile)
+-- what a call returns where a time is above 2^60, and where a kind is none (our profile)
 abbrev pub no_moment : ℕ
 no_moment = 253
 
@@ -32,7 +32,7 @@ pub record Puts (octets before after : List ℕ) (size : ℕ) : Type 0 where
   pub after_is : after ≡ octets ++ drop (length octets) before
   pub size_is : size ≡ length octets
 
--- as many of them as have room
+-- as many of them as fit
 abbrev pub PutsMost : (octets before after : List ℕ) → Type 0
 PutsMost octets before after = after ≡ take (length before) octets ++ drop (length octets) before
 

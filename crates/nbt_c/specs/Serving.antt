@@ -43,7 +43,7 @@ pub data ServesFor (old : ServerValue) (now : ℕ) (from : Addr) (octets : List 
 abbrev pub lease_for : Lease → CLease
 lease_for lease = record { ip = lease.addr; kind = kind_number lease.kind; end = lease.end }
 
--- the lease that a call tells stands where the caller asked for it; where it tells none, what stood there stays
+-- the lease that a call reports stands where the caller asked for it; where it reports none, what stood there stays
 abbrev pub lease_after : CLease → Option Lease → CLease
 lease_after before None = before
 lease_after before (Some lease) = lease_for lease
@@ -57,7 +57,7 @@ pub data TellsLease (server : ServerValue) (now : ℕ) (held : CName) (which : �
   has_no_name : now ≤ last_moment → ¬ HoldsName held → TellsLease server now held which no_name None
   has_no_moment : last_moment < now → TellsLease server now held which no_moment None
 
--- a row of the table that a call tells stands where the caller asked for its name and its lease
+-- a row of the table that a call reports stands where the caller asked for its name and its lease
 abbrev pub name_of_row : CName → Option (NameValue × Lease) → CName
 name_of_row before None = before
 name_of_row before (Some row) = stored row.0

@@ -10,7 +10,7 @@ use Rattle.nbt_c.specs.declared.pieces.CPart.{CPart}
 use Rattle.nbt_c.specs.Ends.{addr_for}
 use Rattle.nbt_c.specs.Names.{stored}
 
--- what a packet is told as: its kind, and what that names; all else stays
+-- what a packet is reported as: its kind, and what that names; all else stays
 abbrev pub with_fields : CPacket → PacketValue → CPacket
 with_fields before (message octets) = before
 with_fields before (request called calling) = record before { called = stored called; calling = stored calling }
@@ -22,7 +22,7 @@ with_fields before keep_alive = before
 abbrev pub packet_after : CPacket → PacketValue → CPacket
 packet_after before packet = record (with_fields before packet) { kind = octet_of (type_of packet) }
 
--- what a part is told as
+-- what a part is reported as
 abbrev pub part_after : CPart → Option PartValue → CPart
 part_after before None = record before { kind = 0 }
 part_after before (Some (message_start size)) = record before { kind = 1; size = size }

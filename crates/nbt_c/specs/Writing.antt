@@ -7,7 +7,7 @@ use Rattle.nbt_text.specs.ScopedNames.{dotted}
 use Rattle.nbt_c.specs.declared.name.CName.{CName}
 use Rattle.nbt_c.specs.Names.{HoldsName, name_in}
 
--- what a call returns where a name is due and none is held, and where octets have no room (our profile)
+-- what a call returns where a name is due and none is held, and where a buffer is too small (our profile)
 abbrev pub no_name : ℕ
 no_name = 255
 

@@ -7,6 +7,7 @@ ghost use Rattle.nbt_node.specs.Node.{NodeValue};
 ghost use Rattle.nbt_c.specs.Accepting.{AcceptsFor, accept_after, data_of};
 ghost use Rattle.nbt_c.specs.Ends.{addr_of};
 ghost use Rattle.nbt_c.specs.Sending.{Puts, PutsMost};
+ghost use Rattle.nbt_c.specs.Sizes.{joiner_size, object_align};
 
 use crate::ends::CAddr;
 use crate::held::{CJoiner, CNode};
@@ -40,7 +41,7 @@ pub struct CAccept {
 }
 
 impl CAccept {
-    /// Tells it.
+    /// Reports it.
     fn tell(&mut self, outcome: &Accept<'_>)
         ensures { self.new ≡ accept_after self.old (accept_of outcome.now) }
     {
@@ -66,7 +67,7 @@ impl CAccept {
     }
 }
 
-/// Puts as many of the data as have room, if there are any.
+/// Puts as many octets of the data as fit, if there are any.
 fn put_data(outcome: &Accept<'_>, data: &mut [u8])
     ensures { PutsMost (data_of (accept_of outcome.now)) data.old data.new }
 {
@@ -76,20 +77,23 @@ fn put_data(outcome: &Accept<'_>, data: &mut [u8])
     }
 }
 
-/// How many octets of memory a joiner takes.
+/// The size of a joiner's memory in octets.
 #[unsafe(no_mangle)]
-pub extern "C" fn nbt_joiner_size() -> usize {
+pub extern "C" fn nbt_joiner_size() -> usize
+    ensures { result ≡ joiner_size }
+{
     size_of::<Joiner<4>>()
 }
 
-/// How that memory is aligned.
+/// The alignment of that memory in octets.
 #[unsafe(no_mangle)]
-pub extern "C" fn nbt_joiner_align() -> usize {
+pub extern "C" fn nbt_joiner_align() -> usize
+    ensures { result ≡ object_align }
+{
     align_of::<Joiner<4>>()
 }
 
-/// `nbt_dgram::Joiner::new`: a joiner of 4 slots without unfinished datagrams stands in the memory. That the memory is room for one,
-/// and none stands there, is the caller's.
+/// `nbt_dgram::Joiner::new`: a joiner of 4 slots without unfinished datagrams stands in the memory.
 #[unsafe(no_mangle)]
 pub extern "C" fn nbt_joiner_start(joiner: &mut CJoiner)
     requires { IsNone joiner.old.joiner }
@@ -98,7 +102,7 @@ pub extern "C" fn nbt_joiner_start(joiner: &mut CJoiner)
     joiner.put(Joiner::new());
 }
 
-/// `nbt_dgram::accept`, of what C passes.
+/// Calls `nbt_dgram::accept` with what C passes.
 fn hand(
     joiner: &mut Joiner<4>,
     now: u64,
@@ -124,10 +128,10 @@ fn hand(
     0
 }
 
-/// `nbt_dgram::accept`: what the octets of one datagram, which came at `now`, mean for the node, whose datagrams come to `own`. 0, and
-/// `told` says it; of up, the first octets of the data stand in `data`, as many as have room; of reply, the error packet stands at
-/// the front of `out`, `size` being how many octets it has, else 0. 253 where `now` is above 2^60 ms: nothing, and the joiner
-/// stays as it was. The node stays. That joiner and node stand in their memory is the caller's.
+/// `nbt_dgram::accept`: what the octets of one datagram, which came at `now`, mean for the node, whose datagrams come to `own`. 0,
+/// and `told` says it; of up, the first octets of the data stand in `data`, as many as fit; of reply, the error packet stands at
+/// the front of `out`, `size` being how many octets it has, else 0. 253 where `now` is above 2^60 ms: nothing, and the joiner stays
+/// as it was. The node stays.
 #[unsafe(no_mangle)]
 pub extern "C" fn nbt_datagram_accept(
     joiner: &mut CJoiner,

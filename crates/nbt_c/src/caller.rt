@@ -1,4 +1,4 @@
-//! The end that calls a session, in C's memory (RFC 1002 section 5.2.1).
+//! The calling endpoint of a session, in C's memory (RFC 1002 section 5.2.1).
 
 ghost use Rattle.std.specs.Prelude.{◌≡◌, Some, IsSome, IsNone, IfOk, IfErr};
 ghost use Rattle.nbt_session.specs.declared.packet.PacketType.TheVariants.{Request};
@@ -8,6 +8,7 @@ ghost use Rattle.nbt_session.specs.Packet.{PacketValue, packet_of, text, type_of
 ghost use Rattle.nbt_c.specs.Calling.{Begins, CallsFor, IsEvent, EventFault, answer_after, sent_by};
 ghost use Rattle.nbt_c.specs.Ends.{addr_of};
 ghost use Rattle.nbt_c.specs.Sending.{Puts};
+ghost use Rattle.nbt_c.specs.Sizes.{caller_size, object_align};
 
 use crate::ends::CAddr;
 use crate::framing::write_names;
@@ -20,7 +21,7 @@ use arrayvec::ArrayVec;
 use nbt_session::{Caller, CallerAnswer, Event, Failure, Packet};
 use std::alloc::Global;
 
-/// What the end that calls does next, as C sees it. A field that its kind doesn't name stays as it was.
+/// What the calling endpoint does next, as C sees it. A field that its kind doesn't name stays as it was.
 #[repr(C)]
 #[derive(Drop)]
 pub struct CAnswer {
@@ -37,7 +38,7 @@ pub struct CAnswer {
 impl CAnswer {
     ghost use Rattle.nbt_c.specs.Calling.{with_failure};
 
-    /// Tells it.
+    /// Reports it.
     fn tell(&mut self, answer: &CallerAnswer)
         ensures { self.new ≡ answer_after self.old (answer_of answer.now) }
     {
@@ -59,7 +60,7 @@ impl CAnswer {
         }
     }
 
-    /// Tells with which code a call was refused.
+    /// Reports the code with which a call was refused.
     fn tell_failure(&mut self, failure: Failure)
         ensures { self.new ≡ with_failure self.old failure }
     {
@@ -72,20 +73,24 @@ impl CAnswer {
     }
 }
 
-/// How many octets of memory a call takes.
+/// The size of a call's memory in octets.
 #[unsafe(no_mangle)]
-pub extern "C" fn nbt_caller_size() -> usize {
+pub extern "C" fn nbt_caller_size() -> usize
+    ensures { result ≡ caller_size }
+{
     size_of::<Caller>()
 }
 
-/// How that memory is aligned.
+/// The alignment of that memory in octets.
 #[unsafe(no_mangle)]
-pub extern "C" fn nbt_caller_align() -> usize {
+pub extern "C" fn nbt_caller_align() -> usize
+    ensures { result ≡ object_align }
+{
     align_of::<Caller>()
 }
 
-/// `nbt_session::Caller::begin`: a call to `called` by `calling` stands in the memory, and the program connects to `to`. 0; else none
-/// does: 255 where `called` or `calling` holds no name. That the memory is room for a call, and none stands there, is the caller's.
+/// `nbt_session::Caller::begin`: a call to `called` by `calling` stands in the memory, and the program connects to `to`. 0; else
+/// none does: 255 where `called` or `calling` holds no name.
 #[unsafe(no_mangle)]
 pub extern "C" fn nbt_caller_begin(
     caller: &mut CCaller,
@@ -129,13 +134,8 @@ fn put_sent(answer: &CallerAnswer, out: &mut ArrayVec<u8, 576>)
     ensures { out.new.items ≡ sent_by (answer_of answer.now) }
 {
     match answer {
-        CallerAnswer::Nothing => out.clear(),
-        CallerAnswer::Connect(_) => out.clear(),
         CallerAnswer::Send(packet) => put_request(packet, out),
-        CallerAnswer::Open => out.clear(),
-        CallerAnswer::Up(_) => out.clear(),
-        CallerAnswer::Closed => out.clear(),
-        CallerAnswer::Fail(_) => out.clear(),
+        _ => out.clear(),
     }
 }
 
@@ -144,19 +144,12 @@ fn put_request(packet: &Packet, out: &mut ArrayVec<u8, 576>)
     requires { type_of (packet_of packet.now) ≡ Request }
     ensures { out.new.items ≡ text (packet_of packet.now) }
 {
-    match packet {
-        Packet::Message(_) => {}
-        Packet::Request { called, calling } => {
-            write_names(called, calling, out);
-        }
-        Packet::Positive => {}
-        Packet::Negative(_) => {}
-        Packet::Retarget(_) => {}
-        Packet::KeepAlive => {}
+    if let Packet::Request { called, calling } = packet {
+        write_names(called, calling, out);
     }
 }
 
-/// `nbt_session::Caller::on`, of what C passes.
+/// Calls `nbt_session::Caller::on` with what C passes.
 fn call(
     alloc: Global,
     caller: &mut Caller,
@@ -183,11 +176,11 @@ fn call(
     }
 }
 
-/// `nbt_session::Caller::on`: what the call does when something happens to its connection: 0 the connection stands, 1 `packet` came, 2
-/// the connection is gone, couldn't be had, or its stream has a fault. Of a message it is told alone that it came: its octets are the
-/// program's. 0, and `told` says what is to be done; of send, the packet stands at the front of `out`, `size` being how many octets it
-/// has, else 0. Refused, the call staying as it was, `told` being nothing and `size` 0: 252 where `happened` is none of these or the
-/// packet's kind is no TYPE, 255 where a name of a request holds none. That a call stands in the memory is the caller's.
+/// `nbt_session::Caller::on`: what the call does when something happens to its connection: 0 the connection stands, 1 `packet`
+/// came, 2 the connection is gone, couldn't be had, or its stream has a fault. Of a message only its kind is read: its octets are
+/// the program's. 0, and `told` says what is to be done; of send, the packet stands at the front of `out`, `size` being how many
+/// octets it has, else 0. Refused, the call staying as it was, `told` being nothing and `size` 0: 252 where `happened` is none of
+/// these or the packet's kind is no TYPE, 255 where a name of a request holds none.
 #[unsafe(no_mangle)]
 pub extern "C" fn nbt_caller_on(
     alloc: Global,

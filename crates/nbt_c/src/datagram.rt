@@ -46,7 +46,7 @@ impl CDgram {
     ghost use Rattle.nbt_dgram.specs.Dgram.{body_of, dgram_of};
     ghost use Rattle.nbt_c.specs.Datagrams.{with_part, with_body, dgram_after};
 
-    /// Tells it.
+    /// Reports it.
     fn tell(&mut self, dgram: &Dgram<'_>)
         ensures { self.new ≡ dgram_after self.old (dgram_of dgram.now) }
     {
@@ -56,7 +56,7 @@ impl CDgram {
         self.from = CAddr::of(dgram.source);
     }
 
-    /// Tells what stands after the ten octets that each datagram begins with.
+    /// Reports what stands after the ten octets that each datagram begins with.
     fn tell_body(&mut self, body: &Body<'_>)
         ensures { self.new ≡ with_body self.old (body_of body.now) }
     {
@@ -72,7 +72,7 @@ impl CDgram {
         }
     }
 
-    /// Tells where a fragment stands, and its names.
+    /// Reports where a fragment stands, and its names.
     fn tell_part(&mut self, part: &Part)
         ensures { self.new ≡ with_part self.old part.now }
     {
@@ -115,7 +115,7 @@ pub extern "C" fn nbt_datagram_read(octets: &[u8], told: &mut CDgram, next: &mut
     tell(&decode(octets), told, next)
 }
 
-/// Tells what was read: 0, the datagram and how many octets it has, or the fault's number and its place.
+/// Reports what was read: 0, the datagram and how many octets it has, or the fault's number and its place.
 fn tell(read: &Result<(Dgram<'_>, usize), DgramFault>, told: &mut CDgram, next: &mut usize) -> u8
     ensures dgram { (d : DgramValue) (count : ℕ) → decoded read.now ≡ Ok (d, count)
         → (result ≡ 0) × (told.new ≡ dgram_after told.old d) × (next.new ≡ count) }

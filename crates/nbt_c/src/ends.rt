@@ -1,11 +1,11 @@
-//! Ends of the network and limits as C passes them.
+//! Endpoints and limits as C passes them.
 
 ghost use Rattle.std.specs.Prelude.{◌≡◌};
 ghost use Rattle.nbt_c.specs.Ends.{kind_number};
 
 use nbt_name::{Addr, Kind};
 
-/// An end of the network as C passes it: a 32-bit address and a port, as numbers of the machine's own order.
+/// An endpoint as C passes it: a 32-bit address and a port, in the machine's byte order.
 #[repr(C)]
 #[derive(Clone, Copy)]
 pub struct CAddr {

@@ -1,4 +1,4 @@
-//! What a node tells a program in C.
+//! What a node reports to a program in C.
 
 ghost use Rattle.std.specs.Prelude.{◌≡◌, false};
 ghost use Rattle.nbt_node.specs.Moves.{told_of};
@@ -79,7 +79,7 @@ impl CEvent {
     }
 }
 
-/// The octets that an event lends, if any.
+/// The octets that an event borrows, if any.
 pub(crate) fn lent_by<'a>(event: &Event<'a>) -> &'a [u8]
     ensures { result.now ≡ lent_by (told_of event.now) }
 {

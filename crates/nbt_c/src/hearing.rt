@@ -21,7 +21,7 @@ use nbt_lease::Moment;
 use nbt_name::{Addr, Kind};
 use nbt_node::{Event, Node};
 
-/// `nbt_node::Node::on_datagram`, of what C passes.
+/// Calls `nbt_node::Node::on_datagram` with what C passes.
 fn hear(
     node: &mut Node<14>,
     now: u64,
@@ -49,11 +49,11 @@ fn hear(
     }
 }
 
-/// `nbt_node::Node::on_datagram`: takes a datagram of these octets, which came at `now` from `from`. 0, and `event` says what
-/// it was to the node; of found and status, the first octets of the entries or names stand in `lent`, as many as have room. A
-/// reply to `from` stands at the front of `out`, `size` being how many octets it has, else 0. Refused, the node staying as it was,
-/// `event` being nothing and `size` 0: 253 where `now` is above 2^60 ms, `ClockBack` (4) where it is before the node's start or
-/// the moment of an earlier call that wasn't refused. That a node stands in the memory is the caller's.
+/// `nbt_node::Node::on_datagram`: handles a datagram of these octets, which came at `now` from `from`. 0, and `event` says what it
+/// was to the node; of found and status, the first octets of the entries or names stand in `lent`, as many as fit. A reply to
+/// `from` stands at the front of `out`, `size` being how many octets it has, else 0. Refused, the node staying as it was, `event`
+/// being nothing and `size` 0: 253 where `now` is above 2^60 ms, `ClockBack` (4) where it is before the node's start or the time of
+/// an earlier call that wasn't refused.
 #[unsafe(no_mangle)]
 pub extern "C" fn nbt_node_on_datagram(
     node: &mut CNode,
@@ -84,7 +84,7 @@ pub extern "C" fn nbt_node_on_datagram(
     result
 }
 
-/// `nbt_node::Node::poll`, of what C passes.
+/// Calls `nbt_node::Node::poll` with what C passes.
 fn poll(node: &mut Node<14>, now: u64, to: &mut CAddr, out: &mut ArrayVec<u8, 576>) -> u8
     ensures { (end : Option End) × PollsNode node.old now result node.new end out.new.items × (to.new ≡ end_after to.old end) }
 {
@@ -102,10 +102,9 @@ fn poll(node: &mut Node<14>, now: u64, to: &mut CAddr, out: &mut ArrayVec<u8, 57
     }
 }
 
-/// `nbt_node::Node::poll`: sends at most one datagram that is due at `now`. 0, and it stands at the front of `out` for the end
-/// in `to`, `size` being how many octets it has; where none is due, `size` is 0 and `to` stays. Whoever polls calls until
-/// `size` is 0. Refused, the node staying as it was and `size` being 0: 253, 4 as by `nbt_node_on_datagram`. That a node stands in
-/// the memory is the caller's.
+/// `nbt_node::Node::poll`: sends at most one datagram that is due at `now`. 0, and it stands at the front of `out` for the endpoint
+/// in `to`, `size` being how many octets it has; where none is due, `size` is 0 and `to` stays. Whoever polls calls until `size` is
+/// 0. Refused, the node staying as it was and `size` being 0: 253, 4 as by `nbt_node_on_datagram`.
 #[unsafe(no_mangle)]
 pub extern "C" fn nbt_node_poll(
     node: &mut CNode,
@@ -124,7 +123,7 @@ pub extern "C" fn nbt_node_poll(
     result
 }
 
-/// `nbt_node::Node::holds`, of what C passes.
+/// Calls `nbt_node::Node::holds` with what C passes.
 fn holds(node: &Node<14>, now: u64, name: &CName, held: &mut u8) -> u8
     ensures { (kind : Option HeldKind) × Holds node.now now name.now result kind × (held.new ≡ held_number kind) }
 {
@@ -148,8 +147,8 @@ fn held_number(kind: Option<Kind>) -> u8
     }
 }
 
-/// `nbt_node::Node::holds`: how the node holds the name at `now`. 0, and `held` is 0 where it doesn't, 1 as one machine's and 2 as a
-/// group's. Else `held` is 0: 253, 255 as by `nbt_node_ask`. The node stays. That a node stands in the memory is the caller's.
+/// `nbt_node::Node::holds`: how the node holds the name at `now`. 0, and `held` is 0 where it doesn't, 1 as one machine's and 2 as
+/// a group's. Else `held` is 0: 253, 255 as by `nbt_node_ask`. The node stays.
 #[unsafe(no_mangle)]
 pub extern "C" fn nbt_node_holds(node: &mut CNode, now: u64, name: &CName, held: &mut u8) -> u8
     requires { IsSome node.old.node }

@@ -1,4 +1,6 @@
 //! A node, a name server, a joiner of datagrams, a session's stream, a call, or a listener, in the memory of a program in C.
+//!
+//! A handle says where the memory is and, as far as contracts see, what stands there, if anything.
 
 ghost use Rattle.std.specs.Prelude.{◌≡◌, Option, Some, IsSome, IsNone};
 ghost use Rattle.std.specs.Borrow.{sem};
@@ -15,8 +17,7 @@ use nbt_server::Server;
 use nbt_session::{Caller, Listener, Pieces};
 use std::marker::Model;
 
-/// A node in C's memory: where the memory is, and, as far as contracts see, which node stands there, if any. Before a node is
-/// started the memory is room for one.
+/// A node of 14 slots in C's memory.
 #[repr(C)]
 pub struct CNode {
     at: *mut u8,
@@ -32,7 +33,7 @@ impl Model for CNode {
 impl CNode {
     ghost use Rattle.nbt_c.specs.Lending.{LendsNode};
 
-    /// Puts a node into the room.
+    /// Puts a node into the memory.
     pub(crate) fn put(&mut self, node: Node<14>)
         requires { IsNone self.old.node }
         ensures { self.new.node ≡ Some node }
@@ -50,8 +51,7 @@ impl CNode {
     }
 }
 
-/// A name server in C's memory: where the memory is, and, as far as contracts see, which server stands there, if any. Before a
-/// server is started the memory is room for one, and after its end again.
+/// A name server in C's memory.
 #[repr(C)]
 pub struct CServer {
     at: *mut u8,
@@ -68,7 +68,7 @@ impl CServer {
     ghost use Rattle.std.specs.Prelude.{None};
     ghost use Rattle.nbt_c.specs.Lending.{LendsServer};
 
-    /// Puts a server into the room.
+    /// Puts a server into the memory.
     pub(crate) fn put(&mut self, server: Server)
         requires { IsNone self.old.server }
         ensures { self.new.server ≡ Some server }
@@ -85,7 +85,7 @@ impl CServer {
         unsafe { &mut *(self.at as *mut Server) }
     }
 
-    /// Takes the server out; the memory is room again.
+    /// Takes the server out of the memory.
     pub(crate) fn take(&mut self) -> Server
         requires { IsSome self.old.server }
         ensures { (self.old.server ≡ Some result) × (self.new.server ≡ None) }
@@ -94,8 +94,7 @@ impl CServer {
     }
 }
 
-/// A joiner of 4 slots in C's memory: where the memory is, and, as far as contracts see, which joiner stands there, if any. Before
-/// one is started the memory is room for it.
+/// A joiner of 4 slots in C's memory.
 #[repr(C)]
 pub struct CJoiner {
     at: *mut u8,
@@ -111,7 +110,7 @@ impl Model for CJoiner {
 impl CJoiner {
     ghost use Rattle.nbt_c.specs.Lending.{LendsJoiner};
 
-    /// Puts a joiner into the room.
+    /// Puts a joiner into the memory.
     pub(crate) fn put(&mut self, joiner: Joiner<4>)
         requires { IsNone self.old.joiner }
         ensures { self.new.joiner ≡ Some joiner }
@@ -129,8 +128,7 @@ impl CJoiner {
     }
 }
 
-/// A session's stream in C's memory: where the memory is, and, as far as contracts see, which stream stands there, if any. Before one
-/// is started the memory is room for it.
+/// A session's stream in C's memory.
 #[repr(C)]
 pub struct CPieces {
     at: *mut u8,
@@ -146,7 +144,7 @@ impl Model for CPieces {
 impl CPieces {
     ghost use Rattle.nbt_c.specs.Lending.{LendsPieces};
 
-    /// Puts a stream into the room.
+    /// Puts a stream into the memory.
     pub(crate) fn put(&mut self, pieces: Pieces)
         requires { IsNone self.old.pieces }
         ensures { self.new.pieces ≡ Some pieces }
@@ -164,8 +162,7 @@ impl CPieces {
     }
 }
 
-/// A call of a session in C's memory: where the memory is, and, as far as contracts see, which call stands there, if any. Before one
-/// is started the memory is room for it.
+/// A call of a session in C's memory.
 #[repr(C)]
 pub struct CCaller {
     at: *mut u8,
@@ -181,7 +178,7 @@ impl Model for CCaller {
 impl CCaller {
     ghost use Rattle.nbt_c.specs.Lending.{LendsCaller};
 
-    /// Puts a call into the room.
+    /// Puts a call into the memory.
     pub(crate) fn put(&mut self, caller: Caller)
         requires { IsNone self.old.caller }
         ensures { self.new.caller ≡ Some caller }
@@ -199,8 +196,7 @@ impl CCaller {
     }
 }
 
-/// A listener in C's memory: where the memory is, and, as far as contracts see, which listener stands there, if any. Before
-/// one is started the memory is room for it.
+/// A listener of 14 entries and 8 connections in C's memory.
 #[repr(C)]
 pub struct CListener {
     at: *mut u8,
@@ -216,7 +212,7 @@ impl Model for CListener {
 impl CListener {
     ghost use Rattle.nbt_c.specs.Lending.{LendsListener};
 
-    /// Puts a listener into the room.
+    /// Puts a listener into the memory.
     pub(crate) fn put(&mut self, listener: Listener<14, 8>)
         requires { IsNone self.old.listener }
         ensures { self.new.listener ≡ Some listener }

@@ -13,7 +13,7 @@ pub struct CLease {
     pub ip: u32,
     /// 1 as one machine's, 2 as a group's.
     pub kind: u8,
-    /// The end, in milliseconds: the lease lives before it.
+    /// When the lease expires, in milliseconds: it lives before that.
     pub end: u64,
 }
 

@@ -1,9 +1,9 @@
 //! The library for programs in C, whose header is `include/nbt.h`: each export calls a crate's function, and states its
 //! clauses again.
 //!
-//! Octets and moments go in, octets come out: no socket, no clock, no thread, no global. A slice is passed as a pointer and a
-//! length. What C can get wrong with its numbers is tested. What it can get wrong with its pointers is its own condition,
-//! and stands in the header.
+//! Octets and times go in, octets come out: no socket, no clock, no thread, no global. A slice is passed as a pointer and a length.
+//! What C can get wrong with its numbers is tested. What it can get wrong with its pointers is its own condition, and stands in the
+//! header: so the caller must ensure that an object was started in its memory, or, for a start, that none stands there.
 #![tactic(auto)]
 
 pub mod accepting;
@@ -28,15 +28,3 @@ pub mod splitting;
 pub mod starting;
 pub mod wire;
 pub mod words;
-
-pub use accepting::CAccept;
-pub use caller::CAnswer;
-pub use datagram::CDgram;
-pub use ends::{CAddr, CConfig};
-pub use event::CEvent;
-pub use held::{CCaller, CJoiner, CListener, CNode, CPieces, CServer};
-pub use lease::CLease;
-pub use listener::CEntry;
-pub use name::CName;
-pub use packet::CPacket;
-pub use pieces::CPart;

@@ -1,4 +1,4 @@
-//! The end that listens for sessions, in C's memory (RFC 1002 section 5.2.1): 14 entries, and 8 connections.
+//! The listening endpoint of sessions, in C's memory (RFC 1002 section 5.2.1): 14 entries, and 8 connections.
 
 ghost use Rattle.std.specs.Prelude.{◌≡◌, ◌≢◌, Some, IsSome, IsNone, IfSome, IfNone};
 ghost use Rattle.nbt_node.specs.Node.{NodeValue};
@@ -7,6 +7,7 @@ ghost use Rattle.nbt_session.specs.Listener.{ListenerValue, ListenerAnswerValue,
 ghost use Rattle.nbt_session.specs.Packet.{PacketValue, type_of};
 ghost use Rattle.nbt_c.specs.Listening.{StartsListener, ListensTo, StopsListening, ListensFor, kind_of, sent_for};
 ghost use Rattle.nbt_c.specs.Sending.{Puts};
+ghost use Rattle.nbt_c.specs.Sizes.{listener_size, object_align};
 
 use crate::caller::event_of;
 use crate::ends::CAddr;
@@ -26,7 +27,7 @@ use std::alloc::Global;
 /// How many connections a listener has.
 const SLOTS: usize = 8;
 
-/// Calls that are taken, as C passes them: to a name, by anybody or by one name; here, or at another end.
+/// Calls that are accepted, as C passes them: to a name, by anybody or by one name; here, or at another endpoint.
 #[repr(C)]
 #[derive(Drop)]
 pub struct CEntry {
@@ -79,20 +80,24 @@ impl CEntry {
     }
 }
 
-/// How many octets of memory a listener takes.
+/// The size of a listener's memory in octets.
 #[unsafe(no_mangle)]
-pub extern "C" fn nbt_listener_size() -> usize {
+pub extern "C" fn nbt_listener_size() -> usize
+    ensures { result ≡ listener_size }
+{
     size_of::<Listener<14, 8>>()
 }
 
-/// How that memory is aligned.
+/// The alignment of that memory in octets.
 #[unsafe(no_mangle)]
-pub extern "C" fn nbt_listener_align() -> usize {
+pub extern "C" fn nbt_listener_align() -> usize
+    ensures { result ≡ object_align }
+{
     align_of::<Listener<14, 8>>()
 }
 
 /// `nbt_session::Listener::new`: a listener of 14 entries and 8 connections, of which `most` may be open at a time, stands in the
-/// memory. 0; else none does: 251 where `most` is above 8. That the memory is room for one, and none stands there, is the caller's.
+/// memory. 0; else none does: 251 where `most` is above 8.
 #[unsafe(no_mangle)]
 pub extern "C" fn nbt_listener_start(listener: &mut CListener, most: usize) -> u8
     requires { IsNone listener.old.listener }
@@ -105,7 +110,7 @@ pub extern "C" fn nbt_listener_start(listener: &mut CListener, most: usize) -> u
     0
 }
 
-/// `nbt_session::Listener::listen`, of what C passes.
+/// Calls `nbt_session::Listener::listen` with what C passes.
 fn listen(listener: &mut Listener<14, 8>, entry: &CEntry) -> u8
     ensures { ListensTo entry.now listener.old result listener.new }
 {
@@ -118,9 +123,8 @@ fn listen(listener: &mut Listener<14, 8>, entry: &CEntry) -> u8
     }
 }
 
-/// `nbt_session::Listener::listen`: takes calls by the entry from now on, where no earlier entry takes them. 0; else the listener
-/// stays as it was: 255 where a name of the entry holds none, 254 where 14 entries stand. That a listener stands in the memory is
-/// the caller's.
+/// `nbt_session::Listener::listen`: accepts calls by the entry from now on, where no earlier entry accepts them. 0; else the
+/// listener stays as it was: 255 where a name of the entry holds none, 254 where 14 entries stand.
 #[unsafe(no_mangle)]
 pub extern "C" fn nbt_listener_listen(listener: &mut CListener, entry: &CEntry) -> u8
     requires { IsSome listener.old.listener }
@@ -130,7 +134,7 @@ pub extern "C" fn nbt_listener_listen(listener: &mut CListener, entry: &CEntry) 
     listen(listener.get(), entry)
 }
 
-/// `nbt_session::Listener::unlisten`, of what C passes.
+/// Calls `nbt_session::Listener::unlisten` with what C passes.
 fn unlisten(listener: &mut Listener<14, 8>, called: &CName) -> u8
     ensures { StopsListening called.now listener.old result listener.new }
 {
@@ -141,8 +145,8 @@ fn unlisten(listener: &mut Listener<14, 8>, called: &CName) -> u8
     0
 }
 
-/// `nbt_session::Listener::unlisten`: takes away all entries of the name. 0; 255 where `called` holds no name, the listener staying
-/// as it was. That a listener stands in the memory is the caller's.
+/// `nbt_session::Listener::unlisten`: removes all entries of the name. 0; 255 where `called` holds no name, the listener staying as
+/// it was.
 #[unsafe(no_mangle)]
 pub extern "C" fn nbt_listener_unlisten(listener: &mut CListener, called: &CName) -> u8
     requires { IsSome listener.old.listener }
@@ -172,15 +176,13 @@ fn put_sent(answer: &ListenerAnswer, out: &mut ArrayVec<u8, 576>)
     ensures { out.new.items ≡ sent_for (answer_of answer.now) }
 {
     match answer {
-        ListenerAnswer::Nothing => out.clear(),
         ListenerAnswer::Send(packet) => put_text(packet, out),
         ListenerAnswer::SendAndClose(packet) => put_text(packet, out),
-        ListenerAnswer::Close => out.clear(),
-        ListenerAnswer::Up(_) => out.clear(),
+        _ => out.clear(),
     }
 }
 
-/// `nbt_session::Listener::on`, of what C passes.
+/// Calls `nbt_session::Listener::on` with what C passes.
 fn hand(
     alloc: Global,
     listener: &mut Listener<14, 8>,
@@ -218,7 +220,7 @@ fn hand(
 /// `now`; `happened` and `packet` are as by `nbt_caller_on`. 0, and `kind` says it: 0 nothing, 2 send, 4 up, 7 send and close, 8
 /// close; of send, and of send and close, the packet stands at the front of `out`, `size` being how many octets it has, else 0.
 /// Refused, the listener staying as it was, and `kind` and `size` being 0: 253 where `now` is above 2^60 ms, 251 where `slot` is
-/// above 7, 252, 255 as by `nbt_caller_on`. The node stays. That listener and node stand in their memory is the caller's.
+/// above 7, 252, 255 as by `nbt_caller_on`. The node stays.
 #[unsafe(no_mangle)]
 pub extern "C" fn nbt_listener_on(
     alloc: Global,

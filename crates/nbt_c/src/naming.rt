@@ -79,16 +79,13 @@ fn case_of(exact: bool) -> Case
     if exact { Case::Exact } else { Case::Folded }
 }
 
-/// The number that a fault tells.
+/// The number that a fault has.
 fn place_in(fault: Fault) -> usize
     ensures { result ≡ place_in fault }
 {
     match fault {
         Fault::Long(count) => count,
         Fault::Character(place) => place,
-        Fault::Empty => 0,
-        Fault::Suffix => 0,
-        Fault::Digits => 0,
-        Fault::Scope => 0,
+        _ => 0,
     }
 }

@@ -42,7 +42,7 @@ impl CPacket {
     ghost use Rattle.nbt_c.specs.Calling.{IsPacketIn, PacketFault};
     ghost use Rattle.nbt_c.specs.Sessions.{packet_after};
 
-    /// Tells it.
+    /// Reports it.
     pub(crate) fn tell(&mut self, packet: &Packet)
         ensures { self.new ≡ packet_after self.old (packet_of packet.now) }
     {

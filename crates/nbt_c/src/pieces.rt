@@ -3,6 +3,7 @@
 ghost use Rattle.std.specs.Prelude.{◌≡◌, [], Some, IsSome, IsNone};
 ghost use Rattle.nbt_session.specs.Parts.{PiecesState, between, part_if};
 ghost use Rattle.nbt_c.specs.Sessions.{TakesFor, part_after};
+ghost use Rattle.nbt_c.specs.Sizes.{stream_size, object_align};
 
 use crate::held::CPieces;
 use crate::packet::CPacket;
@@ -21,7 +22,7 @@ pub struct CPart {
 }
 
 impl CPart {
-    /// Tells it.
+    /// Reports it.
     fn tell(&mut self, part: &Option<Part<'_>>)
         ensures { self.new ≡ part_after self.old (part_if part.now) }
     {
@@ -44,20 +45,23 @@ impl CPart {
     }
 }
 
-/// How many octets of memory a stream takes.
+/// The size of a stream's memory in octets.
 #[unsafe(no_mangle)]
-pub extern "C" fn nbt_pieces_size() -> usize {
+pub extern "C" fn nbt_pieces_size() -> usize
+    ensures { result ≡ stream_size }
+{
     size_of::<Pieces>()
 }
 
-/// How that memory is aligned.
+/// The alignment of that memory in octets.
 #[unsafe(no_mangle)]
-pub extern "C" fn nbt_pieces_align() -> usize {
+pub extern "C" fn nbt_pieces_align() -> usize
+    ensures { result ≡ object_align }
+{
     align_of::<Pieces>()
 }
 
-/// `nbt_session::Pieces::new`: a stream of which nothing came stands in the memory. That the memory is room for one, and none stands
-/// there, is the caller's.
+/// `nbt_session::Pieces::new`: a stream of which nothing came stands in the memory.
 #[unsafe(no_mangle)]
 pub extern "C" fn nbt_pieces_start(pieces: &mut CPieces)
     requires { IsNone pieces.old.pieces }
@@ -66,7 +70,7 @@ pub extern "C" fn nbt_pieces_start(pieces: &mut CPieces)
     pieces.put(Pieces::new());
 }
 
-/// `nbt_session::Pieces::take`, of what C passes.
+/// Calls `nbt_session::Pieces::take` with what C passes.
 fn take(pieces: &mut Pieces, piece: &[u8], part: &mut CPart, taken: &mut usize) -> u8
     ensures { TakesFor piece.now pieces.old part.old result part.new taken.new pieces.new }
 {
@@ -85,10 +89,10 @@ fn take(pieces: &mut Pieces, piece: &[u8], part: &mut CPart, taken: &mut usize) 
 }
 
 /// `nbt_session::Pieces::take`: takes octets of the piece up to the end of one part. 0, and `part` says it, `taken` being how many
-/// octets it took; where they end no part, that is all of them, and the part is none. Octets of a message are the first of the piece.
-/// That a message is whole is told by the call after its last octets, of an empty piece too. Refused, `part` being left as it was and
-/// `taken` being the fault's place, counted from the packet's first octet: `BadType` (1), `BadFlags` (2), `BadLength` (3), `BadName`
-/// (4), and then for ever. That a stream stands in the memory is the caller's.
+/// octets it took; where they end no part, that is all of them, and the part is none. Octets of a message are the first of the
+/// piece. The call after a message's last octets reports that it is whole, of an empty piece too. Refused, `part` being left as it
+/// was and `taken` being the fault's place, counted from the packet's first octet: `BadType` (1), `BadFlags` (2), `BadLength` (3),
+/// `BadName` (4), and then for ever.
 #[unsafe(no_mangle)]
 pub extern "C" fn nbt_pieces_take(
     pieces: &mut CPieces,

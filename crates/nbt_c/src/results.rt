@@ -3,10 +3,10 @@
 /// A `CName` holds no name.
 pub(crate) const NO_NAME: u8 = 255;
 
-/// The caller's octets are too few.
+/// The caller's buffer is too small.
 pub(crate) const NO_ROOM: u8 = 254;
 
-/// A moment is above 2^60 milliseconds.
+/// A time is above 2^60 milliseconds.
 pub(crate) const NO_MOMENT: u8 = 253;
 
 /// A kind is neither 0 nor 1.

@@ -1,4 +1,4 @@
-//! Octets that are put where the caller has room for them.
+//! Octets that are put into the caller's buffer.
 
 ghost use Rattle.nbt_c.specs.Sending.{Puts, PutsMost};
 ghost use Rattle.nbt_c.specs.Writing.{no_room};
@@ -6,7 +6,7 @@ ghost use Rattle.std.specs.Prelude.{◌≡◌, ◌<◌, ◌≤◌, ◌↔◌, �
 
 use crate::results::NO_ROOM;
 
-/// Puts the octets at the front of `out`, where they have room; the others stay.
+/// Puts the octets at the front of `out`, if they fit; the others stay.
 pub(crate) fn put_front(octets: &[u8], out: &mut [u8]) -> bool
     ensures room { IsTrue result ↔ (length octets.now ≤ length out.old) }
     ensures put { IsTrue result → out.new ≡ octets.now ++ drop (length octets.now) out.old }
@@ -19,7 +19,7 @@ pub(crate) fn put_front(octets: &[u8], out: &mut [u8]) -> bool
     true
 }
 
-/// Puts a form of a name at the front of `out`, the others staying, and tells how many octets it has: 0. Else nothing is written:
+/// Puts a form of a name at the front of `out`, the others staying, and writes how many octets it has: 0. Else nothing is written:
 /// 254 where `out` has fewer.
 pub(crate) fn put_form(form: &[u8], out: &mut [u8], size: &mut usize) -> u8
     ensures written { length form.now ≤ length out.old
@@ -42,7 +42,7 @@ pub(crate) fn put_packet(octets: &[u8], out: &mut [u8; 576]) -> usize
     octets.len()
 }
 
-/// Puts as many of the octets at the front of `out` as have room there; the others of `out` stay.
+/// Puts as many of the octets at the front of `out` as fit; the others of `out` stay.
 pub(crate) fn put_most(octets: &[u8], out: &mut [u8])
     ensures { PutsMost octets.now out.old out.new }
 {

@@ -1,4 +1,4 @@
-//! What a node in C's memory is asked for, and sends.
+//! What a node in C's memory registers, releases and looks up.
 
 ghost use Rattle.std.specs.Prelude.{◌≡◌, ℕ, List, Some, IsSome};
 ghost use Rattle.nbt_node.specs.Node.{NodeValue};
@@ -26,7 +26,7 @@ fn kind_of(number: u8) -> Option<Kind>
     }
 }
 
-/// `nbt_node::Node::ask`, of what C passes.
+/// Calls `nbt_node::Node::ask` with what C passes.
 fn ask(
     node: &mut Node<14>,
     now: u64,
@@ -53,10 +53,10 @@ fn ask(
     }
 }
 
-/// `nbt_node::Node::ask`: asks the server for the name, for `ttl` seconds or, where that is 0, as long as may be. 0, and the
-/// NAME REGISTRATION REQUEST for the server stands at the front of `out`, `size` being how many octets it has. Else the node
-/// stays as it was, and `size` is 0: 253 where `now` is above 2^60 ms, 255 where `name` holds no name, 252 where `kind` is
-/// neither 0 nor 1, or the number of the node's refusal, 1 to 5. That a node stands in the memory is the caller's.
+/// `nbt_node::Node::ask`: registers the name at the server, for `ttl` seconds or, where that is 0, as long as may be. 0, and the
+/// NAME REGISTRATION REQUEST for the server stands at the front of `out`, `size` being how many octets it has. Else the node stays
+/// as it was, and `size` is 0: 253 where `now` is above 2^60 ms, 255 where `name` holds no name, 252 where `kind` is neither 0 nor
+/// 1, or the number of the node's refusal, 1 to 5.
 #[unsafe(no_mangle)]
 pub extern "C" fn nbt_node_ask(
     node: &mut CNode,
@@ -77,7 +77,7 @@ pub extern "C" fn nbt_node_ask(
     result
 }
 
-/// `nbt_node::Node::release`, of what C passes.
+/// Calls `nbt_node::Node::release` with what C passes.
 fn release(node: &mut Node<14>, now: u64, name: &CName, out: &mut ArrayVec<u8, 576>) -> u8
     ensures { GivesBack node.old now name.now result node.new out.new.items }
 {
@@ -94,9 +94,9 @@ fn release(node: &mut Node<14>, now: u64, name: &CName, out: &mut ArrayVec<u8, 5
     }
 }
 
-/// `nbt_node::Node::release`: gives the name back. 0, and the NAME RELEASE REQUEST for the server stands at the front of `out`,
+/// `nbt_node::Node::release`: releases the name. 0, and the NAME RELEASE REQUEST for the server stands at the front of `out`,
 /// `size` being how many octets it has. Else the node stays as it was, and `size` is 0: 253, 255 as by `nbt_node_ask`, or the
-/// number of the node's refusal, 1 or 4. That a node stands in the memory is the caller's.
+/// number of the node's refusal, 1 or 4.
 #[unsafe(no_mangle)]
 pub extern "C" fn nbt_node_release(
     node: &mut CNode,
@@ -115,7 +115,7 @@ pub extern "C" fn nbt_node_release(
     result
 }
 
-/// `nbt_node::Node::resolve`, of what C passes.
+/// Calls `nbt_node::Node::resolve` with what C passes.
 fn resolve(node: &mut Node<14>, now: u64, name: &CName, out: &mut ArrayVec<u8, 576>) -> u8
     ensures { Resolves node.old now name.now result node.new out.new.items }
 {
@@ -132,9 +132,9 @@ fn resolve(node: &mut Node<14>, now: u64, name: &CName, out: &mut ArrayVec<u8, 5
     }
 }
 
-/// `nbt_node::Node::resolve`: looks up at the server who holds the name. 0, and the NAME QUERY REQUEST for the server stands at
-/// the front of `out`, `size` being how many octets it has. Else the node stays as it was, and `size` is 0: 253, 255 as by
-/// `nbt_node_ask`, or the number of the node's refusal, 2, 4 or 5. That a node stands in the memory is the caller's.
+/// `nbt_node::Node::resolve`: looks up at the server who holds the name. 0, and the NAME QUERY REQUEST for the server stands at the
+/// front of `out`, `size` being how many octets it has. Else the node stays as it was, and `size` is 0: 253, 255 as by
+/// `nbt_node_ask`, or the number of the node's refusal, 2, 4 or 5.
 #[unsafe(no_mangle)]
 pub extern "C" fn nbt_node_resolve(
     node: &mut CNode,
@@ -153,7 +153,7 @@ pub extern "C" fn nbt_node_resolve(
     result
 }
 
-/// `nbt_node::Node::name_status`, of what C passes.
+/// Calls `nbt_node::Node::name_status` with what C passes.
 fn ask_status(
     node: &mut Node<14>,
     now: u64,
@@ -176,9 +176,9 @@ fn ask_status(
     }
 }
 
-/// `nbt_node::Node::name_status`: asks the end at `to` for the names that it holds. 0, and the NODE STATUS REQUEST for it stands at
-/// the front of `out`, `size` being how many octets it has. Else the node stays as it was, and `size` is 0: 253, 255 as by
-/// `nbt_node_ask`, or the number of the node's refusal, 2 or 4. That a node stands in the memory is the caller's.
+/// `nbt_node::Node::name_status`: asks the endpoint at `to` for the names that it holds. 0, and the NODE STATUS REQUEST for it
+/// stands at the front of `out`, `size` being how many octets it has. Else the node stays as it was, and `size` is 0: 253, 255 as
+/// by `nbt_node_ask`, or the number of the node's refusal, 2 or 4.
 #[unsafe(no_mangle)]
 pub extern "C" fn nbt_node_name_status(
     node: &mut CNode,

@@ -1,4 +1,4 @@
-//! A name server in C's memory: it starts, takes datagrams, tells its live leases, and ends.
+//! A name server in C's memory: it starts, handles datagrams, lists its live leases, and ends.
 
 ghost use Rattle.std.specs.Prelude.{◌≡◌, ℕ, List, Option, Some, None, IsSome, IsNone, slice_get};
 ghost use Rattle.nbt_name.specs.declared.addr.Addr.{Addr as End};
@@ -8,6 +8,7 @@ ghost use Rattle.nbt_server.specs.Serving.{ServerValue};
 ghost use Rattle.nbt_c.specs.Ends.{addr_of};
 ghost use Rattle.nbt_c.specs.Sending.{Puts};
 ghost use Rattle.nbt_c.specs.Serving.{StartsServer, ServesFor, TellsLease, TellsRow, lease_after, name_of_row, lease_of_row};
+ghost use Rattle.nbt_c.specs.Sizes.{server_size, object_align};
 
 use crate::ends::{CAddr, CConfig};
 use crate::held::CServer;
@@ -21,21 +22,24 @@ use nbt_name::{Addr, Name};
 use nbt_server::{Server, ServerFault};
 use std::alloc::Global;
 
-/// How many octets of memory a server takes, beside those that it asks `malloc` for.
+/// The size of a server's memory in octets, beside what it asks `malloc` for.
 #[unsafe(no_mangle)]
-pub extern "C" fn nbt_server_size() -> usize {
+pub extern "C" fn nbt_server_size() -> usize
+    ensures { result ≡ server_size }
+{
     size_of::<Server>()
 }
 
-/// How that memory is aligned.
+/// The alignment of that memory in octets.
 #[unsafe(no_mangle)]
-pub extern "C" fn nbt_server_align() -> usize {
+pub extern "C" fn nbt_server_align() -> usize
+    ensures { result ≡ object_align }
+{
     align_of::<Server>()
 }
 
-/// `nbt_server::Server::start`: a server without leases stands in the memory. 0; else none does: the number of the first limit
-/// that isn't kept, `Life` (1), `Longest` (2), `Rows` (3), or 253 where `now` is above 2^60 ms. That the memory is room for a
-/// server, and none stands there, is the caller's.
+/// `nbt_server::Server::start`: a server without leases stands in the memory. 0; else none does: the number of the first limit that
+/// isn't kept, `Life` (1), `Longest` (2), `Rows` (3), or 253 where `now` is above 2^60 ms.
 #[unsafe(no_mangle)]
 pub extern "C" fn nbt_server_start(
     alloc: Global,
@@ -57,8 +61,7 @@ pub extern "C" fn nbt_server_start(
     0
 }
 
-/// Gives back the memory that the server has taken. None stands in the caller's memory then. That a server stands there is the
-/// caller's.
+/// Frees the memory that the server has allocated. No server stands in the caller's memory then.
 #[unsafe(no_mangle)]
 pub extern "C" fn nbt_server_end(server: &mut CServer)
     requires { IsSome server.old.server }
@@ -67,7 +70,7 @@ pub extern "C" fn nbt_server_end(server: &mut CServer)
     let _ = server.take();
 }
 
-/// `nbt_server::Server::on_datagram`, of what C passes.
+/// Calls `nbt_server::Server::on_datagram` with what C passes.
 fn serve(
     server: &mut Server,
     now: u64,
@@ -87,10 +90,9 @@ fn serve(
     }
 }
 
-/// `nbt_server::Server::on_datagram`: takes a datagram of these octets, which came at `now` from `from`. 0, and a reply to `from`
+/// `nbt_server::Server::on_datagram`: handles a datagram of these octets, which came at `now` from `from`. 0, and a reply to `from`
 /// stands at the front of `out`, `size` being how many octets it has, else 0. Refused, `size` being 0: 253 where `now` is above
-/// 2^60 ms and `ClockBack` (1), the server staying as it was; `OutOfMemory` (2), the live leases staying as they were. That a
-/// server stands in the memory is the caller's.
+/// 2^60 ms and `ClockBack` (1), the server staying as it was; `OutOfMemory` (2), the live leases staying as they were.
 #[unsafe(no_mangle)]
 pub extern "C" fn nbt_server_on_datagram(
     server: &mut CServer,
@@ -142,8 +144,7 @@ fn tell_lease(server: &Server, now: u64, name: &CName, which: usize, lease: &mut
 
 /// `nbt_lease::Table::members`: of the name's leases that live at `now`, in order of their beginnings, the one with this number,
 /// counted from 0. 0, and it stands in `lease`. Else `lease` stays: 253, 255 as by `nbt_node_ask`; `ClockBack` (1) where `now` is
-/// before the moment of the last datagram; 250 where no more leases live. The server stays. That a server stands in the memory
-/// is the caller's.
+/// before the time of the last datagram; 250 where no more leases live. The server stays.
 #[unsafe(no_mangle)]
 pub extern "C" fn nbt_server_lease(
     server: &mut CServer,
@@ -184,10 +185,10 @@ fn tell_row(
     }
 }
 
-/// `nbt_lease::Table::list_rows`: of all rows of the table, the one with this number, counted from 0, each name's in order of
-/// their beginnings. A lease that is over may stand among them: its end tells. 0, and the row's name stands in `name`, its lease in
-/// `lease`. Else both stay: `OutOfMemory` (2) where memory for a list of the rows is refused; 250 where there are no more. The
-/// server stays. That a server stands in the memory is the caller's.
+/// `nbt_lease::Table::list_rows`: of all rows of the table, the one with this number, counted from 0, each name's in order of their
+/// beginnings. An expired lease may stand among them: its `end` tells. 0, and the row's name stands in `name`, its lease in
+/// `lease`. Else both stay: `OutOfMemory` (2) where there is no memory for a list of the rows; 250 where there are no more. The
+/// server stays.
 #[unsafe(no_mangle)]
 pub extern "C" fn nbt_server_row(
     alloc: Global,

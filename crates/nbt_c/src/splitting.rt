@@ -48,7 +48,7 @@ fn write(packets: &[Dgram<'_>], which: usize, out: &mut ArrayVec<u8, 576>)
     }
 }
 
-/// `nbt_dgram::split`, of what C passes.
+/// Calls `nbt_dgram::split` with what C passes.
 fn cut(
     kind: u8,
     id: u16,

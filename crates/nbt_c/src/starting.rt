@@ -2,6 +2,7 @@
 
 ghost use Rattle.std.specs.Prelude.{◌≡◌, IsNone};
 ghost use Rattle.nbt_c.specs.Ends.{addr_of};
+ghost use Rattle.nbt_c.specs.Sizes.{node_size, object_align};
 ghost use Rattle.nbt_c.specs.Starting.{Starts};
 
 use crate::ends::{CAddr, CConfig};
@@ -10,21 +11,24 @@ use crate::results::NO_MOMENT;
 use nbt_lease::{Config, Moment};
 use nbt_node::Node;
 
-/// How many octets of memory a node takes.
+/// The size of a node's memory in octets.
 #[unsafe(no_mangle)]
-pub extern "C" fn nbt_node_size() -> usize {
+pub extern "C" fn nbt_node_size() -> usize
+    ensures { result ≡ node_size }
+{
     size_of::<Node<14>>()
 }
 
-/// How that memory is aligned.
+/// The alignment of that memory in octets.
 #[unsafe(no_mangle)]
-pub extern "C" fn nbt_node_align() -> usize {
+pub extern "C" fn nbt_node_align() -> usize
+    ensures { result ≡ object_align }
+{
     align_of::<Node<14>>()
 }
 
 /// `nbt_node::Node::start`: a node of 14 slots at `own`, whose name server is at `server`, stands in the memory. 0; else none does:
 /// the number of the first limit that isn't kept, `Life` (1), `Longest` (2), `Rows` (3), or 253 where `now` is above 2^60 ms.
-/// That the memory is room for a node, and none stands there, is the caller's.
 #[unsafe(no_mangle)]
 pub extern "C" fn nbt_node_start(
     node: &mut CNode,

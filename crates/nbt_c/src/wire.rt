@@ -72,7 +72,7 @@ pub extern "C" fn nbt_name_in_packet(
     tell(read_in(octets, place), out, next)
 }
 
-/// Tells what was read: 0, the name and the place after it, or the fault's number and its place.
+/// Reports what was read: 0, the name and the place after it, or the fault's number and its place.
 fn tell(read: Result<(Name, usize), NameFault>, out: &mut CName, next: &mut usize) -> u8
     ensures name { (name : NameValue) (end : ℕ) → read ≡ Ok (name, end)
         → (result ≡ 0) × (out.new ≡ stored name) × (next.new ≡ end) }

@@ -22,7 +22,7 @@ const FRONT_MOST: usize = 15;
 /// The digits of a suffix.
 const CAPITAL_DIGITS: &[u8; 16] = b"0123456789ABCDEF";
 
-/// Room for the text of any scope: up to five characters for an octet.
+/// A buffer for the text of any scope: up to five characters for an octet.
 type Text = ArrayVec<u8, 1105>;
 
 /// The name's sixteen octets as `nbt_text::write_octets` prints them, 4 to 36 characters: `FILER#20`, or `hex:` and 32 digits.
