@@ -1,4 +1,4 @@
-//! What `command` and `command_on` print, and how they end.
+//! What `command` and `command_telling` print, and how they end.
 
 use arrayvec::ArrayVec;
 use expect::expect_eq_in;

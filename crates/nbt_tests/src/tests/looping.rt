@@ -7,7 +7,7 @@ use super::machine::{WithFiles, WithoutMemory};
 use super::street::{Luck, Street};
 use super::terminal::words_of;
 use arrayvec::ArrayVec;
-use nbt_prog::{command, command_on};
+use nbt_prog::{command, command_telling};
 use std::alloc::AllocError;
 use std::cell::Cell;
 use std::io;
@@ -41,7 +41,14 @@ fn a_server_and_two_nodes_twice_in_a_row(rt: HostRuntime) {
     for _ in 0..2 {
         let mut paper = LimitedWriter::new();
         let words = ["nbt", "loop", "21037"];
-        let status = command_on(&rt, rt.alloc(), &words, &mut io::empty(), &mut paper);
+        let status = command_telling(
+            &rt,
+            rt.alloc(),
+            &words,
+            &mut io::empty(),
+            &mut paper,
+            &mut io::sink(),
+        );
         expect_eq(&rt, &paper.text.as_slice(), &TOLD.as_bytes());
         expect_eq(&rt, &status, &0);
         expect(&rt, paper.is_line_by_line());
@@ -134,12 +141,13 @@ fn ports_for_which_there_is_no_memory(rt: HostRuntime) {
     for (line, printed, expected) in BINDING {
         let words = words_of(&rt, line);
         let mut paper = LimitedWriter::new();
-        let status = command_on(
+        let status = command_telling(
             &machine,
             rt.alloc(),
             words.as_slice(),
             &mut io::empty(),
             &mut paper,
+            &mut io::sink(),
         );
         expect_eq_in(&rt, &line, &paper.text.as_slice(), &printed.as_bytes());
         expect_eq_in(&rt, &line, &status, &expected);
@@ -297,7 +305,14 @@ fn expect_all_told<
         files: rt,
     };
     let words = ["nbt", "loop", "21137"];
-    let status = command_on(&machine, rt.alloc(), &words, &mut io::empty(), &mut told);
+    let status = command_telling(
+        &machine,
+        rt.alloc(),
+        &words,
+        &mut io::empty(),
+        &mut told,
+        &mut io::sink(),
+    );
     let row = (caller, listener);
     expect_eq_in(
         rt,

@@ -3,7 +3,7 @@
 use super::LimitedWriter;
 use super::expect::{expect_eq_in, expect_in};
 use super::terminal::{play, words_of};
-use nbt_prog::{command, command_on};
+use nbt_prog::{command, command_telling};
 use std::io;
 use std::test::Fail;
 
@@ -186,12 +186,13 @@ fn with_nobody_else(rt: HostRuntime) {
     for (line, status, text) in DONE {
         let words = words_of(&rt, line);
         let mut paper = LimitedWriter::new();
-        let got = command_on(
+        let got = command_telling(
             &rt,
             rt.alloc(),
             words.as_slice(),
             &mut io::empty(),
             &mut paper,
+            &mut io::sink(),
         );
         expect_eq_in(&rt, &line, &paper.text.as_slice(), &text);
         expect_eq_in(&rt, &line, &got, &status);
@@ -230,22 +231,24 @@ fn a_writer_that_failed_is_told_nothing_more(rt: HostRuntime) {
     for (line, text) in LINES {
         let words = words_of(&rt, line);
         let mut paper = LimitedWriter::stuck();
-        let status = command_on(
+        let status = command_telling(
             &rt,
             rt.alloc(),
             words.as_slice(),
             &mut io::empty(),
             &mut paper,
+            &mut io::sink(),
         );
         expect_eq_in(&rt, &line, &status, &3);
         expect_eq_in(&rt, &line, &paper.text.as_slice(), &text);
         let mut paper = LimitedWriter::short(3);
-        let status = command_on(
+        let status = command_telling(
             &rt,
             rt.alloc(),
             words.as_slice(),
             &mut io::empty(),
             &mut paper,
+            &mut io::sink(),
         );
         expect_eq_in(&rt, &line, &status, &3);
         expect_eq_in(

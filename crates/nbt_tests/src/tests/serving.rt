@@ -5,7 +5,7 @@ use super::ending::{Ending, expect_ending};
 use super::expect::{expect_eq_in, expect_in};
 use super::machine::{Machine, WELL, WithFiles};
 use super::terminal::{word_of, words_of};
-use nbt_prog::command_on;
+use nbt_prog::command_telling;
 use std::cell::Cell;
 use std::io;
 use std::net::{Net, TcpListener, TcpStream, UdpSocket};
@@ -466,12 +466,13 @@ where
     };
     let words = words_of(rt, row.words);
     let mut paper = LimitedWriter::stuck();
-    let status = command_on(
+    let status = command_telling(
         &on,
         rt.alloc(),
         words.as_slice(),
         &mut io::empty(),
         &mut paper,
+        &mut io::sink(),
     );
     expect_eq_in(rt, &line, &status, &3);
     expect_eq_in(rt, &line, &paper.text.as_slice(), &line.as_bytes());

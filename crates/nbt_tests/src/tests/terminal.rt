@@ -10,7 +10,8 @@
 
 use super::LimitedWriter;
 use super::expect::{expect_eq_in, expect_in};
-use nbt_prog::{command, command_on};
+use nbt_prog::{command, command_telling};
+use std::io;
 use std::net::Net;
 use std::process::Abort;
 use std::rt::Files;
@@ -34,7 +35,7 @@ struct Run {
     text: String,
 }
 
-/// Plays runs, each by `command` and on this machine by `command_on`: none of them opens a socket.
+/// Plays runs, each by `command` and on this machine by `command_telling`: none of them opens a socket.
 pub fn play<R: Abort + AllocGlobal + Net + Clock + Files>(rt: &R, runs: &str) {
     for text in runs.split("\n\n") {
         let run = read_run(rt, text);
@@ -45,7 +46,14 @@ pub fn play<R: Abort + AllocGlobal + Net + Clock + Files>(rt: &R, runs: &str) {
         let mut paper = LimitedWriter::new();
         let mut input = run.input.as_bytes();
         let words = run.words.as_slice();
-        let status = command_on(rt, rt.alloc(), words, &mut input, &mut paper);
+        let status = command_telling(
+            rt,
+            rt.alloc(),
+            words,
+            &mut input,
+            &mut paper,
+            &mut io::sink(),
+        );
         expect_run(rt, text, &run, status, &paper);
     }
 }
