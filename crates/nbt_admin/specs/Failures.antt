@@ -1,33 +1,43 @@
--- Why the words of a command for people ask for nothing (our profile).
+-- Why a command for people who run a network is not done (our profile).
 use Rattle.std.specs.Prelude.{◌≡◌, ◌⊎◌, ℕ, List}
 use Rattle.std.specs.String.{string_bytes}
+use Rattle.nbt_engine.specs.declared.fault.Fault.TheVariants as fault
 use Rattle.nbt_args.specs.declared.refusal.Refusal.{Refusal}
 use Rattle.nbt_args.specs.declared.refusal.Refusal.TheVariants as refusal
-use Rattle.nbt_admin.specs.declared.failure.BadWord.{BadWord}
+use Rattle.nbt_admin.specs.declared.failure.BadArgument.{BadArgument}
 use Rattle.nbt_admin.specs.declared.failure.Complaint.TheVariants as complaint
 use Rattle.nbt_admin.specs.declared.failure.Failure.{Failure}
-use Rattle.nbt_admin.specs.declared.failure.Failure.TheVariants.{Usage, Words, Memory}
-use Rattle.nbt_admin.specs.declared.failure.WordFault.{WordFault}
+use Rattle.nbt_admin.specs.declared.failure.Failure.TheVariants.{Usage, Complaint, Fault}
+use Rattle.nbt_admin.specs.declared.failure.ArgumentFault.{ArgumentFault}
+
+abbrev pub out_of_memory : Failure
+out_of_memory = Fault fault.Memory
 
 -- a text of usage is one whatever it is of
 abbrev pub failure_of_usage : Refusal → Failure
 failure_of_usage (refusal.Help text) = Usage text
 failure_of_usage (refusal.Wrong text) = Usage text
-failure_of_usage refusal.Memory = Memory
+failure_of_usage refusal.Memory = out_of_memory
 
 -- the usage is wrong
 abbrev pub IsUsage : Failure → Type 0
 IsUsage (Usage text) = Unit {0}
-IsUsage (Words complaint) = ⊥
-IsUsage Memory = ⊥
+IsUsage (Complaint complaint) = ⊥
+IsUsage (Fault f) = ⊥
 
--- What ought to hold of the words does not, which is wrong usage; or memory was refused.
+-- a port, a clock, a socket or the output failed, or memory is out
+abbrev pub IsFault : Failure → Type 0
+IsFault (Usage text) = ⊥
+IsFault (Complaint complaint) = ⊥
+IsFault (Fault f) = Unit {0}
+
+-- What ought to hold of the texts does not, which is wrong usage; or memory is out.
 abbrev pub UsageFails : (Holds : Type 0) → Failure → Type 0
-UsageFails Holds failure = (failure ≡ Memory) ⊎ (¬ Holds × IsUsage failure)
+UsageFails Holds failure = (failure ≡ out_of_memory) ⊎ (¬ Holds × IsUsage failure)
 
--- it tells of this word, and that this is wrong with it
-pub record TellsWord (text : List ℕ) (fault : WordFault) (failure : Failure) : Type 0 where
-  pub bad : BadWord
-  pub failure_is : failure ≡ Words (complaint.Word bad)
-  pub word_is : string_bytes bad.word ≡ text
+-- it names this text, and says that this is wrong with it
+pub record ComplainsOf (text : List ℕ) (fault : ArgumentFault) (failure : Failure) : Type 0 where
+  pub bad : BadArgument
+  pub failure_is : failure ≡ Complaint (complaint.Argument bad)
+  pub text_is : string_bytes bad.text ≡ text
   pub fault_is : bad.fault ≡ fault

@@ -1,4 +1,4 @@
--- What the words of `host` ask for (our profile).
+-- The arguments of `host` that texts give (our profile).
 use Rattle.std.specs.Prelude.{◌≡◌, ◌≤◌, ◌<◌, ◌+◌, ◌⊎◌, ℕ, Bool, List, [], ◌∷◌, ◌++◌, length, Any}
 use Rattle.std.specs.Borrow.{Bor}
 use Rattle.nbt_engine.specs.declared.turning.Want.{Want}
@@ -7,21 +7,20 @@ use Rattle.nbt_name.specs.declared.addr.Kind.{Kind}
 use Rattle.nbt_name.specs.declared.addr.Kind.TheVariants.{Unique, Group}
 use Rattle.nbt_text.specs.Address.{SpellsEnd}
 use Rattle.nbt_hosting.specs.declared.arguments.HostArguments.{HostArguments}
-use Rattle.nbt_args.specs.declared.words.HostWords.{HostWords}
+use Rattle.nbt_args.specs.declared.texts.HostTexts.{HostTexts}
 use Rattle.nbt_admin.specs.Times.{IsConfigOf, AreLimits, LimitsFail, SpellsEnding, IsEnding, EndingFails}
-use Rattle.nbt_admin.specs.Failures.{TellsWord}
-use Rattle.nbt_admin.specs.Words.{IsEnd, EndFails, SpellsOwn, IsOwn, OwnFails, SpellsSought, SoughtFails}
-use Rattle.nbt_admin.specs.declared.hosting.TheConstants.{NAMES_MOST}
+use Rattle.nbt_admin.specs.Failures.{ComplainsOf, out_of_memory}
+use Rattle.nbt_admin.specs.Texts.{IsAddress, AddressFails, SpellsOwn, IsOwn, OwnFails, SpellsSought, SoughtFails}
 use Rattle.nbt_admin.specs.declared.failure.Complaint.TheVariants as complaint
 use Rattle.nbt_admin.specs.declared.failure.Failure.{Failure}
-use Rattle.nbt_admin.specs.declared.failure.Failure.TheVariants.{Words, Memory}
-use Rattle.nbt_admin.specs.declared.failure.WordFault.TheVariants as w
+use Rattle.nbt_admin.specs.declared.failure.Failure.TheVariants.{Complaint}
+use Rattle.nbt_admin.specs.declared.failure.ArgumentFault.TheVariants as w
 
 -- ---- the names
 
--- a word spells the name that is wanted, of this kind, for as long as the server allows
-pub record IsWanted (exact : Bool) (scope : List ℕ) (kind : Kind) (word : List ℕ) (want : Want) : Type 0 where
-  pub name : SpellsSought exact scope word want.name
+-- a text spells the name that is wanted, of this kind, for as long as the server allows
+pub record IsWanted (exact : Bool) (scope : List ℕ) (kind : Kind) (text : List ℕ) (want : Want) : Type 0 where
+  pub name : SpellsSought exact scope text want.name
   pub kind_is : want.kind ≡ kind
   pub ttl_is : want.ttl ≡ 0
 
@@ -29,60 +28,60 @@ pub record IsWanted (exact : Bool) (scope : List ℕ) (kind : Kind) (word : List
 abbrev pub IsAmong : NameValue → List Want → Type 0
 IsAmong name wants = Any (λ want. want.name ≡ name) wants
 
--- the words spell the names that are wanted beside some that are wanted already, one each, in their order, and none twice
+-- the texts spell the names that are wanted beside some that are wanted already, one each, in their order, and none twice
 pub data AreWanted (exact : Bool) (scope : List ℕ) (kind : Kind) (already : List Want) : List (Bor (List ℕ)) → List Want → Type 0 where
   none_wanted : AreWanted exact scope kind already [] []
-  one_more : (words : List (Bor (List ℕ))) (word : Bor (List ℕ)) (wants : List Want) (want : Want) → AreWanted exact scope kind already words wants
-      → IsWanted exact scope kind word.now want → ¬ IsAmong want.name (already ++ wants) → AreWanted exact scope kind already (words ++ word ∷ []) (wants ++ want ∷ [])
+  one_more : (texts : List (Bor (List ℕ))) (text : Bor (List ℕ)) (wants : List Want) (want : Want) → AreWanted exact scope kind already texts wants
+      → IsWanted exact scope kind text.now want → ¬ IsAmong want.name (already ++ wants) → AreWanted exact scope kind already (texts ++ text ∷ []) (wants ++ want ∷ [])
 
--- a word spells no name that can be wanted beside these
-abbrev pub WantFails : (exact : Bool) → (scope : List ℕ) → (already : List Want) → (word : List ℕ) → Failure → Type 0
-WantFails exact scope already word failure = SoughtFails exact scope word failure
-    ⊎ ((name : NameValue) × SpellsSought exact scope word name × IsAmong name already × TellsWord word w.Twice failure)
+-- a text spells no name that can be wanted beside these
+abbrev pub WantFails : (exact : Bool) → (scope : List ℕ) → (already : List Want) → (text : List ℕ) → Failure → Type 0
+WantFails exact scope already text failure = SoughtFails exact scope text failure
+    ⊎ ((name : NameValue) × SpellsSought exact scope text name × IsAmong name already × ComplainsOf text w.Twice failure)
 
--- some words of a list are well, and the next is not
-abbrev pub WordsFail : (exact : Bool) → (scope : List ℕ) → Kind → (already : List Want) → List (Bor (List ℕ)) → Failure → Type 0
-WordsFail exact scope kind already words failure = (failure ≡ Memory)
-    ⊎ ((before after : List (Bor (List ℕ))) × ((word : Bor (List ℕ)) × ((wants : List Want)
-    × (words ≡ before ++ word ∷ after) × AreWanted exact scope kind already before wants × WantFails exact scope (already ++ wants) word.now failure)))
+-- some texts of a list are well, and the next is not
+abbrev pub TextsFail : (exact : Bool) → (scope : List ℕ) → Kind → (already : List Want) → List (Bor (List ℕ)) → Failure → Type 0
+TextsFail exact scope kind already texts failure = (failure ≡ out_of_memory)
+    ⊎ ((before after : List (Bor (List ℕ))) × ((text : Bor (List ℕ)) × ((wants : List Want)
+    × (texts ≡ before ++ text ∷ after) × AreWanted exact scope kind already before wants × WantFails exact scope (already ++ wants) text.now failure)))
 
 -- how many names there are
-abbrev pub count_of : HostWords → ℕ
-count_of words = length words.names.items + length words.groups.items
+abbrev pub count_of : HostTexts → ℕ
+count_of texts = length texts.names.items + length texts.groups.items
 
 -- those that are to be held by this machine alone come first
-pub record SpellWants (words : HostWords) (wants : List Want) : Type 0 where
+pub record SpellWants (texts : HostTexts) (wants : List Want) : Type 0 where
   pub alone : List Want
   pub in_groups : List Want
   pub wants_are : wants ≡ alone ++ in_groups
-  pub names : AreWanted words.exact words.scope.now Unique [] words.names.items alone
-  pub groups : AreWanted words.exact words.scope.now Group alone words.groups.items in_groups
-  pub few : count_of words ≤ NAMES_MOST
+  pub names : AreWanted texts.exact texts.scope.now Unique [] texts.names.items alone
+  pub groups : AreWanted texts.exact texts.scope.now Group alone texts.groups.items in_groups
+  pub few : count_of texts ≤ 14
 
--- there are too many, or the first one that can't be read, or comes again, is told
-abbrev pub NamesFail : HostWords → Failure → Type 0
-NamesFail words failure = (failure ≡ Memory)
-    ⊎ (((NAMES_MOST < count_of words) × (failure ≡ Words (complaint.Many (count_of words))))
-    ⊎ (((count_of words ≤ NAMES_MOST) × WordsFail words.exact words.scope.now Unique [] words.names.items failure)
-    ⊎ ((count_of words ≤ NAMES_MOST) × ((alone : List Want) × AreWanted words.exact words.scope.now Unique [] words.names.items alone
-    × WordsFail words.exact words.scope.now Group alone words.groups.items failure))))
+-- there are more than 14, as many as a node holds; or the first one that can't be read, or comes again, is named
+abbrev pub NamesFail : HostTexts → Failure → Type 0
+NamesFail texts failure = (failure ≡ out_of_memory)
+    ⊎ (((14 < count_of texts) × (failure ≡ Complaint (complaint.Many (count_of texts))))
+    ⊎ (((count_of texts ≤ 14) × TextsFail texts.exact texts.scope.now Unique [] texts.names.items failure)
+    ⊎ ((count_of texts ≤ 14) × ((alone : List Want) × AreWanted texts.exact texts.scope.now Unique [] texts.names.items alone
+    × TextsFail texts.exact texts.scope.now Group alone texts.groups.items failure))))
 
 -- ---- the whole
 
--- the arguments are those that the words give
-pub record HostGiven (words : HostWords) (a : HostArguments) : Type 0 where
-  pub bind : SpellsOwn words.bind.now a.bind
-  pub server : SpellsEnd words.server.now a.server
-  pub config : IsConfigOf words.life.now words.longest.now a.config
-  pub wants : SpellWants words a.wants.items
-  pub time : SpellsEnding words.time a.time
-  pub log_is : a.log ≡ words.log
+-- the arguments are those that the texts give
+pub record HostGiven (texts : HostTexts) (a : HostArguments) : Type 0 where
+  pub bind : SpellsOwn texts.bind.now a.bind
+  pub server : SpellsEnd texts.server.now a.server
+  pub config : IsConfigOf texts.life.now texts.longest.now a.config
+  pub wants : SpellWants texts a.wants.items
+  pub time : SpellsEnding texts.time a.time
+  pub log_is : a.log ≡ texts.log
 
--- The first thing that is wrong is told; memory may be short at any step.
-abbrev pub HostFails : HostWords → Failure → Type 0
-HostFails words failure = (failure ≡ Memory)
-    ⊎ (LimitsFail words.life.now words.longest.now failure
-    ⊎ ((AreLimits words.life.now words.longest.now × EndingFails words.time failure)
-    ⊎ ((AreLimits words.life.now words.longest.now × IsEnding words.time × EndFails words.server.now failure)
-    ⊎ ((AreLimits words.life.now words.longest.now × IsEnding words.time × IsEnd words.server.now × OwnFails words.bind.now failure)
-    ⊎ (AreLimits words.life.now words.longest.now × IsEnding words.time × IsEnd words.server.now × IsOwn words.bind.now × NamesFail words failure)))))
+-- The first thing that is wrong is said; memory may be out at any step.
+abbrev pub HostFails : HostTexts → Failure → Type 0
+HostFails texts failure = (failure ≡ out_of_memory)
+    ⊎ (LimitsFail texts.life.now texts.longest.now failure
+    ⊎ ((AreLimits texts.life.now texts.longest.now × EndingFails texts.time failure)
+    ⊎ ((AreLimits texts.life.now texts.longest.now × IsEnding texts.time × AddressFails texts.server.now failure)
+    ⊎ ((AreLimits texts.life.now texts.longest.now × IsEnding texts.time × IsAddress texts.server.now × OwnFails texts.bind.now failure)
+    ⊎ (AreLimits texts.life.now texts.longest.now × IsEnding texts.time × IsAddress texts.server.now × IsOwn texts.bind.now × NamesFail texts failure)))))

@@ -1,8 +1,8 @@
 pub mod Asking
 pub mod Failures
 pub mod Hosting
-pub mod Requests
+pub mod Refusals
 pub mod Running
 pub mod Serving
+pub mod Texts
 pub mod Times
-pub mod Words

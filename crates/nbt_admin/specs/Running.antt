@@ -1,15 +1,19 @@
--- What a command for people does on this machine, what it prints, and with which status it ends (our profile).
+-- What a command for people who run a network does on this machine, what it prints, and with which status it ends (our profile).
 use Rattle.std.specs.Prelude.{◌≡◌, ℕ, Bool, if◌then◌else◌, List, Option}
 use Rattle.std.specs.Io.KnownBytes.{Appends}
+use Rattle.nbt_args.specs.declared.texts.AdminLine.{AdminLine}
+use Rattle.nbt_args.specs.declared.texts.AdminLine.TheVariants.{Lookup, Status, Nbns, Host}
 use Rattle.nbt_ask.specs.Answers.{answer_status}
 use Rattle.nbt_ask.specs.Asking.{AsksHere}
 use Rattle.nbt_ask.specs.declared.answer.Answer.{Answer}
 use Rattle.nbt_hosting.specs.Running.{HostsHere}
 use Rattle.nbt_hosting.specs.declared.arguments.HostArguments.{HostArguments}
 use Rattle.nbt_nbns.specs.Here.{RunsNbns}
+use Rattle.nbt_nbns.specs.declared.here.NbnsArguments.{NbnsArguments}
+use Rattle.nbt_admin.specs.Asking.{LookupGiven, StatusGiven}
+use Rattle.nbt_admin.specs.Hosting.{HostGiven}
+use Rattle.nbt_admin.specs.Serving.{NbnsGiven}
 use Rattle.nbt_admin.specs.declared.asking.AskArguments.{AskArguments}
-use Rattle.nbt_admin.specs.declared.request.Request.{Request}
-use Rattle.nbt_admin.specs.declared.request.Request.TheVariants as request
 
 -- It was asked, the text of how that came out was appended, and the status is that of the answer.
 pub record AskedHere (a : AskArguments) (status : ℕ) (old_text text : Option (List ℕ)) : Type 0 where
@@ -25,7 +29,9 @@ pub record HostedHere (a : HostArguments) (status : ℕ) (old_text text : Option
   pub hosts : HostsHere a all old_text text
   pub status_is : status ≡ (if all then 0 else 5)
 
-abbrev pub Runs : Request → (status : ℕ) → (old_text text : Option (List ℕ)) → Type 0
-Runs (request.Ask a) status old_text text = AskedHere a status old_text text
-Runs (request.Nbns a) status old_text text = (status ≡ 0) × RunsNbns a old_text text
-Runs (request.Host a) status old_text text = HostedHere a status old_text text
+-- the command was done with the arguments that its texts give
+abbrev pub Runs : AdminLine → (status : ℕ) → (old_text text : Option (List ℕ)) → Type 0
+Runs (Lookup texts) status old_text text = (a : AskArguments) × LookupGiven texts a × AskedHere a status old_text text
+Runs (Status texts) status old_text text = (a : AskArguments) × StatusGiven texts a × AskedHere a status old_text text
+Runs (Nbns texts) status old_text text = (a : NbnsArguments) × NbnsGiven texts a × (status ≡ 0) × RunsNbns a old_text text
+Runs (Host texts) status old_text text = (a : HostArguments) × HostGiven texts a × HostedHere a status old_text text

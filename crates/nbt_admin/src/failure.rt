@@ -1,79 +1,95 @@
-//! Why the words of a command for people ask for nothing.
+//! Why a command for people who run a network is not done.
 
 ghost use Rattle.std.specs.Prelude.{◌≡◌, ◌⊎◌};
 
+use crate::hosting::NAMES_MOST;
 use nbt_args::{Refusal, Text};
-use nbt_lease::Config;
+use nbt_engine::Fault;
+use nbt_lease::{Config, LIFE_MOST, LONGEST_MOST};
 use nbt_nbns::write_refusal;
 use std::alloc::{AllocError, AllocFailed, Global};
 use std::io::Write;
 use std::{fmt, io};
-use thiserror::Error;
 
-/// What is wrong with a word of a command for people (our profile).
-#[derive(Clone, Copy, Debug, PartialEq, Eq, Error)]
-pub enum WordFault {
+/// What is wrong with an argument (our profile).
+#[derive(Clone, Copy)]
+pub enum ArgumentFault {
     /// It is no address.
-    #[error("no A.B.C.D or A.B.C.D:PORT in decimal")]
     Address,
     /// It is the address 0.0.0.0, at which nobody finds this machine.
-    #[error("not an address at which others find this machine")]
     Anywhere,
     /// It spells no name.
-    #[error("{0}")]
-    Name(nbt_text::Fault),
+    Name(nbt_spelling::Fault),
     /// It spells a name that begins with `*`, for which no server is asked.
-    #[error("no server is asked for a name that begins with *")]
     Star,
-    /// It spells a name that a word before it spells too.
-    #[error("given twice")]
+    /// It spells a name that an argument before it spells too.
     Twice,
     /// It is no life of a datagram.
-    #[error("not a time from 1ms to 60s")]
     Life,
     /// It is no longest lease.
-    #[error("not a time in whole seconds from 1s to 1000000s")]
     Longest,
     /// It is no time.
-    #[error("not a time, as 1500ms, 300s or 5m")]
     Time,
 }
 
-impl WordFault {
-    /// What the word was to be.
+impl ArgumentFault {
+    /// What the argument was to be.
     fn what(self) -> &'static str {
         match self {
-            WordFault::Address | WordFault::Anywhere => "address",
-            WordFault::Name(_) | WordFault::Star | WordFault::Twice => "name",
-            WordFault::Life => "life",
-            WordFault::Longest => "longest lease",
-            WordFault::Time => "time",
+            ArgumentFault::Address | ArgumentFault::Anywhere => "address",
+            ArgumentFault::Name(_) | ArgumentFault::Star | ArgumentFault::Twice => "name",
+            ArgumentFault::Life => "life",
+            ArgumentFault::Longest => "longest lease",
+            ArgumentFault::Time => "time",
         }
     }
 }
 
-/// A word of a command for people that can't be read, and what is wrong with it. Its text is as
-/// `name 'FILESERVER-NUMBER-1': 19 characters, at most 15`.
-#[derive(Debug, Drop)]
-pub struct BadWord {
-    pub word: String,
-    pub fault: WordFault,
-}
-
-impl fmt::Display for BadWord {
+impl fmt::Display for ArgumentFault {
     fn fmt<W: fmt::Write>(&self, f: &mut fmt::Formatter<W>) -> fmt::Result {
-        let what = self.fault.what();
-        let word = self.word.as_str();
-        let fault = self.fault;
-        write!(f, "{what} '{word}': {fault}")
+        match self {
+            ArgumentFault::Address => f.write_str("no A.B.C.D or A.B.C.D:PORT in decimal"),
+            ArgumentFault::Anywhere => {
+                f.write_str("not an address at which others find this machine")
+            }
+            ArgumentFault::Name(fault) => write!(f, "{fault}"),
+            ArgumentFault::Star => f.write_str("no server is asked for a name that begins with *"),
+            ArgumentFault::Twice => f.write_str("given twice"),
+            ArgumentFault::Life => {
+                let most = LIFE_MOST / 1_000;
+                write!(f, "not a time from 1ms to {most}s")
+            }
+            ArgumentFault::Longest => {
+                let most = LONGEST_MOST;
+                write!(f, "not a time in whole seconds from 1s to {most}s")
+            }
+            ArgumentFault::Time => f.write_str("not a time, as 1500ms, 300s or 5m"),
+        }
     }
 }
 
-/// What standard error says of the words of a command for people.
-#[derive(Debug, Drop)]
+/// An argument that can't be read, and what is wrong with it. Its text is as
+/// `name 'FILESERVER-NUMBER-1': 19 characters, at most 15`.
+#[derive(Drop)]
+pub struct BadArgument {
+    pub text: String,
+    pub fault: ArgumentFault,
+}
+
+impl fmt::Display for BadArgument {
+    fn fmt<W: fmt::Write>(&self, f: &mut fmt::Formatter<W>) -> fmt::Result {
+        let what = self.fault.what();
+        let text = self.text.as_str();
+        let fault = self.fault;
+        write!(f, "{what} '{text}': {fault}")
+    }
+}
+
+/// What standard error says of the arguments of a command.
+#[derive(Drop)]
 pub enum Complaint {
-    /// A word can't be read.
-    Word(BadWord),
+    /// An argument can't be read.
+    Argument(BadArgument),
     /// The longest lease is too short, as `nbt_nbns::judge` has it.
     Short(Config),
     /// There are so many names, which is more than a host can hold.
@@ -82,18 +98,21 @@ pub enum Complaint {
 
 impl Complaint {
     /// Writes the line `nbt: ` and what is wrong, at once. What can't be written is passed over.
-    pub fn tell<E: Write>(&self, alloc: Global, errors: &mut E) {
+    pub fn report<E: Write>(&self, alloc: Global, errors: &mut E) {
         let _ = self.write_line(alloc, errors);
     }
 
     fn write_line<E: Write>(&self, alloc: Global, errors: &mut E) -> io::Result<()> {
         match self {
-            Complaint::Word(bad) => writeln!(errors, "nbt: {bad}")?,
+            Complaint::Argument(bad) => writeln!(errors, "nbt: {bad}")?,
             Complaint::Short(config) => {
                 let text = refusal_of(alloc, *config)?;
                 writeln!(errors, "nbt: {text}")?;
             }
-            Complaint::Many(count) => writeln!(errors, "nbt: {count} names, at most 14")?,
+            Complaint::Many(count) => {
+                let most = NAMES_MOST;
+                writeln!(errors, "nbt: {count} names, at most {most}")?;
+            }
         }
         errors.flush()
     }
@@ -106,48 +125,61 @@ fn refusal_of(alloc: Global, config: Config) -> Result<String, AllocError> {
     Ok(text)
 }
 
-/// Why the words of a command for people ask for nothing.
-#[derive(Debug, Drop)]
+/// Why a command for people who run a network is not done.
+#[derive(Drop)]
 pub enum Failure {
     /// The usage is wrong, as this says.
     Usage(Text),
-    /// Something else is wrong with the words.
-    Words(Complaint),
-    /// An allocation was refused.
-    Memory,
+    /// Something else is wrong with the arguments.
+    Complaint(Complaint),
+    /// A port, a clock, a socket or the output failed, or memory is out.
+    Fault(Fault),
 }
 
 impl Failure {
-    ghost use Rattle.nbt_admin.specs.Failures.{TellsWord};
+    ghost use Rattle.nbt_admin.specs.Failures.{ComplainsOf, out_of_memory};
 
-    /// The failure that this is wrong with a word, or the one of memory.
-    pub(crate) fn of_word(alloc: Global, text: &str, fault: WordFault) -> Failure
-        ensures { (result ≡ Failure.Memory) ⊎ TellsWord text.now fault result }
+    /// The failure that this is wrong with an argument, or that memory is out.
+    pub(crate) fn of_argument(alloc: Global, text: &str, fault: ArgumentFault) -> Failure
+        ensures { (result ≡ out_of_memory) ⊎ ComplainsOf text.now fault result }
     {
         match String::from_str(alloc, text) {
-            Ok(word) => Failure::Words(Complaint::Word(BadWord { word, fault })),
-            Err(_) => Failure::Memory,
+            Ok(owned) => Failure::Complaint(Complaint::Argument(BadArgument {
+                text: owned,
+                fault,
+            })),
+            Err(_) => Failure::Fault(Fault::Memory),
         }
     }
 }
 
-impl<T: Drop> From<AllocFailed<T>> for Failure {
+impl From<Fault> for Failure {
     ghost use Rattle.nbt_admin.specs.declared.failure.Failure.TheVariants as failure;
 
-    ghost from_gives = { λ _ result. result ≡ failure.Memory };
+    ghost from_gives = { λ fault result. result ≡ failure.Fault fault };
+
+    fn from(fault: Fault) -> Failure {
+        Failure::Fault(fault)
+    }
+}
+
+impl<T: Drop> From<AllocFailed<T>> for Failure {
+    ghost use Rattle.nbt_admin.specs.Failures.{out_of_memory};
+
+    ghost from_gives = { λ _ result. result ≡ out_of_memory };
 
     fn from(_error: AllocFailed<T>) -> Failure {
-        Failure::Memory
+        Failure::Fault(Fault::Memory)
     }
 }
 
 impl From<AllocError> for Failure {
-    ghost use Rattle.nbt_admin.specs.declared.failure.Failure.TheVariants as failure;
+    ghost use Rattle.nbt_admin.specs.Failures.{out_of_memory};
 
-    ghost from_gives = { λ _ result. result ≡ failure.Memory };
+    ghost from_gives = { λ _ result. result ≡ out_of_memory };
 
     fn from(_error: AllocError) -> Failure {
-        Failure::Memory
+        Failure::Fault(Fault::Memory)
     }
 }
 
@@ -159,7 +191,7 @@ impl From<Refusal> for Failure {
     fn from(refusal: Refusal) -> Failure {
         match refusal {
             Refusal::Help(text) | Refusal::Wrong(text) => Failure::Usage(text),
-            Refusal::Memory => Failure::Memory,
+            Refusal::Memory => Failure::Fault(Fault::Memory),
         }
     }
 }

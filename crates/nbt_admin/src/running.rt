@@ -1,12 +1,17 @@
-//! What a command for people does on this machine.
+//! What a command for people who run a network does on this machine.
 
-ghost use Rattle.std.specs.Prelude.{◌≡◌, ◌≢◌, ◌≤◌, Err, IfOk, OnOk, IfErr};
+ghost use Rattle.std.specs.Prelude.{◌≡◌, ◌≤◌, IfOk, OnOk, IfErr};
 ghost use Rattle.std.specs.Io.KnownBytes.{Appends};
-ghost use Rattle.nbt_admin.specs.Running.{Runs, AskedHere, HostedHere};
+ghost use Rattle.nbt_args.specs.declared.texts.AdminLine.TheVariants as line;
 ghost use Rattle.nbt_nbns.specs.Here.{RunsNbns};
+ghost use Rattle.nbt_admin.specs.Refusals.{Refuses, Stops};
+ghost use Rattle.nbt_admin.specs.Running.{Runs, AskedHere, HostedHere};
 
-use crate::asking::AskArguments;
-use crate::request::Request;
+use crate::asking::{AskArguments, lookup_arguments, status_arguments};
+use crate::failure::Failure;
+use crate::hosting::host_arguments;
+use crate::serving::nbns_arguments;
+use nbt_args::{AdminLine, HostTexts, LookupTexts, NbnsTexts};
 use nbt_ask::ask_here;
 use nbt_engine::Fault;
 use nbt_hosting::{HostArguments, run_host};
@@ -21,28 +26,116 @@ use std::{io, time};
 /// The status of a host of whose names one wasn't held at its end (our profile).
 const NOT_HELD: u8 = 5;
 
-/// Does what is asked for, over this machine's UDP, its clocks and its files, and prints it. Returns the status: of a question that of
-/// its answer, 0, 1 or 5; of a name server 0; of a host 0 where all its names were held at its end, and else 5. Refused as `ask_here`,
-/// `run_nbns` and `run_host` are, and with `Output` where the text of a question can't be printed. Of a longest lease above an hour
-/// a line in `errors` says first for how long a server is silent.
+/// Does what a command line asks for, over this machine's UDP, its clocks and its files, and prints it. Returns the status: of a lookup or a
+/// status request that of its answer, 0, 1 or 5; of a name server 0; of a host 0 where all its names were held at its end, and else 5. Refused
+/// where its arguments are, by the first that is wrong and before anything is done; then as `ask_here`, `run_nbns` and `run_host` are, and with
+/// `Output` where the text of an answer can't be printed. Of a longest lease above an hour a line in `errors` says first for how long a server
+/// is silent.
 pub fn run<M: Net + time::Clock + Files, W: Write, E: Write>(
     machine: &M,
     alloc: Global,
-    request: &Request,
+    line: &AdminLine<'_>,
     writer: &mut W,
     errors: &mut E,
-) -> Result<u8, Fault>
-    ensures done { IfOk result (λ status. Runs request.now status (W.contents writer.old) (W.contents writer.new)) }
+) -> Result<u8, Failure>
+    ensures done { IfOk result (λ status. Runs line.now status (W.contents writer.old) (W.contents writer.new)) }
     ensures bound { IfOk result (λ status. status ≤ 5) }
+    ensures failure { IfErr result (Stops line.now) }
 {
-    match request {
-        Request::Ask(arguments) => ask(machine, alloc, arguments, writer, errors),
-        Request::Nbns(arguments) => serve(machine, alloc, arguments, writer, errors),
-        Request::Host(arguments) => host(machine, alloc, arguments, writer, errors),
+    match line {
+        AdminLine::Lookup(texts) => lookup(machine, alloc, texts, writer, errors),
+        AdminLine::Status(texts) => status(machine, alloc, texts, writer, errors),
+        AdminLine::Nbns(texts) => nbns(machine, alloc, texts, writer, errors),
+        AdminLine::Host(texts) => host(machine, alloc, texts, writer, errors),
     }
 }
 
-/// Asks a question, and prints how it came out.
+/// Reads the arguments of a command line, as [`run`] does first, and does nothing.
+pub fn check(alloc: Global, line: &AdminLine<'_>) -> Result<(), Failure>
+    ensures failure { IfErr result (Refuses line.now) }
+{
+    match line {
+        AdminLine::Lookup(texts) => {
+            lookup_arguments(alloc, texts)?;
+        }
+        AdminLine::Status(texts) => {
+            status_arguments(alloc, texts)?;
+        }
+        AdminLine::Nbns(texts) => {
+            nbns_arguments(alloc, texts)?;
+        }
+        AdminLine::Host(texts) => {
+            host_arguments(alloc, texts)?;
+        }
+    }
+    Ok(())
+}
+
+fn lookup<M: Net + time::Clock, W: Write, E: Write>(
+    machine: &M,
+    alloc: Global,
+    texts: &LookupTexts<'_>,
+    writer: &mut W,
+    errors: &mut E,
+) -> Result<u8, Failure>
+    ensures done { IfOk result (λ status. Runs (line.Lookup texts.now) status (W.contents writer.old) (W.contents writer.new)) }
+    ensures bound { IfOk result (λ status. status ≤ 5) }
+    ensures failure { IfErr result (Stops (line.Lookup texts.now)) }
+{
+    let arguments = lookup_arguments(alloc, texts)?;
+    let status = ask(machine, alloc, &arguments, writer, errors)?;
+    Ok(status)
+}
+
+fn status<M: Net + time::Clock, W: Write, E: Write>(
+    machine: &M,
+    alloc: Global,
+    texts: &LookupTexts<'_>,
+    writer: &mut W,
+    errors: &mut E,
+) -> Result<u8, Failure>
+    ensures done { IfOk result (λ status. Runs (line.Status texts.now) status (W.contents writer.old) (W.contents writer.new)) }
+    ensures bound { IfOk result (λ status. status ≤ 5) }
+    ensures failure { IfErr result (Stops (line.Status texts.now)) }
+{
+    let arguments = status_arguments(alloc, texts)?;
+    let status = ask(machine, alloc, &arguments, writer, errors)?;
+    Ok(status)
+}
+
+fn nbns<M: Net + time::Clock + Files, W: Write, E: Write>(
+    machine: &M,
+    alloc: Global,
+    texts: &NbnsTexts<'_>,
+    writer: &mut W,
+    errors: &mut E,
+) -> Result<u8, Failure>
+    ensures done { IfOk result (λ status. Runs (line.Nbns texts.now) status (W.contents writer.old) (W.contents writer.new)) }
+    ensures bound { IfOk result (λ status. status ≤ 5) }
+    ensures failure { IfErr result (Stops (line.Nbns texts.now)) }
+{
+    let arguments = nbns_arguments(alloc, texts)?;
+    serve(machine, alloc, &arguments, writer, errors)?;
+    Ok(0)
+}
+
+fn host<M: Net + time::Clock, W: Write, E: Write>(
+    machine: &M,
+    alloc: Global,
+    texts: &HostTexts<'_>,
+    writer: &mut W,
+    errors: &mut E,
+) -> Result<u8, Failure>
+    ensures done { IfOk result (λ status. Runs (line.Host texts.now) status (W.contents writer.old) (W.contents writer.new)) }
+    ensures bound { IfOk result (λ status. status ≤ 5) }
+    ensures failure { IfErr result (Stops (line.Host texts.now)) }
+{
+    let arguments = host_arguments(alloc, texts)?;
+    let status = hold(machine, alloc, &arguments, writer, errors)?;
+    Ok(status)
+}
+
+/// Asks, and prints how it came out.
 fn ask<M: Net + time::Clock, W: Write, E: Write>(
     machine: &M,
     alloc: Global,
@@ -80,14 +173,13 @@ fn serve<M: Net + time::Clock + Files, W: Write, E: Write>(
     arguments: &NbnsArguments,
     writer: &mut W,
     errors: &mut E,
-) -> Result<u8, Fault>
-    ensures done { IfOk result (λ status. (status ≡ 0) × RunsNbns arguments.now (W.contents writer.old) (W.contents writer.new)) }
+) -> Result<(), Fault>
+    ensures { OnOk result (RunsNbns arguments.now (W.contents writer.old) (W.contents writer.new)) }
 {
     if judge(arguments.config) == Judged::Long {
         let _ = warn(alloc, arguments.config, errors);
     }
-    run_nbns(machine, alloc, arguments, writer, errors)?;
-    Ok(0)
+    run_nbns(machine, alloc, arguments, writer, errors)
 }
 
 /// Says for how long a server is silent.
@@ -99,7 +191,7 @@ fn warn<E: Write>(alloc: Global, config: Config, errors: &mut E) -> io::Result<(
 }
 
 /// Runs a host.
-fn host<M: Net + time::Clock, W: Write, E: Write>(
+fn hold<M: Net + time::Clock, W: Write, E: Write>(
     machine: &M,
     alloc: Global,
     arguments: &HostArguments,

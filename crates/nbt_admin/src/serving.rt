@@ -1,4 +1,4 @@
-//! The command `nbns`: what its words ask for.
+//! The arguments of `nbns`.
 
 ghost use Rattle.std.specs.Prelude.{◌≡◌, IfOk, IfErr};
 ghost use Rattle.std.specs.Option.{option_map};
@@ -6,30 +6,30 @@ ghost use Rattle.std.specs.String.{string_bytes};
 ghost use Rattle.nbt_admin.specs.Serving.{NbnsGiven, NbnsFails};
 
 use crate::failure::Failure;
-use crate::naming::end_of;
+use crate::naming::address_of;
 use crate::timing::{config_of, ending_of, fit};
-use nbt_args::NbnsWords;
+use nbt_args::NbnsTexts;
 use nbt_nbns::NbnsArguments;
 use std::alloc::{AllocError, Global};
 
-/// Reads the arguments of `nbns`. The first that is wrong is told: the life, the longest lease, the time, a longest lease that is too
+/// Reads the arguments of `nbns`. The first that is wrong is said: the life, the longest lease, the time, a longest lease that is too
 /// short for a network, the address.
-pub fn nbns_arguments(alloc: Global, words: &NbnsWords<'_>) -> Result<NbnsArguments, Failure>
-    ensures given { IfOk result (NbnsGiven words.now) }
-    ensures failure { IfErr result (NbnsFails words.now) }
+pub fn nbns_arguments(alloc: Global, texts: &NbnsTexts<'_>) -> Result<NbnsArguments, Failure>
+    ensures given { IfOk result (NbnsGiven texts.now) }
+    ensures failure { IfErr result (NbnsFails texts.now) }
 {
-    let config = config_of(alloc, words.life, words.longest)?;
-    let time = ending_of(alloc, words.time)?;
+    let config = config_of(alloc, texts.life, texts.longest)?;
+    let time = ending_of(alloc, texts.time)?;
     fit(config)?;
-    let bind = end_of(alloc, words.bind)?;
-    let leases = path_of(alloc, words.leases)?;
+    let bind = address_of(alloc, texts.bind)?;
+    let leases = path_of(alloc, texts.leases)?;
     Ok(NbnsArguments {
         bind,
         config,
         time,
-        log: words.log,
+        log: texts.log,
         leases,
-        strict: words.strict,
+        strict: texts.strict,
     })
 }
 

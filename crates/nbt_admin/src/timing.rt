@@ -1,11 +1,11 @@
-//! The times and limits that words spell.
+//! The times and limits that texts spell.
 
 ghost use Rattle.std.specs.Prelude.{◌≡◌, ◌≤◌, ◌↔◌, ℕ, IfOk, IfErr, IsSome, IfSome};
 ghost use Rattle.nbt_lease.specs.Config.{IsLife, IsLongest, milliseconds};
 ghost use Rattle.nbt_admin.specs.Times.{SpellsWait, IsWait, SpellsLife, IsLifeText, SpellsLongest, IsLongestText, SpellsEnding, IsEnding, EndingFails, IsConfigOf, AreLimits, LimitsFail, IsFitting, FittingFails};
 
-use crate::failure::{Complaint, Failure, WordFault};
-use nbt_ask::TRY;
+use crate::failure::{ArgumentFault, Complaint, Failure};
+use nbt_args::LimitedArgument;
 use nbt_lease::{Config, LIFE_MOST, LONGEST_MOST, ROWS_MOST};
 use nbt_nbns::{Judged, judge};
 use nbt_text::read_duration;
@@ -21,10 +21,10 @@ pub fn config_of(alloc: Global, life: &str, longest: &str) -> Result<Config, Fai
     ensures failure { IfErr result (LimitsFail life.now longest.now) }
 {
     let Some(milliseconds) = parse_life(life) else {
-        return Err(Failure::of_word(alloc, life, WordFault::Life));
+        return Err(Failure::of_argument(alloc, life, ArgumentFault::Life));
     };
     let Some(seconds) = parse_longest(longest) else {
-        return Err(Failure::of_word(alloc, longest, WordFault::Longest));
+        return Err(Failure::of_argument(alloc, longest, ArgumentFault::Longest));
     };
     Ok(Config::new(milliseconds, seconds, ROWS_MOST).unwrap())
 }
@@ -35,7 +35,7 @@ pub fn fit(config: Config) -> Result<(), Failure>
     ensures failure { IfErr result (FittingFails config) }
 {
     match judge(config) {
-        Judged::Short => Err(Failure::Words(Complaint::Short(config))),
+        Judged::Short => Err(Failure::Complaint(Complaint::Short(config))),
         _ => Ok(()),
     }
 }
@@ -51,7 +51,7 @@ pub fn ending_of(alloc: Global, text: Option<&str>) -> Result<Option<u64>, Failu
     };
     match read_duration(text.as_bytes()) {
         Some(time) => Ok(Some(time)),
-        None => Err(Failure::of_word(alloc, text, WordFault::Time)),
+        None => Err(Failure::of_argument(alloc, text, ArgumentFault::Time)),
     }
 }
 
@@ -68,10 +68,11 @@ pub fn parse_wait(text: &str) -> Option<u32>
 
 /// The time, where it is within its limits.
 fn wait_within(time: u64) -> Option<u32>
-    ensures found { IsSome result ↔ ((1 ≤ time) × (time ≤ TRY)) }
+    ensures found { IsSome result ↔ ((1 ≤ time) × (time ≤ 5000)) }
     ensures value { IfSome result (λ t. t ≡ time) }
 {
-    if 1 <= time && time <= u64::from(TRY) {
+    let limits = LimitedArgument::Wait;
+    if limits.least() <= time && time <= limits.most() {
         Some(time as u32)
     } else {
         None

@@ -1,3 +1,3 @@
 -- What only the contracts of private functions cite: a caller needs none of it.
+pub mod Matches
 pub mod Refusal
-pub mod Words

@@ -1,8 +1,8 @@
--- Why words ask for no command.
+-- Why arguments name no command that can be run.
 use Rattle.nbt_args.specs.declared.refusal.Refusal.{Refusal}
 use Rattle.nbt_args.specs.declared.refusal.Refusal.TheVariants.{Help, Wrong, Memory}
 
--- the words are wrong, unless an allocation was refused; help was not asked for
+-- the usage is wrong, unless memory is out; help was not asked for
 abbrev pub IsWrongUsage : Refusal → Type 0
 IsWrongUsage (Help text) = ⊥
 IsWrongUsage (Wrong text) = Unit {0}

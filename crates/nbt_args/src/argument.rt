@@ -1,22 +1,19 @@
 //! The arguments of a command as rows of a table, and the command that `clap` makes of them.
 
-ghost use Rattle.std.specs.Prelude.{◌≡◌, IfOk};
-ghost use Rattle.clap.specs.Words.{kind_of};
-
 use clap::builder::ValueParser;
-use clap::error::ErrorKind;
-use clap::{Arg, ArgAction, Command, Error};
+use clap::{Arg, ArgAction, Command};
 use std::alloc::{AllocError, Global};
+use std::fmt;
 
-/// How an argument is written. Each form but a flag has the word that stands for its value in the help.
+/// How an argument is written. Each form but a flag has the placeholder of its value in the help.
 #[derive(Clone, Copy)]
 pub enum Form {
-    /// A word in its place.
-    Word(&'static str),
-    /// Words in their place.
-    Words(&'static str),
-    /// A word in its place, which is one of these.
-    Choice(&'static str, &'static [&'static str]),
+    /// A value in its place.
+    Placed(&'static str),
+    /// One or more values in their place.
+    PlacedMany(&'static str),
+    /// A value in its place, which is one of these.
+    PlacedChoice(&'static str, &'static [&'static str]),
     /// An option with a value.
     Option(&'static str),
     /// An option with a value, which may come again.
@@ -28,15 +25,15 @@ pub enum Form {
 }
 
 impl Form {
-    /// The word that stands for its value in the help.
-    fn shown(self) -> Option<&'static str> {
+    /// The placeholder of its value in the help.
+    fn placeholder(self) -> Option<&'static str> {
         match self {
-            Form::Word(shown)
-            | Form::Words(shown)
-            | Form::Choice(shown, _)
-            | Form::Option(shown)
-            | Form::Options(shown)
-            | Form::OptionChoice(shown, _) => Some(shown),
+            Form::Placed(placeholder)
+            | Form::PlacedMany(placeholder)
+            | Form::PlacedChoice(placeholder, _)
+            | Form::Option(placeholder)
+            | Form::Options(placeholder)
+            | Form::OptionChoice(placeholder, _) => Some(placeholder),
             Form::Flag => None,
         }
     }
@@ -44,7 +41,7 @@ impl Form {
     /// The values of which it is one, where there are such.
     fn values(self) -> Option<&'static [&'static str]> {
         match self {
-            Form::Choice(_, values) | Form::OptionChoice(_, values) => Some(values),
+            Form::PlacedChoice(_, values) | Form::OptionChoice(_, values) => Some(values),
             _ => None,
         }
     }
@@ -52,20 +49,23 @@ impl Form {
     /// What is done where it is met, but to keep its value.
     fn action(self) -> Option<ArgAction> {
         match self {
-            Form::Words(_) | Form::Options(_) => Some(ArgAction::Append),
+            Form::PlacedMany(_) | Form::Options(_) => Some(ArgAction::Append),
             Form::Flag => Some(ArgAction::SetTrue),
             _ => None,
         }
     }
 
-    /// Whether it stands in its place, and not after its name.
+    /// Whether it stands in its place, without its name.
     fn is_placed(self) -> bool {
-        matches!(self, Form::Word(_) | Form::Words(_) | Form::Choice(_, _))
+        matches!(
+            self,
+            Form::Placed(_) | Form::PlacedMany(_) | Form::PlacedChoice(_, _)
+        )
     }
 
-    /// Whether it may be several words at once.
+    /// Whether it may be several values at once.
     fn is_many(self) -> bool {
-        matches!(self, Form::Words(_))
+        matches!(self, Form::PlacedMany(_))
     }
 }
 
@@ -92,6 +92,18 @@ pub struct Argument {
     pub form: Form,
     pub presence: Presence,
     pub help: &'static str,
+}
+
+/// As usage has it: `<LIFE>`, `--at <MS>` or `--forever`.
+impl fmt::Display for Argument {
+    fn fmt<W: fmt::Write>(&self, f: &mut fmt::Formatter<W>) -> fmt::Result {
+        let name = self.name;
+        match self.form.placeholder() {
+            Some(placeholder) if self.form.is_placed() => write!(f, "<{placeholder}>"),
+            Some(placeholder) => write!(f, "--{name} <{placeholder}>"),
+            None => write!(f, "--{name}"),
+        }
+    }
 }
 
 /// A command, with its arguments and the help on it.
@@ -152,8 +164,8 @@ fn with_form<'a>(arg: Arg<'a>, name: &'static str, form: Form) -> Arg<'a> {
     } else {
         arg.long(name)
     };
-    let arg = match form.shown() {
-        Some(shown) => arg.value_name(shown),
+    let arg = match form.placeholder() {
+        Some(placeholder) => arg.value_name(placeholder),
         None => arg,
     };
     let arg = match form.values() {
@@ -180,18 +192,4 @@ fn with_presence<'a>(arg: Arg<'a>, presence: Presence) -> Result<Arg<'a>, AllocE
         Presence::Unless(other) => arg.required_unless_present(other),
         Presence::InsteadOf(other) => arg.conflicts_with(other)?.required_unless_present(other),
     }
-}
-
-/// The error of a value of this command, called so, that is not what the help says.
-pub fn bad_value_error(
-    alloc: Global,
-    description: &Description,
-    called: &str,
-    message: &[&str],
-) -> Result<Error, AllocError>
-    ensures { IfOk result (λ e. kind_of e ≡ ErrorKind.ValueValidation) }
-{
-    let message = message.concat(alloc)?;
-    let mut command = command_of(alloc, description)?.bin_name(called)?;
-    command.error(ErrorKind::ValueValidation, message.as_str())
 }

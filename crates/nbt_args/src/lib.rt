@@ -1,23 +1,23 @@
-//! The command line of `nbt`: its commands and their words, and the help on them (our profile).
+//! The command line of `nbt`: its commands and their arguments, and the help on them (our profile).
 //!
-//! [`read`] gives the words of a command, each under its name. What they mean is for who asks: a word that can't be taken
-//! is told by [`bad_time`], [`bad_port`], [`bad_number`] or [`bad_wait`], in the same text as other wrong usage.
+//! [`read`] gives the texts of a command's arguments, each under its name. What they mean is for the caller: a value that is not within its
+//! limits is refused by [`bad_value`], in the same text as other wrong usage. This crate alone knows `clap`, over which a proof takes long.
 #![tactic(auto)]
 
+mod admin;
 mod argument;
+mod limits;
 mod network;
-mod people;
 mod program;
 mod refusal;
-mod words;
+mod texts;
 
-pub use network::{
-    GROUP, NetworkCommand, NumberArgument, TTL_MOST, TURNS_MOST, bad_number, bad_port,
-};
-pub use people::{ONCE, PeopleCommand, TWICE, bad_wait};
-pub use program::{DGRAM, SESSION, bad_time, no_text};
+pub use admin::{ONCE, TWICE};
+pub use limits::{LimitedArgument, LimitedCommand, bad_value};
+pub use network::GROUP;
+pub use program::no_text;
 pub use refusal::{Refusal, Text};
-pub use words::{
-    AnswerWords, AskWords, HostWords, NbnsWords, NodeWords, PeopleWords, ServeWords, ShowWords,
-    Words, read,
+pub use texts::{
+    AdminLine, AnswerTexts, CommandLine, HostTexts, LookupTexts, NbnsTexts, NodeTexts, ServeTexts,
+    ShowTexts, read,
 };

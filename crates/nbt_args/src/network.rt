@@ -1,15 +1,7 @@
 //! The commands that open sockets, their arguments, and the help on them.
 
-ghost use Rattle.std.specs.Prelude.{◌≡◌, IfOk};
-ghost use Rattle.clap.specs.Words.{kind_of};
-ghost use Rattle.nbt_args.specs.Limits.{least_of, most_of};
-ghost use Rattle.nbt_args.specs.Refusal.{IsWrongUsage};
-
-use crate::argument::{Argument, Description, Form, Presence, bad_value_error, with_commands};
-use crate::refusal::Refusal;
-use clap::error::ErrorKind;
-use clap::{Command, Error};
-use nbt_lease::{LIFE_MOST, LONGEST_MOST};
+use crate::argument::{Argument, Description, Form, Presence, with_commands};
+use clap::Command;
 use std::alloc::{AllocError, Global};
 
 const SERVE_ABOUT: &str = "Runs a name server on a UDP port of this machine";
@@ -103,14 +95,8 @@ const KINDS: [&str; 2] = ["unique", GROUP];
 /// The argument that says for how many seconds the name is asked for.
 pub const TTL: &str = "ttl";
 
-/// The most seconds that a name can be asked for: as many as the 32 bits of a TTL can say (RFC 1002 section 4.2.1.3).
-pub const TTL_MOST: u64 = 0xFFFF_FFFF;
-
 /// The argument that says how many turns.
 pub const TURNS: &str = "turns";
-
-/// The most turns (our profile).
-pub const TURNS_MOST: u64 = 1_000_000;
 
 /// The option in place of TURNS.
 pub const FOREVER: &str = "forever";
@@ -120,56 +106,56 @@ pub const PORT: &str = "port";
 
 const BIND_ARGUMENT: Argument = Argument {
     name: BIND,
-    form: Form::Word("BIND"),
+    form: Form::Placed("BIND"),
     presence: Presence::Needed,
     help: "The own address and port, as A.B.C.D:PORT in decimal with no leading zeros; for port 0 the system chooses one, which is not printed",
 };
 
 const SERVER_ARGUMENT: Argument = Argument {
     name: SERVER,
-    form: Form::Word("SERVER"),
+    form: Form::Placed("SERVER"),
     presence: Presence::Needed,
     help: "The name server's address and port",
 };
 
-const LIFE_ARGUMENT: Argument = Argument {
+pub const LIFE_ARGUMENT: Argument = Argument {
     name: LIFE,
-    form: Form::Word("LIFE"),
+    form: Form::Placed("LIFE"),
     presence: Presence::Needed,
     help: "The greatest life of a datagram, in milliseconds: from 1 to 60000",
 };
 
-const LONGEST_ARGUMENT: Argument = Argument {
+pub const LONGEST_ARGUMENT: Argument = Argument {
     name: LONGEST,
-    form: Form::Word("LONGEST"),
+    form: Form::Placed("LONGEST"),
     presence: Presence::Needed,
     help: "The longest lease, in seconds: from 1 to 1000000",
 };
 
 const NAME_ARGUMENT: Argument = Argument {
     name: NAME,
-    form: Form::Word("NAME"),
+    form: Form::Placed("NAME"),
     presence: Presence::Needed,
     help: "The name to be asked for: as text, or 32 hexadecimal digits, and `.` before each label of its scope",
 };
 
 const KIND_ARGUMENT: Argument = Argument {
     name: KIND,
-    form: Form::Choice("KIND", &KINDS),
+    form: Form::PlacedChoice("KIND", &KINDS),
     presence: Presence::Needed,
     help: "Who may hold the name: one machine, or a group",
 };
 
-const TTL_ARGUMENT: Argument = Argument {
+pub const TTL_ARGUMENT: Argument = Argument {
     name: TTL,
-    form: Form::Word("TTL"),
+    form: Form::Placed("TTL"),
     presence: Presence::Needed,
     help: "The seconds to ask for: 0, as long as may be, to 4294967295",
 };
 
-const TURNS_ARGUMENT: Argument = Argument {
+pub const TURNS_ARGUMENT: Argument = Argument {
     name: TURNS,
-    form: Form::Word("TURNS"),
+    form: Form::Placed("TURNS"),
     presence: Presence::InsteadOf(FOREVER),
     help: "How many turns: from 1 to 1000000",
 };
@@ -181,9 +167,9 @@ const FOREVER_ARGUMENT: Argument = Argument {
     help: "Goes on until a signal ends it, in place of TURNS",
 };
 
-const PORT_ARGUMENT: Argument = Argument {
+pub const PORT_ARGUMENT: Argument = Argument {
     name: PORT,
-    form: Form::Word("PORT"),
+    form: Form::Placed("PORT"),
     presence: Presence::Needed,
     help: "The first of three ports in a row: from 1 to 65533",
 };
@@ -235,111 +221,4 @@ pub fn with_network_commands<'a>(
 ) -> Result<Command<'a>, AllocError> {
     let commands = [&SERVE_COMMAND, &NODE_COMMAND, &LOOP_COMMAND];
     with_commands(alloc, program, &commands)
-}
-
-/// Which of the commands.
-#[derive(Clone, Copy, Debug, PartialEq, Eq)]
-pub enum NetworkCommand {
-    Server,
-    Node,
-}
-
-/// A number that these commands take.
-#[derive(Clone, Copy, Debug, PartialEq, Eq)]
-pub enum NumberArgument {
-    Life,
-    Longest,
-    Ttl,
-    Turns,
-}
-
-impl NumberArgument {
-    /// The least that it may be.
-    pub fn least(self) -> u64
-        ensures { result ≡ least_of self }
-    {
-        match self {
-            NumberArgument::Ttl => 0,
-            _ => 1,
-        }
-    }
-
-    /// The most that it may be.
-    pub fn most(self) -> u64
-        ensures { result ≡ most_of self }
-    {
-        match self {
-            NumberArgument::Life => LIFE_MOST,
-            NumberArgument::Longest => u64::from(LONGEST_MOST),
-            NumberArgument::Ttl => TTL_MOST,
-            NumberArgument::Turns => TURNS_MOST,
-        }
-    }
-}
-
-/// The refusal of a port that is not as the help says, with clap's own text around it, or the one of memory.
-pub fn bad_port(alloc: Global, value: &str) -> Refusal
-    ensures { IsWrongUsage result }
-{
-    match bad_port_error(alloc, value) {
-        Ok(error) => Refusal::from(error),
-        Err(_) => Refusal::Memory,
-    }
-}
-
-fn bad_port_error(alloc: Global, value: &str) -> Result<Error, AllocError>
-    ensures { IfOk result (λ e. kind_of e ≡ ErrorKind.ValueValidation) }
-{
-    let message = [
-        "invalid value '",
-        value,
-        "' for '<PORT>': not a whole number from 1 to 65533",
-    ];
-    bad_value_error(alloc, &LOOP_COMMAND, "nbt loop", &message)
-}
-
-/// The refusal of a number that is out of its limits, with clap's own text around it, or the one of memory.
-pub fn bad_number(
-    alloc: Global,
-    which: NetworkCommand,
-    limited: NumberArgument,
-    value: &str,
-) -> Refusal
-    ensures { IsWrongUsage result }
-{
-    match bad_number_error(alloc, which, limited, value) {
-        Ok(error) => Refusal::from(error),
-        Err(_) => Refusal::Memory,
-    }
-}
-
-fn bad_number_error(
-    alloc: Global,
-    which: NetworkCommand,
-    limited: NumberArgument,
-    value: &str,
-) -> Result<Error, AllocError>
-    ensures { IfOk result (λ e. kind_of e ≡ ErrorKind.ValueValidation) }
-{
-    let label = match limited {
-        NumberArgument::Life => "LIFE",
-        NumberArgument::Longest => "LONGEST",
-        NumberArgument::Ttl => "TTL",
-        NumberArgument::Turns => "TURNS",
-    };
-    let least = limited.least();
-    let most = limited.most();
-    let limits = format!(in alloc; "{least} to {most}")?;
-    let message = [
-        "invalid value '",
-        value,
-        "' for '<",
-        label,
-        ">': not a whole number from ",
-        limits.as_str(),
-    ];
-    match which {
-        NetworkCommand::Server => bad_value_error(alloc, &SERVE_COMMAND, "nbt serve", &message),
-        NetworkCommand::Node => bad_value_error(alloc, &NODE_COMMAND, "nbt node", &message),
-    }
 }

@@ -4,9 +4,9 @@ ghost use Rattle.std.specs.Prelude.{◌≡◌, IfOk};
 ghost use Rattle.clap.specs.Words.{kind_of};
 ghost use Rattle.nbt_args.specs.Refusal.{IsWrongUsage};
 
-use crate::argument::{Argument, Description, Form, Presence, bad_value_error, with_commands};
+use crate::admin::with_admin_commands;
+use crate::argument::{Argument, Description, Form, Presence, with_commands};
 use crate::network::with_network_commands;
-use crate::people::with_people_commands;
 use crate::refusal::Refusal;
 use clap::error::ErrorKind;
 use clap::{Command, Error};
@@ -170,10 +170,10 @@ pub const HEX: &str = "hex";
 pub const KIND: &str = "kind";
 
 /// The name of the datagram service.
-pub const DGRAM: &str = "dgram";
+const DGRAM: &str = "dgram";
 
 /// The name of the session service.
-pub const SESSION: &str = "session";
+const SESSION: &str = "session";
 
 /// The kinds of octets that can be shown.
 const KINDS: [&str; 3] = ["name", DGRAM, SESSION];
@@ -187,29 +187,32 @@ pub const EXPLAIN: &str = "explain";
 /// The option that draws a picture in place of printing lines.
 pub const DRAW: &str = "draw";
 
-static ANSWER_COMMAND: Description = Description {
+pub const AT_OPTION: Argument = Argument {
+    name: AT,
+    form: Form::Option("MS"),
+    presence: Presence::Default("60000"),
+    help: "The time, in milliseconds since the server began: from 0 to 1152921504606846976",
+};
+
+/// The command that answers one packet.
+pub static ANSWER_COMMAND: Description = Description {
     name: ANSWER,
     about: ANSWER_ABOUT,
     help: ANSWER_HELP,
     arguments: &[
         Argument {
             name: FROM,
-            form: Form::Word("FROM"),
+            form: Form::Placed("FROM"),
             presence: Presence::Needed,
             help: "The packet's sender, as A.B.C.D:PORT in decimal with no leading zeros",
         },
         Argument {
             name: HEX,
-            form: Form::Word("HEX"),
+            form: Form::Placed("HEX"),
             presence: Presence::Needed,
             help: "The packet: an even number of hexadecimal digits of either case, or none",
         },
-        Argument {
-            name: AT,
-            form: Form::Option("MS"),
-            presence: Presence::Default("60000"),
-            help: "The time, in milliseconds since the server began: from 0 to 1152921504606846976",
-        },
+        AT_OPTION,
     ],
 };
 
@@ -220,13 +223,13 @@ static SHOW_COMMAND: Description = Description {
     arguments: &[
         Argument {
             name: KIND,
-            form: Form::Choice("KIND", &KINDS),
+            form: Form::PlacedChoice("KIND", &KINDS),
             presence: Presence::Needed,
             help: "The octets' service",
         },
         Argument {
             name: HEX,
-            form: Form::Word("HEX"),
+            form: Form::Placed("HEX"),
             presence: Presence::Needed,
             help: "The octets: an even number of hexadecimal digits of either case, or none",
         },
@@ -260,7 +263,7 @@ static SIM_COMMAND: Description = Description {
 
 /// The program with each of its commands, in the order of the help: those for people who run a network first.
 pub fn program<'a>(alloc: Global) -> Result<Command<'a>, AllocError> {
-    let program = with_people_commands(alloc, empty_program(alloc).bin_name("nbt")?)?;
+    let program = with_admin_commands(alloc, empty_program(alloc).bin_name("nbt")?)?;
     with_network_commands(alloc, with_bench_commands(alloc, program)?)
 }
 
@@ -285,28 +288,7 @@ fn described_program<'a>(alloc: Global) -> Command<'a> {
         .after_help(PROGRAM_HELP)
 }
 
-/// The refusal of a time that is not as the help says, with clap's own text around it, or the one of memory.
-pub fn bad_time(alloc: Global, value: &str) -> Refusal
-    ensures { IsWrongUsage result }
-{
-    match bad_time_error(alloc, value) {
-        Ok(error) => Refusal::from(error),
-        Err(_) => Refusal::Memory,
-    }
-}
-
-fn bad_time_error(alloc: Global, value: &str) -> Result<Error, AllocError>
-    ensures { IfOk result (λ e. kind_of e ≡ ErrorKind.ValueValidation) }
-{
-    let message = [
-        "invalid value '",
-        value,
-        "' for '--at <MS>': not a whole number from 0 to 1152921504606846976",
-    ];
-    bad_value_error(alloc, &ANSWER_COMMAND, "nbt answer", &message)
-}
-
-/// The refusal of a word that is no UTF-8, with clap's own text around it, or the one of memory.
+/// The refusal of an argument that is no UTF-8, with clap's own text around it, or the one of memory.
 pub fn no_text(alloc: Global) -> Refusal
     ensures { IsWrongUsage result }
 {

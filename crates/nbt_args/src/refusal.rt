@@ -1,4 +1,4 @@
-//! Why words ask for no command.
+//! What is printed where arguments name no command.
 
 ghost use Rattle.std.specs.Prelude.{◌≡◌};
 
@@ -7,8 +7,8 @@ use clap::error::ErrorKind;
 use std::alloc::AllocError;
 use std::fmt;
 
-/// What is printed of words that ask for no command.
-#[derive(Debug, Drop)]
+/// What is printed where arguments name no command that can be run.
+#[derive(Drop)]
 pub struct Text {
     error: Error,
 }
@@ -19,12 +19,12 @@ impl fmt::Display for Text {
     }
 }
 
-/// Why words ask for no command.
-#[derive(Debug, Drop)]
+/// Why arguments name no command that can be run.
+#[derive(Drop)]
 pub enum Refusal {
     /// Help or the version was asked for, which is this.
     Help(Text),
-    /// The words are wrong, as this says.
+    /// The usage is wrong, as this says.
     Wrong(Text),
     /// An allocation was refused.
     Memory,

@@ -1,1 +1,2 @@
 -- What several proofs share; the proof of a function is in the folder of its module and its name.
+mod Ending

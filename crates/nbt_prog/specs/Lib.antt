@@ -1,1 +1,4 @@
 pub mod Inner
+pub mod Network
+pub mod Numbers
+pub mod Running

@@ -2,31 +2,22 @@
 
 ghost use Rattle.std.specs.Prelude.{◌≡◌, ◌≤◌};
 
-use hex::FromHexError;
-use nbt_admin::Complaint;
 use nbt_args::{Refusal, Text};
 use nbt_engine::Fault;
-use std::alloc::{AllocError, AllocFailed};
 use std::io;
-use thiserror::Error;
 
 /// Why a command did not do its work.
-#[derive(Debug, Drop, Error)]
+#[derive(Drop)]
 pub enum Failure {
     /// Help or the version was asked for.
-    #[error("{0}")]
     Help(Text),
-    /// The words are wrong.
-    #[error("{0}")]
+    /// The usage is wrong.
     Usage(Text),
     /// An address, a hexadecimal text or the input can't be read.
-    #[error("unreadable")]
     Unreadable,
-    /// Something is wrong with the words of a command for people, of which standard error tells.
-    #[error("words")]
-    Words(Complaint),
-    /// The machine failed, or the output, or an allocation was refused.
-    #[error("{0}")]
+    /// Something is wrong with the arguments of a command for people who run a network, as standard error says.
+    Complaint,
+    /// A port, a clock, a socket, the input or the output failed, or memory is out.
     Fault(Fault),
 }
 
@@ -42,18 +33,18 @@ impl Failure {
         match self {
             Failure::Help(_) => 0,
             Failure::Unreadable => 1,
-            Failure::Usage(_) | Failure::Words(_) => 2,
+            Failure::Usage(_) | Failure::Complaint => 2,
             Failure::Fault(fault) => fault.status(),
         }
     }
 
     /// The line that is printed alone, with its end; of help and wrong usage nothing, since they have a text of their own, and
-    /// nothing of what standard error tells.
+    /// nothing of what standard error says.
     pub fn line(&self) -> &'static str
         ensures { IfSome (failure_text self.now) (λ text. result.now ≡ text) }
     {
         match self {
-            Failure::Help(_) | Failure::Usage(_) | Failure::Words(_) => "",
+            Failure::Help(_) | Failure::Usage(_) | Failure::Complaint => "",
             Failure::Unreadable => "unreadable\n",
             Failure::Fault(fault) => fault.line(),
         }
@@ -67,26 +58,6 @@ impl From<Fault> for Failure {
 
     fn from(fault: Fault) -> Failure {
         Failure::Fault(fault)
-    }
-}
-
-impl<T: Drop> From<AllocFailed<T>> for Failure {
-    ghost use Rattle.nbt_prog.specs.Inner.Failure.{out_of_memory};
-
-    ghost from_gives = { λ _ failure. failure ≡ out_of_memory };
-
-    fn from(_error: AllocFailed<T>) -> Failure {
-        Failure::Fault(Fault::Memory)
-    }
-}
-
-impl From<AllocError> for Failure {
-    ghost use Rattle.nbt_prog.specs.Inner.Failure.{out_of_memory};
-
-    ghost from_gives = { λ _ failure. failure ≡ out_of_memory };
-
-    fn from(_error: AllocError) -> Failure {
-        Failure::Fault(Fault::Memory)
     }
 }
 
@@ -104,29 +75,15 @@ impl From<Refusal> for Failure {
     }
 }
 
-impl From<nbt_admin::Failure> for Failure {
-    ghost use Rattle.nbt_prog.specs.Inner.Failure.{failure_of_people};
+impl From<nbt_offline::Failure> for Failure {
+    ghost use Rattle.nbt_prog.specs.Inner.Failure.{failure_of_offline};
 
-    ghost from_gives = { λ error failure. failure ≡ failure_of_people error };
+    ghost from_gives = { λ error failure. failure ≡ failure_of_offline error };
 
-    fn from(error: nbt_admin::Failure) -> Failure {
+    fn from(error: nbt_offline::Failure) -> Failure {
         match error {
-            nbt_admin::Failure::Usage(text) => Failure::Usage(text),
-            nbt_admin::Failure::Words(complaint) => Failure::Words(complaint),
-            nbt_admin::Failure::Memory => Failure::Fault(Fault::Memory),
-        }
-    }
-}
-
-impl From<FromHexError> for Failure {
-    ghost use Rattle.nbt_prog.specs.Inner.Failure.{failure_of_hex};
-
-    ghost from_gives = { λ error failure. failure ≡ failure_of_hex error };
-
-    fn from(error: FromHexError) -> Failure {
-        match error {
-            FromHexError::OutOfMemory => Failure::Fault(Fault::Memory),
-            _ => Failure::Unreadable,
+            nbt_offline::Failure::Unreadable => Failure::Unreadable,
+            nbt_offline::Failure::Fault(fault) => Failure::Fault(fault),
         }
     }
 }

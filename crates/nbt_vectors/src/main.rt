@@ -5,7 +5,7 @@ use std::io;
 use std::process::ExitCode;
 
 fn main(rt: HostRuntime) -> ExitCode {
-    let words = ["nbt", "check"];
+    let arguments = ["nbt", "check"];
     let mut writer = io::writer(&rt);
-    ExitCode::from(nbt_prog::command(rt.alloc(), &words, &mut rt.reader(), &mut writer))
+    ExitCode::from(nbt_prog::command(rt.alloc(), &arguments, &mut rt.reader(), &mut writer))
 }

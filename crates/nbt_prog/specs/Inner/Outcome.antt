@@ -1,10 +1,10 @@
 -- How a command ends.
 use Rattle.std.specs.Prelude.{ℕ, List, Option, Some, Result, Ok, Err}
 use Rattle.std.specs.String.{string_bytes}
+use Rattle.nbt_offline.specs.Printed.{ending_status}
+use Rattle.nbt_offline.specs.declared.printed.Printed.{Printed}
 use Rattle.nbt_prog.specs.declared.failure.Failure.{Failure}
-use Rattle.nbt_prog.specs.declared.printed.Printed.{Printed}
 use Rattle.nbt_prog.specs.Inner.Failure.{failure_status, failure_text}
-use Rattle.nbt_prog.specs.Inner.Printed.{ending_status}
 
 -- the status with which the program ends, where the writer takes all that is printed
 abbrev pub status_of_outcome : Result Printed Failure → ℕ
