@@ -2,11 +2,11 @@
 use Rattle.std.specs.Prelude.{◌≡◌, ◌⊎◌, ℕ, Bool, true, false, List}
 use Rattle.nbt_name.specs.Wire.{NameValue, IsStar}
 use Rattle.nbt_name.specs.declared.addr.Addr.{Addr}
-use Rattle.nbt_spelling.specs.declared.casing.Case.{Case}
-use Rattle.nbt_spelling.specs.declared.casing.Case.TheVariants.{Folded, Exact}
-use Rattle.nbt_spelling.specs.declared.fault.Fault.{Fault as NameFault}
-use Rattle.nbt_spelling.specs.Names.{SpellsName, MisspellsName}
-use Rattle.nbt_spelling.specs.Others.{SpellsEnd}
+use Rattle.nbt_text.specs.declared.casing.Case.{Case}
+use Rattle.nbt_text.specs.declared.casing.Case.TheVariants.{Folded, Exact}
+use Rattle.nbt_text.specs.declared.fault.Fault.{Fault as NameFault}
+use Rattle.nbt_text.specs.ScopedNames.{SpellsName, MisspellsName}
+use Rattle.nbt_text.specs.Address.{SpellsEnd}
 use Rattle.nbt_admin.specs.Failures.{ComplainsOf, out_of_memory}
 use Rattle.nbt_admin.specs.declared.failure.Failure.{Failure}
 use Rattle.nbt_admin.specs.declared.failure.ArgumentFault.TheVariants as w

@@ -8,7 +8,7 @@ use Rattle.nbt_ask.specs.Asking.{patience_of}
 use Rattle.nbt_ask.specs.declared.patience.TheConstants.{TRIES_MOST}
 use Rattle.nbt_nbns.specs.Limits.{judged}
 use Rattle.nbt_nbns.specs.declared.limits.Judged.TheVariants.{Short}
-use Rattle.nbt_spelling.specs.Others.{SpellsTime}
+use Rattle.nbt_text.specs.Times.{SpellsTime}
 use Rattle.nbt_admin.specs.Failures.{ComplainsOf, out_of_memory}
 use Rattle.nbt_admin.specs.declared.failure.Complaint.TheVariants as complaint
 use Rattle.nbt_admin.specs.declared.failure.Failure.{Failure}

@@ -19,7 +19,7 @@ pub enum ArgumentFault {
     /// It is the address 0.0.0.0, at which nobody finds this machine.
     Anywhere,
     /// It spells no name.
-    Name(nbt_spelling::Fault),
+    Name(nbt_text::Fault),
     /// It spells a name that begins with `*`, for which no server is asked.
     Star,
     /// It spells a name that an argument before it spells too.

@@ -1,12 +1,12 @@
 //! The addresses and names that texts spell.
 
 ghost use Rattle.std.specs.Prelude.{◌≡◌, IfOk, IfErr};
-ghost use Rattle.nbt_spelling.specs.Others.{SpellsEnd};
+ghost use Rattle.nbt_text.specs.Address.{SpellsEnd};
 ghost use Rattle.nbt_admin.specs.Texts.{case_of, AddressFails, SpellsOwn, OwnFails, SpellsAsked, NameFails, SpellsSought, SoughtFails};
 
 use crate::failure::{ArgumentFault, Failure};
 use nbt_name::{Addr, Name};
-use nbt_spelling::{Case, read_address, read_name};
+use nbt_text::{Case, read_address, read_name};
 use std::alloc::Global;
 
 /// The address that a text spells.

@@ -1,7 +1,7 @@
 use Rattle.std.proofs.Common.{◌≡◌, ℕ, List, Option, Some, refl, sym, subst, inl, inr}
 use Rattle.std.specs.Borrow.{Bor}
 use Rattle.std.specs.Prelude.{◌⊎◌}
-use Rattle.nbt_spelling.specs.Others.{SpellsTime}
+use Rattle.nbt_text.specs.Times.{SpellsTime}
 use Rattle.nbt_admin.specs.Failures.{ComplainsOf, out_of_memory}
 use Rattle.nbt_admin.specs.Times.{SpellsEnding, IsEnding, EndingFails}
 use Rattle.nbt_admin.specs.declared.failure.Failure.{Failure}
