@@ -5,7 +5,7 @@ ghost use Rattle.std.specs.String.{string_bytes};
 ghost use Rattle.nbt_text.specs.Lines.{lines};
 ghost use Rattle.nbt_svg.specs.declared.shape.Shape.{Shape};
 ghost use Rattle.nbt_svg.specs.Shapes.{document_text};
-ghost use Rattle.nbt_draw.specs.Drawing.{EndsAt};
+ghost use Rattle.nbt_picture.specs.Drawing.{EndsAt};
 ghost use Rattle.nbt_prog.specs.Inner.Failure.{out_of_memory};
 ghost use Rattle.nbt_prog.specs.Inner.Printed.{is_done};
 
@@ -13,7 +13,7 @@ use crate::failure::Failure;
 use crate::input::read_input;
 use crate::printed::{Ending, Printed};
 use crate::reason;
-use nbt_draw::draw;
+use nbt_picture::draw;
 use std::alloc::Global;
 use std::io::{Read, Write};
 
