@@ -5,7 +5,7 @@ ghost use Rattle.std.specs.String.{string_bytes};
 ghost use Rattle.nbt_text.specs.Lines.{lines};
 ghost use Rattle.nbt_svg.specs.declared.shape.Shape.{Shape};
 ghost use Rattle.nbt_svg.specs.Shapes.{document_text};
-ghost use Rattle.nbt_draw.specs.Drawing.{EndsAt};
+ghost use Rattle.nbt_picture.specs.Drawing.{EndsAt};
 ghost use Rattle.nbt_offline.specs.Drawing.{Draws};
 ghost use Rattle.nbt_offline.specs.Input.{IsInput};
 ghost use Rattle.nbt_offline.specs.Printed.{is_done};
@@ -50,7 +50,7 @@ fn draw_input(alloc: Global, input: &[u8]) -> Result<Drawn, AllocError>
         × (string_bytes drawn.printed.text ≡ document_text height shapes)) }
 {
     let mut text = String::new(alloc);
-    let stopped = nbt_draw::draw(input, &mut text)?;
+    let stopped = nbt_picture::draw(input, &mut text)?;
     let ending = Ending::of(stopped.is_none());
     Ok(Drawn {
         printed: Printed { text, ending },

@@ -108,12 +108,6 @@ by_verb ws rest word found_verb v None whole tells there none = λ i s.
     none i (subst (λ (x : Verb). SaysOf x rest i) same (subst (λ (x : List (List ℕ)). SaysOf p.0 x i) same_rest p.3))
 by_verb ws rest word found_verb v (Some i) whole tells there p = rw (whole, (tells v).0 there) (says v rest i p)
 
-pub no_verb : (ws rest : List (List ℕ)) (word : List ℕ) (found_verb : Option Verb) (i : Instruction) → ws ≡ word ∷ rest → ((x : Verb) → (found_verb ≡ Some x) ↔ (word ≡ verb_word x)) → found_verb ≡ None → ¬ Says ws i
-no_verb ws rest word found_verb i whole tells none s =
-    let p = says_in ws i s in
-    let same_word : word ≡ verb_word p.0 = cc in
-    let there = (tells p.0).1 same_word in cc
-
 pub by_verb_if : {E : Type 0} (ws rest : List (List ℕ)) (word : List ℕ) (found_verb : Option Verb) (v : Verb) (r : Result (Option Instruction) E) → ws ≡ word ∷ rest → ((x : Verb) → (found_verb ≡ Some x) ↔ (word ≡ verb_word x)) → found_verb ≡ Some v
     → IfOk r (IsSaidOf v rest) → IfOk r (IsSaid ws)
 by_verb_if ws rest word found_verb v (Ok found) whole tells there p = by_verb ws rest word found_verb v found whole tells there p

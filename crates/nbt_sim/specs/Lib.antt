@@ -1,5 +1,4 @@
 pub mod Arguments
 pub mod Line
 pub mod Script
-pub mod ScriptWorld
 pub mod Words

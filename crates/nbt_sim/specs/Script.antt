@@ -11,9 +11,7 @@ use Rattle.nbt_node.specs.declared.fault.AskFault.{AskFault}
 use Rattle.nbt_node.specs.declared.fault.ReleaseFault.{ReleaseFault}
 use Rattle.nbt_node.specs.declared.fault.LookupFault.{LookupFault}
 use Rattle.nbt_text.specs.NameText.{PrintsName}
-use Rattle.nbt_text.specs.Lines.{newline}
-use Rattle.nbt_text.specs.Lines.{IsPassedOver, words}
-use Rattle.nbt_text.specs.Lines.{verdict_line}
+use Rattle.nbt_text.specs.Lines.{newline, verdict_line, IsPassedOver, words}
 use Rattle.nbt_world.specs.World.{WorldValue, IsEnd, IsFresh}
 use Rattle.nbt_world.specs.Step.{Step}
 use Rattle.nbt_world.specs.Safety.{holding}
@@ -22,6 +20,10 @@ use Rattle.nbt_world.specs.declared.event.Event.{Event}
 use Rattle.nbt_world.specs.declared.event.Event.TheVariants.{Tick, Advance, Ask, Release, Resolve, NameStatus}
 use Rattle.nbt_world.specs.declared.event.Outcome.{Outcome}
 use Rattle.nbt_world.specs.declared.event.Outcome.TheVariants as o
+use Rattle.nbt_sim.specs.declared.report.Report.{Report}
+use Rattle.nbt_sim.specs.declared.report.Report.TheVariants as report
+use Rattle.nbt_sim.specs.declared.script.Played.{Played}
+use Rattle.nbt_sim.specs.declared.script.Played.TheVariants as played
 use Rattle.nbt_sim.specs.declared.instruction.Instruction.{Instruction}
 use Rattle.nbt_sim.specs.declared.instruction.Instruction.TheVariants as instruction
 use Rattle.nbt_sim.specs.Line.{Says}
@@ -94,34 +96,46 @@ abbrev pub holders_text : List Holder → List ℕ
 holders_text [] = codes "none"
 holders_text (holder ∷ others) = holder_text holder ++ other_holders_text others
 
--- the line of who holds a name, without its end
-pub record PrintsHolders (world : WorldValue) (name : NameValue) (text : List ℕ) : Type 0 where
-  pub printed : List ℕ
-  pub holders : List Holder
-  pub name_is : PrintsName name printed
-  pub holders_are : AreHolders world name holders
-  pub text_is : text ≡ codes "holders " ++ printed ++ codes ": " ++ holders_text holders
+-- the line of who holds a name
+abbrev pub holders_line : (name : List ℕ) → List Holder → List ℕ
+holders_line name holders = codes "holders " ++ name ++ codes ": " ++ holders_text holders ++ newline
+
+-- What an instruction prints of which this came.
+pub data Prints : Instruction → Report → List ℕ → Type 0 where
+  prints_nothing : (i : Instruction) → Prints i report.Quiet []
+  prints_outcome : (event : Event) (outcome : Outcome) (text : List ℕ) → PrintsOutcome event outcome text → Prints (instruction.Happens event) (report.Event outcome) (text ++ newline)
+  prints_holders : (name : NameValue) (printed : List ℕ) (holders : ArrayVec Holder) → PrintsName name printed → Prints (instruction.Holders name) (report.Holders holders) (holders_line printed holders.items)
+  prints_kept : (i : Instruction) (kept : Bool) → Prints i (report.Kept kept) (kept_word kept ++ newline)
+
+-- ---- what is done
 
 -- the nine entries of an event, of which those of ends that the world hasn't are 0
 abbrev pub entries : (moves : List ℕ) → List ℕ
 entries moves = moves ++ replicate (9 - length moves) 0
 
--- What an instruction makes of a script's world, and what it prints.
-pub data LineDoes : Option WorldValue → Instruction → Option WorldValue → List ℕ → Type 0 where
+-- What an instruction makes of a script's world, and what comes of it.
+pub data Does : Option WorldValue → Instruction → Option WorldValue → Report → Type 0 where
   begins : (config : ConfigValue) (nodes : ℕ) (addrs : List Addr) (world : WorldValue) → AreFew nodes → ArePlaces addrs nodes → IsFresh config addrs world
-      → LineDoes None (instruction.Config config nodes) (Some world) []
+      → Does None (instruction.Config config nodes) (Some world) report.Quiet
   goes_on : (moment : ℕ) (world next : WorldValue) → world.now.clock ≤ moment → Step world (Tick (moment - world.now.clock)) o.Done next → next.now.clock ≡ moment
-      → LineDoes (Some world) (instruction.At moment) (Some next) []
-  drifts : (ms : ℕ) (moves : ArrayVec ℕ) (world next : WorldValue) → AreForEnds world moves.items → Step world (Advance ms (entries moves.items)) o.Done next → LineDoes (Some world) (instruction.Advance ms moves) (Some next) []
-  happens : (event : Event) (outcome : Outcome) (world next : WorldValue) (text : List ℕ) → Step world event outcome next → PrintsOutcome event outcome text
-      → LineDoes (Some world) (instruction.Happens event) (Some next) (text ++ newline)
-  tells : (name : NameValue) (world : WorldValue) (text : List ℕ) → PrintsHolders world name text → LineDoes (Some world) (instruction.Holders name) (Some world) (text ++ newline)
-  tells_kept : (world : WorldValue) → LineDoes (Some world) instruction.Kept (Some world) (kept_word world.kept ++ newline)
+      → Does (Some world) (instruction.At moment) (Some next) report.Quiet
+  drifts : (ms : ℕ) (moves : ArrayVec ℕ) (world next : WorldValue) → AreForEnds world moves.items → Step world (Advance ms (entries moves.items)) o.Done next
+      → Does (Some world) (instruction.Advance ms moves) (Some next) report.Quiet
+  happens : (event : Event) (outcome : Outcome) (world next : WorldValue) → Step world event outcome next → Does (Some world) (instruction.Happens event) (Some next) (report.Event outcome)
+  looks_up : (name : NameValue) (holders : ArrayVec Holder) (world : WorldValue) → AreHolders world name holders.items → Does (Some world) (instruction.Holders name) (Some world) (report.Holders holders)
+  looks_back : (world : WorldValue) → Does (Some world) instruction.Kept (Some world) (report.Kept world.kept)
 
 -- The words say nothing, or what can't be done in this world.
 pub data IsUnreadable (world : Option WorldValue) (words : List (List ℕ)) : Type 0 where
   says_nothing : ((i : Instruction) → ¬ Says words i) → IsUnreadable world words
   says_what_does_not_fit : (i : Instruction) → Says words i → ¬ Fits world i → IsUnreadable world words
+
+-- What came of a line, what it makes of a script's world, and what it prints.
+pub data PlaysLine (world : Option WorldValue) (line : List ℕ) : Played → Option WorldValue → List ℕ → Type 0 where
+  is_blank : IsPassedOver line → PlaysLine world line played.Blank world []
+  is_done : (i : Instruction) (came : Report) (next : Option WorldValue) (text : List ℕ) → ¬ (IsPassedOver line) → Says (words line) i → Does world i next came → Prints i came text
+      → PlaysLine world line (played.Done i came) next text
+  is_unreadable : (next : Option WorldValue) → ¬ (IsPassedOver line) → IsUnreadable world (words line) → PlaysLine world line played.Unreadable next []
 
 -- What is printed of lines, of which the first has this number, and whether each could be read: the first one that
 -- couldn't is named by its number, and ends the script.
@@ -129,7 +143,7 @@ pub data Plays : (number : ℕ) → Option WorldValue → List (List ℕ) → Bo
   ends : (number : ℕ) (world : Option WorldValue) → Plays number world [] true []
   passes_over : (number : ℕ) (world : Option WorldValue) (line : List ℕ) (rest : List (List ℕ)) (well : Bool) (text : List ℕ) → IsPassedOver line
       → Plays (number + 1) world rest well text → Plays number world (line ∷ rest) well text
-  does : (number : ℕ) (world next : Option WorldValue) (line : List ℕ) (rest : List (List ℕ)) (i : Instruction) (well : Bool) (text more : List ℕ) → ¬ (IsPassedOver line) → Says (words line) i
-      → LineDoes world i next text → Plays (number + 1) next rest well more → Plays number world (line ∷ rest) well (text ++ more)
+  does : (number : ℕ) (world next : Option WorldValue) (line : List ℕ) (rest : List (List ℕ)) (i : Instruction) (came : Report) (well : Bool) (text more : List ℕ) → ¬ (IsPassedOver line) → Says (words line) i
+      → Does world i next came → Prints i came text → Plays (number + 1) next rest well more → Plays number world (line ∷ rest) well (text ++ more)
   stops : (number : ℕ) (world : Option WorldValue) (line : List ℕ) (rest : List (List ℕ)) → ¬ (IsPassedOver line) → IsUnreadable world (words line)
       → Plays number world (line ∷ rest) false (verdict_line number (codes "unreadable"))

@@ -23,13 +23,13 @@ use std::alloc::{AllocError, Global};
 pub enum Instruction {
     /// A world with these limits and this number of nodes.
     Config(Config, usize),
-    /// All clocks go on alike, and the true one to a moment.
+    /// All clocks go on alike, and the true one to this time.
     At(Moment),
     /// The clocks go on, each by its own number of milliseconds.
     Advance {
         /// By how much the true clock goes on.
         ms: u64,
-        /// By how much the ends' clocks do: the server's, and then the nodes'.
+        /// By how much the endpoints' clocks do: the server's, and then the nodes'.
         moves: ArrayVec<u64, 9>,
     },
     /// Something happens in the world.

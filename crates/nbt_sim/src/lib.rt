@@ -7,11 +7,12 @@
 mod argument;
 mod instruction;
 mod printing;
+mod report;
 mod script;
 mod script_world;
 mod verb;
 mod words;
 
-pub use instruction::{Instruction, Line, parse_line};
-pub use script::{follow, play};
-pub use script_world::ScriptWorld;
+pub use instruction::Instruction;
+pub use report::Report;
+pub use script::{Played, play, play_line};

@@ -1,6 +1,6 @@
-//! What comes of an event, and who holds a name, as text.
+//! What comes of an instruction, as text.
 
-ghost use Rattle.std.specs.Prelude.{◌≡◌, ◌++◌, ℕ, List, OnOk};
+ghost use Rattle.std.specs.Prelude.{◌≡◌, ◌++◌, ℕ, List, Option, OnOk};
 ghost use Rattle.std.specs.String.{string_bytes};
 ghost use Rattle.nbt_name.specs.declared.addr.Kind.{Kind};
 ghost use Rattle.nbt_node.specs.declared.fault.AskFault.{AskFault};
@@ -8,19 +8,50 @@ ghost use Rattle.nbt_node.specs.declared.fault.ReleaseFault.{ReleaseFault};
 ghost use Rattle.nbt_node.specs.declared.fault.LookupFault.{LookupFault};
 ghost use Rattle.nbt_node.specs.Numbers.{ask_fault_number, ask_fault_word, release_fault_number, release_fault_word, lookup_fault_number, lookup_fault_word};
 ghost use Rattle.nbt_text.specs.Lines.{newline};
+ghost use Rattle.nbt_text.specs.NameText.{PrintsName};
 ghost use Rattle.nbt_world.specs.World.{WorldValue};
 ghost use Rattle.nbt_world.specs.Step.{Step};
-ghost use Rattle.nbt_sim.specs.Script.{NamesRefusal, PrintsHolders, PrintsOutcome, holder_text, holders_text};
+ghost use Rattle.nbt_sim.specs.Script.{Does, NamesRefusal, Prints, PrintsOutcome, holder_text, holders_line, holders_text};
 ghost use Rattle.nbt_sim.specs.Words.{kept_word, kind_word};
 
+use crate::instruction::Instruction;
+use crate::report::Report;
 use nbt_name::{Kind, Name};
 use nbt_node::{AskFault, LookupFault, ReleaseFault};
 use nbt_text::{end_line, write_name};
-use nbt_world::{Event, Holder, Outcome, World};
+use nbt_world::{Event, Holder, Outcome};
 use std::alloc::AllocError;
 
+/// Appends what an instruction prints that reports this.
+pub fn write_report(
+    instruction: &Instruction,
+    report: &Report,
+    out: &mut String,
+) -> Result<(), AllocError>
+    requires { (old : Option WorldValue) × (new : Option WorldValue) × Does old instruction.now new report.now }
+    ensures { OnOk result ((text : List ℕ) × (string_bytes out.new ≡ string_bytes out.old ++ text)
+        × Prints instruction.now report.now text) }
+{
+    match report {
+        Report::Quiet => Ok(()),
+        Report::Event(outcome) => {
+            let Instruction::Happens(event) = instruction else {
+                unreachable!();
+            };
+            write_outcome(event, *outcome, out)
+        }
+        Report::Holders(holders) => {
+            let Instruction::Holders(name) = instruction else {
+                unreachable!();
+            };
+            write_holders(name, holders.as_slice(), out)
+        }
+        Report::Kept(kept) => write_kept(*kept, out),
+    }
+}
+
 /// Appends the line of what came of an event.
-pub fn write_outcome(event: &Event, outcome: Outcome, out: &mut String) -> Result<(), AllocError>
+fn write_outcome(event: &Event, outcome: Outcome, out: &mut String) -> Result<(), AllocError>
     requires { (old : WorldValue) × (new : WorldValue) × Step old event.now outcome new }
     ensures { OnOk result ((text : List ℕ) × (string_bytes out.new ≡ string_bytes out.old ++ text ++ newline)
         × PrintsOutcome event.now outcome text) }
@@ -79,26 +110,22 @@ fn word_of_lookup(number: u8) -> &'static str
 }
 
 /// Appends the line of the nodes that hold a name.
-pub fn write_holders(world: &World, name: &Name, out: &mut String) -> Result<(), AllocError>
-    ensures { OnOk result ((text : List ℕ) × (string_bytes out.new ≡ string_bytes out.old ++ text ++ newline)
-        × PrintsHolders world.now name.now text) }
+fn write_holders(name: &Name, holders: &[Holder], out: &mut String) -> Result<(), AllocError>
+    ensures { OnOk result ((printed : List ℕ) × PrintsName name.now printed
+        × (string_bytes out.new ≡ string_bytes out.old ++ holders_line printed holders.now)) }
 {
     out.push_str("holders ")?;
     write_name(name, out)?;
     out.push_str(": ")?;
-    write_list(world.holders(name).as_slice(), out)?;
+    write_list(holders, out)?;
     end_line(out)
 }
 
 /// Appends the line of whether the clocks kept the drift bound so far.
-pub fn write_kept(world: &World, out: &mut String) -> Result<(), AllocError>
-    ensures { OnOk result (string_bytes out.new ≡ string_bytes out.old ++ kept_word world.now.kept ++ newline) }
+fn write_kept(kept: bool, out: &mut String) -> Result<(), AllocError>
+    ensures { OnOk result (string_bytes out.new ≡ string_bytes out.old ++ kept_word kept ++ newline) }
 {
-    if world.kept() {
-        out.push_str("kept\n")
-    } else {
-        out.push_str("broken\n")
-    }
+    out.push_str(if kept { "kept\n" } else { "broken\n" })
 }
 
 /// Appends holders, or `none` where there are none.

@@ -1,28 +1,41 @@
 //! Scripts, line by line.
 
-ghost use Rattle.std.specs.Prelude.{◌≡◌, ◌++◌, ℕ, List, [], None, MatchBool, IfOk};
+ghost use Rattle.std.specs.Prelude.{◌≡◌, ◌++◌, ℕ, List, None, MatchOption, IfOk};
 ghost use Rattle.std.specs.String.{string_bytes};
 ghost use Rattle.nbt_text.specs.Lines.{lines};
-ghost use Rattle.nbt_sim.specs.Script.{LineDoes, Fits, Plays};
-ghost use Rattle.nbt_sim.specs.ScriptWorld.{PlaysLine, world_of};
+ghost use Rattle.nbt_sim.specs.Script.{Does, Fits, Plays, PlaysLine};
 
 use crate::instruction::{Instruction, Line, parse_line};
-use crate::script_world::ScriptWorld;
+use crate::printing::write_report;
+use crate::report::Report;
+use crate::script_world::{begin, drift, go_on};
 use nbt_text::lines_of;
+use nbt_world::World;
 use std::alloc::{AllocError, Global};
+
+/// What came of a line.
+#[derive(Debug, Drop)]
+pub enum Played {
+    /// It is blank.
+    Blank,
+    /// This was done, and this came of it.
+    Done(Instruction, Report),
+    /// It can't be read, or asks for what can't be done.
+    Unreadable,
+}
 
 /// Appends what the lines of a script print, in order; the first line that can't be read, or asks for what can't be done,
 /// is named by its number, counted from 1 and with the blank ones among them, and ends the script. Returns whether
-/// there was none. `AllocError` only where memory was refused; to a server, memory refused is a datagram lost.
+/// there was none. `AllocError` only where out of memory; to a server, out of memory is a datagram lost.
 pub fn play(script: &[u8], out: &mut String) -> Result<bool, AllocError>
     ensures { IfOk result (λ well. (text : List ℕ) × (string_bytes out.new ≡ string_bytes out.old ++ text)
         × Plays 1 None (lines script.now) well text) }
 {
     let alloc = *out.allocator();
     let lines = lines_of(alloc, script)?;
-    let mut stage = None;
+    let mut world = None;
     'lines: for (index, line) in lines.iter().enumerate() {
-        if !play_line(alloc, line, &mut stage, out)? {
+        if let Played::Unreadable = play_line(alloc, line, &mut world, out)? {
             let number = index + 1;
             writeln!(out, "line {number}: unreadable")?;
             return Ok(false);
@@ -31,65 +44,67 @@ pub fn play(script: &[u8], out: &mut String) -> Result<bool, AllocError>
     Ok(true)
 }
 
-/// Does what a line says, and appends what it prints. Returns whether it can be read, and done.
-fn play_line(
+/// Does what a line of a script says in the script's world, which `config` begins, and appends what the line prints.
+/// Returns what was done and what came of it. `AllocError` as with `play`; then only a part may be printed.
+pub fn play_line(
     alloc: Global,
     line: &[u8],
-    stage: &mut Option<ScriptWorld>,
+    world: &mut Option<World>,
     out: &mut String,
-) -> Result<bool, AllocError>
-    ensures { IfOk result (λ well. (text : List ℕ) × (string_bytes out.new ≡ string_bytes out.old ++ text)
-        × PlaysLine (world_of stage.old) line.now well (world_of stage.new) text) }
+) -> Result<Played, AllocError>
+    ensures { IfOk result (λ played. (text : List ℕ) × (string_bytes out.new ≡ string_bytes out.old ++ text)
+        × PlaysLine world.old line.now played world.new text) }
 {
     match parse_line(alloc, line)? {
-        Line::Blank => Ok(true),
-        Line::Says(instruction) => follow(alloc, stage, &instruction, out),
-        Line::Unreadable => Ok(false),
+        Line::Blank => Ok(Played::Blank),
+        Line::Unreadable => Ok(Played::Unreadable),
+        Line::Says(instruction) => {
+            let Some(report) = follow(alloc, world, &instruction)? else {
+                return Ok(Played::Unreadable);
+            };
+            write_report(&instruction, &report, out)?;
+            Ok(Played::Done(instruction, report))
+        }
     }
 }
 
-/// Does what a line asks for, and appends what it prints. Returns whether it can be done.
-pub fn follow(
+/// Does what a line asks for. Returns what came of it; `None` where it can't be done.
+fn follow(
     alloc: Global,
-    stage: &mut Option<ScriptWorld>,
+    world: &mut Option<World>,
     instruction: &Instruction,
-    out: &mut String,
-) -> Result<bool, AllocError>
-    ensures { IfOk result (λ done. MatchBool done
-        ((text : List ℕ) × (string_bytes out.new ≡ string_bytes out.old ++ text)
-        × LineDoes (world_of stage.old) instruction.now (world_of stage.new) text)
-        ((string_bytes out.new ≡ string_bytes out.old) × (¬ Fits (world_of stage.old) instruction.now))) }
+) -> Result<Option<Report>, AllocError>
+    ensures { IfOk result (λ done. MatchOption done (¬ Fits world.old instruction.now)
+        (Does world.old instruction.now world.new)) }
 {
-    let Some(stage) = stage else {
-        return Ok(begins(alloc, stage, instruction));
+    let Some(world) = world else {
+        return Ok(begins(alloc, world, instruction));
     };
     match instruction {
-        Instruction::Config(..) => Ok(false),
-        Instruction::At(moment) => Ok(stage.go_on(*moment)),
-        Instruction::Advance { ms, moves } => Ok(stage.drift(*ms, moves)),
-        Instruction::Happens(event) => {
-            stage.happen(event, out)?;
-            Ok(true)
-        }
-        Instruction::Holders(name) => {
-            stage.tell(name, out)?;
-            Ok(true)
-        }
-        Instruction::Kept => {
-            stage.tell_kept(out)?;
-            Ok(true)
-        }
+        Instruction::Config(..) => Ok(None),
+        Instruction::At(moment) => Ok(go_on(world, *moment)),
+        Instruction::Advance { ms, moves } => Ok(drift(world, *ms, moves)),
+        Instruction::Happens(event) => match world.step(event) {
+            Ok(outcome) => Ok(Some(Report::Event(outcome))),
+            Err(_) => Err(AllocError),
+        },
+        Instruction::Holders(name) => Ok(Some(Report::Holders(world.holders(name)))),
+        Instruction::Kept => Ok(Some(Report::Kept(world.kept()))),
     }
 }
 
-/// Begins a world where a line asks for one. Returns whether it does, and the world can be.
-fn begins(alloc: Global, stage: &mut Option<ScriptWorld>, instruction: &Instruction) -> bool
-    requires { world_of stage.old ≡ None }
-    ensures { MatchBool result (LineDoes None instruction.now (world_of stage.new) []) (¬ Fits None instruction.now) }
+/// Begins a world where a line asks for one, and the world can be.
+fn begins(alloc: Global, world: &mut Option<World>, instruction: &Instruction) -> Option<Report>
+    requires { world.old ≡ None }
+    ensures { MatchOption result (¬ Fits None instruction.now) (Does None instruction.now world.new) }
 {
     let Instruction::Config(config, nodes) = instruction else {
-        return false;
+        return None;
     };
-    *stage = ScriptWorld::begin(alloc, *config, *nodes);
-    stage.is_some()
+    *world = begin(alloc, *config, *nodes);
+    if world.is_some() {
+        Some(Report::Quiet)
+    } else {
+        None
+    }
 }

@@ -13,23 +13,23 @@ pub enum Verb {
     At,
     /// `advance`: the clocks go on, each by its own number.
     Advance,
-    /// `start`: an end starts.
+    /// `start`: an endpoint starts.
     Start,
-    /// `crash`: an end crashes.
+    /// `crash`: an endpoint crashes.
     Crash,
-    /// `ask`: a node asks for a name.
+    /// `ask`: a node requests a name.
     Ask,
-    /// `release`: a node gives a name back.
+    /// `release`: a node releases a name.
     Release,
-    /// `resolve`: a node asks who holds a name.
+    /// `resolve`: a node looks a name up.
     Resolve,
-    /// `status`: a node asks an end which names it holds.
+    /// `status`: a node asks an endpoint which names it holds.
     Status,
     /// `poll`: a node sends what is due.
     Poll,
     /// `deliver`: a datagram is delivered.
     Deliver,
-    /// `stranger`: a datagram comes from an address that is no end's.
+    /// `stranger`: a datagram comes from an unknown sender, whose address is no endpoint's.
     Stranger,
     /// `holders`: who holds a name.
     Holders,

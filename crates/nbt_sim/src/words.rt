@@ -1,4 +1,4 @@
-//! The words after the first one of a line: ends, addresses, kinds, numbers.
+//! The words after the first one of a line: endpoints, addresses, kinds, numbers.
 
 ghost use Rattle.std.specs.Prelude.{◌≡◌, ◌↔◌, ℕ, Some};
 ghost use Rattle.nbt_lease.specs.Config.{ConfigValue, IsConfig, config_of as limits_of};
@@ -24,7 +24,7 @@ fn node_of(word: &[u8]) -> Option<usize>
     Some(usize::from(*digit - b'0'))
 }
 
-/// The number of an end: 0 for `s`, the server, or a node's.
+/// The number of an endpoint: 0 for `s`, the server, or a node's.
 fn end_of(word: &[u8]) -> Option<usize>
     ensures { (number : ℕ) → (result ≡ Some number) ↔ SpellsEnd word.now number }
 {
@@ -47,7 +47,7 @@ impl Argument for Node {
     }
 }
 
-/// An end.
+/// An endpoint.
 pub struct End;
 
 impl Argument for End {
@@ -144,7 +144,7 @@ impl Argument for Seconds {
     }
 }
 
-/// A moment, at most 2^60 ms.
+/// A time, at most 2^60 ms.
 impl Argument for Moment {
     ghost use Rattle.nbt_sim.specs.Words.{SpellsMoment};
 

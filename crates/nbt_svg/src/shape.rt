@@ -16,11 +16,11 @@ pub enum Class {
     Page,
     /// Where time passes.
     Band,
-    /// A moment, and what a clock reads at it.
+    /// A time, and what a clock reads at it.
     Time,
     /// Where the server is silent.
     Silence,
-    /// An end while it is up.
+    /// An endpoint while it is up.
     Column,
     /// A node holds a name alone.
     Hold(u8),
@@ -30,13 +30,13 @@ pub enum Class {
     Lease(u8),
     /// The server has a lease of a group's.
     GroupLease(u8),
-    /// A datagram on its way to an end that gets it.
+    /// A datagram on its way to an endpoint that gets it.
     Arrow,
     /// A datagram on its way to nobody.
     Stray,
     /// What never comes, or ends.
     Cross,
-    /// Something that happens at an end.
+    /// Something that happens at an endpoint.
     Dot,
     /// What is said beside a row.
     Words,

@@ -1,7 +1,7 @@
 //! Pictures of scripts.
 
 use super::expect::{expect, expect_eq, expect_eq_in, expect_in};
-use nbt_draw::draw;
+use nbt_picture::draw;
 use std::process::Abort;
 
 /// A node asks for a name and gets it; another one is up.
@@ -177,7 +177,7 @@ ask n1 FRED unique 60
 
 /// The lines of a script, in two parts, and what stands in its picture. A row is 26 high, with 20 more where a datagram leaves to
 /// the right, and 26 more where one never comes; a band is 22 high.
-const PICTURES: [(&str, &str, &[&str]); 25] = [
+const PICTURES: [(&str, &str, &[&str]); 30] = [
     // A lease of 60 s is over at 120,000, and its hold 122 ms earlier: each at its share of the band from 330 to 352.
     (
         HELD,
@@ -205,6 +205,7 @@ const PICTURES: [(&str, &str, &[&str]); 25] = [
             "<line class=\"lease c0\" x1=\"184\" y1=\"271\" x2=\"184\" y2=\"520\"/>\n",
             "<rect class=\"hold c0\" x=\"484\" y=\"317\" width=\"8\" height=\"202\"/>\n",
             "<line class=\"arrow\" x1=\"500\" y1=\"365\" x2=\"200\" y2=\"391\"/>\n",
+            ">refresh FRED 60 s</text>\n",
         ],
     ),
     // The server doesn't hear of the renewal.
@@ -248,11 +249,12 @@ const PICTURES: [(&str, &str, &[&str]); 25] = [
     // A name is given back: first by the node, and then at the server.
     (
         HELD,
-        "release n1 FRED\ndeliver 2",
+        "release n1 FRED\ndeliver 2\ndeliver 3",
         &[
             "<rect class=\"hold c0\" x=\"484\" y=\"317\" width=\"8\" height=\"26\"/>\n",
             "<line class=\"lease c0\" x1=\"184\" y1=\"271\" x2=\"184\" y2=\"369\"/>\n",
             ">release FRED</text>\n",
+            "<text class=\"words\" x=\"510\" y=\"419\">released FRED</text>\n",
         ],
     ),
     // Each arrow goes from the row in which its datagram was sent to the one in which it is delivered; the names have colours
@@ -282,6 +284,18 @@ const PICTURES: [(&str, &str, &[&str]); 25] = [
             "<rect class=\"hold g0\" x=\"784\" y=\"441\" width=\"8\" height=\"39\"/>\n",
             ">ask TEAM group 60 s</text>\n",
             ">registration TEAM group 60 s</text>\n",
+        ],
+    ),
+    // Four leases: each has its own lane, and each name its own colour.
+    (
+        TWO,
+        "ask n1 A unique 60\nask n1 B unique 60\nask n1 C unique 60\nask n1 D unique 60\ndeliver 0\ndeliver 1\ndeliver 2\ndeliver 3",
+        &[
+            "<line class=\"lease c0\" x1=\"184\" y1=\"375\" x2=\"184\" y2=\"676\"/>\n",
+            "<line class=\"lease c1\" x1=\"166\" y1=\"447\" x2=\"166\" y2=\"676\"/>\n",
+            "<line class=\"lease c2\" x1=\"148\" y1=\"519\" x2=\"148\" y2=\"676\"/>\n",
+            "<line class=\"lease c3\" x1=\"130\" y1=\"591\" x2=\"130\" y2=\"676\"/>\n",
+            "<rect class=\"hold c1\" x=\"205\" y=\"56\" width=\"14\" height=\"10\"/>\n<text class=\"words\" x=\"225\" y=\"66\">B</text>\n",
         ],
     ),
     // A name that another has.
@@ -374,6 +388,23 @@ const PICTURES: [(&str, &str, &[&str]); 25] = [
             ">1.2.3.4:137: 1 octets: down</text>\n",
         ],
     ),
+    // A machine beside the nodes gets a lease: the reply to it goes to the right edge.
+    (
+        "config 1000 60 4096 1\nstart s\nat 60000\n",
+        "stranger 10.0.0.1:137 s 0001290000010000000000012045474643454645454341434143414341434143414341434143414341434143410000200001c00c002000010000003c000620000a000001",
+        &[
+            "<line class=\"lease c0\" x1=\"184\" y1=\"219\" x2=\"184\" y2=\"304\"/>\n<text class=\"side\" transform=\"translate(173 223) rotate(90)\">FRED stranger</text>\n",
+            ">10.0.0.1:137: registration FRED 60 s</text>\n",
+            "<line class=\"arrow\" x1=\"200\" y1=\"239\" x2=\"1200\" y2=\"259\"/>\n",
+            ">positive FRED 60 s</text>\n",
+        ],
+    ),
+    // A datagram that nobody gets, since it comes from an endpoint's own address: its words stand there, and no line.
+    (
+        "config 1000 60 4096 1\nstart s\nat 60000\n",
+        "stranger 127.0.0.2:999 s 00",
+        &["<text class=\"words\" x=\"210\" y=\"223\">127.0.0.2:999: 1 octets: nobody</text>\n"],
+    ),
     // A node looks a name up that is there, and one that isn't.
     (
         HELD,
@@ -397,6 +428,24 @@ const PICTURES: [(&str, &str, &[&str]); 25] = [
             ">status request FRED</text>\n",
             ">status, names: 1</text>\n",
             ">poll: none</text>\n",
+        ],
+    ),
+    // A node asks an address at which no endpoint is: the datagram leads to the right edge.
+    (
+        TWO,
+        "status n1 9.9.9.9:137 FRED",
+        &[
+            "<line class=\"arrow\" x1=\"500\" y1=\"291\" x2=\"1200\" y2=\"311\"/>\n",
+            "<text class=\"words\" x=\"510\" y=\"311\">status request FRED</text>\n",
+        ],
+    ),
+    // A node asks itself: the datagram leads around.
+    (
+        TWO,
+        "status n1 127.0.0.2:137 FRED\ndeliver 0",
+        &[
+            "<line class=\"stray\" x1=\"500\" y1=\"291\" x2=\"540\" y2=\"304\"/>\n<line class=\"arrow\" x1=\"540\" y1=\"304\" x2=\"500\" y2=\"317\"/>\n",
+            "<text class=\"words\" x=\"550\" y=\"321\">status request FRED</text>\n",
         ],
     ),
     // What a node asks for is refused to it.
@@ -426,6 +475,119 @@ fn pictures_of_scripts(rt: HostRuntime) {
 fn expect_parts<R: Abort>(rt: &R, line: &str, picture: &str, parts: &[&str]) {
     for part in parts {
         expect_in(rt, &(line, part), picture.contains(*part));
+    }
+}
+
+/// The scripts of docs/pictures, and the FNV-1a hashes of the pictures beside them.
+const STORED: [(&str, u64); 3] = [
+    // early_ask.svg.
+    (
+        "\
+# n1 gives FRED back, and wants it again while its release is still on its way. It is stopped: else the old release would take
+# the new lease away.
+config 1000 60 4096 2
+start s
+start n1
+start n2
+at 60000
+ask n1 FRED unique 60
+deliver 0
+deliver 1
+at 70000
+release n1 FRED
+at 70500
+ask n1 FRED unique 60
+at 71000
+deliver 2
+deliver 3
+ask n2 FRED unique 60
+deliver 4
+deliver 5
+holders FRED
+# A little more than two lives after its release n1 may ask, and the server refuses it.
+at 72005
+ask n1 FRED unique 60
+deliver 6
+deliver 7
+",
+        0xc10e_ebd4_0606_53b0,
+    ),
+    // group_of_two.svg.
+    (
+        "\
+# n1 and n2 hold TEAM as a group, and n3 is refused, which wants it alone. n1 gives it back; what n2 holds is over after less
+# than the 60 s that it was granted.
+config 1000 60 4096 3
+start s
+start n1
+start n2
+start n3
+at 60000
+ask n1 TEAM group 60
+ask n2 TEAM group 60
+deliver 0
+deliver 1
+deliver 2
+deliver 3
+holders TEAM
+ask n3 TEAM unique 60
+deliver 4
+deliver 5
+at 90000
+release n1 TEAM
+deliver 6
+deliver 7
+at 125000
+holders TEAM
+",
+        0x4739_5e44_c3c9_0bff,
+    ),
+    // lost_reply.svg.
+    (
+        "\
+# The server grants FRED to n1, and its reply is lost. n1 asks again after 5 s, and holds the name.
+config 1000 60 4096 2
+start s
+start n1
+start n2
+at 60000
+ask n1 FRED unique 60
+deliver 0
+at 65000
+poll n1
+deliver 2
+deliver 3
+# n1 crashes, and the lease lives on: n2 is refused until it is over.
+at 70000
+crash n1
+ask n2 FRED unique 60
+deliver 4
+deliver 5
+at 125000
+ask n2 FRED unique 60
+deliver 6
+deliver 7
+holders FRED
+",
+        0xaeb0_ab7a_51fd_67aa,
+    ),
+];
+
+/// The FNV-1a hash of a text.
+fn hash_of(text: &str) -> u64 {
+    let mut hash: u64 = 0xcbf2_9ce4_8422_2325;
+    for octet in text.as_bytes() {
+        hash = (hash ^ u64::from(*octet)).wrapping_mul(0x0100_0000_01b3);
+    }
+    hash
+}
+
+/// The pictures of the documents are those that are drawn.
+#[test]
+fn stored_pictures(rt: HostRuntime) {
+    for (script, hash) in STORED {
+        let picture = picture_of(&rt, script);
+        expect_eq_in(&rt, &script, &hash_of(picture.as_str()), &hash);
     }
 }
 
@@ -520,6 +682,8 @@ fn a_hundred_and_one_names(rt: HostRuntime) {
     expect(&rt, !picture.contains(">N100 n5</text>"));
     expect(&rt, picture.contains(">N99</text>"));
     expect(&rt, !picture.contains(">N100</text>"));
+    // Seventeen lines of names stand above the headings of the columns.
+    expect(&rt, picture.contains(" y=\"400\">server</text>\n"));
     expect(
         &rt,
         picture.contains(

@@ -5,25 +5,25 @@ use Rattle.nbt_sim.proofs.Texts.{lost, texts_from, no_texts_left}
 use Rattle.nbt_sim.proofs.Playing.{after_line, stopped, at_the_end}
 use Rattle.nbt_sim.proofs.script.play.Goals as goal
 
-pub returns-then-not-branch : goal.returns-then-not-branch
-returns-then-not-branch c =
+pub returns-in-Unreadable : goal.returns-in-Unreadable
+returns-in-Unreadable c =
     let before = c.lines.invariant.printed in
-    let line = rw c.if-not-branch.true at c.in_ok-play_line.ensures in
+    let line = c.in_ok-play_line.ensures in
     let left = texts_from c.deref-line-items.result.now c.lines.index lost (omega (arith, c.lines-test.true)) in
-    let end = stopped (c.lines.index + 1) _ _ _ _ (lines c.args.script.now) before.0 line.0 (rw left at before.2) line.2 in
+    let end = stopped (c.lines.index + 1) _ _ _ _ (lines c.args.script.now) before.0 line.0 _ (rw left at before.2) line.2 c.in-Unreadable.is in
     (before.0 ++ verdict_line (c.lines.index + 1) (codes "unreadable"), rw (c.in_ok-writeln.ensures.bytes, line.1, end.0, before.1) (simp (append_assoc, append-nil)), end.1)
 
 pub lines-preserved : goal.lines-preserved
 lines-preserved c =
     let before = c.lines.invariant.printed in
-    let line = rw c.if-not-branch.false at c.in_ok-play_line.ensures in
+    let line = c.in_ok-play_line.ensures in
     let left = texts_from c.deref-line-items.result.now c.lines.index lost (omega (arith, c.lines-test.true)) in
     record {
       whole = c.lines.invariant.whole;
       printed = (
         before.0 ++ line.0,
         line.1 ∙ ap (λ (x : List ℕ). x ++ line.0) before.1 ∙ append_assoc _ before.0 line.0,
-        after_line (c.lines.index + 1) _ _ _ _ (lines c.args.script.now) before.0 line.0 (rw left at before.2) line.2,
+        after_line (c.lines.index + 1) _ _ _ _ (lines c.args.script.now) before.0 line.0 _ (rw left at before.2) line.2 c.in_default.not-Unreadable,
       );
     }
 

@@ -2,12 +2,11 @@ use Rattle.std.proofs.Common.{◌≡◌, ◌+◌, ◌++◌, ℕ, List, drop}
 use Rattle.std.specs.String.{string_bytes}
 use Rattle.nbt_text.specs.Texts.{texts}
 use Rattle.nbt_text.specs.Lines.{lines}
-use Rattle.nbt_sim.specs.ScriptWorld.{world_of}
 use Rattle.nbt_sim.proofs.Playing.{Continues}
 use Rattle.nbt_sim.proofs.script.play.Given as goal
 
 abbrev pub invariant-lines : goal.invariant-lines
 invariant-lines l = record {
   whole : texts l.line-items ≡ lines l.fn.script;
-  printed : (text : List ℕ) × (string_bytes l.out ≡ string_bytes l.fn.out ++ text) × Continues (l.index + 1) (world_of l.stage) (texts (drop l.index l.line-items)) (lines l.fn.script) text;
+  printed : (text : List ℕ) × (string_bytes l.out ≡ string_bytes l.fn.out ++ text) × Continues (l.index + 1) l.world (texts (drop l.index l.line-items)) (lines l.fn.script) text;
 }

@@ -1,0 +1,79 @@
+//! A script as a picture.
+
+ghost use Rattle.std.specs.Prelude.{◌≡◌, ◌++◌, ℕ, List, IfOk, OnOk};
+ghost use Rattle.std.specs.String.{string_bytes};
+ghost use Rattle.nbt_svg.specs.declared.shape.Shape.{Shape};
+ghost use Rattle.nbt_svg.specs.Shapes.{document_text};
+ghost use Rattle.nbt_text.specs.Lines.{lines};
+ghost use Rattle.nbt_picture.specs.Drawing.{EndsAt};
+
+use crate::picture::write_picture;
+use crate::sketch::Sketch;
+use nbt_sim::{Played, play_line};
+use nbt_text::lines_of;
+use nbt_world::World;
+use std::alloc::{AllocError, Global};
+
+/// Appends the picture of a script: an SVG document. A script's lines are played as `nbt_sim::play` plays them. The first one
+/// that can't be read, or asks for what can't be done, ends the script: its number is returned, counted from 1 and with the
+/// blank ones among them, and the picture shows what came before it. `None` where there was none. `AllocError` only where out
+/// of memory; to a server, out of memory is a datagram lost.
+pub fn draw(script: &[u8], out: &mut String) -> Result<Option<usize>, AllocError>
+    ensures ends { IfOk result (EndsAt (lines script.now)) }
+    ensures drawn { OnOk result ((height : ℕ) × (shapes : List Shape)
+        × (string_bytes out.new ≡ string_bytes out.old ++ document_text height shapes)) }
+{
+    let alloc = *out.allocator();
+    let mut sketch = Sketch::new(alloc);
+    let stopped = watch_script(alloc, script, &mut sketch)?;
+    write_picture(&sketch.chart, out)?;
+    Ok(stopped)
+}
+
+/// Keeps what the lines of a script do. Returns the number of the line that ends it, if one does.
+fn watch_script(
+    alloc: Global,
+    script: &[u8],
+    sketch: &mut Sketch,
+) -> Result<Option<usize>, AllocError>
+    ensures { IfOk result (EndsAt (lines script.now)) }
+{
+    let lines = lines_of(alloc, script)?;
+    let mut world = None;
+    'lines: for (index, line) in lines.iter().enumerate() {
+        let mut printed = String::new(alloc);
+        let played = play_line(alloc, line, &mut world, &mut printed)?;
+        if let Played::Unreadable = played {
+            finish(sketch, &world)?;
+            return Ok(Some(index + 1));
+        }
+        watch(sketch, &played, &world, printed.as_str())?;
+    }
+    finish(sketch, &world)?;
+    Ok(None)
+}
+
+/// Keeps what came of a line that printed this.
+fn watch(
+    sketch: &mut Sketch,
+    played: &Played,
+    world: &Option<World>,
+    printed: &str,
+) -> Result<(), AllocError> {
+    let Some(world) = world else {
+        return Ok(());
+    };
+    let line = printed.strip_suffix("\n").unwrap_or(printed);
+    match played {
+        Played::Done(instruction, report) => sketch.watch(instruction, report, world, line),
+        _ => Ok(()),
+    }
+}
+
+/// Keeps what was over by the end of the script.
+fn finish(sketch: &mut Sketch, world: &Option<World>) -> Result<(), AllocError> {
+    match world {
+        Some(world) => sketch.finish(world),
+        None => Ok(()),
+    }
+}

@@ -1,0 +1,20 @@
+//! A run of a script as a picture (our profile): one SVG in place of the lines that the script prints.
+//!
+//! A script is played as `nbt_sim` plays it. A chart keeps what a reader wants to look at: rows of what happened, the datagrams
+//! with where they came from and how they ended, and what lasted beside the column of an endpoint. It is laid out and drawn as
+//! shapes, which `nbt_svg` writes. Nothing here knows the command line.
+#![tactic(auto)]
+
+mod chart;
+mod drawing;
+mod layout;
+mod picture;
+mod rows;
+mod said;
+mod shapes;
+mod sketch;
+mod spans;
+mod top;
+mod watching;
+
+pub use drawing::draw;

@@ -1,0 +1,90 @@
+//! A chart as an SVG document.
+
+ghost use Rattle.std.specs.Prelude.{◌≡◌, ◌++◌, ℕ, List, Contains, OnOk};
+ghost use Rattle.std.specs.String.{string_bytes};
+ghost use Rattle.nbt_svg.specs.Shapes.{document_text};
+ghost use Rattle.nbt_picture.specs.Inner.Picture.{Says};
+
+use crate::chart::{Chart, Row};
+use crate::layout::{BAND, Layout, ROW, lay_out};
+use crate::rows::{draw_rows, draw_ways};
+use crate::shapes::{draw_block, draw_text};
+use crate::spans::draw_span;
+use crate::top::draw_top;
+use nbt_svg::{Class, Shape, WIDTH, write_document};
+use std::alloc::AllocError;
+
+/// Appends the picture of a chart: a head, whole shapes, each text of them escaped, and a tail, whatever the chart's words are.
+/// The words of each row stand in it.
+pub fn write_picture(chart: &Chart, out: &mut String) -> Result<(), AllocError>
+    ensures { OnOk result ((height : ℕ) × (shapes : List Shape)
+        × (string_bytes out.new ≡ string_bytes out.old ++ document_text height shapes)
+        × ((row : Row) → Contains chart.now.rows.items row → Says shapes (string_bytes row.words))) }
+{
+    let alloc = *out.allocator();
+    let layout = lay_out(alloc, chart)?;
+    let height = layout.foot.saturating_add(ROW);
+    let mut shapes = Vec::new(alloc);
+    draw_chart(chart, &layout, height, &mut shapes)?;
+    write_document(height, shapes.as_slice(), out)
+}
+
+/// Draws a chart: the background, the bands, what lasts, the ways of datagrams, the rows, and the head of the picture, each over
+/// those before it.
+fn draw_chart(
+    chart: &Chart,
+    layout: &Layout,
+    height: u64,
+    shapes: &mut Vec<Shape>,
+) -> Result<(), AllocError>
+    ensures { OnOk result ((row : Row) → Contains chart.now.rows.items row → Says shapes.new.items (string_bytes row.words)) }
+{
+    draw_block(Class::Page, 0, 0, WIDTH, height, shapes)?;
+    draw_bands(chart, layout, shapes)?;
+    for span in chart.spans.iter() {
+        draw_span(chart, layout, span, shapes)?;
+    }
+    for (number, row) in chart.rows.iter().enumerate() {
+        draw_ways(chart, layout, number, row, shapes)?;
+    }
+    draw_rows(chart, layout, shapes)?;
+    draw_top(chart, layout, shapes)
+}
+
+/// Draws the bands in which time passes.
+fn draw_bands(chart: &Chart, layout: &Layout, shapes: &mut Vec<Shape>) -> Result<(), AllocError> {
+    for (place, row) in layout.places.iter().zip(chart.rows.iter()) {
+        if let Some(band) = place.band {
+            draw_band(chart, layout, row, band, shapes)?;
+        }
+    }
+    Ok(())
+}
+
+/// Draws a band, with the time at its end, and what each endpoint reads then that reads another.
+fn draw_band(
+    chart: &Chart,
+    layout: &Layout,
+    row: &Row,
+    band: u64,
+    shapes: &mut Vec<Shape>,
+) -> Result<(), AllocError> {
+    draw_block(Class::Band, 0, band, WIDTH, BAND, shapes)?;
+    let y = band.saturating_add(15);
+    draw_time(row.clock, 10, y, shapes)?;
+    for (number, reading) in row.readings.iter().enumerate() {
+        if number < chart.addrs.len() && *reading != row.clock {
+            let x = layout.x(number).saturating_add(6);
+            draw_time(*reading, x, y, shapes)?;
+        }
+    }
+    Ok(())
+}
+
+/// Draws a time in seconds, with its milliseconds.
+fn draw_time(ms: u64, x: u64, y: u64, shapes: &mut Vec<Shape>) -> Result<(), AllocError> {
+    let seconds = ms / 1000;
+    let rest = ms % 1000;
+    let words = format!(in *shapes.allocator(); "{seconds}.{rest:03} s")?;
+    draw_text(Class::Time, x, y, words, shapes)
+}
