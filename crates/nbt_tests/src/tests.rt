@@ -1,33 +1,21 @@
 //! What `command` and `command_telling` print, and how they end.
 
 use arrayvec::ArrayVec;
-use expect::expect_eq_in;
-use nbt_prog::command;
 use std::io;
-use std::io::{Read, Write};
-use std::process::Abort;
+use std::io::Write;
 
-mod answer;
-mod check;
-mod datagrams;
 mod ending;
 mod expect;
-mod explain;
 mod failures;
 mod hosts;
-mod lengths;
 mod looping;
 mod machine;
-mod messages;
 mod nbns;
 mod network;
 mod people;
 mod reasons;
 mod release;
-mod replies;
 mod serving;
-mod show;
-mod sim;
 mod street;
 mod terminal;
 
@@ -110,18 +98,4 @@ impl Write for LimitedWriter {
             Err(io::Error::from(io::ErrorKind::BrokenPipe))
         }
     }
-}
-
-/// What is printed where `input` is the standard input.
-fn expect_of_input<R: Abort + AllocGlobal, I: Read>(
-    rt: &R,
-    words: &[&str],
-    input: &mut I,
-    status: u8,
-    text: &[u8],
-) {
-    let mut paper = LimitedWriter::new();
-    let got = command(rt.alloc(), words, input, &mut paper);
-    expect_eq_in(rt, &words, &paper.text.as_slice(), &text);
-    expect_eq_in(rt, &words, &got, &status);
 }

@@ -1,8 +1,8 @@
 //! Writers and readers that fail, and memory that is refused.
 
+use super::LimitedWriter;
 use super::expect::{expect, expect_eq, expect_eq_in, expect_in};
 use super::terminal::words_of;
-use super::{LimitedWriter, expect_of_input};
 use nbt_prog::command;
 use std::io;
 use std::io::Read;
@@ -47,16 +47,15 @@ fn a_writer_that_fails(rt: HostRuntime) {
     expect(&rt, paper.text.is_empty());
 }
 
-/// So many spaces, and then the end or an error.
+/// So many spaces, and then an error.
 #[derive(Drop)]
-pub struct Spaces {
-    pub left: usize,
-    pub fails: bool,
+struct Spaces {
+    left: usize,
 }
 
 impl Read for Spaces {
     fn read(&mut self, buf: &mut [u8]) -> io::Result<usize> {
-        if self.left == 0 && self.fails {
+        if self.left == 0 {
             return Err(io::Error::from(io::ErrorKind::BrokenPipe));
         }
         let count = buf.len().min(self.left);
@@ -67,15 +66,12 @@ impl Read for Spaces {
 }
 
 #[test]
-fn inputs_of_1048576_octets_and_more(rt: HostRuntime) {
-    for (left, fails, status, text) in [
-        (1048576, false, 0, b"0 passed, 0 failed\n".as_slice()),
-        (1048577, false, 1, b"unreadable\n".as_slice()),
-        (5, true, 3, b"device\n".as_slice()),
-    ] {
-        let mut reader = Spaces { left, fails };
-        expect_of_input(&rt, &["nbt", "check"], &mut reader, status, text);
-    }
+fn a_reader_that_fails(rt: HostRuntime) {
+    let mut reader = Spaces { left: 5 };
+    let mut paper = LimitedWriter::new();
+    let status = command(rt.alloc(), &["nbt", "check"], &mut reader, &mut paper);
+    expect_eq(&rt, &paper.text.as_slice(), &b"device\n".as_slice());
+    expect_eq(&rt, &status, &3);
 }
 
 /// Commands that take memory, their inputs, the statuses that they end with where there is memory, and how what they

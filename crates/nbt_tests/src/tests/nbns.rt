@@ -1,89 +1,13 @@
-//! The command `nbns`: its words, and what it serves, logs and keeps over UDP and clocks that are set.
+//! The command `nbns`: what it serves, logs and keeps over UDP and clocks that are set.
 
 use super::ending::{Ending, expect_ending};
 use super::expect::expect_eq;
 use super::machine::WithFiles;
-use super::people::expect_said;
 use super::serving::{NO_CLOCK, NO_TIME, Row, expect_row, machine_of};
-use super::terminal::{play, words_of};
+use super::terminal::words_of;
 use std::net::UdpSocket;
 use std::test::Fail;
 use std::{env, fs, process};
-
-const WORDS: &str = "\
-# Wrong usage.
-$ nbt nbns --life
-? 2
-error: a value is required for '--life <TIME>'...
-
-$ nbt nbns 192.0.2.1
-? 2
-error: unexpected argument '192.0.2.1' found...
-
-# Help.
-$ nbt nbns --help
-Runs a name server...
-";
-
-#[test]
-fn words_of_a_name_server(rt: HostRuntime) {
-    play(&rt, WORDS);
-}
-
-/// Words that can't be read, and what is said of them. The first that is wrong is told.
-const UNREADABLE: [(&str, &str); 11] = [
-    (
-        "nbt nbns --life 0ms --longest x --for x --bind x",
-        "nbt: life '0ms': not a time from 1ms to 60s\n",
-    ),
-    (
-        "nbt nbns --life 60001ms",
-        "nbt: life '60001ms': not a time from 1ms to 60s\n",
-    ),
-    (
-        "nbt nbns --life 1",
-        "nbt: life '1': not a time from 1ms to 60s\n",
-    ),
-    (
-        "nbt nbns --longest 1500ms --for x --bind x",
-        "nbt: longest lease '1500ms': not a time in whole seconds from 1s to 1000000s\n",
-    ),
-    (
-        "nbt nbns --longest 999ms",
-        "nbt: longest lease '999ms': not a time in whole seconds from 1s to 1000000s\n",
-    ),
-    (
-        "nbt nbns --longest 1000001s",
-        "nbt: longest lease '1000001s': not a time in whole seconds from 1s to 1000000s\n",
-    ),
-    (
-        "nbt nbns --longest 9s --for 1h --bind x",
-        "nbt: time '1h': not a time, as 1500ms, 300s or 5m\n",
-    ),
-    (
-        "nbt nbns --longest 9s --bind x",
-        "nbt: longest lease 9 s, life of a datagram 1000 ms: it has to be 10 s and 20 lives at least, else a hold would lapse before it can be refreshed\n",
-    ),
-    (
-        "nbt nbns --life 16s",
-        "nbt: longest lease 300 s, life of a datagram 16000 ms: it has to be 10 s and 20 lives at least, else a hold would lapse before it can be refreshed\n",
-    ),
-    (
-        "nbt nbns --life 60s --longest 20m --bind x",
-        "nbt: address 'x': no A.B.C.D or A.B.C.D:PORT in decimal\n",
-    ),
-    (
-        "nbt nbns --bind 192.0.2.1:65536",
-        "nbt: address '192.0.2.1:65536': no A.B.C.D or A.B.C.D:PORT in decimal\n",
-    ),
-];
-
-#[test]
-fn words_of_a_name_server_that_are_said_to_be_unreadable(rt: HostRuntime) {
-    for (line, said) in UNREADABLE {
-        expect_said(&rt, line, said);
-    }
-}
 
 /// The other end's requests: for FRED, unique; its refresh, its release, and a query for it.
 const ASKS: &str =

@@ -1,10 +1,8 @@
-//! The commands `lookup` and `status`: their words, and what they ask and print over UDP and a clock that is set.
+//! The commands `lookup` and `status`: what they ask and print over UDP and a clock that is set.
 
 use super::LimitedWriter;
-use super::ending::{Ending, expect_ending};
 use super::expect::expect_eq_in;
 use super::serving::{FAILED, NO_CLOCK, Row, expect_row, machine_of};
-use super::terminal::{play, words_of};
 use nbt_ask::{Answer, ask_here};
 use nbt_engine::Fault;
 use nbt_lookup::Question;
@@ -13,120 +11,6 @@ use std::net::{Net, TcpListener, TcpStream};
 use std::process::Abort;
 use std::rt::Files;
 use std::test::Fail;
-use std::time::Clock;
-
-const WORDS: &str = "\
-# Wrong usage.
-$ nbt lookup
-? 2
-error: the following required arguments...
-
-$ nbt lookup FRED
-? 2
-error: the following required arguments...
-
-$ nbt status
-? 2
-error: the following required arguments...
-
-$ nbt lookup FRED --server 192.0.2.1 --tries 4
-? 2
-error: invalid value '4' for '--tries <N>'...
-
-# Times to wait out of their limits, which are told before a word that can't be read.
-$ nbt lookup # --server x --wait 0ms
-? 2
-error: invalid value '0ms' for '--wait <TIME>': not a time from 1ms to 5s...
-
-$ nbt status x --wait 5001ms
-? 2
-error: invalid value '5001ms' for '--wait <TIME>': not a time from 1ms to 5s...
-
-$ nbt status x --wait 5
-? 2
-error: invalid value '5' for '--wait <TIME>': not a time from 1ms to 5s...
-
-# Help.
-$ nbt lookup --help
-Asks a name server who holds a name...
-
-$ nbt status --help
-Asks a host which names it holds...
-";
-
-#[test]
-fn words_for_people(rt: HostRuntime) {
-    play(&rt, WORDS);
-}
-
-/// Words that can't be read, and what is said of them.
-const UNREADABLE: [(&str, &str); 12] = [
-    (
-        "nbt lookup FILESERVER-NUMBER-1 --server 192.0.2.1",
-        "nbt: name 'FILESERVER-NUMBER-1': 19 characters, at most 15\n",
-    ),
-    (
-        "nbt lookup #20 --server 192.0.2.1",
-        "nbt: name '#20': no characters, at least 1\n",
-    ),
-    (
-        "nbt lookup A_~_B --server 192.0.2.1",
-        "nbt: name 'A B': octet 1 is no character from ! to ~; write hex: and 32 digits\n",
-    ),
-    (
-        "nbt lookup FRED#2 --server 192.0.2.1",
-        "nbt: name 'FRED#2': a suffix is #20 or <20>, with two hexadecimal digits\n",
-    ),
-    (
-        "nbt lookup hex:20 --server 192.0.2.1",
-        "nbt: name 'hex:20': hex: stands before 32 hexadecimal digits\n",
-    ),
-    (
-        "nbt lookup FRED --server 192.0.2.1 --scope a..b",
-        "nbt: name 'FRED': the scope can't be read\n",
-    ),
-    (
-        "nbt lookup * --server 192.0.2.1",
-        "nbt: name '*': no server is asked for a name that begins with *\n",
-    ),
-    (
-        "nbt lookup # --server 192.0.2 --bind x",
-        "nbt: address '192.0.2': no A.B.C.D or A.B.C.D:PORT in decimal\n",
-    ),
-    (
-        "nbt lookup # --server 192.0.2.1 --bind x",
-        "nbt: address 'x': no A.B.C.D or A.B.C.D:PORT in decimal\n",
-    ),
-    (
-        "nbt status 192.0.2.1:x # --bind x",
-        "nbt: address '192.0.2.1:x': no A.B.C.D or A.B.C.D:PORT in decimal\n",
-    ),
-    (
-        "nbt status 192.0.2.1 # --bind x",
-        "nbt: address 'x': no A.B.C.D or A.B.C.D:PORT in decimal\n",
-    ),
-    (
-        "nbt status 192.0.2.1 #",
-        "nbt: name '#': no characters, at least 1\n",
-    ),
-];
-
-/// What is said of words that can't be read: nothing is printed, and the status is 2.
-pub fn expect_said<R: Abort + AllocGlobal + Net + Clock + Files>(rt: &R, line: &str, said: &str) {
-    let ending = Ending {
-        status: 2,
-        text: "",
-        errors: said,
-    };
-    expect_ending(rt, line, rt, words_of(rt, line).as_slice(), &ending);
-}
-
-#[test]
-fn words_that_are_said_to_be_unreadable(rt: HostRuntime) {
-    for (line, said) in UNREADABLE {
-        expect_said(&rt, line, said);
-    }
-}
 
 /// The first query for FRED, and for `fred` in the scope `lab`; and a status request by `*`, and by FRED.
 const QUERY: &str = "0001_0100_0001_0000_0000_0000_{FRED}_0020_0001";
