@@ -2,7 +2,5 @@
 
 -- a packet that is right in each respect spells a message
 pub mod Spelled
--- the lines of a session's packets so far
-pub mod Told
 -- a text that is written at once
 pub mod Written

@@ -1,11 +1,12 @@
 -- The packets of a session's stream in words (RFC 1002 section 4.3; the texts are our profile's).
-use Rattle.std.specs.Prelude.{ℕ, nat_eq, if◌then◌else◌, List, [], ◌∷◌, ◌++◌, length, codes}
+use Rattle.std.specs.Prelude.{ℕ, nat_eq, if◌then◌else◌, List, ◌++◌, length, codes}
 use Rattle.std.specs.Fmt.{decimal}
 use Rattle.nbt_name.specs.declared.addr.Addr.{Addr}
 use Rattle.nbt_name.specs.Wire.{NameValue}
 use Rattle.nbt_session.specs.Packet.{PacketValue, message, request, positive, negative, retarget, keep_alive}
 use Rattle.nbt_session.specs.Stream.{StreamIs}
 use Rattle.nbt_text.specs.Address.{address_text}
+use Rattle.nbt_show.specs.SessionText.{PrintsEach}
 use Rattle.nbt_text.specs.Lines.{newline}
 use Rattle.nbt_explain.specs.Parts.{PrintsNamed}
 use Rattle.nbt_explain.specs.Words.{code_line}
@@ -49,14 +50,9 @@ pub data PrintsOne : PacketValue → List ℕ → Type 0 where
 
 -- ---- a stream's
 
--- Packets have their lines, one after the other.
-pub data PrintsEach : List PacketValue → List ℕ → Type 0 where
-  no_packets : PrintsEach [] []
-  one_packet : (packet : PacketValue) (packets : List PacketValue) (lines others : List ℕ) → PrintsOne packet lines → PrintsEach packets others → PrintsEach (packet ∷ packets) (lines ++ others)
-
 -- The lines of the whole packets that the octets begin with; of the rest nothing.
 pub record ExplainsSession (octets text : List ℕ) : Type 0 where
   pub packets : List PacketValue
   pub rest : List ℕ
   pub stream_is : StreamIs octets packets rest
-  pub text_is : PrintsEach packets text
+  pub text_is : PrintsEach PrintsOne packets text

@@ -3,13 +3,15 @@
 ghost use Rattle.std.specs.Prelude.{◌≡◌, ◌≤◌, [], ℕ, List, ◌++◌, length, drop, OnOk, Err, IfOk, IfSome, IfNone};
 ghost use Rattle.std.specs.String.{string_bytes};
 ghost use Rattle.nbt_session.specs.Packet.{packet_of};
+ghost use Rattle.nbt_show.specs.Whole.{whole_of};
 ghost use Rattle.nbt_explain.specs.Parts.{PrintsNamed};
 ghost use Rattle.nbt_explain.specs.Sessions.{ExplainsSession, PrintsOne, error_words, message_lines, negative_lines, request_lines, retarget_lines};
 
 use crate::naming::write_named;
 use crate::words::write_code_line;
 use nbt_name::{Addr, Name};
-use nbt_session::{Packet, Stream, StreamFault};
+use nbt_session::{Packet, Pieces, StreamFault};
+use nbt_show::{Whole, next_packet};
 use nbt_text::{end_line, write_address};
 use std::alloc::AllocError;
 
@@ -20,16 +22,15 @@ pub fn explain_session(octets: &[u8], out: &mut String) -> Result<(), AllocError
     ensures { OnOk result ((text : List ℕ) × ExplainsSession octets.now text × (string_bytes out.new ≡ string_bytes out.old ++ text)) }
 {
     nbt_session::laws::text_is_read();
-    let mut stream = Stream::new(*out.allocator());
+    let mut pieces = Pieces::new();
     let mut rest = octets;
     'packets: loop {
-        match stream.take(rest) {
-            Ok((taken, Some(packet))) => {
-                write_one(&packet, out)?;
-                let (_, others) = rest.split_at(taken);
-                rest = others;
+        match next_packet(&mut pieces, rest) {
+            Ok(Some((taken, packet))) => {
+                write_packet(&packet, out)?;
+                rest = &rest[taken..];
             }
-            Ok((_, None)) => return Ok(()),
+            Ok(None) => return Ok(()),
             Err(StreamFault::Malformed(_)) => return Ok(()),
             Err(StreamFault::OutOfMemory) => return Err(AllocError),
         }
@@ -37,7 +38,18 @@ pub fn explain_session(octets: &[u8], out: &mut String) -> Result<(), AllocError
 }
 
 /// Appends the lines of a packet.
-fn write_one(packet: &Packet, out: &mut String) -> Result<(), AllocError>
+fn write_packet(packet: &Whole<'_>, out: &mut String) -> Result<(), AllocError>
+    ensures { OnOk result ((text : List ℕ) × PrintsOne (whole_of packet.now) text
+        × (string_bytes out.new ≡ string_bytes out.old ++ text)) }
+{
+    match packet {
+        Whole::Message(octets) => write_message(octets, out),
+        Whole::Other(packet) => write_other(packet, out),
+    }
+}
+
+/// Appends the lines of a packet that has its own octets.
+fn write_other(packet: &Packet, out: &mut String) -> Result<(), AllocError>
     ensures { OnOk result ((text : List ℕ) × PrintsOne (packet_of packet.now) text
         × (string_bytes out.new ≡ string_bytes out.old ++ text)) }
 {

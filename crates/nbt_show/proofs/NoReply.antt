@@ -10,7 +10,7 @@ use Rattle.nbt_packet.specs.Packet.{PacketValue}
 use Rattle.nbt_show.specs.declared.reply.Reply.TheVariants as r
 use Rattle.nbt_show.specs.Replies.{PrintsReplyMessage}
 
--- nothing is told of them
+-- nothing is printed of them
 pub prints_nothing : (packet : PacketValue) (message : Message) → ((id : ℕ) (name : NameValue) (ttl : ℕ) (entries : Bor (List ℕ)) (cut : Bool) → message ≢ m.Found id name ttl entries cut)
     → ((id rcode : ℕ) (name : Option NameValue) → message ≢ m.NotFound id rcode name) → ((id : ℕ) (name : NameValue) (names : Bor (List ℕ)) → message ≢ m.Status id name names)
     → PrintsReplyMessage packet (message_of message) r.Other []

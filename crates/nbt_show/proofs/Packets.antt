@@ -3,13 +3,10 @@ use Rattle.std.proofs.Common.{◌≡◌, ℕ, List, Result, Ok, Err, sym, ◌∙
 use Rattle.std.specs.Prelude.{◌↔◌}
 use Rattle.nbt_packet.specs.declared.fault.Fault.{Fault}
 use Rattle.nbt_packet.specs.declared.packet.Packet.{Packet}
-use Rattle.nbt_packet.specs.Packet.{PacketValue, PacketIs, PacketFault, decoded, packet_of}
+use Rattle.nbt_packet.specs.Packet.{PacketValue, PacketIs, decoded, packet_of}
 
 abbrev pub Reads : List ℕ → Result (Packet × ℕ) Fault → Type 0
 Reads octets result = (packet : PacketValue) (n : ℕ) → (decoded result ≡ Ok (packet, n)) ↔ PacketIs octets packet n
-
-abbrev pub Faults : List ℕ → Result (Packet × ℕ) Fault → Type 0
-Faults octets result = (fault : Fault) → (decoded result ≡ Err fault) ↔ PacketFault octets fault
 
 pub packet_stands : (octets : List ℕ) (packet : Packet) (taken : ℕ) (result : Result (Packet × ℕ) Fault) → Reads octets result → result ≡ Ok (packet, taken) → PacketIs octets (packet_of packet) taken
 packet_stands octets packet taken result reads e = (reads (packet_of packet) taken).0 (ap decoded e)
@@ -24,8 +21,3 @@ taken_is_one octets packet taken other n result reads e is =
     let one = (reads other n).1 is in
     let same = sym (ap decoded e) ∙ one in
     let pair : (packet_of packet, taken) ≡ (other, n) = cc in ap (λ (x : PacketValue × ℕ). x.1) pair
-
-pub no_fault_stands : (octets : List ℕ) (packet : Packet) (taken : ℕ) (fault : Fault) (result : Result (Packet × ℕ) Fault) → Faults octets result → result ≡ Ok (packet, taken) → PacketFault octets fault → ⊥
-no_fault_stands octets packet taken fault result faults e is =
-    let one = (faults fault).1 is in
-    let other = ap decoded e in cc (sym other ∙ one)

@@ -1,4 +1,4 @@
--- The lines of the packets so far.
+-- The lines of a session's packets so far, whichever line a packet has.
 use Rattle.std.proofs.Common.{◌≡◌, ℕ, List, [], ◌∷◌, ◌++◌, ◌-◌, length, take, drop, refl, sym, ◌∙◌, ap, subst, append_assoc}
 use Rattle.std.specs.List.{flat_map}
 use Rattle.std.proofs.lemmas.List.{append-nil}
@@ -7,7 +7,7 @@ use Rattle.nbt_session.specs.Packet.{PacketValue, IsPacket, text}
 use Rattle.nbt_session.specs.Stream.{Begins, IsPartial, StreamIs, HasFault}
 use Rattle.nbt_text.proofs.Joining.{two_parts}
 use Rattle.nbt_show.proofs.NextPacket.{left_is}
-use Rattle.nbt_show.specs.SessionText.{PrintsPacketLine, PrintsPackets, no_packets, one_packet}
+use Rattle.nbt_show.specs.SessionText.{PrintsEach, no_packets, one_packet}
 
 -- each packet takes octets, and what is left stands after it
 behind : (n : ℕ) (octets : List ℕ) (packet : PacketValue) → Begins octets packet (drop n octets) → octets ≡ text packet ++ take (length octets - n) (drop n octets)
@@ -20,12 +20,9 @@ partial_fault apart octets fault has = λ packet rest begins. apart octets packe
 -- ---- the packets so far
 
 -- whatever packets follow, they complete those that are printed
-abbrev pub Continues : (octets rest lines : List ℕ) → Type 0
-Continues octets rest lines = (packets : List PacketValue) (left more : List ℕ) → StreamIs rest packets left → PrintsPackets packets more
-    → (all : List PacketValue) × StreamIs octets all left × PrintsPackets all (lines ++ more)
-
-pub nothing_printed : (octets : List ℕ) → Continues octets octets []
-nothing_printed octets packets left more stream prints = (packets, stream, prints)
+abbrev pub Continues : (PrintsOne : PacketValue → List ℕ → Type 0) (octets rest lines : List ℕ) → Type 0
+Continues PrintsOne octets rest lines = (packets : List PacketValue) (left more : List ℕ) → StreamIs rest packets left → PrintsEach PrintsOne packets more
+    → (all : List PacketValue) × StreamIs octets all left × PrintsEach PrintsOne all (lines ++ more)
 
 packet_first : (packet : PacketValue) (after : List ℕ) (packets : List PacketValue) (left : List ℕ) → IsPacket packet → StreamIs after packets left → StreamIs (text packet ++ after) (packet ∷ packets) left
 packet_first packet after packets left is stream = record {
@@ -34,24 +31,24 @@ packet_first packet after packets left is stream = record {
   partial = stream.partial;
 }
 
-one_more : (octets rest after lines line : List ℕ) (packet : PacketValue) → rest ≡ text packet ++ after → IsPacket packet → PrintsPacketLine packet line → Continues octets rest lines → Continues octets after (lines ++ line)
-one_more octets rest after lines line packet e is prints so_far packets left more stream others =
+one_more : (PrintsOne : PacketValue → List ℕ → Type 0) (octets rest after lines line : List ℕ) (packet : PacketValue) → rest ≡ text packet ++ after → IsPacket packet → PrintsOne packet line → Continues PrintsOne octets rest lines → Continues PrintsOne octets after (lines ++ line)
+one_more PrintsOne octets rest after lines line packet e is prints so_far packets left more stream others =
     let next = so_far (packet ∷ packets) left (line ++ more) (subst (λ (x : List ℕ). StreamIs x (packet ∷ packets) left) (sym e) (packet_first packet after packets left is stream)) (one_packet packet packets line more prints others) in
-    (next.0, next.1, subst (λ (x : List ℕ). PrintsPackets next.0 x) (sym (append_assoc lines line more)) next.2)
+    (next.0, next.1, subst (λ (x : List ℕ). PrintsEach PrintsOne next.0 x) (sym (append_assoc lines line more)) next.2)
 
-pub all_printed : (octets rest lines : List ℕ) → IsPartial rest → Continues octets rest lines → (all : List PacketValue) × StreamIs octets all rest × PrintsPackets all lines
-all_printed octets rest lines partial so_far =
+pub all_printed : (PrintsOne : PacketValue → List ℕ → Type 0) (octets rest lines : List ℕ) → IsPartial rest → Continues PrintsOne octets rest lines → (all : List PacketValue) × StreamIs octets all rest × PrintsEach PrintsOne all lines
+all_printed PrintsOne octets rest lines partial so_far =
     let next = so_far [] rest [] (record { whole = refl; each = tt; partial = partial }) no_packets in
-    (next.0, next.1, subst (λ (x : List ℕ). PrintsPackets next.0 x) (append-nil lines) next.2)
+    (next.0, next.1, subst (λ (x : List ℕ). PrintsEach PrintsOne next.0 x) (append-nil lines) next.2)
 
 -- what was appended are the lines of the packets so far
-abbrev pub Printed : (octets rest before now : List ℕ) → Type 0
-Printed octets rest before now = (lines : List ℕ) × (now ≡ before ++ lines) × Continues octets rest lines
+abbrev pub Printed : (PrintsOne : PacketValue → List ℕ → Type 0) (octets rest before now : List ℕ) → Type 0
+Printed PrintsOne octets rest before now = (lines : List ℕ) × (now ≡ before ++ lines) × Continues PrintsOne octets rest lines
 
-pub next_round : (octets rest before now after : List ℕ) (n : ℕ) (packet : PacketValue) → Printed octets rest before now → Begins rest packet (drop n rest) → (line : List ℕ) × (after ≡ now ++ line) × PrintsPacketLine packet line
-    → Printed octets (take (length rest - n) (drop n rest)) before after
-next_round octets rest before now after n packet so_far begins line = (
+pub next_round : (PrintsOne : PacketValue → List ℕ → Type 0) (octets rest before now after : List ℕ) (n : ℕ) (packet : PacketValue) → Printed PrintsOne octets rest before now → Begins rest packet (drop n rest) → (line : List ℕ) × (after ≡ now ++ line) × PrintsOne packet line
+    → Printed PrintsOne octets (take (length rest - n) (drop n rest)) before after
+next_round PrintsOne octets rest before now after n packet so_far begins line = (
   so_far.0 ++ line.0,
   two_parts before now after so_far.0 line.0 so_far.1 line.1,
-  one_more octets rest (take (length rest - n) (drop n rest)) so_far.0 line.0 packet (behind n rest packet begins) begins.0 line.2 so_far.2,
+  one_more PrintsOne octets rest (take (length rest - n) (drop n rest)) so_far.0 line.0 packet (behind n rest packet begins) begins.0 line.2 so_far.2,
 )

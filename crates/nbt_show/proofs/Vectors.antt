@@ -18,12 +18,6 @@ use Rattle.nbt_packet.specs.Numbers.{fault_word}
 abbrev pub lost : Bor (List ℕ)
 lost = record { ref_ptr = (0, 0); now = [] }
 
-pub two_texts : (words : List (Bor (List ℕ))) → length words ≡ 2 → texts words ≡ (get_or words 0 lost).now ∷ (get_or words 1 lost).now ∷ []
-two_texts [] h = absurd (omega arith)
-two_texts (a ∷ []) h = absurd (omega arith)
-two_texts (a ∷ b ∷ []) h = refl
-two_texts (a ∷ b ∷ c ∷ ws) h = absurd (omega arith)
-
 pub three_texts : (words : List (Bor (List ℕ))) → length words ≡ 3 → texts words ≡ (get_or words 0 lost).now ∷ (get_or words 1 lost).now ∷ (get_or words 2 lost).now ∷ []
 three_texts [] h = absurd (omega arith)
 three_texts (a ∷ []) h = absurd (omega arith)

@@ -9,4 +9,5 @@ pub mod Rows
 pub mod SessionText
 pub mod Vector
 pub mod Verdicts
+pub mod Whole
 pub mod Words

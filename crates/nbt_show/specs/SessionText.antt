@@ -31,11 +31,11 @@ pub data PrintsPacketLine : PacketValue → List ℕ → Type 0 where
   of_retarget : (to : Addr) → PrintsPacketLine (retarget to) (codes "retarget " ++ address_text to ++ newline)
   of_keep_alive : PrintsPacketLine keep_alive (codes "keep-alive" ++ newline)
 
--- Packets have their lines, one after the other.
-pub data PrintsPackets : List PacketValue → List ℕ → Type 0 where
-  no_packets : PrintsPackets [] []
-  one_packet : (packet : PacketValue) (packets : List PacketValue) (line lines : List ℕ) → PrintsPacketLine packet line
-      → PrintsPackets packets lines → PrintsPackets (packet ∷ packets) (line ++ lines)
+-- Packets have their lines, one after the other, each as this relation has it.
+pub data PrintsEach (PrintsOne : PacketValue → List ℕ → Type 0) : List PacketValue → List ℕ → Type 0 where
+  no_packets : PrintsEach PrintsOne [] []
+  one_packet : (packet : PacketValue) (packets : List PacketValue) (lines others : List ℕ) → PrintsOne packet lines
+      → PrintsEach PrintsOne packets others → PrintsEach PrintsOne (packet ∷ packets) (lines ++ others)
 
 abbrev pub rest_line : List ℕ → List ℕ
 rest_line rest = codes "rest " ++ decimal (length rest) ++ newline
@@ -47,8 +47,8 @@ session_fault_line fault = codes "fault " ++ kind_word fault.kind ++ codes " at 
 -- or the fault that they begin with, whose place is counted from there.
 pub data PrintsSession (octets : List ℕ) : Bool → List ℕ → Type 0 where
   rest_follows : (packets : List PacketValue) (rest lines : List ℕ) → StreamIs octets packets rest
-      → ((fault : Fault) → ¬ HasFault rest fault) → PrintsPackets packets lines
+      → ((fault : Fault) → ¬ HasFault rest fault) → PrintsEach PrintsPacketLine packets lines
       → PrintsSession octets true (lines ++ rest_line rest)
   fault_follows : (packets : List PacketValue) (rest lines : List ℕ) (fault : Fault) → StreamIs octets packets rest
-      → HasFault rest fault → PrintsPackets packets lines
+      → HasFault rest fault → PrintsEach PrintsPacketLine packets lines
       → PrintsSession octets false (lines ++ session_fault_line fault)

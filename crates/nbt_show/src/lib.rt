@@ -23,5 +23,6 @@ pub use node_status::{write_name_flags, write_unit_id};
 pub use packet_text::write_packet;
 pub use rcode::rcode_words;
 pub use reply::{Reply, write_reply};
+pub use session_packet::{Whole, next_packet};
 pub use session_text::write_session;
 pub use verdicts::write_verdicts;

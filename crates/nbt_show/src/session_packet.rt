@@ -5,21 +5,23 @@ ghost use Rattle.nbt_session.specs.declared.fault.Fault.{Fault};
 ghost use Rattle.nbt_session.specs.declared.fault.StreamFault.TheVariants.{Malformed};
 ghost use Rattle.nbt_session.specs.Parts.{between};
 ghost use Rattle.nbt_session.specs.Stream.{Begins, IsPartial, HasFault};
-ghost use Rattle.nbt_show.specs.Inner.Whole.{whole_of};
+ghost use Rattle.nbt_show.specs.Whole.{whole_of};
 
 use nbt_session::{Packet, Part, Pieces, StreamFault};
 
-/// A packet that is whole.
+/// A whole packet of a session's stream (RFC 1002 section 4.3).
 #[derive(Debug, Drop)]
-pub(crate) enum Whole<'a> {
-    /// A message, whose octets are lent.
+pub enum Whole<'a> {
+    /// A message, whose octets are borrowed.
     Message(&'a [u8]),
     /// Another packet.
     Other(Packet),
 }
 
-/// Takes the octets up to the end of one packet: how many, and the packet; or nothing, where no packet is whole.
-pub(crate) fn next_packet<'a>(
+/// Takes the octets up to the end of one packet (RFC 1002 section 4.3): how many, and the packet; or nothing, where no packet is
+/// whole and there is no fault. `pieces` stands between two packets, and does so again after a packet. Refused with the fault that
+/// the octets begin with.
+pub fn next_packet<'a>(
     pieces: &mut Pieces,
     octets: &'a [u8],
 ) -> Result<Option<(usize, Whole<'a>)>, StreamFault>

@@ -22,7 +22,7 @@ if_some P (Some x) h = h x refl
 pub no_such : {A : Type 0} (r : Option A) (a : A) (P : Type 0) → r ≡ None → ¬ P → (r ≡ Some a) ↔ P
 no_such r a P none other = (λ e. absurd cc, λ p. absurd (other p))
 
--- digits that are read have room for their octets
+-- digits that are read have a buffer for their octets
 pub not_sized : (digits bytes : List ℕ) (n : ℕ) (r : Result (List ℕ) FromHexError) (x : Option (List ℕ)) → r ≡ decode_sized digits n → x ≡ result_ok r → x ≡ None → decode_of digits ≡ Ok bytes → length bytes ≡ n → ⊥
 not_sized digits bytes n r x e f none d len =
     let twice : length digits ≡ 2 * n = omega (arith, (decode_of-ok digits bytes d).2, len) in

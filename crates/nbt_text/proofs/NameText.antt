@@ -40,7 +40,7 @@ HasNo-component _ octets (in_digits digits _ decoded) = HasNo-prefixed digits oc
 take_front : (xs ys : List ℕ) (n : ℕ) → length xs ≡ n → take n (xs ++ ys) ≡ xs
 take_front xs ys n e = rw (← e, take-append-le (length xs) xs ys (omega arith), take-length xs) refl
 
--- ---- decoding into room for a number of octets
+-- ---- decoding into a buffer of a number of octets
 
 pub decoded_from : (digits : List ℕ) (n : ℕ) (r : Result Unit FromHexError) (out : List ℕ) → MatchResult (decode_sized digits n) (λ bytes. (r ≡ Ok tt) × (out ≡ bytes)) (λ e. r ≡ Err e)
     → IsOk r → (decode_of digits ≡ Ok out) × (length out ≡ n)
@@ -167,10 +167,6 @@ sixteen_is_one component xs ys a b = sixteen_spells component component xs ys a 
 HasNo-sixteen : (component octets : List ℕ) → Sixteen component octets → HasNo dot component
 HasNo-sixteen _ _ (filled_up octets stands h) = HasNo-plain octets stands
 HasNo-sixteen _ _ (in_32_digits digits octets decoded h) = HasNo-prefixed digits octets decoded
-
-pub length-sixteen : (component octets : List ℕ) → Sixteen component octets → length octets ≡ 16
-length-sixteen _ _ (filled_up octets stands h) = omega (arith, length-append octets (replicate (16 - length octets) space), length-replicate (16 - length octets) space)
-length-sixteen _ _ (in_32_digits digits octets decoded h) = h
 
 -- the labels after a dot begin with the one that stands there
 pub record Next (component rest scope : List ℕ) : Type 0 where

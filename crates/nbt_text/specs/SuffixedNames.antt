@@ -63,7 +63,7 @@ pub data SpellsOctets (case : Case) (word octets : List ℕ) : Type 0 where
 
 -- ---- what a word can have wrong
 
--- Places count from 0. The number of characters is told before what they are.
+-- Places count from 0. The number of characters is reported before what they are.
 pub data IsBadFront (front : List ℕ) : Fault → Type 0 where
   has_none : length front ≡ 0 → IsBadFront front f.Empty
   has_many : 15 < length front → IsBadFront front (f.Long (length front))

@@ -1,4 +1,4 @@
--- Texts that are lent.
+-- Borrowed texts.
 use Rattle.std.specs.Prelude.{ℕ, List, map}
 use denote.Ref.{Bor}
 

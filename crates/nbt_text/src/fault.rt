@@ -5,7 +5,7 @@ ghost use Rattle.nbt_text.specs.Faults.{fault_number};
 
 use thiserror::Error;
 
-/// What is wrong with a word that is to spell a name (our profile's numbers, words and order). The first of them is told:
+/// What is wrong with a word that is to spell a name (our profile's numbers, words and order). The first of them is reported:
 /// `Digits` alone of a word that begins with `hex:`, and then `Scope`; else they come in their order.
 #[derive(Clone, Copy, Debug, PartialEq, Eq, Error)]
 pub enum Fault {

@@ -1,39 +1,50 @@
-use Rattle.std.proofs.Common.{List, ℕ, sym, subst}
+use Rattle.std.proofs.Common.{◌≡◌}
 use Rattle.std.specs.String.{string_bytes}
-use Rattle.nbt_session.specs.Packet.{packet_of}
-use Rattle.nbt_explain.proofs.Told.{Told, begun, ended, faulty, shorter, nothing_told, one_more, all_told}
+use Rattle.nbt_show.proofs.Sessions.{all_printed, next_round, partial_fault}
+use Rattle.nbt_explain.specs.Sessions.{PrintsOne}
 use Rattle.nbt_explain.proofs.session.explain_session.Goals as goal
+
+pub packets-preserved-in_ok-write_packet-in-Ok-Some : goal.packets-preserved-in_ok-write_packet-in-Ok-Some
+packets-preserved-in_ok-write_packet-in-Ok-Some c =
+    let begins = rw c.in-Ok-Some.field-0-is at c.in-Ok-Some.ensures.whole in
+    let anew = rw c.in-Ok-Some.field-0-is at c.in-Ok-Some.ensures.anew in
+    let lines = c.in_ok-write_packet-in-Ok-Some.ensures in
+    record {
+      anew = anew;
+      printed = next_round PrintsOne c.args.octets.now c.packets.rest.now (string_bytes c.args.out.now) (string_bytes c.packets.out) (string_bytes c.write_packet.new.out) _ _ c.packets.invariant.printed begins (lines.0, lines.2, lines.1);
+    }
+
+pub packets-preserved-in_ok-write_packet-in-Ok-Some-2 : goal.packets-preserved-in_ok-write_packet-in-Ok-Some-2
+packets-preserved-in_ok-write_packet-in-Ok-Some-2 c =
+    let begins = rw c.in-Ok-Some.field-0-is at c.in-Ok-Some.ensures.whole in
+    let anew = rw c.in-Ok-Some.field-0-is at c.in-Ok-Some.ensures.anew in
+    let lines = c.in_ok-write_packet-in-Ok-Some.ensures in
+    record {
+      anew = anew;
+      printed = next_round PrintsOne c.args.octets.now c.packets.rest.now (string_bytes c.args.out.now) (string_bytes c.packets.out) (string_bytes c.write_packet.new.out) _ _ c.packets.invariant.printed begins (lines.0, lines.2, lines.1);
+    }
 
 pub packets-preserved : goal.packets-preserved
 packets-preserved c =
-    let takes = rw c.in-Ok-default-Some.field-0-1-is at c.in-Ok-default-Some.ensures.takes in
-    let begins = begun c.packets.invariant.fresh takes in
-    let octets = c.args.octets.now in
-    let rest = c.packets.rest.now in
-    let before = string_bytes c.args.out.now in
-    let now = string_bytes c.packets.out in
-    let after = string_bytes c.write_one.new.out in
-    let more = one_more octets rest before now after c.in-Ok-default-Some.taken (packet_of c.in-Ok-default-Some.packet) c.packets.invariant.told begins.0 c.in_ok-write_one-in-Ok-default-Some.ensures in
-    record { fresh = begins.1; told = subst (λ (r : List ℕ). Told octets r before after) (sym c.split_at.ensures.back) more }
+    let begins = rw c.in-Ok-Some.field-0-is at c.in-Ok-Some.ensures.whole in
+    let anew = rw c.in-Ok-Some.field-0-is at c.in-Ok-Some.ensures.anew in
+    let lines = c.in_ok-write_packet-in-Ok-Some.ensures in
+    record {
+      anew = anew;
+      printed = next_round PrintsOne c.args.octets.now c.packets.rest.now (string_bytes c.args.out.now) (string_bytes c.packets.out) (string_bytes c.write_packet.new.out) _ _ c.packets.invariant.printed begins (lines.0, lines.2, lines.1);
+    }
 
-pub packets-preserved-in_ok-write_one-in-Ok-default-Some : goal.packets-preserved-in_ok-write_one-in-Ok-default-Some
-packets-preserved-in_ok-write_one-in-Ok-default-Some c =
-    let takes = rw c.in-Ok-default-Some.field-0-1-is at c.in-Ok-default-Some.ensures.takes in
-    let begins = begun c.packets.invariant.fresh takes in
-    let octets = c.args.octets.now in
-    let rest = c.packets.rest.now in
-    let before = string_bytes c.args.out.now in
-    let now = string_bytes c.packets.out in
-    let after = string_bytes c.write_one.new.out in
-    let more = one_more octets rest before now after c.in-Ok-default-Some.taken (packet_of c.in-Ok-default-Some.packet) c.packets.invariant.told begins.0 c.in_ok-write_one-in-Ok-default-Some.ensures in
-    record { fresh = begins.1; told = subst (λ (r : List ℕ). Told octets r before after) (sym c.split_at.ensures.back) more }
-
-pub returns-in-Ok-default-None : goal.returns-in-Ok-default-None
-returns-in-Ok-default-None c =
-    let takes = rw c.in-Ok-default-None.field-0-1-is at c.in-Ok-default-None.ensures.takes in
-    all_told c.args.octets.now c.packets.rest.now (string_bytes c.args.out.now) (string_bytes c.packets.out) (ended c.packets.invariant.fresh takes) c.packets.invariant.told
+pub returns-in-Ok-None : goal.returns-in-Ok-None
+returns-in-Ok-None c =
+    let so_far = c.packets.invariant.printed in
+    let partial = rw c.in-Ok-None.field-0-is at c.in-Ok-None.ensures.partial in
+    let all = all_printed PrintsOne c.args.octets.now c.packets.rest.now so_far.0 partial so_far.2 in
+    (so_far.0, record { packets = all.0; rest = c.packets.rest.now; stream_is = all.1; text_is = all.2 }, so_far.1)
 
 pub returns-in-Err-Malformed : goal.returns-in-Err-Malformed
 returns-in-Err-Malformed c =
-    let takes = rw c.in-Err-Malformed.field-0-is at c.in-Err-Malformed.ensures.takes in
-    all_told c.args.octets.now c.packets.rest.now (string_bytes c.args.out.now) (string_bytes c.packets.out) (faulty c.text_is_read.ensures.no_fault c.packets.invariant.fresh takes) c.packets.invariant.told
+    let so_far = c.packets.invariant.printed in
+    let same = c.in-Err-Malformed.field-0-is in
+    let has = c.in-Err-Malformed.ensures.fault c.in-Err-Malformed.field-0-0 cc in
+    let all = all_printed PrintsOne c.args.octets.now c.packets.rest.now so_far.0 (partial_fault c.text_is_read.ensures.no_fault c.packets.rest.now _ has) so_far.2 in
+    (so_far.0, record { packets = all.0; rest = c.packets.rest.now; stream_is = all.1; text_is = all.2 }, so_far.1)

@@ -1,13 +1,14 @@
 use Rattle.std.proofs.Common.{◌≡◌, [], length}
 use Rattle.std.specs.String.{string_bytes}
 use Rattle.nbt_session.specs.Parts.{between}
+use Rattle.nbt_show.specs.SessionText.{PrintsPacketLine}
 use Rattle.nbt_show.proofs.Sessions.{Printed}
 use Rattle.nbt_show.proofs.session_text.write_session.Given as goal
 
 abbrev pub invariant-packets : goal.invariant-packets
 invariant-packets l = record {
   anew : l.pieces ≡ between [];
-  printed : Printed l.fn.octets l.rest (string_bytes l.fn.out) (string_bytes l.out);
+  printed : Printed PrintsPacketLine l.fn.octets l.rest (string_bytes l.fn.out) (string_bytes l.out);
 }
 
 abbrev pub decreases-packets : goal.decreases-packets

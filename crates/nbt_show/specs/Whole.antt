@@ -1,4 +1,4 @@
--- A packet that is whole, as a value.
+-- A whole packet of a session's stream, as a value.
 use Rattle.nbt_session.specs.Packet.{PacketValue, message, packet_of}
 use Rattle.nbt_show.specs.declared.session_packet.Whole.{Whole}
 use Rattle.nbt_show.specs.declared.session_packet.Whole.TheVariants as wholes

@@ -3,7 +3,7 @@ use Rattle.std.specs.String.{string_bytes}
 use Rattle.nbt_explain.specs.Sessions.{message_lines, request_lines, positive_line, negative_lines, retarget_lines, keep_alive_line, of_message, of_request, of_positive, of_negative, of_retarget, of_keep_alive}
 use Rattle.nbt_text.proofs.Joining.{OnOk-map}
 use Rattle.nbt_explain.proofs.Written.{when_ok}
-use Rattle.nbt_explain.proofs.session.write_one.Goals as goal
+use Rattle.nbt_explain.proofs.session.write_other.Goals as goal
 
 pub returns-in-Message : goal.returns-in-Message
 returns-in-Message c = OnOk-map c.write_message.result c.write_message.ensures (λ e. (
