@@ -8,7 +8,7 @@ use base.Fraction.{full_share}
 use base.Logic.{ent, sep, id⊢}
 use base.Stored.{Coded}
 use base.Fml.{Fml, GName, fsep, ftrue, flft}
-use mir.Syntax.{Sym, Ty, Fn, Callee, Local, Body, ty_unit, named, erased, mut, local, value_local, ty_ref, ty_ptr, ty_struct, tcons, tnil, seq, block, assign, addr_of, return, place, copy, deref, field, rv_opd, opd_unit}
+use mir.Syntax.{Sym, Ty, Fn, Callee, Local, Body, ty_unit, named, erased, mut, local, value_local, ty_ref, ty_ptr, seq, block, assign, addr_of, return, place, copy, deref, field, rv_opd, opd_unit}
 use mir.Val.{Val, vptr, vunit, vstruct, vcons, vnil}
 use contract.Monad.{fact}
 use contract.Running.{Running, tables}
@@ -27,9 +27,9 @@ use denote.Memory.{part_of, part_at, cell_at, lone, mem}
 use denote.RattleType.{RattleType, owns}
 use denote.RawPtr.{Ptr, block_ptr, ptr_val, lies_at, room_at, in_a_block}
 use denote.Ref.{MutRef, mut_vals, mut_Tells}
-use denote.Signature.{Signature, plain, mut_ref_to}
+use denote.Signature.{plain, mut_ref_to}
 use denote.Steps.{nothing, opens, closes, heard, peeks}
-use denote.Struct.Field.{Field, RawPtr-field}
+use denote.Struct.Field.{RawPtr-field}
 use denote.Struct.Laws.{RawPtr-laws}
 use denote.Struct.Owning.{Owning, owning, row, shape}
 use denote.Struct.OwningLaws.{Tells-lowered}
