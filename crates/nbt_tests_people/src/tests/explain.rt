@@ -4,9 +4,9 @@
 use super::expect::{expect_eq_in, expect_in};
 use hex::FromHexError;
 use nbt_explain::{
-    Reason, explain_dgram, explain_packet, explain_session, read_digits, reason_of, write_sentence,
+    explain_dgram, explain_packet, explain_session, read_digits, write_sentence,
 };
-use nbt_packet::decode;
+use nbt_packet::{Reason, decode, try_classify};
 use nbt_rows::octets;
 use std::process::Abort;
 use std::test::Fail;
@@ -275,7 +275,7 @@ fn tell(octets: &[u8], text: &mut String) -> Result<Option<Reason>, Fail> {
     let Ok((packet, _)) = decode(octets) else {
         return Err("no packet".into());
     };
-    let reason = reason_of(&packet);
+    let reason = try_classify(&packet).err();
     if let Some(reason) = reason {
         write_sentence(reason, packet.flags, text)?;
     }
