@@ -1,6 +1,4 @@
 -- What several proofs share; the proof of a function is in the folder of its module and its name.
 
--- a packet that is right in each respect spells a message
-pub mod Spelled
 -- a text that is written at once
 pub mod Written

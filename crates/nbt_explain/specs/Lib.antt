@@ -2,7 +2,6 @@ pub mod Dgrams
 pub mod Digits
 pub mod Packets
 pub mod Parts
-pub mod Reasons
 pub mod Rows
 pub mod Sentences
 pub mod Sessions

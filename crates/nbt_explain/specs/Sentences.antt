@@ -3,9 +3,9 @@ use Rattle.std.specs.Prelude.{ℕ, nat_eq, nat_lt, ◌&&◌, not, if◌then◌el
 use Rattle.std.specs.Fmt.{decimal}
 use Rattle.nbt_packet.specs.Message.{MessageValue, MessageIs, opcode_of, rcode_of}
 use Rattle.nbt_packet.specs.Packet.{PacketValue}
-use Rattle.nbt_explain.specs.declared.reason.Reason.{Reason}
-use Rattle.nbt_explain.specs.declared.reason.Reason.TheVariants.{Opcode, Broadcast, Challenge, Sections, OtherType, OtherClass, Length, OtherName}
-use Rattle.nbt_explain.specs.Reasons.{IsReason}
+use Rattle.nbt_packet.specs.declared.reason.Reason.{Reason}
+use Rattle.nbt_packet.specs.declared.reason.Reason.TheVariants.{Opcode, Broadcast, Challenge, Sections, OtherType, OtherClass, Length, OtherName}
+use Rattle.nbt_packet.specs.Reasons.{IsReason}
 use Rattle.nbt_text.specs.Lines.{newline}
 
 -- an OPCODE of which the profile has no request, or no response

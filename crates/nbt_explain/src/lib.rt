@@ -6,19 +6,15 @@
 
 mod dgram;
 mod digits;
-mod header;
 mod name;
 mod naming;
-mod reason;
 mod rows;
 mod sentence;
 mod session;
-mod shape;
 mod words;
 
 pub use dgram::explain_dgram;
 pub use digits::read_digits;
 pub use name::explain_packet;
-pub use reason::{Reason, reason_of};
 pub use sentence::write_sentence;
 pub use session::explain_session;

@@ -5,12 +5,11 @@ ghost use Rattle.std.specs.String.{string_bytes};
 ghost use Rattle.nbt_packet.specs.Packet.{packet_of, record_if, record_of};
 ghost use Rattle.nbt_explain.specs.Packets.{ExplainsPacket, PrintsPacket, PrintsQuestion, PrintsRecord, count_of, counts_line, flag_lines, header_lines, opcode_line, opcode_words, rcode_line, record_fields, reply_line, reply_words};
 
-use crate::header;
 use crate::naming::{write_named, write_type_and_class};
 use crate::rows::write_rdata;
 use crate::sentence::write_reason;
 use crate::words::{write_duration, write_flag, write_four_digits, write_numbered};
-use nbt_packet::{Packet, Question, Record, decode};
+use nbt_packet::{Packet, Question, Record, decode, flags};
 use nbt_show::rcode_words;
 use nbt_text::end_line;
 use std::alloc::AllocError;
@@ -55,7 +54,7 @@ fn write_flags(flags: u16, out: &mut String) -> Result<(), AllocError>
     ensures { OnOk result (string_bytes out.new ≡ string_bytes out.old ++ flag_lines flags) }
 {
     write_flag("Response", flags, 0x8000, out)?;
-    write_opcode(header::opcode(flags), out)?;
+    write_opcode(flags::opcode(flags), out)?;
     write_flag("Authoritative", flags, 0x400, out)?;
     write_flag("Truncated", flags, 0x200, out)?;
     write_flag("Recursion desired", flags, 0x100, out)?;
@@ -93,10 +92,10 @@ fn opcode_words(opcode: u16) -> &'static str
 fn write_reply(flags: u16, out: &mut String) -> Result<(), AllocError>
     ensures { OnOk result (string_bytes out.new ≡ string_bytes out.old ++ reply_line flags) }
 {
-    if header::is_request(flags) {
+    if flags::is_request(flags) {
         return Ok(());
     }
-    write_rcode(header::rcode(flags), out)
+    write_rcode(flags::rcode(flags), out)
 }
 
 /// Appends the line of an RCODE.

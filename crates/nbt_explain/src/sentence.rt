@@ -6,9 +6,7 @@ ghost use Rattle.std.specs.String.{string_bytes};
 ghost use Rattle.nbt_packet.specs.Packet.{packet_of};
 ghost use Rattle.nbt_explain.specs.Sentences.{PrintsReason, left_out, sentence, wanted_length, wanted_sections, wanted_type};
 
-use crate::header;
-use crate::reason::{Reason, reason_of};
-use nbt_packet::Packet;
+use nbt_packet::{Packet, Reason, flags, try_classify};
 use nbt_text::end_line;
 use std::alloc::AllocError;
 
@@ -17,7 +15,7 @@ pub(crate) fn write_reason(packet: &Packet<'_>, out: &mut String) -> Result<(), 
     ensures { OnOk result ((text : List ℕ) × PrintsReason (packet_of packet.now) text
         × (string_bytes out.new ≡ string_bytes out.old ++ text)) }
 {
-    let Some(reason) = reason_of(packet) else {
+    let Err(reason) = try_classify(packet) else {
         return Ok(());
     };
     out.push_str("No message: ")?;
@@ -30,7 +28,7 @@ pub fn write_sentence(reason: Reason, flags: u16, out: &mut String) -> Result<()
     ensures { OnOk result (string_bytes out.new ≡ string_bytes out.old ++ sentence reason flags) }
 {
     match reason {
-        Reason::Opcode => write_opcode(header::opcode(flags), out),
+        Reason::Opcode => write_opcode(flags::opcode(flags), out),
         Reason::Broadcast => out.push_str(
             "the broadcast bit is set: in this profile a status request alone may have it",
         ),
@@ -78,15 +76,15 @@ fn left_out(opcode: u16) -> &'static str
 fn wanted_sections(flags: u16) -> &'static str
     ensures { result.now ≡ wanted_sections flags }
 {
-    let queries = header::opcode(flags) == 0;
-    if flags < 0x8000 {
+    let queries = flags::opcode(flags) == 0;
+    if flags::is_request(flags) {
         return if queries {
             "a question alone"
         } else {
             "a question and an additional record"
         };
     }
-    if queries && header::rcode(flags) != 0 {
+    if queries && flags::rcode(flags) != 0 {
         "an answer alone or nothing"
     } else {
         "an answer alone"
@@ -97,7 +95,7 @@ fn wanted_sections(flags: u16) -> &'static str
 fn wanted_type(flags: u16) -> &'static str
     ensures { result.now ≡ wanted_type flags }
 {
-    if header::opcode(flags) == 0 {
+    if flags::opcode(flags) == 0 {
         "NB or NBSTAT"
     } else {
         "NB"
@@ -108,7 +106,7 @@ fn wanted_type(flags: u16) -> &'static str
 fn wanted_length(flags: u16) -> &'static str
     ensures { result.now ≡ wanted_length flags }
 {
-    if header::opcode(flags) == 0 {
+    if flags::opcode(flags) == 0 {
         "entries of 6 octets, or as many names of 18 as it says"
     } else {
         "one entry of 6 octets"

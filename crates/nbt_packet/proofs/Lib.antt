@@ -16,3 +16,5 @@ pub mod ReadBack
 pub mod Sizes
 -- a message that octets spell can be written
 pub mod Writable
+-- which sections a packet has, and what they are not
+pub mod Reasons

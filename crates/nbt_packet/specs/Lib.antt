@@ -4,3 +4,4 @@ pub mod Inner
 pub mod Message
 pub mod Text
 pub mod Spelling
+pub mod Reasons

@@ -1,14 +1,17 @@
-//! Which message a packet spells (RFC 1002 sections 4.2.2 to 4.2.18).
+//! Which message a packet spells, or why it spells none (RFC 1002 sections 4.2.2 to 4.2.18).
 
-ghost use Rattle.std.specs.Prelude.{◌≡◌, ℕ, ◌+◌, ◌*◌, ◌<◌, ◌≤◌, ◌↔◌, Some, length, slice_index, IsTrue};
+ghost use Rattle.std.specs.Prelude.{◌≡◌, ℕ, ◌+◌, ◌*◌, ◌<◌, ◌≤◌, ◌↔◌, Some, length, slice_index, IsTrue, IfErr};
+ghost use Rattle.std.specs.Result.{result_ok};
 ghost use Rattle.nbt_name.specs.Words.{long_at};
 ghost use Rattle.nbt_packet.specs.Packet.{record_of, packet_of};
-ghost use Rattle.nbt_packet.specs.Message.{MessageValue, MessageIs, Asks, Claims, Answers, IsBare, Responds, IsEntry, AreEntries, HoldsNames, nb, nbstat, internet, kind_in, message_if};
-ghost use Rattle.nbt_packet.specs.Inner.Classifying.{Classifies};
+ghost use Rattle.nbt_packet.specs.Message.{MessageValue, MessageIs, IsUnicast, opcode_of, Claims, IsEntry, AreEntries, HoldsNames, nb, nbstat, internet_question, internet_record, kind_in, message_of, message_if};
+ghost use Rattle.nbt_packet.specs.Reasons.{IsReason, IsOfEntry, HasShape, Asked, asking, claiming, confirming, finding, denying, waiting};
+ghost use Rattle.nbt_packet.specs.Inner.Classifying.{Classifies, IsWrong};
 
 use crate::flags;
 use crate::message::{Message, Registration};
 use crate::packet::{Packet, Question, Record};
+use crate::reason::Reason;
 use crate::wire::{
     ADDR_ENTRY, GROUP, IN, NB, NBSTAT, NODE_NAME, OPCODE_QUERY, OPCODE_REFRESH, OPCODE_REFRESH_9,
     OPCODE_REGISTRATION, OPCODE_RELEASE, OPCODE_WACK,
@@ -22,137 +25,216 @@ use nbt_name::Kind;
 pub fn classify<'a>(packet: &Packet<'a>) -> Option<Message<'a>>
     ensures { (message : MessageValue) → (message_if result ≡ Some message) ↔ MessageIs (packet_of packet.now) message }
 {
-    match (&packet.question, &packet.answer, &packet.additional) {
-        (Some(question), None, None) => message_of_question(packet, question),
-        (Some(question), None, Some(additional)) => message_of_claim(packet, question, additional),
-        (None, None, None) => message_of_nothing(packet),
-        (None, Some(answer), None) => message_of_answer(packet, answer),
-        _ => None,
-    }
+    try_classify(packet).ok()
 }
 
-/// The message of a question alone: a query or a status request.
-fn message_of_question<'a>(packet: &Packet<'a>, question: &Question) -> Option<Message<'a>>
-    requires { Asks (packet_of packet.now) question.now }
-    ensures { Classifies (packet_of packet.now) result }
+/// The message that a packet spells, as `classify` returns it, or the first reason why it spells none (our profile's order).
+pub fn try_classify<'a>(packet: &Packet<'a>) -> Result<Message<'a>, Reason>
+    ensures message { (message : MessageValue) → (message_if (result_ok result) ≡ Some message) ↔ MessageIs (packet_of packet.now) message }
+    ensures reason { IfErr result (IsReason (packet_of packet.now)) }
 {
     let flags = packet.flags;
-    if !flags::is_request(flags) || flags::opcode(flags) != OPCODE_QUERY || question.class != IN {
-        return None;
+    let opcode = flags::opcode(flags);
+    if is_of_entry(opcode) {
+        return if flags::is_request(flags) {
+            claim_in(packet)
+        } else {
+            confirmation_in(packet)
+        };
+    }
+    if opcode == OPCODE_QUERY {
+        return query_in(packet);
+    }
+    if opcode == OPCODE_WACK && !flags::is_request(flags) {
+        return wait_in(packet);
+    }
+    Err(Reason::Opcode)
+}
+
+/// Whether a message of this OPCODE has one entry.
+fn is_of_entry(opcode: u16) -> bool
+    ensures { IsTrue result ↔ IsOfEntry opcode }
+{
+    opcode == OPCODE_REGISTRATION
+        || (opcode == OPCODE_RELEASE || (opcode == OPCODE_REFRESH || opcode == OPCODE_REFRESH_9))
+}
+
+/// The message of OPCODE 0, or why there is none.
+fn query_in<'a>(packet: &Packet<'a>) -> Result<Message<'a>, Reason>
+    requires { opcode_of packet.now.flags ≡ 0 }
+    ensures message { Classifies (packet_of packet.now) (result_ok result) }
+    ensures reason { IfErr result (IsReason (packet_of packet.now)) }
+{
+    if flags::is_request(packet.flags) {
+        return question_in(packet);
+    }
+    if flags::rcode(packet.flags) == 0 {
+        return finding_in(packet);
+    }
+    denial_in(packet)
+}
+
+/// A query or a status request: a question alone.
+fn question_in<'a>(packet: &Packet<'a>) -> Result<Message<'a>, Reason>
+    requires { HasShape packet.now.flags asking }
+    ensures message { Classifies (packet_of packet.now) (result_ok result) }
+    ensures reason { IfErr result (IsWrong asking (packet_of packet.now)) }
+{
+    if !flags::is_unicast(packet.flags) && !asks_status(packet) {
+        return Err(Reason::Broadcast);
+    }
+    let question = match (&packet.question, &packet.answer, &packet.additional) {
+        (Some(question), None, None) => question,
+        _ => return Err(Reason::Sections),
+    };
+    if question.rtype != NB && question.rtype != NBSTAT {
+        return Err(Reason::OtherType);
+    }
+    if question.class != IN {
+        return Err(Reason::OtherClass);
     }
     let id = packet.id;
     let name = question.name.copy();
-    match question.rtype {
-        NBSTAT => Some(Message::StatusRequest { id, name }),
-        NB if flags::is_unicast(flags) => Some(Message::Query { id, name }),
-        _ => None,
+    if question.rtype == NBSTAT {
+        Ok(Message::StatusRequest { id, name })
+    } else {
+        Ok(Message::Query { id, name })
     }
 }
 
-/// The message of a question and an additional record: what an end says of a name that it asks for or has.
-fn message_of_claim<'a>(
-    packet: &Packet<'a>,
-    question: &Question,
-    additional: &Record<'_>,
-) -> Option<Message<'a>>
-    requires { Claims (packet_of packet.now) question.now (record_of additional.now) }
-    ensures { Classifies (packet_of packet.now) result }
+/// Whether there is a question of type NBSTAT.
+fn asks_status(packet: &Packet<'_>) -> bool
+    ensures { IsTrue result ↔ Asked (packet_of packet.now) (λ q. q.rtype ≡ nbstat) }
 {
-    let flags = packet.flags;
-    if !flags::is_request(flags)
-        || !flags::is_unicast(flags)
-        || !are_of_one_name(question, additional)
-    {
-        return None;
+    match &packet.question {
+        Some(question) => question.rtype == NBSTAT,
+        None => false,
     }
-    match flags::opcode(flags) {
-        OPCODE_REGISTRATION if flags::desires_recursion(flags) => {
-            Some(Message::Registration(registration_in(packet, additional)))
-        }
-        OPCODE_REGISTRATION => Some(Message::Overwrite(registration_in(packet, additional))),
-        OPCODE_RELEASE => Some(Message::Release {
+}
+
+/// A registration, an overwrite, a refresh or a release: a question and an additional record of one name, with one entry.
+fn claim_in<'a>(packet: &Packet<'a>) -> Result<Message<'a>, Reason>
+    requires { HasShape packet.now.flags claiming }
+    ensures message { Classifies (packet_of packet.now) (result_ok result) }
+    ensures reason { IfErr result (IsWrong claiming (packet_of packet.now)) }
+{
+    if !flags::is_unicast(packet.flags) {
+        return Err(Reason::Broadcast);
+    }
+    let (question, additional) = match (&packet.question, &packet.answer, &packet.additional) {
+        (Some(question), None, Some(additional)) => (question, additional),
+        _ => return Err(Reason::Sections),
+    };
+    if question.rtype != NB || additional.rtype != NB {
+        return Err(Reason::OtherType);
+    }
+    if question.class != IN || additional.class != IN {
+        return Err(Reason::OtherClass);
+    }
+    if additional.rdata.len() != ADDR_ENTRY {
+        return Err(Reason::Length);
+    }
+    if !have_one_name(question, additional) {
+        return Err(Reason::OtherName);
+    }
+    Ok(claim_of(packet, additional))
+}
+
+/// Whether a question and an additional record are of one name.
+fn have_one_name(question: &Question, additional: &Record<'_>) -> bool
+    ensures { IsTrue result ↔ (question.now.name ≡ additional.now.name) }
+{
+    question.name == additional.name
+}
+
+/// The message of a claim, by its OPCODE and RD.
+fn claim_of<'a>(packet: &Packet<'a>, additional: &Record<'_>) -> Message<'a>
+    requires shape { HasShape packet.now.flags claiming }
+    requires unicast { IsUnicast packet.now.flags }
+    requires claims { Claims (packet_of packet.now) (internet_question additional.now.name nb) (internet_record additional.now.name nb additional.now.ttl additional.now.rdata.now) }
+    requires entry { length additional.now.rdata.now ≡ 6 }
+    ensures { MessageIs (packet_of packet.now) (message_of result) }
+{
+    match flags::opcode(packet.flags) {
+        OPCODE_RELEASE => Message::Release {
             id: packet.id,
             name: additional.name.copy(),
             kind: kind_of(additional.rdata),
             addr: address_of(additional.rdata),
-        }),
-        OPCODE_REFRESH | OPCODE_REFRESH_9 => {
-            Some(Message::Refresh(registration_in(packet, additional)))
+        },
+        OPCODE_REGISTRATION if flags::desires_recursion(packet.flags) => {
+            Message::Registration(registration_in(packet, additional))
         }
-        _ => None,
+        OPCODE_REGISTRATION => Message::Overwrite(registration_in(packet, additional)),
+        _ => Message::Refresh(registration_in(packet, additional)),
     }
 }
 
-/// The message of a header alone: a negative query response without its record.
-fn message_of_nothing<'a>(packet: &Packet<'a>) -> Option<Message<'a>>
-    requires { IsBare (packet_of packet.now) }
-    ensures { Classifies (packet_of packet.now) result }
+/// A response to a claim: an answer alone, with one entry.
+fn confirmation_in<'a>(packet: &Packet<'a>) -> Result<Message<'a>, Reason>
+    requires { HasShape packet.now.flags confirming }
+    ensures message { Classifies (packet_of packet.now) (result_ok result) }
+    ensures reason { IfErr result (IsWrong confirming (packet_of packet.now)) }
 {
-    let flags = packet.flags;
-    let rcode = flags::rcode(flags);
-    if flags::is_request(flags)
-        || !flags::is_unicast(flags)
-        || flags::opcode(flags) != OPCODE_QUERY
-        || rcode == 0
-    {
-        return None;
+    if !flags::is_unicast(packet.flags) {
+        return Err(Reason::Broadcast);
     }
-    Some(Message::NotFound {
+    if flags::is_challenge(packet.flags) {
+        return Err(Reason::Challenge);
+    }
+    let answer = match (&packet.question, &packet.answer, &packet.additional) {
+        (None, Some(answer), None) => answer,
+        _ => return Err(Reason::Sections),
+    };
+    if answer.rtype != NB {
+        return Err(Reason::OtherType);
+    }
+    if answer.class != IN {
+        return Err(Reason::OtherClass);
+    }
+    if answer.rdata.len() != ADDR_ENTRY {
+        return Err(Reason::Length);
+    }
+    let rcode = flags::rcode(packet.flags);
+    let registration = registration_in(packet, answer);
+    if flags::opcode(packet.flags) != OPCODE_RELEASE {
+        return Ok(Message::Registered {
+            rcode,
+            registration,
+        });
+    }
+    Ok(Message::Released {
         id: packet.id,
         rcode,
-        name: None,
+        name: registration.name,
+        kind: registration.kind,
+        addr: registration.addr,
     })
 }
 
-/// The message of an answer alone: a response.
-fn message_of_answer<'a>(packet: &Packet<'a>, answer: &Record<'a>) -> Option<Message<'a>>
-    requires { Answers (packet_of packet.now) (record_of answer.now) }
-    ensures { Classifies (packet_of packet.now) result }
+/// A positive response to a query, or a status: an answer alone, with entries or names.
+fn finding_in<'a>(packet: &Packet<'a>) -> Result<Message<'a>, Reason>
+    requires { HasShape packet.now.flags finding }
+    ensures message { Classifies (packet_of packet.now) (result_ok result) }
+    ensures reason { IfErr result (IsWrong finding (packet_of packet.now)) }
 {
-    let flags = packet.flags;
-    if flags::is_request(flags) || !flags::is_unicast(flags) {
-        return None;
+    if !flags::is_unicast(packet.flags) {
+        return Err(Reason::Broadcast);
     }
-    match flags::opcode(flags) {
-        OPCODE_QUERY => message_of_query_response(packet, answer),
-        OPCODE_RELEASE if has_entry(answer) => Some(Message::Released {
-            id: packet.id,
-            rcode: flags::rcode(flags),
-            name: answer.name.copy(),
-            kind: kind_of(answer.rdata),
-            addr: address_of(answer.rdata),
-        }),
-        OPCODE_WACK => Some(Message::Wait {
-            id: packet.id,
-            name: answer.name.copy(),
-            ttl: answer.ttl,
-        }),
-        OPCODE_REGISTRATION | OPCODE_REFRESH | OPCODE_REFRESH_9
-            if has_entry(answer) && !flags::is_challenge(flags) => {
-            Some(Message::Registered {
-                rcode: flags::rcode(flags),
-                registration: registration_in(packet, answer),
-            })
-        }
-        _ => None,
+    let answer = match (&packet.question, &packet.answer, &packet.additional) {
+        (None, Some(answer), None) => answer,
+        _ => return Err(Reason::Sections),
+    };
+    if answer.rtype != NB && answer.rtype != NBSTAT {
+        return Err(Reason::OtherType);
     }
-}
-
-/// The message of a response to a query or to a status request.
-fn message_of_query_response<'a>(packet: &Packet<'a>, answer: &Record<'a>) -> Option<Message<'a>>
-    requires answer { Answers (packet_of packet.now) (record_of answer.now) }
-    requires response { Responds packet.now.flags 0 }
-    ensures { Classifies (packet_of packet.now) result }
-{
+    if answer.class != IN {
+        return Err(Reason::OtherClass);
+    }
     let id = packet.id;
-    let rcode = flags::rcode(packet.flags);
     let name = answer.name.copy();
-    if rcode != 0 {
-        let name = Some(name);
-        return Some(Message::NotFound { id, rcode, name });
-    }
-    if has_entries(answer) {
-        return Some(Message::Found {
+    if answer.rtype == NB && are_entries(answer.rdata) {
+        return Ok(Message::Found {
             id,
             name,
             ttl: answer.ttl,
@@ -160,55 +242,70 @@ fn message_of_query_response<'a>(packet: &Packet<'a>, answer: &Record<'a>) -> Op
             cut: flags::is_truncated(packet.flags),
         });
     }
-    if has_names(answer) {
+    if answer.rtype == NBSTAT && holds_names(answer.rdata) {
         let names = names_in(answer.rdata);
-        return Some(Message::Status { id, name, names });
+        return Ok(Message::Status { id, name, names });
     }
-    None
+    Err(Reason::Length)
 }
 
-/// Whether a question and an additional record are of one name, of type NB and class IN, with one entry.
-fn are_of_one_name(question: &Question, additional: &Record<'_>) -> bool
-    ensures { IsTrue result
-        ↔ ((question.now.rtype ≡ nb) × (question.now.class ≡ internet)
-        × (additional.now.rtype ≡ nb) × (additional.now.class ≡ internet)
-        × (length additional.now.rdata.now ≡ 6) × (question.now.name ≡ additional.now.name)) }
+/// A negative response to a query: an answer alone, or nothing.
+fn denial_in<'a>(packet: &Packet<'a>) -> Result<Message<'a>, Reason>
+    requires { HasShape packet.now.flags denying }
+    ensures message { Classifies (packet_of packet.now) (result_ok result) }
+    ensures reason { IfErr result (IsWrong denying (packet_of packet.now)) }
 {
-    question.rtype == NB
-        && question.class == IN
-        && has_entry(additional)
-        && question.name == additional.name
+    if !flags::is_unicast(packet.flags) {
+        return Err(Reason::Broadcast);
+    }
+    let id = packet.id;
+    let rcode = flags::rcode(packet.flags);
+    match (&packet.question, &packet.answer, &packet.additional) {
+        (None, Some(answer), None) => Ok(Message::NotFound {
+            id,
+            rcode,
+            name: Some(answer.name.copy()),
+        }),
+        (None, None, None) => Ok(Message::NotFound {
+            id,
+            rcode,
+            name: None,
+        }),
+        _ => Err(Reason::Sections),
+    }
 }
 
-/// Whether a record is of type NB and class IN, with one entry.
-fn has_entry(resource: &Record<'_>) -> bool
-    ensures { IsTrue result
-        ↔ ((resource.now.rtype ≡ nb) × (resource.now.class ≡ internet) × (length resource.now.rdata.now ≡ 6)) }
+/// A request to wait: an answer alone, whatever it holds.
+fn wait_in<'a>(packet: &Packet<'a>) -> Result<Message<'a>, Reason>
+    requires { HasShape packet.now.flags waiting }
+    ensures message { Classifies (packet_of packet.now) (result_ok result) }
+    ensures reason { IfErr result (IsWrong waiting (packet_of packet.now)) }
 {
-    resource.rtype == NB && resource.class == IN && resource.rdata.len() == ADDR_ENTRY
+    if !flags::is_unicast(packet.flags) {
+        return Err(Reason::Broadcast);
+    }
+    match (&packet.question, &packet.answer, &packet.additional) {
+        (None, Some(answer), None) => Ok(Message::Wait {
+            id: packet.id,
+            name: answer.name.copy(),
+            ttl: answer.ttl,
+        }),
+        _ => Err(Reason::Sections),
+    }
 }
 
-/// Whether a record is of type NB and class IN, with one entry or more.
-fn has_entries(resource: &Record<'_>) -> bool
-    ensures { IsTrue result
-        ↔ ((resource.now.rtype ≡ nb) × (resource.now.class ≡ internet) × AreEntries resource.now.rdata.now) }
+/// Whether RDATA is one entry or more.
+fn are_entries(rdata: &[u8]) -> bool
+    ensures { IsTrue result ↔ AreEntries rdata.now }
 {
-    resource.rtype == NB
-        && resource.class == IN
-        && !resource.rdata.is_empty()
-        && resource.rdata.len() % ADDR_ENTRY == 0
+    !rdata.is_empty() && rdata.len() % ADDR_ENTRY == 0
 }
 
-/// Whether a record is of type NBSTAT and class IN, with as many names as NUM_NAMES says.
-fn has_names(resource: &Record<'_>) -> bool
-    ensures { IsTrue result
-        ↔ ((resource.now.rtype ≡ nbstat) × (resource.now.class ≡ internet) × (0 < length resource.now.rdata.now)
-        × (1 + 18 * slice_index resource.now.rdata.now 0 ≤ length resource.now.rdata.now)) }
+/// Whether RDATA holds as many names as NUM_NAMES says.
+fn holds_names(rdata: &[u8]) -> bool
+    ensures { IsTrue result ↔ ((0 < length rdata.now) × (1 + 18 * slice_index rdata.now 0 ≤ length rdata.now)) }
 {
-    resource.rtype == NBSTAT
-        && resource.class == IN
-        && !resource.rdata.is_empty()
-        && names_end(resource.rdata) <= resource.rdata.len()
+    !rdata.is_empty() && names_end(rdata) <= rdata.len()
 }
 
 /// Where a node's names end, by NUM_NAMES.

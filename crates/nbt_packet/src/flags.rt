@@ -1,4 +1,4 @@
-//! The flags' word of the header (RFC 1002 section 4.2.1.1).
+//! The flags' word of the header, R and OPCODE, the flags and RCODE (RFC 1002 section 4.2.1.1).
 //!
 //! ```text
 //!   0   1   2   3   4   5   6   7   8   9  10  11  12  13  14  15

@@ -4,18 +4,20 @@
 mod classifying;
 mod decoding;
 mod fault;
-mod flags;
+pub mod flags;
 pub mod laws;
 mod message;
 mod packet;
 mod reading;
+mod reason;
 mod wire;
 mod writing;
 
-pub use classifying::classify;
+pub use classifying::{classify, try_classify};
 pub use decoding::decode;
 pub use fault::{Fault, FaultKind, Full};
 pub use message::{Message, Registration};
 pub use packet::{Packet, Question, Record};
 pub use reading::read;
+pub use reason::Reason;
 pub use writing::{encode, entries_most, entry_octets, status_name_octets, write};

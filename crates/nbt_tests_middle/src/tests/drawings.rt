@@ -114,6 +114,8 @@ fn a_hundred_and_one_names(rt: HostRuntime) {
     expect(&rt, !picture.contains(">N100 n5</text>"));
     expect(&rt, picture.contains(">N99</text>"));
     expect(&rt, !picture.contains(">N100</text>"));
+    // Seventeen lines of names stand above the headings of the columns.
+    expect(&rt, picture.contains(" y=\"400\">server</text>\n"));
     expect(
         &rt,
         picture.contains(
