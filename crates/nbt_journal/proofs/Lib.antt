@@ -2,7 +2,5 @@
 
 -- rows that are printed one after the other
 mod Listing
--- what a message that is read says
-mod Reading
 -- which line may be printed
 mod Remembering

@@ -2,4 +2,3 @@ pub mod Dates
 pub mod Leases
 pub mod Limiting
 pub mod Lines
-pub mod Told

@@ -1,4 +1,4 @@
--- The line of what a server made of a datagram (our profile).
+-- The line of what a server did with a datagram (our profile).
 use Rattle.std.specs.Prelude.{◌≡◌, ◌≢◌, ℕ, nat_eq, if◌then◌else◌, List, [], ◌++◌, codes}
 use Rattle.std.specs.Fmt.{decimal}
 use Rattle.nbt_name.specs.declared.addr.Addr.{Addr}
@@ -10,9 +10,11 @@ use Rattle.nbt_text.specs.NameText.{PrintsName}
 use Rattle.nbt_show.specs.Holders.{kind_word}
 use Rattle.nbt_show.specs.Rcodes.{rcode_words}
 use Rattle.nbt_journal.specs.Dates.{IsTimeText}
-use Rattle.nbt_journal.specs.declared.told.Claim.{Claim}
-use Rattle.nbt_journal.specs.declared.told.Told.{Told}
-use Rattle.nbt_journal.specs.declared.told.Told.TheVariants as t
+use Rattle.nbt_server.specs.declared.outcome.Claim.{Claim}
+use Rattle.nbt_server.specs.declared.outcome.Outcome.{Outcome}
+use Rattle.nbt_server.specs.declared.outcome.Outcome.TheVariants as o
+use Rattle.nbt_server.specs.Outcomes.{rcode_of}
+use Rattle.nbt_journal.specs.declared.entry.Entry.{Entry}
 
 -- A name as FILER#20; one in a scope as the bench's commands print it.
 pub data PrintsWord (name : NameValue) (word : List ℕ) : Type 0 where
@@ -23,7 +25,7 @@ pub data PrintsWord (name : NameValue) (word : List ℕ) : Type 0 where
 abbrev pub place : Claim → List ℕ
 place claim = codes " " ++ dotted claim.addr ++ codes " " ++ kind_word claim.kind
 
--- What the line of a claim begins with: the time, what was made of it, and whose it is.
+-- What the line of a claim begins with: the time, what was done, and whose it is.
 pub record IsHead (second : ℕ) (verb : List ℕ) (claim : Claim) (head : List ℕ) : Type 0 where
   pub time : List ℕ
   pub word : List ℕ
@@ -38,7 +40,7 @@ seconds_text seconds = codes " " ++ decimal seconds ++ codes " s" ++ newline
 abbrev pub reason_text : (rcode : ℕ) → List ℕ
 reason_text rcode = codes ": " ++ rcode_words rcode ++ codes " (" ++ decimal rcode ++ codes ")" ++ newline
 
--- the lines of a lease, of a refusal, and of a lease that was given back
+-- the lines of a lease, of a refusal, and of a lease that was released
 abbrev pub IsLeaseLine : (second : ℕ) → List ℕ → Claim → (seconds : ℕ) → List ℕ → Type 0
 IsLeaseLine second verb claim seconds line = (head : List ℕ) × IsHead second verb claim head × (line ≡ head ++ seconds_text seconds)
 
@@ -60,12 +62,16 @@ left_text left_out = if nat_eq left_out 0 then newline else codes ", " ++ decima
 abbrev pub IsStrangerLine : (second : ℕ) → List ℕ → Addr → (count left_out : ℕ) → List ℕ → Type 0
 IsStrangerLine second verb from count left_out line = (time : List ℕ) × IsTimeText second time × (line ≡ time ++ verb ++ address_text from ++ count_text count ++ left_text left_out)
 
-abbrev pub IsLine : (second left_out : ℕ) → Told → List ℕ → Type 0
-IsLine second left_out (t.Granted claim seconds) line = IsLeaseLine second (codes " granted ") claim seconds line
-IsLine second left_out (t.Renewed claim seconds) line = IsLeaseLine second (codes " renewed ") claim seconds line
-IsLine second left_out (t.Refused claim rcode) line = IsRefusalLine second (codes " refused ") claim rcode line
-IsLine second left_out (t.Kept claim rcode) line = IsRefusalLine second (codes " release refused ") claim rcode line
-IsLine second left_out (t.Released claim) line = IsReleaseLine second claim line
-IsLine second left_out (t.Foreign from count) line = IsStrangerLine second (codes " foreign from ") from count left_out line
-IsLine second left_out (t.Malformed from count) line = IsStrangerLine second (codes " malformed from ") from count left_out line
-IsLine second left_out t.Nothing line = line ≡ []
+-- the line of an outcome
+abbrev pub IsOutcomeLine : (second left_out : ℕ) → Addr → (count : ℕ) → Outcome → List ℕ → Type 0
+IsOutcomeLine second left_out from count (o.Granted claim seconds) line = IsLeaseLine second (codes " granted ") claim seconds line
+IsOutcomeLine second left_out from count (o.Renewed claim seconds) line = IsLeaseLine second (codes " renewed ") claim seconds line
+IsOutcomeLine second left_out from count (o.Refused claim refusal) line = IsRefusalLine second (codes " refused ") claim (rcode_of refusal) line
+IsOutcomeLine second left_out from count (o.NotReleased claim refusal) line = IsRefusalLine second (codes " release refused ") claim (rcode_of refusal) line
+IsOutcomeLine second left_out from count (o.Released claim) line = IsReleaseLine second claim line
+IsOutcomeLine second left_out from count o.ForNodes line = IsStrangerLine second (codes " foreign from ") from count left_out line
+IsOutcomeLine second left_out from count o.NoMessage line = IsStrangerLine second (codes " malformed from ") from count left_out line
+IsOutcomeLine second left_out from count outcome line = line ≡ []
+
+abbrev pub IsLine : (second left_out : ℕ) → Entry → List ℕ → Type 0
+IsLine second left_out entry line = IsOutcomeLine second left_out entry.from entry.count entry.outcome line

@@ -1,4 +1,4 @@
-//! What a name server's user reads of it (our profile): a line for what it made of each datagram, and the list of its live
+//! What a name server's user reads of it (our profile): a line for what it did with each datagram, and the list of its live
 //! leases. All of it is made of values: no port, no clock and no file is looked at.
 //!
 //! ```text
@@ -9,17 +9,17 @@
 #![tactic(auto)]
 
 mod dates;
+mod entry;
 mod leases;
 mod limiter;
 mod line;
 mod time;
-mod told;
 mod word;
 
 pub use dates::Dates;
+pub use entry::Entry;
 pub use leases::write_leases;
 pub use limiter::{LINES_MOST, Limiter};
-pub use line::{write_reason, write_seconds, write_told};
+pub use line::{write_entry, write_reason, write_seconds};
 pub use time::write_time;
-pub use told::{Claim, Told, claimed_in, told_of_reply, told_of_silence};
 pub use word::write_word;

@@ -1,40 +1,48 @@
-//! The line of what a server made of a datagram.
+//! The line of what a server did with a datagram.
 
 ghost use Rattle.std.specs.Prelude.{◌≡◌, ◌++◌, ℕ, List, OnOk};
 ghost use Rattle.std.specs.String.{string_bytes};
 ghost use Rattle.nbt_journal.specs.Lines.{place, seconds_text, reason_text, count_text, left_text, IsHead, IsLeaseLine, IsRefusalLine, IsReleaseLine, IsStrangerLine, IsLine};
 
+use crate::entry::Entry;
 use crate::time::write_time;
-use crate::told::{Claim, Told};
 use crate::word::{write_dotted, write_word};
 use nbt_name::Addr;
+use nbt_server::{Claim, Outcome};
 use nbt_show::{kind_word, rcode_words};
 use nbt_text::{end_line, write_address};
 use std::alloc::AllocError;
 
-/// Appends the line of what a server made of a datagram in a second since 1970, as `2026-11-24T09:12:03Z granted FILER#20
-/// 192.0.2.7 unique 300 s`; of `Nothing` none. That of a foreign or malformed one says how many such lines were left out before it.
-pub fn write_told(
+/// Appends the line of what a server did with a datagram in a second since 1970, as `2026-11-24T09:12:03Z granted FILER#20
+/// 192.0.2.7 unique 300 s`; none of a query, of a release of a name without leases, and of a request that has no reply. The
+/// line of a datagram that is no request to a server says how many such lines were left out before it.
+pub fn write_entry(
     second: u64,
-    told: &Told,
+    entry: &Entry,
     left_out: u64,
     out: &mut String,
 ) -> Result<(), AllocError>
-    ensures { OnOk result ((line : List ℕ) × IsLine second left_out told.now line × (string_bytes out.new ≡ string_bytes out.old ++ line)) }
+    ensures { OnOk result ((line : List ℕ) × IsLine second left_out entry.now line × (string_bytes out.new ≡ string_bytes out.old ++ line)) }
 {
-    match told {
-        Told::Granted(claim, seconds) => write_lease(second, " granted ", claim, *seconds, out),
-        Told::Renewed(claim, seconds) => write_lease(second, " renewed ", claim, *seconds, out),
-        Told::Refused(claim, rcode) => write_refusal(second, " refused ", claim, *rcode, out),
-        Told::Kept(claim, rcode) => write_refusal(second, " release refused ", claim, *rcode, out),
-        Told::Released(claim) => write_release(second, claim, out),
-        Told::Foreign(from, count) => {
-            write_stranger(second, " foreign from ", *from, *count, left_out, out)
+    let from = entry.from;
+    let count = entry.count;
+    match &entry.outcome {
+        Outcome::Granted(claim, seconds) => write_lease(second, " granted ", claim, *seconds, out),
+        Outcome::Renewed(claim, seconds) => write_lease(second, " renewed ", claim, *seconds, out),
+        Outcome::Refused(claim, refusal) => {
+            write_refusal(second, " refused ", claim, refusal.rcode(), out)
         }
-        Told::Malformed(from, count) => {
-            write_stranger(second, " malformed from ", *from, *count, left_out, out)
+        Outcome::NotReleased(claim, refusal) => {
+            write_refusal(second, " release refused ", claim, refusal.rcode(), out)
         }
-        Told::Nothing => Ok(()),
+        Outcome::Released(claim) => write_release(second, claim, out),
+        Outcome::ForNodes => write_stranger(second, " foreign from ", from, count, left_out, out),
+        Outcome::NoMessage => {
+            write_stranger(second, " malformed from ", from, count, left_out, out)
+        }
+        Outcome::NotLeased(_) | Outcome::Found(_) | Outcome::NotFound(_) | Outcome::Silent(_) => {
+            Ok(())
+        }
     }
 }
 
@@ -66,7 +74,7 @@ fn write_refusal(
     write_reason(rcode, out)
 }
 
-/// Appends the line of a lease that was given back.
+/// Appends the line of a lease that was released.
 fn write_release(second: u64, claim: &Claim, out: &mut String) -> Result<(), AllocError>
     ensures { OnOk result ((line : List ℕ) × IsReleaseLine second claim.now line × (string_bytes out.new ≡ string_bytes out.old ++ line)) }
 {
@@ -89,7 +97,7 @@ pub fn write_reason(rcode: u8, out: &mut String) -> Result<(), AllocError>
     writeln!(out, ": {words} ({rcode})")
 }
 
-/// Appends what the line of a claim begins with: the time, what was made of it, and whose it is.
+/// Appends what the line of a claim begins with: the time, what was done, and whose it is.
 fn write_head(second: u64, verb: &str, claim: &Claim, out: &mut String) -> Result<(), AllocError>
     ensures { OnOk result ((head : List ℕ) × IsHead second verb.now claim.now head × (string_bytes out.new ≡ string_bytes out.old ++ head)) }
 {

@@ -1,7 +1,5 @@
 -- What several proofs share; the proof of a function is in the folder of its module and its name.
 
--- whether the name that a request is about is leased to its address
-mod Holding
 -- one turn, by what its port, its clock and its server returned
 mod OneTurn
 -- a server and what watches it begin, over this machine

@@ -16,7 +16,7 @@ use Rattle.nbt_nbns.specs.declared.staying.Shown.{Shown}
 -- written, some of it may be missing.
 pub data LogsIn (dates : Dates) (shown : Shown) (old_text : Option (List ℕ)) : (old new : Option LimiterValue) → (text : Option (List ℕ)) → Type 0 where
   no_log : LogsIn dates shown old_text None None old_text
-  logged : (old new : LimiterValue) (line : List ℕ) (text : Option (List ℕ)) → Logs old dates shown.at shown.told line new → Appends old_text text line → LogsIn dates shown old_text (Some old) (Some new) text
+  logged : (old new : LimiterValue) (line : List ℕ) (text : Option (List ℕ)) → Logs old dates shown.at shown.entry line new → Appends old_text text line → LogsIn dates shown old_text (Some old) (Some new) text
   not_logged : (old new : LimiterValue) (text : Option (List ℕ)) → LogsIn dates shown old_text (Some old) (Some new) text
 
 -- Where the list is kept, the leases are looked at.

@@ -24,10 +24,10 @@ Sight V = V → ServerValue → Shown → (old_text : Option (List ℕ)) → V �
 pub record ShowsTurn {P C : Type 0} (does : P → PortCall → P → Type 0) (tells : C → ℕ → C → Type 0)
     (old_port : P) (old_clock : C) (old : ServerValue) (shown : Shown) (port : P) (clock : C) (new : ServerValue) : Type 0 where
   pub turn_clock : C
-  pub turn : WatchesTurn does tells old_port old_clock old shown.told port turn_clock new
+  pub turn : WatchesTurn does tells old_port old_clock old shown.entry port turn_clock new
   pub now_told : tells turn_clock shown.at clock
 
--- The same, and the watcher is shown what the turn was, and that moment.
+-- The same, and the watcher is shown what the server did in it, and that moment.
 pub record Watches {P C V : Type 0} (does : P → PortCall → P → Type 0) (tells : C → ℕ → C → Type 0) (sees : Sight V) (old : Watching P C V) (shown : Shown) (new : Watching P C V) : Type 0 where
   pub turn : ShowsTurn does tells old.port old.clock old.server shown new.port new.clock new.server
   pub seen : sees old.watcher new.server shown old.text new.watcher new.text

@@ -7,13 +7,14 @@ ghost use Rattle.nbt_nbns.specs.Logging.{is_stranger, Logs};
 
 use crate::complaint::Complaint;
 use crate::staying::Shown;
-use nbt_journal::{Dates, Limiter, Told, write_told};
+use nbt_journal::{Dates, Limiter, write_entry};
+use nbt_server::Outcome;
 use std::alloc::{AllocError, Global};
 use std::io;
 use std::io::Write;
 use std::marker::Model;
 
-/// Prints a line for what a server made of each datagram, of strangers' at most ten in any second. A contract sees which of those
+/// Prints a line for what a server did with each datagram; of those from unknown senders at most ten in any second. A contract sees which of those
 /// may be printed.
 #[derive(Drop)]
 pub struct Logger {
@@ -42,7 +43,7 @@ impl Logger {
         }
     }
 
-    /// Prints the line of what a server made of a datagram, at once, where it may be printed. Returns whether that was done: not
+    /// Prints the line of what a server did with a datagram, at once, where it may be printed. Returns whether that was done: not
     /// where memory was refused or the line can't be written, which is said in `errors`, the first time of a row.
     pub fn log<W: Write, E: Write>(
         &mut self,
@@ -51,7 +52,7 @@ impl Logger {
         writer: &mut W,
         errors: &mut E,
     ) -> bool
-        ensures { IsTrue result → (line : List ℕ) × Logs self.old dates.now shown.now.at shown.now.told line self.new × Appends (W.contents writer.old) (W.contents writer.new) line }
+        ensures { IsTrue result → (line : List ℕ) × Logs self.old dates.now shown.now.at shown.now.entry line self.new × Appends (W.contents writer.old) (W.contents writer.new) line }
     {
         match self.print_line(dates, shown, writer) {
             Ok(is_printed) => {
@@ -74,7 +75,7 @@ impl Logger {
         shown: &Shown,
         writer: &mut W,
     ) -> io::Result<bool>
-        ensures { OnOk result ((line : List ℕ) × Logs self.old dates.now shown.now.at shown.now.told line self.new × Appends (W.contents writer.old) (W.contents writer.new) line) }
+        ensures { OnOk result ((line : List ℕ) × Logs self.old dates.now shown.now.at shown.now.entry line self.new × Appends (W.contents writer.old) (W.contents writer.new) line) }
     {
         let mut line = String::new(self.alloc);
         write_limited(&mut self.limiter, dates, shown, &mut line)?;
@@ -89,25 +90,27 @@ fn write_limited(
     shown: &Shown,
     out: &mut String,
 ) -> Result<(), AllocError>
-    ensures { OnOk result ((line : List ℕ) × Logs limiter.old dates.now shown.now.at shown.now.told line limiter.new × (string_bytes out.new ≡ string_bytes out.old ++ line)) }
+    ensures { OnOk result ((line : List ℕ) × Logs limiter.old dates.now shown.now.at shown.now.entry line limiter.new × (string_bytes out.new ≡ string_bytes out.old ++ line)) }
 {
-    let told = &shown.told;
+    let Some(entry) = &shown.entry else {
+        return Ok(());
+    };
     let second = dates.second_at(shown.at.get());
-    if !is_stranger(told) {
-        return write_told(second, told, 0, out);
+    if !is_stranger(&entry.outcome) {
+        return write_entry(second, entry, 0, out);
     }
     match limiter.take(shown.at) {
-        Some(left_out) => write_told(second, told, left_out, out),
+        Some(left_out) => write_entry(second, entry, left_out, out),
         None => Ok(()),
     }
 }
 
 /// Whether a line is one of those that are limited: of a datagram that was no request to a server.
-fn is_stranger(told: &Told) -> bool
-    ensures { result ≡ is_stranger told.now }
+fn is_stranger(outcome: &Outcome) -> bool
+    ensures { result ≡ is_stranger outcome.now }
 {
-    match told {
-        Told::Foreign(_, _) | Told::Malformed(_, _) => true,
+    match outcome {
+        Outcome::ForNodes | Outcome::NoMessage => true,
         _ => false,
     }
 }

@@ -10,7 +10,7 @@ ghost use Rattle.nbt_nbns.specs.Watching.{IsOver, ShowsTurn, WatchesUntil, Watch
 use crate::turn::watched_turn;
 use arrayvec::ArrayVec;
 use nbt_engine::{Clock, Device, Port};
-use nbt_journal::Told;
+use nbt_journal::Entry;
 use nbt_lease::Moment;
 use nbt_net::{FOREVER, Row};
 use nbt_server::Server;
@@ -20,8 +20,8 @@ use std::time;
 /// What is shown of a turn.
 #[derive(Debug, PartialEq, Eq, Drop)]
 pub struct Shown {
-    /// What the server made of what came in it.
-    pub told: Told,
+    /// What the server did with the datagram that came; `None` where none came, and where it was lost.
+    pub entry: Option<Entry>,
     /// The moment after it.
     pub at: Moment,
 }
@@ -108,9 +108,9 @@ fn turn_and_moment<P: Port, C: Clock>(
     ensures err { OnErr result (Breaks P.does C.tells 1 port.old clock.old server.old port.new clock.new server.new) }
     ensures device { CountsFailure (P.failures port.old) (P.failures port.new) result }
 {
-    let told = watched_turn(port, clock, server, octets, reply)?;
+    let entry = watched_turn(port, clock, server, octets, reply)?;
     Ok(Shown {
-        told,
+        entry,
         at: clock.now(),
     })
 }

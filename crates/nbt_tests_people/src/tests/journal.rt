@@ -2,15 +2,12 @@
 //! calendar.
 
 use super::expect::{expect_eq, expect_eq_in};
-use nbt_journal::{
-    Dates, Limiter, Told, claimed_in, told_of_reply, told_of_silence, write_leases, write_time,
-    write_told,
-};
+use arrayvec::ArrayVec;
+use nbt_journal::{Dates, Entry, Limiter, write_entry, write_leases, write_time};
 use nbt_lease::{Lease, Moment};
 use nbt_name::{Addr, Kind, Name};
-use nbt_rows::{
-    GRANTED, NOT_FOUND, QUERY, REFRESH, REFUSED, REGISTRATION, RELEASE, moment, octets,
-};
+use nbt_rows::{GRANTED, QUERY, REFRESH, REGISTRATION, RELEASE, RIVAL, moment, octets, started};
+use nbt_server::{Claim, Outcome, Refusal};
 use nbt_text::parse_name;
 use std::process::Abort;
 use std::test::Fail;
@@ -55,167 +52,305 @@ fn times_of_day(rt: HostRuntime) -> Result<(), Fail> {
     Ok(())
 }
 
-/// A reply as words, whether the name was leased to that address before, and the line that is told of it.
-const REPLIES: [(&str, bool, &str); 14] = [
+/// What a server did with a datagram, without whose claim it is.
+#[derive(Clone, Copy)]
+enum Done {
+    Granted(u32),
+    Renewed(u32),
+    Refused(Refusal),
+    Released,
+    NotLeased,
+    NotReleased(Refusal),
+    Found,
+    NotFound,
+    Silent,
+    ForNodes,
+    NoMessage,
+}
+
+fn outcome_of(done: Done, claim: Claim) -> Outcome {
+    match done {
+        Done::Granted(seconds) => Outcome::Granted(claim, seconds),
+        Done::Renewed(seconds) => Outcome::Renewed(claim, seconds),
+        Done::Refused(refusal) => Outcome::Refused(claim, refusal),
+        Done::Released => Outcome::Released(claim),
+        Done::NotLeased => Outcome::NotLeased(claim),
+        Done::NotReleased(refusal) => Outcome::NotReleased(claim, refusal),
+        Done::Found => Outcome::Found(claim.name),
+        Done::NotFound => Outcome::NotFound(claim.name),
+        Done::Silent => Outcome::Silent(claim.name),
+        Done::ForNodes => Outcome::ForNodes,
+        Done::NoMessage => Outcome::NoMessage,
+    }
+}
+
+/// What was done, whose claim it is, and the line.
+const CLAIMED: [(Done, &str, Kind, u32, &str); 15] = [
     (
-        GRANTED,
-        false,
+        Done::Granted(60),
+        "FRED",
+        Kind::Unique,
+        0x7F000002,
         "2026-11-24T09:12:03Z granted FRED#20 127.0.0.2 unique 60 s\n",
     ),
     (
-        GRANTED,
-        true,
+        Done::Renewed(60),
+        "FRED",
+        Kind::Unique,
+        0x7F000002,
         "2026-11-24T09:12:03Z renewed FRED#20 127.0.0.2 unique 60 s\n",
     ),
     (
-        "0001 ad80 reply TEAM NB 30s group 127.0.0.3",
-        false,
+        Done::Granted(30),
+        "TEAM",
+        Kind::Group,
+        0x7F000003,
         "2026-11-24T09:12:03Z granted TEAM#20 127.0.0.3 group 30 s\n",
     ),
-    // The response to a refresh, and one to it by OPCODE 9.
     (
-        "0001 c580 reply FRED NB 60s unique 127.0.0.2",
-        true,
-        "2026-11-24T09:12:03Z renewed FRED#20 127.0.0.2 unique 60 s\n",
-    ),
-    (
-        "0001 cd80 reply FRED NB 60s unique 127.0.0.2",
-        false,
-        "2026-11-24T09:12:03Z granted FRED#20 127.0.0.2 unique 60 s\n",
-    ),
-    // Refused, also where the machine has the name.
-    (
-        REFUSED,
-        false,
+        Done::Refused(Refusal::Active(0x7F000002)),
+        "FRED",
+        Kind::Unique,
+        0x7F000003,
         "2026-11-24T09:12:03Z refused FRED#20 127.0.0.3 unique: held by another (6)\n",
     ),
     (
-        "0001 ad85 reply TEAM NB 0s group 127.0.0.2",
-        true,
+        Done::Refused(Refusal::NotOwn),
+        "TEAM",
+        Kind::Group,
+        0x7F000002,
         "2026-11-24T09:12:03Z refused TEAM#20 127.0.0.2 group: refused (5)\n",
     ),
     (
-        "0001 ad82 reply TEAM NB 0s group 127.0.0.2",
-        false,
+        Done::Refused(Refusal::Overwrite),
+        "TEAM",
+        Kind::Group,
+        0x7F000002,
+        "2026-11-24T09:12:03Z refused TEAM#20 127.0.0.2 group: refused (5)\n",
+    ),
+    (
+        Done::Refused(Refusal::TableFull),
+        "TEAM",
+        Kind::Group,
+        0x7F000002,
+        "2026-11-24T09:12:03Z refused TEAM#20 127.0.0.2 group: server failure (2)\n",
+    ),
+    (
+        Done::Refused(Refusal::GroupFull),
+        "TEAM",
+        Kind::Group,
+        0x7F000002,
         "2026-11-24T09:12:03Z refused TEAM#20 127.0.0.2 group: server failure (2)\n",
     ),
     // Releases: of a lease, of none, and one that is refused.
     (
-        "0002 b400 reply FRED NB 0s unique 127.0.0.2",
-        true,
+        Done::Released,
+        "FRED",
+        Kind::Unique,
+        0x7F000002,
         "2026-11-24T09:12:03Z released FRED#20 127.0.0.2 unique\n",
     ),
-    ("0002 b400 reply FRED NB 0s unique 127.0.0.2", false, ""),
+    (Done::NotLeased, "FRED", Kind::Unique, 0x7F000002, ""),
     (
-        "0002 b406 reply FRED NB 0s unique 127.0.0.3",
-        false,
+        Done::NotReleased(Refusal::Active(0x7F000002)),
+        "FRED",
+        Kind::Unique,
+        0x7F000003,
         "2026-11-24T09:12:03Z release refused FRED#20 127.0.0.3 unique: held by another (6)\n",
     ),
-    // A query's replies.
-    ("0008 8580 reply FRED NB 1s unique 127.0.0.2", false, ""),
-    (NOT_FOUND, true, ""),
     // In a scope, and with a suffix that is no space.
     (
-        "61db ad80 reply NODEB-in-LAB.TEST NB 20s unique 198.18.137.2",
-        false,
+        Done::Granted(20),
+        "NODEB.LAB.TEST",
+        Kind::Unique,
+        0xC6128902,
         "2026-11-24T09:12:03Z granted NODEB.LAB.TEST 198.18.137.2 unique 20 s\n",
     ),
+    // Queries, and a request to a server that is silent.
+    (Done::Found, "FRED", Kind::Unique, 0x7F000002, ""),
+    (Done::NotFound, "FRED", Kind::Unique, 0x7F000002, ""),
+    (Done::Silent, "FRED", Kind::Unique, 0x7F000002, ""),
 ];
+
+fn claim_of(name: &str, kind: Kind, addr: u32) -> Result<Claim, Fail> {
+    Ok(Claim {
+        name: named(name)?,
+        kind,
+        addr,
+    })
+}
+
+fn entry_of(count: usize, outcome: Outcome) -> Entry {
+    Entry {
+        from: FROM,
+        count,
+        outcome,
+    }
+}
 
 fn expect_line<R: Abort + AllocGlobal>(
     rt: &R,
-    told: &Told,
+    entry: &Entry,
     left_out: u64,
     expected: &str,
 ) -> Result<(), Fail> {
     let mut text = String::from_str(rt.alloc(), "> ")?;
-    write_told(THEN, told, left_out, &mut text)?;
+    write_entry(THEN, entry, left_out, &mut text)?;
     expect_eq(rt, &text.as_str().strip_prefix("> "), &Some(expected));
     Ok(())
 }
 
 #[test]
-fn a_line_for_each_reply(rt: HostRuntime) -> Result<(), Fail> {
-    for (words, held, expected) in REPLIES {
-        let reply = octets(&rt, words)?;
-        expect_line(&rt, &told_of_reply(reply.as_slice(), held), 0, expected)?;
+fn a_line_for_each_outcome(rt: HostRuntime) -> Result<(), Fail> {
+    for (done, name, kind, addr, expected) in CLAIMED {
+        let entry = entry_of(68, outcome_of(done, claim_of(name, kind, addr)?));
+        expect_line(&rt, &entry, 0, expected)?;
     }
     Ok(())
 }
 
-/// What had no reply: its octets as words, how many lines were left out, and the line.
-const UNANSWERED: [(&str, u64, &str); 9] = [
+/// What was no request, how many octets it had, how many lines were left out, and the line.
+const STRANGERS: [(Done, usize, u64, &str); 4] = [
     (
-        "000102030405060708090a0b",
+        Done::NoMessage,
+        12,
         0,
         "2026-11-24T09:12:03Z malformed from 192.0.2.9:137: 12 octets\n",
     ),
     (
-        "-",
+        Done::NoMessage,
+        0,
         3,
         "2026-11-24T09:12:03Z malformed from 192.0.2.9:137: 0 octets, 3 left out before\n",
     ),
-    // OPCODE 15 is in no profile.
     (
-        "0001 7900 two-parts FRED NB again NB 60s unique 127.0.0.2",
-        0,
-        "2026-11-24T09:12:03Z malformed from 192.0.2.9:137: 68 octets\n",
-    ),
-    // A response and a status request are for nodes.
-    (
-        GRANTED,
+        Done::ForNodes,
+        62,
         0,
         "2026-11-24T09:12:03Z foreign from 192.0.2.9:137: 62 octets\n",
     ),
     (
-        "0009 0000 one-name STAR NBSTAT",
+        Done::ForNodes,
+        50,
         1,
         "2026-11-24T09:12:03Z foreign from 192.0.2.9:137: 50 octets, 1 left out before\n",
     ),
-    // Of a server that is still silent nothing is told.
-    (REGISTRATION, 0, ""),
-    (REFRESH, 0, ""),
-    (RELEASE, 0, ""),
-    (QUERY, 0, ""),
 ];
 
 #[test]
-fn a_line_for_what_had_no_reply(rt: HostRuntime) -> Result<(), Fail> {
-    for (words, left_out, expected) in UNANSWERED {
-        let given = octets(&rt, words)?;
-        expect_line(
-            &rt,
-            &told_of_silence(FROM, given.as_slice()),
-            left_out,
-            expected,
-        )?;
+fn a_line_for_what_is_no_request(rt: HostRuntime) -> Result<(), Fail> {
+    for (done, count, left_out, expected) in STRANGERS {
+        let entry = entry_of(count, outcome_of(done, claim_of("FRED", Kind::Unique, 0)?));
+        expect_line(&rt, &entry, left_out, expected)?;
     }
     Ok(())
 }
 
-/// A request as words, and the name and the address that it is about.
-const CLAIMS: [(&str, Option<(&str, u32)>); 6] = [
-    (REGISTRATION, Some(("FRED", 0x7F000002))),
-    (REFRESH, Some(("FRED", 0x7F000002))),
-    (RELEASE, Some(("FRED", 0x7F000002))),
-    (QUERY, None),
-    (GRANTED, None),
-    ("00", None),
+/// The addresses of FRED's owner, and of its rival.
+const OWNER: u32 = 0x7F000002;
+
+const OTHER: u32 = 0x7F000003;
+
+const RIVAL_RELEASE: &str = "0002 3000 two-parts FRED NB again NB 0s unique 127.0.0.3";
+
+const OVERWRITE: &str = "0001 2800 two-parts FRED NB again NB 60s unique 127.0.0.2";
+
+const STAR: &str = "0001 2900 two-parts STAR NB again NB 60s unique 127.0.0.2";
+
+/// `STAR`'s name.
+const STAR_NAME: &str = "hex:2a000000000000000000000000000000";
+
+const TEAM: &str = "0001 2900 two-parts TEAM NB again NB 60s unique 127.0.0.3";
+
+/// Datagrams to a server with room for one row that speaks from 60,000 on: when each comes, from which address, its octets as
+/// words, the name and the address that it is about, and what the server does.
+const HANDLED: [(u64, u32, &str, &str, u32, Done); 18] = [
+    (59_999, OWNER, REGISTRATION, "FRED", OWNER, Done::Silent),
+    (59_999, OWNER, QUERY, "FRED", OWNER, Done::Silent),
+    (59_999, OWNER, GRANTED, "FRED", OWNER, Done::ForNodes),
+    (59_999, OWNER, "00", "FRED", OWNER, Done::NoMessage),
+    (60_000, OWNER, GRANTED, "FRED", OWNER, Done::ForNodes),
+    (
+        60_000,
+        OWNER,
+        REGISTRATION,
+        "FRED",
+        OWNER,
+        Done::Granted(60),
+    ),
+    (60_000, OWNER, REFRESH, "FRED", OWNER, Done::Renewed(60)),
+    (
+        60_100,
+        OTHER,
+        REGISTRATION,
+        "FRED",
+        OWNER,
+        Done::Refused(Refusal::NotOwn),
+    ),
+    (
+        60_100,
+        OTHER,
+        RIVAL,
+        "FRED",
+        OTHER,
+        Done::Refused(Refusal::Active(OWNER)),
+    ),
+    (
+        60_100,
+        OTHER,
+        TEAM,
+        "TEAM",
+        OTHER,
+        Done::Refused(Refusal::TableFull),
+    ),
+    (
+        60_100,
+        OWNER,
+        OVERWRITE,
+        "FRED",
+        OWNER,
+        Done::Refused(Refusal::Overwrite),
+    ),
+    (
+        60_100,
+        OWNER,
+        STAR,
+        STAR_NAME,
+        OWNER,
+        Done::Refused(Refusal::Star),
+    ),
+    (60_200, OTHER, QUERY, "FRED", OWNER, Done::Found),
+    (
+        60_300,
+        OTHER,
+        RELEASE,
+        "FRED",
+        OWNER,
+        Done::NotReleased(Refusal::NotOwn),
+    ),
+    (
+        60_300,
+        OTHER,
+        RIVAL_RELEASE,
+        "FRED",
+        OTHER,
+        Done::NotReleased(Refusal::Active(OWNER)),
+    ),
+    (60_400, OWNER, RELEASE, "FRED", OWNER, Done::Released),
+    (60_400, OWNER, RELEASE, "FRED", OWNER, Done::NotLeased),
+    (60_500, OTHER, QUERY, "FRED", OWNER, Done::NotFound),
 ];
 
 #[test]
-fn whose_name_a_request_is_about(rt: HostRuntime) -> Result<(), Fail> {
-    for (words, expected) in CLAIMS {
-        let claim = match expected {
-            Some((name, addr)) => Some((named(name)?, addr)),
-            None => None,
-        };
-        expect_eq_in(
-            &rt,
-            &words,
-            &claimed_in(octets(&rt, words)?.as_slice()),
-            &claim,
-        );
+fn what_a_server_did(rt: HostRuntime) -> Result<(), Fail> {
+    let mut server = started(&rt, 1, 0)?;
+    let mut reply = ArrayVec::new();
+    for (at, ip, words, name, addr, done) in HANDLED {
+        let given = octets(&rt, words)?;
+        let from = Addr { ip, port: 137 };
+        let expected = outcome_of(done, claim_of(name, Kind::Unique, addr)?);
+        let outcome = server.handle(moment(at)?, from, given.as_slice(), &mut reply)?;
+        expect_eq_in(&rt, &words, &outcome, &expected);
     }
     Ok(())
 }

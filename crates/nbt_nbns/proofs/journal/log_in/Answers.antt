@@ -10,7 +10,7 @@ use Rattle.nbt_nbns.proofs.journal.log_in.Goals as goal
 
 -- a line that was printed, or wasn't
 logs : (dates : Dates) (shown : Shown) (old_text text : Option (List ℕ)) (old new : LimiterValue) (done : Bool)
-    → (IsTrue done → (line : List ℕ) × Logs old dates shown.at shown.told line new × Appends old_text text line) → LogsIn dates shown old_text (Some old) (Some new) text
+    → (IsTrue done → (line : List ℕ) × Logs old dates shown.at shown.entry line new × Appends old_text text line) → LogsIn dates shown old_text (Some old) (Some new) text
 logs dates shown old_text text old new true said = let line = said refl in logged old new line.0 text line.1 line.2
 logs dates shown old_text text old new false said = not_logged old new text
 

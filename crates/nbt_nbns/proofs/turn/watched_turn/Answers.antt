@@ -1,15 +1,13 @@
-use Rattle.std.proofs.Common.{refl, true, false, subst, sym, ◌↔◌, IsTrue}
+use Rattle.std.proofs.Common.{refl, sym, subst, ◌∙◌}
 use Rattle.std.proofs.lemmas.Result.{err_from_is_err_and}
 use Rattle.nbt_engine.specs.PortCalls.{receive_failed, sent, send_failed}
 use Rattle.nbt_engine.specs.Serving.{of_receive}
 use Rattle.nbt_engine.proofs.Chains.{chain_one}
 use Rattle.nbt_engine.proofs.Running.{breaks_one}
-use Rattle.nbt_engine.proofs.Taking.{Served, turn_unsent, refused}
-use Rattle.nbt_packet.specs.Spelling.{Spells}
-use Rattle.nbt_journal.specs.Told.{TellsOfSilence}
-use Rattle.nbt_nbns.specs.Turning.{IsHeld}
-use Rattle.nbt_nbns.proofs.OneTurn.{watched_empty, watched_silent, watched_replied, watched_lost}
+use Rattle.nbt_server.specs.Calls.{ServerHandles}
+use Rattle.nbt_nbns.proofs.OneTurn.{watched_empty, watched_silent, watched_replied, watched_unsent, watched_lost, lost_to}
 use Rattle.nbt_nbns.proofs.turn.watched_turn.Goals as goal
+use Rattle.nbt_nbns.proofs.turn.watched_turn.Goals.{then-has_reply+in_ok-send-in-Ok, else-has_reply}
 
 pub returns-in_err-from-clause-err : goal.returns-in_err-from-clause-err
 returns-in_err-from-clause-err g c =
@@ -23,45 +21,36 @@ returns-in_default-clause-ok g c =
     watched_empty g.P.Port.does g.C.Clock.tells c.args.port.now c.receive.new.self c.args.clock.now c.args.server.now
     c.in_ok-from.field-0 c.receive.new.octets.items _ c.in_default.is c.in_ok-from.ensures.does refl
 
-pub returns-in_err-send-in-Ok-true-clause-err : goal.returns-in_err-send-in-Ok-true-clause-err
-returns-in_err-send-in-Ok-true-clause-err g c =
-    let p = err_from_is_err_and c.from_residual-in_err-send-in-Ok-true.result c.from_residual-in_err-send-in-Ok-true.ensures.1 in
-    let e = c.in-Ok-true.ensures in
-    let served = subst (Served c.args.server.now c.on_datagram.new.self c.now-now.result c.in-Some.from c.as_slice-2.result.now c.on_datagram.new.out.items) c.in-Ok-true.field-0-test e.served in
-    rw p.1 (turn_unsent g.P.Port.does g.C.Clock.tells c.args.port.now c.receive.new.self c.send.new.self c.args.clock.now c.now-now.new.self c.args.server.now c.on_datagram.new.self
-    c.in_ok-from.field-0 c.in-Some.from c.receive.new.octets.items c.on_datagram.new.out.items c.now-now.result
-    c.in-Some.is c.in_ok-from.ensures.does c.now-now.ensures
-    (subst (λ octets. Served c.args.server.now c.on_datagram.new.self c.now-now.result c.in-Some.from octets c.on_datagram.new.out.items true) c.as_slice-2.ensures.value served)
-    (subst (λ out. g.P.Port.does c.receive.new.self (send_failed c.in-Some.from out) c.send.new.self) c.as_slice-in-Ok-true.ensures.value c.in_err-send-in-Ok-true.ensures.does))
-
-pub returns-in_ok-send-in-Ok-true-clause-ok : goal.returns-in_ok-send-in-Ok-true-clause-ok
-returns-in_ok-send-in-Ok-true-clause-ok g c =
-    let e = c.in-Ok-true.ensures in
-    let served = subst (Served c.args.server.now c.on_datagram.new.self c.now-now.result c.in-Some.from c.as_slice-2.result.now c.on_datagram.new.out.items) c.in-Ok-true.field-0-test e.served in
-    watched_replied g.P.Port.does g.C.Clock.tells c.args.port.now c.receive.new.self c.args.clock.now c.now-now.new.self c.args.server.now c.on_datagram.new.self
-    c.in_ok-from.field-0 c.in-Some.from c.receive.new.octets.items c.on_datagram.new.out.items c.now-now.result c.told_of_reply.result c.is_held-held.result c.send.new.self
-    c.in-Some.is c.in_ok-from.ensures.does c.now-now.ensures
-    (subst (λ octets. Served c.args.server.now c.on_datagram.new.self c.now-now.result c.in-Some.from octets c.on_datagram.new.out.items true) c.as_slice-2.ensures.value served)
-    (subst (λ out. g.P.Port.does c.receive.new.self (sent c.in-Some.from out) c.send.new.self) c.as_slice-in-Ok-true.ensures.value c.in_ok-send-in-Ok-true.ensures.does)
-    (subst (λ octets. IsTrue c.is_held-held.result ↔ IsHeld c.args.server.now c.now-now.result octets) c.as_slice.ensures.value c.is_held-held.ensures)
-    (λ message s. c.told_of_reply.ensures.told message (subst (λ octets. Spells octets message) (sym c.as_slice-in-Ok-true-2.ensures.value) s))
-
-pub returns-in-Ok-false-clause-ok : goal.returns-in-Ok-false-clause-ok
-returns-in-Ok-false-clause-ok g c =
-    let e = c.in-Ok-false.ensures in
-    let served = subst (Served c.args.server.now c.on_datagram.new.self c.now-now.result c.in-Some.from c.as_slice-2.result.now c.on_datagram.new.out.items) c.in-Ok-false.field-0-test e.served in
-    watched_silent g.P.Port.does g.C.Clock.tells c.args.port.now c.receive.new.self c.args.clock.now c.now-now.new.self c.args.server.now c.on_datagram.new.self
-    c.in_ok-from.field-0 c.in-Some.from c.receive.new.octets.items c.on_datagram.new.out.items c.now-now.result c.told_of_silence.result c.is_held-held.result
-    c.in-Some.is c.in_ok-from.ensures.does c.now-now.ensures
-    (subst (λ octets. Served c.args.server.now c.on_datagram.new.self c.now-now.result c.in-Some.from octets c.on_datagram.new.out.items false) c.as_slice-2.ensures.value served)
-    (subst (λ octets. IsTrue c.is_held-held.result ↔ IsHeld c.args.server.now c.now-now.result octets) c.as_slice.ensures.value c.is_held-held.ensures)
-    (subst (λ octets. TellsOfSilence c.in-Some.from octets c.told_of_silence.result) c.as_slice-in-Ok-false.ensures.value c.told_of_silence.ensures)
-
 pub returns-in-Err-clause-ok : goal.returns-in-Err-clause-ok
 returns-in-Err-clause-ok g c =
-    watched_lost g.P.Port.does g.C.Clock.tells c.args.port.now c.receive.new.self c.args.clock.now c.now-now.new.self c.args.server.now c.on_datagram.new.self
+    watched_lost g.P.Port.does g.C.Clock.tells c.args.port.now c.receive.new.self c.args.clock.now c.now-now.new.self c.args.server.now c.handle.new.self
     c.in_ok-from.field-0 c.in-Some.from c.receive.new.octets.items c.now-now.result _
     c.in-Some.is c.in_ok-from.ensures.does c.now-now.ensures
-    (refused c.args.server.now c.on_datagram.new.self c.now-now.result c.in-Some.from c.as_slice-2.result.now c.receive.new.octets.items c.in-Err.field-0 c.as_slice-2.ensures.value
+    (lost_to c.args.server.now c.handle.new.self c.now-now.result c.in-Some.from c.as_slice.result.now c.receive.new.octets.items c.in-Err.field-0 c.as_slice.ensures.value
     c.in-Err.ensures.clock_back c.in-Err.ensures.unchanged c.in-Err.ensures.memory)
     refl
+
+pub returns-in_err-send-in-Ok-clause-err : goal.returns-in_err-send-in-Ok-clause-err
+returns-in_err-send-in-Ok-clause-err g c =
+    let p = err_from_is_err_and c.from_residual-in_err-send-in-Ok.result c.from_residual-in_err-send-in-Ok.ensures.1 in
+    rw p.1 (watched_unsent g.P.Port.does g.C.Clock.tells c.args.port.now c.receive.new.self c.args.clock.now c.now-now.new.self c.args.server.now c.handle.new.self
+    c.in_ok-from.field-0 c.in-Some.from c.receive.new.octets.items c.handle.new.out.items c.now-now.result c.in-Ok.outcome
+    c.in-Some.is c.in_ok-from.ensures.does c.now-now.ensures c.send.new.self
+    (subst (λ octets. ServerHandles c.args.server.now c.now-now.result c.in-Some.from.ip octets c.in-Ok.outcome c.handle.new.out.items c.handle.new.self) c.as_slice.ensures.value c.in-Ok.ensures.handled)
+    (sym c.has_reply.ensures ∙ c.if-has_reply.true)
+    (subst (λ out. g.P.Port.does c.receive.new.self (send_failed c.in-Some.from out) c.send.new.self) c.as_slice-then-has_reply.ensures.value c.in_err-send-in-Ok.ensures.does))
+
+pub returns-after-has_reply-clause-ok : goal.returns-after-has_reply-clause-ok
+returns-after-has_reply-clause-ok g c =
+    let handled = subst (λ octets. ServerHandles c.args.server.now c.now-now.result c.in-Some.from.ip octets c.in-Ok.outcome c.handle.new.out.items c.handle.new.self) c.as_slice.ensures.value c.in-Ok.ensures.handled in
+    elim c.if-has_reply.branch [
+      | then-has_reply+in_ok-send-in-Ok w ↦
+          rw (c.len.ensures.value, w.port-is) (watched_replied g.P.Port.does g.C.Clock.tells c.args.port.now c.receive.new.self c.args.clock.now c.now-now.new.self c.args.server.now c.handle.new.self
+          c.in_ok-from.field-0 c.in-Some.from c.receive.new.octets.items c.handle.new.out.items c.now-now.result c.in-Ok.outcome
+          c.in-Some.is c.in_ok-from.ensures.does c.now-now.ensures w.send.new.self handled (sym c.has_reply.ensures ∙ w.if-has_reply.true)
+          (subst (λ out. g.P.Port.does c.receive.new.self (sent c.in-Some.from out) w.send.new.self) w.as_slice-then-has_reply.ensures.value w.in_ok-send-in-Ok.ensures.does))
+      | else-has_reply w ↦
+          rw (c.len.ensures.value, w.port-is) (watched_silent g.P.Port.does g.C.Clock.tells c.args.port.now c.receive.new.self c.args.clock.now c.now-now.new.self c.args.server.now c.handle.new.self
+          c.in_ok-from.field-0 c.in-Some.from c.receive.new.octets.items c.handle.new.out.items c.now-now.result c.in-Ok.outcome
+          c.in-Some.is c.in_ok-from.ensures.does c.now-now.ensures handled (sym c.has_reply.ensures ∙ w.if-has_reply.false))
+    ]
