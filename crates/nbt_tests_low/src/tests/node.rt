@@ -5,8 +5,8 @@
 use super::expect::{expect_eq, expect_eq_in, expect_in};
 use super::{FRED, STAR, TEAM, at, fred, name_of};
 use arrayvec::ArrayVec;
-use nbt_lease::Config;
-use nbt_name::{Addr, Kind};
+use nbt_lease::{Config, Moment};
+use nbt_name::{Addr, Kind, Name};
 use nbt_node::laws::{each_name, one_move, settling_ends, settling_in_steps};
 use nbt_node::{AskFault, ClockBack, Event, LookupFault, Node, ReleaseFault};
 use std::process::Abort;
@@ -143,81 +143,144 @@ fn start() -> Result<Node<1>, Fail> {
     Ok(Node::start(OWN, SERVER, Config::new(1000, 60, 4096)?, at(0)?))
 }
 
+/// The moment of a step.
+fn moment(step: &Step<'_>) -> Result<Moment, Fail> {
+    match *step {
+        Step::Ask(ms, _, _, _)
+        | Step::Release(ms, _)
+        | Step::Resolve(ms, _)
+        | Step::AskNames(ms, _)
+        | Step::Poll(ms, _)
+        | Step::PollBack(ms)
+        | Step::Respond(ms, _, _, _)
+        | Step::Hear(ms, _, _, _)
+        | Step::Cut(ms, _, _)
+        | Step::CutResponse(ms, _, _)
+        | Step::Reply(ms, _, _, _)
+        | Step::Holds(ms, _)
+        | Step::LookupOpen(ms, _) => at(ms),
+    }
+}
+
 /// A node goes through the steps, all with one buffer: each call leaves in it what it has to send, and no more.
 fn play(rt: &impl Abort, steps: &[Step<'_>]) -> Result<(), Fail> {
     let mut node = start()?;
     let mut out = ArrayVec::new();
+    let fred = fred(b"")?;
     for step in steps {
-        match *step {
-            Step::Ask(ms, name, kind, expected) => {
-                let asked = node.ask(at(ms)?, &name_of(name)?, kind, 60, &mut out);
-                expect_eq_in(rt, &step, &asked.err(), &expected.err());
-                expect_in(rt, &step, out.as_slice() == expected.unwrap_or(b""));
-            }
-            Step::Release(ms, expected) => {
-                let released = node.release(at(ms)?, &fred(b"")?, &mut out);
-                expect_eq_in(rt, &step, &released.err(), &expected.err());
-                expect_in(rt, &step, out.as_slice() == expected.unwrap_or(b""));
-            }
-            Step::Resolve(ms, expected) => {
-                let resolved = node.resolve(at(ms)?, &fred(b"")?, &mut out);
-                expect_eq_in(rt, &step, &resolved.err(), &expected.err());
-                expect_in(rt, &step, out.as_slice() == expected.unwrap_or(b""));
-            }
-            Step::AskNames(ms, expected) => {
-                node.name_status(at(ms)?, OWN, &fred(b"")?, &mut out)?;
-                expect_in(rt, &step, out.as_slice() == expected);
-            }
-            _ => hear(rt, &mut node, step, &mut out)?,
-        }
+        go(rt, &mut node, moment(step)?, &fred, step, &mut out)?;
     }
     Ok(())
 }
 
-/// The steps by which a node is told of time and of others.
-fn hear(
+/// A step. Here are those of the node's own.
+fn go(
     rt: &impl Abort,
     node: &mut Node<1>,
+    now: Moment,
+    fred: &Name,
     step: &Step<'_>,
     out: &mut ArrayVec<u8, 576>,
 ) -> Result<(), Fail> {
     match *step {
-        Step::Poll(ms, expected) => {
-            let to = node.poll(at(ms)?, out)?;
-            expect_eq_in(rt, &step, &to, &expected.map(|_| SERVER));
-            expect_in(rt, &step, out.as_slice() == expected.unwrap_or(b""));
+        Step::Ask(_, name, kind, expected) => {
+            let asked = node.ask(now, &name_of(name)?, kind, 60, out);
+            expect_eq_in(rt, step, &asked.err(), &expected.err());
+            expect_in(rt, step, out.as_slice() == expected.unwrap_or(b""));
         }
-        Step::PollBack(ms) => {
-            expect_eq_in(rt, &step, &node.poll(at(ms)?, out), &Err(ClockBack));
+        Step::Release(_, expected) => {
+            let released = node.release(now, fred, out);
+            expect_eq_in(rt, step, &released.err(), &expected.err());
+            expect_in(rt, step, out.as_slice() == expected.unwrap_or(b""));
         }
-        Step::Respond(ms, from, response, expected) => {
-            let octets = response.octets();
-            let event = node.on_datagram(at(ms)?, from, &octets, out)?;
-            expect_in(rt, &step, event == expected);
-            expect_in(rt, &step, out.is_empty());
+        Step::Resolve(_, expected) => {
+            let resolved = node.resolve(now, fred, out);
+            expect_eq_in(rt, step, &resolved.err(), &expected.err());
+            expect_in(rt, step, out.as_slice() == expected.unwrap_or(b""));
         }
-        Step::Hear(ms, from, octets, expected) => {
-            let event = node.on_datagram(at(ms)?, from, octets, out)?;
-            expect_in(rt, &step, event == expected);
-            expect_in(rt, &step, out.is_empty());
+        Step::AskNames(_, expected) => {
+            node.name_status(now, OWN, fred, out)?;
+            expect_in(rt, step, out.as_slice() == expected);
         }
-        Step::Cut(ms, from, octets) => hear_cut(rt, node, ms, from, octets, out)?,
-        Step::CutResponse(ms, from, response) => {
-            hear_cut(rt, node, ms, from, &response.octets(), out)?;
-        }
-        Step::Reply(ms, from, octets, expected) => {
-            let event = node.on_datagram(at(ms)?, from, octets, out)?;
-            expect_in(rt, &step, event == Event::Reply);
-            expect_in(rt, &step, out.as_slice() == expected);
-        }
-        Step::Holds(ms, expected) => {
-            expect_eq_in(rt, &step, &node.holds(at(ms)?, &fred(b"")?), &expected);
-        }
-        Step::LookupOpen(ms, expected) => {
-            expect_eq_in(rt, &step, &node.lookup_open(at(ms)?), &expected);
-        }
-        _ => return Err("a step of the node's own")?,
+        _ => return watch(rt, node, now, fred, step, out),
     }
+    Ok(())
+}
+
+/// The steps by which a node is told of time, or asked what it has.
+fn watch(
+    rt: &impl Abort,
+    node: &mut Node<1>,
+    now: Moment,
+    fred: &Name,
+    step: &Step<'_>,
+    out: &mut ArrayVec<u8, 576>,
+) -> Result<(), Fail> {
+    match *step {
+        Step::Poll(_, expected) => {
+            let to = node.poll(now, out);
+            expect_eq_in(rt, step, &to, &Ok(expected.map(|_| SERVER)));
+            expect_in(rt, step, out.as_slice() == expected.unwrap_or(b""));
+        }
+        Step::PollBack(_) => {
+            expect_eq_in(rt, step, &node.poll(now, out), &Err(ClockBack));
+        }
+        Step::Holds(_, expected) => {
+            expect_eq_in(rt, step, &node.holds(now, fred), &expected);
+        }
+        Step::LookupOpen(_, expected) => {
+            expect_eq_in(rt, step, &node.lookup_open(now), &expected);
+        }
+        _ => return hear(rt, node, now, step, out),
+    }
+    Ok(())
+}
+
+/// The steps by which a node is told of others.
+fn hear(
+    rt: &impl Abort,
+    node: &mut Node<1>,
+    now: Moment,
+    step: &Step<'_>,
+    out: &mut ArrayVec<u8, 576>,
+) -> Result<(), Fail> {
+    match *step {
+        Step::Respond(_, from, response, expected) => {
+            hear_one(
+                rt,
+                node,
+                now,
+                (from, &response.octets()),
+                (expected, b""),
+                out,
+            )
+        }
+        Step::Hear(_, from, octets, expected) => {
+            hear_one(rt, node, now, (from, octets), (expected, b""), out)
+        }
+        Step::Reply(_, from, octets, expected) => {
+            hear_one(rt, node, now, (from, octets), (Event::Reply, expected), out)
+        }
+        Step::Cut(_, from, octets) => hear_cut(rt, node, now, from, octets, out),
+        Step::CutResponse(_, from, response) => {
+            hear_cut(rt, node, now, from, &response.octets(), out)
+        }
+        _ => Err("a step of the node's own")?,
+    }
+}
+
+/// A datagram comes: what is told, and what is replied.
+fn hear_one(
+    rt: &impl Abort,
+    node: &mut Node<1>,
+    now: Moment,
+    came: (Addr, &[u8]),
+    expected: (Event<'_>, &[u8]),
+    out: &mut ArrayVec<u8, 576>,
+) -> Result<(), Fail> {
+    let event = node.on_datagram(now, came.0, came.1, out)?;
+    expect_in(rt, &came, event == expected.0);
+    expect_in(rt, &came, out.as_slice() == expected.1);
     Ok(())
 }
 
@@ -225,15 +288,20 @@ fn hear(
 fn hear_cut(
     rt: &impl Abort,
     node: &mut Node<1>,
-    ms: u64,
+    now: Moment,
     from: Addr,
     octets: &[u8],
     out: &mut ArrayVec<u8, 576>,
 ) -> Result<(), Fail> {
     for length in 0..octets.len() {
-        let event = node.on_datagram(at(ms)?, from, &octets[..length], out)?;
-        expect_in(rt, &(&length, &octets), event == Event::Nothing);
-        expect_in(rt, &(&length, &octets), out.is_empty());
+        hear_one(
+            rt,
+            node,
+            now,
+            (from, &octets[..length]),
+            (Event::Nothing, b""),
+            out,
+        )?;
     }
     Ok(())
 }
