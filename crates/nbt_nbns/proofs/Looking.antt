@@ -3,8 +3,8 @@ use Rattle.std.proofs.Common.{◌≡◌, ◌≢◌, ℕ, List, Option, Some, Res
 use Rattle.std.specs.Prelude.{is_ok}
 use Rattle.std.proofs.lemmas.Bool.{false≢true}
 use Rattle.nbt_lease.specs.Lease.{Rows}
-use Rattle.nbt_journal.specs.Leases.{PrintsLeases}
-use Rattle.nbt_journal.specs.declared.dates.Dates.{Dates}
+use Rattle.nbt_log.specs.Leases.{PrintsLeases}
+use Rattle.nbt_log.specs.declared.dates.Dates.{Dates}
 use Rattle.nbt_nbns.specs.Keeping.{KeeperValue, IsDue, Keeps, early, same, written, failed}
 use Rattle.nbt_nbns.specs.declared.keeper.Kept.TheVariants as k
 

@@ -2,17 +2,16 @@
 
 ghost use Rattle.std.specs.Prelude.{ℕ, List, Option, ◌<◌, ◌≤◌, ◌^◌, ◌↔◌, IsTrue, IfOk, OnOk, OnErr};
 ghost use Rattle.nbt_server.specs.Serving.{ServerValue};
-ghost use Rattle.nbt_engine.specs.PortCalls.{CountsFailure};
-ghost use Rattle.nbt_engine.specs.Serving.{Breaks};
+ghost use Rattle.nbt_port.specs.PortCalls.{CountsFailure};
+ghost use Rattle.nbt_nbns.specs.Serving.{Breaks};
 ghost use Rattle.nbt_nbns.specs.declared.staying.Shown.{Shown};
 ghost use Rattle.nbt_nbns.specs.Watching.{IsOver, ShowsTurn, WatchesUntil, WatchFails};
 
 use crate::turn::watched_turn;
 use arrayvec::ArrayVec;
-use nbt_engine::{Clock, Device, Port};
-use nbt_journal::Entry;
 use nbt_lease::Moment;
-use nbt_net::{FOREVER, Row};
+use nbt_log::Entry;
+use nbt_port::{Clock, Device, FOREVER, Port, Row};
 use nbt_server::Server;
 use std::io::Write;
 use std::time;

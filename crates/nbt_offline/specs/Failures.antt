@@ -2,7 +2,7 @@
 use Rattle.std.specs.Prelude.{◌≡◌, ◌⊎◌}
 use Rattle.hex.specs.declared.error.FromHexError.{FromHexError}
 use Rattle.hex.specs.declared.error.FromHexError.TheVariants as hex_error
-use Rattle.nbt_engine.specs.declared.fault.Fault.TheVariants.{Memory}
+use Rattle.nbt_port.specs.declared.fault.Fault.TheVariants.{Memory}
 use Rattle.nbt_offline.specs.declared.failure.Failure.{Failure}
 use Rattle.nbt_offline.specs.declared.failure.Failure.TheVariants.{Unreadable, Fault}
 

@@ -3,7 +3,7 @@
 ghost use Rattle.std.specs.Prelude.{◌≡◌};
 
 use hex::FromHexError;
-use nbt_engine::Fault;
+use nbt_port::Fault;
 use std::alloc::AllocError;
 use std::io;
 
@@ -40,7 +40,7 @@ impl From<FromHexError> for Failure {
 }
 
 impl From<io::Error> for Failure {
-    ghost use Rattle.nbt_engine.specs.Faults.{fault_of_io};
+    ghost use Rattle.nbt_port.specs.Faults.{fault_of_io};
     ghost use Rattle.nbt_offline.specs.declared.failure.Failure.TheVariants as failure;
 
     ghost from_gives = { λ error result. result ≡ failure.Fault (fault_of_io error) };

@@ -5,9 +5,9 @@ use Rattle.std.proofs.lemmas.Bool.{false≢true}
 use Rattle.std.specs.Io.KnownBytes.{Appends}
 use Rattle.std.specs.String.{string_bytes}
 use Rattle.nbt_args.specs.declared.texts.CommandLine.{CommandLine}
-use Rattle.nbt_engine.specs.Faults.{fault_status}
-use Rattle.nbt_engine.specs.declared.fault.Fault.{Fault as Why}
-use Rattle.nbt_engine.specs.declared.fault.Fault.TheVariants as why
+use Rattle.nbt_port.specs.Faults.{fault_status}
+use Rattle.nbt_port.specs.declared.fault.Fault.{Fault as Why}
+use Rattle.nbt_port.specs.declared.fault.Fault.TheVariants as why
 use Rattle.nbt_offline.specs.Printed.{ending_status, is_done}
 use Rattle.nbt_offline.specs.declared.printed.Ending.{Ending}
 use Rattle.nbt_offline.specs.declared.printed.Ending.TheVariants.{Done, Refused}

@@ -7,10 +7,10 @@ use Rattle.nbt_args.specs.declared.texts.CommandLine.{CommandLine}
 use Rattle.nbt_args.specs.declared.texts.CommandLine.TheVariants as line
 use Rattle.nbt_args.specs.declared.texts.AnswerTexts.{AnswerTexts}
 use Rattle.nbt_args.specs.declared.texts.ShowTexts.{ShowTexts}
-use Rattle.nbt_net.specs.Node.{RunsNodeHere}
-use Rattle.nbt_net.specs.Serve.{RunsServerHere}
-use Rattle.nbt_net.specs.declared.node.NodeArguments.{NodeArguments}
-use Rattle.nbt_net.specs.declared.serve.ServeArguments.{ServeArguments}
+use Rattle.nbt_bench.specs.Node.{RunsNodeHere}
+use Rattle.nbt_bench.specs.Serve.{RunsServerHere}
+use Rattle.nbt_bench.specs.declared.node.NodeArguments.{NodeArguments}
+use Rattle.nbt_bench.specs.declared.serve.ServeArguments.{ServeArguments}
 use Rattle.nbt_offline.specs.Answering.{Answers, AnswerArguments}
 use Rattle.nbt_offline.specs.Drawing.{Draws}
 use Rattle.nbt_offline.specs.Input.{IsInput}

@@ -3,7 +3,7 @@
 ghost use Rattle.std.specs.Prelude.{◌≡◌, ◌≤◌};
 
 use nbt_args::{Refusal, Text};
-use nbt_engine::Fault;
+use nbt_port::Fault;
 use std::io;
 
 /// Why a command did not do its work.
@@ -89,7 +89,7 @@ impl From<nbt_offline::Failure> for Failure {
 }
 
 impl From<io::Error> for Failure {
-    ghost use Rattle.nbt_engine.specs.Faults.{fault_of_io};
+    ghost use Rattle.nbt_port.specs.Faults.{fault_of_io};
     ghost use Rattle.nbt_prog.specs.declared.failure.Failure.TheVariants as failure;
 
     ghost from_gives = { λ error result. result ≡ failure.Fault (fault_of_io error) };

@@ -20,7 +20,7 @@ mod running;
 use concluding::conclude;
 use failure::Failure;
 pub use machine::run_on;
-use nbt_engine::Fault;
+use nbt_port::Fault;
 pub use running::run;
 use std::alloc::Global;
 use std::convert::AsStr;

@@ -12,10 +12,10 @@ ghost use Rattle.nbt_prog.specs.Network.{ServeGiven, NodeGiven, IsConfigOf, Spel
 use crate::failure::Failure;
 use crate::numbers::number;
 use nbt_args::{GROUP, LimitedArgument, LimitedCommand, NodeTexts, ServeTexts};
-use nbt_engine::Want;
+use nbt_bench::{NodeArguments, ServeArguments};
+use nbt_client::Want;
 use nbt_lease::{Config, ROWS_MOST};
 use nbt_name::{Addr, Kind, Name};
-use nbt_net::{NodeArguments, ServeArguments};
 use nbt_text::parse_name;
 use std::alloc::Global;
 use std::io;

@@ -13,8 +13,8 @@ use crate::failure::Failure;
 use crate::network::{node_arguments, serve_arguments};
 use crate::numbers::{ports_of, time_of};
 use nbt_args::{AdminLine, AnswerTexts, CommandLine, ShowTexts};
-use nbt_engine::Fault;
 use nbt_offline::Printed;
+use nbt_port::Fault;
 use std::alloc::Global;
 use std::io::{Read, Write};
 

@@ -2,8 +2,8 @@
 
 use crate::limits::moment;
 use crate::pieces::octets;
-use nbt_engine::{Datagram, MemoryClock, MemoryPort};
 use nbt_name::Addr;
+use nbt_port::{Datagram, MemoryClock, MemoryPort};
 use std::collections::VecDeque;
 use std::test::Fail;
 

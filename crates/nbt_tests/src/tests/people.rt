@@ -3,10 +3,9 @@
 use super::LimitedWriter;
 use super::expect::expect_eq_in;
 use super::serving::{FAILED, NO_CLOCK, Row, expect_row, machine_of};
-use nbt_ask::{Answer, ask_here};
-use nbt_engine::Fault;
-use nbt_lookup::Question;
+use nbt_client::{Answer, Question, ask_here};
 use nbt_name::{Addr, Name};
+use nbt_port::Fault;
 use std::net::{Net, TcpListener, TcpStream};
 use std::process::Abort;
 use std::rt::Files;

@@ -2,12 +2,12 @@
 
 use super::expect::{expect, expect_eq, expect_eq_in};
 use arrayvec::ArrayVec;
-use nbt_engine::{
-    Counts, Datagram, Device, MemoryClock, MemoryPort, Port, Seen, Want, node_turn, serve_turns,
-};
+use nbt_client::{Seen, Want, node_turn};
 use nbt_lease::Moment;
 use nbt_name::{Addr, Kind, Name};
+use nbt_nbns::{Counts, serve_turns};
 use nbt_node::{AskFault, Node};
+use nbt_port::{Datagram, Device, MemoryClock, MemoryPort, Port};
 use nbt_rows::{
     FOUND, GRANTED, NOT_FOUND, QUERY, REFRESH, REFUSED, REGISTRATION, RIVAL, Row, clock, config,
     expect_sent, moment, octets, port, registration_of_many, started,

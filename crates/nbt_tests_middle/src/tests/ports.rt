@@ -2,8 +2,8 @@
 
 use super::expect::{expect, expect_eq, expect_eq_in};
 use arrayvec::ArrayVec;
-use nbt_engine::{Clock, Device, MachineClock, Port, UdpPort};
 use nbt_name::Addr;
+use nbt_port::{Clock, Device, MachineClock, Port, UdpPort};
 use nbt_rows::moment;
 use std::cell::Cell;
 use std::process::Abort;

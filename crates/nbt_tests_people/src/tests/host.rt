@@ -3,11 +3,12 @@
 
 use super::expect::{expect, expect_eq, expect_eq_in, expect_in};
 use arrayvec::ArrayVec;
-use nbt_engine::{Datagram, Device, MemoryClock, MemoryPort, Port, Want};
+use nbt_client::Want;
 use nbt_host::{Clocks, Goal, News, Reading, Stage, give_back, host_turn, waking_turn};
 use nbt_lease::Moment;
 use nbt_name::{Addr, Kind, Name};
 use nbt_node::Node;
+use nbt_port::{Datagram, Device, MemoryClock, MemoryPort, Port};
 use nbt_rows::{Row, clock, config, expect_sent, moment, octets, port, started};
 use nbt_server::Server;
 use std::collections::VecDeque;

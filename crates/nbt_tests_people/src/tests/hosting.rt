@@ -2,12 +2,13 @@
 //! lease 60 s, which is held for 59,878 ms, all started at 0, when it was 2026-11-24T09:11:03Z.
 
 use super::expect::{expect, expect_eq, expect_eq_in};
-use nbt_engine::{Fault, MemoryClock, MemoryPort, Port, UdpPort, Want};
-use nbt_host::{Clocks, Goal, News, Refusal, Stage};
-use nbt_hosting::{
-    Event, HostArguments, host_over, run_host, write_begin, write_endings, write_event, write_turn,
+use nbt_client::Want;
+use nbt_host::{
+    Clocks, Event, Goal, HostArguments, News, Refusal, Stage, host_over, run_host, write_begin,
+    write_endings, write_event, write_turn,
 };
 use nbt_name::{Addr, Kind, Name};
+use nbt_port::{Fault, MemoryClock, MemoryPort, Port, UdpPort};
 use nbt_rows::{Row, clock, config, expect_sent, moment, port};
 use std::process::Abort;
 use std::test::Fail;

@@ -3,8 +3,8 @@
 
 use super::expect::{expect_eq, expect_eq_in};
 use arrayvec::ArrayVec;
-use nbt_journal::{Dates, Entry, Limiter, write_entry, write_leases, write_time};
 use nbt_lease::{Lease, Moment};
+use nbt_log::{Dates, Entry, Limiter, write_entry, write_leases, write_time};
 use nbt_name::{Addr, Kind, Name};
 use nbt_rows::{GRANTED, QUERY, REFRESH, REGISTRATION, RELEASE, RIVAL, moment, octets, started};
 use nbt_server::{Claim, Outcome, Refusal};

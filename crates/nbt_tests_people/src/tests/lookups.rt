@@ -2,11 +2,10 @@
 
 use super::expect::{expect, expect_eq, expect_eq_in};
 use arrayvec::ArrayVec;
-use nbt_ask::{Answer, ask, patience_of};
-use nbt_engine::{Fault, Port};
-use nbt_lookup::{Ending, Question, look_up};
+use nbt_client::{Answer, Ending, Question, ask, look_up, patience_of};
 use nbt_name::{Addr, Name};
 use nbt_node::{LookupFault, Node};
+use nbt_port::{Fault, Port};
 use nbt_rows::{Row, clock, config, expect_sent, moment, octets, port};
 use std::process::Abort;
 use std::test::Fail;

@@ -2,14 +2,14 @@
 //! at 0. At its moment 60,000 it was 2026-11-24T09:12:03Z.
 
 use super::expect::{expect, expect_eq, expect_eq_in};
-use nbt_engine::{Fault, MemoryClock, MemoryPort, Port, UdpPort};
-use nbt_journal::Dates;
 use nbt_lease::Config;
+use nbt_log::Dates;
 use nbt_name::Addr;
 use nbt_nbns::{
     FilePlace, Journal, Judged, Keeper, Logger, MemoryPlace, NbnsArguments, Place, judge, run_nbns,
     watch_on, write_begin, write_refusal, write_warning,
 };
+use nbt_port::{Fault, MemoryClock, MemoryPort, Port, UdpPort};
 use nbt_rows::{
     GRANTED, QUERY, REFRESH, REFUSED, REGISTRATION, RELEASE, RIVAL, Row, clock, config,
     expect_sent, moment, port, started,

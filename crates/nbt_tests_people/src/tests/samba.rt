@@ -3,10 +3,10 @@
 
 use super::expect::{expect, expect_eq, expect_eq_in, expect_in};
 use arrayvec::ArrayVec;
-use nbt_engine::{Counts, Device, MemoryClock, Port, UdpPort, serve_turns};
 use nbt_name::Addr;
+use nbt_nbns::{Counts, SambaPort, serve_turns, take_registration};
+use nbt_port::{Device, MemoryClock, Port, UdpPort};
 use nbt_rows::{EVERY_KIND, clock, expect_sent, octets, port, started};
-use nbt_samba::{SambaPort, take_registration};
 use nbt_server::Server;
 use std::process::Abort;
 use std::test::Fail;

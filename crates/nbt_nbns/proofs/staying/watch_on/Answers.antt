@@ -1,8 +1,8 @@
 use Rattle.std.proofs.Common.{arith, ◌+◌, ◌≤◌, refl, sym, ◌∙◌, inr}
 use Rattle.std.proofs.lemmas.Bool.{false≢true}
 use Rattle.std.proofs.lemmas.Result.{err_from_is_err_and}
-use Rattle.nbt_net.proofs.Outcomes.{goes_none, row_over, row_longer}
-use Rattle.nbt_net.specs.declared.limits.TheConstants.{FOREVER}
+use Rattle.nbt_port.proofs.Outcomes.{goes_none, row_over, row_longer}
+use Rattle.nbt_port.specs.declared.limits.TheConstants.{FOREVER}
 use Rattle.nbt_nbns.specs.Watching.{WatchesOn, BreaksWatching}
 use Rattle.nbt_nbns.proofs.staying.watch_on.Goals as goal
 use Rattle.nbt_nbns.proofs.staying.watch_on.Goals.{in-Ok+else-is_over, in-Err+in_ok-goes_on-in-Err}

@@ -1,6 +1,6 @@
 use Rattle.std.proofs.Common.{◌+◌, ◌≤◌, ◌<◌}
-use Rattle.nbt_net.specs.Staying.{Goes}
-use Rattle.nbt_net.specs.declared.limits.TheConstants.{MOST_FAILURES}
+use Rattle.nbt_port.specs.Staying.{Goes}
+use Rattle.nbt_port.specs.declared.limits.TheConstants.{MOST_FAILURES}
 use Rattle.nbt_nbns.specs.Watching.{WatchesOn, BreaksWatching}
 use Rattle.nbt_nbns.proofs.staying.watch_on.Given as goal
 
