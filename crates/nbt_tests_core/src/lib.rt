@@ -1,5 +1,4 @@
-//! What the calls of the lowest crates do, by worked rows: tests from without, and nothing else. `crates.txt` has which
-//! crates these are.
+//! Names, packets, leases, the server, the node, datagrams, sessions and the world, tested from without by worked rows.
 //!
 //! A crate with tests is proved twice, and a row in a table costs the prover little: so the tests stand here, as tables.
 #![tactic(auto)]

@@ -1,12 +1,11 @@
 //! One file for each subject.
 
 mod expect;
-mod explain;
 mod host;
 mod hosting;
-mod journal;
+mod log;
 mod lookups;
 mod nbns;
-mod replies;
+mod ports;
 mod samba;
-mod spelling;
+mod turns;

@@ -62,7 +62,7 @@ fn expect_said<R: Abort + AllocGlobal + Net + Clock + Files>(rt: &R, row: &Row) 
 }
 
 #[test]
-fn refused_memory_and_words_that_can_not_be_read_are_said(rt: HostRuntime) {
+fn memory_that_is_refused_and_words_that_can_not_be_read_are_said(rt: HostRuntime) {
     for row in &WORDS {
         expect_said(&rt, row);
     }

@@ -11,7 +11,9 @@ mod leases;
 mod names;
 mod node;
 mod packets;
+mod server;
 mod sessions;
+mod world;
 
 /// The sixteen octets of names: FRED's and TEAM's, filled with spaces, and of the name that stands for all.
 const FRED: &[u8; 16] = b"FRED            ";

@@ -6,7 +6,7 @@ use Does::{
     Advance, Ask, Crash, Deliver, Join, NameStatus, Poll, Release, Resolve, Start, Stranger, Tick,
 };
 use nbt_name::{Addr, Kind, Name};
-use nbt_rows::{EVERY_KIND, REGISTRATION, config, octets, registration_of_many};
+use nbt_testing::{EVERY_KIND, REGISTRATION, config, octets, registration_of_many};
 use nbt_world::Outcome::{self, Done, Down, Lost, Nobody, Nothing, Refused, Sent, Taken};
 use nbt_world::{Event, OutOfMemory, World};
 use std::process::Abort;

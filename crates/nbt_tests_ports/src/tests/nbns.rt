@@ -10,7 +10,7 @@ use nbt_nbns::{
     watch_on, write_begin, write_refusal, write_warning,
 };
 use nbt_port::{Fault, MemoryClock, MemoryPort, Port, UdpPort};
-use nbt_rows::{
+use nbt_testing::{
     GRANTED, QUERY, REFRESH, REFUSED, REGISTRATION, RELEASE, RIVAL, Row, clock, config,
     expect_sent, moment, port, started,
 };

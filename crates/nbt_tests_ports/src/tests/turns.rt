@@ -8,7 +8,7 @@ use nbt_name::{Addr, Kind, Name};
 use nbt_nbns::{Counts, serve_turns};
 use nbt_node::{AskFault, Node};
 use nbt_port::{Datagram, Device, MemoryClock, MemoryPort, Port};
-use nbt_rows::{
+use nbt_testing::{
     FOUND, GRANTED, NOT_FOUND, QUERY, REFRESH, REFUSED, REGISTRATION, RIVAL, Row, clock, config,
     expect_sent, moment, octets, port, registration_of_many, started,
 };

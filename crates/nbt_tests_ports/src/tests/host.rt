@@ -9,7 +9,7 @@ use nbt_lease::Moment;
 use nbt_name::{Addr, Kind, Name};
 use nbt_node::Node;
 use nbt_port::{Datagram, Device, MemoryClock, MemoryPort, Port};
-use nbt_rows::{Row, clock, config, expect_sent, moment, octets, port, started};
+use nbt_testing::{Row, clock, config, expect_sent, moment, octets, port, started};
 use nbt_server::Server;
 use std::collections::VecDeque;
 use std::process::Abort;

@@ -1,7 +1,7 @@
 //! What is told of replies to lookups. The expected lines are those of RFC 1002 sections 4.2.13, 4.2.14 and 4.2.18, read by hand.
 
 use super::expect::{expect_eq, expect_eq_in};
-use nbt_rows::octets;
+use nbt_testing::octets;
 use nbt_show::{Reply, rcode_words, write_reply};
 use std::process::Abort;
 use std::test::Fail;
@@ -158,9 +158,9 @@ fn octets_that_are_no_replies(rt: HostRuntime) -> Result<(), Fail> {
         &[
             ("-", Reply::Other, ""),
             ("0008 8580 reply FRED", Reply::Other, ""),
-            (nbt_rows::QUERY, Reply::Other, ""),
-            (nbt_rows::GRANTED, Reply::Other, ""),
-            (nbt_rows::REFUSED, Reply::Other, ""),
+            (nbt_testing::QUERY, Reply::Other, ""),
+            (nbt_testing::GRANTED, Reply::Other, ""),
+            (nbt_testing::REFUSED, Reply::Other, ""),
             // An entry that is not whole.
             (
                 "0008 8580 reply FRED NB 1s 0005 2000 7f0000",

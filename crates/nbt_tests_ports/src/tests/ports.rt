@@ -4,7 +4,7 @@ use super::expect::{expect, expect_eq, expect_eq_in};
 use arrayvec::ArrayVec;
 use nbt_name::Addr;
 use nbt_port::{Clock, Device, MachineClock, Port, UdpPort};
-use nbt_rows::moment;
+use nbt_testing::moment;
 use std::cell::Cell;
 use std::process::Abort;
 use std::test::Fail;

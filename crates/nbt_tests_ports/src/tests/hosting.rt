@@ -9,7 +9,7 @@ use nbt_host::{
 };
 use nbt_name::{Addr, Kind, Name};
 use nbt_port::{Fault, MemoryClock, MemoryPort, Port, UdpPort};
-use nbt_rows::{Row, clock, config, expect_sent, moment, port};
+use nbt_testing::{Row, clock, config, expect_sent, moment, port};
 use std::process::Abort;
 use std::test::Fail;
 use std::time;

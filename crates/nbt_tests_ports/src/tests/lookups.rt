@@ -6,7 +6,7 @@ use nbt_client::{Answer, Ending, Question, ask, look_up, patience_of};
 use nbt_name::{Addr, Name};
 use nbt_node::{LookupFault, Node};
 use nbt_port::{Fault, Port};
-use nbt_rows::{Row, clock, config, expect_sent, moment, octets, port};
+use nbt_testing::{Row, clock, config, expect_sent, moment, octets, port};
 use std::process::Abort;
 use std::test::Fail;
 

@@ -6,7 +6,7 @@ use arrayvec::ArrayVec;
 use nbt_lease::{Lease, Moment};
 use nbt_log::{Dates, Entry, Limiter, write_entry, write_leases, write_time};
 use nbt_name::{Addr, Kind, Name};
-use nbt_rows::{GRANTED, QUERY, REFRESH, REGISTRATION, RELEASE, RIVAL, moment, octets, started};
+use nbt_testing::{GRANTED, QUERY, REFRESH, REGISTRATION, RELEASE, RIVAL, moment, octets, started};
 use nbt_server::{Claim, Outcome, Refusal};
 use nbt_text::parse_name;
 use std::process::Abort;

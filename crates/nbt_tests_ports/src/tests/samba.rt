@@ -6,7 +6,7 @@ use arrayvec::ArrayVec;
 use nbt_name::Addr;
 use nbt_nbns::{Counts, SambaPort, serve_turns, take_registration};
 use nbt_port::{Device, MemoryClock, Port, UdpPort};
-use nbt_rows::{EVERY_KIND, clock, expect_sent, octets, port, started};
+use nbt_testing::{EVERY_KIND, clock, expect_sent, octets, port, started};
 use nbt_server::Server;
 use std::process::Abort;
 use std::test::Fail;

@@ -4,20 +4,28 @@ use arrayvec::ArrayVec;
 use std::io;
 use std::io::Write;
 
+mod drawings;
 mod ending;
 mod expect;
+mod explain;
 mod failures;
 mod hosts;
+mod lines;
+mod lookups;
 mod looping;
 mod machine;
 mod nbns;
 mod network;
-mod people;
+mod printing;
 mod reasons;
 mod release;
+mod replies;
+mod scripts;
 mod serving;
+mod spelling;
 mod street;
 mod terminal;
+mod texts;
 
 /// The most that a test prints.
 const ROOM: usize = 8192;

@@ -3,7 +3,7 @@
 
 use super::expect::{expect, expect_eq, expect_eq_in, expect_in};
 use nbt_name::Addr;
-use nbt_rows::{EVERY_KIND, octets};
+use nbt_testing::{EVERY_KIND, octets};
 use nbt_show::{write_dgram, write_packet, write_session, write_verdicts};
 use nbt_text::{octets_of, parse_address, parse_number, words_of, write_hexadecimal};
 use std::process::Abort;
