@@ -1,14 +1,7 @@
 -- At each place stands one name or one fault: paths end, and a wire form is read back.
-use Rattle.std.proofs.Common.{◌≡◌, ℕ, suc, ◌+◌, ◌-◌, ◌*◌, ◌<◌, ◌≤◌, List, [], ◌∷◌, ◌++◌, length, Result, Ok, Err, sym, ap, subst, ◌∙◌, arith, Option, Some, refl}
-use Rattle.std.specs.Prelude.{slice_range, unwrap_or, ◌↔◌, IfOk, IfErr}
-use Rattle.std.proofs.Math.Nat.{mul-le-mul_right}
-use Rattle.std.proofs.lemmas.List.{length-append, append-nil}
-use Rattle.nbt_name.specs.declared.fault.NameFault.{NameFault}
-use Rattle.nbt_name.specs.declared.form.Form.{Form}
-use Rattle.nbt_name.specs.Wire.{NameValue, wire}
-use Rattle.nbt_name.specs.Reading.{Spot, Step, letters_pass, label_passes, pointer_leads, Stands, Fails, Path, here, onward}
+use Rattle.std.proofs.Common.{◌≡◌, ℕ, suc, ◌+◌, ◌-◌, ◌*◌, ◌<◌, ◌≤◌, List, [], ◌∷◌, ◌++◌, length, Result, Ok, Err, sym, ap, ◌∙◌, arith, Option, Some, refl}
+use Rattle.nbt_name.proofs.Common.{slice_range, unwrap_or, IfOk, mul-le-mul_right, length-append, append-nil, NameFault, Form, NameValue, wire, Spot, Step, letters_pass, label_passes, pointer_leads, Stands, Fails, Path, here, onward, None}
 use Rattle.nbt_name.proofs.Looks.{found_within}
-use Rattle.std.specs.Prelude.{None}
 use Rattle.nbt_name.proofs.Walk.{fault_is_one, end_is_one, no_end_and_fault}
 use Rattle.nbt_name.proofs.WireForms.{wire_apart}
 
@@ -26,24 +19,6 @@ one_fault form octets place f g a b = fault_is_one f g a.path a.stuck b.path b.s
 
 pub not_both : (form : Form) (octets : List ℕ) (place : ℕ) (n : NameValue) (x : ℕ) (f : NameFault) → Stands form octets place n x → Fails form octets place f → ⊥
 not_both form octets place n x f a b = no_end_and_fault f a.path a.closes.later a.closes.zero b.path b.stuck
-
--- what a reader answers is what stands there
-pub Answers : Form → List ℕ → ℕ → Result (NameValue × ℕ) NameFault → Type 0
-Answers form octets place r = IfOk r (λ read. Stands form octets place read.0 read.1) × IfErr r (Fails form octets place)
-
-pub name_iff : (form : Form) (octets : List ℕ) (place : ℕ) (r : Result (NameValue × ℕ) NameFault) → IfOk r (λ read. Stands form octets place read.0 read.1) → IfErr r (Fails form octets place)
-    → (name : NameValue) (next : ℕ) → (r ≡ Ok (name, next)) ↔ Stands form octets place name next
-name_iff form octets place (Ok read) a b name next = (
-  λ e. let same : read ≡ (name, next) = cc in subst (λ (p : NameValue × ℕ). Stands form octets place p.0 p.1) same a,
-  λ s. let same = one_name form octets place read.0 name read.1 next a s in ap {B = Result (NameValue × ℕ) NameFault} Ok (λ i. (same.0 i, same.1 i)),
-)
-name_iff form octets place (Err f) a b name next = (λ e. absurd cc, λ s. absurd (not_both form octets place name next f s b))
-
-pub fault_iff : (form : Form) (octets : List ℕ) (place : ℕ) (r : Result (NameValue × ℕ) NameFault) → IfOk r (λ read. Stands form octets place read.0 read.1) → IfErr r (Fails form octets place)
-    → (fault : NameFault) → (r ≡ Err fault) ↔ Fails form octets place fault
-fault_iff form octets place (Ok read) a b fault = (λ e. absurd cc, λ s. absurd (not_both form octets place read.0 read.1 fault a s))
-fault_iff form octets place (Err f) a b fault =
-    (λ e. let same : f ≡ fault = cc in subst (Fails form octets place) same b, λ s. ap {B = Result (NameValue × ℕ) NameFault} Err (one_fault form octets place f fault b s))
 
 -- ---- steps come to an end
 

@@ -1,14 +1,6 @@
 -- At each place stands a name or a fault: a reader that looks finds a step, the end or a fault, and its steps come to an end.
 use Rattle.std.proofs.Common.{◌≡◌, ◌≢◌, ℕ, zero, suc, ◌+◌, ◌<◌, ◌≤◌, List, [], ◌∷◌, ◌++◌, length, Option, Some, None, refl, ap, arith, inl, inr}
-use Rattle.std.specs.Prelude.{slice_get, slice_index, unwrap_or, ◌⊎◌}
-use Rattle.std.proofs.lemmas.Bool.{cases_lt, cases_eq}
-use Rattle.std.proofs.lemmas.List.{get_or_past}
-use Rattle.std.proofs.lemmas.Option.{slice_get_past}
-use Rattle.nbt_name.specs.declared.fault.NameFault.{NameFault}
-use Rattle.nbt_name.specs.declared.form.Form.{Form}
-use Rattle.nbt_name.specs.declared.form.Form.TheVariants.{Plain, Compressed}
-use Rattle.nbt_name.specs.Wire.{NameValue, AreOctets}
-use Rattle.nbt_name.specs.Reading.{Spot, Finds, IsFirst, IsLater, IsLetter, LettersAt, target, start, Step, letters_pass, label_passes, pointer_leads, Path, here, onward, Stands, other_octet, octets_end, Stuck, missing, first_label_bad, letters_bad, label_bad, label_long, label_cut, pointer_plain, pointer_cut, pointer_onward, Fails}
+use Rattle.nbt_name.proofs.Common.{slice_get, slice_index, unwrap_or, ◌⊎◌, cases_lt, cases_eq, get_or_past, slice_get_past, NameFault, Form, Plain, Compressed, NameValue, AreOctets, Spot, Finds, IsFirst, IsLater, IsLetter, LettersAt, target, start, Step, letters_pass, label_passes, pointer_leads, Path, here, onward, Stands, other_octet, octets_end, Stuck, missing, first_label_bad, letters_bad, label_bad, label_long, label_cut, pointer_plain, pointer_cut, pointer_onward, Fails}
 use Rattle.nbt_name.proofs.Seen.{letters_or_bad}
 use Rattle.nbt_name.proofs.Looks.{found_within}
 use Rattle.nbt_name.proofs.WireForms.{IsPassed, nothing, labels, step_passed}

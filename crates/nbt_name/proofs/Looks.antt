@@ -1,7 +1,6 @@
 -- What `get` returns, as `slice_get`.
 use Rattle.std.proofs.Common.{◌≡◌, ℕ, ◌<◌, List, length, get_or, Some, None, sym, ltb, true, false, zero, suc, ◌∷◌, [], drop, arith, ltb-true, ltb-false}
-use Rattle.std.specs.Prelude.{slice_get}
-use Rattle.std.proofs.lemmas.Option.{slice_get-get_or, slice_get_past}
+use Rattle.nbt_name.proofs.Common.{slice_get, slice_get-get_or, slice_get_past}
 
 pub none_at : (xs : List ℕ) (i : ℕ) → false ≡ ltb i (length xs) → slice_get xs i ≡ None
 none_at xs i e = slice_get_past xs i (ltb-false i (length xs) (sym e))

@@ -1,12 +1,6 @@
 -- Wire forms: none begins another, and what is passed on a path begins one.
 use Rattle.std.proofs.Common.{◌≡◌, ℕ, zero, suc, ◌+◌, ◌-◌, ◌*◌, ◌<◌, ◌≤◌, List, [], ◌∷◌, ◌++◌, length, take, drop, refl, sym, ap, subst, ◌∙◌, arith, append_assoc, inl, inr}
-use Rattle.std.specs.Prelude.{slice_range}
-use Rattle.std.proofs.lemmas.Bool.{cases_lt}
-use Rattle.std.proofs.lemmas.List.{length-append, length-take, length-drop, take_at, drop_at, get_or-take, get_or-drop, get_or_past, append-nil}
-use Rattle.nbt_name.specs.declared.form.Form.{Form}
-use Rattle.nbt_name.specs.Scope.{IsScope, empty, label}
-use Rattle.nbt_name.specs.Wire.{NameValue, IsName, AreOctets, letters, name_of, wire}
-use Rattle.nbt_name.specs.Reading.{Spot, LettersAt, Step, letters_pass, label_passes, pointer_leads, Path, here, onward}
+use Rattle.nbt_name.proofs.Common.{slice_range, cases_lt, length-append, length-take, length-drop, take_at, drop_at, get_or-take, get_or-drop, get_or_past, append-nil, Form, IsScope, empty, label, NameValue, IsName, AreOctets, letters, name_of, wire, Spot, LettersAt, Step, letters_pass, label_passes, pointer_leads, Path, here, onward}
 use Rattle.nbt_name.proofs.Letters.{length-letters, letters_spell, letters_apart, AreLetters}
 use Rattle.nbt_name.proofs.Scopes.{IsScope-push}
 
