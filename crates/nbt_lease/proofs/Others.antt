@@ -1,6 +1,6 @@
 -- What a grant and a release leave to other addresses, and what a grant leaves to the requester.
 use Rattle.std.proofs.Common.{◌≡◌, ◌≢◌, ℕ, ◌⊎◌, ◌↔◌, List, [], ◌∷◌, ◌++◌, Result, Ok, max, refl, sym, ap, ◌∙◌, subst, inl, inr, ⊎_elim, arith}
-use Rattle.nbt_lease.proofs.Common.{AllByRecursion, Contains, cond-true, cases_lt, Contains-append_left, Contains-append_right, Contains-append_cases, Contains-push, Contains-push_cases, NameValue, same_name, Group, Lease, Grant, Released, GrantFault, ConfigValue, Leases, TableValue, leases_at, live_count, at_name, AreGroup, AreApart, IsSound, Asked, IsAllowed, free, member, owner, end_of, GrantCase, renews, begins, Grants, renewed, begun, IsGranted, ReleaseCase, gone, Releases}
+use Rattle.nbt_lease.proofs.Common.{AllByRecursion, Contains, cond-true, cases_lt, Contains-append_left, Contains-append_right, Contains-append_cases, Contains-push, Contains-push_cases, NameValue, same_name, Group, Lease, Grant, Released, GrantFault, ConfigValue, Leases, TableValue, leases_at, live_count, at_name, AreGroup, AreApart, IsSound, Asked, IsAllowed, free, member, owner, end_of, GrantCase, renews, begins, Grants, renewed, begun, IsGranted, ReleaseCase, gone, Releases, All-contains, All-from_recursion}
 use Rattle.nbt_name.proofs.Same.{same_name-same}
 use Rattle.nbt_lease.proofs.Sound.{all_behind, alone, sound_after_grant}
 use Rattle.nbt_lease.proofs.Cases.{one_own}
@@ -35,9 +35,7 @@ placed (x ∷ xs) lease h =
     (contains_cases x xs lease h)
 
 each : (P : Lease → Type 0) (leases : List Lease) (lease : Lease) → Contains leases lease → AllByRecursion P leases → P lease
-each P leases lease h all =
-    let p = placed leases lease h in
-    (all_behind P p.before (lease ∷ p.behind) (subst (AllByRecursion P) p.is all)).0
+each P leases lease h all = All-contains P leases lease (All-from_recursion P leases all) h
 
 -- nothing in one's place leaves the others, and so does another lease
 without_place : (before behind : List Lease) (old lease : Lease) → old ≢ lease → Contains (before ++ old ∷ behind) lease → Contains (before ++ behind) lease

@@ -1,6 +1,6 @@
 -- Leases stay sound: later, and after each case of a grant and a release.
 use Rattle.std.proofs.Common.{◌≡◌, ◌≢◌, ℕ, zero, suc, ◌≤◌, Bool, List, [], ◌∷◌, ◌++◌, Result, refl, sym, ap, ◌∙◌, subst, ⊎_elim, arith}
-use Rattle.nbt_lease.proofs.Common.{AllByRecursion, filter, cases_Bool, cond_both, length-filter, count_by-le-length, length-append, NameValue, same_name, Kind, Unique, Group, Lease, Grant, Released, GrantFault, ConfigValue, granted, Rows, Leases, TableValue, is_live, leases_at, live_count, at_name, HasNone, AreApart, AreOneKind, latest_end, AreSound, IsSound, group, unique, Asked, IsAllowed, free, member, owner, GrantCase, renews, begins, Grants, end_of, renewed, begun, ReleaseCase, gone, Releases}
+use Rattle.nbt_lease.proofs.Common.{AllByRecursion, filter, cases_Bool, cond_both, length-filter, count_by-le-length, length-append, NameValue, same_name, Kind, Unique, Group, Lease, Grant, Released, GrantFault, ConfigValue, granted, Rows, Leases, TableValue, is_live, leases_at, live_count, at_name, HasNone, AreApart, AreOneKind, latest_end, AreSound, IsSound, group, unique, Asked, IsAllowed, free, member, owner, GrantCase, renews, begins, Grants, end_of, renewed, begun, ReleaseCase, gone, Releases, recursion_from_All, All-append, All-from_recursion, All-filter}
 use Rattle.nbt_lease.proofs.Rows.{later_is, none_live}
 
 -- ---- what holds of each lease, in parts of a list
@@ -14,16 +14,10 @@ all_behind P [] ys h = h
 all_behind P (x ∷ xs) ys h = all_behind P xs ys h.1
 
 pub all_joined : (P : Lease → Type 0) (xs ys : List Lease) → AllByRecursion P xs → AllByRecursion P ys → AllByRecursion P (xs ++ ys)
-all_joined P [] ys h k = k
-all_joined P (x ∷ xs) ys h k = (h.0, all_joined P xs ys h.1 k)
+all_joined P xs ys h k = recursion_from_All P (xs ++ ys) (All-append P xs ys (All-from_recursion P xs h) (All-from_recursion P ys k))
 
 pub all_filter : (P : Lease → Type 0) (p : Lease → Bool) (xs : List Lease) → AllByRecursion P xs → AllByRecursion P (filter p xs)
-all_filter P p [] h = tt
-all_filter P p (x ∷ xs) h =
-    ⊎_elim
-    (λ kept. rw kept (h.0, all_filter P p xs h.1))
-    (λ left. rw left (all_filter P p xs h.1))
-    (cases_Bool (p x))
+all_filter P p xs h = recursion_from_All P (filter p xs) (All-filter p P xs (All-from_recursion P xs h))
 
 -- another lease in one's place
 pub all_replaced : (P : Lease → Type 0) (xs ys : List Lease) (old new : Lease) → (P old → P new) → AllByRecursion P (xs ++ old ∷ ys) → AllByRecursion P (xs ++ new ∷ ys)

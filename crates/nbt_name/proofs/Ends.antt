@@ -1,7 +1,6 @@
 -- At each place stands one name or one fault: paths end, and a wire form is read back.
 use Rattle.std.proofs.Common.{◌≡◌, ℕ, suc, ◌+◌, ◌-◌, ◌*◌, ◌<◌, ◌≤◌, List, [], ◌∷◌, ◌++◌, length, Result, Ok, Err, sym, ap, ◌∙◌, arith, Option, Some, refl}
-use Rattle.nbt_name.proofs.Common.{slice_range, unwrap_or, IfOk, mul-le-mul_right, length-append, append-nil, NameFault, Form, NameValue, wire, Spot, Step, letters_pass, label_passes, pointer_leads, Stands, Fails, Path, here, onward, None}
-use Rattle.nbt_name.proofs.Looks.{found_within}
+use Rattle.nbt_name.proofs.Common.{slice_range, unwrap_or, IfOk, mul-le-mul_right, length-append, append-nil, NameFault, Form, NameValue, wire, Spot, Step, letters_pass, label_passes, pointer_leads, Stands, Fails, Path, here, onward, None, slice_get_within}
 use Rattle.nbt_name.proofs.Walk.{fault_is_one, end_is_one, no_end_and_fault}
 use Rattle.nbt_name.proofs.WireForms.{wire_apart}
 
@@ -52,7 +51,7 @@ step_resumes : {form : Form} (octets : List ℕ) {s t : Spot} → Step form octe
 step_resumes octets (letters_pass first finds fits are) within r e = within r e
 step_resumes octets (label_passes n later finds low high room fits) within r e = within r e
 step_resumes octets {s} (pointer_leads high low compressed finds le at back) within r e =
-    kept s.resume (s.place + 2) r (omega (arith, found_within octets (s.place + 1) low at)) within e
+    kept s.resume (s.place + 2) r (omega (arith, slice_get_within octets (s.place + 1) low at)) within e
   where
     kept : (o : Option ℕ) (d r : ℕ) → d ≤ length octets → ((q : ℕ) → o ≡ Some q → q ≤ length octets) → Some (unwrap_or o d) ≡ Some r → r ≤ length octets
     kept None d r le h e = let same : d ≡ r = cc in omega arith
@@ -65,7 +64,7 @@ path_resumes octets (onward s t u step others) within = path_resumes octets othe
 pub next_within : (form : Form) (octets : List ℕ) (place : ℕ) (name : NameValue) (next : ℕ) → Stands form octets place name next → next ≤ length octets
 next_within form octets place name next stands =
     let spot : Spot = stands.spot in
-    after spot.resume (spot.place + 1) (omega (arith, found_within octets spot.place 0 stands.closes.zero)) (path_resumes octets stands.path (λ r e. absurd cc)) next stands.closes.next_is
+    after spot.resume (spot.place + 1) (omega (arith, slice_get_within octets spot.place 0 stands.closes.zero)) (path_resumes octets stands.path (λ r e. absurd cc)) next stands.closes.next_is
   where
     after : (o : Option ℕ) (d : ℕ) → d ≤ length octets → ((q : ℕ) → o ≡ Some q → q ≤ length octets) → (n : ℕ) → n ≡ unwrap_or o d → n ≤ length octets
     after None d le h n e = omega arith

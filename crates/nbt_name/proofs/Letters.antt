@@ -46,6 +46,10 @@ letters_are (o ∷ os) fit zero lt = let small : o < 256 = fit 0 in (omega arith
 letters_are (o ∷ os) fit (suc zero) lt = let small : o < 256 = fit 0 in (omega arith, omega arith)
 letters_are (o ∷ os) fit (suc (suc k)) lt = letters_are os (λ i. fit (suc i)) k (omega (arith, ap length (letters-cons o os)))
 
+pub octets_cons : (o : ℕ) (os : List ℕ) → o < 256 → AreOctets os → AreOctets (o ∷ os)
+octets_cons o os small fit zero = small
+octets_cons o os small fit (suc k) = fit k
+
 -- letters in pairs spell octets
 pub letters_spell : (n : ℕ) (ls : List ℕ) → length ls ≡ 2 * n → AreLetters ls → (os : List ℕ) × (length os ≡ n) × AreOctets os × (letters os ≡ ls)
 letters_spell zero [] e are = ([], refl, (λ k. omega arith), refl)
@@ -62,10 +66,6 @@ letters_spell (suc n) (a ∷ b ∷ ls) e are =
     let small : o < 256 = omega arith in
     (o ∷ rest.0, ap suc rest.1, octets_cons o rest.0 small rest.2, letters-cons o rest.0 ∙ both high low rest.3)
   where
-    octets_cons : (o : ℕ) (os : List ℕ) → o < 256 → AreOctets os → AreOctets (o ∷ os)
-    octets_cons o os small fit zero = small
-    octets_cons o os small fit (suc k) = fit k
-
     both : {x y x' y' : ℕ} {xs ys : List ℕ} → x ≡ x' → y ≡ y' → xs ≡ ys → x ∷ y ∷ xs ≡ x' ∷ y' ∷ ys
     both e f g = cc
 

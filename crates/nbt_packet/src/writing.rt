@@ -50,8 +50,8 @@ const QUESTION_NAME: u16 = 0xC00C;
 /// RDATA of WAIT FOR ACKNOWLEDGEMENT RESPONSE: the flags of the request that waits (RFC 1002 section 4.2.16).
 const WAITS: [u8; 2] = [0x29, 0x00];
 
-/// Leaves in `out` the message's one written form and nothing else (RFC 1002 section 4.2). `Full` (7) exactly where
-/// that form is longer than 576 octets; `out` is then empty. That the message fits is the caller's: `Message::fits`
+/// Leaves in `out` the message's one written form and nothing else (RFC 1002 section 4.2). Refused with `Full` (7) if that
+/// form is longer than 576 octets; `out` is then empty. The caller must ensure that the message fits: `Message::fits`
 /// tests it.
 pub fn encode(message: &Message<'_>, out: &mut ArrayVec<u8, 576>) -> Result<(), Full>
     requires { Fits (message_of message.now) }
@@ -107,7 +107,7 @@ pub fn encode(message: &Message<'_>, out: &mut ArrayVec<u8, 576>) -> Result<(), 
 }
 
 /// Leaves in `out` the message's one written form and nothing else: at most 576 octets, which spell that message (RFC 1002
-/// section 4.2.1). That the message fits, and has no more entries or names than have room, is the caller's.
+/// section 4.2.1). The caller must ensure that the message fits, and that its entries or names do.
 pub fn write(message: &Message<'_>, out: &mut ArrayVec<u8, 576>)
     requires fits { Fits (message_of message.now) }
     requires row_count { HasFewRows (message_of message.now) }
@@ -255,7 +255,7 @@ fn put_status(out: &mut ArrayVec<u8, 576>, id: u16, name: &Name, names: &[u8]) -
     Ok(())
 }
 
-/// A response with one answer. `Full` where it is longer than 576 octets.
+/// A response with one answer. `Full` if it is longer than 576 octets.
 fn put_answer_packet(
     out: &mut ArrayVec<u8, 576>,
     id: u16,
@@ -345,8 +345,8 @@ fn put_record_fields(out: &mut ArrayVec<u8, 576>, rtype: u16, ttl: u32, rdlength
     put_word(out, rdlength);
 }
 
-/// The most entries of six octets for which a positive name query response has room in a datagram of 576 octets beside
-/// this name: 49 beside a wire form of 255 octets, 86 beside one of 34, the shortest (RFC 1002 section 4.2.13).
+/// The most entries of six octets that fit beside this name in a positive name query response of 576 octets: 49 beside a
+/// wire form of 255 octets, 86 beside one of 34, the shortest (RFC 1002 section 4.2.13).
 pub fn entries_most(name: &Name) -> usize
     ensures value { result ≡ spec.entries_most name.now }
     ensures bounds { (49 ≤ result) × (result ≤ 86) }
