@@ -81,15 +81,21 @@ pub fn encode(message: &Message<'_>, out: &mut ArrayVec<u8, 576>) -> Result<(), 
         ),
         Message::Registered {
             rcode,
-            registration,
-        } => return put_registered(out, *rcode, registration),
+            registration: r,
+        } => {
+            let flags = REGISTERED + u16::from(*rcode);
+            return put_entry_packet(out, r.id, flags, &r.name, r.ttl, r.kind, r.addr);
+        }
         Message::Released {
             id,
             rcode,
             name,
             kind,
             addr,
-        } => return put_released(out, *id, *rcode, name, *kind, *addr),
+        } => {
+            let flags = RELEASED + u16::from(*rcode);
+            return put_entry_packet(out, *id, flags, name, 0, *kind, *addr);
+        }
         Message::Found {
             id,
             name,
@@ -164,41 +170,23 @@ fn put_release(out: &mut ArrayVec<u8, 576>, id: u16, name: &Name, kind: Kind, ad
     put_claim_packet(out, RELEASE, &claim);
 }
 
-/// A registration's response, with its one entry (RFC 1002 sections 4.2.5 and 4.2.6).
-fn put_registered(out: &mut ArrayVec<u8, 576>, rcode: u8, r: &Registration) -> Result<(), Full>
-    requires empty { out.old.items ≡ [] }
-    requires rcode { rcode ≤ 15 }
-    ensures ok { OnOk result
-        (out.new.items ≡ answer_octets r.now.id (0xAD80 + rcode) r.now.name nb r.now.ttl (entry r.now.kind r.now.addr)) }
-    ensures full { IsErr result
-        ↔ (576 < length (answer_octets r.now.id (0xAD80 + rcode) r.now.name nb r.now.ttl (entry r.now.kind r.now.addr))) }
-    ensures empty { OnErr result (out.new.items ≡ []) }
-    ensures numbers { IsRegistration r.now }
-{
-    let flags = REGISTERED + u16::from(rcode);
-    let rdata = entry_octets(r.kind, r.addr);
-    put_answer_packet(out, r.id, flags, &r.name, NB, r.ttl, &rdata)
-}
-
-/// A release's response, with its one entry and a TTL of 0 (RFC 1002 sections 4.2.10 and 4.2.11).
-fn put_released(
+/// The response to a registration or a release, with one entry (RFC 1002 sections 4.2.5, 4.2.6, 4.2.10 and 4.2.11).
+fn put_entry_packet(
     out: &mut ArrayVec<u8, 576>,
     id: u16,
-    rcode: u8,
+    flags: u16,
     name: &Name,
+    ttl: u32,
     kind: Kind,
     addr: u32,
 ) -> Result<(), Full>
-    requires empty { out.old.items ≡ [] }
-    requires rcode { rcode ≤ 15 }
-    ensures ok { OnOk result (out.new.items ≡ answer_octets id (0xB400 + rcode) name.now nb 0 (entry kind addr)) }
-    ensures full { IsErr result ↔ (576 < length (answer_octets id (0xB400 + rcode) name.now nb 0 (entry kind addr))) }
+    requires { out.old.items ≡ [] }
+    ensures ok { OnOk result (out.new.items ≡ answer_octets id flags name.now nb ttl (entry kind addr)) }
+    ensures full { IsErr result ↔ (576 < length (answer_octets id flags name.now nb ttl (entry kind addr))) }
     ensures empty { OnErr result (out.new.items ≡ []) }
     ensures name { IsName name.now }
 {
-    let flags = RELEASED + u16::from(rcode);
-    let rdata = entry_octets(kind, addr);
-    put_answer_packet(out, id, flags, name, NB, 0, &rdata)
+    put_answer_packet(out, id, flags, name, NB, ttl, &entry_octets(kind, addr))
 }
 
 /// The flags of a positive name query response (RFC 1002 section 4.2.13).
