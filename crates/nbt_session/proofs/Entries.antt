@@ -1,6 +1,8 @@
--- The entries of a listener: what stays of them, and which takes a call.
-use Rattle.std.proofs.Common.{◌≡◌, ◌≢◌, Bool, true, false, cond, List, [], ◌∷◌, refl, sym, subst}
+-- The entries of a listener, what stays of them, and whether the node holds a name.
+use Rattle.std.proofs.Common.{◌≡◌, ◌≢◌, Bool, true, false, cond, List, [], ◌∷◌, Option, Some, None, refl, sym, subst}
+use Rattle.std.specs.Prelude.{is_some}
 use Rattle.std.specs.List.Retain.{RetainsInTurn}
+use Rattle.nbt_name.specs.declared.addr.Kind.{Kind}
 use Rattle.nbt_name.specs.Wire.{NameValue}
 use Rattle.nbt_session.specs.declared.listener.Entry.{Entry}
 use Rattle.nbt_session.specs.Listener.{Without, empty, goes, stays}
@@ -23,3 +25,12 @@ retained R called f tests (x ∷ xs) ys h =
     let t = tests x h.0 h.1 h.2 h.3 in
     let later = subst (λ (g : _). RetainsInTurn R g xs h.4) t.same h.5 in
     subst (Without called (x ∷ xs)) (sym h.6) (retained_by called f x h.2 h.0 h.1 xs h.4 t (retained R called f tests xs h.4 later))
+
+-- whether the node holds a name
+pub kind_held : (o : Option Kind) → is_some o ≡ true → (kind : Kind) × (o ≡ Some kind)
+kind_held None e = absurd cc
+kind_held (Some kind) e = (kind, refl)
+
+pub none_held : (o : Option Kind) → is_some o ≡ false → o ≡ None
+none_held None e = refl
+none_held (Some kind) e = absurd cc

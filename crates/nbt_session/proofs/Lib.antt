@@ -1,4 +1,3 @@
-pub mod Answering
 pub mod Calls
 pub mod Cells
 pub mod Comings
