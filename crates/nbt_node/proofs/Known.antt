@@ -2,6 +2,7 @@
 use Rattle.std.proofs.Common.{◌≡◌, ◌≢◌, ℕ, zero, ◌<◌, true, false, cond, List, [], ◌∷◌, length, map, suc, get_or, Option, Some, None, refl, sym, ap, subst, ◌∙◌, arith, inl, inr}
 use Rattle.std.specs.Prelude.{◌⊎◌, ◌||◌, replicate}
 use Rattle.std.proofs.lemmas.Bool.{cond_both, or_parts, or_from, false≢true}
+use Rattle.std.proofs.lemmas.List.{ext_get_or, get_or-replicate, length-replicate}
 use Rattle.nbt_name.specs.Wire.{NameValue, same_name}
 use Rattle.nbt_name.proofs.Same.{same_name-same, same_name-other, name_tells}
 use Rattle.nbt_node.specs.declared.state.State.{State}
@@ -217,15 +218,10 @@ with_state-same xs name state apart room =
 
 -- ---- slots that are all free
 
-all_free_of : (xs : List (Option Slot)) → ((i : ℕ) → i < length xs → get_or xs i None ≡ None) → xs ≡ replicate (length xs) None
-all_free_of [] each = refl
-all_free_of (x ∷ xs) each =
-    let first : x ≡ None = each 0 (omega arith) in
-    let others : xs ≡ replicate (length xs) None = all_free_of xs (λ i h. each (suc i) (omega arith)) in
-    cc
-
 pub all_free : (xs : List (Option Slot)) (n : ℕ) → length xs ≡ n → ((i : ℕ) → i < n → get_or xs i None ≡ None) → xs ≡ replicate n None
-all_free xs n count each = all_free_of xs (λ i h. each i (omega arith)) ∙ ap (λ (k : ℕ). replicate k None) count
+all_free xs n count each =
+    ext_get_or None xs (replicate n None) (count ∙ sym (length-replicate {A = Option Slot} n None))
+    (λ i within. each i (omega (arith, count, within)) ∙ sym (get_or-replicate {A = Option Slot} n i None None (omega (arith, count, within))))
 
 distinct-free : (n : ℕ) → AreDistinct (replicate n None)
 distinct-free zero = tt

@@ -1,5 +1,6 @@
 -- A node as contracts see it: what it knows of each name, and its lookup (our profile; RFC 1001 section 15.2).
-use Rattle.std.specs.Prelude.{◌≡◌, ℕ, Bool, true, false, ◌||◌, nat_lt, is_some, if◌then◌else◌, List, [], ◌∷◌, map, Option, Some, None}
+use Rattle.std.specs.Prelude.{◌≡◌, ℕ, Bool, false, ◌||◌, nat_lt, is_some, is_none, if◌then◌else◌, List, [], ◌∷◌, map, Option, Some, None}
+use Rattle.std.specs.List.{list_any}
 use Rattle.nbt_name.specs.declared.addr.Addr.{Addr}
 use Rattle.nbt_name.specs.declared.addr.Kind.{Kind}
 use Rattle.nbt_name.specs.Wire.{NameValue, same_name}
@@ -35,9 +36,7 @@ is_in (None ∷ rest) name = is_in rest name
 is_in (Some slot ∷ rest) name = same_name slot.name name || is_in rest name
 
 abbrev pub has_room : List (Option Slot) → Bool
-has_room [] = false
-has_room (None ∷ rest) = true
-has_room (Some slot ∷ rest) = has_room rest
+has_room slots = list_any is_none slots
 
 -- no name has two slots
 abbrev pub AreDistinct : List (Option Slot) → Type 0

@@ -1,8 +1,10 @@
 -- Lines of the tables of callers and listeners, by what the code finds.
-use Rattle.std.proofs.Common.{◌≡◌, ◌≢◌, ℕ, ◌+◌, ◌<◌, ◌≤◌, Vec, refl, arith, inl, inr}
+use Rattle.std.proofs.Common.{◌≡◌, ◌≢◌, ℕ, ◌+◌, ◌<◌, ◌≤◌, true, false, Option, Some, None, Vec, refl, arith, inl, inr}
+use Rattle.std.specs.Prelude.{is_some}
 use Rattle.std.proofs.lemmas.Bool.{cases_lt}
 use Rattle.std.specs.Global.{Global}
 use Rattle.nbt_name.specs.declared.addr.Addr.{Addr}
+use Rattle.nbt_name.specs.declared.addr.Kind.{Kind}
 use Rattle.nbt_name.specs.Wire.{NameValue}
 use Rattle.nbt_session.specs.declared.caller.CallerState.{CallerState}
 use Rattle.nbt_session.specs.declared.caller.CallerState.TheVariants.{Connecting, Failed}
@@ -42,6 +44,15 @@ no_message _ none e = cc
 pub no_keep_alive : (p : Packet) → (p ≡ packets.KeepAlive → ⊥) → type_of (packet_of p) ≢ KeepAlive
 no_keep_alive packets.KeepAlive none e = none refl
 no_keep_alive _ none e = cc
+
+-- whether the node holds a name
+pub kind_held : (o : Option Kind) → is_some o ≡ true → (kind : Kind) × (o ≡ Some kind)
+kind_held None e = absurd cc
+kind_held (Some kind) e = (kind, refl)
+
+pub none_held : (o : Option Kind) → is_some o ≡ false → o ≡ None
+none_held None e = refl
+none_held (Some kind) e = absurd cc
 
 -- ---- one line at a time
 

@@ -2,7 +2,8 @@
 use Rattle.std.proofs.Common.{◌≡◌, ℕ, zero, suc, ◌+◌, ◌-◌, ◌≤◌, List, [], ◌∷◌, ◌++◌, length, take, drop, Option, Some, None, refl, sym, ap, ◌∙◌, arith, append_assoc, add-one}
 use Rattle.std.specs.Prelude.{slice_get, slice_range, unwrap_or}
 use Rattle.std.proofs.lemmas.List.{take-append-drop, drop-drop, drop_all, append-nil}
-use Rattle.std.proofs.lemmas.Option.{slice_get_within}
+use Rattle.std.proofs.Math.Seq.{drop-cons}
+use Rattle.std.proofs.lemmas.Option.{get_or_from_slice_get, slice_get_within}
 use Rattle.nbt_name.specs.declared.fault.NameFault.{NameFault}
 use Rattle.nbt_name.specs.declared.form.Form.{Form}
 use Rattle.nbt_name.specs.declared.form.Form.TheVariants.{Plain}
@@ -10,12 +11,7 @@ use Rattle.nbt_name.specs.Wire.{NameValue, IsName, wire}
 use Rattle.nbt_name.specs.Reading.{Spot, start, Step, letters_pass, label_passes, pointer_leads, Path, here, onward, PlainNameAt, PlainFaultAt, LetterFault, other_octet, octets_end, Stuck, missing, first_label_bad, letters_bad, label_bad, label_long, label_cut, pointer_plain, pointer_cut, pointer_onward}
 
 drop_found : (xs : List ℕ) (p x : ℕ) → slice_get xs p ≡ Some x → drop p xs ≡ x ∷ drop (p + 1) xs
-drop_found xs p x found = rw add-one (from xs p x found)
-  where
-    from : (xs : List ℕ) (p x : ℕ) → slice_get xs p ≡ Some x → drop p xs ≡ x ∷ drop (suc p) xs
-    from [] p x found = absurd cc
-    from (y ∷ ys) zero x found = cc
-    from (y ∷ ys) (suc p) x found = from ys p x found
+drop_found xs p x found = rw add-one (drop-cons xs p x (slice_get_within xs p x found) ∙ ap (λ (y : ℕ). y ∷ drop (suc p) xs) (get_or_from_slice_get xs p x x found))
 
 -- ---- faults
 

@@ -1,9 +1,9 @@
 -- The listener for sessions: RFC 1002 section 5.2.1 and our profile.
-use Rattle.std.specs.Prelude.{◌≡◌, ◌≢◌, ℕ, ◌<◌, ◌≤◌, Bool, true, false, List, [], ◌∷◌, slice_get, slice_set, Option, Some, None, All, Any, count_by}
-use Rattle.std.specs.List.{AllWithin}
+use Rattle.std.specs.Prelude.{◌≡◌, ◌≢◌, ℕ, ◌<◌, ◌≤◌, Bool, true, false, not, List, slice_get, slice_set, Option, Some, None, All, Any, count_by}
+use Rattle.std.specs.List.{AllWithin, filter}
 use Rattle.nbt_name.specs.declared.addr.Addr.{Addr}
 use Rattle.nbt_name.specs.declared.addr.Kind.{Kind}
-use Rattle.nbt_name.specs.Wire.{NameValue}
+use Rattle.nbt_name.specs.Wire.{NameValue, same_name}
 use Rattle.nbt_session.specs.declared.listener.Entry.{Entry}
 use Rattle.nbt_session.specs.declared.listener.ListenerAnswer.{ListenerAnswer}
 use Rattle.nbt_session.specs.declared.listener.ListenerAnswer.TheVariants as answers
@@ -27,12 +27,8 @@ pub data ListenerAnswerValue : Type 0 where
   up : List ℕ → ListenerAnswerValue
 
 -- without the entries of a name
-pub data Without (called : NameValue) : List Entry → List Entry → Type 0 where
-  empty : Without called [] []
-  goes : (entry : Entry) (old new : List Entry) → entry.called ≡ called → Without called old new
-      → Without called (entry ∷ old) new
-  stays : (entry : Entry) (old new : List Entry) → entry.called ≢ called → Without called old new
-      → Without called (entry ∷ old) (entry ∷ new)
+abbrev pub Without : NameValue → List Entry → List Entry → Type 0
+Without called old new = new ≡ filter (λ entry. not (same_name entry.called called)) old
 
 -- how many connections are open
 abbrev pub is_open : Slot → Bool

@@ -3,7 +3,7 @@
 ghost use Rattle.std.specs.Prelude.{◌≡◌, ◌≢◌, ℕ, ◌<◌, ◌≤◌, ◌↔◌, List, [], ◌∷◌, ◌++◌, length, replicate, Option, is_some, IfSome, IfNone, OnOk, OnErr, IsErr, IsTrue, All, Any};
 ghost use Rattle.std.specs.Bool.{OnTrue, OnFalse};
 ghost use Rattle.nbt_name.specs.declared.addr.Kind.{Kind};
-ghost use Rattle.nbt_name.specs.Wire.{NameValue};
+ghost use Rattle.nbt_name.specs.Wire.{NameValue, same_name};
 ghost use Rattle.nbt_node.specs.Node.{holds as node_holds};
 ghost use Rattle.nbt_session.specs.declared.listener.Entry.{Entry};
 ghost use Rattle.nbt_session.specs.declared.listener.Slot.TheVariants.{Free, Fresh, Open};
@@ -357,7 +357,8 @@ fn without<const L: usize>(entries: &mut ArrayVec<Entry, L>, called: &Name)
 }
 
 fn is_same(a: &Name, b: &Name) -> bool
-    ensures { IsTrue result ↔ (a.now ≡ b.now) }
+    ensures value { result ≡ same_name a.now b.now }
+    ensures same { IsTrue result ↔ (a.now ≡ b.now) }
 {
     a == b
 }

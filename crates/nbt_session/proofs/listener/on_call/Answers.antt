@@ -1,6 +1,6 @@
 use Rattle.std.proofs.Common.{sym, ◌∙◌, arith}
 use Rattle.nbt_session.specs.Listener.{name_is_not_present, nobody_listens, nobody_listens_for_it, too_many_are_open, goes_elsewhere, is_taken}
-use Rattle.nbt_session.proofs.Entries.{kind_held, none_held}
+use Rattle.nbt_session.proofs.Calls.{kind_held, none_held}
 use Rattle.nbt_session.proofs.listener.on_call.Goals as goal
 
 pub returns-then-not-held : goal.returns-then-not-held
