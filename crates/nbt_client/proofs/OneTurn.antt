@@ -5,7 +5,7 @@ use Rattle.nbt_node.specs.Node.{NodeValue}
 use Rattle.nbt_node.specs.Moves.{ask, replied}
 use Rattle.nbt_node.specs.Calls.{Polls, polls_name, polls_lookup, polls_nothing}
 use Rattle.nbt_node.specs.Datagrams.{Handles}
-use Rattle.nbt_node.specs.OneAnswer.{OneSending, OnePoll, OneHandling}
+use Rattle.nbt_node.proofs.OneCall.{OneSending, OnePoll, OneHandling}
 use Rattle.nbt_client.specs.declared.turning.Seen.{Seen}
 use Rattle.nbt_client.specs.declared.turning.Want.{Want}
 use Rattle.nbt_port.specs.PortCalls.{PortCall, nothing_came, came, receive_failed, sent, send_failed, Chain}
