@@ -92,7 +92,7 @@ first_numbers number lt =
     ∙ (λ i. record { ahead = 1000 * sym (zero_read number) i + 1001 * (2 ^ 60 - 0); behind = 999 * 0 + 1000 * (2 ^ 60 - sym (zero_read number) i) })
 
 pub is_fresh : (config : ConfigValue) (server : Addr) (others : List Addr) → length others ≤ 8 → IsFresh config (server ∷ others) (fresh config server others)
-is_fresh config server others few = record { now = refl; readings = zero_read; least = λ n e. first_numbers n (end_within server others few n e); kept = refl; config_is = refl; addrs_are = addrs_at server others; no_server = refl; no_node = none_at server others; nothing_sent = refl }
+is_fresh config server others few = record { now = refl; readings = zero_read; least = λ n e. first_numbers n (end_within server others few n e); kept = refl; config_is = refl; addrs_are = addrs_at server others; no_server = refl; none_crashed = refl; no_node = none_at server others; nothing_sent = refl }
 
 nothing_among : (d : Datagram) → Contains [] d → ⊥
 nothing_among d c = let lt = c.1 in absurd (omega arith)

@@ -2,6 +2,7 @@
 -- when one node changes, and when the server starts or crashes.
 use Rattle.std.proofs.Common.{◌≡◌, ℕ, suc, ◌+◌, ◌*◌, ◌<◌, ◌≤◌, Bool, true, false, cond, List, [], ◌∷◌, Option, Some, None, refl, sym, ap, subst, ◌∙◌, arith, inl, inr}
 use Rattle.std.specs.Prelude.{Contains, IsTrue, ◌⊎◌, filter}
+use Rattle.std.specs.Option.{option_or}
 use Rattle.std.proofs.lemmas.Bool.{lt-ltb, cases_eq}
 use Rattle.std.proofs.lemmas.List.Elements.{Contains-push_cases, Contains-append_cases, Contains-append_right}
 use Rattle.nbt_name.specs.declared.addr.Addr.{Addr}
@@ -18,7 +19,7 @@ use Rattle.nbt_world.specs.declared.clocks.Clocks.{Clocks}
 use Rattle.nbt_world.specs.declared.clocks.Least.{Least}
 use Rattle.nbt_world.specs.declared.network.Datagram.{Datagram}
 use Rattle.nbt_world.specs.Drift.{reading}
-use Rattle.nbt_world.specs.World.{WorldValue, addr_of, IsEnd, node_of, with_server, with_node}
+use Rattle.nbt_world.specs.World.{WorldValue, addr_of, IsEnd, node_of, latest, with_server, with_node}
 use Rattle.nbt_server.specs.Calls.{ServerStarts}
 use Rattle.nbt_world.specs.Inner.Kept.{Asked, Replied, known, RequestsEnded, RepliesFresh, Claims, has, may_get, Covers, ClaimsIn, IsCoveredIn, IsNodeOf, AreRead, IsSent, Invariant, ClaimsKept}
 use Rattle.nbt_world.proofs.Knowing.{Within, knows}
@@ -114,7 +115,7 @@ clock_claims law holds {w} {later} {lower} {still_kept} on_time le read all on =
           seconds = is.seconds;
           within = is.within;
           counted = is.counted;
-          backed = later_backs law (reading w.now 0) (reading later 0) w.ends.server a.ip name kind (reading is.moment 0 + 1000 * is.seconds) (le 0 (w.ends.server_addr, refl))
+          backed = later_backs law (reading w.now 0) (reading later 0) (latest w.ends) a.ip name kind (reading is.moment 0 + 1000 * is.seconds) (le 0 (w.ends.server_addr, refl))
               (hold_over holds read on all n (a, p) is.replied_is is.seconds (omega arith)) is.backed;
         }
 
@@ -176,21 +177,23 @@ node_kept adds x is names = node_changes adds x is (λ on name. (names on name).
 -- ---- the server starts, and crashes: the silence lasts as long as any claim
 
 -- the server is another, and nothing was sent
-pub server_claims : (w : WorldValue) (x : Option ServerValue) → Invariant w → IsTrue w.kept
-    → ((n : ℕ) (a : Addr) (name : NameValue) (kind : Kind) (end : ℕ) → addr_of w.ends n ≡ Some a → ClaimsIn w n a name kind end → reading w.now n < end → (is : IsCoveredIn w n a name kind end) → Covers (reading w.now 0) x a.ip name kind (reading is.moment 0 + 1000 * is.seconds))
-    → ClaimsKept (record w { ends = with_server w.ends x; sent = w.sent })
-server_claims w x kept on backs =
-    claims_frame w (record w { ends = with_server w.ends x; sent = w.sent }) (λ n a p. omega arith) (server_addr_with w.ends x)
-    (λ n a name kind end p c lt. subst (λ (z : Option NodeValue). Claims w.config.longest w.config.life w.now.clock (Replied w.sent w.ends.server_addr a name) (known z name) kind end) (server_node_with w.ends x n) c)
+pub server_claims : (w : WorldValue) (x y : Option ServerValue) → Invariant w → IsTrue w.kept
+    → ((n : ℕ) (a : Addr) (name : NameValue) (kind : Kind) (end : ℕ) → addr_of w.ends n ≡ Some a → ClaimsIn w n a name kind end → reading w.now n < end → (is : IsCoveredIn w n a name kind end) → Covers (reading w.now 0) (option_or x y) a.ip name kind (reading is.moment 0 + 1000 * is.seconds))
+    → ClaimsKept (record w { ends = with_server w.ends x y; sent = w.sent })
+server_claims w x y kept on backs =
+    claims_frame w (record w { ends = with_server w.ends x y; sent = w.sent }) (λ n a p. omega arith) (server_addr_with w.ends x y)
+    (λ n a name kind end p c lt. subst (λ (z : Option NodeValue). Claims w.config.longest w.config.life w.now.clock (Replied w.sent w.ends.server_addr a name) (known z name) kind end) (server_node_with w.ends x y n) c)
     (λ n a name kind end p c lt is.
     record { moment = is.moment; message = is.message; replied_is = is.replied_is; seconds = is.seconds; within = is.within; counted = is.counted; backed = backs n a name kind end p c lt is })
     (kept.claims on)
 
-pub crashed_claims : (w : WorldValue) → Invariant w → IsTrue w.kept → ClaimsKept (record w { ends = with_server w.ends None; sent = w.sent })
-crashed_claims w kept on = server_claims w None kept on (λ n a name kind end p c lt is. tt)
+-- the server crashes, or resumes: it is as it was
+pub same_claims : (w : WorldValue) (x y : Option ServerValue) → option_or x y ≡ latest w.ends → Invariant w → IsTrue w.kept → ClaimsKept (record w { ends = with_server w.ends x y; sent = w.sent })
+same_claims w x y same kept on =
+    server_claims w x y kept on (λ n a name kind end p c lt is. subst (λ (s : Option ServerValue). Covers (reading w.now 0) s a.ip name kind (reading is.moment 0 + 1000 * is.seconds)) (sym same) is.backed)
 
-pub started_claims : (w : WorldValue) (server : ServerValue) → Invariant w → IsTrue w.kept → ServerStarts w.config (reading w.now 0) server → ClaimsKept (record w { ends = with_server w.ends (Some server); sent = w.sent })
-started_claims w server kept on new = server_claims w (Some server) kept on backs
+pub started_claims : (w : WorldValue) (server : ServerValue) → Invariant w → IsTrue w.kept → ServerStarts w.config (reading w.now 0) server → ClaimsKept (record w { ends = with_server w.ends (Some server) None; sent = w.sent })
+started_claims w server kept on new = server_claims w (Some server) None kept on backs
   where
     backs : (n : ℕ) (a : Addr) (name : NameValue) (kind : Kind) (end : ℕ) → addr_of w.ends n ≡ Some a → ClaimsIn w n a name kind end → reading w.now n < end → (is : IsCoveredIn w n a name kind end)
         → Covers (reading w.now 0) (Some server) a.ip name kind (reading is.moment 0 + 1000 * is.seconds)

@@ -25,19 +25,19 @@ use Rattle.nbt_world.specs.declared.clocks.Clocks.{Clocks}
 use Rattle.nbt_world.specs.declared.ends.Ends.{Ends}
 use Rattle.nbt_world.specs.declared.network.Datagram.{Datagram}
 use Rattle.nbt_world.specs.Drift.{reading}
-use Rattle.nbt_world.specs.World.{WorldValue, IsDeliverable, addr_of, node_of, with_server, with_node, datagram}
+use Rattle.nbt_world.specs.World.{WorldValue, IsDeliverable, addr_of, node_of, latest, with_server, with_node, datagram}
 use Rattle.nbt_world.specs.Step.{NodeHandles, TakenValue, takes, after_taking, ServerDoes, server_takes, server_forgets, EndTakes, finds_down, by_server, by_node}
 use Rattle.nbt_world.specs.Inner.Kept.{IsRequest, IsReply, Asked, Replied, known, IsOpen, IsServerOf, Invariant}
 use Rattle.std.proofs.lemmas.List.Elements.{Contains-push_cases}
 use Rattle.nbt_world.proofs.Knowing.{Moved, Draws, fresh-reply}
 use Rattle.nbt_world.proofs.Claiming.{IsListed}
-use Rattle.nbt_world.proofs.Keeping.{Grows, asked_still, asked_before, addr_with, node_with_here, server_changes}
+use Rattle.nbt_world.proofs.Keeping.{Grows, asked_still, asked_before, addr_with, node_with_here, server_changes, latest-up}
 use Rattle.nbt_world.proofs.Covering.{NameKept}
 use Rattle.nbt_name.proofs.Same.{names_apart}
 use Rattle.nbt_world.specs.Inner.Handing.{Origin, listed, strange}
 use Rattle.nbt_world.proofs.Naming.{OneMessage, Laws, Sending, is_new, nothing_new, grows_by, UpAt, up_at, node_stays, stays_by_moves, adds_none, node_moves, kept_by_time, kept_hearing}
 use Rattle.nbt_world.proofs.Granting.{LeaseLaws}
-use Rattle.nbt_world.proofs.Served.{Took, served_claims, forgotten_claims}
+use Rattle.nbt_world.proofs.Served.{Took, served_claims, still_claims}
 use Rattle.nbt_world.proofs.Events.{passed, time_kept, other_kept}
 
 -- ---- a node hears something about a name
@@ -291,7 +291,7 @@ server_kept laws {w} {server} {new} is t = record {
       (serves_octets_sound laws (subst (λ (c : ConfigValue). IsSound c (reading w.now 0) (leases_at (reading w.now 0) server.table.rows)) (sym is.config_is) is.sound) t.serves);
 }
 
-took : {w : WorldValue} {server new : ServerValue} {from addr : Addr} {octets : List ℕ} {reply : Option MessageValue} {sent : List Datagram} → Handed w 0 from addr octets → w.ends.server ≡ Some server
+took : {w : WorldValue} {server new : ServerValue} {from addr : Addr} {octets : List ℕ} {reply : Option MessageValue} {sent : List Datagram} → Handed w 0 from addr octets → latest w.ends ≡ Some server
     → ServerTakes server (reading w.now 0) from.ip octets reply new → Grows w.sent sent
     → ((a : Addr) (q : NameValue) (moment : Clocks) (message : MessageValue) → Replied sent w.ends.server_addr a q moment message → Replied w.sent w.ends.server_addr a q moment message ⊎ ((moment ≡ w.now) × (from ≡ a) × (reply ≡ Some message)))
     → IsTrue w.kept → Took w server new from addr octets reply sent
@@ -309,16 +309,16 @@ took {w} {server} h up t grows more on =
       more = more;
     }
 
-server_takes_kept : Laws → LeaseLaws → {w : WorldValue} {server new : ServerValue} {from addr : Addr} {octets : List ℕ} {taken : TakenValue} → Handed w 0 from addr octets → w.ends.server ≡ Some server
-    → ServerDoes (reading w.now 0) server from.ip octets taken new → Invariant (after_taking w (with_server w.ends (Some new)) addr from taken)
+server_takes_kept : Laws → LeaseLaws → {w : WorldValue} {server new : ServerValue} {from addr : Addr} {octets : List ℕ} {taken : TakenValue} → Handed w 0 from addr octets → latest w.ends ≡ Some server
+    → ServerDoes (reading w.now 0) server from.ip octets taken new → Invariant (after_taking w (with_server w.ends (Some new) w.ends.crashed) addr from taken)
 server_takes_kept law laws {w} {server} {new} h up (server_takes None n t) =
-    server_changes w (Some new) w.sent h.kept (λ s e. subst (λ (x : ServerValue). IsServerOf w x) (same_Some new s e) (server_kept laws (h.kept.server server up) t)) (nothing_new w w.ends.server_addr) h.kept.replies
+    server_changes w (Some new) w.ends.crashed w.sent h.kept (λ s e. subst (λ (x : ServerValue). IsServerOf w x) (same_Some new s e) (server_kept laws (h.kept.server server up) t)) (nothing_new w w.ends.server_addr) h.kept.replies
     (λ on. served_claims laws (took h up t (λ d c. c) (λ a q moment message r. inl r) on))
 server_takes_kept law laws {w} {server} {new} {from} {addr} h up (server_takes (Some m) n t) =
     let d = datagram addr from w.now (text m) in
     let sending : Sending w w.ends.server_addr d m =
     record { from_is = sym (same_Some w.ends.server_addr addr h.at); now_is = refl; written = refl; spelled = t.spelled; no_overwrite = octets_no_overwrite t.serves } in
-    server_changes w (Some new) (w.sent ++ d ∷ []) h.kept (λ s e. subst (λ (x : ServerValue). IsServerOf w x) (same_Some new s e) (server_kept laws (h.kept.server server up) t)) (is_new law.one_message h.kept 0 refl sending)
+    server_changes w (Some new) w.ends.crashed (w.sent ++ d ∷ []) h.kept (λ s e. subst (λ (x : ServerValue). IsServerOf w x) (same_Some new s e) (server_kept laws (h.kept.server server up) t)) (is_new law.one_message h.kept 0 refl sending)
     (λ on n a name p.
     fresh-reply (h.kept.requests on n a name p) (asked_still (grows_by w.sent d)) (no_request_more h.kept sending n p)
     (λ moment message r.
@@ -329,8 +329,8 @@ server_takes_kept law laws {w} {server} {new} {from} {addr} h up (server_takes (
     (h.kept.replies on n a name p))
     (λ on. served_claims laws (took h up t (grows_by w.sent d) (λ a q moment message r. elim (replied_more law.one_message sending r) [ inl old ↦ inl old | inr is ↦ inr (is.0, is.1, ap Some (sym is.2)) ]) on))
 server_takes_kept law laws {w} {server} {new} h up (server_forgets n t) =
-    server_changes w (Some new) w.sent h.kept (λ s e. subst (λ (x : ServerValue). IsServerOf w x) (same_Some new s e) is) (nothing_new w w.ends.server_addr) h.kept.replies
-    (λ on. forgotten_claims h.kept on up t)
+    server_changes w (Some new) w.ends.crashed w.sent h.kept (λ s e. subst (λ (x : ServerValue). IsServerOf w x) (same_Some new s e) is) (nothing_new w w.ends.server_addr) h.kept.replies
+    (λ on. still_claims h.kept on up t.leases t.start t.config)
   where
     is : IsServerOf w new
     is =
@@ -346,5 +346,5 @@ server_takes_kept law laws {w} {server} {new} h up (server_forgets n t) =
 pub taking_kept : Laws → LeaseLaws → {w : WorldValue} {from addr : Addr} {octets : List ℕ} {number : ℕ} {taken : TakenValue} {ends : Ends} → Handed w number from addr octets
     → EndTakes (reading w.now number) w.ends from octets number taken ends → Invariant (after_taking w ends addr from taken)
 taking_kept law laws h (finds_down n down) = h.kept
-taking_kept law laws h (by_server server new t up does) = server_takes_kept law laws h up does
+taking_kept law laws {w} h (by_server server new t up does) = server_takes_kept law laws h (latest-up w.ends server up) does
 taking_kept law laws h (by_node i node new reply up hears) = node_hears_kept law i h up hears

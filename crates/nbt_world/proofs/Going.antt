@@ -16,7 +16,7 @@ use Rattle.nbt_world.specs.declared.event.Event.{Event}
 use Rattle.nbt_world.specs.declared.event.Outcome.{Outcome}
 use Rattle.nbt_world.specs.Drift.{reading, later, least_of, numbers_of, lesser, IsAllowed}
 use Rattle.nbt_world.specs.World.{WorldValue, IsEnd, addr_of, with_node, datagram, IsFresh}
-use Rattle.nbt_world.specs.Step.{Advances, Step, ticks, advances, starts, starts_nothing, crashes, crashes_nothing, node_does, node_is_down, no_datagram, no_end, too_late, delivered, from_an_end, to_no_end, from_a_stranger, CallOutcomeValue, nothing, refusal, octets_to, after, TakenValue, is_down, is_lost, takes, EndTakes, finds_down, by_server, by_node, after_taking, Starts, server_starts, node_starts, Crashes, server_crashes, node_crashes}
+use Rattle.nbt_world.specs.Step.{Advances, Step, ticks, advances, starts, starts_nothing, crashes, crashes_nothing, resumes, resumes_nothing, node_does, node_is_down, no_datagram, no_end, too_late, delivered, from_an_end, to_no_end, from_a_stranger, CallOutcomeValue, nothing, refusal, octets_to, after, TakenValue, is_down, is_lost, takes, EndTakes, finds_down, by_server, by_node, after_taking, Starts, server_starts, node_starts, Crashes, server_crashes, node_crashes, Resumes, server_resumes}
 use Rattle.nbt_world.specs.Inner.Kept.{AreRead}
 use Rattle.nbt_world.specs.Safety.{IsSafe, AreSafe, AreSafeWhileKept, IsInStep, LetsClocksDrift, MoveClocksAlike, NoClockStopped, AreKeptUntilClocksStop, RunsSafely}
 use Rattle.nbt_world.proofs.Keeping.{addr_with, server_addr_with, read_with}
@@ -62,16 +62,19 @@ with_same ends zero x k = refl
 with_same ends (suc i) x k = addr_with ends i x k
 
 starts_same : {config : ConfigValue} {now number : ℕ} {old new : Ends} → Starts config now old number new → (n : ℕ) → addr_of new n ≡ addr_of old n
-starts_same {old = old} (server_starts server down is) n = server_addr_with old (Some server) n
+starts_same {old = old} (server_starts server down is) n = server_addr_with old (Some server) None n
 starts_same {old = old} (node_starts index addr at down) n = addr_with old index _ n
 
 crashes_same : {number : ℕ} {old new : Ends} → Crashes old number new → (n : ℕ) → addr_of new n ≡ addr_of old n
-crashes_same {old = old} (server_crashes server up) n = server_addr_with old None n
+crashes_same {old = old} (server_crashes server up) n = server_addr_with old None (Some server) n
 crashes_same {old = old} (node_crashes index node up) n = addr_with old index None n
+
+resumes_same : {now : ℕ} {old new : Ends} → Resumes now old new → (n : ℕ) → addr_of new n ≡ addr_of old n
+resumes_same {old = old} (server_resumes kept server down is goes_on) n = server_addr_with old (Some server) None n
 
 takes_same : {now number : ℕ} {from : Addr} {octets : List ℕ} {taken : TakenValue} {old new : Ends} → EndTakes now old from octets number taken new → (n : ℕ) → addr_of new n ≡ addr_of old n
 takes_same (finds_down k down) n = refl
-takes_same {old = old} (by_server server s t up does) n = server_addr_with old (Some s) n
+takes_same {old = old} (by_server server s t up does) n = server_addr_with old (Some s) old.crashed n
 takes_same {old = old} (by_node index node s reply up hears) n = addr_with old index (Some s) n
 
 goes_after : (w : WorldValue) (number : ℕ) (new : NodeValue) (given : CallOutcomeValue) → AreRead w → Goes w (after w number new given)
@@ -92,6 +95,8 @@ step_goes {w} (starts number ends s) read = goes_with w ends w.sent (starts_same
 step_goes {w} (starts_nothing number off) read = goes_nowhere w read
 step_goes {w} (crashes number ends s) read = goes_with w ends w.sent (crashes_same s) read
 step_goes {w} (crashes_nothing number off) read = goes_nowhere w read
+step_goes {w} (resumes ends s) read = goes_with w ends w.sent (resumes_same s) read
+step_goes {w} (resumes_nothing off) read = goes_nowhere w read
 step_goes {w} (node_does e number node new given own up does) read = goes_after w number new given read
 step_goes {w} (node_is_down e number own down) read = goes_nowhere w read
 step_goes {w} (no_datagram k none) read = goes_nowhere w read
@@ -127,6 +132,8 @@ step_alike stays {w} (starts number ends s) read one is = stays.others w ends w.
 step_alike stays (starts_nothing number off) read one is = is
 step_alike stays {w} (crashes number ends s) read one is = stays.others w ends w.sent (crashes_same s) is
 step_alike stays (crashes_nothing number off) read one is = is
+step_alike stays {w} (resumes ends s) read one is = stays.others w ends w.sent (resumes_same s) is
+step_alike stays (resumes_nothing off) read one is = is
 step_alike stays {w} (node_does e number node new given own up does) read one is = after_alike stays w number new given is
 step_alike stays (node_is_down e number own down) read one is = is
 step_alike stays (no_datagram k none) read one is = is

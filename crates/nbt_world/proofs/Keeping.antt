@@ -2,6 +2,7 @@
 -- other ends and names stays, and so only what is new has to be shown.
 use Rattle.std.proofs.Common.{◌≡◌, ◌≢◌, ℕ, zero, suc, ◌≤◌, List, [], ◌∷◌, length, Option, Some, None, refl, sym, ap, subst, ◌∙◌, arith, inl, inr}
 use Rattle.std.specs.Prelude.{slice_get, Contains, IsTrue, ◌⊎◌}
+use Rattle.std.specs.Option.{option_or}
 use Rattle.std.proofs.lemmas.Bool.{cases_eq}
 use Rattle.std.proofs.lemmas.Option.{none-some, same_Some}
 use Rattle.nbt_name.specs.declared.addr.Addr.{Addr}
@@ -15,7 +16,7 @@ use Rattle.nbt_world.specs.declared.ends.NodeEnd.{NodeEnd}
 use Rattle.nbt_world.specs.declared.ends.Ends.{Ends}
 use Rattle.nbt_world.specs.declared.network.Datagram.{Datagram}
 use Rattle.nbt_world.specs.Drift.{reading}
-use Rattle.nbt_world.specs.World.{WorldValue, addr_at, addr_of, IsEnd, node_in, node_of, put_node, with_server, with_node}
+use Rattle.nbt_world.specs.World.{WorldValue, addr_at, addr_of, IsEnd, node_in, node_of, put_node, latest, with_server, with_node}
 use Rattle.nbt_world.specs.Inner.Kept.{Asked, Replied, known, RequestsEnded, RepliesFresh, IsNodeOf, IsServerOf, IsSeen, AreRead, IsSent, ClaimsKept, Invariant}
 use Rattle.nbt_world.proofs.Knowing.{Within, ended-frame, ended-down, fresh-frame}
 
@@ -217,39 +218,43 @@ node_changes {w} {i} {addr} {sent} adds x is names replies claims = record {
 
 -- ---- the server changes
 
-pub server_addr_with : (ends : Ends) (x : Option ServerValue) (n : ℕ) → addr_of (with_server ends x) n ≡ addr_of ends n
-server_addr_with ends x zero = refl
-server_addr_with ends x (suc j) = refl
+-- the one that is up is the latest
+pub latest-up : (ends : Ends) (server : ServerValue) → ends.server ≡ Some server → latest ends ≡ Some server
+latest-up ends server up = rw up refl
 
-pub server_node_with : (ends : Ends) (x : Option ServerValue) (n : ℕ) → node_of (with_server ends x) n ≡ node_of ends n
-server_node_with ends x zero = refl
-server_node_with ends x (suc j) = refl
+pub server_addr_with : (ends : Ends) (x y : Option ServerValue) (n : ℕ) → addr_of (with_server ends x y) n ≡ addr_of ends n
+server_addr_with ends x y zero = refl
+server_addr_with ends x y (suc j) = refl
 
-pub server_changes : (w : WorldValue) (x : Option ServerValue) (sent : List Datagram) → Invariant w
-    → ((server : ServerValue) → x ≡ Some server → IsServerOf w server) → IsNew w w.ends.server_addr sent
+pub server_node_with : (ends : Ends) (x y : Option ServerValue) (n : ℕ) → node_of (with_server ends x y) n ≡ node_of ends n
+server_node_with ends x y zero = refl
+server_node_with ends x y (suc j) = refl
+
+pub server_changes : (w : WorldValue) (x y : Option ServerValue) (sent : List Datagram) → Invariant w
+    → ((server : ServerValue) → option_or x y ≡ Some server → IsServerOf w server) → IsNew w w.ends.server_addr sent
     → (IsTrue w.kept → (n : ℕ) (a : Addr) (name : NameValue) → addr_of w.ends n ≡ Some a
     → RepliesFresh w.config.life n w.now.clock (reading w.now n) (Asked sent a.ip name) (Replied sent w.ends.server_addr a name) (known (node_of w.ends n) name))
-    → (IsTrue w.kept → ClaimsKept (record w { ends = with_server w.ends x; sent = sent }))
-    → Invariant (record w { ends = with_server w.ends x; sent = sent })
-server_changes w x sent kept is new replies claims = record {
+    → (IsTrue w.kept → ClaimsKept (record w { ends = with_server w.ends x y; sent = sent }))
+    → Invariant (record w { ends = with_server w.ends x y; sent = sent })
+server_changes w x y sent kept is new replies claims = record {
   ends = record {
     nodes_at_least = kept.ends.nodes_at_least;
     nodes_at_most = kept.ends.nodes_at_most;
-    apart = λ j k a b p q same. kept.ends.apart j k a b (sym (server_addr_with w.ends x j) ∙ p) (sym (server_addr_with w.ends x k) ∙ q) same;
+    apart = λ j k a b p q same. kept.ends.apart j k a b (sym (server_addr_with w.ends x y j) ∙ p) (sym (server_addr_with w.ends x y k) ∙ q) same;
   };
-  clocks = read_with w (with_server w.ends x) sent (server_addr_with w.ends x) kept.clocks;
+  clocks = read_with w (with_server w.ends x y) sent (server_addr_with w.ends x y) kept.clocks;
   nodes = λ n a node p up.
-      let k = kept.nodes n a node (sym (server_addr_with w.ends x n) ∙ p) (sym (server_node_with w.ends x n) ∙ up) in
+      let k = kept.nodes n a node (sym (server_addr_with w.ends x y n) ∙ p) (sym (server_node_with w.ends x y n) ∙ up) in
       record { addr_is = k.addr_is; server_is = k.server_is; config_is = k.config_is; distinct = k.distinct; past = k.past };
   server = λ server up. let k = is server up in record { config_is = k.config_is; past = k.past; sound = k.sound };
-  sent = λ d c. sent_frame (server_addr_with w.ends x) (omega arith) (λ n e seen. seen) (all_sent w w.ends.server_addr sent kept new d c);
-  requests = λ on n a name p. requests_at on n a name (sym (server_addr_with w.ends x n) ∙ p);
-  replies = λ on n a name p. rw (server_node_with w.ends x n) (replies on n a name (sym (server_addr_with w.ends x n) ∙ p));
+  sent = λ d c. sent_frame (server_addr_with w.ends x y) (omega arith) (λ n e seen. seen) (all_sent w w.ends.server_addr sent kept new d c);
+  requests = λ on n a name p. requests_at on n a name (sym (server_addr_with w.ends x y n) ∙ p);
+  replies = λ on n a name p. rw (server_node_with w.ends x y n) (replies on n a name (sym (server_addr_with w.ends x y n) ∙ p));
   claims = claims;
 }
   where
     requests_at : IsTrue w.kept → (n : ℕ) (a : Addr) (name : NameValue) → addr_of w.ends n ≡ Some a
-        → RequestsEnded w.config.life n w.now.clock (reading w.now n) (Asked sent a.ip name) (known (node_of (with_server w.ends x) n) name)
+        → RequestsEnded w.config.life n w.now.clock (reading w.now n) (Asked sent a.ip name) (known (node_of (with_server w.ends x y) n) name)
     requests_at on zero a name p =
         ended-down (asked_read w zero (a, p) (all_sent w w.ends.server_addr sent kept new))
     requests_at on (suc j) a name p =

@@ -2,6 +2,7 @@
 use Rattle.std.proofs.Common.{◌≡◌, ◌≢◌, ℕ, zero, suc, ◌-◌, ◌<◌, ◌≤◌, Bool, true, false, List, [], ◌∷◌, length, get_or, set, drop, Option, Some, None, refl, sym, ap, subst, ◌∙◌, arith, inl, inr}
 use Rattle.std.specs.Prelude.{slice_get, is_some, is_none, IsSome, MatchBool, ◌⊎◌}
 use Rattle.std.specs.List.{refill}
+use Rattle.std.specs.Option.{option_or}
 use Rattle.std.proofs.lemmas.List.{take_at, length-set}
 use Rattle.std.proofs.lemmas.Option.{slice_get_read, slice_get_past, none-some, same_Some}
 use Rattle.std.proofs.lemmas.Bool.{cases_lt}
@@ -14,8 +15,8 @@ use Rattle.nbt_node.specs.Node.{NodeValue}
 use Rattle.nbt_node.specs.Calls.{started}
 use Rattle.nbt_world.specs.declared.ends.NodeEnd.{NodeEnd}
 use Rattle.nbt_world.specs.declared.ends.Ends.{Ends}
-use Rattle.nbt_world.specs.World.{IsOfEnd, addr_at, addr_of, node_in, node_of, put_node, with_server, with_node}
-use Rattle.nbt_world.specs.Step.{IsDown, IsUp, Starts, server_starts, node_starts, Crashes, server_crashes, node_crashes, TakenValue, is_down, takes, ServerDoes, NodeHandles, EndTakes, finds_down, by_server, by_node}
+use Rattle.nbt_world.specs.World.{IsOfEnd, addr_at, addr_of, node_in, node_of, put_node, latest, with_server, with_node}
+use Rattle.nbt_world.specs.Step.{IsDown, IsUp, Starts, server_starts, node_starts, Crashes, server_crashes, node_crashes, Resumes, server_resumes, TakenValue, is_down, takes, ServerDoes, NodeHandles, EndTakes, finds_down, by_server, by_node}
 
 -- ---- numbers
 
@@ -116,10 +117,22 @@ is_there : {X : Type 0} (o : Option X) → is_some o ≡ true → (x : X) × (o 
 is_there None e = absurd cc
 is_there (Some x) e = (x, refl)
 
-pub server_crashed : (ends : Ends) (n : ℕ) → n ≡ 0 → is_some ends.server ≡ true → Crashes ends n (with_server ends None)
+is_nothing : {X : Type 0} (o : Option X) → is_some o ≡ false → o ≡ None
+is_nothing None e = refl
+is_nothing (Some s) e = absurd cc
+
+pub server_crashed : (ends : Ends) (n : ℕ) → n ≡ 0 → is_some ends.server ≡ true → Crashes ends n (with_server ends None ends.server)
 server_crashed ends n e is =
     let s = is_there ends.server is in
-    subst (λ (m : ℕ). Crashes ends m (with_server ends None)) (sym e) (server_crashes s.0 s.1)
+    subst (λ (m : ℕ). Crashes ends m (with_server ends None ends.server)) (sym e)
+    (subst (λ (o : Option ServerValue). Crashes ends 0 (with_server ends None o)) (sym s.1) (server_crashes s.0 s.1))
+
+pub server_resumed : (ends : Ends) → is_some ends.server ≡ false → is_some ends.crashed ≡ true → (now : ℕ) → ((was : ServerValue) → latest ends ≡ Some was → was.last ≤ now) → Resumes now ends (with_server ends ends.crashed None)
+server_resumed ends down is now past =
+    let s = is_there ends.crashed is in
+    let on = past s.0 (λ i. option_or (is_nothing ends.server down i) (s.1 i)) in
+    subst (λ (o : Option ServerValue). Resumes now ends (with_server ends o None)) (sym s.1)
+    (server_resumes s.0 s.0 (is_nothing ends.server down) s.1 (record { leases = refl; start = refl; config = refl; was_called = on; called = on }))
 
 pub server_stays_down : (ends : Ends) (n : ℕ) → n ≡ 0 → is_none ends.server ≡ true → ¬ IsUp ends n
 server_stays_down ends n e is = subst (λ (m : ℕ). ¬ IsUp ends m) (sym e) (λ u. none_is ends.server u.0 is u.1)
@@ -148,8 +161,8 @@ node_crashed ends n ys r false e reads is =
     up (suc i) ne down = λ u. none-some u.0 (sym down ∙ u.1)
 
 pub server_took : {now n : ℕ} {ends : Ends} {from : Addr} {octets : List ℕ} {server new : ServerValue} {taken : TakenValue} → n ≡ 0 → ends.server ≡ Some server
-    → ServerDoes now server from.ip octets taken new → EndTakes now ends from octets n taken (with_server ends (Some new))
-server_took {now} {ends = ends} {from} {octets} {server} {new} {taken} e is does = subst (λ (m : ℕ). EndTakes now ends from octets m taken (with_server ends (Some new))) (sym e) (by_server server new taken is does)
+    → ServerDoes now server from.ip octets taken new → EndTakes now ends from octets n taken (with_server ends (Some new) ends.crashed)
+server_took {now} {ends = ends} {from} {octets} {server} {new} {taken} e is does = subst (λ (m : ℕ). EndTakes now ends from octets m taken (with_server ends (Some new) ends.crashed)) (sym e) (by_server server new taken is does)
 
 pub server_is_down : {now n : ℕ} {ends : Ends} {from : Addr} {octets : List ℕ} → n ≡ 0 → ends.server ≡ None → EndTakes now ends from octets n is_down ends
 server_is_down {n = n} {ends} e is = finds_down n (subst (λ (m : ℕ). IsDown ends m) (sym e) is)
@@ -174,13 +187,9 @@ node_is_down {now} {n} {ends} {from} {octets} reads is =
     down (suc i) ne {addr} at is = (addr, at, is)
 
 pub server_started : {config : ConfigValue} {now n : ℕ} {ends : Ends} {server : ServerValue} → n ≡ 0 → is_some ends.server ≡ false → ServerStarts config now server
-    → Starts config now ends n (with_server ends (Some server))
+    → Starts config now ends n (with_server ends (Some server) None)
 server_started {config} {now} {ends = ends} {server} e is new =
-    subst (λ (m : ℕ). Starts config now ends m (with_server ends (Some server))) (sym e) (server_starts server (is_nothing ends.server is) new)
-  where
-    is_nothing : (o : Option ServerValue) → is_some o ≡ false → o ≡ None
-    is_nothing None e = refl
-    is_nothing (Some s) e = absurd cc
+    subst (λ (m : ℕ). Starts config now ends m (with_server ends (Some server) None)) (sym e) (server_starts server (is_nothing ends.server is) new)
 
 pub server_stays_up : (ends : Ends) (n : ℕ) → n ≡ 0 → is_some ends.server ≡ true → ¬ IsDown ends n
 server_stays_up ends n e is = subst (λ (m : ℕ). ¬ IsDown ends m) (sym e) (λ down. some_is ends.server is down)

@@ -20,8 +20,10 @@ pub enum Event {
     },
     /// An end starts, and knows nothing of before.
     Start(usize),
-    /// An end crashes, and nothing of it is kept.
+    /// An end crashes. A node loses everything; the server can resume.
     Crash(usize),
+    /// The server resumes after a crash, with the live leases that it had. It isn't silent.
+    Resume,
     /// A node asks for a name.
     Ask {
         /// The node's number.
@@ -74,13 +76,14 @@ pub enum Event {
 /// What came of an event.
 #[derive(Clone, Copy, Debug, PartialEq, Eq)]
 pub enum Outcome {
-    /// The clocks went on, or the end started or crashed.
+    /// The clocks went on, or the end started, crashed or resumed.
     Done,
     /// The datagram of this number was sent.
     Sent(usize),
     /// The node refused the call, with this number.
     Refused(u8),
-    /// Nothing was to do: the end is so already, the world has no such end to start or crash, or nothing was due.
+    /// Nothing was to do: the end is up or down already, the world has no such end, the server never was up before it was to
+    /// resume, or nothing was due.
     Nothing,
     /// The end is down, or the world has no such node.
     Down,
