@@ -26,7 +26,7 @@ use Rattle.nbt_world.specs.declared.ends.Ends.{Ends}
 use Rattle.nbt_world.specs.declared.network.Datagram.{Datagram}
 use Rattle.nbt_world.specs.Drift.{reading}
 use Rattle.nbt_world.specs.World.{WorldValue, IsDeliverable, addr_of, node_of, latest, with_server, with_node, datagram}
-use Rattle.nbt_world.specs.Step.{NodeHandles, TakenValue, takes, after_taking, ServerDoes, server_takes, server_forgets, EndTakes, finds_down, by_server, by_node}
+use Rattle.nbt_world.specs.Step.{NodeHandles, MovesName, TakenValue, takes, after_taking, ServerDoes, server_takes, server_forgets, EndTakes, finds_down, by_server, by_node}
 use Rattle.nbt_world.specs.Inner.Kept.{IsRequest, IsReply, Asked, Replied, known, IsOpen, IsServerOf, Invariant}
 use Rattle.std.proofs.lemmas.List.Elements.{Contains-push_cases}
 use Rattle.nbt_world.proofs.Knowing.{Moved, Draws, fresh-reply}
@@ -34,10 +34,10 @@ use Rattle.nbt_world.proofs.Claiming.{IsListed}
 use Rattle.nbt_world.proofs.Keeping.{Grows, asked_still, asked_before, addr_with, node_with_here, server_changes, latest-up}
 use Rattle.nbt_world.proofs.Covering.{NameKept}
 use Rattle.nbt_name.proofs.Same.{names_apart}
-use Rattle.nbt_world.specs.Inner.Handing.{Origin, listed, strange}
+use Rattle.nbt_world.specs.Inner.Handing.{Origin, listed, strange, harmless}
 use Rattle.nbt_world.proofs.Naming.{OneMessage, Laws, Sending, is_new, nothing_new, grows_by, UpAt, up_at, node_stays, stays_by_moves, adds_none, node_moves, kept_by_time, kept_hearing}
 use Rattle.nbt_world.proofs.Granting.{LeaseLaws}
-use Rattle.nbt_world.proofs.Served.{Took, served_claims, still_claims}
+use Rattle.nbt_world.proofs.Served.{Took, request_moves, served_claims, still_claims}
 use Rattle.nbt_world.proofs.Events.{passed, time_kept, other_kept}
 
 -- ---- a node hears something about a name
@@ -83,6 +83,7 @@ heard_listed {w} {from = from} {name} at heard same named r e = go heard.origin
   where
     go : Origin w from heard.addr heard.octets → (moment : Clocks) × Replied w.sent w.ends.server_addr at.addr name moment (registered 0 r) × IsDeliverable w.config.life w.now.clock moment.clock
     go (strange off) = absurd (off (0, w.ends.server_addr, refl, ap (λ (a : Addr). a.ip) (sym same)))
+    go (harmless off) = absurd (off (registered 0 r, subst (λ (k : MessageValue). Spells heard.octets k) e heard.spells, refl))
     go (listed d c f t o delivered) = (
       d.moment,
       record {
@@ -245,6 +246,11 @@ replied_more law {w} {d = d} {m} s {server} {a} {name} {moment} {message} r = go
       law d.octets.items message m (subst (λ (y : Datagram). Spells y.octets.items message) (sym e) r.spelled) s.spelled,
     )
 
+-- what is asked moves a name
+asks_moves : (name : NameValue) (m : MessageValue) → Asks name m → MovesName m
+asks_moves name m (by_request q) = request_moves name m q
+asks_moves name m (by_overwrite r e) = rw e tt
+
 -- that one was drawn by a request of the end to which it goes
 reply_drawn : {w : WorldValue} {number n : ℕ} {from addr a : Addr} {octets : List ℕ} {name : NameValue} {moment : Clocks} → Handed w number from addr octets → addr_of w.ends n ≡ Some a → from ≡ a → Draw octets name → moment ≡ w.now
     → Draws w.config.life n w.now.clock (reading w.now n) (Asked w.sent a.ip name) moment
@@ -252,6 +258,7 @@ reply_drawn {w} {n = n} {from} {addr} {a} {octets} {name} {moment} h p same draw
   where
     by_origin : Origin w from addr octets → Draws w.config.life n w.now.clock (reading w.now n) (Asked w.sent a.ip name) moment
     by_origin (strange off) = absurd (off (n, a, p, ap (λ (x : Addr). x.ip) (sym same)))
+    by_origin (harmless off) = absurd (off (draw.message, draw.spells, asks_moves name draw.message draw.asks))
     by_origin (listed x c f t o delivered) = by draw.asks
       where
         spelled_in : Spells x.octets.items draw.message

@@ -7,7 +7,7 @@ use Rattle.nbt_name.specs.declared.addr.Kind.{Kind}
 use Rattle.nbt_name.specs.declared.addr.Kind.TheVariants.{Group}
 use Rattle.nbt_name.specs.Wire.{NameValue}
 use Rattle.nbt_packet.specs.declared.message.Registration.{Registration}
-use Rattle.nbt_packet.specs.Message.{MessageValue, registered}
+use Rattle.nbt_packet.specs.Message.{MessageValue, registration, overwrite, refresh, release, query, status_request, registered, released, found, not_found, status, wait}
 use Rattle.nbt_packet.specs.Spelling.{Spells}
 use Rattle.nbt_lease.specs.declared.lease.Lease.{Lease}
 use Rattle.nbt_lease.specs.Config.{ConfigValue, granted}
@@ -20,12 +20,13 @@ use Rattle.nbt_world.specs.declared.network.Datagram.{Datagram}
 use Rattle.nbt_world.specs.Drift.{reading}
 use Rattle.nbt_world.specs.World.{WorldValue, addr_of, node_of, latest, with_server}
 use Rattle.nbt_server.specs.Calls.{ServerTakes}
+use Rattle.nbt_world.specs.Step.{MovesName}
 use Rattle.nbt_world.specs.Inner.Kept.{IsRequest, AsksAs, Replied, known, Wants, Claims, has, may_get, IsLeased, Covers, ClaimsIn, IsCoveredIn, ClaimsKept, Invariant}
 use Rattle.nbt_world.proofs.Claiming.{claims_want}
 use Rattle.nbt_world.proofs.Drifting.{hold_over}
 use Rattle.nbt_world.proofs.Keeping.{Grows, server_addr_with, server_node_with}
 use Rattle.nbt_world.proofs.Covering.{replied_still, server_claims}
-use Rattle.nbt_world.specs.Inner.Handing.{Origin, listed, strange}
+use Rattle.nbt_world.specs.Inner.Handing.{Origin, listed, strange, harmless}
 use Rattle.nbt_world.proofs.Granting.{LeaseLaws, Gives, granted_most, octets_keep, octets_give}
 
 -- the end of this number, which is at this address, asks for the name as this kind, or holds it
@@ -33,10 +34,26 @@ record WantsAt (w : WorldValue) (n : ℕ) (a : Addr) (q : NameValue) (kind : Kin
   at : addr_of w.ends n ≡ Some a
   wants : Wants (known (node_of w.ends n) q) kind
 
+-- a request moves a name
+pub request_moves : (name : NameValue) (m : MessageValue) → IsRequest name m → MovesName m
+request_moves name (registration r) is = tt
+request_moves name (overwrite r) is = tt
+request_moves name (refresh r) is = tt
+request_moves name (release id n kind addr) is = tt
+request_moves name (query id n) is = is
+request_moves name (status_request id n) is = is
+request_moves name (registered rcode r) is = absurd is
+request_moves name (released id rcode n kind addr) is = is
+request_moves name (found id n ttl entries cut) is = is
+request_moves name (not_found id rcode n) is = is
+request_moves name (status id n names) is = is
+request_moves name (wait id n ttl) is = is
+
 -- what it has asked with these octets is the name as its kind
 asked_kind : {w : WorldValue} {from to : Addr} {octets : List ℕ} {n : ℕ} {a : Addr} {q : NameValue} {kind : Kind} → Invariant w → IsTrue w.kept → Origin w from to octets → WantsAt w n a q kind
     → (m : MessageValue) → Spells octets m → a.ip ≡ from.ip → IsRequest q m → AsksAs kind m
 asked_kind {n = n} {a} kept on (strange off) want m spells same is = absurd (off (n, a, want.at, same))
+asked_kind {q = q} kept on (harmless off) want m spells same is = absurd (off (m, spells, request_moves q m is))
 asked_kind {n = n} {a} {q} {kind} kept on (listed d c f t o delivered) want m spells same is =
     (kept.requests on n a q want.at).one_kind kind d.moment m want.wants
     (record { datagram = d; among = c; sender = ap (λ (x : Addr). x.ip) f ∙ sym same; moment_is = refl; spelled = subst (λ (xs : List ℕ). Spells xs m) (sym o) spells; request = is }) delivered

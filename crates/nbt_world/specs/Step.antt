@@ -4,7 +4,7 @@ use Rattle.std.specs.Global.{Vec}
 use Rattle.nbt_name.specs.declared.addr.Addr.{Addr}
 use Rattle.nbt_name.specs.declared.addr.Kind.{Kind}
 use Rattle.nbt_name.specs.Wire.{NameValue}
-use Rattle.nbt_packet.specs.Message.{MessageValue}
+use Rattle.nbt_packet.specs.Message.{MessageValue, registration, overwrite, refresh, release, registered}
 use Rattle.nbt_packet.specs.Text.{text}
 use Rattle.nbt_packet.specs.Spelling.{Spells}
 use Rattle.nbt_lease.specs.Config.{ConfigValue}
@@ -27,7 +27,7 @@ use Rattle.nbt_world.specs.declared.ends.Taken.{Taken}
 use Rattle.nbt_world.specs.declared.ends.Taken.TheVariants as t
 use Rattle.nbt_world.specs.declared.network.Datagram.{Datagram}
 use Rattle.nbt_world.specs.declared.event.Event.{Event}
-use Rattle.nbt_world.specs.declared.event.Event.TheVariants.{Tick, Advance, Start, Crash, Resume, Ask, Release, Resolve, NameStatus, Poll, Deliver, Stranger}
+use Rattle.nbt_world.specs.declared.event.Event.TheVariants.{Tick, Advance, Start, Crash, Resume, Ask, Release, Resolve, NameStatus, Poll, Deliver, Stranger, Beside}
 use Rattle.nbt_world.specs.declared.event.Outcome.{Outcome}
 use Rattle.nbt_world.specs.declared.event.Outcome.TheVariants as o
 use Rattle.nbt_world.specs.Drift.{reading, later, least_of, numbers_of, lesser, IsAllowed}
@@ -144,6 +144,20 @@ IsTaken t.Lost octets taken = taken ≡ is_lost
 IsTaken t.Silent octets taken = taken ≡ takes None
 IsTaken t.Replies octets taken = (reply : MessageValue) × (taken ≡ takes (Some reply)) × (octets ≡ text reply) × Spells octets reply
 
+-- ---- what another program on an end's machine may not send
+
+-- a request about a lease, or a grant: what could take a lease away, or give a name
+abbrev pub MovesName : MessageValue → Type 0
+MovesName (registration r) = Unit {0}
+MovesName (overwrite r) = Unit {0}
+MovesName (refresh r) = Unit {0}
+MovesName (release id name kind addr) = Unit {0}
+MovesName (registered rcode r) = rcode ≡ 0
+MovesName _ = ⊥
+
+abbrev pub SpellMove : List ℕ → Type 0
+SpellMove octets = (message : MessageValue) × Spells octets message × MovesName message
+
 -- ---- what comes of it
 
 -- the node is another, and what it gave was sent
@@ -209,6 +223,13 @@ pub data Step (old : WorldValue) : Event → Outcome → WorldValue → Type 0 w
   from_a_stranger : (from addr : Addr) (number : ℕ) (octets : Vec ℕ) (taken : TakenValue) (ends : Ends) → ¬ IsOfEnd old.ends from.ip → addr_of old.ends number ≡ Some addr
       → EndTakes (reading old.now number) old.ends from octets.items number taken ends
       → Step old (Stranger from number octets) (outcome_of_taking old taken) (after_taking old ends addr from taken)
+  -- another program on an end's machine sends a datagram
+  beside_no_end : (from : Addr) (number : ℕ) (octets : Vec ℕ) → ¬ IsOfEnd old.ends from.ip → Step old (Beside from number octets) o.Nobody old
+  beside_moves : (from : Addr) (number : ℕ) (octets : Vec ℕ) → SpellMove octets.items → Step old (Beside from number octets) o.Nobody old
+  beside_to_no_end : (from : Addr) (number : ℕ) (octets : Vec ℕ) → addr_of old.ends number ≡ None → Step old (Beside from number octets) o.Nobody old
+  from_beside : (from addr : Addr) (number : ℕ) (octets : Vec ℕ) (taken : TakenValue) (ends : Ends) → IsOfEnd old.ends from.ip → ¬ SpellMove octets.items → addr_of old.ends number ≡ Some addr
+      → EndTakes (reading old.now number) old.ends from octets.items number taken ends
+      → Step old (Beside from number octets) (outcome_of_taking old taken) (after_taking old ends addr from taken)
 
 -- room for a datagram may be made for all other events
 abbrev pub TakesNoMemory : Event → Type 0

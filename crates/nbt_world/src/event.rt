@@ -71,6 +71,15 @@ pub enum Event {
         /// Its octets.
         octets: Vec<u8>,
     },
+    /// Another program on an end's machine sends a datagram to the end of a number, where it comes at once.
+    Beside {
+        /// The address that it is from, with an end's 32 bits and any port.
+        from: Addr,
+        /// The number of the end that it is for.
+        to: usize,
+        /// Its octets: any but a registration, an overwrite, a refresh, a release or a positive reply to a registration.
+        octets: Vec<u8>,
+    },
 }
 
 /// What came of an event.
@@ -88,7 +97,8 @@ pub enum Outcome {
     /// The end is down, or the world has no such node.
     Down,
     /// There is no such datagram or no end at its address; or a stranger's datagram is for no end, or from an end's
-    /// 32-bit address.
+    /// 32-bit address. Or another program's datagram is for no end, from an address that is no end's, or would move a
+    /// name.
     Nobody,
     /// The datagram's life has passed, or memory was refused to the server for it.
     Lost,

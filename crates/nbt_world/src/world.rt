@@ -15,7 +15,7 @@ ghost use Rattle.nbt_world.specs.declared.ends.Holder.{Holder as HolderValue};
 use crate::clocks::{Clocks, ENDS_MOST, Least, at_beginning, watch};
 use crate::ends::{Ends, Holder, are_apart};
 use crate::event::{Event, OutOfMemory, Outcome};
-use crate::network::{Datagram, give, reply};
+use crate::network::{Datagram, give, reply, spell_move};
 use crate::node_call::SLOTS;
 use arrayvec::ArrayVec;
 use nbt_lease::{Config, Moment};
@@ -166,7 +166,7 @@ impl World {
     }
 
     /// The end of this number, at the address `to`, takes octets from an address, and its reply is sent back. The octets are
-    /// those of a datagram of the list that may still be delivered, or a stranger's.
+    /// those of a datagram of the list that may still be delivered, a stranger's, or such as move no name.
     fn hand_over(
         &mut self,
         number: usize,
@@ -234,6 +234,28 @@ impl World {
         self.hand_over(number, from, to, octets.as_slice())
     }
 
+    /// Another program on an end's machine sends a datagram.
+    fn beside(
+        &mut self,
+        from: Addr,
+        number: usize,
+        octets: &Vec<u8>,
+    ) -> Result<Outcome, OutOfMemory>
+        ensures step { IfOk result (λ outcome. Step self.old (Event.Beside from number octets.now) outcome self.new) }
+        ensures refused { OnErr result (self.new ≡ self.old) }
+    {
+        if !self.ends.has_ip(from.ip) {
+            return Ok(Outcome::Nobody);
+        }
+        if spell_move(octets.as_slice()) {
+            return Ok(Outcome::Nobody);
+        }
+        let Some(to) = self.ends.addr(number) else {
+            return Ok(Outcome::Nobody);
+        };
+        self.hand_over(number, from, to, octets.as_slice())
+    }
+
     /// What happens next: the clocks go on, an end starts or crashes, a node does something of its own, a datagram of
     /// the list is delivered, or one comes from a stranger. Returns what came of it. With `OutOfMemory`, where room for
     /// one datagram more was refused, the world is as it was. A `Tick`, `Advance`, `Start`, `Crash` or `Resume` takes no
@@ -257,6 +279,7 @@ impl World {
             Event::Poll(node) => self.node_event(*node, event),
             Event::Deliver(k) => self.deliver(*k),
             Event::Stranger { from, to, octets } => self.stranger(*from, *to, octets),
+            Event::Beside { from, to, octets } => self.beside(*from, *to, octets),
         };
         self.is_safe();
         outcome
