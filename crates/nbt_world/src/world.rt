@@ -7,6 +7,7 @@ ghost use Rattle.nbt_world.specs.Drift.{reading as reading_of};
 ghost use Rattle.nbt_world.specs.World.{WorldValue, AreAddrs, IsEnd, IsFresh, addr_of, node_of};
 ghost use Rattle.nbt_world.specs.Step.{Advances, Step, number_in, TakesNoMemory};
 ghost use Rattle.nbt_world.specs.Safety.{Run, holding, MayHold, IsSafe, RunsSafely};
+ghost use Rattle.nbt_world.specs.Getting.{CanGet, getting};
 ghost use Rattle.nbt_world.specs.Inner.Kept.{AreRead};
 ghost use Rattle.nbt_world.specs.Inner.Handing.{Origin, HandsOver};
 ghost use Rattle.nbt_world.specs.declared.event.Outcome.TheVariants as outcome;
@@ -300,6 +301,32 @@ impl World {
                 Err(fault) => return Err((number, fault)),
             }
         }
+        Ok(())
+    }
+
+    /// A node gets a free name, by three events: the node requests it, its datagram is delivered, and then the server's reply.
+    /// The name must be free, the server must be up and past its silence with room for a lease, and the node must be up and
+    /// rested, with a free slot and the name Idle. On `OutOfMemory`, also where the server was out of memory for the
+    /// request, the world is as after the events before.
+    pub fn get(&mut self, node: usize, name: Name, kind: Kind, ttl: u32) -> Result<(), OutOfMemory>
+        requires { CanGet self.old node name }
+        ensures got { OnOk result (holding self.new node name ≡ Some kind) }
+        ensures ran { OnOk result ((worlds : List WorldValue) × Run (getting self.old node name kind ttl) self.old worlds self.new) }
+        ensures stopped { OnErr result ((k : ℕ) × (worlds : List WorldValue) × Run (take k (getting self.old node name kind ttl)) self.old worlds self.new) }
+    {
+        crate::laws::free_name_is_got();
+        let asked = self.sent.len();
+        self.step(&Event::Ask {
+            node,
+            name,
+            kind,
+            ttl,
+        })?;
+        match self.step(&Event::Deliver(asked))? {
+            Outcome::Lost => return Err(OutOfMemory),
+            _ => {}
+        }
+        self.step(&Event::Deliver(asked + 1))?;
         Ok(())
     }
 
