@@ -31,7 +31,7 @@ use Rattle.nbt_world.specs.Inner.Kept.{IsRequest, IsReply, Asked, Replied, known
 use Rattle.std.proofs.lemmas.List.Elements.{Contains-push_cases}
 use Rattle.nbt_world.proofs.Knowing.{Moved, Draws, fresh-reply}
 use Rattle.nbt_world.proofs.Claiming.{IsListed}
-use Rattle.nbt_world.proofs.Keeping.{Grows, asked_still, asked_before, addr_with, node_with_here, server_changes, latest-up}
+use Rattle.nbt_world.proofs.Keeping.{Grows, asked_still, replied_among, asked_before, addr_with, node_with_here, server_changes, latest-up}
 use Rattle.nbt_world.proofs.Covering.{NameKept}
 use Rattle.nbt_name.proofs.Same.{names_apart}
 use Rattle.nbt_world.specs.Inner.Handing.{Origin, listed, strange, harmless}
@@ -236,15 +236,15 @@ octets_no_overwrite (serving.serves k p l speaks spells does) = serves_no_overwr
 -- what is among the replies once one more is sent: what was, and that one
 replied_more : OneMessage → {w : WorldValue} {addr : Addr} {d : Datagram} {m : MessageValue} → Sending w addr d m → {server a : Addr} {name : NameValue} {moment : Clocks} {message : MessageValue} → Replied (w.sent ++ d ∷ []) server a name moment message
     → Replied w.sent server a name moment message ⊎ ((moment ≡ w.now) × (d.to ≡ a) × (message ≡ m))
-replied_more law {w} {d = d} {m} s {server} {a} {name} {moment} {message} r = go (Contains-push_cases w.sent d r.datagram r.among)
-  where
-    go : Contains w.sent r.datagram ⊎ (d ≡ r.datagram) → Replied w.sent server a name moment message ⊎ ((moment ≡ w.now) × (d.to ≡ a) × (message ≡ m))
-    go (inl c) = inl (record { datagram = r.datagram; among = c; sender = r.sender; receiver = r.receiver; moment_is = r.moment_is; spelled = r.spelled; reply = r.reply })
-    go (inr e) = inr (
-      sym r.moment_is ∙ ap (λ (y : Datagram). y.moment) (sym e) ∙ s.now_is,
-      ap (λ (y : Datagram). y.to) e ∙ r.receiver,
-      law d.octets.items message m (subst (λ (y : Datagram). Spells y.octets.items message) (sym e) r.spelled) s.spelled,
-    )
+replied_more law {w} {d = d} {m} s {message = message} r =
+    elim (Contains-push_cases w.sent d r.datagram r.among) [
+      | inl c ↦ inl (replied_among r c)
+      | inr e ↦ inr (
+        sym r.moment_is ∙ ap (λ (y : Datagram). y.moment) (sym e) ∙ s.now_is,
+        ap (λ (y : Datagram). y.to) e ∙ r.receiver,
+        law d.octets.items message m (subst (λ (y : Datagram). Spells y.octets.items message) (sym e) r.spelled) s.spelled,
+      )
+    ]
 
 -- what is asked moves a name
 asks_moves : (name : NameValue) (m : MessageValue) → Asks name m → MovesName m

@@ -2,8 +2,7 @@
 -- before and between any two of its worlds.
 use Rattle.std.proofs.Common.{◌≡◌, ℕ, zero, suc, ◌+◌, ◌-◌, ◌*◌, ◌^◌, ◌<◌, ◌≤◌, List, [], ◌∷◌, ◌++◌, length, Some, refl, sym, ap, subst, ◌∙◌, arith, inl, inr}
 use Rattle.std.specs.Prelude.{IsTrue, ◌↔◌, ◌⊎◌, slice_get}
-use Rattle.std.proofs.lemmas.Bool.{cases_lt}
-use Rattle.std.proofs.lemmas.Option.{none-some, same_Some}
+use Rattle.std.proofs.lemmas.Option.{none-some, same_Some, slice_get_within}
 use Rattle.nbt_name.specs.declared.addr.Addr.{Addr}
 use Rattle.nbt_lease.specs.Config.{ConfigValue}
 use Rattle.nbt_lease.specs.Drift.{KeepsDriftBound}
@@ -44,32 +43,16 @@ old_at [] y z i e = absurd (none-some z e)
 old_at (x ∷ xs) y z zero e = e
 old_at (x ∷ xs) y z (suc i) e = old_at xs y z i e
 
-new_at : (xs : List WorldValue) (y : WorldValue) → slice_get (xs ++ y ∷ []) (length xs) ≡ Some y
+pub new_at : {X : Type 0} (xs : List X) (y : X) → slice_get (xs ++ y ∷ []) (length xs) ≡ Some y
 new_at [] y = refl
 new_at (x ∷ xs) y = new_at xs y
 
-at_cases : (xs : List WorldValue) (y z : WorldValue) (i : ℕ) → slice_get (xs ++ y ∷ []) i ≡ Some z → (slice_get xs i ≡ Some z) ⊎ (y ≡ z)
-at_cases [] y z zero e = inr (same_Some y z e)
+-- it is among the old ones, or is the new one, which is last
+at_cases : (xs : List WorldValue) (y z : WorldValue) (i : ℕ) → slice_get (xs ++ y ∷ []) i ≡ Some z → (slice_get xs i ≡ Some z) ⊎ ((y ≡ z) × (length xs ≤ i))
+at_cases [] y z zero e = inr (same_Some y z e, omega arith)
 at_cases [] y z (suc i) e = absurd (none-some z e)
 at_cases (x ∷ xs) y z zero e = inl e
-at_cases (x ∷ xs) y z (suc i) e = at_cases xs y z i e
-
-at_least : (xs : List WorldValue) (z : WorldValue) (i : ℕ) → slice_get xs i ≡ Some z → i < length xs
-at_least [] z i e = absurd (none-some z e)
-at_least (x ∷ xs) z zero e = omega arith
-at_least (x ∷ xs) z (suc i) e = let lt = at_least xs z i e in omega arith
-
--- a place that isn't among the old ones is the last
-new_is_last : (xs : List WorldValue) (y z : WorldValue) (i : ℕ) → slice_get (xs ++ y ∷ []) i ≡ Some z → length xs ≤ i → y ≡ z
-new_is_last [] y z zero e le = same_Some y z e
-new_is_last [] y z (suc i) e le = absurd (none-some z e)
-new_is_last (x ∷ xs) y z zero e le = absurd (omega arith)
-new_is_last (x ∷ xs) y z (suc i) e le = new_is_last xs y z i e (omega arith)
-
-old_is_old : (xs : List WorldValue) (y z : WorldValue) (i : ℕ) → slice_get (xs ++ y ∷ []) i ≡ Some z → i < length xs → slice_get xs i ≡ Some z
-old_is_old [] y z i e lt = absurd (omega arith)
-old_is_old (x ∷ xs) y z zero e lt = e
-old_is_old (x ∷ xs) y z (suc i) e lt = old_is_old xs y z i e (omega arith)
+at_cases (x ∷ xs) y z (suc i) e = elim (at_cases xs y z i e) [ inl old ↦ inl old | inr is ↦ let le = is.1 in inr (is.0, omega arith) ]
 
 -- ---- in numbers
 
@@ -102,67 +85,65 @@ pub traced_more : {old : WorldValue} (worlds : List WorldValue) (w v : WorldValu
 traced_more {old} worlds w v goes t = record {
   read = goes.read;
   first = old_at worlds v old 0 t.first;
-  same = λ i x e. same x i (at_cases worlds v x i e);
-  before = λ i x e. before x i (at_cases worlds v x i e);
-  seen = λ i x e n end. seen x n end i (at_cases worlds v x i e);
+  same = λ i x e n. elim (at_cases worlds v x i e) [ inl o ↦ goes.same n ∙ t.same i x o n | inr is ↦ ap (λ (y : WorldValue). addr_of y.ends n) is.0 ];
+  before = before;
+  seen = seen;
   lower = lower;
   allows = λ n end late a all. rw (goes.least n (here n end)) (allowed_lesser (least_of w.least n) (numbers_of v.now n) late n (t.allows n (here n end) late a (λ i x e. all i x (old_at worlds v x i e))) (all (length worlds) v (new_at worlds v)));
   told = (
-    λ on. let was = (t.told).0 ((goes.kept).0 on).0 in (was.0, λ i x e n end. to_least on was.1 x i n end (at_cases worlds v x i e), λ i j early late le p q n end. between on was.2 i j early late le p q n end),
-    λ k. (goes.kept).1 ((t.told).1 (k.0, λ i x e. k.1 i x (old_at worlds v x i e), λ i j early late le p q. k.2 i j early late le (old_at worlds v early i p) (old_at worlds v late j q)), λ n end. allowed k.1 k.2 n end),
+    λ on. let was = (t.told).0 ((goes.kept).0 on).0 in (was.0, to_least on was.1, between on was.2),
+    λ k. (goes.kept).1 ((t.told).1 (k.0, λ i x e. k.1 i x (old_at worlds v x i e), λ i j early late le p q. k.2 i j early late le (old_at worlds v early i p) (old_at worlds v late j q)), allowed k.1 k.2),
   );
 }
   where
     here : (n : ℕ) → IsEnd v.ends n → IsEnd w.ends n
     here n end = (end.0, sym (goes.same n) ∙ end.1)
 
-    there : (n : ℕ) → IsEnd w.ends n → IsEnd v.ends n
-    there n end = (end.0, goes.same n ∙ end.1)
+    before : (i : ℕ) (x : WorldValue) → slice_get (worlds ++ v ∷ []) i ≡ Some x → x.now.clock ≤ v.now.clock
+    before i x e =
+        elim (at_cases worlds v x i e) [
+          | inl o ↦ let was = t.before i x o in let on = goes.clock in omega arith
+          | inr is ↦ subst (λ (y : WorldValue). y.now.clock ≤ v.now.clock) is.0 (omega arith)
+        ]
 
-    same : (x : WorldValue) → (i : ℕ) → (slice_get worlds i ≡ Some x) ⊎ (v ≡ x) → (n : ℕ) → addr_of v.ends n ≡ addr_of x.ends n
-    same x i (inl e) n = goes.same n ∙ t.same i x e n
-    same x i (inr e) n = ap (λ (y : WorldValue). addr_of y.ends n) e
-
-    before : (x : WorldValue) → (i : ℕ) → (slice_get worlds i ≡ Some x) ⊎ (v ≡ x) → x.now.clock ≤ v.now.clock
-    before x i (inl e) = let was = t.before i x e in let on = goes.clock in omega arith
-    before x i (inr e) = subst (λ (y : WorldValue). y.now.clock ≤ v.now.clock) e (omega arith)
-
-    seen : (x : WorldValue) (n : ℕ) → IsEnd v.ends n → (i : ℕ) → (slice_get worlds i ≡ Some x) ⊎ (v ≡ x) → IsSeen v.least v.now x.now n
-    seen x n end i (inl e) = goes.seen n (here n end) x.now (t.seen i x e n (here n end))
-    seen x n end i (inr e) = subst (λ (y : WorldValue). IsSeen v.least v.now y.now n) e ((goes.read).seen n end)
+    seen : (i : ℕ) (x : WorldValue) → slice_get (worlds ++ v ∷ []) i ≡ Some x → (n : ℕ) → IsEnd v.ends n → IsSeen v.least v.now x.now n
+    seen i x e n end =
+        elim (at_cases worlds v x i e) [
+          | inl o ↦ goes.seen n (here n end) x.now (t.seen i x o n (here n end))
+          | inr is ↦ subst (λ (y : WorldValue). IsSeen v.least v.now y.now n) is.0 ((goes.read).seen n end)
+        ]
 
     lower : (n : ℕ) → IsEnd v.ends n → ((least_of v.least n).ahead ≤ (least_of old.least n).ahead) × ((least_of v.least n).behind ≤ (least_of old.least n).behind)
     lower n end = let l = t.lower n (here n end) in let a = l.0 in let b = l.1 in rw (goes.least n (here n end)) (omega arith, omega arith)
 
-    to_least : IsTrue v.kept → KeepBoundTo old.least worlds → (x : WorldValue) (i n : ℕ) → IsEnd x.ends n → (slice_get worlds i ≡ Some x) ⊎ (v ≡ x) → IsAllowed (least_of old.least n) x.now n
-    to_least on was x i n end (inl e) = was i x e n end
-    to_least on was x i n end (inr e) =
-        subst (λ (y : WorldValue). IsEnd y.ends n → IsAllowed (least_of old.least n) y.now n) e (λ at. let l = lower n at in allowed_more (least_of old.least n) (least_of v.least n) v.now n l.0 l.1 ((goes.read).allowed on n at)) end
+    to_least : IsTrue v.kept → KeepBoundTo old.least worlds → KeepBoundTo old.least (worlds ++ v ∷ [])
+    to_least on was i x e =
+        elim (at_cases worlds v x i e) [
+          | inl o ↦ was i x o
+          | inr is ↦ subst (λ (y : WorldValue). (n : ℕ) → IsEnd y.ends n → IsAllowed (least_of old.least n) y.now n) is.0 (λ n end. let l = lower n end in allowed_more (least_of old.least n) (least_of v.least n) v.now n l.0 l.1 ((goes.read).allowed on n end))
+        ]
 
     -- to the new world from each
     to_new : IsTrue v.kept → (i : ℕ) (x : WorldValue) → slice_get (worlds ++ v ∷ []) i ≡ Some x → (n : ℕ) → IsEnd v.ends n → IsBounded x.now v.now n
-    to_new on i x e n end =
-        bounded v.least x.now v.now n (before x i (at_cases worlds v x i e)) (goes.read).now ((goes.read).readings n end) (seen x n end i (at_cases worlds v x i e)) ((goes.read).allowed on n end)
+    to_new on i x e n end = bounded v.least x.now v.now n (before i x e) (goes.read).now ((goes.read).readings n end) (seen i x e n end) ((goes.read).allowed on n end)
 
-    between : IsTrue v.kept → KeepDriftBound worlds → (i j : ℕ) (early late : WorldValue) → i ≤ j → slice_get (worlds ++ v ∷ []) i ≡ Some early → slice_get (worlds ++ v ∷ []) j ≡ Some late → (n : ℕ) → IsEnd late.ends n
-        → IsBounded early.now late.now n
-    between on was i j early late le p q n end = go (cases_lt j (length worlds))
-      where
-        go : (j < length worlds) ⊎ (length worlds ≤ j) → IsBounded early.now late.now n
-        go (inl lt) = was i j early late le (old_is_old worlds v early i p (omega arith)) (old_is_old worlds v late j q lt) n end
-        go (inr past) =
-            let same = new_is_last worlds v late j q past in
-            subst (λ (y : WorldValue). IsBounded early.now y.now n) same (to_new on i early p n (subst (λ (y : WorldValue). IsEnd y.ends n) (sym same) end))
+    between : IsTrue v.kept → KeepDriftBound worlds → KeepDriftBound (worlds ++ v ∷ [])
+    between on was i j early late le p q =
+        elim (at_cases worlds v late j q) [
+          | inl old ↦ elim (at_cases worlds v early i p) [ inl first ↦ was i j early late le first old | inr is ↦ let last = is.1 in absurd (omega (arith, slice_get_within worlds j late old)) ]
+          | inr is ↦ subst (λ (y : WorldValue). (n : ℕ) → IsEnd y.ends n → IsBounded early.now y.now n) is.0 (to_new on i early p)
+        ]
 
     allowed : KeepBoundTo old.least (worlds ++ v ∷ []) → KeepDriftBound (worlds ++ v ∷ []) → (n : ℕ) → IsEnd w.ends n → IsAllowed (least_of v.least n) v.now n
     allowed to bound n end =
-        let at = there n end in
+        let at : IsEnd v.ends n = (end.0, goes.same n ∙ end.1) in
         rw (goes.least n end)
         (allowed_lesser (least_of w.least n) (numbers_of v.now n) v.now n
         (t.allows n end v.now (to (length worlds) v (new_at worlds v) n at)
         (λ i x e.
-        let lt = at_least worlds x i e in
-        bound_allowed x.now v.now n (before x i (inl e)) (goes.read).now (seen x n at i (inl e)).read ((goes.read).readings n at) (bound i (length worlds) x v (omega arith) (old_at worlds v x i e) (new_at worlds v) n at)))
+        let lt = slice_get_within worlds i x e in
+        let there = old_at worlds v x i e in
+        bound_allowed x.now v.now n (before i x there) (goes.read).now (seen i x there n at).read ((goes.read).readings n at) (bound i (length worlds) x v (omega arith) there (new_at worlds v) n at)))
         (allowed_at_once v.now n))
 
 -- ---- the first

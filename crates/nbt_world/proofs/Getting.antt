@@ -44,6 +44,7 @@ use Rattle.nbt_world.specs.Getting.{CanGet}
 use Rattle.nbt_world.specs.Inner.Kept.{IsNodeOf, Invariant}
 use Rattle.nbt_world.specs.Inner.Handing.{HandsOver}
 use Rattle.nbt_world.proofs.Keeping.{addr_there, addr_with, node_with_here, server_addr_with, server_node_with, latest-up}
+use Rattle.nbt_world.proofs.Exact.{new_at}
 use Rattle.nbt_world.proofs.Naming.{OneMessage, node_stays, stays_by_moves}
 
 -- ---- a datagram of the list is delivered to the one end at its address
@@ -66,10 +67,6 @@ handed {w} {number = number} {d} there at now only (delivered k x n taken ends i
     }
 handed there at now only (node_does event n node new given own up does) = absurd (none-some n own)
 handed there at now only (node_is_down event n own down) = absurd (none-some n own)
-
-last_there : (xs : List Datagram) (x : Datagram) → slice_get (xs ++ x ∷ []) (length xs) ≡ Some x
-last_there [] x = refl
-last_there (y ∷ xs) x = last_there xs x
 
 -- ---- the node asks
 
@@ -294,7 +291,7 @@ name_got law a b c d (suc i) name kind ttl x y z kept can first second memory th
     let h = has_asked kept can first in
     let v = asked_world a i h.new h.addr h.octets in
     let hand : HandsOver v 0 h.addr a.ends.server_addr h.octets y c =
-    handed {d = datagram h.addr a.ends.server_addr a.now h.octets} (last_there a.sent _) refl refl (λ n e. kept.ends.apart n 0 a.ends.server_addr a.ends.server_addr (sym (addr_with a.ends i (Some h.new) n) ∙ e) refl refl)
+    handed {d = datagram h.addr a.ends.server_addr a.now h.octets} (new_at a.sent _) refl refl (λ n e. kept.ends.apart n 0 a.ends.server_addr a.ends.server_addr (sym (addr_with a.ends i (Some h.new) n) ∙ e) refl refl)
     (subst (λ (u : WorldValue). Step u (Deliver (length a.sent)) y c) h.world_is second) in
     let server = kept.server can.server (latest-up a.ends can.server can.server_up) in
     let g : HasGranted v h.addr h.id name kind ttl c =
@@ -305,7 +302,7 @@ name_got law a b c d (suc i) name kind ttl x y z kept can first second memory th
     let place : length v.sent ≡ length a.sent + 1 = length-append a.sent _ in
     let at : addr_of u.ends (suc i) ≡ Some h.addr = server_addr_with v.ends (Some g.server) v.ends.crashed (suc i) ∙ addr_with a.ends i (Some h.new) (suc i) ∙ h.at in
     let hand_back : HandsOver u (suc i) a.ends.server_addr h.addr (text (registered 0 r)) z d =
-    handed {d = datagram a.ends.server_addr h.addr a.now (text (registered 0 r))} (last_there v.sent _) at refl
+    handed {d = datagram a.ends.server_addr h.addr a.now (text (registered 0 r))} (new_at v.sent _) at refl
     (λ n e. kept.ends.apart n (suc i) h.addr h.addr (sym (server_addr_with v.ends (Some g.server) v.ends.crashed n ∙ addr_with a.ends i (Some h.new) n) ∙ e) h.at refl)
     (subst (λ (x : WorldValue). Step x (Deliver (length v.sent)) z d) g.world_is (subst (λ (k : ℕ). Step c (Deliver k) z d) (sym place) third)) in
     subst (λ (x : WorldValue). holding x (suc i) name ≡ Some kind) (sym hand_back.new_is)

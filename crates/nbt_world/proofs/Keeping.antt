@@ -99,36 +99,32 @@ pub asked_read : (w : WorldValue) {sent : List Datagram} {ip : ℕ} {name : Name
     → (moment : Clocks) (message : MessageValue) → Asked sent ip name moment message → reading moment n ≤ reading w.now n
 asked_read w n end all moment message x = subst (λ (m : Clocks). reading m n ≤ reading w.now n) x.moment_is ((all x.datagram x.among).seen n end).read
 
+-- what was asked or replied is in another list that has its datagram
+pub asked_among : {old new : List Datagram} {ip : ℕ} {name : NameValue} {moment : Clocks} {message : MessageValue} (a : Asked old ip name moment message) → Contains new a.datagram → Asked new ip name moment message
+asked_among a c = record { datagram = a.datagram; among = c; sender = a.sender; moment_is = a.moment_is; spelled = a.spelled; request = a.request }
+
+pub replied_among : {old new : List Datagram} {server to : Addr} {name : NameValue} {moment : Clocks} {message : MessageValue} (a : Replied old server to name moment message) → Contains new a.datagram → Replied new server to name moment message
+replied_among a c = record { datagram = a.datagram; among = c; sender = a.sender; receiver = a.receiver; moment_is = a.moment_is; spelled = a.spelled; reply = a.reply }
+
 -- what is new in the list isn't from this address
 pub asked_before : {old new : List Datagram} {ip : ℕ} {name : NameValue} (from : Addr) → from.ip ≢ ip → ((d : Datagram) → Contains new d → Contains old d ⊎ (d.from ≡ from)) → Within (Asked new ip name) (Asked old ip name)
-asked_before {old} {ip = ip} {name = name} from ne from_new moment message a = go (from_new a.datagram a.among)
-  where
-    go : Contains old a.datagram ⊎ (a.datagram.from ≡ from) → Asked old ip name moment message
-    go (inl c) = record { datagram = a.datagram; among = c; sender = a.sender; moment_is = a.moment_is; spelled = a.spelled; request = a.request }
-    go (inr e) = absurd (ne (ap (λ (f : Addr). f.ip) (sym e) ∙ a.sender))
+asked_before from ne from_new moment message a =
+    elim (from_new a.datagram a.among) [ inl c ↦ asked_among a c | inr e ↦ absurd (ne (ap (λ (f : Addr). f.ip) (sym e) ∙ a.sender)) ]
 
 -- what was asked and replied stays in a list that has grown
 abbrev pub Grows : List Datagram → List Datagram → Type 0
 Grows old new = (d : Datagram) → Contains old d → Contains new d
 
 pub asked_still : {old new : List Datagram} {ip : ℕ} {name : NameValue} → Grows old new → Within (Asked old ip name) (Asked new ip name)
-asked_still grows moment message a =
-    record { datagram = a.datagram; among = grows a.datagram a.among; sender = a.sender; moment_is = a.moment_is; spelled = a.spelled; request = a.request }
+asked_still grows moment message a = asked_among a (grows a.datagram a.among)
 
 -- what is new in the list isn't from the server
 replied_before : {old new : List Datagram} {from server to : Addr} {name : NameValue} → from ≢ server → ((d : Datagram) → Contains new d → Contains old d ⊎ (d.from ≡ from)) → Within (Replied new server to name) (Replied old server to name)
-replied_before {old} {from = from} {server = server} {to = to} {name = name} ne from_new moment message a = go (from_new a.datagram a.among)
-  where
-    go : Contains old a.datagram ⊎ (a.datagram.from ≡ from) → Replied old server to name moment message
-    go (inl c) = record { datagram = a.datagram; among = c; sender = a.sender; receiver = a.receiver; moment_is = a.moment_is; spelled = a.spelled; reply = a.reply }
-    go (inr e) = absurd (ne (sym e ∙ a.sender))
+replied_before ne from_new moment message a = elim (from_new a.datagram a.among) [ inl c ↦ replied_among a c | inr e ↦ absurd (ne (sym e ∙ a.sender)) ]
 
 -- a node isn't where the server is
 node_not_server : (w : WorldValue) (i : ℕ) (addr : Addr) → Invariant w → addr_of w.ends (suc i) ≡ Some addr → addr ≢ w.ends.server_addr
-node_not_server w i addr kept at e = suc_zero i (kept.ends.apart (suc i) zero addr w.ends.server_addr at refl (ap (λ (a : Addr). a.ip) e))
-  where
-    suc_zero : (k : ℕ) → suc k ≡ zero → ⊥
-    suc_zero k e = cc
+node_not_server w i addr kept at e = let none : suc i ≡ zero = kept.ends.apart (suc i) zero addr w.ends.server_addr at refl (ap (λ (a : Addr). a.ip) e) in cc
 
 -- ---- one node changes
 
@@ -137,18 +133,10 @@ abbrev pub IsNew : WorldValue → Addr → List Datagram → Type 0
 IsNew w addr sent = (d : Datagram) → Contains sent d → Contains w.sent d ⊎ ((d.from ≡ addr) × IsSent w.ends w.now w.least d)
 
 all_sent : (w : WorldValue) (addr : Addr) (sent : List Datagram) → Invariant w → IsNew w addr sent → (d : Datagram) → Contains sent d → IsSent w.ends w.now w.least d
-all_sent w addr sent kept new d c = go (new d c)
-  where
-    go : Contains w.sent d ⊎ ((d.from ≡ addr) × IsSent w.ends w.now w.least d) → IsSent w.ends w.now w.least d
-    go (inl old) = kept.sent d old
-    go (inr is) = is.1
+all_sent w addr sent kept new d c = elim (new d c) [ inl old ↦ kept.sent d old | inr is ↦ is.1 ]
 
 from_new : (w : WorldValue) (addr : Addr) (sent : List Datagram) → IsNew w addr sent → (d : Datagram) → Contains sent d → Contains w.sent d ⊎ (d.from ≡ addr)
-from_new w addr sent new d c = go (new d c)
-  where
-    go : Contains w.sent d ⊎ ((d.from ≡ addr) × IsSent w.ends w.now w.least d) → Contains w.sent d ⊎ (d.from ≡ addr)
-    go (inl old) = inl old
-    go (inr is) = inr is.0
+from_new w addr sent new d c = elim (new d c) [ inl old ↦ inl old | inr is ↦ inr is.0 ]
 
 -- A node has sent what is new in a list, or nothing is new.
 pub record Adds (w : WorldValue) (i : ℕ) (addr : Addr) (sent : List Datagram) : Type 0 where
@@ -259,8 +247,5 @@ server_changes w x y sent kept is new replies claims = record {
         ended-down (asked_read w zero (a, p) (all_sent w w.ends.server_addr sent kept new))
     requests_at on (suc j) a name p =
         ended-frame (omega arith) (omega arith)
-        (asked_before w.ends.server_addr (λ same. zero_suc j (kept.ends.apart zero (suc j) w.ends.server_addr a refl p same)) (from_new w w.ends.server_addr sent new))
+        (asked_before w.ends.server_addr (λ same. let none : zero ≡ suc j = kept.ends.apart zero (suc j) w.ends.server_addr a refl p same in cc) (from_new w w.ends.server_addr sent new))
         (kept.requests on (suc j) a name p)
-      where
-        zero_suc : (k : ℕ) → zero ≡ suc k → ⊥
-        zero_suc k e = cc

@@ -95,15 +95,11 @@ none_past ends n lt =
     go i le = let past = slice_get_past ends.nodes.items i le in rw past (refl, refl)
 
 pub within_from : (ends : Ends) (n : ℕ) → IsSome (addr_of ends n) → n ≢ 0 → n ≤ length ends.nodes.items
-within_from ends n some ne = go (cases_lt (length ends.nodes.items) n)
+within_from ends n some ne = elim (cases_lt (length ends.nodes.items) n) [ inl lt ↦ absurd (is_none_some (addr_of ends n) (none_past ends n lt).0 some) | inr le ↦ le ]
   where
-    go : (length ends.nodes.items < n) ⊎ (n ≤ length ends.nodes.items) → n ≤ length ends.nodes.items
-    go (inl lt) = absurd (is_none_some (addr_of ends n) (none_past ends n lt).0 some)
-      where
-        is_none_some : (o : Option Addr) → o ≡ None → IsSome o → ⊥
-        is_none_some None e s = cc
-        is_none_some (Some a) e s = cc
-    go (inr le) = le
+    is_none_some : (o : Option Addr) → o ≡ None → IsSome o → ⊥
+    is_none_some None e s = cc
+    is_none_some (Some a) e s = cc
 
 -- ---- ends that start, crash and take
 
@@ -134,13 +130,6 @@ server_resumed ends down is now past =
     subst (λ (o : Option ServerValue). Resumes now ends (with_server ends o None)) (sym s.1)
     (server_resumes s.0 s.0 (is_nothing ends.server down) s.1 (record { leases = refl; start = refl; config = refl; was_called = on; called = on }))
 
-pub server_stays_down : (ends : Ends) (n : ℕ) → n ≡ 0 → is_none ends.server ≡ true → ¬ IsUp ends n
-server_stays_down ends n e is = subst (λ (m : ℕ). ¬ IsUp ends m) (sym e) (λ u. none_is ends.server u.0 is u.1)
-  where
-    none_is : (o : Option ServerValue) (s : ServerValue) → is_none o ≡ true → o ≡ Some s → ⊥
-    none_is None s is e = cc
-    none_is (Some t) s is e = absurd cc
-
 pub node_crashed : (ends : Ends) (n : ℕ) (ys : List NodeEnd) (r : NodeEnd) (b : Bool) (e : NodeEnd) → Reads ends n ys r
     → MatchBool b (IsSome (get_or ys (n - 1) r).node × (e ≡ record (get_or ys (n - 1) r) { node = None })) (((get_or ys (n - 1) r).node ≡ None) × (e ≡ get_or ys (n - 1) r))
     → MatchBool b (Crashes ends n (written_back ends n ys e)) ((¬ IsUp ends n) × (written_back ends n ys e ≡ ends))
@@ -148,17 +137,11 @@ node_crashed ends n ys r true e reads is =
     let node = is_there (get_or ys (n - 1) r).node is.0 in
     let left : written_back ends n ys e ≡ with_node ends n None = ap (λ (x : NodeEnd). written_back ends n ys x) is.1 ∙ written_node None reads in
     let up : node_of ends n ≡ Some node.0 = node_read reads ∙ node.1 in
-    subst (λ (x : Ends). Crashes ends n x) (sym left) (crashed n reads.is_node up)
-  where
-    crashed : (m : ℕ) → m ≢ 0 → {node : NodeValue} → node_of ends m ≡ Some node → Crashes ends m (with_node ends m None)
-    crashed zero ne up = absurd (ne refl)
-    crashed (suc i) ne {node} up = node_crashes i node up
-node_crashed ends n ys r false e reads is =
-    (up n reads.is_node (node_read reads ∙ is.0), ap (λ (x : NodeEnd). written_back ends n ys x) is.1 ∙ written_same reads)
-  where
-    up : (m : ℕ) → m ≢ 0 → node_of ends m ≡ None → ¬ IsUp ends m
-    up zero ne down = absurd (ne refl)
-    up (suc i) ne down = λ u. none-some u.0 (sym down ∙ u.1)
+    subst (λ (x : Ends). Crashes ends n x) (sym left) (place_from (λ m. node_of ends m ≡ Some node.0 → Crashes ends m (with_node ends m None)) n reads.is_node (λ at. node_crashes (n - 1) node.0 at) up)
+node_crashed ends n ys r false e reads is = (
+  place_from (λ m. node_of ends m ≡ None → ¬ IsUp ends m) n reads.is_node (λ down u. none-some u.0 (sym down ∙ u.1)) (node_read reads ∙ is.0),
+  ap (λ (x : NodeEnd). written_back ends n ys x) is.1 ∙ written_same reads,
+)
 
 pub server_took : {now n : ℕ} {ends : Ends} {from : Addr} {octets : List ℕ} {server new : ServerValue} {taken : TakenValue} → n ≡ 0 → ends.server ≡ Some server
     → ServerDoes now server from.ip octets taken new → EndTakes now ends from octets n taken (with_server ends (Some new) ends.crashed)
@@ -171,32 +154,19 @@ pub node_took : {now n : ℕ} {ends : Ends} {from : Addr} {octets : List ℕ} {y
     → (get_or ys (n - 1) r).node ≡ Some node → NodeHandles now node from octets reply new
     → EndTakes now ends from octets n (takes reply) (written_back ends n ys (record (get_or ys (n - 1) r) { node = Some new }))
 node_took {now} {n} {ends} {from} {octets} {node = node} {new} {reply} reads is hears =
-    subst (λ (x : Ends). EndTakes now ends from octets n (takes reply) x) (sym (written_node (Some new) reads)) (took n reads.is_node (node_read reads ∙ is))
-  where
-    took : (m : ℕ) → m ≢ 0 → node_of ends m ≡ Some node → EndTakes now ends from octets m (takes reply) (with_node ends m (Some new))
-    took zero ne up = absurd (ne refl)
-    took (suc i) ne up = by_node i node new reply up hears
+    subst (λ (x : Ends). EndTakes now ends from octets n (takes reply) x) (sym (written_node (Some new) reads))
+    (place_from (λ m. node_of ends m ≡ Some node → EndTakes now ends from octets m (takes reply) (with_node ends m (Some new))) n reads.is_node (λ up. by_node (n - 1) node new reply up hears) (node_read reads ∙ is))
 
 pub node_is_down : {now n : ℕ} {ends : Ends} {from : Addr} {octets : List ℕ} {ys : List NodeEnd} {r : NodeEnd} → Reads ends n ys r → (get_or ys (n - 1) r).node ≡ None
     → EndTakes now ends from octets n is_down (written_back ends n ys (get_or ys (n - 1) r))
-node_is_down {now} {n} {ends} {from} {octets} reads is =
-    subst (λ (x : Ends). EndTakes now ends from octets n is_down x) (sym (written_same reads)) (finds_down n (down n reads.is_node (addr_read reads) (node_read reads ∙ is)))
-  where
-    down : (m : ℕ) → m ≢ 0 → {addr : Addr} → addr_of ends m ≡ Some addr → node_of ends m ≡ None → IsDown ends m
-    down zero ne at is = absurd (ne refl)
-    down (suc i) ne {addr} at is = (addr, at, is)
+node_is_down {now} {n} {ends} {from} {octets} {ys} {r} reads is =
+    subst (λ (x : Ends). EndTakes now ends from octets n is_down x) (sym (written_same reads))
+    (finds_down n (place_from (λ m. addr_of ends m ≡ Some (get_or ys (n - 1) r).addr → node_of ends m ≡ None → IsDown ends m) n reads.is_node (λ at down. ((get_or ys (n - 1) r).addr, at, down)) (addr_read reads) (node_read reads ∙ is)))
 
 pub server_started : {config : ConfigValue} {now n : ℕ} {ends : Ends} {server : ServerValue} → n ≡ 0 → is_some ends.server ≡ false → ServerStarts config now server
     → Starts config now ends n (with_server ends (Some server) None)
 server_started {config} {now} {ends = ends} {server} e is new =
     subst (λ (m : ℕ). Starts config now ends m (with_server ends (Some server) None)) (sym e) (server_starts server (is_nothing ends.server is) new)
-
-pub server_stays_up : (ends : Ends) (n : ℕ) → n ≡ 0 → is_some ends.server ≡ true → ¬ IsDown ends n
-server_stays_up ends n e is = subst (λ (m : ℕ). ¬ IsDown ends m) (sym e) (λ down. some_is ends.server is down)
-  where
-    some_is : (o : Option ServerValue) → is_some o ≡ true → o ≡ None → ⊥
-    some_is None is e = absurd cc
-    some_is (Some t) is e = cc
 
 pub node_started : (config : ConfigValue) (now : ℕ) (ends : Ends) (n : ℕ) (ys : List NodeEnd) (r : NodeEnd) (b : Bool) (e : NodeEnd) → Reads ends n ys r
     → MatchBool b (((get_or ys (n - 1) r).node ≡ None) × (e ≡ record (get_or ys (n - 1) r) { node = Some (started 14 (get_or ys (n - 1) r).addr ends.server_addr config now) }))
@@ -205,18 +175,14 @@ pub node_started : (config : ConfigValue) (now : ℕ) (ends : Ends) (n : ℕ) (y
 node_started config now ends n ys r true e reads is =
     let left : written_back ends n ys e ≡ with_node ends n (Some (started 14 (get_or ys (n - 1) r).addr ends.server_addr config now)) =
     ap (λ (x : NodeEnd). written_back ends n ys x) is.1 ∙ written_node _ reads in
-    subst (λ (x : Ends). Starts config now ends n x) (sym left) (begun n reads.is_node (addr_read reads) (node_read reads ∙ is.0))
-  where
-    begun : (m : ℕ) → m ≢ 0 → {addr : Addr} → addr_of ends m ≡ Some addr → node_of ends m ≡ None → Starts config now ends m (with_node ends m (Some (started 14 addr ends.server_addr config now)))
-    begun zero ne at down = absurd (ne refl)
-    begun (suc i) ne {addr} at down = node_starts i addr at down
+    subst (λ (x : Ends). Starts config now ends n x) (sym left)
+    (place_from (λ m. addr_of ends m ≡ Some (get_or ys (n - 1) r).addr → node_of ends m ≡ None → Starts config now ends m (with_node ends m (Some (started 14 (get_or ys (n - 1) r).addr ends.server_addr config now)))) n reads.is_node
+    (λ at down. node_starts (n - 1) (get_or ys (n - 1) r).addr at down) (addr_read reads) (node_read reads ∙ is.0))
 node_started config now ends n ys r false e reads is =
-    let node = is_there (get_or ys (n - 1) r).node is.0 in
-    (down n reads.is_node (node_read reads ∙ node.1), ap (λ (x : NodeEnd). written_back ends n ys x) is.1 ∙ written_same reads)
-  where
-    down : (m : ℕ) → m ≢ 0 → {node : NodeValue} → node_of ends m ≡ Some node → ¬ IsDown ends m
-    down zero ne up = absurd (ne refl)
-    down (suc i) ne {node} up = λ d. none-some node (sym d.2 ∙ up)
+    let node = is_there (get_or ys (n - 1) r).node is.0 in (
+      place_from (λ m. node_of ends m ≡ Some node.0 → ¬ IsDown ends m) n reads.is_node (λ up d. none-some node.0 (sym d.2 ∙ up)) (node_read reads ∙ node.1),
+      ap (λ (x : NodeEnd). written_back ends n ys x) is.1 ∙ written_same reads,
+    )
 
 -- ---- 32-bit addresses
 

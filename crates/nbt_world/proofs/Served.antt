@@ -25,7 +25,7 @@ use Rattle.nbt_world.specs.Inner.Kept.{IsRequest, AsksAs, Replied, known, Wants,
 use Rattle.nbt_world.proofs.Claiming.{claims_want}
 use Rattle.nbt_world.proofs.Drifting.{hold_over}
 use Rattle.nbt_world.proofs.Keeping.{Grows, server_addr_with, server_node_with}
-use Rattle.nbt_world.proofs.Covering.{replied_still, server_claims}
+use Rattle.nbt_world.proofs.Covering.{covered_as, replied_still, server_claims}
 use Rattle.nbt_world.specs.Inner.Handing.{Origin, listed, strange, harmless}
 use Rattle.nbt_world.proofs.Granting.{LeaseLaws, Gives, granted_most, octets_keep, octets_give}
 
@@ -140,15 +140,7 @@ served_claims laws {w} {server} {new} {from} {reply = reply} {sent} took = recor
         → IsCoveredIn (record w { ends = with_server w.ends (Some new) w.ends.crashed; sent = sent }) n a q kind end
     covered n a q kind end p lt (before c) =
         let is = (took.kept.claims took.on).covered n a q kind end p c lt in
-        record {
-          moment = is.moment;
-          message = is.message;
-          replied_is = replied_still took.grows is.moment is.message is.replied_is;
-          seconds = is.seconds;
-          within = is.within;
-          counted = is.counted;
-          backed = backs_still laws took (record { at = p; wants = claims_want c }) (backed a q kind (reading is.moment 0 + 1000 * is.seconds) is.backed);
-        }
+        covered_as (replied_still took.grows) is (backs_still laws took (record { at = p; wants = claims_want c }) (backed a q kind (reading is.moment 0 + 1000 * is.seconds) is.backed))
     covered n a q kind end p lt (given g ends) =
         let leased = ((gives laws took g).1).leased in
         record {
