@@ -2,6 +2,7 @@
 
 ghost use Rattle.std.specs.Prelude.{◌≡◌, ◌≤◌};
 
+use crate::offline;
 use nbt_args::{Refusal, Text};
 use nbt_port::Fault;
 use std::io;
@@ -75,15 +76,15 @@ impl From<Refusal> for Failure {
     }
 }
 
-impl From<nbt_offline::Failure> for Failure {
+impl From<offline::Failure> for Failure {
     ghost use Rattle.nbt_prog.specs.Inner.Failure.{failure_of_offline};
 
     ghost from_gives = { λ error failure. failure ≡ failure_of_offline error };
 
-    fn from(error: nbt_offline::Failure) -> Failure {
+    fn from(error: offline::Failure) -> Failure {
         match error {
-            nbt_offline::Failure::Unreadable => Failure::Unreadable,
-            nbt_offline::Failure::Fault(fault) => Failure::Fault(fault),
+            offline::Failure::Unreadable => Failure::Unreadable,
+            offline::Failure::Fault(fault) => Failure::Fault(fault),
         }
     }
 }
