@@ -1,7 +1,7 @@
 -- The turns of a node: none, one after others, and one that ends them.
-use Rattle.std.proofs.Common.{ℕ, ◌+◌, ◌<◌, List, [], ◌∷◌, ◌++◌, refl, sym, ap, subst, ◌∙◌, length-append}
+use Rattle.std.proofs.Common.{ℕ, ◌+◌, ◌<◌, [], ◌∷◌, ◌++◌, refl, sym, ap, subst, ◌∙◌, length-append}
 use Rattle.nbt_name.specs.declared.addr.Addr.{Addr}
-use Rattle.nbt_port.specs.PortCalls.{PortCall, Chain}
+use Rattle.nbt_port.specs.PortCalls.{PortCall}
 use Rattle.nbt_client.specs.declared.turning.Seen.{Seen}
 use Rattle.nbt_client.specs.declared.turning.Want.{Want}
 use Rattle.nbt_port.proofs.Chains.{chain_on}

@@ -7,8 +7,8 @@ use nbt_lease::Moment;
 use nbt_port::Clock;
 use std::marker::Model;
 
-/// A clock that tells the moments one after the other: each reading is one millisecond after the reading before. At the
-/// last moment, 2^60, it stays.
+/// A clock that tells the times one after the other: each reading is one millisecond after the reading before. At the last
+/// time, 2^60, it stays.
 #[derive(Debug, Drop)]
 pub struct CountedClock {
     next: Moment,
@@ -23,7 +23,7 @@ impl Model for CountedClock {
 }
 
 impl CountedClock {
-    /// A clock whose first reading is this moment.
+    /// A clock whose first reading is this time.
     pub fn from(first: Moment) -> CountedClock
         ensures { result ≡ first }
     {

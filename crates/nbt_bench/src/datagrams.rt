@@ -10,8 +10,8 @@ use nbt_port::{Device, Port};
 /// The DGM_ID of the one datagram (RFC 1002 section 4.4.1).
 const ID: u16 = 1;
 
-/// How often the receiver receives for one datagram, which comes in two packets at most. The rest is for what another
-/// program of this machine sends there, and for a receive that ends early.
+/// How often the receiver receives for one datagram, which comes in two packets at most. The rest is for what another program
+/// of this system sends there, and for a receive that ends early.
 const RECEIVES: u32 = 8;
 
 /// Sends data from a name of one end node to a name of another, at `to`. Returns how many octets were handed up there
@@ -51,8 +51,8 @@ fn send_packets<P: Port>(port: &mut P, to: Addr, packets: &Fragments<'_>) -> Res
     Ok(())
 }
 
-/// Receives until the data that `source` sent are handed up, and returns how many octets they are. What another program
-/// sent is passed over. `Nothing` where they aren't handed up by the last receive.
+/// Receives until the data that `source` sent are handed up, and returns how many octets they are. What another program sent is
+/// ignored. `Nothing` where they aren't handed up by the last receive.
 fn receive_data<P: Port + Drop>(
     end: &mut EndNode<P>,
     server: &mut NameServer<P>,

@@ -8,7 +8,7 @@ ghost use Rattle.nbt_bench.specs.Texts.{outcome_text};
 
 use crate::datagrams::send_data;
 use crate::end_node::{EndNode, NameServer};
-use crate::names::{ask, release, resolve};
+use crate::names::{Request, make_request};
 use crate::outcome::{Outcome, write_outcome};
 use crate::ports::Ports;
 use crate::sessions::{Call, Session};
@@ -17,7 +17,7 @@ use nbt_dgram::Joiner;
 use nbt_lease::{Config, Moment, ROWS_MOST};
 use nbt_name::{Addr, Kind, Name};
 use nbt_node::{Event, Node};
-use nbt_port::{Cause, Fault, Port, UdpPort, bound_port, not_bound};
+use nbt_port::{Cause, Fault, Port, UdpPort, bound_port, not_bound, print, tell_end_of};
 use nbt_text::end_line;
 use std::alloc::Global;
 use std::io::Write;
@@ -38,13 +38,12 @@ const LONGEST: u32 = 60;
 /// What is sent, in the datagram and in the message.
 const HELLO: &[u8] = b"hello";
 
-/// Lets a name server and two end nodes talk over the sockets of this machine: UDP for names and datagrams, TCP for
-/// sessions. Each step's line goes to `writer` as soon as it is done. All sockets are bound before the first line, and
-/// closed at the end. What another program sends to a node is passed over, up to a few datagrams or connections a step.
-/// Refused: `NoPort` where a socket can't be bound, but for want of memory; `Device` where one of UDP or one that
-/// listens fails; `Output` where `writer` fails; `Memory` where memory is refused. Of a socket a line in `errors` says
-/// which call of it failed, at which address, and why; what can't be written there is passed over. A TCP connection
-/// that fails is lost, as the end that calls sees it.
+/// Lets a name server and two end nodes talk over the sockets of this system: UDP for names and datagrams, TCP for sessions.
+/// Each step's line goes to `writer` as soon as it is done. All sockets are bound before the first line, and closed at the end.
+/// What another program sends to a node is ignored, up to a few datagrams or connections a step. Refused: `NoPort` where a
+/// socket can't be bound, but for want of memory; `Device` where one of UDP or one that listens fails; `Output` where `writer`
+/// fails; `Memory` where it is out of memory. Of a socket a line in `errors` says which call of it failed, at which address,
+/// and why; what can't be written there is ignored. A TCP connection that fails is lost, as the end that calls sees it.
 pub fn run_loop<R: Net, W: Write, E: Write>(
     rt: &R,
     alloc: Global,
@@ -54,11 +53,7 @@ pub fn run_loop<R: Net, W: Write, E: Write>(
 ) -> Result<(), Fault> {
     let mut demo = Demo::open(rt, alloc, ports, errors)?;
     let played = demo.play(rt, writer);
-    if played == Err(Fault::Device) {
-        if let Some(cause) = demo.cause() {
-            cause.tell("", errors);
-        }
-    }
+    tell_end_of(played.err(), demo.cause(), errors);
     played
 }
 
@@ -166,10 +161,10 @@ impl<R: Net> Demo<R> {
         let mut octets = ArrayVec::new();
         let server = &mut self.ends.server;
         let second = &mut self.ends.second;
-        let event = resolve(second, server, &self.fred, &mut octets)?;
+        let event = make_request(second, server, &self.fred, Request::Query, &mut octets)?;
         let holder = first_address(event);
         tell(self.alloc, writer, "n2 finds FRED:", Outcome::Event(event))?;
-        let event = resolve(second, server, &self.team, &mut octets)?;
+        let event = make_request(second, server, &self.team, Request::Query, &mut octets)?;
         tell(self.alloc, writer, "n2 finds TEAM:", Outcome::Event(event))?;
         Ok(holder)
     }
@@ -216,7 +211,7 @@ impl<R: Net> Demo<R> {
         self.session.hang_up(now, &self.ends.first.node)
     }
 
-    /// The first gives `FRED` back, and the second calls it once more.
+    /// The first releases `FRED`, and the second calls it once more.
     fn give_up_name<W: Write>(
         &mut self,
         rt: &R,
@@ -226,7 +221,7 @@ impl<R: Net> Demo<R> {
         let mut octets = ArrayVec::new();
         let server = &mut self.ends.server;
         let first = &mut self.ends.first;
-        let event = release(first, server, &self.fred, &mut octets)?;
+        let event = make_request(first, server, &self.fred, Request::Release, &mut octets)?;
         tell(
             self.alloc,
             writer,
@@ -278,11 +273,11 @@ fn claim<P: Port + Drop, W: Write>(
     kind: Kind,
 ) -> Result<(), Fault> {
     let mut octets = ArrayVec::new();
-    let event = ask(end, server, name, kind, &mut octets)?;
+    let event = make_request(end, server, name, Request::Register(kind), &mut octets)?;
     tell(alloc, writer, step, Outcome::Event(event))
 }
 
-/// Listens for calls to `FRED`. Where that can't be, it says why in `errors`.
+/// Listens for calls to `FRED`. Where that can't be, a line in `errors` says why.
 fn listen<R: Net, E: Write>(
     rt: &R,
     alloc: Global,
@@ -353,12 +348,9 @@ fn tell<W: Write>(
     tell_line(writer, line.as_str())
 }
 
-/// Writes a line, at once.
+/// Writes a line, and flushes.
 fn tell_line<W: Write>(writer: &mut W, line: &str) -> Result<(), Fault>
     ensures { OnOk result (Appends (W.contents writer.old) (W.contents writer.new) line.now) }
 {
-    if writer.write_all(line.as_bytes()).is_err() || writer.flush().is_err() {
-        return Err(Fault::Output);
-    }
-    Ok(())
+    print(line, writer).map_err(|_| Fault::Output)
 }

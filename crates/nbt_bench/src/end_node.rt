@@ -81,7 +81,7 @@ impl<P: Port + Drop> NameServer<P> {
         self.port.cause()
     }
 
-    /// The next moment.
+    /// The next time.
     pub fn now(&mut self) -> Moment
         ensures clock { CountsOn self.old.clock result self.new.clock }
         ensures addr { self.new.addr ≡ self.old.addr }

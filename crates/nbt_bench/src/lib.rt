@@ -1,5 +1,5 @@
-//! `serve`, `node` and `loop` over this machine's sockets, with fixed texts (RFC 1002 section 5): a name server, an end node, and
-//! both kinds in one process.
+//! `serve`, `node` and `loop` over this system's sockets, with fixed texts (RFC 1002 section 5): a name server, an end node,
+//! and both kinds in one process.
 //!
 //! `loop` runs a name server and two end nodes, one after the other, through names, datagrams and sessions, as a new user may try
 //! them. The server is at 127.0.0.1, the end nodes `n1` and `n2` at 127.0.0.2 and 127.0.0.3. It reads no clock of the machine: the
@@ -15,6 +15,7 @@ mod listening_end;
 mod names;
 mod node;
 mod outcome;
+mod port;
 mod ports;
 mod serve;
 mod sessions;

@@ -16,7 +16,7 @@ use std::net::{Ipv4Addr, Net, OpenListener, SocketAddr, TcpListener};
 /// The listener's one slot.
 const SLOT: usize = 0;
 
-/// How many accepts are made for one call: those that were interrupted, and those of other programs of this machine, whose
+/// How many accepts are made for one call: those that were interrupted, and those of other programs of this system, whose
 /// connections are closed, count too.
 const ACCEPTS: u32 = 8;
 

@@ -9,59 +9,49 @@ use nbt_name::{Kind, Name};
 use nbt_node::Event;
 use nbt_port::{Device, Port};
 
-/// The seconds that a name is asked for.
+/// The TTL of a registration, in seconds.
 const TTL: u32 = 60;
 
-/// How many turns the server has for one request. One is enough, but where another program of this machine sends
-/// something to the server or to the node, or a receive ends early.
+/// How many turns the server has for one request. One is enough, but where another program of this system sends something to
+/// the server or to the node, or a receive ends early.
 const TURNS: u32 = 8;
 
-/// The end node asks for the name. Returns what the server's reply was to it.
-pub fn ask<'a, P: Port + Drop>(
+/// What an end node requests of the server about a name.
+#[derive(Clone, Copy, Debug, PartialEq, Eq)]
+pub enum Request {
+    /// It registers the name.
+    Register(Kind),
+    /// It releases the name.
+    Release,
+    /// It looks the name up.
+    Query,
+}
+
+/// The end node makes a request about the name. Returns what the server's reply was to it: `Nothing` where the node makes none.
+pub fn make_request<'a, P: Port + Drop>(
     end: &mut EndNode<P>,
     server: &mut NameServer<P>,
     name: &Name,
-    kind: Kind,
+    request: Request,
     octets: &'a mut ArrayVec<u8, 2048>,
 ) -> Result<Event<'a>, Device> {
     let mut out = ArrayVec::new();
-    match end.node.ask(server.now(), name, kind, TTL, &mut out) {
-        Ok(()) => exchange(end, server, &out, octets),
-        Err(_) => Ok(Event::Nothing),
+    let now = server.now();
+    let is_made = match request {
+        Request::Register(kind) => end.node.ask(now, name, kind, TTL, &mut out).is_ok(),
+        Request::Release => end.node.release(now, name, &mut out).is_ok(),
+        Request::Query => end.node.resolve(now, name, &mut out).is_ok(),
+    };
+    if is_made {
+        exchange(end, server, &out, octets)
+    } else {
+        Ok(Event::Nothing)
     }
 }
 
-/// The end node gives the name back. Returns what the server's reply was to it.
-pub fn release<'a, P: Port + Drop>(
-    end: &mut EndNode<P>,
-    server: &mut NameServer<P>,
-    name: &Name,
-    octets: &'a mut ArrayVec<u8, 2048>,
-) -> Result<Event<'a>, Device> {
-    let mut out = ArrayVec::new();
-    match end.node.release(server.now(), name, &mut out) {
-        Ok(()) => exchange(end, server, &out, octets),
-        Err(_) => Ok(Event::Nothing),
-    }
-}
-
-/// The end node looks the name up. Returns what the server's reply was to it.
-pub fn resolve<'a, P: Port + Drop>(
-    end: &mut EndNode<P>,
-    server: &mut NameServer<P>,
-    name: &Name,
-    octets: &'a mut ArrayVec<u8, 2048>,
-) -> Result<Event<'a>, Device> {
-    let mut out = ArrayVec::new();
-    match end.node.resolve(server.now(), name, &mut out) {
-        Ok(()) => exchange(end, server, &out, octets),
-        Err(_) => Ok(Event::Nothing),
-    }
-}
-
-/// Sends a request to the server, and lets the server and the node take turns until its reply is there, which the node
-/// takes. What another program sent to the node is passed over, and so is a reply that came too late for its request.
-/// `Nothing` where no reply is there after the last turn.
+/// Sends a request to the server, and lets the server and the node take turns until its reply is there, which the node takes.
+/// What another program sent to the node is ignored, and so is a reply that came too late for its request. `Nothing` where no
+/// reply is there after the last turn.
 fn exchange<'a, P: Port + Drop>(
     end: &mut EndNode<P>,
     server: &mut NameServer<P>,
@@ -89,7 +79,7 @@ fn is_reply(request: &[u8], octets: &[u8]) -> bool
     }
 }
 
-/// The node takes what came from the server.
+/// The node handles what came from the server.
 fn hear<'a, P: Port + Drop>(
     end: &mut EndNode<P>,
     server: &mut NameServer<P>,

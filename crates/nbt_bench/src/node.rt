@@ -6,14 +6,13 @@ ghost use Rattle.nbt_node.specs.Calls.{started};
 ghost use Rattle.nbt_node.specs.Node.{holds};
 ghost use Rattle.nbt_bench.specs.Node.{Turns, BreaksTurns, CutsTurn, TakesTurns, EndsTurns, RunsFor, NodeFailsFor, NodeIsCutFor, RunsNode, NodeFails, NodeIsCut, RunsNodeHere, NodeFailsHere, NodeIsCutHere, seen_text, held_text};
 
+use crate::port::bound_port;
 use crate::staying::node_on;
 use nbt_client::{SLOTS, Seen, Want, node_turn};
 use nbt_lease::{Config, Moment};
 use nbt_name::Addr;
 use nbt_node::Node;
-use nbt_port::{
-    Clock, FOREVER, Fault, MachineClock, Port, bound_port, readable_clock, tell_end_of,
-};
+use nbt_port::{Clock, FOREVER, Fault, MachineClock, Port, readable_clock, tell_end_of};
 use std::io::Write;
 use std::net::Net;
 use std::{io, time};
@@ -52,10 +51,10 @@ pub fn run_node<M: Net + time::Clock, W: Write, E: Write>(
     ensures output { result ≡ Err Fault.Output → NodeIsCutHere arguments.now (W.contents writer.old) (W.contents writer.new) }
     ensures memory { result ≢ Err Fault.Memory }
 {
-    let mut port = bound_port(machine, arguments.bind, errors).map_err(|_| Fault::NoPort)?;
+    let mut port = bound_port(machine, arguments.bind, errors)?;
     let mut clock = readable_clock(machine, arguments.bind, errors)?;
     let run = run_turns(&mut port, &mut clock, arguments, writer, machine, errors);
-    tell_end_of(run, port.cause(), errors);
+    tell_end_of(run.err(), port.cause(), errors);
     run
 }
 

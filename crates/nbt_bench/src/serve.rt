@@ -4,11 +4,12 @@ ghost use Rattle.std.specs.Prelude.{◌≡◌, ◌≢◌, ◌≤◌, ◌^◌, On
 ghost use Rattle.std.specs.Io.KnownBytes.{Appends};
 ghost use Rattle.nbt_bench.specs.Serve.{RunsServer, ServerFails, ServerIsCut, RunsServerHere, ServerFailsHere, ServerIsCutHere, ServesFor, FailsFor, IsCutFor, counts_text};
 
+use crate::port::bound_port;
 use crate::staying::serve_on;
 use nbt_lease::Config;
 use nbt_name::Addr;
 use nbt_nbns::{Counts, serve_turns};
-use nbt_port::{Clock, FOREVER, Fault, Port, bound_port, readable_clock, tell_end_of};
+use nbt_port::{Clock, FOREVER, Fault, Port, readable_clock, tell_end_of};
 use nbt_server::Server;
 use std::alloc::Global;
 use std::io::Write;
@@ -47,12 +48,12 @@ pub fn run_server<M: Net + time::Clock, W: Write, E: Write>(
     ensures output { result ≡ Err Fault.Output → ServerIsCutHere arguments.now }
     ensures memory { result ≢ Err Fault.Memory }
 {
-    let mut port = bound_port(machine, arguments.bind, errors).map_err(|_| Fault::NoPort)?;
+    let mut port = bound_port(machine, arguments.bind, errors)?;
     let mut clock = readable_clock(machine, arguments.bind, errors)?;
     let served = serve(
         alloc, &mut port, &mut clock, arguments, writer, machine, errors,
     );
-    tell_end_of(served, port.cause(), errors);
+    tell_end_of(served.err(), port.cause(), errors);
     served
 }
 

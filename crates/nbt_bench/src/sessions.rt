@@ -50,8 +50,8 @@ impl<R: Net> Session<R> {
         self.listening.cause()
     }
 
-    /// Makes the call at this moment, and returns what became of it (RFC 1002 section 5.2.1). `Nothing` where that
-    /// isn't known by the last event that is waited for.
+    /// Makes the call at this time, and returns what became of it (RFC 1002 section 5.2.1). `Nothing` where that isn't known by
+    /// the last event that is waited for.
     pub fn call(
         &mut self,
         rt: &R,

@@ -1,6 +1,5 @@
 -- A lookup over a port and a clock, turn by turn (our profile).
 use Rattle.std.specs.Prelude.{◌≡◌, ℕ, ◌+◌, ◌<◌, Bool, true, false, List, [], ◌∷◌, ◌++◌, length, Some, None}
-use Rattle.std.specs.List.{flat_map}
 use Rattle.nbt_name.specs.declared.addr.Addr.{Addr}
 use Rattle.nbt_node.specs.declared.fault.LookupFault.{LookupFault}
 use Rattle.nbt_node.specs.Node.{NodeValue, lookup_open}
@@ -53,34 +52,37 @@ pub record GoesOn (limit : ℕ) (node : NodeValue) (now : ℕ) : Type 0 where
   pub early : now < limit
   pub is_open : lookup_open node now ≡ true
 
+-- a port, a clock and a node
+pub record Looking (P C : Type 0) : Type 0 where
+  pub port : P
+  pub clock : C
+  pub node : NodeValue
+
 -- a turn that doesn't end it
-pub record Waits (limit : ℕ) (old : NodeValue) (turn : Turn) (new : NodeValue) : Type 0 where
+pub record Waits {P C : Type 0} (does : P → PortCall → P → Type 0) (tells : C → ℕ → C → Type 0) (limit : ℕ) (old : Looking P C) (turn : Turn) (new : Looking P C) : Type 0 where
   pub told : Told
-  pub on : GoesOn limit old turn.first
-  pub takes : Takes old turn told new
+  pub on : GoesOn limit old.node turn.first
+  pub takes : Takes old.node turn told new.node
   pub other : is_end told ≡ false
+  pub port_did : Chain does old.port (acts_in turn) new.port
+  pub clock_told : Chain tells old.clock (moments_in turn) new.clock
 
 -- ---- its end
 
 -- What ended it, after a number of turns: a reply, of these octets; or a moment at which it doesn't go on, at which nothing is
 -- done; or that it had all its turns.
-pub data Ends (limit most count : ℕ) (old : NodeValue) : Ending → (octets : List ℕ) → List PortCall → List ℕ → NodeValue → Type 0 where
-  is_told : (from : Addr) (octets : List ℕ) (turn : Turn) (told : Told) (new : NodeValue) → GoesOn limit old turn.first → Takes old turn told new → is_end told ≡ true → turn.hearing ≡ came from octets
-      → Ends limit most count old e.Told octets (acts_in turn) (moments_in turn) new
-  is_late : (now : ℕ) (octets : List ℕ) → ¬ GoesOn limit old now → Ends limit most count old e.NoReply octets [] (now ∷ []) old
-  is_spent : (octets : List ℕ) → count ≡ most → Ends limit most count old e.NoReply octets [] [] old
+pub data Ends {P C : Type 0} (does : P → PortCall → P → Type 0) (tells : C → ℕ → C → Type 0) (limit most count : ℕ) (old : Looking P C) : Ending → (octets : List ℕ) → Looking P C → Type 0 where
+  is_told : (from : Addr) (octets : List ℕ) (turn : Turn) (told : Told) (new : Looking P C) → GoesOn limit old.node turn.first → Takes old.node turn told new.node → is_end told ≡ true → turn.hearing ≡ came from octets
+      → Chain does old.port (acts_in turn) new.port → Chain tells old.clock (moments_in turn) new.clock → Ends does tells limit most count old e.Told octets new
+  is_late : (now : ℕ) (octets : List ℕ) (clock : C) → ¬ GoesOn limit old.node now → tells old.clock now clock → Ends does tells limit most count old e.NoReply octets (record old { clock = clock })
+  is_spent : (octets : List ℕ) → count ≡ most → Ends does tells limit most count old e.NoReply octets old
 
 -- Turns that don't end it, and then its end.
-pub record Waited {P C : Type 0} (does : P → PortCall → P → Type 0) (tells : C → ℕ → C → Type 0) (limit most : ℕ) (ending : Ending) (octets : List ℕ)
-    (old_port : P) (old_clock : C) (old : NodeValue) (port : P) (clock : C) (new : NodeValue) : Type 0 where
+pub record Waited {P C : Type 0} (does : P → PortCall → P → Type 0) (tells : C → ℕ → C → Type 0) (limit most : ℕ) (ending : Ending) (octets : List ℕ) (old new : Looking P C) : Type 0 where
   pub turns : List Turn
-  pub mid : NodeValue
-  pub acts : List PortCall
-  pub moments : List ℕ
-  pub waits : Chain (Waits limit) old turns mid
-  pub ends : Ends limit most (length turns) mid ending octets acts moments new
-  pub port_did : Chain does old_port (flat_map acts_in turns ++ acts) port
-  pub clock_told : Chain tells old_clock (flat_map moments_in turns ++ moments) clock
+  pub mid : Looking P C
+  pub waits : Chain (Waits does tells limit) old turns mid
+  pub ends : Ends does tells limit most (length turns) mid ending octets new
 
 -- ---- the whole
 
@@ -92,28 +94,25 @@ pub data Looks {P C : Type 0} (does : P → PortCall → P → Type 0) (tells : 
       → Looks does tells question patience most old_port old_clock old (e.Refused fault) octets old_port clock old
   is_asked : (now : ℕ) (request octets : List ℕ) (ending : Ending) (asked : P) (read : C) (opened : NodeValue) (port : P) (clock : C) (new : NodeValue) → tells old_clock now read
       → refusal_of old now question ≡ None → Begins old now question opened request → does old_port (sent (end_of question) request) asked
-      → Waited does tells (now + patience) most ending octets asked read opened port clock new
+      → Waited does tells (now + patience) most ending octets (record { port = asked; clock = read; node = opened }) (record { port = port; clock = clock; node = new })
       → Looks does tells question patience most old_port old_clock old ending octets port clock new
 
 -- ---- the device fails
 
 -- A turn in which it does: the node is as after the call that made the sending, or as it was before the receive.
-pub data BreaksTurn (limit : ℕ) (old : NodeValue) : List PortCall → List ℕ → NodeValue → Type 0 where
-  at_poll : (first : ℕ) (polling : List PortCall) (new : NodeValue) → GoesOn limit old first → BreaksPolls first old polling new → BreaksTurn limit old polling (first ∷ []) new
-  at_receive : (first : ℕ) (polling : List PortCall) (new : NodeValue) → GoesOn limit old first → PollsAll first old polling new → BreaksTurn limit old (polling ++ receive_failed ∷ []) (first ∷ []) new
+pub data BreaksTurn {P C : Type 0} (does : P → PortCall → P → Type 0) (tells : C → ℕ → C → Type 0) (limit : ℕ) (old new : Looking P C) : Type 0 where
+  at_poll : (first : ℕ) (polling : List PortCall) → GoesOn limit old.node first → tells old.clock first new.clock → BreaksPolls first old.node polling new.node → Chain does old.port polling new.port
+      → BreaksTurn does tells limit old new
+  at_receive : (first : ℕ) (polling : List PortCall) → GoesOn limit old.node first → tells old.clock first new.clock → PollsAll first old.node polling new.node
+      → Chain does old.port (polling ++ receive_failed ∷ []) new.port → BreaksTurn does tells limit old new
 
 -- Turns that don't end the lookup, fewer than all, and then such a turn.
-pub record Broken {P C : Type 0} (does : P → PortCall → P → Type 0) (tells : C → ℕ → C → Type 0) (limit most : ℕ)
-    (old_port : P) (old_clock : C) (old : NodeValue) (port : P) (clock : C) (new : NodeValue) : Type 0 where
+pub record Broken {P C : Type 0} (does : P → PortCall → P → Type 0) (tells : C → ℕ → C → Type 0) (limit most : ℕ) (old new : Looking P C) : Type 0 where
   pub turns : List Turn
-  pub mid : NodeValue
-  pub acts : List PortCall
-  pub moments : List ℕ
-  pub waits : Chain (Waits limit) old turns mid
-  pub breaks : BreaksTurn limit mid acts moments new
+  pub mid : Looking P C
+  pub waits : Chain (Waits does tells limit) old turns mid
+  pub breaks : BreaksTurn does tells limit mid new
   pub fewer : length turns < most
-  pub port_did : Chain does old_port (flat_map acts_in turns ++ acts) port
-  pub clock_told : Chain tells old_clock (flat_map moments_in turns ++ moments) clock
 
 -- The question is lost, the node having opened the lookup; or it goes to its end, and a turn fails.
 pub data Fails {P C : Type 0} (does : P → PortCall → P → Type 0) (tells : C → ℕ → C → Type 0) (question : Question) (patience most : ℕ)
@@ -121,5 +120,5 @@ pub data Fails {P C : Type 0} (does : P → PortCall → P → Type 0) (tells : 
   at_question : (now : ℕ) (request : List ℕ) (port : P) (clock : C) (new : NodeValue) → tells old_clock now clock → refusal_of old now question ≡ None → Begins old now question new request
       → does old_port (send_failed (end_of question) request) port → Fails does tells question patience most old_port old_clock old port clock new
   at_turn : (now : ℕ) (request : List ℕ) (asked : P) (read : C) (opened : NodeValue) (port : P) (clock : C) (new : NodeValue) → tells old_clock now read → refusal_of old now question ≡ None
-      → Begins old now question opened request → does old_port (sent (end_of question) request) asked → Broken does tells (now + patience) most asked read opened port clock new
+      → Begins old now question opened request → does old_port (sent (end_of question) request) asked → Broken does tells (now + patience) most (record { port = asked; clock = read; node = opened }) (record { port = port; clock = clock; node = new })
       → Fails does tells question patience most old_port old_clock old port clock new

@@ -1,4 +1,4 @@
-//! How a lookup came out, and what is told of it.
+//! The outcome of a lookup, and its text.
 
 ghost use Rattle.std.specs.Prelude.{◌≡◌, ◌++◌, ℕ, List, IfOk};
 ghost use Rattle.std.specs.String.{string_bytes};
@@ -8,19 +8,19 @@ use crate::lookup::Ending;
 use nbt_show::{Reply, write_reply};
 use std::alloc::AllocError;
 
-/// How a lookup came out.
+/// The outcome of a lookup.
 #[derive(Clone, Copy, Debug, PartialEq, Eq)]
 pub enum Answer {
     /// There are addresses, or names.
     Found,
-    /// The name that was asked for isn't there.
+    /// The name isn't there.
     NotFound,
     /// No reply came in time.
     NoReply,
 }
 
 impl Answer {
-    /// The status with which a program exits: 0, 1 and 5 (our profile).
+    /// The exit status of the program: 0, 1 and 5 (our profile).
     pub fn status(self) -> u8
         ensures { result ≡ answer_status self }
     {
@@ -32,8 +32,8 @@ impl Answer {
     }
 }
 
-/// Appends what is told of how a lookup ended, `octets` being its reply if one came: the text of the reply, or the line `no reply`,
-/// also where the node asked nothing.
+/// Appends the text of the outcome of a lookup that ended so, `octets` being its reply if one came: the text of the reply, or
+/// the line `no reply`, also where the node sent nothing.
 pub fn write_ending(ending: Ending, octets: &[u8], out: &mut String) -> Result<Answer, AllocError>
     ensures { IfOk result (λ answer. (text : List ℕ) × TellsEnding ending octets.now answer text × (string_bytes out.new ≡ string_bytes out.old ++ text)) }
 {
@@ -44,7 +44,7 @@ pub fn write_ending(ending: Ending, octets: &[u8], out: &mut String) -> Result<A
     }
 }
 
-/// Appends what a reply says, or `no reply` of octets that are none.
+/// Appends what a reply says, or `no reply` if the octets are none.
 fn write_told(octets: &[u8], out: &mut String) -> Result<Answer, AllocError>
     ensures { IfOk result (λ answer. (text : List ℕ) × TellsEnding Ending.Told octets.now answer text × (string_bytes out.new ≡ string_bytes out.old ++ text)) }
 {

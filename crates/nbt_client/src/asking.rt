@@ -3,19 +3,18 @@
 ghost use Rattle.std.specs.Prelude.{◌≡◌, ◌≢◌, ◌++◌, ◌+◌, ◌<◌, ◌^◌, ◌⊎◌, ℕ, List, Err, IfOk, IfErr};
 ghost use Rattle.std.specs.String.{string_bytes};
 ghost use Rattle.nbt_client.specs.Asking.{Asks, AskFails, started_node};
-ghost use Rattle.nbt_client.specs.Questions.{end_of};
 
 use crate::answer::{Answer, write_ending};
 use crate::lookup::look_up;
-use crate::question::Question;
+use crate::question::{Question, end_of};
 use arrayvec::ArrayVec;
 use nbt_lease::{Config, Moment};
 use nbt_name::Addr;
 use nbt_node::Node;
 use nbt_port::{Clock, Fault, Port};
 
-/// The greatest life of a datagram, in milliseconds, and the longest lease, in seconds, of a node that holds nothing: it makes
-/// no use of them.
+/// The greatest life of a datagram, in milliseconds, and the longest lease, in seconds, of a node that holds nothing: neither
+/// is used.
 const LIFE: u64 = 1_000;
 
 const LONGEST: u32 = 60;
@@ -23,10 +22,9 @@ const LONGEST: u32 = 60;
 /// The most turns, of which each waits for one datagram: more than come in the time that a lookup has (our profile).
 pub const TURNS_MOST: u64 = 1 << 40;
 
-/// Asks: a node starts at `own` whose server is the end that is asked, and looks up as [`look_up`] does, for `patience`
-/// milliseconds at most. Appends the text of how that came out: what the reply says, or the line `no reply`. Refused: `Device` at
-/// the first call of the port that fails, and nothing is appended then; `Memory` where an allocation is refused, which is after the
-/// lookup is over.
+/// Starts a node at `own` whose server is the host that is asked, and looks up as [`look_up`] does, for `patience` milliseconds
+/// at most. Appends the text of the outcome: what the reply says, or the line `no reply`. Refused: `Device` at the first call
+/// of the port that fails, and nothing is appended then; `Memory` after the lookup, where it is out of memory.
 pub fn ask<P: Port, C: Clock>(
     port: &mut P,
     clock: &mut C,
@@ -61,20 +59,10 @@ pub fn ask<P: Port, C: Clock>(
     Ok(answer)
 }
 
-/// The node that asks.
+/// The node that looks up.
 fn start_node(own: Addr, question: &Question, now: Moment) -> Node<1>
     ensures { result ≡ started_node own question.now now }
 {
     let config = Config::new(LIFE, LONGEST, 1).unwrap();
-    Node::start(own, asked_of(question), config, now)
-}
-
-/// The end that is asked.
-fn asked_of(question: &Question) -> Addr
-    ensures { result ≡ end_of question.now }
-{
-    match question {
-        Question::Holders(server, _) => *server,
-        Question::Names(to, _) => *to,
-    }
+    Node::start(own, end_of(question), config, now)
 }

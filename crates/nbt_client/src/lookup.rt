@@ -1,4 +1,4 @@
-//! A whole lookup.
+//! A lookup from its request to its reply.
 
 ghost use Rattle.std.specs.Prelude.{◌<◌, ◌^◌, ◌+◌, IfOk, OnErr};
 ghost use Rattle.nbt_port.specs.PortCalls.{CountsFailure};
@@ -13,7 +13,7 @@ use nbt_port::{Clock, Device, Port};
 /// How a lookup ended.
 #[derive(Clone, Copy, Debug, PartialEq, Eq)]
 pub enum Ending {
-    /// The node asks nothing, for this reason.
+    /// The node sends nothing, for this reason.
     Refused(LookupFault),
     /// A reply came that the node knows as its own.
     Told,
@@ -21,14 +21,13 @@ pub enum Ending {
     NoReply,
 }
 
-/// The clock is read, and the node opens the lookup at that moment; the request goes to the question's end. Then turn
-/// after turn: the clock is read, and the lookup is over where `patience` milliseconds have passed since the first moment,
-/// or the node doesn't hold it open any more, which is so 5,000 ms after its third sending (RFC 1002 section 6), or where
-/// the clock went back; else the node is polled until it has nothing to send, each datagram going to its end, the port
-/// receives once, the clock is read again, and the node takes what came at that moment. The node sends nothing for what
-/// came. It is over with the first reply that the node knows as its own, which then stands in `octets`, or after `most`
-/// turns. Refused with `Device` at the first call of the port that fails: nothing else is done, and the node is as it was
-/// before the receive, or as after the call that made the sending, which is lost.
+/// The node opens the lookup at the time that the clock tells, and its request is sent. Then turn after turn the clock is read,
+/// the node is polled until it has nothing to send, the port receives once, the clock is read again, and the node handles what
+/// came. The lookup is over with the first reply that the node knows as its own, which then stands in `octets`; where
+/// `patience` milliseconds have passed since it was opened; where the node doesn't hold it open any more, which is so 5,000 ms
+/// after its third sending (RFC 1002 section 6), or where the clock went back; and after `most` turns. Refused with `Device` at
+/// the first call of the port that fails: nothing else is done, and the node is as it was before the receive, or as after the
+/// call that made the sending, which is lost.
 pub fn look_up<P: Port, C: Clock, const N: usize>(
     port: &mut P,
     clock: &mut C,
@@ -64,8 +63,10 @@ fn wait<P: Port, C: Clock, const N: usize>(
     octets: &mut ArrayVec<u8, 2048>,
 ) -> Result<Ending, Device>
     requires failure_count { P.failures port.old < 2 ^ 62 }
-    ensures ok { IfOk result (λ ending. Waited P.does C.tells limit most ending octets.new.items port.old clock.old node.old port.new clock.new node.new) }
-    ensures err { OnErr result (Broken P.does C.tells limit most port.old clock.old node.old port.new clock.new node.new) }
+    ensures ok { IfOk result (λ ending. Waited P.does C.tells limit most ending octets.new.items
+        (record { port = port.old; clock = clock.old; node = node.old }) (record { port = port.new; clock = clock.new; node = node.new })) }
+    ensures err { OnErr result (Broken P.does C.tells limit most
+        (record { port = port.old; clock = clock.old; node = node.old }) (record { port = port.new; clock = clock.new; node = node.new })) }
     ensures device { CountsFailure (P.failures port.old) (P.failures port.new) result }
 {
     for _ in 0..most {

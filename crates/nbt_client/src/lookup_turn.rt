@@ -1,8 +1,8 @@
 //! One turn of a lookup.
 
-ghost use Rattle.std.specs.Prelude.{◌≡◌, ℕ, ◌<◌, ◌^◌, List, IfOk, OnErr, IsTrue, ◌↔◌};
+ghost use Rattle.std.specs.Prelude.{◌≡◌, ◌<◌, ◌^◌, IfOk, OnErr, IsTrue, ◌↔◌};
 ghost use Rattle.nbt_node.specs.Moves.{Told, told_of};
-ghost use Rattle.nbt_port.specs.PortCalls.{PortCall, came, receive_failed, Chain, CountsFailure};
+ghost use Rattle.nbt_port.specs.PortCalls.{came, receive_failed, CountsFailure};
 ghost use Rattle.nbt_client.specs.Lookups.{Hears, GoesOn, is_end, BreaksTurn};
 ghost use Rattle.nbt_client.specs.Inner.Steps.{TurnIs, HeardIs};
 
@@ -13,18 +13,18 @@ use nbt_name::Addr;
 use nbt_node::{Event, Node};
 use nbt_port::{Clock, Device, Port};
 
-/// What a turn was to a lookup.
+/// What came of a turn of a lookup.
 #[derive(Clone, Copy, Debug, PartialEq, Eq)]
 pub enum Progress {
     /// The lookup goes on.
     Waits,
     /// A reply has ended it.
     Told,
-    /// It didn't go on at the turn's moment, and nothing was done.
+    /// The lookup was over at the turn's time, and nothing was done.
     Late,
 }
 
-/// Whether a lookup goes on at a moment.
+/// Whether a lookup goes on at a time.
 fn goes_on<const N: usize>(node: &Node<N>, limit: u64, now: Moment) -> bool
     ensures { IsTrue result ↔ GoesOn limit node.now now }
 {
@@ -40,8 +40,10 @@ pub fn take_turn<P: Port, C: Clock, const N: usize>(
     octets: &mut ArrayVec<u8, 2048>,
 ) -> Result<Progress, Device>
     requires failure_count { P.failures port.old < 2 ^ 62 }
-    ensures err { OnErr result ((acts : List PortCall) × (moments : List ℕ) × BreaksTurn limit node.old acts moments node.new × Chain P.does port.old acts port.new × Chain C.tells clock.old moments clock.new) }
-    ensures ok { IfOk result (λ progress. TurnIs P.does C.tells limit progress octets.new.items port.old clock.old node.old port.new clock.new node.new) }
+    ensures err { OnErr result (BreaksTurn P.does C.tells limit
+        (record { port = port.old; clock = clock.old; node = node.old }) (record { port = port.new; clock = clock.new; node = node.new })) }
+    ensures ok { IfOk result (λ progress. TurnIs P.does C.tells limit progress octets.new.items
+        (record { port = port.old; clock = clock.old; node = node.old }) (record { port = port.new; clock = clock.new; node = node.new })) }
     ensures device { CountsFailure (P.failures port.old) (P.failures port.new) result }
 {
     let now = clock.now();
@@ -56,7 +58,7 @@ pub fn take_turn<P: Port, C: Clock, const N: usize>(
     }
 }
 
-/// Receives once, and the node takes what came. Returns whether that ended the lookup.
+/// Receives once, and the node handles what came. Returns whether that ended the lookup.
 fn listen<P: Port, C: Clock, const N: usize>(
     port: &mut P,
     clock: &mut C,
@@ -77,7 +79,7 @@ fn listen<P: Port, C: Clock, const N: usize>(
     }
 }
 
-/// The node takes a datagram. Returns whether that ended the lookup.
+/// The node handles a datagram. Returns whether that ended the lookup.
 fn hear<const N: usize>(
     node: &mut Node<N>,
     now: Moment,

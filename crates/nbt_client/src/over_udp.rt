@@ -1,4 +1,4 @@
-//! A lookup over this machine's UDP and its clock.
+//! A lookup over UDP and the system's monotonic clock.
 
 ghost use Rattle.std.specs.Prelude.{◌≡◌, ◌≢◌, ◌++◌, ℕ, List, Err, IfOk};
 ghost use Rattle.std.specs.String.{string_bytes};
@@ -8,15 +8,15 @@ use crate::answer::Answer;
 use crate::asking::ask;
 use crate::question::Question;
 use nbt_name::Addr;
-use nbt_port::{Cause, Fault, Port, bound_port, steady_clock};
+use nbt_port::{Fault, Port, bound_port, steady_clock, tell_end_of};
 use std::io::Write;
 use std::net::Net;
 use std::time;
 
-/// Asks from the address `own` of this machine, as `ask` does; for 0.0.0.0:0 the machine chooses both. Refused: `NoPort` where the
-/// port can't be had; then `NoClock` where the clock can't be read; `Device` and `Memory` as `ask` is. Nothing is appended but where
-/// memory is refused. Of each but `Memory` a line in `errors` says which call of the machine failed, for which address, and why. What
-/// can't be written to `errors` is passed over.
+/// Looks up from the address `own` of this system, as [`ask`] does; for 0.0.0.0:0 the system chooses both. Refused: `NoPort`
+/// where the port can't be bound; then `NoClock` where the clock can't be read; `Device` and `Memory` as [`ask`] is. Nothing is
+/// appended, except where it is out of memory. Of each but `Memory` a line in `errors` says which call of the system failed,
+/// for which address, and why; a failure to write it is ignored.
 pub fn ask_here<M: Net + time::Clock, E: Write>(
     machine: &M,
     own: Addr,
@@ -34,15 +34,6 @@ pub fn ask_here<M: Net + time::Clock, E: Write>(
     let mut port = bound_port(machine, own, errors).map_err(|_| Fault::NoPort)?;
     let mut clock = steady_clock(machine, own, errors)?;
     let asked = ask(&mut port, &mut clock, own, question, patience, out);
-    if asked == Err(Fault::Device) {
-        tell(port.cause(), errors);
-    }
+    tell_end_of(asked.err(), port.cause(), errors);
     asked
-}
-
-/// Says why a call failed, where the port knows it.
-fn tell<E: Write>(cause: Option<Cause>, errors: &mut E) {
-    if let Some(cause) = cause {
-        cause.tell("", errors);
-    }
 }

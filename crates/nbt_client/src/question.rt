@@ -1,4 +1,4 @@
-//! What is asked.
+//! What a lookup asks.
 
 ghost use Rattle.std.specs.Prelude.{◌≡◌, OnOk, OnErr};
 ghost use Rattle.std.specs.Result.{result_err};
@@ -9,17 +9,17 @@ use nbt_lease::Moment;
 use nbt_name::{Addr, Name};
 use nbt_node::{LookupFault, Node};
 
-/// What a lookup asks, and of which end.
+/// What a lookup asks, and which host.
 #[derive(Debug, Drop)]
 pub enum Question {
     /// Who holds the name: asked of the name server at this address. A reply counts only from the node's own server (RFC
     /// 1002 section 4.2.12).
     Holders(Addr, Name),
-    /// Which names the end at this address holds: asked by one of its names, or by `*` (RFC 1002 section 4.2.17).
+    /// Which names the host at this address holds: asked by one of its names, or by `*` (RFC 1002 section 4.2.17).
     Names(Addr, Name),
 }
 
-/// The end that is asked.
+/// The host that is asked.
 pub(crate) fn end_of(question: &Question) -> Addr
     ensures { result ≡ end_of question.now }
 {
@@ -29,7 +29,7 @@ pub(crate) fn end_of(question: &Question) -> Addr
     }
 }
 
-/// Opens the lookup at a node, the request for its end in `out`.
+/// Opens the lookup at a node, with the request in `out`.
 pub(crate) fn begin<const N: usize>(
     question: &Question,
     node: &mut Node<N>,

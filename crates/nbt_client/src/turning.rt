@@ -1,4 +1,4 @@
-//! An end node over a port and a clock.
+//! A node that registers a name and holds it, over a port and a clock.
 
 ghost use Rattle.std.specs.Prelude.{◌≡◌, ℕ, ◌<◌, ◌^◌, List, ◌∷◌, Some, IfSome, IsNone, IfOk, OnOk, OnErr};
 ghost use Rattle.nbt_node.specs.Moves.{told_of, replied};
@@ -13,41 +13,41 @@ use nbt_name::{Addr, Kind, Name};
 use nbt_node::{Event, Node};
 use nbt_port::{Clock, Device, Port};
 
-/// The slots of a node: the most that it may have.
+/// The most names that a node has slots for.
 pub const SLOTS: usize = 14;
 
-/// A name that is wanted, as which kind, and for how long.
+/// A name that is to be held, as which kind, and for how long.
 #[derive(Debug, Drop)]
 pub struct Want {
     /// The name.
     pub name: Name,
     /// Who may hold it.
     pub kind: Kind,
-    /// The seconds to ask for; 0 for as long as may be.
+    /// The TTL to request, in seconds; 0 for the longest that the server grants.
     pub ttl: u32,
 }
 
-/// What a turn showed of the names of a node.
+/// What came of a turn for the names of a node.
 #[derive(Clone, Copy, Debug, PartialEq, Eq)]
 pub enum Seen {
     /// Nothing that a user of names waits for.
     Nothing,
-    /// A name that was asked for is held, for these seconds from the first sending of the request.
+    /// The name is granted, for these seconds from the first sending of the request.
     Granted(u32),
     /// A hold was renewed, for these seconds from the first sending of the refresh.
     Renewed(u32),
-    /// A name that was asked for isn't granted, with this RCODE (RFC 1002 section 4.2.6).
+    /// The name is refused, with this RCODE (RFC 1002 section 4.2.6).
     Refused(u8),
     /// A name isn't held any more.
     Lost,
 }
 
-/// The node goes through one turn. The clock is read, and the name is asked for at that moment, the request going to
-/// `server`; a refused ask is passed over. The node is polled until it has nothing to send, each datagram going to its
-/// end. Then the port receives once, the clock is read again, and the node takes what came at that moment; the reply to
-/// a status request goes to its sender. Returns what was seen. What the node refuses since the clock went back
-/// is passed over. Refused with `Device` at the first call of the port that fails: nothing else of the turn is done, and
-/// the node is as it was before the receive, or as after the call that made the sending, which is lost.
+/// One turn of a node. The clock is read, and the name is requested of `server`, unless the node refuses that. The node is
+/// polled until it has nothing to send, each datagram going to its destination. Then the port receives once, the clock is read
+/// again, and the node handles what came; the reply to a status request goes to its sender. Returns what came of it. What the
+/// node refuses since the clock went back is ignored. Refused with `Device` at the first call of the port that fails: nothing
+/// else of the turn is done, and the node is as it was before the receive, or as after the call that made the sending, which is
+/// lost.
 pub fn node_turn<P: Port, C: Clock, const N: usize>(
     port: &mut P,
     clock: &mut C,
@@ -76,7 +76,7 @@ pub fn node_turn<P: Port, C: Clock, const N: usize>(
     }
 }
 
-/// Asks for the name, where the node may.
+/// Requests the name, where the node may.
 fn ask<P: Port, const N: usize>(
     port: &mut P,
     node: &mut Node<N>,
@@ -96,10 +96,9 @@ fn ask<P: Port, const N: usize>(
     }
 }
 
-/// Sends all that is due at a moment: the node is polled until it has nothing to send, each datagram going to its end, by way
-/// of the buffer `out`. A poll that is refused since the clock went back ends that too, and is passed over. Refused with
-/// `Device` at the first send that fails: no poll follows, and the node is as after the poll that made that sending, which is
-/// lost.
+/// Sends all that is due at a time: the node is polled until it has nothing to send, each datagram going to its destination, by
+/// way of the buffer `out`. A poll that is refused since the clock went back ends that too. Refused with `Device` at the first
+/// send that fails: no poll follows, and the node is as after the poll that made that sending, which is lost.
 pub fn poll_all<P: Port, const N: usize>(
     port: &mut P,
     node: &mut Node<N>,
@@ -119,7 +118,7 @@ pub fn poll_all<P: Port, const N: usize>(
     Ok(())
 }
 
-/// The end for which the node has something due at a moment, in `out`.
+/// The destination of what the node has due at a time, in `out`.
 fn next_due<const N: usize>(
     node: &mut Node<N>,
     now: Moment,
@@ -134,7 +133,7 @@ fn next_due<const N: usize>(
     }
 }
 
-/// Takes a datagram, and sends the reply to a status request.
+/// Handles a datagram, and sends the reply to a status request.
 fn hear<P: Port, const N: usize>(
     port: &mut P,
     node: &mut Node<N>,

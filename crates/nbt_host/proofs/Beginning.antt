@@ -1,6 +1,5 @@
 -- A host begins, and what follows from how its calls came out.
-use Rattle.std.proofs.Common.{◌≡◌, ℕ, List, Option, Result, Ok, Err, length, ap, subst, ◌∙◌}
-use Rattle.std.specs.Prelude.{IfOk}
+use Rattle.std.proofs.Common.{◌≡◌, ℕ, List, Option, length, ap, subst, ◌∙◌}
 use Rattle.std.specs.Io.KnownBytes.{Appends}
 use Rattle.std.proofs.lemmas.List.{length-map}
 use Rattle.nbt_name.specs.declared.addr.Addr.{Addr}
@@ -9,12 +8,8 @@ use Rattle.nbt_host.specs.Goals.{fresh}
 use Rattle.nbt_host.specs.Begin.{begin_text}
 use Rattle.nbt_host.specs.Host.{HostingValue, Running, Starts, first_host}
 use Rattle.nbt_host.specs.Running.{Begins}
-use Rattle.nbt_host.specs.Until.{until_of}
+use Rattle.nbt_port.specs.Until.{until_of}
 use Rattle.nbt_host.specs.declared.arguments.HostArguments.{HostArguments}
-
-pub if_ok : {A E : Type 0} (P Q : A → Type 0) (r : Result A E) → IfOk r P → ((a : A) → P a → Q a) → IfOk r Q
-if_ok P Q (Ok a) holds on = on a holds
-if_ok P Q (Err e) holds on = tt
 
 -- as many names are told of as are wanted
 count_of : (a : HostArguments) (now : ℕ) (host : HostValue) → host ≡ first_host a now → length host.goals ≡ length a.wants.items

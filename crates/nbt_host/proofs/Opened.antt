@@ -5,7 +5,7 @@ use Rattle.nbt_port.specs.PortCalls.{PortCall}
 use Rattle.nbt_host.specs.Goals.{is_held}
 use Rattle.nbt_host.specs.declared.goal.Goal.{Goal}
 use Rattle.nbt_log.specs.Dates.{second_at}
-use Rattle.nbt_port.proofs.Printing.{appends_nothing}
+use Rattle.nbt_port.proofs.Printed.{appends_nothing}
 use Rattle.nbt_host.specs.Host.{HostingValue, Running, dates_of}
 use Rattle.nbt_host.specs.Running.{IsOverAt}
 use Rattle.nbt_host.specs.Staying.{HostsUntil}

@@ -12,5 +12,4 @@ pub mod Sleeping
 pub mod Staying
 pub mod TurnLines
 pub mod Turning
-pub mod Until
 pub mod Waking

@@ -1,6 +1,6 @@
 -- How a host gives its names back, turn by turn (our profile; RFC 1002 section 5.1.2.5).
 use Rattle.std.specs.Prelude.{◌≡◌, ℕ, ◌+◌, ◌<◌, Bool, true, false, List, [], ◌∷◌, ◌++◌, map, length}
-use Rattle.std.specs.List.{flat_map, list_any}
+use Rattle.std.specs.List.{list_any}
 use Rattle.nbt_name.specs.declared.addr.Addr.{Addr}
 use Rattle.nbt_node.specs.Node.{NodeValue}
 use Rattle.nbt_port.specs.PortCalls.{PortCall, Chain}
@@ -27,70 +27,55 @@ pub record HostValue : Type 0 where
   pub goals : List Goal
   pub node : NodeValue
 
--- A turn of the ending: what the port did and the clock told in it, and the moment after it.
-pub record EndTurn : Type 0 where
-  pub acts : List PortCall
-  pub moments : List ℕ
-  pub at : ℕ
+-- the same with a port and a clock
+pub record Releasing (P C : Type 0) : Type 0 where
+  pub port : P
+  pub clock : C
+  pub host : HostValue
 
-abbrev pub acts_in : EndTurn → List PortCall
-acts_in turn = turn.acts
+-- A turn, and the reading of the clock after it.
+abbrev pub Turns : {P C : Type 0} → (P → PortCall → P → Type 0) → (C → ℕ → C → Type 0) → Addr → Releasing P C → (at : ℕ) → Releasing P C → Type 0
+Turns does tells server old at new = (acts : List PortCall) × (moments : List ℕ) × HostTurn server old.host.goals old.host.node acts moments new.host.goals new.host.node
+    × Chain does old.port acts new.port × Chain tells old.clock (moments ++ at ∷ []) new.clock
 
-abbrev pub moments_in : EndTurn → List ℕ
-moments_in turn = turn.moments ++ turn.at ∷ []
-
-abbrev pub TurnsTo : Addr → HostValue → EndTurn → HostValue → Type 0
-TurnsTo server old turn new = HostTurn server old.goals old.node turn.acts turn.moments new.goals new.node
+-- A turn in which the device fails.
+abbrev pub Breaks : {P C : Type 0} → (P → PortCall → P → Type 0) → (C → ℕ → C → Type 0) → Addr → Releasing P C → Releasing P C → Type 0
+Breaks does tells server old new = (acts : List PortCall) × (moments : List ℕ) × HostBreaks server old.host.goals old.host.node acts moments new.host.goals new.host.node
+    × Chain does old.port acts new.port × Chain tells old.clock moments new.clock
 
 -- The ending goes on while a reply to a release is waited for and the moment is before the limit.
 pub record GoesOn (limit : ℕ) (goals : List Goal) (at : ℕ) : Type 0 where
   pub early : at < limit
   pub waits : list_any is_open goals ≡ true
 
-pub record TurnsOn (server : Addr) (limit : ℕ) (old : HostValue) (turn : EndTurn) (new : HostValue) : Type 0 where
-  pub turns : TurnsTo server old turn new
-  pub on : GoesOn limit new.goals turn.at
+-- a turn after which it does
+abbrev pub TurnsOn : {P C : Type 0} → (P → PortCall → P → Type 0) → (C → ℕ → C → Type 0) → Addr → (limit : ℕ) → Releasing P C → (at : ℕ) → Releasing P C → Type 0
+TurnsOn does tells server limit old at new = Turns does tells server old at new × GoesOn limit new.host.goals at
 
--- What ends it, after so many turns: one after which it doesn't go on, or that it had all of them.
-pub data EndsBy (server : Addr) (limit most count : ℕ) (old : HostValue) : List EndTurn → HostValue → Type 0 where
-  is_over : (turn : EndTurn) (new : HostValue) → TurnsTo server old turn new → ¬ GoesOn limit new.goals turn.at → EndsBy server limit most count old (turn ∷ []) new
-  is_spent : count ≡ most → EndsBy server limit most count old [] old
-
--- Turns after which the ending goes on, and then its end.
-pub record Ended {P C : Type 0} (does : P → PortCall → P → Type 0) (tells : C → ℕ → C → Type 0) (server : Addr) (limit most : ℕ)
-    (old_port : P) (old_clock : C) (old : HostValue) (port : P) (clock : C) (new : HostValue) : Type 0 where
-  pub turns : List EndTurn
-  pub last : List EndTurn
-  pub mid : HostValue
-  pub goes_on : Chain (TurnsOn server limit) old turns mid
-  pub ends : EndsBy server limit most (length turns) mid last new
-  pub port_did : Chain does old_port (flat_map acts_in turns ++ flat_map acts_in last) port
-  pub clock_told : Chain tells old_clock (flat_map moments_in turns ++ flat_map moments_in last) clock
+-- Turns after which it goes on, and then one after which it doesn't; or as many as it may take.
+pub data Ended {P C : Type 0} (does : P → PortCall → P → Type 0) (tells : C → ℕ → C → Type 0) (server : Addr) (limit most : ℕ) (old new : Releasing P C) : Type 0 where
+  is_over : (times : List ℕ) (at : ℕ) (mid : Releasing P C) → Chain (TurnsOn does tells server limit) old times mid → Turns does tells server mid at new → ¬ GoesOn limit new.host.goals at
+      → Ended does tells server limit most old new
+  is_spent : (times : List ℕ) → Chain (TurnsOn does tells server limit) old times new → length times ≡ most → Ended does tells server limit most old new
 
 -- Turns after which it goes on, fewer than all, and then one in which the device fails.
-pub record Broken {P C : Type 0} (does : P → PortCall → P → Type 0) (tells : C → ℕ → C → Type 0) (server : Addr) (limit most : ℕ)
-    (old_port : P) (old_clock : C) (old : HostValue) (port : P) (clock : C) (new : HostValue) : Type 0 where
-  pub turns : List EndTurn
-  pub mid : HostValue
-  pub acts : List PortCall
-  pub moments : List ℕ
-  pub goes_on : Chain (TurnsOn server limit) old turns mid
-  pub breaks : HostBreaks server mid.goals mid.node acts moments new.goals new.node
-  pub fewer : length turns < most
-  pub port_did : Chain does old_port (flat_map acts_in turns ++ acts) port
-  pub clock_told : Chain tells old_clock (flat_map moments_in turns ++ moments) clock
+pub record Broken {P C : Type 0} (does : P → PortCall → P → Type 0) (tells : C → ℕ → C → Type 0) (server : Addr) (limit most : ℕ) (old new : Releasing P C) : Type 0 where
+  pub times : List ℕ
+  pub mid : Releasing P C
+  pub goes_on : Chain (TurnsOn does tells server limit) old times mid
+  pub breaks : Breaks does tells server mid new
+  pub fewer : length times < most
 
--- The clock is read, all names are to be given back, and turns follow up to 15 s after that moment.
-pub record GivesAllBack {P C : Type 0} (does : P → PortCall → P → Type 0) (tells : C → ℕ → C → Type 0) (server : Addr) (most : ℕ)
+-- The clock is read, all names are to be given back, and from there it goes on, with a limit 15 s after that moment.
+pub record Leaves {P C : Type 0} (tells : C → ℕ → C → Type 0) (goes : (limit : ℕ) → Releasing P C → Releasing P C → Type 0)
     (old_port : P) (old_clock : C) (goals : List Goal) (node : NodeValue) (port : P) (clock : C) (new : HostValue) : Type 0 where
   pub now : ℕ
   pub read : C
   pub told : tells old_clock now read
-  pub ended : Ended does tells server (now + GIVING_BACK) most old_port read (record { goals = map leaving goals; node = node }) port clock new
+  pub goes_on : goes (now + GIVING_BACK) (record { port = old_port; clock = read; host = record { goals = map leaving goals; node = node } }) (record { port = port; clock = clock; host = new })
 
-pub record FailsToGiveBack {P C : Type 0} (does : P → PortCall → P → Type 0) (tells : C → ℕ → C → Type 0) (server : Addr) (most : ℕ)
-    (old_port : P) (old_clock : C) (goals : List Goal) (node : NodeValue) (port : P) (clock : C) (new : HostValue) : Type 0 where
-  pub now : ℕ
-  pub read : C
-  pub told : tells old_clock now read
-  pub broken : Broken does tells server (now + GIVING_BACK) most old_port read (record { goals = map leaving goals; node = node }) port clock new
+abbrev pub GivesAllBack : {P C : Type 0} → (P → PortCall → P → Type 0) → (C → ℕ → C → Type 0) → Addr → (most : ℕ) → P → C → List Goal → NodeValue → P → C → HostValue → Type 0
+GivesAllBack does tells server most old_port old_clock goals node port clock new = Leaves tells (λ limit old end. Ended does tells server limit most old end) old_port old_clock goals node port clock new
+
+abbrev pub FailsToGiveBack : {P C : Type 0} → (P → PortCall → P → Type 0) → (C → ℕ → C → Type 0) → Addr → (most : ℕ) → P → C → List Goal → NodeValue → P → C → HostValue → Type 0
+FailsToGiveBack does tells server most old_port old_clock goals node port clock new = Leaves tells (λ limit old end. Broken does tells server limit most old end) old_port old_clock goals node port clock new

@@ -11,7 +11,7 @@ use Rattle.nbt_host.specs.Begin.{begin_text}
 use Rattle.nbt_host.specs.Host.{HostingValue, Running, Starts}
 use Rattle.nbt_host.specs.Staying.{HostsUntil, HostingFails}
 use Rattle.nbt_host.specs.ReleaseLines.{GivesBack, GivingBackFails}
-use Rattle.nbt_host.specs.Until.{until_of}
+use Rattle.nbt_port.specs.Until.{until_of}
 use Rattle.nbt_host.specs.declared.arguments.HostArguments.{HostArguments}
 
 -- A host stays up until its time is over. The steady clock is read, and then goes on what does.

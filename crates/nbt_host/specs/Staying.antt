@@ -7,7 +7,7 @@ use Rattle.nbt_port.specs.Staying.{StaysUp, GivesUp, IsCutOff}
 use Rattle.nbt_port.specs.declared.limits.TheConstants.{FOREVER}
 use Rattle.nbt_host.specs.Host.{Running, CantPrint}
 use Rattle.nbt_host.specs.Turning.{TurnsWell, TurnsBadly, TurnIsCut}
-use Rattle.nbt_host.specs.Until.{IsOver}
+use Rattle.nbt_port.specs.Until.{IsOver}
 use Rattle.nbt_host.specs.declared.arguments.HostArguments.{HostArguments}
 use Rattle.nbt_host.specs.declared.host.Shown.{Shown}
 

@@ -13,7 +13,7 @@ pub struct HostArguments {
     pub server: Addr,
     /// The limits.
     pub config: Config,
-    /// The names that it asks for, each once, 14 at most: one more is never asked for.
+    /// The names that it requests, each once, 14 at most: one more is never requested.
     pub wants: Vec<Want>,
     /// After how many milliseconds it ends; `None` where it has no end.
     pub time: Option<u64>,

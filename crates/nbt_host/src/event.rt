@@ -18,19 +18,19 @@ pub enum Event {
     Renewed(u32),
     /// It isn't granted, with this RCODE (RFC 1002 section 4.2.6).
     Refused(u8),
-    /// It is asked for again, as long as it is refused.
+    /// It is requested again, as long as it is refused.
     AsksAgain,
     /// It isn't held any more, since the server refused to renew it, or demanded it.
     Lost,
     /// It isn't held any more, since its time was over.
     Lapsed,
-    /// The server confirmed that it was given back.
+    /// The server confirmed that it was released.
     GivenBack,
     /// The server denied that, with this RCODE (RFC 1002 section 4.2.11).
     Denied(u8),
-    /// It was given back, and the server didn't say that it knows.
+    /// It was released, and the server didn't say that it knows.
     Unconfirmed,
-    /// It wasn't held when the names were given back.
+    /// It wasn't held when the names were released.
     NotHeld,
 }
 

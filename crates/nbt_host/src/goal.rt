@@ -13,11 +13,11 @@ use nbt_node::Node;
 pub enum Stage {
     /// It is wanted.
     Wanted,
-    /// It is to be given back, and was not held since.
+    /// It is to be released, and was not held since.
     Leaving,
-    /// It is given back, and no reply to that has come.
+    /// It is released, and no reply to that has come.
     Released,
-    /// It was given back, which the server knows, with this RCODE: 0 confirms it.
+    /// It was released, which the server knows, with this RCODE: 0 confirms it.
     Left(u8),
 }
 
@@ -43,14 +43,14 @@ pub struct Goal {
     pub refusal: Option<Refusal>,
     /// Whether the name was held when the host looked last.
     pub held: bool,
-    /// What the last turn told first: whether that hold was over by time at the turn's first moment.
+    /// What the last turn told first: whether that hold was over by time at the turn's first reading of the clock.
     pub lapsed: bool,
     /// What the last turn told then, if anything came.
     pub news: Option<News>,
 }
 
-/// How many milliseconds a name isn't asked for after so many refusals in a row: 5 s, with each further one twice as long, 5 min
-/// at most (our profile).
+/// How many milliseconds a name isn't requested after so many refusals in a row: 5 s, with each further one twice as long, 5
+/// min at most (our profile).
 fn back_off(times: u8) -> u64
     ensures value { result ≡ back_off times }
     ensures bound { result ≤ 300000 }
@@ -97,7 +97,7 @@ impl Stage {
         }
     }
 
-    /// The stage at a moment at which the name is held, or isn't.
+    /// The stage at a time at which the name is held, or isn't.
     fn at(self, is_held: bool) -> Stage
         ensures { result ≡ stage_at is_held self }
     {
@@ -144,7 +144,7 @@ impl Goal {
         self.news = None;
     }
 
-    /// A look at the name at a moment at which it is held, or isn't.
+    /// A look at the name at a time at which it is held, or isn't.
     fn see(&mut self, is_held: bool)
         ensures { self.new ≡ seen_at is_held self.old }
     {

@@ -44,7 +44,7 @@ pub fn listen<P: Port, C: Clock, const N: usize>(
     Ok(Heard { at, notice })
 }
 
-/// The node takes a datagram, if one came, and what there is to say is sent to its sender. Returns what it says of a name.
+/// The node handles a datagram, if one came, and what there is to say is sent to its sender. Returns what it says of a name.
 fn hear<P: Port, const N: usize>(
     port: &mut P,
     node: &mut Node<N>,

@@ -24,14 +24,13 @@ use crate::release_lines::write_endings;
 use crate::releasing::give_back;
 use crate::sleeping::{Clocks, Reading};
 use crate::turn_lines::{has_lines, write_turn};
-use crate::until::is_over;
 use crate::waking::waking_turn;
 use nbt_client::{SLOTS, Want};
 use nbt_lease::Moment;
 use nbt_log::Dates;
 use nbt_name::Addr;
 use nbt_node::Node;
-use nbt_port::{Clock, Device, FOREVER, Fault, Port, Row};
+use nbt_port::{Clock, Device, FOREVER, Fault, Port, Row, is_over, print};
 use std::alloc::{AllocError, Global};
 use std::io::Write;
 use std::marker::Model;
@@ -350,12 +349,4 @@ fn is_held<const N: usize>(node: &Node<N>, now: Moment, goal: &Goal) -> bool
     ensures { result ≡ is_held node.now now goal.now }
 {
     node.holds(now, &goal.want.name).is_some()
-}
-
-/// Writes a text, at once.
-fn print<W: Write>(text: &str, writer: &mut W) -> io::Result<()>
-    ensures { OnOk result (Appends (W.contents writer.old) (W.contents writer.new) text.now) }
-{
-    writer.write_all(text.as_bytes())?;
-    writer.flush()
 }

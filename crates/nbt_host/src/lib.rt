@@ -1,5 +1,5 @@
-//! A host: a node that is to hold the names of a list and answers for them (RFC 1002 sections 5.1.2 and 4.2.13), over a port and a
-//! clock, or over this machine's UDP and its clocks, with the lines that it prints (our profile).
+//! A host: a node that is to hold the names of a list and answers for them (RFC 1002 sections 5.1.2 and 4.2.13), over a port
+//! and a clock, or over UDP and the system's clocks, with the lines that it prints (our profile).
 //!
 //! A [`Goal`] is a wanted name with what its host keeps of it. [`host_turn`] registers and refreshes the names, takes what comes and
 //! answers queries for what is held; [`waking_turn`] does so on a machine that may sleep, after which the host starts again;
@@ -28,7 +28,6 @@ mod running;
 mod sleeping;
 mod turn_lines;
 mod turning;
-mod until;
 mod waking;
 
 pub use arguments::HostArguments;

@@ -20,7 +20,7 @@ pub enum News {
     Refused(u8),
     /// It isn't held any more, or isn't asked for: the refresh was refused, or the server demands it.
     Lost,
-    /// The server knows that it was given back, with this RCODE (RFC 1002 sections 4.2.10 and 4.2.11).
+    /// The server knows that it was released, with this RCODE (RFC 1002 sections 4.2.10 and 4.2.11).
     Freed(u8),
 }
 

@@ -19,7 +19,7 @@ pub fn write_endings(second: u64, goals: &[Goal], out: &mut String) -> Result<()
     Ok(())
 }
 
-/// What came of giving a name back.
+/// What came of the release of a name.
 fn outcome_of(stage: Stage) -> Event
     ensures { result ≡ outcome_of stage }
 {

@@ -1,10 +1,9 @@
-//! A host that gives its names back.
+//! A host that releases its names.
 
-ghost use Rattle.std.specs.Prelude.{◌≡◌, ◌<◌, ◌^◌, ◌↔◌, map, List, ℕ, IsTrue, IfOk, OnOk, OnErr};
+ghost use Rattle.std.specs.Prelude.{◌≡◌, ◌<◌, ◌^◌, ◌↔◌, map, IsTrue, IfOk, OnOk, OnErr};
 ghost use Rattle.std.specs.List.{list_any};
-ghost use Rattle.nbt_port.specs.PortCalls.{PortCall, Chain, CountsFailure};
-ghost use Rattle.nbt_host.specs.Hosting.{HostBreaks};
-ghost use Rattle.nbt_host.specs.Releasing.{leaving, is_open, GoesOn, Ended, Broken, GivesAllBack, FailsToGiveBack};
+ghost use Rattle.nbt_port.specs.PortCalls.{CountsFailure};
+ghost use Rattle.nbt_host.specs.Releasing.{leaving, is_open, GoesOn, Breaks, Ended, Broken, GivesAllBack, FailsToGiveBack};
 ghost use Rattle.nbt_host.specs.Inner.Parts.{EndTurnIs};
 
 use crate::goal::{Goal, Stage};
@@ -14,16 +13,16 @@ use nbt_name::Addr;
 use nbt_node::Node;
 use nbt_port::{Clock, Device, Port};
 
-/// The milliseconds for which a host waits at most for the replies to what it gives back: three sendings, and 5 s after each (RFC
+/// The milliseconds for which a host waits at most for the replies to its releases: three sendings, and 5 s after each (RFC
 /// 1002 section 6).
 pub const GIVING_BACK: u64 = 15_000;
 
-/// Gives all names back. The clock is read, and every goal is `Leaving`; turns follow, in which each name that is held is given
-/// back at once, its request being sent again by the node's own rule, three times in all and 5 s apart. It is over after a turn at
-/// which no reply to a release is waited for, or at the end of which 15 s have passed since that moment, or after `most` turns. The
-/// stages of the goals then say how each came out: `Left(0)` is confirmed, any other `Left` is denied with that RCODE, `Released`
-/// has no reply, and `Leaving` was not held. A name whose grant comes meanwhile is given back in the next turn, if there is one.
-/// Refused with `Device` at the first call of the port that fails.
+/// Releases all names. The clock is read, and every goal is `Leaving`; turns follow, in which each name that is held is
+/// released at once, its request being sent again by the node's own rule, three times in all and 5 s apart. It is over after a
+/// turn at which no reply to a release is waited for, or at the end of which 15 s have passed since that time, or after `most`
+/// turns. The stages of the goals then say how each came out: `Left(0)` is confirmed, any other `Left` is denied with that
+/// RCODE, `Released` has no reply, and `Leaving` was not held. A name whose grant comes meanwhile is released in the next turn,
+/// if there is one. Refused with `Device` at the first call of the port that fails.
 pub fn give_back<P: Port, C: Clock, const N: usize>(
     port: &mut P,
     clock: &mut C,
@@ -43,7 +42,7 @@ pub fn give_back<P: Port, C: Clock, const N: usize>(
     wait(port, clock, node, server, goals, limit, most)
 }
 
-/// Every name is to be given back.
+/// Every name is to be released.
 fn leave_all(goals: &mut [Goal])
     ensures { goals.new ≡ map leaving goals.old }
 {
@@ -63,8 +62,12 @@ fn wait<P: Port, C: Clock, const N: usize>(
     most: u64,
 ) -> Result<(), Device>
     requires failure_count { P.failures port.old < 2 ^ 62 }
-    ensures ok { OnOk result (Ended P.does C.tells server limit most port.old clock.old (record { goals = goals.old; node = node.old }) port.new clock.new (record { goals = goals.new; node = node.new })) }
-    ensures err { OnErr result (Broken P.does C.tells server limit most port.old clock.old (record { goals = goals.old; node = node.old }) port.new clock.new (record { goals = goals.new; node = node.new })) }
+    ensures ok { OnOk result (Ended P.does C.tells server limit most
+        (record { port = port.old; clock = clock.old; host = record { goals = goals.old; node = node.old } })
+        (record { port = port.new; clock = clock.new; host = record { goals = goals.new; node = node.new } })) }
+    ensures err { OnErr result (Broken P.does C.tells server limit most
+        (record { port = port.old; clock = clock.old; host = record { goals = goals.old; node = node.old } })
+        (record { port = port.new; clock = clock.new; host = record { goals = goals.new; node = node.new } })) }
     ensures device { CountsFailure (P.failures port.old) (P.failures port.new) result }
 {
     for _ in 0..most {
@@ -86,9 +89,12 @@ fn end_turn<P: Port, C: Clock, const N: usize>(
     limit: u64,
 ) -> Result<bool, Device>
     requires failure_count { P.failures port.old < 2 ^ 62 }
-    ensures ok { IfOk result (λ on. EndTurnIs P.does C.tells server limit on port.old clock.old (record { goals = goals.old; node = node.old }) port.new clock.new (record { goals = goals.new; node = node.new })) }
-    ensures err { OnErr result ((acts : List PortCall) × (moments : List ℕ) × HostBreaks server goals.old node.old acts moments goals.new node.new
-        × Chain P.does port.old acts port.new × Chain C.tells clock.old moments clock.new) }
+    ensures ok { IfOk result (λ on. EndTurnIs P.does C.tells server limit on
+        (record { port = port.old; clock = clock.old; host = record { goals = goals.old; node = node.old } })
+        (record { port = port.new; clock = clock.new; host = record { goals = goals.new; node = node.new } })) }
+    ensures err { OnErr result (Breaks P.does C.tells server
+        (record { port = port.old; clock = clock.old; host = record { goals = goals.old; node = node.old } })
+        (record { port = port.new; clock = clock.new; host = record { goals = goals.new; node = node.new } })) }
     ensures device { CountsFailure (P.failures port.old) (P.failures port.new) result }
 {
     host_turn(port, clock, node, server, goals)?;

@@ -1,4 +1,4 @@
-//! A host over this machine's UDP and its clocks.
+//! A host over UDP and the system's clocks.
 
 ghost use Rattle.std.specs.Prelude.{◌≡◌, ◌<◌, ◌^◌, Err, IfOk, IfErr};
 ghost use Rattle.nbt_host.specs.Running.{HostsOver, HostOverFails, HostsHere, HostFailsHere};
@@ -6,22 +6,21 @@ ghost use Rattle.nbt_host.specs.Running.{HostsOver, HostOverFails, HostsHere, Ho
 use crate::arguments::HostArguments;
 use crate::host::Host;
 use crate::sleeping::Clocks;
-use crate::until::until_of;
 use nbt_name::Addr;
 use nbt_port::{
-    Clock, Fault, Port, UdpPort, bound_port, readable_clock, steady_clock, tell_end_of,
+    Clock, Fault, Port, bound_port, local_of, readable_clock, steady_clock, tell_end_of, until_of,
 };
 use std::alloc::Global;
 use std::io::Write;
 use std::net::Net;
 use std::time;
 
-/// Runs a host on a UDP port of this machine, over its clock that nobody sets and its time of day. It first prints which host asks
-/// which server for how many names, and then holds them until its time is over, and goes on when the port fails, as [`Host::stay`]
-/// does; then it gives them back. Returns whether all were held when its time was over. Refused: `NoPort` where the port can't be
-/// had; `NoClock` where a clock can't be read at first; `Device` at the hundredth turn in a row that fails, and at the first failure
-/// while the names are given back; `Output` where a line can't be written; `Memory` where memory is refused. Of each but the last two
-/// a line in `errors` says which call of the machine failed, for which address, and why.
+/// Runs a host on a UDP port of this system, over the monotonic clock and its time of day. It first prints which host asks
+/// which server for how many names, and then holds them until its time is over, and goes on when the port fails, as
+/// [`Host::stay`] does; then it releases them. Returns whether all were held when its time was over. Refused: `NoPort` where
+/// the port can't be bound; `NoClock` where a clock can't be read at first; `Device` at the hundredth turn in a row that fails,
+/// and at the first failure while the names are released; `Output` where a line can't be written; `Memory` where it is out of
+/// memory. Of each but the last two a line in `errors` says which call of the system failed, for which address, and why.
 pub fn run_host<M: Net + time::Clock, W: Write, E: Write>(
     machine: &M,
     alloc: Global,
@@ -42,8 +41,8 @@ pub fn run_host<M: Net + time::Clock, W: Write, E: Write>(
     )
 }
 
-/// Runs a host over a port and two clocks, as [`run_host`] does. `at` is the address that the first line tells. Where the port failed
-/// for good, it says why in `errors`, if the port knows it.
+/// Runs a host over a port and two clocks, as [`run_host`] does. `at` is the address that the first line tells. Where the port
+/// failed for good, a line in `errors` says why, if the port knows it.
 pub fn host_over<P: Port, C: Clock + Drop, D: Clock + Drop, M: time::Clock, W: Write, E: Write>(
     port: &mut P,
     clocks: Clocks<C, D>,
@@ -62,15 +61,6 @@ pub fn host_over<P: Port, C: Clock + Drop, D: Clock + Drop, M: time::Clock, W: W
     host.tell_begin(at, arguments.server, writer)?;
     let until = until_of(host.last().after, arguments.time);
     let ran = host.run(port, arguments, until, machine, writer, errors);
-    let ended = match ran {
-        Ok(_) => Ok(()),
-        Err(fault) => Err(fault),
-    };
-    tell_end_of(ended, port.cause(), errors);
+    tell_end_of(ran.err(), port.cause(), errors);
     ran
-}
-
-/// The address that a port really has, where the machine tells it; else the one that was asked for.
-fn local_of(port: &UdpPort) -> Addr {
-    port.local().unwrap_or(port.addr())
 }

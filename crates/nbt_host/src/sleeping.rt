@@ -12,14 +12,14 @@ pub const SLEEP: u64 = 200;
 /// A machine's two clocks. Each tells milliseconds since a beginning of its own.
 #[derive(Drop)]
 pub struct Clocks<C, D> {
-    /// The steady clock, which nobody sets, and which may stand while the machine sleeps.
+    /// The monotonic clock, which may stand while the machine sleeps.
     pub steady: C,
     /// The time of day.
     pub day: D,
 }
 
 impl<C: Clock, D: Clock> Clocks<C, D> {
-    /// Reads the steady clock, the time of day, and the steady clock again.
+    /// Reads the monotonic clock, the time of day, and the monotonic clock again.
     pub fn read(&mut self) -> Reading
         ensures { Reads C.tells D.tells self.old.steady self.old.day result self.new.steady self.new.day }
     {
@@ -30,7 +30,7 @@ impl<C: Clock, D: Clock> Clocks<C, D> {
     }
 }
 
-/// What both clocks of a machine told: the time of day, read between two readings of the steady clock.
+/// What both clocks of a machine told: the time of day, read between two readings of the monotonic clock.
 #[derive(Clone, Copy, Debug, PartialEq, Eq)]
 pub struct Reading {
     /// The steady clock before it.
@@ -42,9 +42,9 @@ pub struct Reading {
 }
 
 impl Reading {
-    /// Whether the machine slept since an earlier reading: the time of day went more than 200 ms beyond the most that the steady
-    /// clock can have gone between the two, from before the earlier to after this one. So being interrupted within a reading
-    /// doesn't count. A time of day that is set forward counts.
+    /// Whether the machine slept since an earlier reading: the time of day went more than 200 ms beyond the most that the
+    /// monotonic clock can have gone between the two, from before the earlier to after this one. So being interrupted within a
+    /// reading doesn't count. A time of day that is set forward counts.
     pub fn slept_since(self, earlier: Reading) -> bool
         ensures { IsTrue result ↔ HasSlept earlier self }
     {

@@ -13,9 +13,9 @@ use nbt_name::Name;
 use nbt_text::end_line;
 use std::alloc::AllocError;
 
-/// Appends what is printed of a turn, in this second since 1970: that the machine slept, and then of each name, in the list's order,
-/// that its hold lapsed, what came for it, a renewal where `log` is set alone, and after the first refusal of a row that it is asked
-/// for again.
+/// Appends what is printed of a turn, in this second since 1970: that the machine slept, and then of each name, in the list's
+/// order, that its hold lapsed, what came for it, a renewal where `log` is set alone, and after the first refusal of a row that
+/// it is requested again.
 pub fn write_turn(
     second: u64,
     log: bool,
@@ -122,7 +122,7 @@ fn news_of(log: bool, news: Option<News>) -> Option<Event>
     }
 }
 
-/// After the first refusal of a row, that the name is asked for again.
+/// After the first refusal of a row, that the name is requested again.
 fn again_of(news: Option<News>, refusal: Option<Refusal>) -> Option<Event>
     ensures { result ≡ again_of news refusal }
 {

@@ -13,15 +13,15 @@ use nbt_name::Addr;
 use nbt_node::Node;
 use nbt_port::{Clock, Device, Port};
 
-/// The host goes through one turn. The clock is read, and at that moment each name is looked at: where the hold that was told of
-/// is over by time, it has lapsed. In the list's order each name that is wanted is asked for, unless a refusal stands whose time
-/// hasn't come, and each that is to be given back is; a call that the node refuses is passed over, and so is one for a name that
-/// is held or asked for. Each request goes to `server`. Then the node is polled until it has nothing to send, each datagram going
-/// to its end, the port receives once, the clock is read again, and the node takes what came at that moment. A query for a name
-/// that is held then is answered, to whoever sent it, with the node's address and its kind; of the rest the node itself replies
-/// to a status request. What came of the names stands in `goals` afterwards: `lapsed` and `news` are this turn's. Refused with
-/// `Device` at the first call of the port that fails: nothing else of the turn is done, the node is as it was before the receive,
-/// or as after the call that made the sending, which is lost, and the goals are as after the look.
+/// The host goes through one turn. The clock is read, and at that time each name is looked at: where the hold that was told of
+/// is over by time, it has lapsed. In the list's order each name that is wanted is asked for, unless a refusal stands whose
+/// time hasn't come, and each that is to be released is; a call that the node refuses is ignored, and so is one for a name that
+/// is held or asked for. Each request goes to `server`. Then the node is polled until it has nothing to send, each datagram
+/// going to its destination, the port receives once, the clock is read again, and the node handles what came at that time. A
+/// query for a name that is held then is answered, to whoever sent it, with the node's address and its kind; of the rest the
+/// node itself replies to a status request. What came of the names stands in `goals` afterwards: `lapsed` and `news` are this
+/// turn's. Refused with `Device` at the first call of the port that fails: nothing else of the turn is done, the node is as it
+/// was before the receive, or as after the call that made the sending, which is lost, and the goals are as after the look.
 pub fn host_turn<P: Port, C: Clock, const N: usize>(
     port: &mut P,
     clock: &mut C,

@@ -16,11 +16,11 @@ use nbt_name::Addr;
 use nbt_node::Node;
 use nbt_port::{Clock, Device, Port};
 
-/// A turn of a host whose machine may have slept since the reading `last`. Both clocks are read. Where the machine slept, the host
-/// is as that of a machine that crashed and starts at the moment that the steady clock told last: the node knows nothing, has the
-/// limits `config`, and rests first, and of each goal what is wanted alone stays. Then follows one turn, as `host_turn` does it,
-/// by the steady clock. Returns whether the machine slept; `last` is the new reading. Refused with `Device` as `host_turn` is, after
-/// the look at the clocks. That `N` is 1 to 14 is the caller's.
+/// A turn of a host whose machine may have slept since the reading `last`. Both clocks are read. Where the machine slept, the
+/// host is as that of a machine that crashed and starts at the time that the monotonic clock told last: the node knows nothing,
+/// has the limits `config`, and rests first, and of each goal what is wanted alone stays. Then follows one turn, as `host_turn`
+/// does it, by the monotonic clock. Returns whether the machine slept; `last` is the new reading. Refused with `Device` as
+/// `host_turn` is, after the look at the clocks. The caller must ensure that `N` is 1 to 14.
 pub fn waking_turn<P: Port, C: Clock, D: Clock, const N: usize>(
     port: &mut P,
     clocks: &mut Clocks<C, D>,

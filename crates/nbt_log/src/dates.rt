@@ -1,4 +1,4 @@
-//! Which time of day it was at which moment.
+//! Monotonic times as times of day.
 
 ghost use Rattle.std.specs.Prelude.{◌≡◌};
 ghost use Rattle.nbt_log.specs.Dates.{second_at, is_near, followed};
@@ -11,18 +11,17 @@ const NEAR: u64 = 2_000;
 /// Milliseconds of a second.
 const SECOND: u128 = 1_000;
 
-/// Which time of day it was at a moment. Moments are told by a clock that nobody sets, and times of day by one that may be set:
-/// so one pair of both dates all moments.
+/// Which time of day it was at a monotonic time. The time of day may be set, so one pair of both dates all times.
 #[derive(Clone, Copy, Debug, PartialEq, Eq)]
 pub struct Dates {
-    /// The moment.
+    /// The monotonic time, in milliseconds.
     pub moment: Moment,
     /// The time of day then, in milliseconds since 1970.
     pub time: Moment,
 }
 
 impl Dates {
-    /// The second since 1970 in which a moment lies, which may be the end of a lease: that of 1970 where it lies before.
+    /// The second since 1970 of a monotonic time, which may be the expiry of a lease; 0 where it lies before 1970.
     pub fn second_at(&self, at: u64) -> u64
         ensures { result ≡ second_at self.now at }
     {
@@ -31,8 +30,8 @@ impl Dates {
         (since / SECOND) as u64
     }
 
-    /// Takes this time of day at this moment, where it is more than 2,000 ms from what was thought: the clock was set. Else all
-    /// is as before, so that the dates of leases stay.
+    /// Takes this time of day at this time, where it is more than 2,000 ms from the expected one: the clock was set. Else all
+    /// stays as before, so that the dates of leases stay.
     pub fn follow(&mut self, moment: Moment, time: Moment)
         ensures { self.new ≡ followed self.old moment time }
     {
@@ -41,7 +40,7 @@ impl Dates {
         }
     }
 
-    /// Whether this time of day at this moment is what was thought, or within 2,000 ms of it.
+    /// Whether this time of day is within 2,000 ms of the expected one.
     fn is_near(&self, moment: Moment, time: Moment) -> bool
         ensures { result ≡ is_near self.now moment time }
     {

@@ -3,7 +3,7 @@
 use nbt_name::Addr;
 use nbt_server::Outcome;
 
-/// A datagram that a name server took.
+/// A datagram that a name server handled.
 #[derive(Debug, PartialEq, Eq, Drop)]
 pub struct Entry {
     /// Its sender.

@@ -13,8 +13,8 @@ use nbt_show::kind_word;
 use nbt_text::end_line;
 use std::alloc::AllocError;
 
-/// Appends a line for each of the rows whose lease lives at `now`, in their order: the name, its kind, the address, and when the
-/// lease ends, as `FILER#20 unique 192.0.2.7 2026-11-24T09:17:03Z`. A lease no longer lives at its end.
+/// Appends a line for each of the rows whose lease lives at `now`, in their order: the name, its kind, the address, and the
+/// expiry, as `FILER#20 unique 192.0.2.7 2026-11-24T09:17:03Z`. A lease no longer lives at its expiry.
 pub fn write_leases(
     dates: &Dates,
     now: Moment,
@@ -63,7 +63,7 @@ fn write_lease(
     end_line(out)
 }
 
-/// Appends of which kind a lease is, and which machine has it.
+/// Appends the kind and the holder of a lease.
 fn write_machine(lease: &Lease, out: &mut String) -> Result<(), AllocError>
     ensures { OnOk result (string_bytes out.new ≡ string_bytes out.old ++ machine lease.now) }
 {

@@ -1,4 +1,4 @@
-//! How many lines of strangers' datagrams are printed.
+//! A limit for the lines of datagrams from unknown senders.
 
 ghost use Rattle.std.specs.Prelude.{◌≡◌, ◌<◌, [], length};
 ghost use Rattle.nbt_log.specs.Limiting.{Limits, told_at};
@@ -13,7 +13,7 @@ pub const LINES_MOST: usize = 10;
 /// A second, in milliseconds.
 const SECOND: u64 = 1_000;
 
-/// Which lines may be printed: at most ten in any second. A contract sees the moments of the last ten, and how many lines were
+/// Which lines may be printed: at most ten in any second. A contract sees the times of the last ten, and how many lines were
 /// left out since.
 #[derive(Debug, Drop)]
 pub struct Limiter {
@@ -40,8 +40,8 @@ impl Limiter {
         }
     }
 
-    /// Whether a line may be printed at `now`: where there are fewer than ten yet, or the tenth last was printed a second ago or
-    /// earlier. Returns then how many were left out since the last one, else `None`, and this one is left out too.
+    /// Whether a line may be printed at `now`: where there were fewer than ten, or the tenth last was printed a second ago or
+    /// earlier. Returns how many were left out since the last one; or `None`, and this one is left out too.
     pub fn take(&mut self, now: Moment) -> Option<u64>
         ensures { Limits self.old now result self.new }
     {
@@ -56,7 +56,7 @@ impl Limiter {
         Some(self.tell(now))
     }
 
-    /// The line is the last one now. Returns how many were left out since the one before.
+    /// Records a printed line. Returns how many were left out since the one before.
     fn tell(&mut self, now: Moment) -> u64
         requires room { length self.old.told < LINES_MOST }
         ensures left_out { result ≡ self.old.left_out }

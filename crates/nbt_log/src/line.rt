@@ -97,7 +97,7 @@ pub fn write_reason(rcode: u8, out: &mut String) -> Result<(), AllocError>
     writeln!(out, ": {words} ({rcode})")
 }
 
-/// Appends what the line of a claim begins with: the time, what was done, and whose it is.
+/// Appends the beginning of the line of a registration: the time, what was done, and whose it is.
 fn write_head(second: u64, verb: &str, claim: &Claim, out: &mut String) -> Result<(), AllocError>
     ensures { OnOk result ((head : List ℕ) × IsHead second verb.now claim.now head × (string_bytes out.new ≡ string_bytes out.old ++ head)) }
 {
@@ -107,7 +107,7 @@ fn write_head(second: u64, verb: &str, claim: &Claim, out: &mut String) -> Resul
     write_place(claim, out)
 }
 
-/// Appends by which machine a name is claimed, and as what.
+/// Appends the address for which a name is registered, and its kind.
 fn write_place(claim: &Claim, out: &mut String) -> Result<(), AllocError>
     ensures { OnOk result (string_bytes out.new ≡ string_bytes out.old ++ place claim.now) }
 {

@@ -14,8 +14,8 @@ pub const LAST_SECOND: u64 = 253_402_207_200;
 /// Nanoseconds of a second.
 const NANOSECONDS: i128 = 1_000_000_000;
 
-/// Appends the date and the time of a second since 1970, in UTC, as RFC 3339 has them: `2026-11-24T09:12:03Z`. Of a second after
-/// 253,402,207,200 the text is that one's.
+/// Appends the date and the time of a second since 1970, in UTC, as in RFC 3339: `2026-11-24T09:12:03Z`. From 253,402,207,200
+/// on the text stays the same.
 pub fn write_time(second: u64, out: &mut String) -> Result<(), AllocError>
     ensures { OnOk result ((text : List ℕ) × IsTimeText second text × (string_bytes out.new ≡ string_bytes out.old ++ text)) }
 {

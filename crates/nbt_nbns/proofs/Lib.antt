@@ -2,7 +2,6 @@
 
 -- turns of a server, and one of them by what its port, its clock and its server returned
 pub mod ServerTurns
-pub mod Taking
 pub mod OneServerTurn
 mod OneTurn
 -- what a message that is read says, and what is taken for a registration

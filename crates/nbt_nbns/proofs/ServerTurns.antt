@@ -36,11 +36,6 @@ breaks_one does tells failure p q c d s t fails did told = record {
   fewer = omega arith;
 }
 
--- no turn
-pub runs_none : {P C : Type 0} (does : P → PortCall → P → Type 0) (tells : C → ℕ → C → Type 0) (counts : Counts) (p : P) (c : C) (s : ServerValue)
-    → counts ≡ record { receives = 0; replies = 0; lost = 0 } → Runs does tells 0 counts p c s p c s
-runs_none does tells counts p c s counted = record { turns = []; server = refl; port_did = refl; clock_told = refl; count_is = refl; counts_are = counted }
-
 counts_of-append : (xs ys : List Turn) → counts_of (xs ++ ys) ≡ sum_of (counts_of xs) (counts_of ys)
 counts_of-append xs ys = rw (length-append, sum_by-append replies_in xs ys, sum_by-append lost_in xs ys) refl
 

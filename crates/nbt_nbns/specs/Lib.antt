@@ -10,5 +10,4 @@ pub mod Running
 pub mod Samba
 pub mod SambaPort
 pub mod Serving
-pub mod Turning
 pub mod Watching

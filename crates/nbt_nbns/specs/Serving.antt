@@ -6,6 +6,9 @@ use Rattle.nbt_packet.specs.Message.{MessageValue}
 use Rattle.nbt_packet.specs.Text.{text}
 use Rattle.nbt_server.specs.Serving.{ServerValue}
 use Rattle.nbt_server.specs.Calls.{ServerTakes, ServerForgets}
+use Rattle.nbt_server.specs.Outcomes.{IsDone}
+use Rattle.nbt_server.specs.declared.outcome.Outcome.{Outcome}
+use Rattle.nbt_log.specs.declared.entry.Entry.{Entry}
 use Rattle.nbt_nbns.specs.declared.serving.Counts.{Counts}
 use Rattle.nbt_port.specs.PortCalls.{PortCall, nothing_came, came, receive_failed, sent, send_failed, Chain}
 
@@ -38,6 +41,22 @@ pub data Turns (old : ServerValue) : Turn → ServerValue → Type 0 where
   takes : (now : ℕ) (from : Addr) (octets : List ℕ) (reply : Option MessageValue) (new : ServerValue) → ServerTakes old now from.ip octets reply new → Turns old (is_taken now from octets reply) new
   goes_back : (now : ℕ) (from : Addr) (octets : List ℕ) → now < old.last → Turns old (is_lost now from octets) old
   has_no_memory : (now : ℕ) (from : Addr) (octets : List ℕ) (new : ServerValue) → ServerForgets old now from.ip octets new → Turns old (is_lost now from octets) new
+
+-- What the log has of a turn: nothing, where no datagram came or it was lost; else its sender, its length, and what the server did.
+abbrev pub IsLogged : {old new : ServerValue} {turn : Turn} → Turns old turn new → Option Entry → Type 0
+IsLogged passes entry = entry ≡ None
+IsLogged (takes now from octets reply new does) entry = (outcome : Outcome) × IsDone does.serves outcome × (entry ≡ Some (record { from = from; count = length octets; outcome = outcome }))
+IsLogged (goes_back now from octets early) entry = entry ≡ None
+IsLogged (has_no_memory now from octets new forgets) entry = entry ≡ None
+
+-- A server, a port and a clock go through a turn, and that is what it did.
+pub record WatchesTurn {P C : Type 0} (does : P → PortCall → P → Type 0) (tells : C → ℕ → C → Type 0)
+    (old_port : P) (old_clock : C) (old : ServerValue) (entry : Option Entry) (port : P) (clock : C) (new : ServerValue) : Type 0 where
+  pub turn : Turn
+  pub server : Turns old turn new
+  pub port_did : Chain does old_port (acts_in turn) port
+  pub clock_told : Chain tells old_clock (moments_in turn) clock
+  pub entry_is : IsLogged server entry
 
 -- ---- the turn in which the device fails
 

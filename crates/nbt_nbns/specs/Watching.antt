@@ -1,11 +1,12 @@
 -- A name server that stays up, and is watched (our profile).
-use Rattle.std.specs.Prelude.{◌≡◌, ℕ, ◌≤◌, ◌⊎◌, List, Option, Some, None}
+use Rattle.std.specs.Prelude.{◌≡◌, ℕ, ◌⊎◌, List, Option}
 use Rattle.nbt_server.specs.Serving.{ServerValue}
 use Rattle.nbt_port.specs.PortCalls.{PortCall}
 use Rattle.nbt_nbns.specs.Serving.{Breaks}
 use Rattle.nbt_port.specs.Staying.{StaysUp, GivesUp, IsCutOff}
+use Rattle.nbt_port.specs.Until.{IsOver}
 use Rattle.nbt_port.specs.declared.limits.TheConstants.{FOREVER}
-use Rattle.nbt_nbns.specs.Turning.{WatchesTurn}
+use Rattle.nbt_nbns.specs.Serving.{WatchesTurn}
 use Rattle.nbt_nbns.specs.declared.staying.Shown.{Shown}
 
 -- a port, a clock and a server, what watches the server, and what is printed
@@ -38,12 +39,7 @@ pub record BreaksWatching {P C V : Type 0} (does : P → PortCall → P → Type
   pub watcher_is : new.watcher ≡ old.watcher
   pub text_is : new.text ≡ old.text
 
--- its time is over
-abbrev pub IsOver : (until : Option ℕ) → (now : ℕ) → Type 0
-IsOver None now = ⊥
-IsOver (Some until) now = until ≤ now
-
--- a turn after which it isn't
+-- a turn after which its time isn't over
 abbrev pub WatchesOn : {P C V : Type 0} → (P → PortCall → P → Type 0) → (C → ℕ → C → Type 0) → Sight V → (until : Option ℕ) → Watching P C V → Shown → Watching P C V → Type 0
 WatchesOn does tells sees until old shown new = Watches does tells sees old shown new × (¬ IsOver until shown.at)
 

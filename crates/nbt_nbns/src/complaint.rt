@@ -1,4 +1,4 @@
-//! What is said of something that can't be written.
+//! Errors of what can't be written.
 
 use std::io;
 use std::io::Write;
@@ -29,8 +29,8 @@ impl Complaint {
     }
 }
 
-/// Says in a line what can't be written, as `the log` or a file's path, and why, at once. What can't be written to `errors` is
-/// passed over.
+/// Prints what can't be written, as `the log` or a file's path, and why, and flushes. A failure to write to `errors` is
+/// ignored.
 pub(crate) fn complain<E: Write>(what: &str, error: io::Error, errors: &mut E) {
     let _ = write_line(what, error, errors);
 }

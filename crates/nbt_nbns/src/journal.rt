@@ -12,11 +12,11 @@ use nbt_port::Clock;
 use nbt_server::Server;
 use std::io::Write;
 
-/// Logs what each turn of a server was, and keeps the list of its leases in a place, each where it is wanted. It dates moments by the
-/// time of day, anew where that clock was set.
+/// Logs what each turn of a server was, and keeps the list of its leases in a place, each where it is wanted. It dates times by
+/// the time of day, and anew where that clock was set.
 #[derive(Drop)]
 pub struct Journal<D, L> {
-    /// Which time of day it was at which moment.
+    /// What dates the times of the monotonic clock.
     pub dates: Dates,
     /// The clock that tells the time of day.
     pub day: D,

@@ -20,7 +20,6 @@ mod samba;
 mod samba_port;
 mod serving;
 mod staying;
-mod turn;
 
 pub use begin::write_begin;
 pub use journal::Journal;
@@ -33,6 +32,5 @@ pub use place::{FilePlace, MemoryPlace, Place};
 pub use running::{NbnsArguments, run_nbns};
 pub use samba::take_registration;
 pub use samba_port::SambaPort;
-pub use serving::{Counts, serve_turns};
+pub use serving::{Counts, ServedTurn, serve_turn, serve_turns};
 pub use staying::{Shown, Watcher, watch_on};
-pub use turn::watched_turn;

@@ -8,6 +8,7 @@ ghost use Rattle.nbt_nbns.specs.Logging.{is_stranger, Logs};
 use crate::complaint::Complaint;
 use crate::staying::Shown;
 use nbt_log::{Dates, Limiter, write_entry};
+use nbt_port::print;
 use nbt_server::Outcome;
 use std::alloc::{AllocError, Global};
 use std::io;
@@ -43,8 +44,8 @@ impl Logger {
         }
     }
 
-    /// Prints the line of what a server did with a datagram, at once, where it may be printed. Returns whether that was done: not
-    /// where memory was refused or the line can't be written, which is said in `errors`, the first time of a row.
+    /// Prints the line of what a server did with a datagram, at once, where it may be printed. Returns whether that was done:
+    /// not where it was out of memory or the line can't be written, which is said in `errors`, the first time of a row.
     pub fn log<W: Write, E: Write>(
         &mut self,
         dates: &Dates,
@@ -79,7 +80,7 @@ impl Logger {
     {
         let mut line = String::new(self.alloc);
         write_limited(&mut self.limiter, dates, shown, &mut line)?;
-        print(line.as_str(), writer)
+        print_any(line.as_str(), writer)
     }
 }
 
@@ -115,14 +116,13 @@ fn is_stranger(outcome: &Outcome) -> bool
     }
 }
 
-/// Writes a text, if it has any octet, at once. Returns whether it has.
-fn print<W: Write>(text: &str, writer: &mut W) -> io::Result<bool>
+/// Prints a text, if it has any octet. Returns whether it has.
+fn print_any<W: Write>(text: &str, writer: &mut W) -> io::Result<bool>
     ensures { OnOk result (Appends (W.contents writer.old) (W.contents writer.new) text.now) }
 {
     if text.is_empty() {
         return Ok(false);
     }
-    writer.write_all(text.as_bytes())?;
-    writer.flush()?;
+    print(text, writer)?;
     Ok(true)
 }

@@ -87,7 +87,7 @@ impl Place for MemoryPlace {
     }
 }
 
-/// A file of this machine. The text is written to a new file beside it, which is then renamed over it. A contract sees the two
+/// A file of this system. The text is written to a new file beside it, which is then renamed over it. A contract sees the two
 /// paths.
 #[derive(Drop)]
 pub struct FilePlace<'a, R: Files> {

@@ -1,4 +1,4 @@
-//! A name server over this machine's UDP, its clocks and its files.
+//! A name server over UDP, the system's clocks and its files.
 
 ghost use Rattle.std.specs.Prelude.{◌≡◌, ◌+◌, ◌≤◌, ◌^◌, ◌⊎◌, ℕ, List, Err, OnOk, IfOk, IfErr, OnErr};
 ghost use Rattle.std.specs.Io.KnownBytes.{Appends};
@@ -6,7 +6,7 @@ ghost use Rattle.nbt_lease.specs.Config.{milliseconds};
 ghost use Rattle.nbt_port.specs.Udp.{UdpValue};
 ghost use Rattle.nbt_log.specs.Dates.{second_at};
 ghost use Rattle.nbt_nbns.specs.Begin.{IsBegin};
-ghost use Rattle.nbt_nbns.specs.Running.{PortDoes, until_of, log_of, leases_of, RunsNbns, NbnsFails};
+ghost use Rattle.nbt_nbns.specs.Running.{PortDoes, log_of, leases_of, RunsNbns, NbnsFails};
 ghost use Rattle.nbt_nbns.specs.Watching.{WatchesUntil, WatchFails};
 
 use crate::begin::write_begin;
@@ -21,7 +21,8 @@ use nbt_lease::{Config, Moment};
 use nbt_log::Dates;
 use nbt_name::Addr;
 use nbt_port::{
-    Clock, Fault, Port, UdpPort, bound_port, readable_clock, steady_clock, tell_end_of,
+    Clock, Fault, Port, UdpPort, bound_port, local_of, print, readable_clock, steady_clock,
+    tell_end_of, until_of,
 };
 use nbt_server::Server;
 use std::alloc::{AllocError, Global};
@@ -47,12 +48,12 @@ pub struct NbnsArguments {
     pub strict: bool,
 }
 
-/// Runs a name server on a UDP port of this machine, over its clock that nobody sets. It first prints where it serves, for how long
-/// it is silent and until when, and then stays up for 2^61 turns or until its time is over, also where the port fails, as
-/// [`watch_on`] does. It logs to `writer`, and keeps the list of its leases in a file, where that is asked for. Refused: `NoPort`
-/// where the port can't be had; `NoClock` where a clock can't be read at first; `Memory` where memory is refused before the first
-/// line; `Output` where that line can't be written; `Device` at the hundredth turn in a row that fails. Of each but `Memory` a line
-/// in `errors` says what failed, and why. What can't be written to `errors` is passed over.
+/// Runs a name server on a UDP port of this system, over the monotonic clock. It first prints where it serves, for how long it
+/// is silent and until when, and then stays up for 2^61 turns or until its time is over, also where the port fails, as
+/// [`watch_on`] does. It logs to `writer`, and keeps the list of its leases in a file, where the arguments say so. Refused:
+/// `NoPort` where the port can't be bound; `NoClock` where a clock can't be read at first; `Memory` where it is out of memory
+/// before the first line; `Output` where that line can't be written; `Device` at the hundredth turn in a row that fails. Of
+/// each but `Memory` a line in `errors` says what failed, and why. A failure to write to `errors` is ignored.
 pub fn run_nbns<M: Net + time::Clock + Files, W: Write, E: Write>(
     machine: &M,
     alloc: Global,
@@ -97,13 +98,8 @@ pub fn run_nbns<M: Net + time::Clock + Files, W: Write, E: Write>(
     )
 }
 
-/// The address that a port really has, where the machine tells it; else the one that was asked for.
-fn local_of(port: &UdpPort) -> Addr {
-    port.local().unwrap_or(port.addr())
-}
-
-/// Prints where a server serves that starts now, for how long it is silent, and until when, at once. Refused: `Memory`, and then
-/// nothing is printed; `Output` where the line can't be written, and it says why in `errors`.
+/// Prints where a server serves that starts now, for how long it is silent, and until when, and flushes. Refused: `Memory`, and
+/// then nothing is printed; `Output` where the line can't be written, and a line in `errors` says why.
 fn tell_begin<W: Write, E: Write>(
     alloc: Global,
     at: Addr,
@@ -127,13 +123,6 @@ fn tell_begin<W: Write, E: Write>(
             Err(Fault::Output)
         }
     }
-}
-
-fn print<W: Write>(text: &str, writer: &mut W) -> io::Result<()>
-    ensures { OnOk result (Appends (W.contents writer.old) (W.contents writer.new) text.now) }
-{
-    writer.write_all(text.as_bytes())?;
-    writer.flush()
 }
 
 /// The log, if there is to be one.
@@ -160,13 +149,6 @@ fn leases_of<'a, M: Files>(
     };
     let place = FilePlace::new(machine, alloc, path.as_str())?;
     Ok(Some(Keeper::new(alloc, place)))
-}
-
-/// The moment at which it ends that starts at this one; none where it has no end.
-fn until_of(start: Moment, time: Option<u64>) -> Option<Moment>
-    ensures { result ≡ until_of start time }
-{
-    Moment::new(start.get().saturating_add(time?))
 }
 
 /// Watches a server until it ends, over this port as it is where that is `strict`, else over one on which Samba's registrations
@@ -204,7 +186,7 @@ fn watch_over<C: Clock, V: Watcher, M: time::Clock, W: Write, E: Write>(
     }
 }
 
-/// Watches a server until it ends, as [`watch_on`] does. Where the port failed for good, it says why in `errors`.
+/// Watches a server until it ends, as [`watch_on`] does. Where the port failed for good, a line in `errors` says why.
 fn watch_to_its_end<P: Port, C: Clock, V: Watcher, M: time::Clock, W: Write, E: Write>(
     port: &mut P,
     clock: &mut C,
@@ -229,6 +211,6 @@ fn watch_to_its_end<P: Port, C: Clock, V: Watcher, M: time::Clock, W: Write, E: 
         Ok(()) => Ok(()),
         Err(failure) => Err(Fault::from(failure)),
     };
-    tell_end_of(ended, port.cause(), errors);
+    tell_end_of(ended.err(), port.cause(), errors);
     ended
 }

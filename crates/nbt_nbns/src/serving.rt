@@ -2,9 +2,10 @@
 
 ghost use Rattle.std.specs.Prelude.{◌≡◌, ℕ, ◌+◌, ◌<◌, ◌≤◌, ◌^◌, IfOk, OnErr};
 ghost use Rattle.nbt_port.specs.PortCalls.{CountsFailure};
-ghost use Rattle.nbt_nbns.specs.Serving.{Runs, Breaks};
+ghost use Rattle.nbt_nbns.specs.Serving.{Runs, Breaks, WatchesTurn};
 
 use arrayvec::ArrayVec;
+use nbt_log::Entry;
 use nbt_port::{Clock, Device, Port};
 use nbt_server::Server;
 
@@ -48,11 +49,11 @@ impl Counts {
     }
 }
 
-/// The server goes through `turns` turns: in each it receives, and where a datagram came it reads the clock, takes the
-/// datagram at that moment, and sends the reply, if there is one, to the datagram's sender. Returns what it did. A
-/// datagram that the server refuses is lost: its moment goes back, or it changes the leases and memory was refused; start
-/// and leases stay, and the turns go on. Refused with `Device` at the first call of the port that fails: the server is
-/// then as after the datagrams that came.
+/// The server goes through `turns` turns: in each it receives, and where a datagram came it reads the clock, handles the
+/// datagram at that time, and sends the reply, if there is one, to the datagram's sender. Returns what it did. A datagram that
+/// the server refuses is lost: the clock went back, or it changes the leases and it is out of memory; start and leases stay,
+/// and the turns go on. Refused with `Device` at the first call of the port that fails: the server is then as after the
+/// datagrams that came.
 pub fn serve_turns<P: Port, C: Clock>(
     port: &mut P,
     clock: &mut C,
@@ -70,39 +71,67 @@ pub fn serve_turns<P: Port, C: Clock>(
     let mut counts = Counts::none();
     for _ in 0..turns {
         let one = serve_turn(port, clock, server, &mut octets, &mut reply)?;
-        counts = counts.plus(one);
+        counts = counts.plus(one.counts);
     }
     Ok(counts)
 }
 
-/// One turn.
-fn serve_turn<P: Port, C: Clock>(
+/// What a server did in a turn.
+#[derive(Debug, PartialEq, Eq, Drop)]
+pub struct ServedTurn {
+    /// What it did with the datagram that came; `None` where none came, and where it was lost.
+    pub entry: Option<Entry>,
+    /// The same, counted.
+    pub counts: Counts,
+}
+
+/// The server goes through one turn, as [`serve_turns`] does. Returns what it did. `octets` and `reply` are buffers of the turn.
+/// Refused with `Device` at the first call of the port that fails: the server is then as after the datagram that came.
+pub fn serve_turn<P: Port, C: Clock>(
     port: &mut P,
     clock: &mut C,
     server: &mut Server,
     octets: &mut ArrayVec<u8, 2048>,
     reply: &mut ArrayVec<u8, 576>,
-) -> Result<Counts, Device>
+) -> Result<ServedTurn, Device>
     requires failure_count { P.failures port.old < 2 ^ 62 }
-    ensures ok { IfOk result (λ counts. Runs P.does C.tells 1 counts port.old clock.old server.old port.new clock.new server.new) }
+    ensures ok { IfOk result (λ turned. WatchesTurn P.does C.tells port.old clock.old server.old turned.entry port.new clock.new server.new
+        × Runs P.does C.tells 1 turned.counts port.old clock.old server.old port.new clock.new server.new) }
     ensures err { OnErr result (Breaks P.does C.tells 1 port.old clock.old server.old port.new clock.new server.new) }
+    // It is refused exactly where the port's count of failures grew.
     ensures device { CountsFailure (P.failures port.old) (P.failures port.new) result }
 {
     let mut counts = Counts {
         receives: 1,
-        ..Counts::none()
+        replies: 0,
+        lost: 0,
     };
     let Some(from) = port.receive(octets)? else {
-        return Ok(counts);
+        return Ok(ServedTurn {
+            entry: None,
+            counts,
+        });
     };
     let now = clock.now();
-    match server.on_datagram(now, from, octets.as_slice(), reply) {
-        Ok(true) => {
-            port.send(from, reply.as_slice())?;
-            counts.replies = 1;
+    match server.handle(now, from, octets.as_slice(), reply) {
+        Ok(outcome) => {
+            if outcome.has_reply() {
+                port.send(from, reply.as_slice())?;
+                counts.replies = 1;
+            }
+            let entry = Some(Entry {
+                from,
+                count: octets.len(),
+                outcome,
+            });
+            Ok(ServedTurn { entry, counts })
         }
-        Ok(false) => {}
-        Err(_) => counts.lost = 1,
+        Err(_) => {
+            counts.lost = 1;
+            Ok(ServedTurn {
+                entry: None,
+                counts,
+            })
+        }
     }
-    Ok(counts)
 }

@@ -1,17 +1,17 @@
 //! A name server that stays up, and is watched.
 
-ghost use Rattle.std.specs.Prelude.{ℕ, List, Option, ◌<◌, ◌≤◌, ◌^◌, ◌↔◌, IsTrue, IfOk, OnOk, OnErr};
+ghost use Rattle.std.specs.Prelude.{ℕ, List, Option, ◌<◌, ◌≤◌, ◌^◌, IfOk, OnOk, OnErr};
 ghost use Rattle.nbt_server.specs.Serving.{ServerValue};
 ghost use Rattle.nbt_port.specs.PortCalls.{CountsFailure};
 ghost use Rattle.nbt_nbns.specs.Serving.{Breaks};
 ghost use Rattle.nbt_nbns.specs.declared.staying.Shown.{Shown};
-ghost use Rattle.nbt_nbns.specs.Watching.{IsOver, ShowsTurn, WatchesUntil, WatchFails};
+ghost use Rattle.nbt_nbns.specs.Watching.{ShowsTurn, WatchesUntil, WatchFails};
 
-use crate::turn::watched_turn;
+use crate::serving::serve_turn;
 use arrayvec::ArrayVec;
 use nbt_lease::Moment;
 use nbt_log::Entry;
-use nbt_port::{Clock, Device, FOREVER, Port, Row};
+use nbt_port::{Clock, Device, FOREVER, Port, Row, is_over};
 use nbt_server::Server;
 use std::io::Write;
 use std::time;
@@ -84,16 +84,6 @@ pub fn watch_on<P: Port, C: Clock, V: Watcher, M: time::Clock, W: Write, E: Writ
     Ok(())
 }
 
-/// Whether the time is over, if it has an end.
-fn is_over(until: &Option<Moment>, now: Moment) -> bool
-    ensures { IsTrue result ↔ IsOver until.now now }
-{
-    match until {
-        Some(until) => until.get() <= now.get(),
-        None => false,
-    }
-}
-
 /// One turn, and the moment after it.
 fn turn_and_moment<P: Port, C: Clock>(
     port: &mut P,
@@ -107,9 +97,9 @@ fn turn_and_moment<P: Port, C: Clock>(
     ensures err { OnErr result (Breaks P.does C.tells 1 port.old clock.old server.old port.new clock.new server.new) }
     ensures device { CountsFailure (P.failures port.old) (P.failures port.new) result }
 {
-    let entry = watched_turn(port, clock, server, octets, reply)?;
+    let turned = serve_turn(port, clock, server, octets, reply)?;
     Ok(Shown {
-        entry,
+        entry: turned.entry,
         at: clock.now(),
     })
 }

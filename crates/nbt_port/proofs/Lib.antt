@@ -6,6 +6,6 @@ pub mod Chains
 pub mod Remembering
 pub mod Telling
 -- what a writer has after what it had
-pub mod Printing
+pub mod Printed
 -- turns of a server or a host that stays up
 pub mod Outcomes

@@ -4,3 +4,4 @@ pub mod Memory
 pub mod PortCalls
 pub mod Staying
 pub mod Udp
+pub mod Until

@@ -1,4 +1,4 @@
-//! The sockets of this machine, for the ends that begin by one.
+//! UDP ports of this system.
 
 ghost use Rattle.std.specs.Prelude.{◌≡◌, IfOk, IfErr};
 ghost use Rattle.nbt_port.specs.Faults.{fault_of_bind, IsNotBound};
@@ -11,7 +11,7 @@ use std::io;
 use std::io::Write;
 use std::net::Net;
 
-/// The UDP port at this address of the machine, where it can be bound. Else it says why in `errors`, and is refused as
+/// The UDP port at this address of the system. Where it can't be bound, a line in `errors` says why, and it is refused as
 /// [`not_bound`] says: `NoPort`, or `Memory`.
 pub fn bound_port<M: Net, E: Write>(
     machine: &M,
@@ -27,8 +27,8 @@ pub fn bound_port<M: Net, E: Write>(
     }
 }
 
-/// Why no socket can be bound to this address: `Memory` where the machine has no memory for it, else `NoPort`. It says so in
-/// `errors`; what can't be written there is passed over.
+/// Why no socket can be bound to this address: `Memory` where the system is out of memory, else `NoPort`. A line in `errors`
+/// says so; a failure to write it is ignored.
 pub fn not_bound<E: Write>(addr: Addr, error: io::Error, errors: &mut E) -> Fault
     ensures value { result ≡ fault_of_bind error }
     ensures either { IsNotBound result }
@@ -38,4 +38,9 @@ pub fn not_bound<E: Write>(addr: Addr, error: io::Error, errors: &mut E) -> Faul
         io::ErrorKind::OutOfMemory => Fault::Memory,
         _ => Fault::NoPort,
     }
+}
+
+/// The address that a port really has, where the system reports it; else the one that was asked for.
+pub fn local_of(port: &UdpPort) -> Addr {
+    port.local().unwrap_or(port.addr())
 }

@@ -1,11 +1,11 @@
-//! Why a call of the machine failed.
+//! Why a call of the system failed.
 
 use nbt_name::Addr;
 use std::io::Write;
 use std::net::{Ipv4Addr, SocketAddrV4};
 use std::{fmt, io};
 
-/// A call of the machine.
+/// A call of the system.
 #[derive(Clone, Copy, Debug, PartialEq, Eq)]
 pub enum MachineCall {
     /// A port is opened.
@@ -14,14 +14,14 @@ pub enum MachineCall {
     Receive,
     /// A datagram is sent.
     Send,
-    /// A connection is taken.
+    /// A connection is accepted.
     Accept,
     /// The clock is read.
     Clock,
 }
 
 impl MachineCall {
-    /// What stands before the machine's text: the call, but for a port that can't be bound.
+    /// What stands before the system's text: the call, but for a port that can't be bound.
     fn words(self) -> &'static str {
         match self {
             MachineCall::Bind => "",
@@ -33,8 +33,8 @@ impl MachineCall {
     }
 }
 
-/// A call of the machine that failed: which, for the end at which address, and why. Its text is the address, the call and the
-/// machine's own text, as `127.0.0.1:10137: Address already in use (os error 98)`.
+/// A call of the system that failed: which, for the host at which address, and why. Its text is the address, the call and the
+/// system's own text, as `127.0.0.1:10137: Address already in use (os error 98)`.
 #[derive(Clone, Copy, Debug)]
 pub struct Cause {
     call: MachineCall,
@@ -43,12 +43,12 @@ pub struct Cause {
 }
 
 impl Cause {
-    /// This call failed so, for the end at this address.
+    /// This call failed so, for the host at this address.
     pub fn new(call: MachineCall, end: Addr, error: io::Error) -> Cause {
         Cause { call, end, error }
     }
 
-    /// Writes the line `nbt: `, the text and `more`, at once. What can't be written is passed over.
+    /// Prints the line `nbt: `, the text and `more`. A failure to write it is ignored.
     pub fn tell<E: Write>(&self, more: &str, errors: &mut E) {
         let _ = write_line(self, more, errors);
     }

@@ -1,4 +1,4 @@
-//! Why work over this machine ends early.
+//! Why a server, a node or a command ends early.
 
 ghost use Rattle.std.specs.Prelude.{◌≡◌, ◌≤◌};
 ghost use Rattle.nbt_port.specs.Faults.{fault_status, fault_line};
@@ -8,7 +8,7 @@ use std::alloc::{AllocError, AllocFailed};
 use std::io;
 use thiserror::Error;
 
-/// Why work over this machine ends early: that of a server, of a node, or of a command.
+/// Why a server, a node or a command ends early.
 #[derive(Clone, Copy, Debug, PartialEq, Eq, Error)]
 pub enum Fault {
     /// A port can't be bound.
@@ -23,13 +23,13 @@ pub enum Fault {
     /// What is printed can't be written.
     #[error("output")]
     Output,
-    /// An allocation was refused.
+    /// Out of memory.
     #[error("memory")]
     Memory,
 }
 
 impl Fault {
-    /// The status with which a program exits that ends so: 4 where memory was refused, else 3.
+    /// The exit status of a program that ends so: 4 where it is out of memory, else 3.
     pub fn status(self) -> u8
         ensures value { result ≡ fault_status self }
         ensures bound { (3 ≤ result) × (result ≤ 4) }
@@ -40,7 +40,7 @@ impl Fault {
         }
     }
 
-    /// The line that the program prints alone, with its end: `device` or `memory`. Nothing where the output failed.
+    /// All that the program prints, with the end of the line: `device` or `memory`; nothing where the output failed.
     pub fn line(self) -> &'static str
         ensures { result.now ≡ fault_line self }
     {
@@ -87,7 +87,7 @@ impl From<io::Error> for Fault {
 
     ghost from_gives = { λ error result. result ≡ fault_of_io error };
 
-    /// What the system refuses is a device's fault, but for want of memory.
+    /// What the system refuses is a device's fault, unless it is out of memory.
     fn from(error: io::Error) -> Fault {
         match error.kind() {
             io::ErrorKind::OutOfMemory => Fault::Memory,

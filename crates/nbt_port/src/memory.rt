@@ -1,4 +1,4 @@
-//! Ports and clocks over memory, which tell what they are given and what is done with them.
+//! Ports and clocks over memory, which record what is done with them.
 
 ghost use Rattle.std.specs.Prelude.{◌≡◌, ℕ, [], ◌∷◌, ◌++◌, None, Some, MatchBool, OnOk, OnErr};
 ghost use Rattle.nbt_port.specs.Memory.{IsToFail, one_later, HandsOut, values_of, to as datagram_to};
@@ -12,17 +12,17 @@ use std::alloc::{AllocError, Global};
 use std::collections::VecDeque;
 use std::marker::Model;
 
-/// A datagram: where it is from or for, and its octets.
+/// A datagram: its sender or its destination, and its octets.
 #[derive(Debug, Drop)]
 pub struct Datagram {
-    /// The end that it is from, or for.
+    /// Its sender, or its destination.
     pub addr: Addr,
     /// Its octets.
     pub octets: Vec<u8>,
 }
 
-/// A port over memory. It hands out what it was given, one datagram or nothing a receive, and keeps what is sent. One call
-/// may be told to fail.
+/// A port over memory. It hands out what it was given, one datagram or nothing a receive, and keeps what is sent. One call can
+/// be made to fail.
 #[derive(Drop)]
 pub struct MemoryPort {
     alloc: Global,
@@ -43,7 +43,7 @@ impl Model for MemoryPort {
 impl MemoryPort {
     ghost use Rattle.nbt_port.specs.Memory.{values_of};
 
-    /// A port that hands these out, in order, and then nothing. No call of it fails, but a send where memory is refused.
+    /// A port that hands these out, in order, and then nothing. No call of it fails, but a send where it is out of memory.
     pub fn new(alloc: Global, incoming: VecDeque<Option<Datagram>>) -> MemoryPort
         ensures { result ≡ record { incoming = incoming.items; sent = []; failures = 0; fails_after = None } }
     {
@@ -149,8 +149,8 @@ fn keep(alloc: Global, sent: &mut Vec<Datagram>, to: Addr, octets: &[u8]) -> Res
     Ok(())
 }
 
-/// A clock over memory. It tells the moments that it was given, in order, and then the last of them again; where it was
-/// given none, 0.
+/// A clock over memory. It tells the times that it was given, in order, and then the last of them again; 0 where it was given
+/// none.
 #[derive(Drop)]
 pub struct MemoryClock {
     left: VecDeque<Moment>,
@@ -166,7 +166,7 @@ impl Model for MemoryClock {
 }
 
 impl MemoryClock {
-    /// A clock that tells these moments.
+    /// A clock that tells these times.
     pub fn new(moments: VecDeque<Moment>) -> MemoryClock
         ensures { result ≡ record { left = moments.items; last = 0 } }
     {

@@ -13,8 +13,8 @@ use std::marker::Model;
 use std::time::Instant;
 use std::{io, time};
 
-/// The milliseconds since it began, by the system's monotonic clock. Where that can't be read, or is past 2^60, it tells the last
-/// moment again, at first 0. A contract sees the last moment that it told.
+/// The milliseconds since it began, by the system's monotonic clock. Where that can't be read, or is past 2^60, it tells the
+/// last time again, at first 0. A contract sees the last time that it told.
 #[derive(Drop)]
 pub struct SteadyClock<'a, R: time::Clock> {
     machine: &'a R,
@@ -33,7 +33,7 @@ impl<'a, R: time::Clock> Model for SteadyClock<'a, R> {
 }
 
 impl<'a, R: time::Clock> SteadyClock<'a, R> {
-    /// A clock that begins now. Refused where the machine's can't be read.
+    /// A clock that begins now. Refused where the system's can't be read.
     pub fn begin(machine: &'a R) -> io::Result<SteadyClock<'a, R>>
         ensures { IfOk result (λ clock. clock ≡ 0) }
     {

@@ -1,4 +1,4 @@
-//! Where datagrams come from and go to.
+//! Ports for datagrams.
 
 ghost use Rattle.std.specs.Prelude.{◌≡◌, ℕ, ◌<◌, ◌^◌};
 ghost use Rattle.nbt_port.specs.PortCalls.{PortCall, receiving, sending, CountsFailure};
@@ -24,14 +24,14 @@ pub trait Port {
     /// How many calls have failed.
     ghost failures: { Self → ℕ };
 
-    /// Waits for a datagram, as long as the port does. Returns its sender, or `None` where none came; `octets` then
-    /// holds its first 2,048 octets, or as many as it has, or none. Refused with `Device` where the device fails.
+    /// Waits for a datagram, as long as the port does. Returns its sender, or `None` where none came; `octets` then holds its
+    /// first 2,048 octets, or as many as it has, or none. Refused with `Device` where the device fails.
     fn receive(&mut self, octets: &mut ArrayVec<u8, 2048>) -> Result<Option<Addr>, Device>
         requires failure_count { failures self.old < 2 ^ 62 }
         ensures does { does self.old (receiving result octets.new.items) self.new }
         ensures count { CountsFailure (failures self.old) (failures self.new) result };
 
-    /// Sends these octets to an end. Refused with `Device` where the device fails: they are then lost.
+    /// Sends these octets to a host. Refused with `Device` where the device fails: they are then lost.
     fn send(&mut self, to: Addr, octets: &[u8]) -> Result<(), Device>
         requires failure_count { failures self.old < 2 ^ 62 }
         ensures does { does self.old (sending to octets.now result) self.new }
@@ -41,7 +41,7 @@ pub trait Port {
     fn failures(&self) -> u64
         ensures { result ≡ failures self.now };
 
-    /// Why the last call failed that did, where the port knows it.
+    /// Why the last call that failed did, where the port knows it.
     fn cause(&self) -> Option<Cause> {
         None
     }

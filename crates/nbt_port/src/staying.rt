@@ -1,4 +1,4 @@
-//! What stays up when its port fails.
+//! How a server or a host stays up when its port fails.
 
 ghost use Rattle.std.specs.Prelude.{◌≡◌, ◌+◌, ◌<◌, OnOk, OnErr};
 
@@ -26,7 +26,7 @@ impl Row {
         Row { failed: 0 }
     }
 
-    /// A turn went well: the row is over. Where it was one, that is said in `errors`.
+    /// A turn went well: the row is over. If there was one, a line in `errors` says so.
     pub fn ends<E: Write>(&mut self, errors: &mut E)
         ensures { self.new.failed ≡ 0 }
     {
@@ -36,8 +36,8 @@ impl Row {
         self.failed = 0;
     }
 
-    /// A turn failed, for this cause. At the first of a row that is said in `errors`. It waits 100 ms by the machine's clock, as
-    /// long as a turn takes in which nothing comes, and the end goes on. Refused with `Device` at the hundredth in a row, at once.
+    /// A turn failed, for this cause. At the first of a row a line in `errors` says so. It waits 100 ms by the system's clock,
+    /// as long as a turn takes in which nothing comes. Refused with `Device` at the hundredth in a row, at once.
     pub fn goes_on<M: time::Clock, E: Write>(
         &mut self,
         cause: Option<Cause>,
@@ -61,14 +61,14 @@ impl Row {
     }
 }
 
-/// Of an end whose port failed for good, says why, where it knows that.
-pub fn tell_end_of<E: Write>(ended: Result<(), Fault>, cause: Option<Cause>, errors: &mut E) {
-    if let (Err(Fault::Device), Some(cause)) = (ended, cause) {
+/// Prints to `errors` why a port failed for good, where it did and the reason is known.
+pub fn tell_end_of<E: Write>(fault: Option<Fault>, cause: Option<Cause>, errors: &mut E) {
+    if let (Some(Fault::Device), Some(cause)) = (fault, cause) {
         cause.tell("", errors);
     }
 }
 
-/// Says that a port failed, and why, where it knows that.
+/// Prints that a port failed, and why, where that is known.
 fn tell_failure<E: Write>(cause: Option<Cause>, errors: &mut E) {
     match cause {
         Some(cause) => cause.tell("; going on", errors),

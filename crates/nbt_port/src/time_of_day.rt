@@ -13,8 +13,8 @@ use std::marker::Model;
 use std::time::{Duration, SystemTime};
 use std::{io, time};
 
-/// The machine's clock: its time of day in milliseconds since 1970. Where it can't be read, or is past 2^60, it tells the
-/// last moment again, at first 0. A contract sees the last moment that it told.
+/// The system's time of day in milliseconds since 1970. Where it can't be read, or is past 2^60, the clock tells the last time
+/// again, at first 0. A contract sees the last time that it told.
 #[derive(Drop)]
 pub struct MachineClock<'a, R: time::Clock> {
     machine: &'a R,
@@ -34,7 +34,7 @@ impl<'a, R: time::Clock> Model for MachineClock<'a, R> {
 }
 
 impl<'a, R: time::Clock> MachineClock<'a, R> {
-    /// The clock of this machine.
+    /// The clock of this system.
     pub fn new(machine: &'a R) -> MachineClock<'a, R>
         ensures { result ≡ 0 }
     {
@@ -45,14 +45,14 @@ impl<'a, R: time::Clock> MachineClock<'a, R> {
         }
     }
 
-    /// The moment that it told last, at first 0.
+    /// The time that it told last, at first 0.
     pub fn last(&self) -> Moment
         ensures { result ≡ self.now }
     {
         self.last
     }
 
-    /// Why the last reading of the machine told no moment, where it told none.
+    /// Why the last reading failed, if it did.
     pub fn error(&self) -> Option<io::Error> {
         self.error
     }
@@ -75,7 +75,7 @@ impl<'a, R: time::Clock> Clock for MachineClock<'a, R> {
     }
 }
 
-/// The time of day as a moment, where it can be read and is one.
+/// The time of day, where it can be read and is before 2^60.
 fn time_of_day<R: time::Clock>(machine: &R) -> io::Result<Moment>
     ensures { IfOk result (λ moment. moment ≤ last_moment) }
 {
@@ -96,8 +96,9 @@ pub(crate) fn moment_of(since: Duration) -> Option<Moment>
     Moment::new(u64::try_from(since.as_millis()).ok()?)
 }
 
-/// The machine's clock, where it can be read. A clock that can't be tells 0: an end that began then would be quiet no
-/// more as soon as the clock can be read. Where it can't be, it says why in `errors`, for the end at this address.
+/// The system's time of day. Refused with `NoClock` where it can't be read: a line in `errors` then says why, for the host at
+/// this address. A clock that can't be read tells 0: a server that started then would be silent no more as soon as the clock
+/// can be read.
 pub fn readable_clock<'a, M: time::Clock, E: Write>(
     machine: &'a M,
     addr: Addr,

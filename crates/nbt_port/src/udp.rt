@@ -37,8 +37,8 @@ impl Model for UdpPort {
 }
 
 impl UdpPort {
-    /// The port at an address of this machine; for port 0 the machine chooses one. Refused where the machine refuses it, as
-    /// one in use, or one that isn't its.
+    /// Binds a port to an address of this system; for port 0 the system chooses one. Refused where the system refuses it, as an
+    /// address in use, or one that isn't its.
     pub fn bind<R: Net>(net: &R, addr: Addr) -> io::Result<UdpPort>
         ensures { IfOk result (λ p. p ≡ record { addr = addr; failures = 0 }) }
     {
@@ -59,7 +59,7 @@ impl UdpPort {
         self.addr
     }
 
-    /// The address that it really has: for port 0 the one that the machine chose.
+    /// The address that it really has: for port 0 the one that the system chose.
     pub fn local(&self) -> io::Result<Addr> {
         match self.socket.local_addr()? {
             SocketAddr::V4(here) => Ok(Addr {
@@ -123,8 +123,8 @@ impl Port for UdpPort {
     }
 }
 
-/// What comes of the machine's answer to a receive: the sender, with the octets that it says; nothing, where none came in
-/// time, or it is from no address of 32 bits; or `Device` at any other error.
+/// What a receive returns, by the system's answer: the sender, with as many octets as it says; nothing, where none came in
+/// time, or the sender has no address of 32 bits; or `Device` at any other error.
 fn received(
     answer: io::Result<(usize, SocketAddr)>,
     buffer: &[u8; MOST],
@@ -148,7 +148,7 @@ fn received(
     }
 }
 
-/// What comes of the machine's answer to a send: `Device` at an error that doesn't say that the datagram has no way.
+/// What a send returns, by the system's answer: `Device`, but at an error that says that there is no route.
 fn sent(answer: io::Result<usize>) -> Result<(), Device>
     ensures { Sent answer result }
 {
@@ -169,8 +169,8 @@ fn is_nothing(error: &io::Error) -> bool
     )
 }
 
-/// Whether the error says that there is no way to where this one datagram should go, as to port 0, which a stranger can
-/// write into what it sends. The device is well, and the datagram is lost, as UDP may lose any.
+/// Whether the error says that there is no route for this one datagram, as to port 0, which an unknown sender can write into
+/// what it sends. The device is well, and the datagram is lost, as UDP may lose any.
 fn has_no_way(error: &io::Error) -> bool
     ensures { IsTrue result ↔ HasNoWay (error_kind error.now) }
 {

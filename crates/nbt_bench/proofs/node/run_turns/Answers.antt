@@ -3,7 +3,7 @@ use Rattle.std.proofs.lemmas.Result.{err_from_is_err_and}
 use Rattle.nbt_port.specs.Udp.{MachineTells}
 use Rattle.nbt_bench.specs.Node.{RunsToItsEnd, IsCutToItsEnd, NodeFailsFor}
 use Rattle.nbt_bench.proofs.Beginning.{passed_on, node_begins}
-use Rattle.nbt_port.proofs.Printing.{on_ok}
+use Rattle.nbt_port.proofs.Printed.{on_ok}
 use Rattle.nbt_bench.proofs.node.run_turns.Goals as goal
 
 pub returns-in_err-run_for-clause-device : goal.returns-in_err-run_for-clause-device

@@ -1,4 +1,4 @@
-use Rattle.nbt_port.proofs.Printing.{appends_nothing}
+use Rattle.nbt_port.proofs.Printed.{appends_nothing}
 use Rattle.nbt_bench.proofs.node.tell.Goals as goal
 
 pub returns-in-Nothing-clause-told : goal.returns-in-Nothing-clause-told

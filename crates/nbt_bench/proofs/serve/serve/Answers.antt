@@ -1,7 +1,7 @@
 use Rattle.std.proofs.Common.{refl}
 use Rattle.nbt_bench.specs.Serve.{ServesFor, FailsFor, IsCutFor}
 use Rattle.nbt_bench.proofs.Beginning.{server_begins}
-use Rattle.nbt_port.proofs.Printing.{on_ok}
+use Rattle.nbt_port.proofs.Printed.{on_ok}
 use Rattle.nbt_bench.proofs.serve.serve.Goals as goal
 
 pub returns-clause-ok : goal.returns-clause-ok

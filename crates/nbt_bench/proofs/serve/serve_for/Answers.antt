@@ -1,5 +1,5 @@
 use Rattle.std.proofs.Common.{refl}
-use Rattle.nbt_port.proofs.Printing.{ok_before}
+use Rattle.nbt_port.proofs.Printed.{ok_before}
 use Rattle.nbt_bench.proofs.serve.serve_for.Goals as goal
 
 pub returns-in_err-counts-in-Some-clause-device : goal.returns-in_err-counts-in-Some-clause-device

@@ -1,10 +1,9 @@
 use Rattle.std.proofs.Common.{◌≡◌, ◌+◌, ℕ, sym, ap, subst}
-use Rattle.std.proofs.lemmas.Result.{err_from_is_err_and}
+use Rattle.std.proofs.lemmas.Result.{err_from_is_err_and, IfOk-weaker, on_err_weaker}
 use Rattle.nbt_node.specs.Node.{NodeValue}
 use Rattle.nbt_client.specs.declared.lookup.Ending.{Ending}
 use Rattle.nbt_client.specs.declared.lookup.Ending.TheVariants as e
-use Rattle.nbt_client.specs.Lookups.{Waited, Looks, is_refused, is_asked, Broken, Fails, at_question, at_turn}
-use Rattle.nbt_client.proofs.LookupTurns.{IfOk-map, OnErr-map}
+use Rattle.nbt_client.specs.Lookups.{Waited, Looks, is_refused, is_asked, Broken, at_question, at_turn}
 use Rattle.nbt_client.proofs.lookup.look_up.Goals as goal
 
 pub returns-in-Err-clause-ok : goal.returns-in-Err-clause-ok
@@ -18,12 +17,13 @@ returns-clause-ok g c =
     let to = c.end_of.ensures in
     let octets = c.as_slice.ensures.value in
     let limit : c.get.result + c.args.patience ≡ c.now-now.result + c.args.patience = ap (λ (n : ℕ). n + c.args.patience) c.get.ensures.value in
-    IfOk-map (λ (ending : Ending). Waited g.P.Port.does g.C.Clock.tells (c.get.result + c.args.patience) c.args.most ending c.wait.new.octets.items c.send.new.self c.now-now.new.self c.begin.new.node c.wait.new.port c.wait.new.clock c.wait.new.node)
+    IfOk-weaker c.wait.result
+    (λ (ending : Ending). Waited g.P.Port.does g.C.Clock.tells (c.get.result + c.args.patience) c.args.most ending c.wait.new.octets.items (record { port = c.send.new.self; clock = c.now-now.new.self; node = c.begin.new.node }) (record { port = c.wait.new.port; clock = c.wait.new.clock; node = c.wait.new.node }))
     (λ (ending : Ending). Looks g.P.Port.does g.C.Clock.tells c.args.question.now c.args.patience c.args.most c.args.port.now c.args.clock.now c.args.node.now ending c.wait.new.octets.items c.wait.new.port c.wait.new.clock c.wait.new.node)
-    c.wait.result c.wait.ensures.ok
     (λ ending w. is_asked c.now-now.result c.begin.new.out.items c.wait.new.octets.items ending c.send.new.self c.now-now.new.self c.begin.new.node c.wait.new.port c.wait.new.clock c.wait.new.node
     c.now-now.ensures (sym c.in_default.ensures.refused) c.in_default.ensures.ok (rw (to, octets) at did)
-    (subst (λ (n : ℕ). Waited g.P.Port.does g.C.Clock.tells n c.args.most ending c.wait.new.octets.items c.send.new.self c.now-now.new.self c.begin.new.node c.wait.new.port c.wait.new.clock c.wait.new.node) limit w))
+    (subst (λ (n : ℕ). Waited g.P.Port.does g.C.Clock.tells n c.args.most ending c.wait.new.octets.items (record { port = c.send.new.self; clock = c.now-now.new.self; node = c.begin.new.node }) (record { port = c.wait.new.port; clock = c.wait.new.clock; node = c.wait.new.node })) limit w))
+    c.wait.ensures.ok
 
 pub returns-in_err-send-clause-err : goal.returns-in_err-send-clause-err
 returns-in_err-send-clause-err g c =
@@ -39,9 +39,8 @@ returns-clause-err g c =
     let to = c.end_of.ensures in
     let octets = c.as_slice.ensures.value in
     let limit : c.get.result + c.args.patience ≡ c.now-now.result + c.args.patience = ap (λ (n : ℕ). n + c.args.patience) c.get.ensures.value in
-    OnErr-map (Broken g.P.Port.does g.C.Clock.tells (c.get.result + c.args.patience) c.args.most c.send.new.self c.now-now.new.self c.begin.new.node c.wait.new.port c.wait.new.clock c.wait.new.node)
-    (Fails g.P.Port.does g.C.Clock.tells c.args.question.now c.args.patience c.args.most c.args.port.now c.args.clock.now c.args.node.now c.wait.new.port c.wait.new.clock c.wait.new.node)
-    c.wait.result c.wait.ensures.err
+    on_err_weaker c.wait.result
     (λ w. at_turn c.now-now.result c.begin.new.out.items c.send.new.self c.now-now.new.self c.begin.new.node c.wait.new.port c.wait.new.clock c.wait.new.node
     c.now-now.ensures (sym c.in_default.ensures.refused) c.in_default.ensures.ok (rw (to, octets) at did)
-    (subst (λ (n : ℕ). Broken g.P.Port.does g.C.Clock.tells n c.args.most c.send.new.self c.now-now.new.self c.begin.new.node c.wait.new.port c.wait.new.clock c.wait.new.node) limit w))
+    (subst (λ (n : ℕ). Broken g.P.Port.does g.C.Clock.tells n c.args.most (record { port = c.send.new.self; clock = c.now-now.new.self; node = c.begin.new.node }) (record { port = c.wait.new.port; clock = c.wait.new.clock; node = c.wait.new.node })) limit w))
+    c.wait.ensures.err

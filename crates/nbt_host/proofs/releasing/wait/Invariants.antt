@@ -4,6 +4,6 @@ use Rattle.nbt_host.proofs.releasing.wait.Given as goal
 
 abbrev pub invariant-loop : goal.invariant-loop
 invariant-loop g l = record {
-  passed : Passed g.P.Port.does g.C.Clock.tells l.server l.limit l.counter l.fn.port l.fn.clock (record { goals = l.fn.goals; node = l.fn.node }) l.port l.clock (record { goals = l.goals; node = l.node });
+  passed : Passed g.P.Port.does g.C.Clock.tells l.server l.limit l.counter (record { port = l.fn.port; clock = l.fn.clock; host = record { goals = l.fn.goals; node = l.fn.node } }) (record { port = l.port; clock = l.clock; host = record { goals = l.goals; node = l.node } });
   count : g.P.Port.failures l.port ≡ g.P.Port.failures l.fn.port;
 }

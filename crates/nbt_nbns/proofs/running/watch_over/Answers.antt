@@ -1,7 +1,7 @@
 use Rattle.std.proofs.Common.{◌≡◌, Bool, refl, sym, subst}
 use Rattle.nbt_port.specs.Udp.{UdpValue, UdpDoes}
 use Rattle.nbt_nbns.specs.SambaPort.{HandsOn}
-use Rattle.nbt_port.proofs.Printing.{on_ok}
+use Rattle.nbt_port.proofs.Printed.{on_ok}
 use Rattle.nbt_nbns.specs.Running.{PortDoes}
 use Rattle.nbt_nbns.specs.Watching.{WatchesUntil, WatchFails}
 use Rattle.nbt_nbns.proofs.Looking.{on_err}

@@ -12,14 +12,14 @@ returns-in_err-one-clause-err g c =
 pub plus-counts-requires : goal.plus-counts-requires
 plus-counts-requires g c =
     let a = counts_few g.P.Port.does g.C.Clock.tells c.loop.counter c.loop.counts c.args.port.now c.loop.port c.args.clock.now c.loop.clock c.args.server.now c.loop.server c.loop.invariant.run in
-    let b = counts_few g.P.Port.does g.C.Clock.tells 1 c.in_ok-one.one c.loop.port c.serve_turn.new.port c.loop.clock c.serve_turn.new.clock c.loop.server c.serve_turn.new.server c.in_ok-one.ensures.ok in
+    let b = counts_few g.P.Port.does g.C.Clock.tells 1 c.in_ok-one.one.counts c.loop.port c.serve_turn.new.port c.loop.clock c.serve_turn.new.clock c.loop.server c.serve_turn.new.server c.in_ok-one.ensures.ok.1 in
     let lt = c.loop-test.true in
     let fits = c.ranges.turns in
     record { receives = omega (arith, a.receives, b.receives, lt, fits); replies = omega (arith, a.replies, b.replies, lt, fits); lost = omega (arith, a.lost, b.lost, lt, fits) }
 
 pub loop-preserved : goal.loop-preserved
 loop-preserved g c = record {
-  run = rw c.plus-counts.ensures (runs_on g.P.Port.does g.C.Clock.tells c.loop.counter 1 c.loop.counts c.in_ok-one.one c.args.port.now c.loop.port c.serve_turn.new.port c.args.clock.now c.loop.clock c.serve_turn.new.clock c.args.server.now c.loop.server c.serve_turn.new.server
-      c.loop.invariant.run c.in_ok-one.ensures.ok);
+  run = rw c.plus-counts.ensures (runs_on g.P.Port.does g.C.Clock.tells c.loop.counter 1 c.loop.counts c.in_ok-one.one.counts c.args.port.now c.loop.port c.serve_turn.new.port c.args.clock.now c.loop.clock c.serve_turn.new.clock c.args.server.now c.loop.server c.serve_turn.new.server
+      c.loop.invariant.run c.in_ok-one.ensures.ok.1);
   count = c.in_ok-one.ensures.device ∙ c.loop.invariant.count;
 }

@@ -1,11 +1,12 @@
-//! When a host ends.
+//! When a server or a host ends.
 
 ghost use Rattle.std.specs.Prelude.{◌≡◌, ◌↔◌, IsTrue};
-ghost use Rattle.nbt_host.specs.Until.{until_of, IsOver};
+ghost use Rattle.nbt_port.specs.Until.{until_of, IsOver};
 
 use nbt_lease::Moment;
 
-/// The moment at which a host ends that starts at this one; none where it has no end, or one past the last moment.
+/// The time at which a host that starts at `start` ends, `time` milliseconds later; `None` where it has no end, or one past the
+/// last moment.
 pub fn until_of(start: Moment, time: Option<u64>) -> Option<Moment>
     ensures { result ≡ until_of start time }
 {
