@@ -4,7 +4,6 @@ pub mod Failures
 pub mod Inner
 pub mod Input
 pub mod Network
-pub mod Numbers
 pub mod Printed
 pub mod Running
 pub mod Showing
