@@ -11,7 +11,7 @@ use Rattle.nbt_name.specs.Wire.{NameValue}
 use Rattle.nbt_args.specs.declared.texts.HostTexts.{HostTexts}
 use Rattle.nbt_admin.specs.Failures.{ComplainsOf, out_of_memory}
 use Rattle.nbt_admin.specs.Texts.{SpellsSought}
-use Rattle.nbt_admin.specs.Hosting.{AreWanted, none_wanted, one_more, IsWanted, IsAmong, WantFails, TextsFail, NamesFail, count_of}
+use Rattle.nbt_admin.specs.Arguments.{AreWanted, none_wanted, one_more, IsWanted, IsAmong, WantFails, TextsFail, NamesFail, count_of}
 use Rattle.nbt_admin.specs.declared.failure.Failure.{Failure}
 use Rattle.nbt_admin.specs.declared.failure.ArgumentFault.TheVariants as w
 
@@ -51,7 +51,7 @@ next_fails exact scope kind texts rest others text old wants failure parts x fai
 pub not_among : (name : NameValue) (given wants : List Want) (result : Bool) → given ≡ wants → (IsAmong name given → result ≡ true) → result ≡ false → ¬ IsAmong name wants
 not_among name given wants result is told denied among = false≢true (sym denied ∙ told (subst (λ (w : List Want). IsAmong name w) (sym is) among))
 
--- a name that comes again is told, unless memory is short
+-- a repeated name is reported, unless memory is out
 pub bad_twice : (exact : Bool) (scope text : List ℕ) (name : NameValue) (given wants : List Want) (failure : Failure) → SpellsSought exact scope text name → given ≡ wants → IsAmong name given
     → ((failure ≡ out_of_memory) ⊎ ComplainsOf text w.Twice failure) → WantFails exact scope wants text failure
 bad_twice exact scope text name given wants failure spelled is among (inl short) = inl (inl (inl short))

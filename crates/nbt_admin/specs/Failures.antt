@@ -1,4 +1,4 @@
--- Why a command for people who run a network is not done (our profile).
+-- Why a command for people who run a network failed (our profile).
 use Rattle.std.specs.Prelude.{◌≡◌, ◌⊎◌, ℕ, List}
 use Rattle.std.specs.String.{string_bytes}
 use Rattle.nbt_engine.specs.declared.fault.Fault.TheVariants as fault
@@ -13,7 +13,7 @@ use Rattle.nbt_admin.specs.declared.failure.ArgumentFault.{ArgumentFault}
 abbrev pub out_of_memory : Failure
 out_of_memory = Fault fault.Memory
 
--- a text of usage is one whatever it is of
+-- help, the version and wrong usage are one failure
 abbrev pub failure_of_usage : Refusal → Failure
 failure_of_usage (refusal.Help text) = Usage text
 failure_of_usage (refusal.Wrong text) = Usage text
@@ -22,20 +22,18 @@ failure_of_usage refusal.Memory = out_of_memory
 -- the usage is wrong
 abbrev pub IsUsage : Failure → Type 0
 IsUsage (Usage text) = Unit {0}
-IsUsage (Complaint complaint) = ⊥
-IsUsage (Fault f) = ⊥
+IsUsage _ = ⊥
 
 -- a port, a clock, a socket or the output failed, or memory is out
 abbrev pub IsFault : Failure → Type 0
-IsFault (Usage text) = ⊥
-IsFault (Complaint complaint) = ⊥
 IsFault (Fault f) = Unit {0}
+IsFault _ = ⊥
 
--- What ought to hold of the texts does not, which is wrong usage; or memory is out.
+-- The texts don't hold what they must, which is wrong usage; or memory is out.
 abbrev pub UsageFails : (Holds : Type 0) → Failure → Type 0
 UsageFails Holds failure = (failure ≡ out_of_memory) ⊎ (¬ Holds × IsUsage failure)
 
--- it names this text, and says that this is wrong with it
+-- it names this text and this fault
 pub record ComplainsOf (text : List ℕ) (fault : ArgumentFault) (failure : Failure) : Type 0 where
   pub bad : BadArgument
   pub failure_is : failure ≡ Complaint (complaint.Argument bad)

@@ -1,8 +1,5 @@
-pub mod Asking
+pub mod Arguments
 pub mod Failures
-pub mod Hosting
-pub mod Refusals
 pub mod Running
-pub mod Serving
 pub mod Texts
 pub mod Times

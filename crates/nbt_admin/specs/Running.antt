@@ -1,5 +1,5 @@
--- What a command for people who run a network does on this machine, what it prints, and with which status it ends (our profile).
-use Rattle.std.specs.Prelude.{◌≡◌, ℕ, Bool, if◌then◌else◌, List, Option}
+-- What a command for people who run a network does on this machine, what it prints, its status, and how it fails (our profile).
+use Rattle.std.specs.Prelude.{◌≡◌, ◌⊎◌, ℕ, Bool, if◌then◌else◌, List, Option}
 use Rattle.std.specs.Io.KnownBytes.{Appends}
 use Rattle.nbt_args.specs.declared.texts.AdminLine.{AdminLine}
 use Rattle.nbt_args.specs.declared.texts.AdminLine.TheVariants.{Lookup, Status, Nbns, Host}
@@ -10,28 +10,40 @@ use Rattle.nbt_hosting.specs.Running.{HostsHere}
 use Rattle.nbt_hosting.specs.declared.arguments.HostArguments.{HostArguments}
 use Rattle.nbt_nbns.specs.Here.{RunsNbns}
 use Rattle.nbt_nbns.specs.declared.here.NbnsArguments.{NbnsArguments}
-use Rattle.nbt_admin.specs.Asking.{LookupGiven, StatusGiven}
-use Rattle.nbt_admin.specs.Hosting.{HostGiven}
-use Rattle.nbt_admin.specs.Serving.{NbnsGiven}
+use Rattle.nbt_admin.specs.Arguments.{AskGiven, AsksServer, AsksHost, AskFails, HostGiven, HostFails, NbnsGiven, NbnsFails}
+use Rattle.nbt_admin.specs.Failures.{IsFault}
+use Rattle.nbt_admin.specs.Texts.{NameFails, SoughtFails}
 use Rattle.nbt_admin.specs.declared.asking.AskArguments.{AskArguments}
+use Rattle.nbt_admin.specs.declared.failure.Failure.{Failure}
 
--- It was asked, the text of how that came out was appended, and the status is that of the answer.
+-- The request was made, the text of its answer was appended, and the status is the answer's.
 pub record AskedHere (a : AskArguments) (status : ℕ) (old_text text : Option (List ℕ)) : Type 0 where
   pub answer : Answer
-  pub told : List ℕ
-  pub asks : AsksHere a.bind a.question a.patience answer told
-  pub appends : Appends old_text text told
+  pub printed : List ℕ
+  pub asks : AsksHere a.bind a.question a.patience answer printed
+  pub appends : Appends old_text text printed
   pub status_is : status ≡ answer_status answer
 
--- It held its names as long as it could, and the status says whether all were held at the end.
+-- The host ran, and the status says whether it held all its names at its end.
 pub record HostedHere (a : HostArguments) (status : ℕ) (old_text text : Option (List ℕ)) : Type 0 where
   pub all : Bool
   pub hosts : HostsHere a all old_text text
   pub status_is : status ≡ (if all then 0 else 5)
 
--- the command was done with the arguments that its texts give
+-- the command ran with the arguments that its texts give
 abbrev pub Runs : AdminLine → (status : ℕ) → (old_text text : Option (List ℕ)) → Type 0
-Runs (Lookup texts) status old_text text = (a : AskArguments) × LookupGiven texts a × AskedHere a status old_text text
-Runs (Status texts) status old_text text = (a : AskArguments) × StatusGiven texts a × AskedHere a status old_text text
+Runs (Lookup texts) status old_text text = (a : AskArguments) × AskGiven AsksServer texts a × AskedHere a status old_text text
+Runs (Status texts) status old_text text = (a : AskArguments) × AskGiven AsksHost texts a × AskedHere a status old_text text
 Runs (Nbns texts) status old_text text = (a : NbnsArguments) × NbnsGiven texts a × (status ≡ 0) × RunsNbns a old_text text
 Runs (Host texts) status old_text text = (a : HostArguments) × HostGiven texts a × HostedHere a status old_text text
+
+-- the first argument that is wrong is reported
+abbrev pub Refuses : AdminLine → Failure → Type 0
+Refuses (Lookup texts) failure = AskFails (SoughtFails texts.exact texts.scope.now texts.name.now) texts failure
+Refuses (Status texts) failure = AskFails (NameFails texts.exact texts.scope.now texts.name.now) texts failure
+Refuses (Nbns texts) failure = NbnsFails texts failure
+Refuses (Host texts) failure = HostFails texts failure
+
+-- an argument is wrong, or a port, a clock, a socket or the output failed, or memory is out
+abbrev pub Stops : AdminLine → Failure → Type 0
+Stops line failure = IsFault failure ⊎ Refuses line failure

@@ -1,4 +1,4 @@
--- The addresses and names that texts spell, and which failure says what is wrong with them (our profile).
+-- The addresses and names that texts spell, and the failures of other texts (our profile).
 use Rattle.std.specs.Prelude.{◌≡◌, ◌⊎◌, ℕ, Bool, true, false, List}
 use Rattle.nbt_name.specs.Wire.{NameValue, IsStar}
 use Rattle.nbt_name.specs.declared.addr.Addr.{Addr}
@@ -20,7 +20,7 @@ IsAddress text = (address : Addr) × SpellsEnd text address
 abbrev pub AddressFails : List ℕ → Failure → Type 0
 AddressFails text failure = (failure ≡ out_of_memory) ⊎ (¬ IsAddress text × ComplainsOf text w.Address failure)
 
--- an address at which others can find this machine: not 0.0.0.0
+-- an address at which other hosts reach this machine: not 0.0.0.0
 abbrev pub SpellsOwn : List ℕ → Addr → Type 0
 SpellsOwn text own = SpellsEnd text own × (¬ (own.ip ≡ 0))
 
@@ -36,7 +36,7 @@ abbrev pub case_of : (exact : Bool) → Case
 case_of true = Exact
 case_of false = Folded
 
--- the name that a text spells with this scope, where letters stay or don't
+-- the name that a text spells with this scope, with lower-case letters kept or not
 abbrev pub SpellsAsked : (exact : Bool) → (scope text : List ℕ) → NameValue → Type 0
 SpellsAsked exact scope text name = SpellsName (case_of exact) text scope name
 
@@ -44,7 +44,7 @@ abbrev pub NameFails : (exact : Bool) → (scope text : List ℕ) → Failure �
 NameFails exact scope text failure = (failure ≡ out_of_memory)
     ⊎ ((fault : NameFault) × MisspellsName (case_of exact) text scope fault × ComplainsOf text (w.Name fault) failure)
 
--- A server is asked for one name, and so for none that begins with `*`.
+-- A server is asked for one name, which doesn't begin with `*`.
 abbrev pub SpellsSought : (exact : Bool) → (scope text : List ℕ) → NameValue → Type 0
 SpellsSought exact scope text name = SpellsAsked exact scope text name × (¬ IsStar name)
 

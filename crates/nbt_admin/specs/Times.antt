@@ -1,30 +1,25 @@
--- The times and limits that texts spell, and which failure says what is wrong with them (our profile).
-use Rattle.std.specs.Prelude.{◌≡◌, ◌≢◌, ◌≤◌, ◌↔◌, ◌⊎◌, ℕ, List, Option, Some, None, codes}
+-- The times and limits that texts spell, and the failures of other texts (our profile).
+use Rattle.std.specs.Prelude.{◌≡◌, ◌≤◌, ◌↔◌, ◌⊎◌, ℕ, List, Option, Some, None, codes}
 use Rattle.std.specs.Borrow.{Bor}
 use Rattle.nbt_lease.specs.Config.{ConfigValue, IsLife, IsLongest, milliseconds}
 use Rattle.nbt_lease.specs.declared.config.TheConstants.{ROWS_MOST}
-use Rattle.nbt_lease.specs.declared.config.Config.{Config}
 use Rattle.nbt_ask.specs.Asking.{patience_of}
 use Rattle.nbt_ask.specs.declared.patience.TheConstants.{TRIES_MOST}
-use Rattle.nbt_nbns.specs.Limits.{judged}
-use Rattle.nbt_nbns.specs.declared.limits.Judged.TheVariants.{Short}
 use Rattle.nbt_text.specs.Times.{SpellsTime}
 use Rattle.nbt_admin.specs.Failures.{ComplainsOf, out_of_memory}
-use Rattle.nbt_admin.specs.declared.failure.Complaint.TheVariants as complaint
 use Rattle.nbt_admin.specs.declared.failure.Failure.{Failure}
-use Rattle.nbt_admin.specs.declared.failure.Failure.TheVariants.{Complaint}
 use Rattle.nbt_admin.specs.declared.failure.ArgumentFault.TheVariants as w
 
--- ---- how long a reply is waited for
+-- ---- how long to wait for a reply
 
--- The text is a time to wait, from a millisecond to 5 s, as long as one try lasts.
+-- the text is a time to wait: from a millisecond to 5 s, which one try lasts
 abbrev pub SpellsWait : List ℕ → ℕ → Type 0
 SpellsWait text time = SpellsTime text time × ((1 ≤ time) × (time ≤ 5000))
 
 abbrev pub IsWait : List ℕ → Type 0
 IsWait text = (time : ℕ) × SpellsWait text time
 
--- how often it is requested, once, twice or as often as may be, and how long after the last request it waits
+-- the number of requests, and the wait after the last one
 pub record SpellsPatience (tries wait : List ℕ) (patience : ℕ) : Type 0 where
   pub count : ℕ
   pub last : ℕ
@@ -51,7 +46,7 @@ SpellsLongest text seconds = SpellsTime text (milliseconds seconds) × IsLongest
 abbrev pub IsLongestText : List ℕ → Type 0
 IsLongestText text = (seconds : ℕ) × SpellsLongest text seconds
 
--- the limits that two texts spell, with room for as many leases as there may be
+-- the limits that two texts spell, for the greatest number of leases
 pub record IsConfigOf (life longest : List ℕ) (config : ConfigValue) : Type 0 where
   pub life_is : SpellsLife life config.life
   pub longest_is : SpellsLongest longest config.longest
@@ -66,16 +61,9 @@ LimitsFail life longest failure = (failure ≡ out_of_memory)
     ⊎ ((¬ IsLifeText life × ComplainsOf life w.Life failure)
     ⊎ (IsLifeText life × ¬ IsLongestText longest × ComplainsOf longest w.Longest failure))
 
--- limits under which a network can be run, and others
-abbrev pub IsFitting : ConfigValue → Type 0
-IsFitting config = judged config ≢ Short
+-- ---- how long to run
 
-abbrev pub FittingFails : ConfigValue → Failure → Type 0
-FittingFails config failure = (judged config ≡ Short) × (failure ≡ Complaint (complaint.Short config))
-
--- ---- when to end
-
--- after how many milliseconds; without a text there is no end
+-- for how many milliseconds; without a text there is no limit
 abbrev pub SpellsEnding : Option (Bor (List ℕ)) → Option ℕ → Type 0
 SpellsEnding None ending = ending ≡ None
 SpellsEnding (Some text) ending = (time : ℕ) × (ending ≡ Some time) × SpellsTime text.now time

@@ -1,21 +1,21 @@
-//! The arguments of `lookup` and `status`.
+//! Reads the arguments of `lookup` and `status`.
 
 ghost use Rattle.std.specs.Prelude.{◌≡◌, ◌≤◌, ◌↔◌, IfOk, IfErr, codes};
 ghost use Rattle.nbt_admin.specs.Times.{IsWait, SpellsPatience};
 ghost use Rattle.nbt_admin.specs.Failures.{UsageFails};
-ghost use Rattle.nbt_admin.specs.Asking.{LookupGiven, StatusGiven, AskFails};
+ghost use Rattle.nbt_admin.specs.Arguments.{AskGiven, AsksServer, AsksHost, AskFails};
 ghost use Rattle.nbt_admin.specs.Texts.{SoughtFails, NameFails};
 
 use crate::failure::Failure;
 use crate::naming::{address_of, name_of, name_to_ask};
-use crate::timing::parse_wait;
+use crate::timing::parse_between;
 use nbt_args::{LimitedArgument, LimitedCommand, LookupTexts};
 use nbt_ask::{TRIES_MOST, patience_of};
 use nbt_lookup::Question;
 use nbt_name::Addr;
 use std::alloc::Global;
 
-/// What is asked, from which address of this machine, and for how many milliseconds it waits for a reply.
+/// The arguments of a lookup or of a status request: the own address, the question, and the time to wait for a reply, in milliseconds.
 #[derive(Drop)]
 pub struct AskArguments {
     pub bind: Addr,
@@ -23,10 +23,10 @@ pub struct AskArguments {
     pub patience: u32,
 }
 
-/// Reads the arguments of `lookup`. The first that is wrong is said: a time out of its limits, which is wrong usage, the server's address, the
-/// own one, and the name. A server isn't asked for all names.
+/// Reads the arguments of `lookup`. Refused, in this order: a wait beyond its limits, which is wrong usage, the server's address, the own
+/// address, and the name, which doesn't begin with `*`.
 pub fn lookup_arguments(alloc: Global, texts: &LookupTexts<'_>) -> Result<AskArguments, Failure>
-    ensures given { IfOk result (LookupGiven texts.now) }
+    ensures given { IfOk result (AskGiven AsksServer texts.now) }
     ensures failure { IfErr result (AskFails (SoughtFails texts.now.exact texts.now.scope.now texts.now.name.now) texts.now) }
 {
     let patience = patience(alloc, LimitedCommand::Lookup, texts.tries, texts.wait)?;
@@ -41,9 +41,9 @@ pub fn lookup_arguments(alloc: Global, texts: &LookupTexts<'_>) -> Result<AskArg
     })
 }
 
-/// Reads the arguments of `status`, likewise: the host's address comes first. Any name will do.
+/// Reads the arguments of `status`. Refused likewise, with the host's address in place of the server's. Any name is valid.
 pub fn status_arguments(alloc: Global, texts: &LookupTexts<'_>) -> Result<AskArguments, Failure>
-    ensures given { IfOk result (StatusGiven texts.now) }
+    ensures given { IfOk result (AskGiven AsksHost texts.now) }
     ensures failure { IfErr result (AskFails (NameFails texts.now.exact texts.now.scope.now texts.now.name.now) texts.now) }
 {
     let patience = patience(alloc, LimitedCommand::Status, texts.tries, texts.wait)?;
@@ -58,19 +58,20 @@ pub fn status_arguments(alloc: Global, texts: &LookupTexts<'_>) -> Result<AskArg
     })
 }
 
-/// For how many milliseconds a lookup waits.
+/// Returns for how many milliseconds a request waits, with its repetitions.
 fn patience(alloc: Global, command: LimitedCommand, tries: &str, wait: &str) -> Result<u32, Failure>
     ensures read { IfOk result (SpellsPatience tries.now wait.now) }
     ensures limits { IfOk result (λ _. IsWait wait.now) }
     ensures failure { IfErr result (UsageFails (IsWait wait.now)) }
 {
-    match parse_wait(wait) {
-        Some(last) => Ok(patience_of(tries_of(tries), last)),
-        None => Err(nbt_args::bad_value(alloc, command, LimitedArgument::Wait, wait))?,
+    let limits = LimitedArgument::Wait;
+    match parse_between(wait, limits.least(), limits.most()) {
+        Some(last) => Ok(patience_of(tries_of(tries), last as u32)),
+        None => Err(nbt_args::bad_value(alloc, command, limits, wait))?,
     }
 }
 
-/// How often it requests, as TRIES says, of which there are three.
+/// Returns the number of requests that TRIES names.
 fn tries_of(text: &str) -> u32
     ensures once { (result ≡ 1) ↔ (text.now ≡ codes "1") }
     ensures twice { (result ≡ 2) ↔ (text.now ≡ codes "2") }

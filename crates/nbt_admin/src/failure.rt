@@ -1,4 +1,4 @@
-//! Why a command for people who run a network is not done.
+//! Why a command for people who run a network failed.
 
 ghost use Rattle.std.specs.Prelude.{◌≡◌, ◌⊎◌};
 
@@ -14,26 +14,26 @@ use std::{fmt, io};
 /// What is wrong with an argument (our profile).
 #[derive(Clone, Copy)]
 pub enum ArgumentFault {
-    /// It is no address.
+    /// Not an address.
     Address,
-    /// It is the address 0.0.0.0, at which nobody finds this machine.
+    /// The address 0.0.0.0, at which no other host reaches this machine.
     Anywhere,
-    /// It spells no name.
+    /// Not a name.
     Name(nbt_text::Fault),
-    /// It spells a name that begins with `*`, for which no server is asked.
+    /// A name that begins with `*`, which is not sent to a server.
     Star,
-    /// It spells a name that an argument before it spells too.
+    /// A name that an earlier argument has too.
     Twice,
-    /// It is no life of a datagram.
+    /// Not a life of a datagram.
     Life,
-    /// It is no longest lease.
+    /// Not a longest lease.
     Longest,
-    /// It is no time.
+    /// Not a time.
     Time,
 }
 
 impl ArgumentFault {
-    /// What the argument was to be.
+    /// What the argument should be.
     fn what(self) -> &'static str {
         match self {
             ArgumentFault::Address | ArgumentFault::Anywhere => "address",
@@ -68,7 +68,7 @@ impl fmt::Display for ArgumentFault {
     }
 }
 
-/// An argument that can't be read, and what is wrong with it. Its text is as
+/// An invalid argument, and what is wrong with it. It prints as
 /// `name 'FILESERVER-NUMBER-1': 19 characters, at most 15`.
 #[derive(Drop)]
 pub struct BadArgument {
@@ -85,19 +85,19 @@ impl fmt::Display for BadArgument {
     }
 }
 
-/// What standard error says of the arguments of a command.
+/// What standard error reports of a command's arguments.
 #[derive(Drop)]
 pub enum Complaint {
-    /// An argument can't be read.
+    /// An argument is invalid.
     Argument(BadArgument),
     /// The longest lease is too short, as `nbt_nbns::judge` has it.
     Short(Config),
-    /// There are so many names, which is more than a host can hold.
+    /// This number of names is more than a host can hold.
     Many(usize),
 }
 
 impl Complaint {
-    /// Writes the line `nbt: ` and what is wrong, at once. What can't be written is passed over.
+    /// Writes the line `nbt: ` and what is wrong. Failures to write it are ignored.
     pub fn report<E: Write>(&self, alloc: Global, errors: &mut E) {
         let _ = self.write_line(alloc, errors);
     }
@@ -106,7 +106,8 @@ impl Complaint {
         match self {
             Complaint::Argument(bad) => writeln!(errors, "nbt: {bad}")?,
             Complaint::Short(config) => {
-                let text = refusal_of(alloc, *config)?;
+                let mut text = String::new(alloc);
+                write_refusal(*config, &mut text)?;
                 writeln!(errors, "nbt: {text}")?;
             }
             Complaint::Many(count) => {
@@ -118,19 +119,12 @@ impl Complaint {
     }
 }
 
-/// Why a longest lease is too short.
-fn refusal_of(alloc: Global, config: Config) -> Result<String, AllocError> {
-    let mut text = String::new(alloc);
-    write_refusal(config, &mut text)?;
-    Ok(text)
-}
-
-/// Why a command for people who run a network is not done.
+/// Why a command for people who run a network failed.
 #[derive(Drop)]
 pub enum Failure {
-    /// The usage is wrong, as this says.
+    /// Wrong usage.
     Usage(Text),
-    /// Something else is wrong with the arguments.
+    /// An invalid argument, or several that don't fit together.
     Complaint(Complaint),
     /// A port, a clock, a socket or the output failed, or memory is out.
     Fault(Fault),
@@ -139,7 +133,7 @@ pub enum Failure {
 impl Failure {
     ghost use Rattle.nbt_admin.specs.Failures.{ComplainsOf, out_of_memory};
 
-    /// The failure that this is wrong with an argument, or that memory is out.
+    /// Makes the failure for an invalid argument, or out of memory.
     pub(crate) fn of_argument(alloc: Global, text: &str, fault: ArgumentFault) -> Failure
         ensures { (result ≡ out_of_memory) ⊎ ComplainsOf text.now fault result }
     {

@@ -1,8 +1,8 @@
-//! The arguments of `host`.
+//! Reads the arguments of `host`.
 
 ghost use Rattle.std.specs.Prelude.{◌≡◌, ◌↔◌, ◌++◌, List, Any, IsTrue, IfOk, IfErr, OnOk};
 ghost use Rattle.nbt_engine.specs.declared.turning.Want.{Want as Wanted};
-ghost use Rattle.nbt_admin.specs.Hosting.{HostGiven, HostFails, AreWanted, SpellWants, NamesFail, TextsFail};
+ghost use Rattle.nbt_admin.specs.Arguments.{HostGiven, HostFails, AreWanted, SpellWants, NamesFail, TextsFail};
 
 use crate::failure::{ArgumentFault, Complaint, Failure};
 use crate::naming::{address_of, name_to_ask, own_of};
@@ -13,12 +13,12 @@ use nbt_hosting::HostArguments;
 use nbt_name::{Kind, Name};
 use std::alloc::Global;
 
-/// The most names of a host: as many as a node holds (our profile).
+/// The greatest number of names of a host, as a node holds (our profile).
 pub const NAMES_MOST: usize = 14;
 
-/// Reads the arguments of `host`. The first that is wrong is said: the life, the longest lease, the time, the server's address, the
-/// own one, the number of names, and then the names in their order, those of groups last. No name begins with `*`, and none comes
-/// twice. Each is asked for for as long as the server allows.
+/// Reads the arguments of `host`. Refused, in this order: the life, the longest lease, the time, the server's address, the own address,
+/// the number of names, and the names, those of groups last, of which none begins with `*` or is repeated. Each name is requested
+/// with TTL 0, for as long as the server allows.
 pub fn host_arguments(alloc: Global, texts: &HostTexts<'_>) -> Result<HostArguments, Failure>
     ensures given { IfOk result (HostGiven texts.now) }
     ensures failure { IfErr result (HostFails texts.now) }
@@ -38,7 +38,7 @@ pub fn host_arguments(alloc: Global, texts: &HostTexts<'_>) -> Result<HostArgume
     })
 }
 
-/// The names that the texts want to be held, where these are few enough.
+/// Reads the names to hold, if these are not too many.
 fn wants_of(alloc: Global, texts: &HostTexts<'_>) -> Result<Vec<Want>, Failure>
     ensures wants { IfOk result (λ wants. SpellWants texts.now wants.items) }
     ensures failure { IfErr result (NamesFail texts.now) }
@@ -56,7 +56,7 @@ fn wants_of(alloc: Global, texts: &HostTexts<'_>) -> Result<Vec<Want>, Failure>
     Ok(wants)
 }
 
-/// Appends a want for each of the texts, of this kind. No two wants have one name.
+/// Reads names of this kind and appends them. No two have one name.
 fn add_wants(
     alloc: Global,
     exact: bool,
@@ -79,7 +79,7 @@ fn add_wants(
     Ok(())
 }
 
-/// Whether one of the wants has this name.
+/// Returns whether one of the wants has this name.
 fn is_among(name: &Name, wants: &[Want]) -> bool
     ensures { IsTrue result ↔ Any (λ want. want.name ≡ name.now) wants.now }
 {

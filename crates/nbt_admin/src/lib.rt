@@ -1,8 +1,6 @@
-//! The commands for people who run a network, `lookup`, `status`, `nbns` and `host`: their arguments, and what is done on this machine (our
-//! profile).
+//! The commands for people who run a network, `lookup`, `status`, `nbns` and `host` (our profile).
 //!
-//! [`run`] reads the arguments of a command line whose texts `nbt_args` found, or says what is wrong with them; does what they ask for, prints
-//! it, and returns the status.
+//! [`run`] reads the arguments whose texts `nbt_args` found, runs the command on this machine, prints its output, and returns the status.
 #![tactic(auto)]
 
 mod asking;

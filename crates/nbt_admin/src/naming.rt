@@ -1,4 +1,4 @@
-//! The addresses and names that texts spell.
+//! Reads addresses and names.
 
 ghost use Rattle.std.specs.Prelude.{◌≡◌, IfOk, IfErr};
 ghost use Rattle.nbt_text.specs.Address.{SpellsEnd};
@@ -9,7 +9,7 @@ use nbt_name::{Addr, Name};
 use nbt_text::{Case, read_address, read_name};
 use std::alloc::Global;
 
-/// The address that a text spells.
+/// Reads an address.
 pub fn address_of(alloc: Global, text: &str) -> Result<Addr, Failure>
     ensures read { IfOk result (SpellsEnd text.now) }
     ensures failure { IfErr result (AddressFails text.now) }
@@ -20,7 +20,7 @@ pub fn address_of(alloc: Global, text: &str) -> Result<Addr, Failure>
     }
 }
 
-/// The address that a text spells, where others can find this machine at it.
+/// Reads an address at which other hosts reach this machine: not 0.0.0.0.
 pub fn own_of(alloc: Global, text: &str) -> Result<Addr, Failure>
     ensures read { IfOk result (SpellsOwn text.now) }
     ensures failure { IfErr result (OwnFails text.now) }
@@ -32,7 +32,7 @@ pub fn own_of(alloc: Global, text: &str) -> Result<Addr, Failure>
     Ok(own)
 }
 
-/// The name that a text spells, with this scope.
+/// Reads a name, with this scope.
 pub fn name_of(alloc: Global, exact: bool, text: &str, scope: &str) -> Result<Name, Failure>
     ensures read { IfOk result (SpellsAsked exact scope.now text.now) }
     ensures failure { IfErr result (NameFails exact scope.now text.now) }
@@ -44,7 +44,7 @@ pub fn name_of(alloc: Global, exact: bool, text: &str, scope: &str) -> Result<Na
     }
 }
 
-/// The name that a text spells, where a server can be asked for it.
+/// Reads a name that can be requested from a server: it doesn't begin with `*`.
 pub fn name_to_ask(alloc: Global, exact: bool, text: &str, scope: &str) -> Result<Name, Failure>
     ensures read { IfOk result (SpellsSought exact scope.now text.now) }
     ensures failure { IfErr result (SoughtFails exact scope.now text.now) }
@@ -56,7 +56,7 @@ pub fn name_to_ask(alloc: Global, exact: bool, text: &str, scope: &str) -> Resul
     Ok(name)
 }
 
-/// Whether small letters stay.
+/// Returns whether lower-case letters are kept.
 fn case_of(exact: bool) -> Case
     ensures { result ≡ case_of exact }
 {

@@ -1,17 +1,15 @@
-//! What a command for people who run a network does on this machine.
+//! Runs a command for people who run a network on this machine.
 
 ghost use Rattle.std.specs.Prelude.{◌≡◌, ◌≤◌, IfOk, OnOk, IfErr};
 ghost use Rattle.std.specs.Io.KnownBytes.{Appends};
-ghost use Rattle.nbt_args.specs.declared.texts.AdminLine.TheVariants as line;
 ghost use Rattle.nbt_nbns.specs.Here.{RunsNbns};
-ghost use Rattle.nbt_admin.specs.Refusals.{Refuses, Stops};
-ghost use Rattle.nbt_admin.specs.Running.{Runs, AskedHere, HostedHere};
+ghost use Rattle.nbt_admin.specs.Running.{Runs, Refuses, Stops, AskedHere, HostedHere};
 
 use crate::asking::{AskArguments, lookup_arguments, status_arguments};
 use crate::failure::Failure;
 use crate::hosting::host_arguments;
 use crate::serving::nbns_arguments;
-use nbt_args::{AdminLine, HostTexts, LookupTexts, NbnsTexts};
+use nbt_args::AdminLine;
 use nbt_ask::ask_here;
 use nbt_engine::Fault;
 use nbt_hosting::{HostArguments, run_host};
@@ -23,14 +21,13 @@ use std::net::Net;
 use std::rt::Files;
 use std::{io, time};
 
-/// The status of a host of whose names one wasn't held at its end (our profile).
+/// The status of a host that didn't hold all its names at its end (our profile).
 const NOT_HELD: u8 = 5;
 
-/// Does what a command line asks for, over this machine's UDP, its clocks and its files, and prints it. Returns the status: of a lookup or a
-/// status request that of its answer, 0, 1 or 5; of a name server 0; of a host 0 where all its names were held at its end, and else 5. Refused
-/// where its arguments are, by the first that is wrong and before anything is done; then as `ask_here`, `run_nbns` and `run_host` are, and with
-/// `Output` where the text of an answer can't be printed. Of a longest lease above an hour a line in `errors` says first for how long a server
-/// is silent.
+/// Runs a command over this machine's UDP, clocks and files, prints its output, and returns the status: of a lookup or a status request 0, 1
+/// or 5, as its answer has it; of a name server 0; of a host 0 if it held all its names at its end, else 5. The first invalid argument is
+/// refused before anything is done. Then it fails as `ask_here`, `run_nbns` and `run_host` do, and with `Output` if an answer can't be
+/// printed. If the longest lease of a name server is above an hour, a line in `errors` says for how long the server is silent.
 pub fn run<M: Net + time::Clock + Files, W: Write, E: Write>(
     machine: &M,
     alloc: Global,
@@ -43,14 +40,27 @@ pub fn run<M: Net + time::Clock + Files, W: Write, E: Write>(
     ensures failure { IfErr result (Stops line.now) }
 {
     match line {
-        AdminLine::Lookup(texts) => lookup(machine, alloc, texts, writer, errors),
-        AdminLine::Status(texts) => status(machine, alloc, texts, writer, errors),
-        AdminLine::Nbns(texts) => nbns(machine, alloc, texts, writer, errors),
-        AdminLine::Host(texts) => host(machine, alloc, texts, writer, errors),
+        AdminLine::Lookup(texts) => {
+            let lookup = lookup_arguments(alloc, texts)?;
+            Ok(ask(machine, alloc, &lookup, writer, errors)?)
+        }
+        AdminLine::Status(texts) => {
+            let status = status_arguments(alloc, texts)?;
+            Ok(ask(machine, alloc, &status, writer, errors)?)
+        }
+        AdminLine::Nbns(texts) => {
+            let nbns = nbns_arguments(alloc, texts)?;
+            serve(machine, alloc, &nbns, writer, errors)?;
+            Ok(0)
+        }
+        AdminLine::Host(texts) => {
+            let host = host_arguments(alloc, texts)?;
+            Ok(hold(machine, alloc, &host, writer, errors)?)
+        }
     }
 }
 
-/// Reads the arguments of a command line, as [`run`] does first, and does nothing.
+/// Reads the arguments of a command line, as [`run`] does first.
 pub fn check(alloc: Global, line: &AdminLine<'_>) -> Result<(), Failure>
     ensures failure { IfErr result (Refuses line.now) }
 {
@@ -71,71 +81,7 @@ pub fn check(alloc: Global, line: &AdminLine<'_>) -> Result<(), Failure>
     Ok(())
 }
 
-fn lookup<M: Net + time::Clock, W: Write, E: Write>(
-    machine: &M,
-    alloc: Global,
-    texts: &LookupTexts<'_>,
-    writer: &mut W,
-    errors: &mut E,
-) -> Result<u8, Failure>
-    ensures done { IfOk result (λ status. Runs (line.Lookup texts.now) status (W.contents writer.old) (W.contents writer.new)) }
-    ensures bound { IfOk result (λ status. status ≤ 5) }
-    ensures failure { IfErr result (Stops (line.Lookup texts.now)) }
-{
-    let arguments = lookup_arguments(alloc, texts)?;
-    let status = ask(machine, alloc, &arguments, writer, errors)?;
-    Ok(status)
-}
-
-fn status<M: Net + time::Clock, W: Write, E: Write>(
-    machine: &M,
-    alloc: Global,
-    texts: &LookupTexts<'_>,
-    writer: &mut W,
-    errors: &mut E,
-) -> Result<u8, Failure>
-    ensures done { IfOk result (λ status. Runs (line.Status texts.now) status (W.contents writer.old) (W.contents writer.new)) }
-    ensures bound { IfOk result (λ status. status ≤ 5) }
-    ensures failure { IfErr result (Stops (line.Status texts.now)) }
-{
-    let arguments = status_arguments(alloc, texts)?;
-    let status = ask(machine, alloc, &arguments, writer, errors)?;
-    Ok(status)
-}
-
-fn nbns<M: Net + time::Clock + Files, W: Write, E: Write>(
-    machine: &M,
-    alloc: Global,
-    texts: &NbnsTexts<'_>,
-    writer: &mut W,
-    errors: &mut E,
-) -> Result<u8, Failure>
-    ensures done { IfOk result (λ status. Runs (line.Nbns texts.now) status (W.contents writer.old) (W.contents writer.new)) }
-    ensures bound { IfOk result (λ status. status ≤ 5) }
-    ensures failure { IfErr result (Stops (line.Nbns texts.now)) }
-{
-    let arguments = nbns_arguments(alloc, texts)?;
-    serve(machine, alloc, &arguments, writer, errors)?;
-    Ok(0)
-}
-
-fn host<M: Net + time::Clock, W: Write, E: Write>(
-    machine: &M,
-    alloc: Global,
-    texts: &HostTexts<'_>,
-    writer: &mut W,
-    errors: &mut E,
-) -> Result<u8, Failure>
-    ensures done { IfOk result (λ status. Runs (line.Host texts.now) status (W.contents writer.old) (W.contents writer.new)) }
-    ensures bound { IfOk result (λ status. status ≤ 5) }
-    ensures failure { IfErr result (Stops (line.Host texts.now)) }
-{
-    let arguments = host_arguments(alloc, texts)?;
-    let status = hold(machine, alloc, &arguments, writer, errors)?;
-    Ok(status)
-}
-
-/// Asks, and prints how it came out.
+/// Sends a request, prints its answer, and returns the status.
 fn ask<M: Net + time::Clock, W: Write, E: Write>(
     machine: &M,
     alloc: Global,
@@ -182,7 +128,7 @@ fn serve<M: Net + time::Clock + Files, W: Write, E: Write>(
     run_nbns(machine, alloc, arguments, writer, errors)
 }
 
-/// Says for how long a server is silent.
+/// Warns for how long a server is silent.
 fn warn<E: Write>(alloc: Global, config: Config, errors: &mut E) -> io::Result<()> {
     let mut text = String::new(alloc);
     write_warning(config, &mut text)?;
@@ -190,7 +136,7 @@ fn warn<E: Write>(alloc: Global, config: Config, errors: &mut E) -> io::Result<(
     errors.flush()
 }
 
-/// Runs a host.
+/// Runs a host, and returns the status.
 fn hold<M: Net + time::Clock, W: Write, E: Write>(
     machine: &M,
     alloc: Global,

@@ -1,9 +1,9 @@
-//! The arguments of `nbns`.
+//! Reads the arguments of `nbns`.
 
 ghost use Rattle.std.specs.Prelude.{◌≡◌, IfOk, IfErr};
 ghost use Rattle.std.specs.Option.{option_map};
 ghost use Rattle.std.specs.String.{string_bytes};
-ghost use Rattle.nbt_admin.specs.Serving.{NbnsGiven, NbnsFails};
+ghost use Rattle.nbt_admin.specs.Arguments.{NbnsGiven, NbnsFails};
 
 use crate::failure::Failure;
 use crate::naming::address_of;
@@ -12,8 +12,8 @@ use nbt_args::NbnsTexts;
 use nbt_nbns::NbnsArguments;
 use std::alloc::{AllocError, Global};
 
-/// Reads the arguments of `nbns`. The first that is wrong is said: the life, the longest lease, the time, a longest lease that is too
-/// short for a network, the address.
+/// Reads the arguments of `nbns`. Refused, in this order: the life, the longest lease, the time, a longest lease that is too short for
+/// a network, and the address.
 pub fn nbns_arguments(alloc: Global, texts: &NbnsTexts<'_>) -> Result<NbnsArguments, Failure>
     ensures given { IfOk result (NbnsGiven texts.now) }
     ensures failure { IfErr result (NbnsFails texts.now) }
@@ -33,7 +33,7 @@ pub fn nbns_arguments(alloc: Global, texts: &NbnsTexts<'_>) -> Result<NbnsArgume
     })
 }
 
-/// The path of a file, if there is one.
+/// Copies the path of a file, if there is one.
 fn path_of(alloc: Global, text: Option<&str>) -> Result<Option<String>, AllocError>
     ensures { IfOk result (λ path. option_map string_bytes path ≡ option_map (λ t. t.now) text.entry) }
 {

@@ -12,7 +12,7 @@ loop-text-preserved c =
     let i = c.loop-text.text-index in
     let texts = c.args.texts.now in
     one_on c.args.exact c.args.scope.now c.args.kind texts (drop i texts) (drop (i + 1) texts) (get_or texts i no_word) c.args.wants.now.items c.loop-text.wants.items c.push.new.self.items
-    (record { name = c.in_ok-name.name; kind = c.args.kind; ttl = 0 }) (drop_more texts i no_word c.loop-text-test.true) c.loop-text.invariant (record { name = c.in_ok-name.ensures.read; kind_is = refl; ttl_is = refl })
+    (record { name = c.in_ok-name.name; kind = c.args.kind; ttl = 0 }) (drop_more texts i no_word c.loop-text-test.true) c.loop-text.invariant (c.in_ok-name.ensures.read, refl, refl)
     (not_among c.in_ok-name.name c.as_slice.result.now c.loop-text.wants.items c.is_among.result c.as_slice.ensures.value c.is_among.ensures.1 c.if-is_among.false) c.in_ok-push.ensures.items
 
 pub returns-clause-wants : goal.returns-clause-wants

@@ -1,6 +1,6 @@
 use Rattle.std.proofs.Common.{◌≤◌, arith}
 use Rattle.std.proofs.lemmas.Result.{err_from_is_err_and}
-use Rattle.nbt_admin.specs.Hosting.{count_of}
+use Rattle.nbt_admin.specs.Arguments.{count_of}
 use Rattle.nbt_admin.proofs.Wanting.{names_fail, groups_fail}
 use Rattle.nbt_admin.proofs.hosting.wants_of.Goals as goal
 

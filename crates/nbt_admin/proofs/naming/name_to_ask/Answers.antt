@@ -7,7 +7,7 @@ use Rattle.nbt_admin.specs.declared.failure.Failure.{Failure}
 use Rattle.nbt_admin.specs.declared.failure.ArgumentFault.TheVariants as w
 use Rattle.nbt_admin.proofs.naming.name_to_ask.Goals as goal
 
--- a name that begins with `*` is told, unless memory is short
+-- a name that begins with `*` is reported, unless memory is out
 bad_star : (exact : Bool) (scope text : List ℕ) (name : NameValue) (failure : Failure) → SpellsAsked exact scope text name → IsStar name
     → ((failure ≡ out_of_memory) ⊎ ComplainsOf text w.Star failure) → SoughtFails exact scope text failure
 bad_star exact scope text name failure spelled star (inl short) = inl (inl short)

@@ -1,0 +1,139 @@
+-- The arguments that texts give, and the failures of other texts (our profile).
+use Rattle.std.specs.Prelude.{◌≡◌, ◌⊎◌, ◌≢◌, ◌≤◌, ◌<◌, ◌+◌, ℕ, Bool, List, [], ◌∷◌, ◌++◌, length, Any}
+use Rattle.nbt_text.specs.Address.{SpellsEnd}
+use Rattle.nbt_lookup.specs.declared.question.Question.{Question}
+use Rattle.nbt_lookup.specs.declared.question.Question.TheVariants as q
+use Rattle.nbt_args.specs.declared.texts.LookupTexts.{LookupTexts}
+use Rattle.nbt_admin.specs.Failures.{IsUsage, out_of_memory, ComplainsOf}
+use Rattle.nbt_admin.specs.Times.{IsWait, SpellsPatience, IsConfigOf, AreLimits, LimitsFail, SpellsEnding, IsEnding, EndingFails}
+use Rattle.nbt_admin.specs.Texts.{IsAddress, AddressFails, SpellsAsked, SpellsSought, SpellsOwn, IsOwn, OwnFails, SoughtFails}
+use Rattle.nbt_admin.specs.declared.asking.AskArguments.{AskArguments}
+use Rattle.nbt_admin.specs.declared.failure.Failure.{Failure}
+use Rattle.std.specs.Option.{option_map}
+use Rattle.std.specs.String.{string_bytes}
+use Rattle.nbt_lease.specs.Config.{ConfigValue}
+use Rattle.nbt_nbns.specs.Limits.{judged}
+use Rattle.nbt_nbns.specs.declared.here.NbnsArguments.{NbnsArguments}
+use Rattle.nbt_nbns.specs.declared.limits.Judged.TheVariants.{Short}
+use Rattle.nbt_args.specs.declared.texts.NbnsTexts.{NbnsTexts}
+use Rattle.nbt_admin.specs.declared.failure.Complaint.TheVariants as complaint
+use Rattle.nbt_admin.specs.declared.failure.Failure.TheVariants.{Complaint}
+use Rattle.std.specs.Borrow.{Bor}
+use Rattle.nbt_engine.specs.declared.turning.Want.{Want}
+use Rattle.nbt_name.specs.Wire.{NameValue}
+use Rattle.nbt_name.specs.declared.addr.Kind.{Kind}
+use Rattle.nbt_name.specs.declared.addr.Kind.TheVariants.{Unique, Group}
+use Rattle.nbt_hosting.specs.declared.arguments.HostArguments.{HostArguments}
+use Rattle.nbt_args.specs.declared.texts.HostTexts.{HostTexts}
+use Rattle.nbt_admin.specs.declared.failure.ArgumentFault.TheVariants as w
+
+-- ---- `lookup` and `status`
+
+-- A server is asked for who holds a name.
+abbrev pub AsksServer : LookupTexts → Question → Type 0
+AsksServer texts (q.Holders server name) = SpellsEnd texts.to.now server × SpellsSought texts.exact texts.scope.now texts.name.now name
+AsksServer texts (q.Names to name) = ⊥
+
+-- A host is asked for its names.
+abbrev pub AsksHost : LookupTexts → Question → Type 0
+AsksHost texts (q.Holders server name) = ⊥
+AsksHost texts (q.Names host name) = SpellsEnd texts.to.now host × SpellsAsked texts.exact texts.scope.now texts.name.now name
+
+-- the question comes from the texts too
+pub record AskGiven (Asks : LookupTexts → Question → Type 0) (texts : LookupTexts) (a : AskArguments) : Type 0 where
+  pub question : Asks texts a.question
+  pub bind : SpellsEnd texts.bind.now a.bind
+  pub patience : SpellsPatience texts.tries.now texts.wait.now a.patience
+
+-- A wait beyond its limits comes first, and is wrong usage; then the texts in their order. Memory may be out at any step.
+abbrev pub AskFails : (Failure → Type 0) → LookupTexts → Failure → Type 0
+AskFails NameIsBad texts failure = (failure ≡ out_of_memory)
+    ⊎ ((¬ IsWait texts.wait.now × IsUsage failure)
+    ⊎ ((IsWait texts.wait.now × AddressFails texts.to.now failure)
+    ⊎ ((IsWait texts.wait.now × IsAddress texts.to.now × AddressFails texts.bind.now failure)
+    ⊎ (IsWait texts.wait.now × IsAddress texts.to.now × IsAddress texts.bind.now × NameIsBad failure))))
+
+-- ---- `nbns`
+
+-- a network can run with these limits
+pub record NbnsGiven (texts : NbnsTexts) (a : NbnsArguments) : Type 0 where
+  pub bind : SpellsEnd texts.bind.now a.bind
+  pub config : IsConfigOf texts.life.now texts.longest.now a.config
+  pub fits : judged a.config ≢ Short
+  pub time : SpellsEnding texts.time a.time
+  pub log_is : a.log ≡ texts.log
+  pub leases_are : option_map string_bytes a.leases ≡ option_map (λ text. text.now) texts.leases
+  pub strict_is : a.strict ≡ texts.strict
+
+-- The first wrong argument is reported; memory may be out at any step.
+abbrev pub NbnsFails : NbnsTexts → Failure → Type 0
+NbnsFails texts failure = (failure ≡ out_of_memory)
+    ⊎ (LimitsFail texts.life.now texts.longest.now failure
+    ⊎ ((AreLimits texts.life.now texts.longest.now × EndingFails texts.time failure)
+    ⊎ ((IsEnding texts.time × ((config : ConfigValue) × IsConfigOf texts.life.now texts.longest.now config × (judged config ≡ Short) × (failure ≡ Complaint (complaint.Short config))))
+    ⊎ (IsEnding texts.time × ((config : ConfigValue) × IsConfigOf texts.life.now texts.longest.now config × (judged config ≢ Short)) × AddressFails texts.bind.now failure))))
+
+-- ---- `host`
+
+-- a text spells the wanted name, of this kind, for as long as the server allows
+abbrev pub IsWanted : (exact : Bool) → (scope : List ℕ) → Kind → (text : List ℕ) → Want → Type 0
+IsWanted exact scope kind text want = SpellsSought exact scope text want.name × (want.kind ≡ kind) × (want.ttl ≡ 0)
+
+-- one of the wants has this name
+abbrev pub IsAmong : NameValue → List Want → Type 0
+IsAmong name wants = Any (λ want. want.name ≡ name) wants
+
+-- each text spells one wanted name, in their order, and no name comes twice, nor is it among those wanted already
+pub data AreWanted (exact : Bool) (scope : List ℕ) (kind : Kind) (already : List Want) : List (Bor (List ℕ)) → List Want → Type 0 where
+  none_wanted : AreWanted exact scope kind already [] []
+  one_more : (texts : List (Bor (List ℕ))) (text : Bor (List ℕ)) (wants : List Want) (want : Want) → AreWanted exact scope kind already texts wants
+      → IsWanted exact scope kind text.now want → ¬ IsAmong want.name (already ++ wants) → AreWanted exact scope kind already (texts ++ text ∷ []) (wants ++ want ∷ [])
+
+-- a text spells no name that can be wanted beside these
+abbrev pub WantFails : (exact : Bool) → (scope : List ℕ) → (already : List Want) → (text : List ℕ) → Failure → Type 0
+WantFails exact scope already text failure = SoughtFails exact scope text failure
+    ⊎ ((name : NameValue) × SpellsSought exact scope text name × IsAmong name already × ComplainsOf text w.Twice failure)
+
+-- the first texts of a list are valid, and the next is not
+abbrev pub TextsFail : (exact : Bool) → (scope : List ℕ) → Kind → (already : List Want) → List (Bor (List ℕ)) → Failure → Type 0
+TextsFail exact scope kind already texts failure = (failure ≡ out_of_memory)
+    ⊎ ((before after : List (Bor (List ℕ))) × ((text : Bor (List ℕ)) × ((wants : List Want)
+    × (texts ≡ before ++ text ∷ after) × AreWanted exact scope kind already before wants × WantFails exact scope (already ++ wants) text.now failure)))
+
+-- the number of names
+abbrev pub count_of : HostTexts → ℕ
+count_of texts = length texts.names.items + length texts.groups.items
+
+-- the unique names come first
+pub record SpellWants (texts : HostTexts) (wants : List Want) : Type 0 where
+  pub alone : List Want
+  pub in_groups : List Want
+  pub wants_are : wants ≡ alone ++ in_groups
+  pub names : AreWanted texts.exact texts.scope.now Unique [] texts.names.items alone
+  pub groups : AreWanted texts.exact texts.scope.now Group alone texts.groups.items in_groups
+  pub few : count_of texts ≤ 14
+
+-- more than 14, which a node holds, are reported; else the first name that can't be read or is repeated
+abbrev pub NamesFail : HostTexts → Failure → Type 0
+NamesFail texts failure = (failure ≡ out_of_memory)
+    ⊎ (((14 < count_of texts) × (failure ≡ Complaint (complaint.Many (count_of texts))))
+    ⊎ (((count_of texts ≤ 14) × TextsFail texts.exact texts.scope.now Unique [] texts.names.items failure)
+    ⊎ ((count_of texts ≤ 14) × ((alone : List Want) × AreWanted texts.exact texts.scope.now Unique [] texts.names.items alone
+    × TextsFail texts.exact texts.scope.now Group alone texts.groups.items failure))))
+
+pub record HostGiven (texts : HostTexts) (a : HostArguments) : Type 0 where
+  pub bind : SpellsOwn texts.bind.now a.bind
+  pub server : SpellsEnd texts.server.now a.server
+  pub config : IsConfigOf texts.life.now texts.longest.now a.config
+  pub wants : SpellWants texts a.wants.items
+  pub time : SpellsEnding texts.time a.time
+  pub log_is : a.log ≡ texts.log
+
+-- The first wrong argument is reported; memory may be out at any step.
+abbrev pub HostFails : HostTexts → Failure → Type 0
+HostFails texts failure = (failure ≡ out_of_memory)
+    ⊎ (LimitsFail texts.life.now texts.longest.now failure
+    ⊎ ((AreLimits texts.life.now texts.longest.now × EndingFails texts.time failure)
+    ⊎ ((AreLimits texts.life.now texts.longest.now × IsEnding texts.time × AddressFails texts.server.now failure)
+    ⊎ ((AreLimits texts.life.now texts.longest.now × IsEnding texts.time × IsAddress texts.server.now × OwnFails texts.bind.now failure)
+    ⊎ (AreLimits texts.life.now texts.longest.now × IsEnding texts.time × IsAddress texts.server.now × IsOwn texts.bind.now × NamesFail texts failure)))))
