@@ -1,10 +1,10 @@
--- How a command line ends without a machine.
-use Rattle.std.proofs.Common.{◌≡◌, ◌≤◌, ℕ, Bool, true, false, List, Option, refl, sym, subst, inl, inr, arith}
-use Rattle.std.specs.Prelude.{◌≢◌, ◌⊎◌, Result, Ok, Err, IfOk, IfErr, IfSome}
-use Rattle.std.proofs.lemmas.Bool.{false≢true}
+-- How a command line ends.
+use Rattle.std.proofs.Common.{◌≡◌, ◌≤◌, ℕ, List, Option, refl, sym, subst, ◌∙◌, inl, inr, arith}
+use Rattle.std.specs.Prelude.{◌≢◌, ◌⊎◌, if◌then◌else◌, Result, Ok, Err, IfOk, IfErr, IfSome}
 use Rattle.std.specs.Io.KnownBytes.{Appends}
 use Rattle.std.specs.String.{string_bytes}
 use Rattle.nbt_args.specs.declared.texts.CommandLine.{CommandLine}
+use Rattle.nbt_args.specs.declared.texts.CommandLine.TheVariants as line
 use Rattle.nbt_engine.specs.Faults.{fault_status}
 use Rattle.nbt_engine.specs.declared.fault.Fault.{Fault as Why}
 use Rattle.nbt_engine.specs.declared.fault.Fault.TheVariants as why
@@ -14,7 +14,8 @@ use Rattle.nbt_offline.specs.declared.printed.Ending.TheVariants.{Done, Refused}
 use Rattle.nbt_offline.specs.declared.printed.Printed.{Printed}
 use Rattle.nbt_prog.specs.Inner.Failure.{failure_status}
 use Rattle.nbt_prog.specs.Inner.Outcome.{status_of_outcome, text_of_outcome}
-use Rattle.nbt_prog.specs.Running.{Ends, IsDone, IsUnread, Prints}
+use Rattle.nbt_prog.specs.Inner.Refusals.{FailsOn}
+use Rattle.nbt_prog.specs.Running.{Ends, EndsOn, IsDone, Prints}
 use Rattle.nbt_prog.specs.declared.failure.Failure.{Failure}
 use Rattle.nbt_prog.specs.declared.failure.Failure.TheVariants.{Help, Usage, Unreadable, Complaint, Fault}
 
@@ -25,13 +26,9 @@ at_least_two why.Device = omega arith
 at_least_two why.Output = omega arith
 at_least_two why.Memory = omega arith
 
-well_is_done : (ending : Ending) (status : ℕ) → status ≡ ending_status ending → is_done ending ≡ true → status ≡ 0
-well_is_done Done status is well = is
-well_is_done Refused status is well = absurd (false≢true well)
-
-else_refused : (ending : Ending) (status : ℕ) → status ≡ ending_status ending → is_done ending ≡ false → status ≡ 1
-else_refused Done status is bad = absurd (false≢true (sym bad))
-else_refused Refused status is bad = is
+status_is : (ending : Ending) (status : ℕ) → status ≡ ending_status ending → status ≡ (if is_done ending then 0 else 1)
+status_is Done status is = is
+status_is Refused status is = is
 
 pub ends : (l : CommandLine) (known : Option (List ℕ)) (outcome : Result Printed Failure) (status : ℕ) (old new : Option (List ℕ))
     → IfOk outcome (λ printed. Prints l known (is_done printed.ending) (string_bytes printed.text)) → IfErr outcome (λ failure. failure_status failure ≢ 0)
@@ -42,11 +39,27 @@ ends l known (Ok printed) status old new prints fails (inr (is, appends)) = inr 
   printed = string_bytes printed.text;
   prints = prints;
   appends = appends;
-  done = well_is_done printed.ending status is;
-  refused = else_refused printed.ending status is;
+  status_is = status_is printed.ending status is;
 }))
 ends l known (Err (Help text)) status old new prints fails (inr (is, appends)) = absurd (fails refl)
 ends l known (Err (Usage text)) status old new prints fails (inr (is, appends)) = inl (subst (λ (n : ℕ). 2 ≤ n) (sym is) (omega arith))
-ends l known (Err Unreadable) status old new prints fails (inr (is, appends)) = inr (inr (record { status_is = is; appends = appends }))
+ends l known (Err Unreadable) status old new prints fails (inr (is, appends)) = inr (inr (is, appends))
 ends l known (Err Complaint) status old new prints fails (inr (is, appends)) = inl (subst (λ (n : ℕ). 2 ≤ n) (sym is) (omega arith))
 ends l known (Err (Fault fault)) status old new prints fails (inr (is, appends)) = inl (subst (λ (n : ℕ). 2 ≤ n) (sym is) (at_least_two fault))
+
+not_done : (failure : Failure) (status : ℕ) → failure_status failure ≢ 0 → ((status ≡ 3) ⊎ (status ≡ failure_status failure)) → status ≢ 0
+not_done failure status fails (inl three) = λ done. absurd (omega (arith, three, done))
+not_done failure status fails (inr is) = λ done. fails (sym is ∙ done)
+
+pub fails_on : (l : CommandLine) (known : Option (List ℕ)) (failure : Failure) (status : ℕ) (old new : Option (List ℕ))
+    → FailsOn l failure → status ≤ 4 → ((status ≡ 3) ⊎ (status ≡ failure_status failure)) → EndsOn l known status old new
+fails_on (line.Admin l) known failure status old new fails most (inl three) = inl (subst (λ (n : ℕ). 2 ≤ n) (sym three) (omega arith), most)
+fails_on (line.Admin l) known failure status old new fails most (inr is) = inl (subst (λ (n : ℕ). 2 ≤ n) (sym is) fails, most)
+fails_on (line.Serve texts) known failure status old new fails most is = λ done. absurd (not_done failure status fails is done)
+fails_on (line.Node texts) known failure status old new fails most is = λ done. absurd (not_done failure status fails is done)
+fails_on (line.Loop port) known failure status old new fails most is = tt
+fails_on (line.Answer texts) known failure status old new fails most is = absurd fails
+fails_on (line.Show texts) known failure status old new fails most is = absurd fails
+fails_on line.Check known failure status old new fails most is = absurd fails
+fails_on line.Sim known failure status old new fails most is = absurd fails
+fails_on line.Draw known failure status old new fails most is = absurd fails

@@ -1,4 +1,3 @@
 pub mod Inner
 pub mod Network
-pub mod Numbers
 pub mod Running

@@ -1,5 +1,5 @@
--- What a command line prints, and with which status it ends, as the texts of its arguments say it (our profile).
-use Rattle.std.specs.Prelude.{◌≡◌, ◌≤◌, ◌⊎◌, ℕ, Bool, true, false, List, Option, None, codes}
+-- What a command line prints, and its status, as the texts of its arguments determine them (our profile).
+use Rattle.std.specs.Prelude.{◌≡◌, ◌≤◌, ◌⊎◌, ℕ, Bool, true, false, if◌then◌else◌, List, Option, None, codes}
 use Rattle.std.specs.Io.KnownBytes.{Appends}
 use Rattle.nbt_admin.specs.Running.{Runs as RunsAdmin}
 use Rattle.nbt_args.specs.declared.limits.LimitedArgument.TheVariants.{At}
@@ -19,10 +19,9 @@ use Rattle.nbt_offline.specs.Texts.{IsHexadecimal}
 use Rattle.nbt_show.specs.Verdicts.{PrintsChecked}
 use Rattle.nbt_sim.specs.Script.{Plays}
 use Rattle.nbt_text.specs.Lines.{lines, one_line}
-use Rattle.nbt_prog.specs.Network.{ServeGiven, NodeGiven}
-use Rattle.nbt_prog.specs.Numbers.{SpellsWithin}
+use Rattle.nbt_prog.specs.Network.{ServeGiven, NodeGiven, SpellsWithin}
 
--- ---- commands that open no socket: what they print of the input that is known, and whether nothing is wrong
+-- ---- commands that open no socket: what they print for the known input, and whether nothing is wrong
 
 abbrev pub PrintsAnswer : AnswerTexts → (well : Bool) → (printed : List ℕ) → Type 0
 PrintsAnswer texts well printed = (well ≡ true) × ((at : ℕ) × SpellsWithin At texts.at.now at × Answers texts.from.now texts.hex.now at printed)
@@ -39,27 +38,21 @@ Prints line.Sim known well printed = (input : List ℕ) × IsInput known input �
 Prints line.Draw known well printed = (input : List ℕ) × IsInput known input × Draws input well printed
 Prints _ known well printed = ⊥
 
--- It did its work: what it prints was appended, and the status is 0 where nothing is wrong, and else 1.
+-- It was done: its output was appended, and the status is 0 if nothing is wrong, else 1.
 pub record IsDone (l : CommandLine) (known : Option (List ℕ)) (status : ℕ) (old new : Option (List ℕ)) : Type 0 where
   pub well : Bool
   pub printed : List ℕ
   pub prints : Prints l known well printed
   pub appends : Appends old new printed
-  pub done : well ≡ true → status ≡ 0
-  pub refused : well ≡ false → status ≡ 1
+  pub status_is : status ≡ (if well then 0 else 1)
 
--- its arguments or its input can't be read
-pub record IsUnread (status : ℕ) (old new : Option (List ℕ)) : Type 0 where
-  pub status_is : status ≡ 1
-  pub appends : Appends old new (one_line (codes "unreadable"))
-
--- with status 0 or 1
+-- it was done, or its arguments or its input can't be read, or it failed otherwise
 abbrev pub Ends : CommandLine → (known : Option (List ℕ)) → (status : ℕ) → (old new : Option (List ℕ)) → Type 0
-Ends l known status old new = (2 ≤ status) ⊎ (IsDone l known status old new ⊎ IsUnread status old new)
+Ends l known status old new = (2 ≤ status) ⊎ (IsDone l known status old new ⊎ ((status ≡ 1) × Appends old new (one_line (codes "unreadable"))))
 
 -- ---- all commands, on a machine
 
--- What was done is what the texts ask for: with status 0, 1 or 5 by a command for people who run a network, with status 0 by `serve` and `node`, and
+-- The command was done as its texts say: with status 0, 1 or 5 by a command for people who run a network, with status 0 by `serve` and `node`, and
 -- with status 0 or 1 by a command that opens no socket.
 abbrev pub EndsOn : CommandLine → (known : Option (List ℕ)) → (status : ℕ) → (old new : Option (List ℕ)) → Type 0
 EndsOn (line.Admin l) known status old new = ((2 ≤ status) × (status ≤ 4)) ⊎ RunsAdmin l status old new

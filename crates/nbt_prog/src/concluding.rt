@@ -1,4 +1,4 @@
-//! What the program prints at the end of a command, and its status.
+//! Ends a command: prints its output or its failure, and returns the status.
 
 ghost use Rattle.std.specs.Prelude.{◌≡◌, ◌≤◌, ◌⊎◌, OnOk, IfSome, codes};
 ghost use Rattle.std.specs.Io.KnownBytes.{Appends};
@@ -12,7 +12,7 @@ use nbt_offline::Printed;
 use std::io;
 use std::io::Write;
 
-/// Returns the status of a command that failed, and prints the text of the failure; nothing more where the output failed.
+/// Prints the text of a failure and returns its status. Prints nothing if the output failed.
 pub fn conclude_failed<W: Write>(failure: Failure, writer: &mut W) -> u8
     ensures bound { result ≤ 4 }
     ensures status { (result ≡ 3) ⊎ (result ≡ failure_status failure) }
@@ -23,7 +23,7 @@ pub fn conclude_failed<W: Write>(failure: Failure, writer: &mut W) -> u8
     }
 }
 
-/// Prints the output, or the text of the failure, and returns the status.
+/// Prints the output or the text of the failure, and returns the status.
 pub fn conclude<W: Write>(outcome: Result<Printed, Failure>, writer: &mut W) -> u8
     ensures bound { result ≤ 4 }
     ensures printed { (result ≡ 3) ⊎ ((result ≡ status_of_outcome outcome)
@@ -42,7 +42,7 @@ pub fn conclude<W: Write>(outcome: Result<Printed, Failure>, writer: &mut W) -> 
     }
 }
 
-/// Writes the output, or the text of the failure.
+/// Writes the output or the text of the failure.
 fn print<W: Write>(outcome: &Result<Printed, Failure>, writer: &mut W) -> io::Result<()>
     ensures { OnOk result (IfSome (text_of_outcome outcome.now)
         (Appends (W.contents writer.old) (W.contents writer.new))) }

@@ -1,4 +1,4 @@
-//! Why a command did not do its work.
+//! Why a command failed.
 
 ghost use Rattle.std.specs.Prelude.{◌≡◌, ◌≤◌};
 
@@ -6,16 +6,16 @@ use nbt_args::{Refusal, Text};
 use nbt_engine::Fault;
 use std::io;
 
-/// Why a command did not do its work.
+/// Why a command failed.
 #[derive(Drop)]
 pub enum Failure {
-    /// Help or the version was asked for.
+    /// Help or the version was requested.
     Help(Text),
-    /// The usage is wrong.
+    /// Wrong usage.
     Usage(Text),
     /// An address, a hexadecimal text or the input can't be read.
     Unreadable,
-    /// Something is wrong with the arguments of a command for people who run a network, as standard error says.
+    /// An argument of a command for people who run a network is invalid; standard error says why.
     Complaint,
     /// A port, a clock, a socket, the input or the output failed, or memory is out.
     Fault(Fault),
@@ -25,7 +25,7 @@ impl Failure {
     ghost use Rattle.std.specs.Prelude.{IfSome};
     ghost use Rattle.nbt_prog.specs.Inner.Failure.{failure_status, failure_text};
 
-    /// The status with which the program exits: 0 for help, since it was asked for.
+    /// The exit status: 0 for help, since it was requested.
     pub fn status(&self) -> u8
         ensures value { result ≡ failure_status self.now }
         ensures bound { result ≤ 4 }
@@ -38,8 +38,8 @@ impl Failure {
         }
     }
 
-    /// The line that is printed alone, with its end; of help and wrong usage nothing, since they have a text of their own, and
-    /// nothing of what standard error says.
+    /// The line to print, with its end. Empty for help and wrong usage, which have a text of their own, and for a complaint, which standard
+    /// error has.
     pub fn line(&self) -> &'static str
         ensures { IfSome (failure_text self.now) (λ text. result.now ≡ text) }
     {

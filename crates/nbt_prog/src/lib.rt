@@ -1,7 +1,7 @@
-//! The command line of `nbt`: which command its arguments name, what that reads, does and prints, and how it ends.
+//! Runs the command line of `nbt`: chooses the command, runs it, prints its output, and returns its status.
 //!
-//! A program passes its arguments, its standard input and its standard output to [`command`], and exits with the status that it
-//! returns. What is done with a command line whose arguments have their names is [`run`], and [`run_on`] on a machine.
+//! A program passes its arguments, standard input and standard output to [`command`], and exits with the status that it
+//! returns. [`run`] and [`run_on`] run a command line that `nbt_args` has read, without and on a machine.
 #![tactic(auto)]
 
 ghost use Rattle.std.specs.Prelude.{◌≡◌, ◌≢◌, ◌≤◌, ◌⊎◌, codes};
@@ -29,20 +29,19 @@ use std::net::Net;
 use std::rt::Files;
 use std::{io, time};
 
-/// What standard error says where memory is out.
+/// The line in standard error when memory is out.
 const OUT_OF_MEMORY: &str = "nbt: memory was refused\n";
 
-/// Runs the command that `arguments` name, of which the first is the program's own name, and returns
-/// the exit status. All that is printed goes to `writer`, at once: the command's output, the help
-/// that was asked for, or a text that says what is wrong. No socket is opened.
+/// Runs the command that `arguments` name, the first of which is the program's own name, and returns the exit status. All output goes to
+/// `writer`, at once: the command's output, the help that was requested, or a text that says what is wrong. No socket is opened.
 ///
 /// - 0: done.
-/// - 1: an address, a hexadecimal text or the input can't be read: prints `unreadable`. Or `show` met a fault, which it
-///   prints, or `check` has vectors that failed, or `sim` a line that can't be read.
-/// - 2: wrong usage; prints what is wrong and how to call the program. Or something else is wrong with the arguments of a command for
-///   people who run a network (`lookup`, `status`, `nbns`, `host`); prints nothing: see [`command_telling`].
-/// - 3: `reader` or `writer` failed; prints `device`, unless it was the writer. So do the commands for people who run a network, `serve`,
-///   `node` and `loop`, which need a machine: see [`command_telling`].
+/// - 1: an address, a hexadecimal text or the input can't be read; prints `unreadable`. Or `show` found a fault, which it
+///   prints, or `check` a vector that failed, or `sim` a line that can't be read.
+/// - 2: wrong usage; prints what is wrong and the usage. Or an argument of a command for people who run a network (`lookup`, `status`,
+///   `nbns`, `host`) is invalid; prints nothing: see [`command_telling`].
+/// - 3: `reader` or `writer` failed; prints `device`, unless it was the writer. The commands for people who run a network, `serve`,
+///   `node` and `loop` end so too, since they need a machine: see [`command_telling`].
 /// - 4: out of memory; prints `memory`.
 pub fn command<S: AsStr, R: Read, W: Write>(
     alloc: Global,
@@ -60,14 +59,13 @@ pub fn command<S: AsStr, R: Read, W: Write>(
     }
 }
 
-/// Runs the command that `arguments` name, as [`command`] does, and on this machine those that open sockets too: `lookup`, `status`,
-/// `nbns`, `host`, `serve`, `node` and `loop`. The first two write to `writer` at their end, with the status 0, 1 where the name isn't
-/// found, or 5 where no reply came; the others as they go on, `host` with the status 5 where a name wasn't held at its end. Where
-/// something is wrong with an argument of the first four, a line in `errors` says what, and the status is 2. So does one where `unreadable`
-/// is printed, and one where `memory` is. Status 3 is also that of a port that can't be bound, of a clock that can't be read at the
-/// start, and of a socket that failed. Then a line in `errors` says which call of the system failed, for which address, and why. With
-/// `--forever` a socket that fails is said in `errors` too, and only the hundredth turn in a row that fails ends the command. What
-/// can't be written to `errors` is passed over.
+/// Runs the command that `arguments` name, as [`command`] does, and on this machine also those that open sockets: `lookup`, `status`,
+/// `nbns`, `host`, `serve`, `node` and `loop`. The first two write to `writer` at their end, with the status 0, 1 if the name isn't
+/// found, or 5 if no reply came; the others write while they run, `host` with the status 5 if a name wasn't held at its end. If an
+/// argument of the first four is invalid, a line in `errors` says what is wrong, and the status is 2. A line in `errors` also explains
+/// `unreadable` and `memory`. The status is 3 too if a port can't be bound, if a clock can't be read at the start, or if a socket
+/// failed. Then a line in `errors` says which call of the system failed, for which address, and why. With `--forever` a line in `errors`
+/// reports a socket that failed, and only the hundredth failed turn in a row ends the command. Failures to write to `errors` are ignored.
 pub fn command_telling<M: Net + time::Clock + Files, S: AsStr, R: Read, W: Write, E: Write>(
     machine: &M,
     alloc: Global,
@@ -88,8 +86,8 @@ pub fn command_telling<M: Net + time::Clock + Files, S: AsStr, R: Read, W: Write
     status
 }
 
-/// Ends a program whose arguments could not be read, as [`command`] would: an argument that is no UTF-8 is wrong usage, status 2;
-/// any other error is 3, prints `device`, or 4, prints `memory`.
+/// Ends a program whose arguments could not be read, as [`command`] would: an argument that is not UTF-8 is wrong usage, with status 2;
+/// any other error prints `device`, with status 3, or `memory`, with status 4.
 pub fn command_without_words<W: Write>(alloc: Global, error: io::Error, writer: &mut W) -> u8
     ensures bound { result ≤ 4 }
     ensures usage { error_kind error ≡ InvalidData → (result ≡ 2) ⊎ (3 ≤ result) }

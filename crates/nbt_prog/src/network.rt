@@ -1,4 +1,4 @@
-//! The arguments of `serve` and `node`.
+//! Reads the arguments of `serve` and `node`.
 
 ghost use Rattle.std.specs.Prelude.{◌≡◌, ◌↔◌, IfOk, IfErr, IsSome, IfSome, codes};
 ghost use Rattle.nbt_name.specs.Wire.{IsStar};
@@ -21,8 +21,8 @@ use std::alloc::Global;
 use std::io;
 use std::io::Write;
 
-/// Reads the arguments of `serve`. A number out of its limits is wrong usage, and is found before an address that can't be
-/// read, of which a line in `errors` says so.
+/// Reads the arguments of `serve`. Refused, in this order: a number beyond its limits, which is wrong usage, and an address that can't be
+/// read, which a line in `errors` reports.
 pub fn serve_arguments<E: Write>(
     alloc: Global,
     texts: &ServeTexts<'_>,
@@ -41,7 +41,7 @@ pub fn serve_arguments<E: Write>(
     })
 }
 
-/// Reads the arguments of `node`, likewise. A name that begins with `*` can't be held, and so can't be read.
+/// Reads the arguments of `node`. Refused likewise, and last a name that can't be read or begins with `*`.
 pub fn node_arguments<E: Write>(
     alloc: Global,
     texts: &NodeTexts<'_>,
@@ -67,7 +67,7 @@ pub fn node_arguments<E: Write>(
     })
 }
 
-/// The limits of the server and its nodes.
+/// Reads the limits that a server and its nodes share.
 fn config(
     alloc: Global,
     command: LimitedCommand,
@@ -83,7 +83,7 @@ fn config(
     Ok(Config::new(life, longest, ROWS_MOST).unwrap())
 }
 
-/// How many turns; `None` where there is no end.
+/// Reads the number of turns; `None` for no limit.
 fn turns(alloc: Global, command: LimitedCommand, text: Option<&str>) -> Result<Option<u64>, Failure>
     ensures read { IfOk result (SpellsTurns text.entry) }
     ensures limits { IfOk result (λ _. AreTurns text.entry) }
@@ -95,7 +95,7 @@ fn turns(alloc: Global, command: LimitedCommand, text: Option<&str>) -> Result<O
     }
 }
 
-/// The address that a text spells.
+/// Reads an address.
 fn address_of<E: Write>(text: &str, errors: &mut E) -> Result<Addr, Failure>
     ensures read { IfOk result (SpellsAddress text.now) }
     ensures failure { IfErr result (λ failure. ¬ IsAddress text.now × (failure ≡ Failure.Unreadable)) }
@@ -103,7 +103,7 @@ fn address_of<E: Write>(text: &str, errors: &mut E) -> Result<Addr, Failure>
     Ok(nbt_offline::address_of(text, errors)?)
 }
 
-/// The name that a text spells, where it can be held.
+/// Reads a name that a node can hold.
 fn held_name_of<E: Write>(text: &str, errors: &mut E) -> Result<Name, Failure>
     ensures read { IfOk result (SpellsHeld text.now) }
     ensures failure { IfErr result (λ failure. ¬ IsHeld text.now × (failure ≡ Failure.Unreadable)) }
@@ -122,7 +122,7 @@ fn write_name<E: Write>(text: &str, errors: &mut E) -> io::Result<()> {
     errors.flush()
 }
 
-/// The name, where it can be read and doesn't begin with `*`.
+/// Reads a name that doesn't begin with `*`.
 fn name_to_hold(text: &str) -> Option<Name>
     ensures read { IfSome result (SpellsHeld text.now) }
     ensures found { IsHeld text.now → IsSome result }
@@ -133,7 +133,7 @@ fn name_to_hold(text: &str) -> Option<Name>
     }
 }
 
-/// The name, where it doesn't begin with `*`.
+/// Returns the name if it doesn't begin with `*`.
 fn without_star(name: Name) -> Option<Name>
     ensures found { IsSome result ↔ (¬ IsStar name) }
     ensures value { IfSome result (λ n. n ≡ name) }
@@ -144,7 +144,7 @@ fn without_star(name: Name) -> Option<Name>
     Some(name)
 }
 
-/// The kind that a KIND names, of which there are two.
+/// Returns the kind that KIND names: `group`, or else `unique`.
 fn kind_of(text: &str) -> Kind
     ensures { (result ≡ Group) ↔ (text.now ≡ codes "group") }
 {

@@ -1,10 +1,10 @@
-//! The numbers of a command line, each within the limits that the help says.
+//! Reads the numbers of a command line, each within the limits that the help states.
 
 ghost use Rattle.std.specs.Prelude.{◌≡◌, ◌≤◌, ◌↔◌, IfOk, IfErr, IsSome, IfSome};
 ghost use Rattle.nbt_args.specs.Limits.{least_of, most_of};
 ghost use Rattle.nbt_args.specs.declared.limits.LimitedArgument.TheVariants.{At, Port};
 ghost use Rattle.nbt_prog.specs.Inner.Failure.{UsageFails};
-ghost use Rattle.nbt_prog.specs.Numbers.{IsWithin, SpellsWithin};
+ghost use Rattle.nbt_prog.specs.Network.{IsWithin, SpellsWithin};
 
 use crate::failure::Failure;
 use nbt_args::{LimitedArgument, LimitedCommand, bad_value};
@@ -13,7 +13,7 @@ use nbt_loop::Ports;
 use nbt_text::parse_number;
 use std::alloc::Global;
 
-/// The time of `answer`, or the refusal of it.
+/// Reads the time of `answer`, in milliseconds.
 pub fn time_of(alloc: Global, text: &str) -> Result<Moment, Failure>
     ensures read { IfOk result (λ at. SpellsWithin At text.now at) }
     ensures failure { IfErr result (UsageFails (IsWithin At text.now)) }
@@ -22,7 +22,7 @@ pub fn time_of(alloc: Global, text: &str) -> Result<Moment, Failure>
     Ok(Moment::new(at).unwrap())
 }
 
-/// The ports of `loop`, or the refusal of the first of them.
+/// Reads the first of the three ports of `loop`.
 pub fn ports_of(alloc: Global, text: &str) -> Result<Ports, Failure>
     ensures read { IfOk result (λ ports. SpellsWithin Port text.now ports.names) }
     ensures failure { IfErr result (UsageFails (IsWithin Port text.now)) }
@@ -31,7 +31,7 @@ pub fn ports_of(alloc: Global, text: &str) -> Result<Ports, Failure>
     Ok(Ports::new(first).unwrap())
 }
 
-/// A number within its limits, or the refusal of it.
+/// Reads a number within its limits. Refused as wrong usage: anything else.
 pub fn number(
     alloc: Global,
     command: LimitedCommand,
@@ -47,7 +47,7 @@ pub fn number(
     }
 }
 
-/// Reads a number within its limits: digits alone, of which the first ones may be zeros.
+/// Reads a number within its limits, in digits alone; leading zeros are accepted.
 fn parse_within(limited: LimitedArgument, text: &str) -> Option<u64>
     ensures read { IfSome result (SpellsWithin limited text.now) }
     ensures found { IsWithin limited text.now → IsSome result }
@@ -58,7 +58,7 @@ fn parse_within(limited: LimitedArgument, text: &str) -> Option<u64>
     }
 }
 
-/// The number, where it is within its limits.
+/// Returns the number if it is within its limits.
 fn within(limited: LimitedArgument, number: u64) -> Option<u64>
     ensures found { IsSome result ↔ ((least_of limited ≤ number) × (number ≤ most_of limited)) }
     ensures value { IfSome result (λ n. n ≡ number) }

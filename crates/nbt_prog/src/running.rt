@@ -1,4 +1,4 @@
-//! A command line without a machine: the commands that open no socket.
+//! Runs a command line without a machine: the commands that open no socket.
 
 ghost use Rattle.std.specs.Prelude.{◌≡◌, ◌≢◌, ◌≤◌, ◌⊎◌, IfOk, IfErr, codes};
 ghost use Rattle.std.specs.String.{string_bytes};
@@ -12,15 +12,15 @@ use crate::concluding::conclude;
 use crate::failure::Failure;
 use crate::network::{node_arguments, serve_arguments};
 use crate::numbers::{ports_of, time_of};
-use nbt_args::{AdminLine, AnswerTexts, CommandLine, ShowTexts};
+use nbt_args::{AnswerTexts, CommandLine, ShowTexts};
 use nbt_engine::Fault;
 use nbt_offline::Printed;
 use std::alloc::Global;
 use std::io::{Read, Write};
 
-/// Runs a command line without a machine, and returns the exit status. All that is printed goes to `writer`, at once; a line in `errors` says why
-/// something can't be read, or what is wrong with an argument of a command for people who run a network. What can't be written there is passed
-/// over. The statuses are those of [`command`](crate::command).
+/// Runs a command line without a machine, and returns the exit status. All output goes to `writer`, at once. A line in `errors` says why
+/// something can't be read, or which argument of a command for people who run a network is invalid. Failures to write it are ignored.
+/// The statuses are those of [`command`](crate::command).
 pub fn run<R: Read, W: Write, E: Write>(
     alloc: Global,
     line: &CommandLine<'_>,
@@ -37,7 +37,7 @@ pub fn run<R: Read, W: Write, E: Write>(
     conclude(outcome, writer)
 }
 
-/// The whole output of a command.
+/// Runs a command up to its whole output, which is not printed yet.
 fn outcome_of<R: Read, E: Write>(
     alloc: Global,
     line: &CommandLine<'_>,
@@ -54,7 +54,10 @@ fn outcome_of<R: Read, E: Write>(
         CommandLine::Check => Ok(nbt_offline::check(alloc, reader, errors)?),
         CommandLine::Sim => Ok(nbt_offline::sim(alloc, reader, errors)?),
         CommandLine::Draw => Ok(nbt_offline::draw(alloc, reader, errors)?),
-        _ => Err(without_machine(alloc, line, errors)),
+        _ => {
+            check_arguments(alloc, line, errors)?;
+            Err(Failure::Fault(Fault::Device))
+        }
     }
 }
 
@@ -88,16 +91,7 @@ fn show<R: Read, E: Write>(
     }
 }
 
-/// Why a command that needs a machine isn't done: what is wrong with its arguments, or else that there is no device.
-fn without_machine<E: Write>(alloc: Global, line: &CommandLine<'_>, errors: &mut E) -> Failure
-    ensures { failure_status result ≢ 0 }
-{
-    match check_arguments(alloc, line, errors) {
-        Ok(()) => Failure::Fault(Fault::Device),
-        Err(failure) => failure,
-    }
-}
-
+/// Reads the arguments of a command that needs a machine.
 fn check_arguments<E: Write>(
     alloc: Global,
     line: &CommandLine<'_>,
@@ -106,7 +100,11 @@ fn check_arguments<E: Write>(
     ensures { IfErr result (λ failure. failure_status failure ≢ 0) }
 {
     match line {
-        CommandLine::Admin(line) => check_admin(alloc, line, errors)?,
+        CommandLine::Admin(line) => {
+            if let Err(failure) = nbt_admin::check(alloc, line) {
+                return Err(reported(alloc, failure, errors));
+            }
+        }
         CommandLine::Serve(texts) => {
             serve_arguments(alloc, texts, errors)?;
         }
@@ -121,16 +119,7 @@ fn check_arguments<E: Write>(
     Ok(())
 }
 
-fn check_admin<E: Write>(alloc: Global, line: &AdminLine<'_>, errors: &mut E) -> Result<(), Failure>
-    ensures { IfErr result (λ failure. failure_status failure ≢ 0) }
-{
-    match nbt_admin::check(alloc, line) {
-        Ok(()) => Ok(()),
-        Err(failure) => Err(reported(alloc, failure, errors)),
-    }
-}
-
-/// The failure of a command for people who run a network. A line in `errors` says what is wrong with an argument.
+/// Converts the failure of a command for people who run a network. A line in `errors` reports an invalid argument.
 pub fn reported<E: Write>(alloc: Global, failure: nbt_admin::Failure, errors: &mut E) -> Failure
     ensures { 2 ≤ failure_status result }
 {

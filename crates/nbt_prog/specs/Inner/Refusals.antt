@@ -1,14 +1,15 @@
 -- Which failure says what is wrong with the arguments of `serve` and `node`.
-use Rattle.std.specs.Prelude.{◌≡◌, ◌⊎◌, ℕ, List, Option, Some, None}
+use Rattle.std.specs.Prelude.{◌≡◌, ◌≢◌, ◌≤◌, ◌⊎◌, ℕ, List, Option, Some, None}
 use Rattle.std.specs.Borrow.{Bor}
 use Rattle.nbt_name.specs.Wire.{NameValue}
 use Rattle.nbt_args.specs.declared.limits.LimitedArgument.TheVariants.{Life, Longest, Ttl, Turns}
+use Rattle.nbt_args.specs.declared.texts.CommandLine.{CommandLine}
+use Rattle.nbt_args.specs.declared.texts.CommandLine.TheVariants as line
 use Rattle.nbt_args.specs.declared.texts.NodeTexts.{NodeTexts}
 use Rattle.nbt_args.specs.declared.texts.ServeTexts.{ServeTexts}
 use Rattle.nbt_offline.specs.Texts.{IsAddress}
 use Rattle.nbt_prog.specs.Inner.Failure.{failure_status, out_of_memory}
-use Rattle.nbt_prog.specs.Network.{SpellsHeld}
-use Rattle.nbt_prog.specs.Numbers.{IsWithin}
+use Rattle.nbt_prog.specs.Network.{SpellsHeld, IsWithin}
 use Rattle.nbt_prog.specs.declared.failure.Failure.{Failure}
 use Rattle.nbt_prog.specs.declared.failure.Failure.TheVariants.{Unreadable}
 
@@ -44,3 +45,11 @@ abbrev pub NodeFails : NodeTexts → Failure → Type 0
 NodeFails texts failure = (failure ≡ out_of_memory)
     ⊎ ((¬ NodeNumbers texts × (failure_status failure ≡ 2))
     ⊎ (NodeNumbers texts × ¬ AreNodeTexts texts × (failure ≡ Unreadable)))
+
+-- how a command line fails on a machine: those that open no socket end by themselves
+abbrev pub FailsOn : CommandLine → Failure → Type 0
+FailsOn (line.Admin l) failure = 2 ≤ failure_status failure
+FailsOn (line.Serve texts) failure = failure_status failure ≢ 0
+FailsOn (line.Node texts) failure = failure_status failure ≢ 0
+FailsOn (line.Loop port) failure = Unit {0}
+FailsOn _ failure = ⊥
