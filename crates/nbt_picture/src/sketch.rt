@@ -90,6 +90,47 @@ impl Sketch {
         self.forget_ended();
     }
 
+    /// The server resumes at the last row: it is up, and its silence and its leases go on where they aren't over.
+    pub fn resume(&mut self, world: &World) -> Result<(), AllocError> {
+        let now = world.reading(0).get();
+        let over = self.last_silence();
+        if over > now {
+            self.open_span(nameless(0, Sort::Silence, over))?;
+        }
+        self.open_span(nameless(0, Sort::Up, 0))?;
+        for place in 0..self.chart.spans.len() {
+            if let Some(lease) = self.lease_again(place, world) {
+                self.go_on_as(lease)?;
+            }
+        }
+        Ok(())
+    }
+
+    /// When the server's last silence is over, by its own clock; 0 where there was none.
+    fn last_silence(&self) -> u64 {
+        let mut over = 0;
+        for span in self.chart.spans.iter() {
+            if span.sort == Sort::Silence {
+                over = span.over;
+            }
+        }
+        over
+    }
+
+    /// The lease of the name and the machine of an earlier span, where the server has it still.
+    fn lease_again(&self, place: usize, world: &World) -> Option<Span> {
+        let span = self.chart.spans.as_slice().get(place)?;
+        if span.sort != Sort::Lease {
+            return None;
+        }
+        let name = self.chart.names.as_slice().get(span.name)?;
+        let lease = claim_of(world, 0, name, span.addr)?;
+        Some(Span {
+            name: span.name,
+            ..lease
+        })
+    }
+
     /// Looks at a name beside a column, as it is after the last row: what is held or leased of it no more ends there, and
     /// what was not yet begins there. Of leases that begin, it looks for that of this 32-bit address.
     pub fn look(
@@ -127,10 +168,14 @@ impl Sketch {
         let Some(number) = self.chart.place_of(name)? else {
             return Ok(());
         };
-        let claim = Span {
+        self.go_on_as(Span {
             name: number,
             ..claim
-        };
+        })
+    }
+
+    /// A hold or a lease begins at the last row, or goes on.
+    fn go_on_as(&mut self, claim: Span) -> Result<(), AllocError> {
         for place in self.open.iter() {
             if let Some(span) = self.chart.spans.as_mut_slice().get_mut(*place) {
                 if is_same(span, &claim) {

@@ -123,6 +123,7 @@ impl Sketch {
                 self.stop(*number);
                 Ok(())
             }
+            Event::Resume if outcome == Outcome::Done => self.resume(world),
             Event::Release { node, name } => self.look(world, *node, name, 0),
             Event::Deliver(number) if outcome != Outcome::Nobody => {
                 if let Some(flight) = self.chart.flights.as_mut_slice().get_mut(*number) {
@@ -137,6 +138,7 @@ impl Sketch {
                 }
             }
             Event::Stranger { to, octets, .. } => self.look_at(world, *to, octets.as_slice()),
+            Event::Beside { to, octets, .. } => self.look_at(world, *to, octets.as_slice()),
             _ => Ok(()),
         }
     }
@@ -158,7 +160,7 @@ fn went_well(outcome: Outcome) -> bool {
 /// The endpoint that an event is about; 0 where it is about none.
 fn column_of(event: &Event, chart: &Chart) -> usize {
     match event {
-        Event::Tick(_) | Event::Advance { .. } => 0,
+        Event::Tick(_) | Event::Advance { .. } | Event::Resume => 0,
         Event::Start(number) | Event::Crash(number) | Event::Poll(number) => *number,
         Event::Ask { node, .. } | Event::Release { node, .. } => *node,
         Event::Resolve { node, .. } | Event::NameStatus { node, .. } => *node,
@@ -166,7 +168,7 @@ fn column_of(event: &Event, chart: &Chart) -> usize {
             Some(flight) => flight.to.unwrap_or(0),
             None => 0,
         },
-        Event::Stranger { to, .. } => *to,
+        Event::Stranger { to, .. } | Event::Beside { to, .. } => *to,
     }
 }
 
@@ -175,12 +177,12 @@ fn sign_of(event: &Event, outcome: Outcome) -> Sign {
     match event {
         Event::Crash(_) if outcome == Outcome::Done => Sign::Crash,
         Event::Deliver(number) => sign_of_coming(Some(*number), outcome),
-        Event::Stranger { .. } => sign_of_coming(None, outcome),
+        Event::Stranger { .. } | Event::Beside { .. } => sign_of_coming(None, outcome),
         _ => Sign::Mark,
     }
 }
 
-/// What stands in the row of a datagram that comes, by its number, or from an unknown sender.
+/// What stands in the row of a datagram that comes, by its number, or from outside of the network.
 fn sign_of_coming(number: Option<usize>, outcome: Outcome) -> Sign {
     match outcome {
         Outcome::Nobody => Sign::Note,
@@ -201,6 +203,7 @@ fn write_event(
         Event::Tick(_) | Event::Advance { .. } => Ok(()),
         Event::Start(_) => words.push_str("start"),
         Event::Crash(_) => words.push_str("crash"),
+        Event::Resume => words.push_str("resume"),
         Event::Ask {
             name,
             kind,
@@ -216,10 +219,11 @@ fn write_event(
             _ => write!(words, "deliver {number}"),
         },
         Event::Stranger { from, octets, .. } => write_coming(*from, octets.as_slice(), words),
+        Event::Beside { from, octets, .. } => write_coming(*from, octets.as_slice(), words),
     }
 }
 
-/// Appends an unknown sender's address, and what its datagram says.
+/// Appends the address that a datagram came from, and what it says.
 fn write_coming(from: Addr, octets: &[u8], words: &mut String) -> Result<(), AllocError> {
     write_address(from, words)?;
     words.push_str(": ")?;

@@ -7,13 +7,11 @@ use Rattle.nbt_lease.specs.Config.{ConfigValue, IsConfig, config_of}
 use Rattle.nbt_text.specs.Address.{SpellsAddress}
 use Rattle.nbt_text.specs.Lines.{SpellsOctets}
 use Rattle.nbt_text.specs.Number.{SpellsNumber}
-use Rattle.nbt_world.specs.declared.event.Event.TheVariants.{Stranger}
 use Rattle.nbt_sim.specs.declared.instruction.Instruction.{Instruction}
-use Rattle.nbt_sim.specs.declared.instruction.Instruction.TheVariants.{Happens, Kept}
+use Rattle.nbt_sim.specs.declared.instruction.Instruction.TheVariants.{Kept}
 use Rattle.nbt_sim.specs.declared.verb.Verb.{Verb}
-use Rattle.nbt_sim.specs.declared.verb.Verb.TheVariants as verbs
 use Rattle.nbt_sim.specs.Arguments.{NoMore, Then, SpellsWorld, first, second, third, fourth}
-use Rattle.nbt_sim.specs.Line.{Makes, Says, says, SaysOf}
+use Rattle.nbt_sim.specs.Line.{Makes, Says, says, SaysOf, SpellsComing}
 use Rattle.nbt_sim.specs.Words.{SpellsEnd, verb_word}
 
 abbrev Reads : (A : Type 0) → Option A → (A → Type 0) → Type 0
@@ -72,11 +70,11 @@ module _ (ws : List (List ℕ)) (found : Option Four) (reads : Reads Four found 
         let is = rw same at s.world_is in cc,
   )
 
--- ---- datagrams of strangers
+-- ---- datagrams from outside
 
-pub stranger_read : (ws : List (List ℕ)) (a b c : List ℕ) (froms : Option Addr) (from : Addr) (tos : Option ℕ) (to : ℕ) (octets : Vec ℕ) → ws ≡ a ∷ b ∷ c ∷ [] → Reads Addr froms (SpellsAddress a) → froms ≡ Some from
-    → Reads ℕ tos (SpellsEnd b) → tos ≡ Some to → SpellsOctets c octets.items → SaysOf verbs.Stranger ws (Happens (Stranger from to octets))
-stranger_read ws a b c froms from tos to octets whole r0 s0 r1 s1 o = record {
+pub coming_read : (make : Addr × (ℕ × (Vec ℕ × Unit {0})) → Instruction) (ws : List (List ℕ)) (a b c : List ℕ) (froms : Option Addr) (from : Addr) (tos : Option ℕ) (to : ℕ) (octets : Vec ℕ) → ws ≡ a ∷ b ∷ c ∷ [] → Reads Addr froms (SpellsAddress a) → froms ≡ Some from
+    → Reads ℕ tos (SpellsEnd b) → tos ≡ Some to → SpellsOctets c octets.items → Makes SpellsComing make ws (make (from, (to, (octets, tt))))
+coming_read make ws a b c froms from tos to octets whole r0 s0 r1 s1 o = record {
   values = (from, (to, (octets, tt)));
   spelled = record { word = a; rest = b ∷ c ∷ []; words_are = whole; one = (r0 from).0 s0; others = record { word = b; rest = c ∷ []; words_are = refl; one = (r1 to).0 s1; others = record { word = c; rest = []; words_are = refl; one = o; others = refl } } };
   instruction_is = refl;

@@ -1,5 +1,6 @@
 -- Where a tick leads, and whose fault a refusal is.
 use Rattle.std.proofs.Common.{◌≡◌, ◌∙◌, ℕ, ◌+◌, ◌-◌, ◌^◌, ◌≤◌, List, Some, None, refl, ap, subst, arith, min}
+use Rattle.std.proofs.lemmas.Option.{none-some}
 use Rattle.nbt_node.specs.Node.{NodeValue}
 use Rattle.nbt_node.specs.Numbers.{ask_fault_number, ask_fault_word, release_fault_number, release_fault_word, lookup_fault_number, lookup_fault_word}
 use Rattle.nbt_world.specs.World.{WorldValue}
@@ -11,6 +12,8 @@ use Rattle.nbt_world.specs.Step.{
   starts_nothing,
   crashes,
   crashes_nothing,
+  resumes,
+  resumes_nothing,
   node_does,
   node_is_down,
   no_datagram,
@@ -20,6 +23,10 @@ use Rattle.nbt_world.specs.Step.{
   from_an_end,
   to_no_end,
   from_a_stranger,
+  beside_no_end,
+  beside_moves,
+  beside_to_no_end,
+  from_beside,
   outcome_of,
   outcome_of_taking,
   CallOutcomeValue,
@@ -50,51 +57,27 @@ use Rattle.nbt_sim.specs.Script.{NamesRefusal, of_ask, of_release, of_resolve, o
 
 -- ---- the moment
 
-ticked_to : (old new : WorldValue) (event : Event) (outcome : Outcome) (ms : ℕ) → Step old event outcome new → event ≡ Tick ms → (outcome ≡ Done) × (new.now.clock ≡ min (old.now.clock + ms) (2 ^ 60))
-ticked_to old _ _ _ ms (ticks n v adv) e = let same : n ≡ ms = cc in (refl, adv.now ∙ ap (λ (x : ℕ). min (old.now.clock + x) (2 ^ 60)) same)
-ticked_to old _ _ _ ms (advances n readings v adv) e = absurd cc
-ticked_to old _ _ _ ms (starts number ends s) e = absurd cc
-ticked_to old _ _ _ ms (starts_nothing number s) e = absurd cc
-ticked_to old _ _ _ ms (crashes number ends s) e = absurd cc
-ticked_to old _ _ _ ms (crashes_nothing number s) e = absurd cc
-ticked_to old _ _ _ ms (node_does event number node new given p q d) e = let bad = rw e at p in absurd cc
-ticked_to old _ _ _ ms (node_is_down event number p q) e = let bad = rw e at p in absurd cc
-ticked_to old _ _ _ ms (no_datagram k p) e = absurd cc
-ticked_to old _ _ _ ms (no_end k d p q) e = absurd cc
-ticked_to old _ _ _ ms (too_late k d number p q r) e = absurd cc
-ticked_to old _ _ _ ms (delivered k d number taken ends p q r s) e = absurd cc
-ticked_to old _ _ _ ms (from_an_end from number octets p) e = absurd cc
-ticked_to old _ _ _ ms (to_no_end from number octets p) e = absurd cc
-ticked_to old _ _ _ ms (from_a_stranger from addr number octets taken ends p q r) e = absurd cc
+ticked_to : {old new : WorldValue} {outcome : Outcome} {ms : ℕ} → Step old (Tick ms) outcome new → (outcome ≡ Done) × (new.now.clock ≡ min (old.now.clock + ms) (2 ^ 60))
+ticked_to (ticks ms v adv) = (refl, adv.now)
+ticked_to (node_does event number node new given own up does) = absurd (none-some number own)
+ticked_to (node_is_down event number own down) = absurd (none-some number own)
 
-drifts_done : (old new : WorldValue) (event : Event) (outcome : Outcome) (ms : ℕ) (readings : List ℕ) → Step old event outcome new → event ≡ Advance ms readings → outcome ≡ Done
-drifts_done old _ _ _ ms readings (ticks n v adv) e = absurd cc
-drifts_done old _ _ _ ms readings (advances n moves v adv) e = refl
-drifts_done old _ _ _ ms readings (starts number ends s) e = absurd cc
-drifts_done old _ _ _ ms readings (starts_nothing number s) e = absurd cc
-drifts_done old _ _ _ ms readings (crashes number ends s) e = absurd cc
-drifts_done old _ _ _ ms readings (crashes_nothing number s) e = absurd cc
-drifts_done old _ _ _ ms readings (node_does event number node new given p q d) e = let bad = rw e at p in absurd cc
-drifts_done old _ _ _ ms readings (node_is_down event number p q) e = let bad = rw e at p in absurd cc
-drifts_done old _ _ _ ms readings (no_datagram k p) e = absurd cc
-drifts_done old _ _ _ ms readings (no_end k d p q) e = absurd cc
-drifts_done old _ _ _ ms readings (too_late k d number p q r) e = absurd cc
-drifts_done old _ _ _ ms readings (delivered k d number taken ends p q r s) e = absurd cc
-drifts_done old _ _ _ ms readings (from_an_end from number octets p) e = absurd cc
-drifts_done old _ _ _ ms readings (to_no_end from number octets p) e = absurd cc
-drifts_done old _ _ _ ms readings (from_a_stranger from addr number octets taken ends p q r) e = absurd cc
+drifts_done : {old new : WorldValue} {outcome : Outcome} {ms : ℕ} {readings : List ℕ} → Step old (Advance ms readings) outcome new → outcome ≡ Done
+drifts_done (advances ms readings v adv) = refl
+drifts_done (node_does event number node new given own up does) = absurd (none-some number own)
+drifts_done (node_is_down event number own down) = absurd (none-some number own)
 
 -- the clocks go on, each by its own number
 pub drifts_to : (old new : WorldValue) (outcome : Outcome) (ms : ℕ) (readings entries : List ℕ) → Step old (Advance ms readings) outcome new → readings ≡ entries → Step old (Advance ms entries) Done new
 drifts_to old new outcome ms readings entries s same =
-    let t = subst (λ (x : Outcome). Step old (Advance ms readings) x new) (drifts_done old new (Advance ms readings) outcome ms readings s refl) s in
+    let t = subst (λ (x : Outcome). Step old (Advance ms readings) x new) (drifts_done s) s in
     subst (λ (x : List ℕ). Step old (Advance ms x) Done new) same t
 
 -- the clock goes on to a moment
 pub goes_to : (old new : WorldValue) (outcome : Outcome) (moment : ℕ) → Step old (Tick (moment - old.now.clock)) outcome new → old.now.clock ≤ moment → moment ≤ 2 ^ 60
     → Step old (Tick (moment - old.now.clock)) Done new × (new.now.clock ≡ moment)
 goes_to old new outcome moment s later fits =
-    let t = ticked_to old new (Tick (moment - old.now.clock)) outcome (moment - old.now.clock) s refl in
+    let t = ticked_to s in
     (subst (λ (x : Outcome). Step old (Tick (moment - old.now.clock)) x new) t.0 s, t.1 ∙ omega arith)
 
 -- ---- refusals
@@ -129,6 +112,8 @@ refusal_named old _ _ _ n (starts number ends s) e = absurd cc
 refusal_named old _ _ _ n (starts_nothing number s) e = absurd cc
 refusal_named old _ _ _ n (crashes number ends s) e = absurd cc
 refusal_named old _ _ _ n (crashes_nothing number s) e = absurd cc
+refusal_named old _ _ _ n (resumes ends s) e = absurd cc
+refusal_named old _ _ _ n (resumes_nothing s) e = absurd cc
 refusal_named old _ _ _ n (node_does event number node new given p q d) e = does_named node new _ event given n d (outcome_refused old given n e)
 refusal_named old _ _ _ n (node_is_down event number p q) e = absurd cc
 refusal_named old _ _ _ n (no_datagram k p) e = absurd cc
@@ -138,3 +123,7 @@ refusal_named old _ _ _ n (delivered k d number taken ends p q r s) e = absurd (
 refusal_named old _ _ _ n (from_an_end from number octets p) e = absurd cc
 refusal_named old _ _ _ n (to_no_end from number octets p) e = absurd cc
 refusal_named old _ _ _ n (from_a_stranger from addr number octets taken ends p q r) e = absurd (taking_never old taken n e)
+refusal_named old _ _ _ n (beside_no_end from number octets p) e = absurd cc
+refusal_named old _ _ _ n (beside_moves from number octets p) e = absurd cc
+refusal_named old _ _ _ n (beside_to_no_end from number octets p) e = absurd cc
+refusal_named old _ _ _ n (from_beside from addr number octets taken ends p q r t) e = absurd (taking_never old taken n e)

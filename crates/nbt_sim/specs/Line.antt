@@ -1,6 +1,7 @@
 -- What a line of a script says (our profile).
 use Rattle.std.specs.Prelude.{◌≡◌, ℕ, List, ◌∷◌}
 use Rattle.std.specs.Global.{Vec}
+use Rattle.nbt_name.specs.declared.addr.Addr.{Addr}
 use Rattle.nbt_text.specs.Address.{SpellsAddress}
 use Rattle.nbt_text.specs.NameText.{SpellsName}
 use Rattle.nbt_text.specs.Number.{SpellsNumber}
@@ -11,9 +12,9 @@ use Rattle.nbt_sim.specs.declared.instruction.Line.{Line}
 use Rattle.nbt_sim.specs.declared.instruction.Line.TheVariants as line
 use Rattle.nbt_sim.specs.declared.instruction.Instruction.TheVariants as instruction
 use Rattle.nbt_sim.specs.declared.verb.Verb.{Verb}
-use Rattle.nbt_sim.specs.declared.verb.Verb.TheVariants.{Config, At, Advance, Start, Crash, Ask, Release, Resolve, Status, Poll, Deliver, Stranger, Holders, Kept}
+use Rattle.nbt_sim.specs.declared.verb.Verb.TheVariants.{Config, At, Advance, Start, Crash, Resume, Ask, Release, Resolve, Status, Poll, Deliver, Stranger, Beside, Holders, Kept}
 use Rattle.nbt_sim.specs.Arguments.{NoMore, Then, SpellsWorld, SpellsMoves, first, second, third, fourth}
-use Rattle.nbt_sim.specs.Words.{verb_word, SpellsNode, SpellsEnd, SpellsKind, SpellsSeconds, SpellsMoment}
+use Rattle.nbt_sim.specs.Words.{verb_word, SpellsNode, SpellsServer, SpellsEnd, SpellsKind, SpellsSeconds, SpellsMoment}
 
 -- The words spell values, of which an instruction is made.
 pub record Makes {A : Type 0} (Spell : List (List ℕ) → A → Type 0) (make : A → Instruction) (words : List (List ℕ)) (i : Instruction) : Type 0 where
@@ -25,23 +26,29 @@ pub record Makes {A : Type 0} (Spell : List (List ℕ) → A → Type 0) (make :
 abbrev pub SpellsDatagram : List ℕ → Vec ℕ → Type 0
 SpellsDatagram word octets = SpellsOctets word octets.items
 
+-- ADDRESS E HEX: where a datagram comes from, the end that it is for, and its octets
+abbrev pub SpellsComing : List (List ℕ) → Addr × (ℕ × (Vec ℕ × Unit {0})) → Type 0
+SpellsComing = Then SpellsAddress (Then SpellsEnd (Then SpellsDatagram NoMore))
+
 -- What the words after a verb say, in their order: `config LIFE LONGEST ROWS NODES`, `at MS`, `advance MS S N1 ..`, where
--- MS is of the true clock, S of the server's, and the others are of the nodes', `start E`, `crash E`,
+-- MS is of the true clock, S of the server's, and the others are of the nodes', `start E`, `crash E`, `resume s`,
 -- `ask NODE NAME KIND TTL`, `release NODE NAME`, `resolve NODE NAME`, `status NODE ADDRESS NAME`, `poll NODE`,
--- `deliver K`, `stranger ADDRESS E HEX`, `holders NAME`, `kept`.
+-- `deliver K`, `stranger ADDRESS E HEX`, `beside ADDRESS E HEX`, `holders NAME`, `kept`.
 abbrev pub SaysOf : Verb → List (List ℕ) → Instruction → Type 0
 SaysOf Config = Makes SpellsWorld (λ v. instruction.Config v.0 v.1)
 SaysOf At = Makes (Then SpellsMoment NoMore) (λ v. instruction.At (first v))
 SaysOf Advance = Makes (Then SpellsNumber SpellsMoves) (λ v. instruction.Advance v.0 v.1)
 SaysOf Start = Makes (Then SpellsEnd NoMore) (λ v. instruction.Happens (event.Start (first v)))
 SaysOf Crash = Makes (Then SpellsEnd NoMore) (λ v. instruction.Happens (event.Crash (first v)))
+SaysOf Resume = Makes (Then SpellsServer NoMore) (λ v. instruction.Happens event.Resume)
 SaysOf Ask = Makes (Then SpellsNode (Then SpellsName (Then SpellsKind (Then SpellsSeconds NoMore)))) (λ v. instruction.Happens (event.Ask (first v) (second v) (third v) (fourth v)))
 SaysOf Release = Makes (Then SpellsNode (Then SpellsName NoMore)) (λ v. instruction.Happens (event.Release (first v) (second v)))
 SaysOf Resolve = Makes (Then SpellsNode (Then SpellsName NoMore)) (λ v. instruction.Happens (event.Resolve (first v) (second v)))
 SaysOf Status = Makes (Then SpellsNode (Then SpellsAddress (Then SpellsName NoMore))) (λ v. instruction.Happens (event.NameStatus (first v) (second v) (third v)))
 SaysOf Poll = Makes (Then SpellsNode NoMore) (λ v. instruction.Happens (event.Poll (first v)))
 SaysOf Deliver = Makes (Then SpellsNumber NoMore) (λ v. instruction.Happens (event.Deliver (first v)))
-SaysOf Stranger = Makes (Then SpellsAddress (Then SpellsEnd (Then SpellsDatagram NoMore))) (λ v. instruction.Happens (event.Stranger (first v) (second v) (third v)))
+SaysOf Stranger = Makes SpellsComing (λ v. instruction.Happens (event.Stranger (first v) (second v) (third v)))
+SaysOf Beside = Makes SpellsComing (λ v. instruction.Happens (event.Beside (first v) (second v) (third v)))
 SaysOf Holders = Makes (Then SpellsName NoMore) (λ v. instruction.Holders (first v))
 SaysOf Kept = Makes NoMore (λ v. instruction.Kept)
 

@@ -6,7 +6,7 @@ use Rattle.nbt_name.specs.declared.addr.Kind.TheVariants.{Unique, Group}
 use Rattle.nbt_lease.specs.Config.{last_moment}
 use Rattle.nbt_text.specs.Number.{SpellsNumber}
 use Rattle.nbt_sim.specs.declared.verb.Verb.{Verb}
-use Rattle.nbt_sim.specs.declared.verb.Verb.TheVariants.{Config, At, Advance, Start, Crash, Ask, Release, Resolve, Status, Poll, Deliver, Stranger, Holders, Kept}
+use Rattle.nbt_sim.specs.declared.verb.Verb.TheVariants.{Config, At, Advance, Start, Crash, Resume, Ask, Release, Resolve, Status, Poll, Deliver, Stranger, Beside, Holders, Kept}
 
 -- ---- the words of a line
 
@@ -17,6 +17,7 @@ verb_word At = codes "at"
 verb_word Advance = codes "advance"
 verb_word Start = codes "start"
 verb_word Crash = codes "crash"
+verb_word Resume = codes "resume"
 verb_word Ask = codes "ask"
 verb_word Release = codes "release"
 verb_word Resolve = codes "resolve"
@@ -24,6 +25,7 @@ verb_word Status = codes "status"
 verb_word Poll = codes "poll"
 verb_word Deliver = codes "deliver"
 verb_word Stranger = codes "stranger"
+verb_word Beside = codes "beside"
 verb_word Holders = codes "holders"
 verb_word Kept = codes "kept"
 
@@ -32,6 +34,9 @@ pub record SpellsNode (word : List ℕ) (number : ℕ) : Type 0 where
   pub some : 1 ≤ number
   pub few : number ≤ 8
   pub word_is : word ≡ codes "n" ++ decimal number
+
+abbrev pub SpellsServer : List ℕ → Unit {0} → Type 0
+SpellsServer word _ = word ≡ codes "s"
 
 -- an end is the server, whose number is 0, or a node
 pub data SpellsEnd : List ℕ → ℕ → Type 0 where

@@ -10,7 +10,7 @@ ghost use Rattle.nbt_sim.specs.Line.{LineIs};
 
 use crate::argument::{Argument, Arguments};
 use crate::verb::{Verb, verb_of};
-use crate::words::{End, Moves, NewWorld, Node, Seconds};
+use crate::words::{End, Moves, NewWorld, Node, Seconds, TheServer};
 use arrayvec::ArrayVec;
 use nbt_lease::{Config, Moment};
 use nbt_name::{Addr, Kind, Name};
@@ -77,13 +77,15 @@ fn instruction_of(alloc: Global, words: &[&[u8]]) -> Result<Option<Instruction>,
     };
     match verb {
         Verb::Stranger => stranger_of(alloc, rest),
+        Verb::Beside => beside_of(alloc, rest),
         _ => Ok(arguments_of(verb, rest)),
     }
 }
 
-/// What the words after the verb say; nothing after `stranger`.
+/// What the words after a verb say that is about no datagram from outside.
 fn arguments_of(verb: Verb, words: &[&[u8]]) -> Option<Instruction>
-    requires { ¬ (verb ≡ verbs.Stranger) }
+    requires stranger { ¬ (verb ≡ verbs.Stranger) }
+    requires beside { ¬ (verb ≡ verbs.Beside) }
     ensures { (i : Instruction) → (result ≡ Some i) ↔ SaysOf verb (texts words.now) i }
 {
     match verb {
@@ -96,6 +98,7 @@ fn arguments_of(verb: Verb, words: &[&[u8]]) -> Option<Instruction>
         }),
         Verb::Start => <(End, ())>::read_all(words).map(|(end, ())| happens(Event::Start(end))),
         Verb::Crash => <(End, ())>::read_all(words).map(|(end, ())| happens(Event::Crash(end))),
+        Verb::Resume => <(TheServer, ())>::read_all(words).map(|((), ())| happens(Event::Resume)),
         Verb::Ask => ask_of(words),
         Verb::Release => <(Node, (Name, ()))>::read_all(words).map(|(node, (name, ()))| {
             happens(Event::Release { node, name })
@@ -109,7 +112,7 @@ fn arguments_of(verb: Verb, words: &[&[u8]]) -> Option<Instruction>
         }
         Verb::Poll => <(Node, ())>::read_all(words).map(|(node, ())| happens(Event::Poll(node))),
         Verb::Deliver => <(usize, ())>::read_all(words).map(|(k, ())| happens(Event::Deliver(k))),
-        Verb::Stranger => unreachable!(),
+        Verb::Stranger | Verb::Beside => unreachable!(),
         Verb::Holders => <(Name, ())>::read_all(words).map(|(name, ())| Instruction::Holders(name)),
         Verb::Kept => <()>::read_all(words).map(|()| Instruction::Kept),
     }
@@ -137,7 +140,7 @@ fn happens(event: Event) -> Instruction
     Instruction::Happens(event)
 }
 
-/// `ADDRESS E HEX`.
+/// `ADDRESS E HEX` of an unknown sender.
 fn stranger_of(alloc: Global, words: &[&[u8]]) -> Result<Option<Instruction>, AllocError>
     ensures { IfOk result (λ found. MatchOption found ((i : Instruction) → ¬ SaysOf verbs.Stranger (texts words.now) i)
         (SaysOf verbs.Stranger (texts words.now))) }
@@ -153,6 +156,26 @@ fn stranger_of(alloc: Global, words: &[&[u8]]) -> Result<Option<Instruction>, Al
     };
     match octets_of(alloc, digits)? {
         Some(octets) => Ok(Some(Instruction::Happens(Event::Stranger { from, to, octets }))),
+        None => Ok(None),
+    }
+}
+
+/// `ADDRESS E HEX` of another program on an endpoint's machine.
+fn beside_of(alloc: Global, words: &[&[u8]]) -> Result<Option<Instruction>, AllocError>
+    ensures { IfOk result (λ found. MatchOption found ((i : Instruction) → ¬ SaysOf verbs.Beside (texts words.now) i)
+        (SaysOf verbs.Beside (texts words.now))) }
+{
+    let [from, to, digits] = words else {
+        return Ok(None);
+    };
+    let Some(from) = Addr::read(from) else {
+        return Ok(None);
+    };
+    let Some(to) = End::read(to) else {
+        return Ok(None);
+    };
+    match octets_of(alloc, digits)? {
+        Some(octets) => Ok(Some(Instruction::Happens(Event::Beside { from, to, octets }))),
         None => Ok(None),
     }
 }

@@ -17,6 +17,8 @@ pub enum Verb {
     Start,
     /// `crash`: an endpoint crashes.
     Crash,
+    /// `resume`: the server resumes after a crash.
+    Resume,
     /// `ask`: a node requests a name.
     Ask,
     /// `release`: a node releases a name.
@@ -31,6 +33,8 @@ pub enum Verb {
     Deliver,
     /// `stranger`: a datagram comes from an unknown sender, whose address is no endpoint's.
     Stranger,
+    /// `beside`: a datagram comes from another program on an endpoint's machine.
+    Beside,
     /// `holders`: who holds a name.
     Holders,
     /// `kept`: whether the clocks kept the drift bound.
@@ -47,6 +51,7 @@ pub fn verb_of(word: &[u8]) -> Option<Verb>
         b"advance" => Some(Verb::Advance),
         b"start" => Some(Verb::Start),
         b"crash" => Some(Verb::Crash),
+        b"resume" => Some(Verb::Resume),
         b"ask" => Some(Verb::Ask),
         b"release" => Some(Verb::Release),
         b"resolve" => Some(Verb::Resolve),
@@ -54,6 +59,7 @@ pub fn verb_of(word: &[u8]) -> Option<Verb>
         b"poll" => Some(Verb::Poll),
         b"deliver" => Some(Verb::Deliver),
         b"stranger" => Some(Verb::Stranger),
+        b"beside" => Some(Verb::Beside),
         b"holders" => Some(Verb::Holders),
         b"kept" => Some(Verb::Kept),
         _ => None,

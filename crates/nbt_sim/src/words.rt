@@ -47,6 +47,25 @@ impl Argument for Node {
     }
 }
 
+/// The server.
+pub struct TheServer;
+
+impl Argument for TheServer {
+    ghost use Rattle.nbt_sim.specs.Words.{SpellsServer};
+
+    type Value = ();
+
+    ghost spells = { SpellsServer };
+
+    fn read(word: &[u8]) -> Option<()> {
+        if word == b"s".as_slice() {
+            Some(())
+        } else {
+            None
+        }
+    }
+}
+
 /// An endpoint.
 pub struct End;
 

@@ -17,6 +17,9 @@ returns-in-Start c = λ i. rw c.in-Start.is (made _ _ _ c.read_all-in-Start.resu
 pub returns-in-Crash : goal.returns-in-Crash
 returns-in-Crash c = λ i. rw c.in-Crash.is (made _ _ _ c.read_all-in-Crash.result c.map-in-Crash.result _ i c.read_all-in-Crash.ensures c.map-in-Crash.ensures.cases (λ x r p. search rules))
 
+pub returns-in-Resume : goal.returns-in-Resume
+returns-in-Resume c = λ i. rw c.in-Resume.is (made _ _ _ c.read_all-in-Resume.result c.map-in-Resume.result _ i c.read_all-in-Resume.ensures c.map-in-Resume.ensures.cases (λ x r p. search rules))
+
 pub returns-in-Release : goal.returns-in-Release
 returns-in-Release c = λ i. rw c.in-Release.is (made _ _ _ c.read_all-in-Release.result c.map-in-Release.result _ i c.read_all-in-Release.ensures c.map-in-Release.ensures.cases (λ x r p. search rules))
 
