@@ -140,6 +140,7 @@ line. Blank lines and lines that begin with `#` are passed over. At most 1048576
   at MS                            the clock goes on to MS, at most 1152921504606846976
   advance MS S N1 ..               the true clock goes on by MS, the server's by S, and each node's by its own number
   start E, crash E                 E is `s`, the server, or `n1` to `n8`: prints `ok`, or `none` where it is so already
+  resume s                         the server is up with the leases that it had when it crashed: prints `ok`, or `none`
   ask nI NAME unique|group TTL     node I asks for a name for TTL seconds
   release nI NAME                  node I gives it back
   resolve nI NAME                  node I asks the server who holds it
@@ -147,6 +148,7 @@ line. Blank lines and lines that begin with `#` are passed over. At most 1048576
   poll nI                          node I sends what is due
   deliver K                        datagram K is delivered, once more if it was before
   stranger ADDRESS E HEX           HEX comes to E from ADDRESS, which is no end's; empty HEX is `-`
+  beside ADDRESS E HEX             HEX comes to E from ADDRESS, another program's on an end's machine
   holders NAME                     who holds a name: prints `holders FRED: n1 unique`, or `holders FRED: none`
   kept                             prints `kept` where each end's clock kept within one part in a thousand and a millisecond
                                    of the true one so far, and `broken` where one didn't
