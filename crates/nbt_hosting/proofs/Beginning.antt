@@ -9,7 +9,7 @@ use Rattle.nbt_host.specs.Goals.{fresh}
 use Rattle.nbt_hosting.specs.Begin.{begin_text}
 use Rattle.nbt_hosting.specs.Host.{HostingValue, Running, Starts, first_host}
 use Rattle.nbt_hosting.specs.Running.{Begins}
-use Rattle.nbt_hosting.specs.Until.{until_of}
+use Rattle.nbt_net.specs.Until.{until_of}
 use Rattle.nbt_hosting.specs.declared.arguments.HostArguments.{HostArguments}
 
 pub if_ok : {A E : Type 0} (P Q : A → Type 0) (r : Result A E) → IfOk r P → ((a : A) → P a → Q a) → IfOk r Q

@@ -1,7 +1,6 @@
 pub mod Begin
 pub mod Events
 pub mod Telling
-pub mod Until
 pub mod Host
 pub mod Turning
 pub mod Staying

@@ -11,7 +11,7 @@ use Rattle.nbt_hosting.specs.Begin.{begin_text}
 use Rattle.nbt_hosting.specs.Host.{HostingValue, Running, Starts}
 use Rattle.nbt_hosting.specs.Staying.{HostsUntil, HostingFails}
 use Rattle.nbt_hosting.specs.Ending.{GivesBack, GivingBackFails}
-use Rattle.nbt_hosting.specs.Until.{until_of}
+use Rattle.nbt_net.specs.Until.{until_of}
 use Rattle.nbt_hosting.specs.declared.arguments.HostArguments.{HostArguments}
 
 -- A host stays up until its time is over. The steady clock is read, and then goes on what does.

@@ -5,12 +5,11 @@ ghost use Rattle.nbt_hosting.specs.Running.{HostsOver, HostOverFails, HostsHere,
 
 use crate::arguments::HostArguments;
 use crate::host::Host;
-use crate::until::until_of;
 use nbt_ask::steady_clock;
 use nbt_engine::{Clock, Fault, Port, UdpPort};
 use nbt_host::Clocks;
 use nbt_name::Addr;
-use nbt_net::{bound_port, readable_clock, tell_end_of};
+use nbt_net::{bound_port, readable_clock, tell_end_of, until_of};
 use std::alloc::Global;
 use std::io::Write;
 use std::net::Net;

@@ -16,7 +16,6 @@ mod event;
 mod here;
 mod host;
 mod telling;
-mod until;
 
 pub use arguments::HostArguments;
 pub use begin::write_begin;

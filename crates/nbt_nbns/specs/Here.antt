@@ -1,9 +1,9 @@
 -- What `nbns` does and prints over this machine (our profile).
-use Rattle.std.specs.Prelude.{◌≡◌, ℕ, ◌+◌, nat_le, Bool, true, false, if◌then◌else◌, List, [], Option, Some, None, String}
+use Rattle.std.specs.Prelude.{◌≡◌, ℕ, ◌+◌, Bool, true, false, if◌then◌else◌, List, [], Option, Some, None, String}
 use Rattle.std.specs.String.{string_bytes}
 use Rattle.std.specs.Io.KnownBytes.{Appends}
 use Rattle.nbt_name.specs.declared.addr.Addr.{Addr}
-use Rattle.nbt_lease.specs.Config.{last_moment, milliseconds}
+use Rattle.nbt_lease.specs.Config.{milliseconds}
 use Rattle.nbt_server.specs.Serving.{ServerValue}
 use Rattle.nbt_server.specs.Calls.{ServerStarts}
 use Rattle.nbt_engine.specs.PortCalls.{PortCall}
@@ -11,6 +11,7 @@ use Rattle.nbt_engine.specs.Udp.{UdpValue, UdpDoes, MachineTells}
 use Rattle.nbt_journal.specs.Dates.{second_at}
 use Rattle.nbt_journal.specs.Limiting.{LimiterValue}
 use Rattle.nbt_journal.specs.declared.dates.Dates.{Dates}
+use Rattle.nbt_net.specs.Until.{until_of}
 use Rattle.nbt_samba.specs.Handing.{HandsOn}
 use Rattle.nbt_nbns.specs.Begin.{IsBegin}
 use Rattle.nbt_nbns.specs.Journaling.{Journals}
@@ -24,11 +25,6 @@ use Rattle.nbt_nbns.specs.declared.journal.Journal.{Journal}
 abbrev pub PortDoes : (strict : Bool) → UdpValue → PortCall → UdpValue → Type 0
 PortDoes true = UdpDoes
 PortDoes false = HandsOn UdpDoes
-
--- at which moment it ends; none where it has no end, or one past the last moment
-abbrev pub until_of : (start : ℕ) → Option ℕ → Option ℕ
-until_of start None = None
-until_of start (Some time) = if nat_le (start + time) last_moment then Some (start + time) else None
 
 -- a log in which no line was printed yet, if there is to be one
 abbrev pub log_of : Bool → Option LimiterValue

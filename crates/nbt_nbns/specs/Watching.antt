@@ -1,9 +1,10 @@
 -- A name server that stays up, and is watched (our profile).
-use Rattle.std.specs.Prelude.{◌≡◌, ℕ, ◌≤◌, ◌⊎◌, List, Option, Some, None}
+use Rattle.std.specs.Prelude.{◌≡◌, ℕ, List, Option}
 use Rattle.nbt_server.specs.Serving.{ServerValue}
 use Rattle.nbt_engine.specs.PortCalls.{PortCall}
 use Rattle.nbt_engine.specs.Serving.{Breaks}
-use Rattle.nbt_net.specs.Staying.{StaysUp, GivesUp, IsCutOff}
+use Rattle.nbt_net.specs.Staying.{StaysUntil, GivesUp}
+use Rattle.nbt_net.specs.Until.{IsOver}
 use Rattle.nbt_net.specs.declared.limits.TheConstants.{FOREVER}
 use Rattle.nbt_nbns.specs.Turning.{WatchesTurn}
 use Rattle.nbt_nbns.specs.declared.staying.Shown.{Shown}
@@ -38,12 +39,7 @@ pub record BreaksWatching {P C V : Type 0} (does : P → PortCall → P → Type
   pub watcher_is : new.watcher ≡ old.watcher
   pub text_is : new.text ≡ old.text
 
--- its time is over
-abbrev pub IsOver : (until : Option ℕ) → (now : ℕ) → Type 0
-IsOver None now = ⊥
-IsOver (Some until) now = until ≤ now
-
--- a turn after which it isn't
+-- a turn after which its time isn't over
 abbrev pub WatchesOn : {P C V : Type 0} → (P → PortCall → P → Type 0) → (C → ℕ → C → Type 0) → Sight V → (until : Option ℕ) → Watching P C V → Shown → Watching P C V → Type 0
 WatchesOn does tells sees until old shown new = Watches does tells sees old shown new × (¬ IsOver until shown.at)
 
@@ -53,8 +49,7 @@ WatchesLast does tells sees until old new = (shown : Shown) × Watches does tell
 
 -- It stays up for good, or until its time is over.
 abbrev pub WatchesUntil : {P C V : Type 0} → (P → PortCall → P → Type 0) → (C → ℕ → C → Type 0) → Sight V → (until : Option ℕ) → Watching P C V → Watching P C V → Type 0
-WatchesUntil does tells sees until old new = StaysUp (WatchesOn does tells sees until) (BreaksWatching does tells) FOREVER old new
-    ⊎ IsCutOff (WatchesOn does tells sees until) (BreaksWatching does tells) (WatchesLast does tells sees until) FOREVER old new
+WatchesUntil does tells sees until old new = StaysUntil (WatchesOn does tells sees until) (BreaksWatching does tells) (WatchesLast does tells sees until) FOREVER old new
 
 -- It gives up before that.
 abbrev pub WatchFails : {P C V : Type 0} → (P → PortCall → P → Type 0) → (C → ℕ → C → Type 0) → Sight V → (until : Option ℕ) → Watching P C V → Watching P C V → Type 0

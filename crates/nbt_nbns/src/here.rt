@@ -6,7 +6,8 @@ ghost use Rattle.nbt_lease.specs.Config.{milliseconds};
 ghost use Rattle.nbt_engine.specs.Udp.{UdpValue};
 ghost use Rattle.nbt_journal.specs.Dates.{second_at};
 ghost use Rattle.nbt_nbns.specs.Begin.{IsBegin};
-ghost use Rattle.nbt_nbns.specs.Here.{PortDoes, until_of, log_of, leases_of, RunsNbns, NbnsFails};
+ghost use Rattle.nbt_net.specs.Until.{until_of};
+ghost use Rattle.nbt_nbns.specs.Here.{PortDoes, log_of, leases_of, RunsNbns, NbnsFails};
 ghost use Rattle.nbt_nbns.specs.Watching.{WatchesUntil, WatchFails};
 
 use crate::begin::write_begin;
@@ -17,11 +18,11 @@ use crate::logger::Logger;
 use crate::place::FilePlace;
 use crate::staying::{Watcher, watch_on};
 use nbt_ask::steady_clock;
-use nbt_engine::{Clock, Fault, Port, UdpPort, bound_port};
+use nbt_engine::{Clock, Fault, UdpPort, bound_port};
 use nbt_journal::Dates;
 use nbt_lease::{Config, Moment};
 use nbt_name::Addr;
-use nbt_net::{readable_clock, tell_end_of};
+use nbt_net::{readable_clock, until_of};
 use nbt_samba::SambaPort;
 use nbt_server::Server;
 use std::alloc::{AllocError, Global};
@@ -162,13 +163,6 @@ fn leases_of<'a, M: Files>(
     Ok(Some(Keeper::new(alloc, place)))
 }
 
-/// The moment at which it ends that starts at this one; none where it has no end.
-fn until_of(start: Moment, time: Option<u64>) -> Option<Moment>
-    ensures { result ≡ until_of start time }
-{
-    Moment::new(start.get().saturating_add(time?))
-}
-
 /// Watches a server until it ends, over this port as it is where that is `strict`, else over one on which Samba's registrations
 /// come as registrations.
 fn watch_over<C: Clock, V: Watcher, M: time::Clock, W: Write, E: Write>(
@@ -193,42 +187,13 @@ fn watch_over<C: Clock, V: Watcher, M: time::Clock, W: Write, E: Write>(
 {
     if strict {
         let mut port = port;
-        watch_to_its_end(
+        watch_on(
             &mut port, clock, server, watcher, until, machine, writer, errors,
         )
     } else {
         let mut port = SambaPort::new(port);
-        watch_to_its_end(
+        watch_on(
             &mut port, clock, server, watcher, until, machine, writer, errors,
         )
     }
-}
-
-/// Watches a server until it ends, as [`watch_on`] does. Where the port failed for good, it says why in `errors`.
-fn watch_to_its_end<P: Port, C: Clock, V: Watcher, M: time::Clock, W: Write, E: Write>(
-    port: &mut P,
-    clock: &mut C,
-    server: &mut Server,
-    watcher: &mut V,
-    until: Option<Moment>,
-    machine: &M,
-    writer: &mut W,
-    errors: &mut E,
-) -> Result<(), Fault>
-    requires failure_count { P.failures port.old ≤ 2 ^ 61 }
-    ensures ok { OnOk result (WatchesUntil P.does C.tells V.sees until
-        (record { port = port.old; clock = clock.old; server = server.old; watcher = watcher.old; text = W.contents writer.old })
-        (record { port = port.new; clock = clock.new; server = server.new; watcher = watcher.new; text = W.contents writer.new })) }
-    ensures err { OnErr result (WatchFails P.does C.tells V.sees until
-        (record { port = port.old; clock = clock.old; server = server.old; watcher = watcher.old; text = W.contents writer.old })
-        (record { port = port.new; clock = clock.new; server = server.new; watcher = watcher.new; text = W.contents writer.new })) }
-    ensures fault { IfErr result (λ fault. fault ≡ Fault.Device) }
-{
-    let watched = watch_on(port, clock, server, watcher, until, machine, writer, errors);
-    let ended = match watched {
-        Ok(()) => Ok(()),
-        Err(failure) => Err(Fault::from(failure)),
-    };
-    tell_end_of(ended, port.cause(), errors);
-    ended
 }

@@ -1,14 +1,11 @@
 -- The turns of a node: none, one after others, and one that ends them.
-use Rattle.std.proofs.Common.{ℕ, ◌+◌, ◌<◌, List, [], ◌∷◌, ◌++◌, refl, sym, ap, subst, ◌∙◌, length-append}
+use Rattle.std.proofs.Common.{ℕ, ◌+◌, ◌<◌, [], ◌∷◌, ◌++◌, refl, sym, ap, subst, ◌∙◌, length-append}
 use Rattle.nbt_name.specs.declared.addr.Addr.{Addr}
-use Rattle.nbt_engine.specs.PortCalls.{PortCall, Chain}
+use Rattle.nbt_engine.specs.PortCalls.{PortCall}
+use Rattle.nbt_engine.proofs.Chains.{chain-append}
 use Rattle.nbt_engine.specs.declared.turning.Seen.{Seen}
 use Rattle.nbt_engine.specs.declared.turning.Want.{Want}
 use Rattle.nbt_net.specs.Node.{Running, Turns, TakesTurns, EndsTurns}
-
-pub chain_on : {S X : Type 0} (step : S → X → S → Type 0) (old mid new : S) (xs : List X) (x : X) → Chain step old xs mid → step mid x new → Chain step old (xs ++ x ∷ []) new
-chain_on step old mid new [] x before last = (new, subst (λ s. step s x new) before last, refl)
-chain_on step old mid new (y ∷ ys) x before last = (before.0, before.1, chain_on step before.0 mid new ys x before.2 last)
 
 pub no_turns : {P C : Type 0} (does : P → PortCall → P → Type 0) (tells : C → ℕ → C → Type 0) (server : Addr) (want : Want) (here : Running P C) → TakesTurns does tells server want 0 here here
 no_turns does tells server want here = record { seen = []; turns = refl; count_is = refl }
@@ -17,7 +14,7 @@ pub turns_on : {P C : Type 0} (does : P → PortCall → P → Type 0) (tells : 
     → TakesTurns does tells server want count old mid → Turns does tells server want mid one new → TakesTurns does tells server want (count + 1) old new
 turns_on does tells server want count old mid new one before turn = record {
   seen = before.seen ++ one ∷ [];
-  turns = chain_on (Turns does tells server want) old mid new before.seen one before.turns turn;
+  turns = chain-append (Turns does tells server want) old mid new before.seen (one ∷ []) before.turns (new, turn, refl);
   count_is = length-append before.seen (one ∷ []) ∙ ap (λ (n : ℕ). n + 1) before.count_is;
 }
 

@@ -8,10 +8,12 @@ mod node;
 mod port;
 mod serve;
 mod staying;
+mod until;
 
 pub use clock::readable_clock;
 pub use limits::{FOREVER, MOST_FAILURES};
 pub use node::{NodeArguments, SLOTS, run_node};
 pub use port::bound_port;
 pub use serve::{ServeArguments, run_server};
-pub use staying::{Row, tell_end_of};
+pub use staying::{Row, Turn, Turned, stay_up, tell_end_of};
+pub use until::{is_over, until_of};

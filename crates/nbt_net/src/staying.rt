@@ -1,15 +1,11 @@
 //! What stays up when its port fails.
 
-ghost use Rattle.std.specs.Prelude.{◌≡◌, ◌≢◌, ◌+◌, ◌<◌, ◌≤◌, ◌^◌, OnOk, OnErr};
-ghost use Rattle.nbt_net.specs.Node.{Turns, BreaksTurns, CutsTurn};
-ghost use Rattle.nbt_net.specs.Serve.{ServesTurn, BreaksServing};
-ghost use Rattle.nbt_net.specs.Staying.{StaysUp, GivesUp, IsCutOff};
+ghost use Rattle.std.specs.Prelude.{◌≡◌, ℕ, ◌+◌, ◌<◌, ◌≤◌, ◌^◌, OnOk, OnErr, IfErr};
+ghost use Rattle.nbt_engine.specs.declared.fault.Fault.{Fault};
+ghost use Rattle.nbt_net.specs.Staying.{StaysUntil, EndsEarly, Takes};
 
 use crate::limits::MOST_FAILURES;
-use crate::node::{NodeArguments, SLOTS, take_turn};
-use nbt_engine::{Cause, Clock, Device, Fault, Port, RECEIVE_WAIT, serve_turns};
-use nbt_node::Node;
-use nbt_server::Server;
+use nbt_engine::{Cause, Device, Fault, RECEIVE_WAIT};
 use std::io::Write;
 use std::time::Duration;
 use std::{io, thread, time};
@@ -64,62 +60,83 @@ impl Row {
     }
 }
 
-/// The server goes through `turns` turns, as [`serve_turns`] does, and stays up when the port fails. After a turn that failed
-/// it says so in `errors`, the first time of a row, waits 100 ms by the machine's clock, and goes on from where the failure
-/// left it; when the row is over, it says how many failed. Refused with `Device` at the hundredth failure in a row, at once.
-/// What can't be written to `errors` is passed over.
-pub fn serve_on<P: Port, C: Clock, M: time::Clock, E: Write>(
-    port: &mut P,
-    clock: &mut C,
-    server: &mut Server,
-    turns: u64,
-    machine: &M,
-    errors: &mut E,
-) -> Result<(), Device>
-    requires failure_count { P.failures port.old + turns ≤ 2 ^ 62 }
-    ensures ok { OnOk result (StaysUp (ServesTurn P.does C.tells) (BreaksServing P.does C.tells) turns
-        (record { port = port.old; clock = clock.old; server = server.old }) (record { port = port.new; clock = clock.new; server = server.new })) }
-    ensures err { OnErr result (GivesUp (ServesTurn P.does C.tells) (BreaksServing P.does C.tells) turns
-        (record { port = port.old; clock = clock.old; server = server.old }) (record { port = port.new; clock = clock.new; server = server.new })) }
-{
-    let mut row = Row::new();
-    for _ in 0..turns {
-        match serve_turns(port, clock, server, 1) {
-            Ok(_) => row.ends(errors),
-            Err(_) => row.goes_on(port.cause(), machine, errors)?,
-        }
-    }
-    Ok(())
+/// What came of a turn.
+#[derive(Clone, Copy, Debug)]
+pub enum Turned {
+    /// It went well.
+    Well,
+    /// It went well, and was the last: the time is over.
+    Last,
+    /// The port failed, for this cause, where it knows it.
+    Failed(Option<Cause>),
+    /// It can't go on, for this fault; it is none of the port's.
+    CutOff(Fault),
 }
 
-/// The node takes `turns` turns, prints what is seen in each, and stays up when the port fails, as [`serve_on`] does. Refused
-/// with `Device` at the hundredth failure in a row, at once, and with `Output` after a turn whose event can't be written, at once.
-pub fn node_on<P: Port, C: Clock, W: Write, M: time::Clock, E: Write>(
-    port: &mut P,
-    clock: &mut C,
-    node: &mut Node<SLOTS>,
-    arguments: &NodeArguments,
+/// What goes on turn by turn, and is to stay up when its port fails.
+pub trait Turn {
+    /// What a turn changes.
+    ghost State: { Type 0 };
+
+    /// What a turn shows.
+    ghost Shown: { Type 0 };
+
+    /// What stays as it is: its arguments, and which values it borrows.
+    ghost Fixed: { Type 0 };
+
+    ghost state: { Self → State };
+
+    ghost fixed: { Self → Fixed };
+
+    /// How many calls of its port have failed.
+    ghost failures: { Self → ℕ };
+
+    /// A turn that goes well.
+    ghost turns: { Fixed → State → Shown → State → Type 0 };
+
+    /// A turn in which the port fails.
+    ghost breaks: { Fixed → State → State → Type 0 };
+
+    /// The last turn, after which the time is over.
+    ghost last: { Fixed → State → State → Type 0 };
+
+    /// A turn that cuts it off for a fault that isn't the port's.
+    ghost cuts: { Fixed → Fault → State → State → Type 0 };
+
+    /// Takes a turn. What can't be done about it is said in `errors`.
+    fn take<E: Write>(&mut self, errors: &mut E) -> Turned
+        requires failure_count { failures self.old < 2 ^ 62 }
+        ensures takes { Takes (turns (fixed self.old)) (breaks (fixed self.old)) (last (fixed self.old)) (cuts (fixed self.old)) result (state self.old) (state self.new) }
+        ensures fixed { fixed self.new ≡ fixed self.old }
+        ensures count { failures self.new ≤ failures self.old + 1 };
+}
+
+/// Takes `turns` turns, or as many as it takes until one is the last, and stays up when the port fails. After a turn that failed it
+/// says so in `errors`, the first time of a row, waits 100 ms by the machine's clock, and goes on from where the failure left it;
+/// when the row is over, it says how many failed. Refused: `Device` at the hundredth failure in a row; the fault of a turn that
+/// is cut off; each at once. What can't be written to `errors` is passed over.
+pub fn stay_up<T: Turn, M: time::Clock, E: Write>(
+    turn: &mut T,
     turns: u64,
-    writer: &mut W,
     machine: &M,
     errors: &mut E,
 ) -> Result<(), Fault>
-    requires failure_count { P.failures port.old + turns ≤ 2 ^ 62 }
-    ensures ok { OnOk result (StaysUp (Turns P.does C.tells arguments.now.server arguments.now.want) (BreaksTurns P.does C.tells arguments.now.server arguments.now.want) turns
-        (record { port = port.old; clock = clock.old; node = node.old; text = W.contents writer.old }) (record { port = port.new; clock = clock.new; node = node.new; text = W.contents writer.new })) }
-    ensures device { result ≡ Err Fault.Device → GivesUp (Turns P.does C.tells arguments.now.server arguments.now.want) (BreaksTurns P.does C.tells arguments.now.server arguments.now.want) turns
-        (record { port = port.old; clock = clock.old; node = node.old; text = W.contents writer.old }) (record { port = port.new; clock = clock.new; node = node.new; text = W.contents writer.new }) }
-    ensures output { result ≡ Err Fault.Output → IsCutOff (Turns P.does C.tells arguments.now.server arguments.now.want) (BreaksTurns P.does C.tells arguments.now.server arguments.now.want)
-        (CutsTurn P.does C.tells arguments.now.server arguments.now.want) turns
-        (record { port = port.old; clock = clock.old; node = node.old; text = W.contents writer.old }) (record { port = port.new; clock = clock.new; node = node.new; text = W.contents writer.new }) }
-    ensures memory { result ≢ Err Fault.Memory }
+    requires failure_count { T.failures turn.old + turns ≤ 2 ^ 62 }
+    ensures ok { OnOk result (StaysUntil (T.turns (T.fixed turn.old)) (T.breaks (T.fixed turn.old)) (T.last (T.fixed turn.old)) turns (T.state turn.old) (T.state turn.new)) }
+    ensures err { IfErr result (λ fault. EndsEarly (T.turns (T.fixed turn.old)) (T.breaks (T.fixed turn.old)) (T.cuts (T.fixed turn.old)) turns fault (T.state turn.old) (T.state turn.new)) }
+    ensures fixed { T.fixed turn.new ≡ T.fixed turn.old }
+    ensures count { T.failures turn.new ≤ T.failures turn.old + turns }
 {
     let mut row = Row::new();
     for _ in 0..turns {
-        match take_turn(port, clock, node, arguments, writer) {
-            Ok(_) => row.ends(errors),
-            Err(Fault::Device) => row.goes_on(port.cause(), machine, errors)?,
-            Err(fault) => return Err(fault),
+        match turn.take(errors) {
+            Turned::Well => row.ends(errors),
+            Turned::Last => {
+                row.ends(errors);
+                return Ok(());
+            }
+            Turned::Failed(cause) => row.goes_on(cause, machine, errors)?,
+            Turned::CutOff(fault) => return Err(fault),
         }
     }
     Ok(())

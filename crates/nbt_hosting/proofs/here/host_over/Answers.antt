@@ -4,7 +4,7 @@ use Rattle.nbt_engine.specs.declared.fault.Fault.TheVariants.{Device}
 use Rattle.nbt_host.specs.declared.sleeping.Reading.{Reading}
 use Rattle.nbt_hosting.specs.Host.{Running}
 use Rattle.nbt_hosting.specs.Running.{HostsOver, RunsHost, RunFails}
-use Rattle.nbt_hosting.specs.Until.{until_of}
+use Rattle.nbt_net.specs.Until.{until_of}
 use Rattle.nbt_hosting.proofs.Beginning.{if_ok, begins}
 use Rattle.nbt_hosting.proofs.here.host_over.Goals as goal
 use Rattle.nbt_hosting.proofs.here.host_over.Goals.{in-Ok, in-Err}

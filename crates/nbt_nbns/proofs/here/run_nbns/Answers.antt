@@ -1,7 +1,8 @@
 use Rattle.std.proofs.Common.{◌≡◌, ℕ, List, Option, refl, sym, subst}
 use Rattle.nbt_engine.specs.Udp.{UdpValue, MachineTells}
 use Rattle.nbt_net.proofs.Printing.{on_ok}
-use Rattle.nbt_nbns.specs.Here.{Nbns, PortDoes, until_of}
+use Rattle.nbt_net.specs.Until.{until_of}
+use Rattle.nbt_nbns.specs.Here.{Nbns, PortDoes}
 use Rattle.nbt_nbns.specs.Journaling.{Journals}
 use Rattle.nbt_nbns.specs.Places.{Stays}
 use Rattle.nbt_nbns.specs.Watching.{WatchesUntil}

@@ -1,11 +1,11 @@
-//! When a host ends.
+//! When what stays up ends.
 
 ghost use Rattle.std.specs.Prelude.{◌≡◌, ◌↔◌, IsTrue};
-ghost use Rattle.nbt_hosting.specs.Until.{until_of, IsOver};
+ghost use Rattle.nbt_net.specs.Until.{until_of, IsOver};
 
 use nbt_lease::Moment;
 
-/// The moment at which a host ends that starts at this one; none where it has no end, or one past the last moment.
+/// When it ends that starts at this moment; none where it has no end, or one past the last moment. `time` is in milliseconds.
 pub fn until_of(start: Moment, time: Option<u64>) -> Option<Moment>
     ensures { result ≡ until_of start time }
 {

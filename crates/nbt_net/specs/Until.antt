@@ -1,4 +1,4 @@
--- When a host ends (our profile).
+-- When what stays up ends (our profile).
 use Rattle.std.specs.Prelude.{ℕ, ◌+◌, ◌≤◌, nat_le, if◌then◌else◌, Option, Some, None}
 use Rattle.nbt_lease.specs.Config.{last_moment}
 
