@@ -1,6 +1,7 @@
-/* How fast `nbt serve` is, beside a loop in C that only echoes: all in one run, each number the median of five rounds.
+/* How fast `nbt serve` is, beside a loop in C that only echoes, and what a renewal costs `nbt nbns --log` beside it: all in one run,
+ * each number the median of five rounds.
  *
- * bench PROGRAM [PORT]: starts PROGRAM as a name server on PORT of 127.0.0.1, and the echo on PORT + 1. Leases last 60 s, are
+ * bench PROGRAM [PORT]: starts PROGRAM as a name server on PORT of 127.0.0.1, the echo on PORT + 1, and nbns on PORT + 2. Leases last 60 s, are
  * renewed before each measure that needs them, and are released after it, so that each round registers its names anew. Each
  * reply's id and flags are checked, and of a lookup the address too. */
 #define _GNU_SOURCE
@@ -17,7 +18,7 @@
 #include <time.h>
 #include <unistd.h>
 
-enum { ROUNDS = 5, NAMES = 4096, GROUP = 1000, SMALL_GROUP = 80, FEW = 10, OUTSTANDING = 32, QUERIES = 40000, NAME_AT = 12, NAME_LENGTH = 34, POINTERS = 990, DATA_AT = 56, LEASE = 60 };
+enum { ROUNDS = 5, NAMES = 4096, GROUP = 1000, SMALL_GROUP = 80, FEW = 10, OUTSTANDING = 32, QUERIES = 40000, NAME_AT = 12, NAME_LENGTH = 34, POINTERS = 990, DATA_AT = 56, LEASE = 60, RENEWALS = 5 };
 enum measure { FEW_NAMES, ALL_NAMES, NOT_THERE, CHAINS, OF_SMALL_GROUP, OF_GROUP, JOINING_SMALL, JOINING, REJOINING, REJOINING_BACK, REGISTER, RENEW, ECHO, MEASURES };
 
 static const char *const LABELS[MEASURES] = {
@@ -201,17 +202,35 @@ static long resident(pid_t pid) {
     return found;
 }
 
-static pid_t start_server(const char *program, uint16_t port) {
+static pid_t start_server(const char *program, uint16_t port, int is_logged) {
     char bind_to[32], longest[8];
     snprintf(bind_to, sizeof bind_to, "127.0.0.1:%u", port);
-    snprintf(longest, sizeof longest, "%d", LEASE);
+    snprintf(longest, sizeof longest, is_logged ? "%ds" : "%d", LEASE);
     pid_t pid = fork();
     if (pid == 0) {
         freopen("/dev/null", "w", stdout);
-        execl(program, "nbt", "serve", bind_to, "1000", longest, "--forever", (char *)NULL);
+        if (is_logged) execl(program, "nbt", "nbns", "--bind", bind_to, "--life", "1s", "--longest", longest, "--log", (char *)NULL);
+        else execl(program, "nbt", "serve", bind_to, "1000", longest, "--forever", (char *)NULL);
         fail(program);
     }
     return pid;
+}
+
+/* The processor time that a process has taken, in seconds. */
+static double processor(pid_t pid) {
+    clockid_t clock;
+    struct timespec t;
+    if (clock_getcpuclockid(pid, &clock) || clock_gettime(clock, &t)) fail("clock_getcpuclockid");
+    return (double)t.tv_sec + (double)t.tv_nsec / 1e9;
+}
+
+/* The processor time, in microseconds, that a renewal takes the server on that port. */
+static double renewal(pid_t pid, uint16_t port) {
+    server.sin_port = htons(port);
+    ask(&THE_NAMES, GRANTED, 0);
+    double begun = processor(pid);
+    for (int k = 0; k < RENEWALS; k++) ask(&THE_NAMES, GRANTED, 0);
+    return (processor(pid) - begun) * 1e6 / RENEWALS / NAMES;
 }
 
 static pid_t start_echo(uint16_t port) {
@@ -237,7 +256,7 @@ static int by_size(const void *a, const void *b) {
 
 int main(int count, char **words) {
     uint16_t port = (uint16_t)(count > 2 ? atoi(words[2]) : 21937);
-    double taken[MEASURES][ROUNDS], median[MEASURES];
+    double taken[MEASURES][ROUNDS], median[MEASURES], plain[ROUNDS], told[ROUNDS];
     unsigned char chain[2048];
     size_t chain_length = put_chain(chain);
     struct rlimit files = {.rlim_cur = NAMES + GROUP + 64, .rlim_max = NAMES + GROUP + 64};
@@ -247,7 +266,7 @@ int main(int count, char **words) {
     echo_end = server;
     echo_end.sin_port = htons((uint16_t)(port + 1));
     pid_t echo = start_echo((uint16_t)(port + 1));
-    pid_t served = start_server(words[1], port);
+    pid_t served = start_server(words[1], port, 0), logged = start_server(words[1], (uint16_t)(port + 2), 1);
     lookup_socket = udp_socket(INADDR_LOOPBACK, 0);
     for (unsigned k = 0; k < NAMES; k++) owner_sockets[k] = udp_socket(INADDR_LOOPBACK, 0);
     for (unsigned k = 0; k < GROUP; k++) member_sockets[k] = udp_socket(member_ip(k), 0);
@@ -272,7 +291,12 @@ int main(int count, char **words) {
         taken[OF_GROUP][round] = queries_of(&THE_GROUP, 1, 0x8780, NULL, 0);
         ask(&THE_GROUP, RELEASED, 0);
         taken[ECHO][round] = queries(&echo_end, 'N', NAMES, 0, NULL, 0);
+        told[round] = renewal(logged, (uint16_t)(port + 2));
+        plain[round] = renewal(served, port);
+        ask(&THE_NAMES, RELEASED, 0);
     }
+    qsort(told, ROUNDS, sizeof told[0], by_size);
+    qsort(plain, ROUNDS, sizeof plain[0], by_size);
     for (int m = 0; m < MEASURES; m++) {
         qsort(taken[m], ROUNDS, sizeof taken[m][0], by_size);
         median[m] = taken[m][ROUNDS / 2];
@@ -288,6 +312,8 @@ int main(int count, char **words) {
     printf("80 members : 1,000       %.2f   (less than 3)\n", median[OF_SMALL_GROUP] / median[OF_GROUP]);
     printf("joining 80 : 1,000       %.2f\n", median[JOINING_SMALL] / median[JOINING]);
     printf("last first : first first %.2f   (what a renewal of the least end takes)\n", median[REJOINING_BACK] / median[REJOINING]);
+    printf("nbns --log : serve       %.2f   (at most 1.1; %.1f and %.1f us of a processor for a renewal)\n", told[ROUNDS / 2] / plain[ROUNDS / 2], told[ROUNDS / 2], plain[ROUNDS / 2]);
+    kill(logged, SIGTERM);
     kill(served, SIGTERM);
     kill(echo, SIGTERM);
     return 0;

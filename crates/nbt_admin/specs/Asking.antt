@@ -1,8 +1,8 @@
 -- The arguments of `lookup` and `status` that texts give (our profile).
 use Rattle.std.specs.Prelude.{◌≡◌, ◌⊎◌}
 use Rattle.nbt_text.specs.Address.{SpellsEnd}
-use Rattle.nbt_lookup.specs.declared.question.Question.{Question}
-use Rattle.nbt_lookup.specs.declared.question.Question.TheVariants as q
+use Rattle.nbt_client.specs.declared.question.Question.{Question}
+use Rattle.nbt_client.specs.declared.question.Question.TheVariants as q
 use Rattle.nbt_args.specs.declared.texts.LookupTexts.{LookupTexts}
 use Rattle.nbt_admin.specs.Failures.{IsUsage, out_of_memory}
 use Rattle.nbt_admin.specs.Times.{IsWait, SpellsPatience}

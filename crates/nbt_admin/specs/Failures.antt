@@ -1,7 +1,7 @@
 -- Why a command for people who run a network is not done (our profile).
 use Rattle.std.specs.Prelude.{◌≡◌, ◌⊎◌, ℕ, List}
 use Rattle.std.specs.String.{string_bytes}
-use Rattle.nbt_engine.specs.declared.fault.Fault.TheVariants as fault
+use Rattle.nbt_port.specs.declared.fault.Fault.TheVariants as fault
 use Rattle.nbt_args.specs.declared.refusal.Refusal.{Refusal}
 use Rattle.nbt_args.specs.declared.refusal.Refusal.TheVariants as refusal
 use Rattle.nbt_admin.specs.declared.failure.BadArgument.{BadArgument}

@@ -1,12 +1,12 @@
 -- The arguments of `host` that texts give (our profile).
 use Rattle.std.specs.Prelude.{◌≡◌, ◌≤◌, ◌<◌, ◌+◌, ◌⊎◌, ℕ, Bool, List, [], ◌∷◌, ◌++◌, length, Any}
 use Rattle.std.specs.Borrow.{Bor}
-use Rattle.nbt_engine.specs.declared.turning.Want.{Want}
+use Rattle.nbt_client.specs.declared.turning.Want.{Want}
 use Rattle.nbt_name.specs.Wire.{NameValue}
 use Rattle.nbt_name.specs.declared.addr.Kind.{Kind}
 use Rattle.nbt_name.specs.declared.addr.Kind.TheVariants.{Unique, Group}
 use Rattle.nbt_text.specs.Address.{SpellsEnd}
-use Rattle.nbt_hosting.specs.declared.arguments.HostArguments.{HostArguments}
+use Rattle.nbt_host.specs.declared.arguments.HostArguments.{HostArguments}
 use Rattle.nbt_args.specs.declared.texts.HostTexts.{HostTexts}
 use Rattle.nbt_admin.specs.Times.{IsConfigOf, AreLimits, LimitsFail, SpellsEnding, IsEnding, EndingFails}
 use Rattle.nbt_admin.specs.Failures.{ComplainsOf, out_of_memory}

@@ -3,13 +3,13 @@ use Rattle.std.specs.Prelude.{◌≡◌, ℕ, Bool, if◌then◌else◌, List, O
 use Rattle.std.specs.Io.KnownBytes.{Appends}
 use Rattle.nbt_args.specs.declared.texts.AdminLine.{AdminLine}
 use Rattle.nbt_args.specs.declared.texts.AdminLine.TheVariants.{Lookup, Status, Nbns, Host}
-use Rattle.nbt_ask.specs.Answers.{answer_status}
-use Rattle.nbt_ask.specs.Asking.{AsksHere}
-use Rattle.nbt_ask.specs.declared.answer.Answer.{Answer}
-use Rattle.nbt_hosting.specs.Running.{HostsHere}
-use Rattle.nbt_hosting.specs.declared.arguments.HostArguments.{HostArguments}
-use Rattle.nbt_nbns.specs.Here.{RunsNbns}
-use Rattle.nbt_nbns.specs.declared.here.NbnsArguments.{NbnsArguments}
+use Rattle.nbt_client.specs.Answers.{answer_status}
+use Rattle.nbt_client.specs.Asking.{AsksHere}
+use Rattle.nbt_client.specs.declared.answer.Answer.{Answer}
+use Rattle.nbt_host.specs.Running.{HostsHere}
+use Rattle.nbt_host.specs.declared.arguments.HostArguments.{HostArguments}
+use Rattle.nbt_nbns.specs.Running.{RunsNbns}
+use Rattle.nbt_nbns.specs.declared.running.NbnsArguments.{NbnsArguments}
 use Rattle.nbt_admin.specs.Asking.{LookupGiven, StatusGiven}
 use Rattle.nbt_admin.specs.Hosting.{HostGiven}
 use Rattle.nbt_admin.specs.Serving.{NbnsGiven}

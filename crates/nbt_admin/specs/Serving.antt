@@ -4,7 +4,7 @@ use Rattle.std.specs.Option.{option_map}
 use Rattle.std.specs.String.{string_bytes}
 use Rattle.nbt_lease.specs.Config.{ConfigValue}
 use Rattle.nbt_text.specs.Address.{SpellsEnd}
-use Rattle.nbt_nbns.specs.declared.here.NbnsArguments.{NbnsArguments}
+use Rattle.nbt_nbns.specs.declared.running.NbnsArguments.{NbnsArguments}
 use Rattle.nbt_args.specs.declared.texts.NbnsTexts.{NbnsTexts}
 use Rattle.nbt_admin.specs.Times.{IsConfigOf, AreLimits, LimitsFail, IsFitting, FittingFails, SpellsEnding, IsEnding, EndingFails}
 use Rattle.nbt_admin.specs.Texts.{AddressFails}

@@ -4,8 +4,8 @@ use Rattle.std.specs.Borrow.{Bor}
 use Rattle.nbt_lease.specs.Config.{ConfigValue, IsLife, IsLongest, milliseconds}
 use Rattle.nbt_lease.specs.declared.config.TheConstants.{ROWS_MOST}
 use Rattle.nbt_lease.specs.declared.config.Config.{Config}
-use Rattle.nbt_ask.specs.Asking.{patience_of}
-use Rattle.nbt_ask.specs.declared.patience.TheConstants.{TRIES_MOST}
+use Rattle.nbt_client.specs.Asking.{patience_of}
+use Rattle.nbt_client.specs.declared.patience.TheConstants.{TRIES_MOST}
 use Rattle.nbt_nbns.specs.Limits.{judged}
 use Rattle.nbt_nbns.specs.declared.limits.Judged.TheVariants.{Short}
 use Rattle.nbt_text.specs.Times.{SpellsTime}

@@ -10,8 +10,7 @@ use crate::failure::Failure;
 use crate::naming::{address_of, name_of, name_to_ask};
 use crate::timing::parse_wait;
 use nbt_args::{LimitedArgument, LimitedCommand, LookupTexts};
-use nbt_ask::{TRIES_MOST, patience_of};
-use nbt_lookup::Question;
+use nbt_client::{Question, TRIES_MOST, patience_of};
 use nbt_name::Addr;
 use std::alloc::Global;
 

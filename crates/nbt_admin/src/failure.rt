@@ -4,9 +4,9 @@ ghost use Rattle.std.specs.Prelude.{◌≡◌, ◌⊎◌};
 
 use crate::hosting::NAMES_MOST;
 use nbt_args::{Refusal, Text};
-use nbt_engine::Fault;
 use nbt_lease::{Config, LIFE_MOST, LONGEST_MOST};
 use nbt_nbns::write_refusal;
+use nbt_port::Fault;
 use std::alloc::{AllocError, AllocFailed, Global};
 use std::io::Write;
 use std::{fmt, io};

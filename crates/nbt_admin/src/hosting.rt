@@ -1,15 +1,15 @@
 //! The arguments of `host`.
 
 ghost use Rattle.std.specs.Prelude.{◌≡◌, ◌↔◌, ◌++◌, List, Any, IsTrue, IfOk, IfErr, OnOk};
-ghost use Rattle.nbt_engine.specs.declared.turning.Want.{Want as Wanted};
+ghost use Rattle.nbt_client.specs.declared.turning.Want.{Want as Wanted};
 ghost use Rattle.nbt_admin.specs.Hosting.{HostGiven, HostFails, AreWanted, SpellWants, NamesFail, TextsFail};
 
 use crate::failure::{ArgumentFault, Complaint, Failure};
 use crate::naming::{address_of, name_to_ask, own_of};
 use crate::timing::{config_of, ending_of};
 use nbt_args::HostTexts;
-use nbt_engine::Want;
-use nbt_hosting::HostArguments;
+use nbt_client::Want;
+use nbt_host::HostArguments;
 use nbt_name::{Kind, Name};
 use std::alloc::Global;
 

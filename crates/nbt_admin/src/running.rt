@@ -3,7 +3,7 @@
 ghost use Rattle.std.specs.Prelude.{◌≡◌, ◌≤◌, IfOk, OnOk, IfErr};
 ghost use Rattle.std.specs.Io.KnownBytes.{Appends};
 ghost use Rattle.nbt_args.specs.declared.texts.AdminLine.TheVariants as line;
-ghost use Rattle.nbt_nbns.specs.Here.{RunsNbns};
+ghost use Rattle.nbt_nbns.specs.Running.{RunsNbns};
 ghost use Rattle.nbt_admin.specs.Refusals.{Refuses, Stops};
 ghost use Rattle.nbt_admin.specs.Running.{Runs, AskedHere, HostedHere};
 
@@ -12,11 +12,11 @@ use crate::failure::Failure;
 use crate::hosting::host_arguments;
 use crate::serving::nbns_arguments;
 use nbt_args::{AdminLine, HostTexts, LookupTexts, NbnsTexts};
-use nbt_ask::ask_here;
-use nbt_engine::Fault;
-use nbt_hosting::{HostArguments, run_host};
+use nbt_client::ask_here;
+use nbt_host::{HostArguments, run_host};
 use nbt_lease::Config;
 use nbt_nbns::{Judged, NbnsArguments, judge, run_nbns, write_warning};
+use nbt_port::Fault;
 use std::alloc::Global;
 use std::io::Write;
 use std::net::Net;

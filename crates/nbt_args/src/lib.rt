@@ -1,11 +1,12 @@
 //! The command line of `nbt`: its commands and their arguments, and the help on them (our profile).
 //!
-//! [`read`] gives the texts of a command's arguments, each under its name. What they mean is for the caller: a value that is not within its
-//! limits is refused by [`bad_value`], in the same text as other wrong usage. This crate alone knows `clap`, over which a proof takes long.
+//! [`read`] returns the texts of a command's arguments, by name. The caller reads their values, and refuses one beyond its limits by
+//! [`bad_value`], in the same form as other wrong usage. No other crate uses `clap`, over which a proof takes long.
 #![tactic(auto)]
 
 mod admin;
 mod argument;
+mod bench;
 mod limits;
 mod network;
 mod program;

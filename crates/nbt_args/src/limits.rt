@@ -1,39 +1,35 @@
-//! The limits of an argument's value, and the refusal of a value that is not within them.
+//! The limits of arguments, and the refusal of a value beyond them.
 
 ghost use Rattle.std.specs.Prelude.{◌≡◌, IfOk};
 ghost use Rattle.clap.specs.Words.{kind_of};
 ghost use Rattle.nbt_args.specs.Limits.{least_of, most_of};
 ghost use Rattle.nbt_args.specs.Refusal.{IsWrongUsage};
 
-use crate::admin::{LOOKUP_COMMAND, STATUS_COMMAND, WAIT_OPTION};
 use crate::argument::{Argument, Description, command_of};
-use crate::network::{
-    LIFE_ARGUMENT, LONGEST_ARGUMENT, LOOP_COMMAND, NODE_COMMAND, PORT_ARGUMENT, SERVE_COMMAND,
-    TTL_ARGUMENT, TURNS_ARGUMENT,
-};
-use crate::program::{ANSWER_COMMAND, AT_OPTION};
 use crate::refusal::Refusal;
+use crate::{admin, bench, network};
 use clap::Error;
 use clap::error::ErrorKind;
 use nbt_lease::{LIFE_MOST, LONGEST_MOST};
 use std::alloc::{AllocError, Global};
+use std::fmt;
 
-/// The most milliseconds of a server's time: the last moment of a clock.
+/// The greatest time of a server, in milliseconds: the last moment of a clock.
 const AT_MOST: u64 = 1 << 60;
 
-/// The most milliseconds that a reply is waited for after the last request.
+/// The longest wait for a reply after the last request, in milliseconds (our profile).
 const WAIT_MOST: u64 = 5_000;
 
-/// The most seconds that a name can be requested for: as many as the 32 bits of a TTL can say (RFC 1002 section 4.2.1.3).
+/// The greatest TTL of a request, in seconds, which has 32 bits (RFC 1002 section 4.2.1.3).
 const TTL_MOST: u64 = 0xFFFF_FFFF;
 
-/// The most turns (our profile).
+/// The greatest number of turns (our profile).
 const TURNS_MOST: u64 = 1_000_000;
 
-/// The greatest port that two more follow.
+/// The greatest port that two more ports follow.
 const PORT_MOST: u64 = 65_533;
 
-/// A command that has arguments with limits.
+/// A command whose arguments have limits.
 #[derive(Clone, Copy)]
 pub enum LimitedCommand {
     Lookup,
@@ -47,12 +43,12 @@ pub enum LimitedCommand {
 impl LimitedCommand {
     fn description(self) -> &'static Description {
         match self {
-            LimitedCommand::Lookup => &LOOKUP_COMMAND,
-            LimitedCommand::Status => &STATUS_COMMAND,
-            LimitedCommand::Answer => &ANSWER_COMMAND,
-            LimitedCommand::Serve => &SERVE_COMMAND,
-            LimitedCommand::Node => &NODE_COMMAND,
-            LimitedCommand::Loop => &LOOP_COMMAND,
+            LimitedCommand::Lookup => &admin::LOOKUP,
+            LimitedCommand::Status => &admin::STATUS,
+            LimitedCommand::Answer => &bench::ANSWER,
+            LimitedCommand::Serve => &network::SERVE,
+            LimitedCommand::Node => &network::NODE,
+            LimitedCommand::Loop => &network::LOOP,
         }
     }
 }
@@ -60,24 +56,24 @@ impl LimitedCommand {
 /// An argument whose value has limits.
 #[derive(Clone, Copy)]
 pub enum LimitedArgument {
-    /// The server's time of `answer`, in milliseconds.
+    /// The time of the server, in milliseconds.
     At,
-    /// How long a reply is waited for, which is a time with its unit; the limits are in milliseconds.
+    /// The wait for a reply: a number with its unit, whose limits are in milliseconds.
     Wait,
     /// The greatest life of a datagram, in milliseconds.
     Life,
     /// The longest lease, in seconds.
     Longest,
-    /// The seconds that a name is requested for.
+    /// The requested TTL, in seconds.
     Ttl,
-    /// How many turns.
+    /// The number of turns.
     Turns,
     /// The first of three ports.
     Port,
 }
 
 impl LimitedArgument {
-    /// The least that it may be.
+    /// The smallest value, in the unit of the argument.
     pub fn least(self) -> u64
         ensures { result ≡ least_of self }
     {
@@ -87,7 +83,7 @@ impl LimitedArgument {
         }
     }
 
-    /// The most that it may be.
+    /// The greatest value, in the unit of the argument.
     pub fn most(self) -> u64
         ensures { result ≡ most_of self }
     {
@@ -104,31 +100,33 @@ impl LimitedArgument {
 
     fn argument(self) -> Argument {
         match self {
-            LimitedArgument::At => AT_OPTION,
-            LimitedArgument::Wait => WAIT_OPTION,
-            LimitedArgument::Life => LIFE_ARGUMENT,
-            LimitedArgument::Longest => LONGEST_ARGUMENT,
-            LimitedArgument::Ttl => TTL_ARGUMENT,
-            LimitedArgument::Turns => TURNS_ARGUMENT,
-            LimitedArgument::Port => PORT_ARGUMENT,
+            LimitedArgument::At => bench::AT,
+            LimitedArgument::Wait => admin::WAIT,
+            LimitedArgument::Life => network::LIFE,
+            LimitedArgument::Longest => network::LONGEST,
+            LimitedArgument::Ttl => network::TTL,
+            LimitedArgument::Turns => network::TURNS,
+            LimitedArgument::Port => network::PORT,
         }
     }
+}
 
-    /// What its value has to be.
-    fn limits(self, alloc: Global) -> Result<String, AllocError> {
+/// What its value must be.
+impl fmt::Display for LimitedArgument {
+    fn fmt<W: fmt::Write>(&self, f: &mut fmt::Formatter<W>) -> fmt::Result {
         let least = self.least();
         let most = self.most();
         match self {
             LimitedArgument::Wait => {
                 let seconds = most / 1_000;
-                format!(in alloc; "a time from {least}ms to {seconds}s")
+                write!(f, "a time from {least}ms to {seconds}s")
             }
-            _ => format!(in alloc; "a whole number from {least} to {most}"),
+            _ => write!(f, "a whole number from {least} to {most}"),
         }
     }
 }
 
-/// The refusal of a value of this command's argument that is not within its limits, with clap's own text around it, or the one of memory.
+/// Refuses a value beyond the limits of this command's argument, with clap's own text around it; or says that memory is out.
 pub fn bad_value(
     alloc: Global,
     command: LimitedCommand,
@@ -151,19 +149,10 @@ fn bad_value_error(
 ) -> Result<Error, AllocError>
     ensures { IfOk result (λ e. kind_of e ≡ ErrorKind.ValueValidation) }
 {
-    let message = bad_value_text(alloc, argument, value)?;
+    let shown = argument.argument();
+    let message = format!(in alloc; "invalid value '{value}' for '{shown}': not {argument}")?;
     let name = command.name;
     let called = format!(in alloc; "nbt {name}")?;
     let mut command = command_of(alloc, command)?.bin_name(called.as_str())?;
     command.error(ErrorKind::ValueValidation, message.as_str())
-}
-
-fn bad_value_text(
-    alloc: Global,
-    argument: LimitedArgument,
-    value: &str,
-) -> Result<String, AllocError> {
-    let shown = argument.argument();
-    let limits = argument.limits(alloc)?;
-    format!(in alloc; "invalid value '{value}' for '{shown}': not {limits}")
 }

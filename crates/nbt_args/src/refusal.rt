@@ -1,4 +1,4 @@
-//! What is printed where arguments name no command.
+//! Why arguments are refused, and what is printed then.
 
 ghost use Rattle.std.specs.Prelude.{◌≡◌};
 
@@ -7,7 +7,7 @@ use clap::error::ErrorKind;
 use std::alloc::AllocError;
 use std::fmt;
 
-/// What is printed where arguments name no command that can be run.
+/// The text to be printed: help, the version, or what is wrong.
 #[derive(Drop)]
 pub struct Text {
     error: Error,
@@ -19,14 +19,14 @@ impl fmt::Display for Text {
     }
 }
 
-/// Why arguments name no command that can be run.
+/// Why the program's arguments are refused.
 #[derive(Drop)]
 pub enum Refusal {
-    /// Help or the version was asked for, which is this.
+    /// Help or the version was requested.
     Help(Text),
-    /// The usage is wrong, as this says.
+    /// Wrong usage.
     Wrong(Text),
-    /// An allocation was refused.
+    /// Out of memory.
     Memory,
 }
 

@@ -1,11 +1,11 @@
-//! The texts of each command's arguments, by their names.
+//! Reads a command line: the texts of its arguments, by name.
 
-ghost use Rattle.std.specs.Prelude.{◌≡◌, true, false, None, Some, IfOk, codes, map};
+ghost use Rattle.std.specs.Prelude.{◌≡◌, true, false, IfOk, codes, map};
 ghost use Rattle.std.specs.Option.{option_map};
-ghost use Rattle.nbt_args.specs.Inner.Matches.{IsFlag, argument_of, arguments_of, value_of};
+ghost use Rattle.nbt_args.specs.Inner.Matches.{IsFlag, Tells, TellsTurns, argument_of, arguments_of, value_of};
 
+use crate::program::program;
 use crate::refusal::Refusal;
-use crate::{admin, network, program};
 use clap::error::ErrorKind;
 use clap::{ArgMatches, Command};
 use std::alloc::{AllocError, Global};
@@ -14,9 +14,9 @@ use std::convert::AsStr;
 /// The texts of the arguments of `answer`.
 #[derive(Drop)]
 pub struct AnswerTexts<'a> {
-    /// The packet's sender.
+    /// The sender.
     pub from: &'a str,
-    /// The packet's octets.
+    /// The packet, in hexadecimal.
     pub hex: &'a str,
     /// The time, in milliseconds.
     pub at: &'a str,
@@ -25,11 +25,11 @@ pub struct AnswerTexts<'a> {
 /// The texts of the arguments of `show`.
 #[derive(Drop)]
 pub struct ShowTexts<'a> {
-    /// The octets' service: `name`, or one that has a constant here.
+    /// The service: `name`, `dgram` or `session`.
     pub kind: &'a str,
-    /// The octets.
+    /// The octets, in hexadecimal.
     pub hex: &'a str,
-    /// Whether they are explained too.
+    /// Whether the octets are explained too.
     pub explain: bool,
 }
 
@@ -42,7 +42,7 @@ pub struct ServeTexts<'a> {
     pub life: &'a str,
     /// The longest lease, in seconds.
     pub longest: &'a str,
-    /// How many turns; `None` for `--forever`.
+    /// The number of turns; `None` for `--forever`.
     pub turns: Option<&'a str>,
 }
 
@@ -57,30 +57,30 @@ pub struct NodeTexts<'a> {
     pub life: &'a str,
     /// The longest lease, in seconds.
     pub longest: &'a str,
-    /// The name to be asked for.
+    /// The name to register.
     pub name: &'a str,
     /// Who may hold it: `unique`, or [`GROUP`](crate::GROUP).
     pub kind: &'a str,
-    /// The seconds to ask for.
+    /// The requested TTL, in seconds.
     pub ttl: &'a str,
-    /// How many turns; `None` for `--forever`.
+    /// The number of turns; `None` for `--forever`.
     pub turns: Option<&'a str>,
 }
 
 /// The texts of the arguments of `lookup`, or of `status`.
 #[derive(Drop)]
 pub struct LookupTexts<'a> {
-    /// The address of the name server, or of the host, that is asked.
+    /// The address of the name server, or of the host.
     pub to: &'a str,
-    /// The name that is asked for, or by which the host is asked.
+    /// The name that is looked up, or to which the status request is sent.
     pub name: &'a str,
-    /// Its scope; nothing where there is none.
+    /// The name's scope; empty for none.
     pub scope: &'a str,
-    /// Whether small letters stay as they are.
+    /// Whether lower-case letters are kept.
     pub exact: bool,
-    /// How often is asked: `1`, `2` or `3`.
+    /// The number of requests: `1`, `2` or `3`.
     pub tries: &'a str,
-    /// How long it waits after the last time.
+    /// How long it waits after the last request.
     pub wait: &'a str,
     /// The own address.
     pub bind: &'a str,
@@ -95,26 +95,26 @@ pub struct NbnsTexts<'a> {
     pub life: &'a str,
     /// The longest lease.
     pub longest: &'a str,
-    /// After which time it ends; `None` where it has no end.
+    /// For how long it runs; `None` for no limit.
     pub time: Option<&'a str>,
     /// Whether it logs.
     pub log: bool,
-    /// The path of the list of leases, if there is to be one.
+    /// The path of the list of leases, if any.
     pub leases: Option<&'a str>,
-    /// Whether Samba's registrations are left as they are.
+    /// Whether Samba's registrations are not accepted.
     pub strict: bool,
 }
 
 /// The texts of the arguments of `host`.
 #[derive(Drop)]
 pub struct HostTexts<'a> {
-    /// The names to be held by this machine alone.
+    /// The unique names.
     pub names: Vec<&'a str>,
-    /// The names to be held as groups.
+    /// The names of groups.
     pub groups: Vec<&'a str>,
-    /// The scope of all; nothing where there is none.
+    /// The scope of all names; empty for none.
     pub scope: &'a str,
-    /// Whether small letters stay as they are.
+    /// Whether lower-case letters are kept.
     pub exact: bool,
     /// The name server's address.
     pub server: &'a str,
@@ -124,7 +124,7 @@ pub struct HostTexts<'a> {
     pub life: &'a str,
     /// The longest lease.
     pub longest: &'a str,
-    /// After which time it ends; `None` where it has no end.
+    /// For how long it runs; `None` for no limit.
     pub time: Option<&'a str>,
     /// Whether it logs renewals too.
     pub log: bool,
@@ -142,61 +142,44 @@ pub enum AdminLine<'a> {
 /// A command, with the texts of its arguments.
 #[derive(Drop)]
 pub enum CommandLine<'a> {
-    /// One of those for people who run a network.
+    /// A command for people who run a network.
     Admin(AdminLine<'a>),
     Answer(AnswerTexts<'a>),
     Show(ShowTexts<'a>),
     Check,
     Sim,
-    /// Of `sim --draw`.
+    /// `sim --draw`.
     Draw,
     Serve(ServeTexts<'a>),
     Node(NodeTexts<'a>),
-    /// With the first of its ports.
+    /// `loop`, with the first of its ports.
     Loop(&'a str),
 }
 
-/// Reads the program's arguments, of which the first is its own name. Refused: wrong usage, with the text that is printed of it; and help,
-/// where that is asked for.
+/// Reads the program's arguments, the first of which is its own name. Wrong usage is refused, and so is a request for help, each with the text
+/// to be printed.
 pub fn read<'a, S: AsStr>(alloc: Global, arguments: &'a [S]) -> Result<CommandLine<'a>, Refusal> {
-    let mut program = program::program(alloc)?;
-    read_by(alloc, &mut program, arguments)
-}
-
-/// Reads the arguments of this program.
-fn read_by<'a, S: AsStr>(
-    alloc: Global,
-    program: &mut Command<'a>,
-    arguments: &'a [S],
-) -> Result<CommandLine<'a>, Refusal> {
-    match line_by(alloc, program, arguments)? {
+    let mut program = program(alloc)?;
+    match line_by(alloc, &mut program, arguments)? {
         Some(line) => Ok(line),
-        None => Err(no_command(program)),
+        None => Err(no_command(&mut program)),
     }
 }
 
-/// The command that this program finds in them; `None` where there is none.
+/// Returns the command that the program finds in its arguments; `None` where there is none.
 fn line_by<'a, S: AsStr>(
     alloc: Global,
     program: &mut Command<'a>,
     arguments: &'a [S],
 ) -> Result<Option<CommandLine<'a>>, Refusal> {
     let matches = program.try_get_matches_from_mut(arguments)?;
-    Ok(line_in(alloc, &matches)?)
-}
-
-/// The command that was found; `None` where there is none.
-fn line_in<'a>(
-    alloc: Global,
-    matches: &ArgMatches<'a>,
-) -> Result<Option<CommandLine<'a>>, AllocError> {
     match matches.subcommand() {
-        Some((name, inner)) => line_of(alloc, name, inner),
+        Some((name, inner)) => Ok(line_of(alloc, name, inner)?),
         None => Ok(None),
     }
 }
 
-/// The refusal of arguments without a command, or the one of memory.
+/// Refuses arguments without a command, or says that memory is out.
 fn no_command<'a>(program: &mut Command<'a>) -> Refusal {
     match program.error(ErrorKind::MissingSubcommand, "a command is needed") {
         Ok(error) => Refusal::from(error),
@@ -204,67 +187,47 @@ fn no_command<'a>(program: &mut Command<'a>) -> Refusal {
     }
 }
 
-/// The command of this name; `None` where there is none of that name.
+/// Returns the command of this name; `None` where there is no such command.
 fn line_of<'a>(
     alloc: Global,
     name: &str,
     matches: &ArgMatches<'a>,
 ) -> Result<Option<CommandLine<'a>>, AllocError> {
-    if let Some(line) = admin_line(alloc, name, matches)? {
-        return Ok(Some(CommandLine::Admin(line)));
-    }
-    Ok(bench_line(name, matches))
-}
-
-/// Of the commands for people who run a network.
-fn admin_line<'a>(
-    alloc: Global,
-    name: &str,
-    matches: &ArgMatches<'a>,
-) -> Result<Option<AdminLine<'a>>, AllocError> {
     let line = match name {
-        admin::LOOKUP => AdminLine::Lookup(lookup_texts(matches, network::SERVER)),
-        admin::STATUS => AdminLine::Status(lookup_texts(matches, admin::HOST)),
-        admin::NBNS => AdminLine::Nbns(nbns_texts(matches)),
-        admin::HOST => AdminLine::Host(host_texts(alloc, matches)?),
+        "lookup" => CommandLine::Admin(AdminLine::Lookup(lookup_texts(matches, "server"))),
+        "status" => CommandLine::Admin(AdminLine::Status(lookup_texts(matches, "host"))),
+        "nbns" => CommandLine::Admin(AdminLine::Nbns(nbns_texts(matches))),
+        "host" => CommandLine::Admin(AdminLine::Host(host_texts(alloc, matches)?)),
+        "answer" => CommandLine::Answer(answer_texts(matches)),
+        "show" => CommandLine::Show(show_texts(matches)),
+        "check" => CommandLine::Check,
+        "sim" => sim_line(matches),
+        "serve" => CommandLine::Serve(serve_texts(matches)),
+        "node" => CommandLine::Node(node_texts(matches)),
+        "loop" => CommandLine::Loop(argument(matches, "port")),
         _ => return Ok(None),
     };
     Ok(Some(line))
 }
 
-/// Of the commands of the bench.
-fn bench_line<'a>(name: &str, matches: &ArgMatches<'a>) -> Option<CommandLine<'a>> {
-    match name {
-        program::ANSWER => Some(CommandLine::Answer(answer_texts(matches))),
-        program::SHOW => Some(CommandLine::Show(show_texts(matches))),
-        program::CHECK => Some(CommandLine::Check),
-        program::SIM => Some(sim_line(matches)),
-        network::SERVE => Some(CommandLine::Serve(serve_texts(matches))),
-        network::NODE => Some(CommandLine::Node(node_texts(matches))),
-        network::LOOP => Some(CommandLine::Loop(argument(matches, network::PORT))),
-        _ => None,
-    }
-}
-
-/// The texts of a lookup, of which the one of this name says who is asked.
+/// Returns the texts of a lookup or of a status request, whose endpoint is the argument `to`.
 fn lookup_texts<'a>(matches: &ArgMatches<'a>, to: &str) -> LookupTexts<'a>
     ensures to { result.to.now ≡ argument_of matches.now to.now }
     ensures name { result.name.now ≡ argument_of matches.now (codes "name") }
     ensures scope { result.scope.now ≡ argument_of matches.now (codes "scope") }
-    ensures exact { IsFlag matches.now (codes "exact") true → result.exact ≡ true }
-    ensures folded { IsFlag matches.now (codes "exact") false → result.exact ≡ false }
+    ensures exact { Tells matches.now (codes "exact") result.exact }
     ensures tries { result.tries.now ≡ argument_of matches.now (codes "tries") }
     ensures wait { result.wait.now ≡ argument_of matches.now (codes "wait") }
     ensures bind { result.bind.now ≡ argument_of matches.now (codes "bind") }
 {
     LookupTexts {
         to: argument(matches, to),
-        name: argument(matches, network::NAME),
-        scope: argument(matches, admin::SCOPE),
-        exact: matches.get_flag(admin::EXACT),
-        tries: argument(matches, admin::TRIES),
-        wait: argument(matches, admin::WAIT),
-        bind: argument(matches, network::BIND),
+        name: argument(matches, "name"),
+        scope: argument(matches, "scope"),
+        exact: matches.get_flag("exact"),
+        tries: argument(matches, "tries"),
+        wait: argument(matches, "wait"),
+        bind: argument(matches, "bind"),
     }
 }
 
@@ -273,20 +236,18 @@ fn nbns_texts<'a>(matches: &ArgMatches<'a>) -> NbnsTexts<'a>
     ensures life { result.life.now ≡ argument_of matches.now (codes "life") }
     ensures longest { result.longest.now ≡ argument_of matches.now (codes "longest") }
     ensures time { option_map (λ text. text.now) result.time ≡ value_of matches.now (codes "for") }
-    ensures logs { IsFlag matches.now (codes "log") true → result.log ≡ true }
-    ensures silent { IsFlag matches.now (codes "log") false → result.log ≡ false }
+    ensures logs { Tells matches.now (codes "log") result.log }
     ensures leases { option_map (λ text. text.now) result.leases ≡ value_of matches.now (codes "leases") }
-    ensures strict { IsFlag matches.now (codes "strict") true → result.strict ≡ true }
-    ensures lax { IsFlag matches.now (codes "strict") false → result.strict ≡ false }
+    ensures strict { Tells matches.now (codes "strict") result.strict }
 {
     NbnsTexts {
-        bind: argument(matches, network::BIND),
-        life: argument(matches, network::LIFE),
-        longest: argument(matches, network::LONGEST),
-        time: matches.get_str(admin::FOR),
-        log: matches.get_flag(admin::LOG),
-        leases: matches.get_str(admin::LEASES),
-        strict: matches.get_flag(admin::STRICT),
+        bind: argument(matches, "bind"),
+        life: argument(matches, "life"),
+        longest: argument(matches, "longest"),
+        time: matches.get_str("for"),
+        log: matches.get_flag("log"),
+        leases: matches.get_str("leases"),
+        strict: matches.get_flag("strict"),
     }
 }
 
@@ -294,33 +255,31 @@ fn host_texts<'a>(alloc: Global, matches: &ArgMatches<'a>) -> Result<HostTexts<'
     ensures names { IfOk result (λ texts. map (λ text. text.now) texts.names.items ≡ arguments_of matches.now (codes "name")) }
     ensures groups { IfOk result (λ texts. map (λ text. text.now) texts.groups.items ≡ arguments_of matches.now (codes "group")) }
     ensures scope { IfOk result (λ texts. texts.scope.now ≡ argument_of matches.now (codes "scope")) }
-    ensures exact { IsFlag matches.now (codes "exact") true → IfOk result (λ texts. texts.exact ≡ true) }
-    ensures folded { IsFlag matches.now (codes "exact") false → IfOk result (λ texts. texts.exact ≡ false) }
+    ensures exact { IfOk result (λ texts. Tells matches.now (codes "exact") texts.exact) }
     ensures server { IfOk result (λ texts. texts.server.now ≡ argument_of matches.now (codes "server")) }
     ensures bind { IfOk result (λ texts. texts.bind.now ≡ argument_of matches.now (codes "bind")) }
     ensures life { IfOk result (λ texts. texts.life.now ≡ argument_of matches.now (codes "life")) }
     ensures longest { IfOk result (λ texts. texts.longest.now ≡ argument_of matches.now (codes "longest")) }
     ensures time { IfOk result (λ texts. option_map (λ text. text.now) texts.time ≡ value_of matches.now (codes "for")) }
-    ensures logs { IsFlag matches.now (codes "log") true → IfOk result (λ texts. texts.log ≡ true) }
-    ensures silent { IsFlag matches.now (codes "log") false → IfOk result (λ texts. texts.log ≡ false) }
+    ensures logs { IfOk result (λ texts. Tells matches.now (codes "log") texts.log) }
 {
-    let names = arguments(alloc, matches, network::NAME)?;
-    let groups = arguments(alloc, matches, network::GROUP)?;
+    let names = arguments(alloc, matches, "name")?;
+    let groups = arguments(alloc, matches, "group")?;
     Ok(HostTexts {
         names,
         groups,
-        scope: argument(matches, admin::SCOPE),
-        exact: matches.get_flag(admin::EXACT),
-        server: argument(matches, network::SERVER),
-        bind: argument(matches, network::BIND),
-        life: argument(matches, network::LIFE),
-        longest: argument(matches, network::LONGEST),
-        time: matches.get_str(admin::FOR),
-        log: matches.get_flag(admin::LOG),
+        scope: argument(matches, "scope"),
+        exact: matches.get_flag("exact"),
+        server: argument(matches, "server"),
+        bind: argument(matches, "bind"),
+        life: argument(matches, "life"),
+        longest: argument(matches, "longest"),
+        time: matches.get_str("for"),
+        log: matches.get_flag("log"),
     })
 }
 
-/// The texts of an argument that may come again, in order.
+/// Returns the texts of an argument that may be repeated, in order.
 fn arguments<'a>(
     alloc: Global,
     matches: &ArgMatches<'a>,
@@ -341,22 +300,21 @@ fn answer_texts<'a>(matches: &ArgMatches<'a>) -> AnswerTexts<'a>
     ensures at { result.at.now ≡ argument_of matches.now (codes "at") }
 {
     AnswerTexts {
-        from: argument(matches, program::FROM),
-        hex: argument(matches, program::HEX),
-        at: argument(matches, program::AT),
+        from: argument(matches, "from"),
+        hex: argument(matches, "hex"),
+        at: argument(matches, "at"),
     }
 }
 
 fn show_texts<'a>(matches: &ArgMatches<'a>) -> ShowTexts<'a>
     ensures kind { result.kind.now ≡ argument_of matches.now (codes "kind") }
     ensures hex { result.hex.now ≡ argument_of matches.now (codes "hex") }
-    ensures explained { IsFlag matches.now (codes "explain") true → result.explain ≡ true }
-    ensures plain { IsFlag matches.now (codes "explain") false → result.explain ≡ false }
+    ensures explained { Tells matches.now (codes "explain") result.explain }
 {
     ShowTexts {
-        kind: argument(matches, program::KIND),
-        hex: argument(matches, program::HEX),
-        explain: matches.get_flag(program::EXPLAIN),
+        kind: argument(matches, "kind"),
+        hex: argument(matches, "hex"),
+        explain: matches.get_flag("explain"),
     }
 }
 
@@ -364,7 +322,7 @@ fn sim_line<'a>(matches: &ArgMatches<'a>) -> CommandLine<'a>
     ensures drawn { IsFlag matches.now (codes "draw") true → result ≡ CommandLine.Draw }
     ensures printed { IsFlag matches.now (codes "draw") false → result ≡ CommandLine.Sim }
 {
-    if matches.get_flag(program::DRAW) {
+    if matches.get_flag("draw") {
         CommandLine::Draw
     } else {
         CommandLine::Sim
@@ -375,14 +333,12 @@ fn serve_texts<'a>(matches: &ArgMatches<'a>) -> ServeTexts<'a>
     ensures bind { result.bind.now ≡ argument_of matches.now (codes "bind") }
     ensures life { result.life.now ≡ argument_of matches.now (codes "life") }
     ensures longest { result.longest.now ≡ argument_of matches.now (codes "longest") }
-    ensures forever { IsFlag matches.now (codes "forever") true → result.turns ≡ None }
-    ensures turns { IsFlag matches.now (codes "forever") false
-        → option_map (λ text. text.now) result.turns ≡ Some (argument_of matches.now (codes "turns")) }
+    ensures turns { TellsTurns matches.now (option_map (λ text. text.now) result.turns) }
 {
     ServeTexts {
-        bind: argument(matches, network::BIND),
-        life: argument(matches, network::LIFE),
-        longest: argument(matches, network::LONGEST),
+        bind: argument(matches, "bind"),
+        life: argument(matches, "life"),
+        longest: argument(matches, "longest"),
         turns: turns(matches),
     }
 }
@@ -395,35 +351,31 @@ fn node_texts<'a>(matches: &ArgMatches<'a>) -> NodeTexts<'a>
     ensures name { result.name.now ≡ argument_of matches.now (codes "name") }
     ensures kind { result.kind.now ≡ argument_of matches.now (codes "kind") }
     ensures ttl { result.ttl.now ≡ argument_of matches.now (codes "ttl") }
-    ensures forever { IsFlag matches.now (codes "forever") true → result.turns ≡ None }
-    ensures turns { IsFlag matches.now (codes "forever") false
-        → option_map (λ text. text.now) result.turns ≡ Some (argument_of matches.now (codes "turns")) }
+    ensures turns { TellsTurns matches.now (option_map (λ text. text.now) result.turns) }
 {
     NodeTexts {
-        bind: argument(matches, network::BIND),
-        server: argument(matches, network::SERVER),
-        life: argument(matches, network::LIFE),
-        longest: argument(matches, network::LONGEST),
-        name: argument(matches, network::NAME),
-        kind: argument(matches, network::KIND),
-        ttl: argument(matches, network::TTL),
+        bind: argument(matches, "bind"),
+        server: argument(matches, "server"),
+        life: argument(matches, "life"),
+        longest: argument(matches, "longest"),
+        name: argument(matches, "name"),
+        kind: argument(matches, "kind"),
+        ttl: argument(matches, "ttl"),
         turns: turns(matches),
     }
 }
 
-/// How many turns; `None` where there is no end.
+/// Returns the number of turns; `None` for `--forever`.
 fn turns<'a>(matches: &ArgMatches<'a>) -> Option<&'a str>
-    ensures forever { IsFlag matches.now (codes "forever") true → result ≡ None }
-    ensures turns { IsFlag matches.now (codes "forever") false
-        → option_map (λ text. text.now) result ≡ Some (argument_of matches.now (codes "turns")) }
+    ensures { TellsTurns matches.now (option_map (λ text. text.now) result) }
 {
-    if matches.get_flag(network::FOREVER) {
+    if matches.get_flag("forever") {
         return None;
     }
-    Some(argument(matches, network::TURNS))
+    Some(argument(matches, "turns"))
 }
 
-/// The text of an argument. Each is required or has a default, but a scope, which is nothing where it isn't there.
+/// Returns the text of an argument. Each is required or has a default, except a scope, which is empty if it isn't given.
 fn argument<'a>(matches: &ArgMatches<'a>, name: &str) -> &'a str
     ensures { result.now ≡ argument_of matches.now name.now }
 {

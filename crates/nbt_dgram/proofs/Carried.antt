@@ -1,7 +1,6 @@
 -- What packets leave unfinished of a key, and how a slot carries it.
-use Rattle.std.proofs.Common.{◌≡◌, ℕ, ◌+◌, ◌<◌, ◌≤◌, List, [], ◌∷◌, ◌++◌, refl, sym, ap, subst, ◌∙◌, arith, inl, inr, append_assoc}
+use Rattle.std.proofs.Common.{◌≡◌, ℕ, ◌+◌, ◌<◌, ◌≤◌, List, [], ◌∷◌, ◌++◌, refl, sym, ap, subst, ◌∙◌, arith, append_assoc}
 use Rattle.std.specs.List.{Contains}
-use Rattle.std.proofs.lemmas.List.Elements.{Contains-push_cases}
 use Rattle.nbt_dgram.specs.declared.slot.Key.{Key}
 use Rattle.nbt_dgram.specs.declared.slot.Slot.{Slot}
 use Rattle.nbt_dgram.specs.declared.joined.Dropped.TheVariants.{ClockBack}
@@ -11,6 +10,7 @@ use Rattle.nbt_dgram.specs.Slot.{fresh, Agrees, joined, Since, begun, one_more}
 use Rattle.nbt_dgram.specs.Joiner.{dropped, key_of}
 use Rattle.nbt_dgram.specs.Carrying.{Put, IsAlone, Waits, Passes, other_key, went_back, is_alone, Ends, GoesOn, nobody, one_waits, one_passes, none, since, Leaves, none_came, was_ended, was_given_up, is_left}
 use Rattle.nbt_dgram.proofs.Agreeing.{agrees_with_nothing}
+use Rattle.nbt_dgram.proofs.Cutting.{only}
 use Rattle.nbt_dgram.proofs.OnePut.{one_fragment}
 
 -- ---- one packet more
@@ -80,11 +80,8 @@ held_left _ _ now young (held before after first f fragments s idle was goes beg
 
 -- ---- one fragment alone
 
-alone_in : (f g : FragmentValue) → Contains (f ∷ []) g → f ≡ g
-alone_in f g member = elim (Contains-push_cases [] f g member) [ inl within ↦ absurd (omega (arith, within.1)) | inr same ↦ same ]
-
 pub cut_makes_nothing : (f : FragmentValue) → ¬ IsAlone f → (payload : List ℕ) → ¬ MakesUp (f ∷ []) payload
 cut_makes_nothing f cut payload made =
-    let first : f ≡ made.first.0 = alone_in f made.first.0 made.first.1 in
-    let last : f ≡ made.last.0 = alone_in f made.last.0 made.last.1 in
+    let first : f ≡ made.first.0 = only f made.first.0 made.first.1 in
+    let last : f ≡ made.last.0 = only f made.last.0 made.last.1 in
     cut (made.first.2, ap (λ (h : FragmentValue). h.part) first ∙ made.first.3, ap (λ (h : FragmentValue). h.more) last ∙ made.last.2)

@@ -15,7 +15,7 @@ use Rattle.nbt_dgram.specs.Fragments.{Covers, octet_in, MakesUp, one, front_of, 
 
 -- ---- the members of short lists
 
-only : {X : Type 0} (x y : X) → Contains (x ∷ []) y → x ≡ y
+pub only : {X : Type 0} (x y : X) → Contains (x ∷ []) y → x ≡ y
 only x y h =
     elim (Contains-push_cases [] x y h) [
       | inl none ↦ absurd (omega (arith, none.1))

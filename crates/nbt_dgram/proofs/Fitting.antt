@@ -3,13 +3,14 @@ use Rattle.std.proofs.Common.{◌≡◌, ℕ, ◌+◌, ◌-◌, ◌≤◌, List,
 use Rattle.std.proofs.lemmas.List.{length-append, length-take-le}
 use Rattle.std.proofs.lemmas.List.Edits.{length-between}
 use Rattle.nbt_name.specs.declared.form.Form.TheVariants.{Plain}
+use Rattle.nbt_name.specs.Words.{word_at}
 use Rattle.nbt_name.specs.Wire.{AreOctets, wire}
 use Rattle.nbt_name.proofs.Ends.{next_within}
 use Rattle.nbt_name.proofs.Fits.{word_fits}
 use Rattle.nbt_name.proofs.PlainForms.{plain_takes_wire}
 use Rattle.nbt_dgram.specs.declared.dgram.Part.{Part}
 use Rattle.nbt_dgram.specs.declared.dgram.Part.TheVariants.{First, Later}
-use Rattle.nbt_dgram.specs.Fields.{length_at, end_at, within}
+use Rattle.nbt_dgram.specs.Fields.{end_at, within}
 use Rattle.nbt_dgram.specs.Dgram.{FragmentValue, BodyValue, fragment, error, lookup, DgramValue, PartAt, FragmentAt, BodyAt, DgramIs}
 use Rattle.nbt_dgram.specs.Text.{names_text, dgm_length, BodyFits, Fits}
 
@@ -25,7 +26,7 @@ begins octets (First names) begin whole at =
     (omega (arith, source, destination, length-append (wire names.source) (wire names.destination)), omega (arith, there, counted))
 begins octets (Later offset) begin whole at = (omega (arith, at.2), omega (arith, at.2))
 
-counted_length : (octets : List ℕ) (f : FragmentValue) (next : ℕ) → FragmentAt octets f next → dgm_length f ≡ length_at octets
+counted_length : (octets : List ℕ) (f : FragmentValue) (next : ℕ) → FragmentAt octets f next → dgm_length f ≡ word_at octets 10
 counted_length octets f next at =
     let begin = begins octets f.part at.begin at.whole at.part in
     let size : length f.payload ≡ end_at octets - at.begin = ap length at.payload ∙ length-between octets at.begin (end_at octets) at.whole in

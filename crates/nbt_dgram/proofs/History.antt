@@ -1,7 +1,7 @@
 -- Packets that are put one after the other: each slot carries the fragments of its key, and what is told they tell.
 use Rattle.std.proofs.Common.{◌≡◌, ℕ, ◌+◌, ◌<◌, ◌≤◌, Bool, true, false, List, [], ◌∷◌, ◌++◌, length, map, set, replicate, Option, Some, None, refl, sym, ap, subst, ◌∙◌, arith, inl, inr}
 use Rattle.std.specs.Prelude.{slice_get}
-use Rattle.std.specs.List.{position, Contains}
+use Rattle.std.specs.List.{position}
 use Rattle.std.proofs.lemmas.Bool.{cases_lt, cases_eq, lt-ltb, ltb-true}
 use Rattle.std.proofs.lemmas.List.Quantifiers.{position-Some}
 use Rattle.nbt_dgram.specs.declared.dgram.Names.{Names}
@@ -14,7 +14,7 @@ use Rattle.nbt_dgram.specs.Dgram.{FragmentValue, fragment, DgramValue}
 use Rattle.nbt_dgram.specs.Slot.{fresh, joined, Since, one_more}
 use Rattle.nbt_dgram.specs.Joiner.{JoinedValue, whole, waiting, dropped, is_old, kept, is_of, is_free, emptied, key_of, Joins, too_long, no_room, begins, conflicts, waits, completes, JoinerValue, Puts, clock_back, alone, joins, Sweeps, too_early, given_up}
 use Rattle.nbt_dgram.specs.Carrying.{Put, put, Run, is_new, after_put, after_sweep, IsAlone, Passes, other_key, went_back, is_alone, Ends, nobody, Unfinished, none, since, fragments_in, Leaves, none_came, Tells, is_too_long, is_full, is_conflict, is_whole, is_unfinished}
-use Rattle.nbt_dgram.proofs.SlotLists.{got_below, got_is}
+use Rattle.std.proofs.lemmas.Option.{get_or_from_slice_get, slice_get_within}
 use Rattle.nbt_dgram.proofs.SlotKeys.{key_or, of_is, is_of_own, is_not_of, NoSlot, slot_or_none, no_slot, got_mapped, map_got, got_set, set_here, set_elsewhere, none_in_free}
 use Rattle.nbt_dgram.proofs.Carried.{not_passing, none_later, none_passes, none_ended, Held, held_begins, held_joins, held_passes, held_given_up, held_left, cut_makes_nothing}
 use Rattle.nbt_dgram.proofs.Holding as holding
@@ -127,15 +127,12 @@ module _ (puts : List Put) (now : ℕ) (slots : List (Option Slot)) (p : Put) (b
         ];
   }
 
-none_within : (g : FragmentValue) → Contains [] g → ⊥
-none_within g member = omega (arith, member.1)
-
 -- the place of a slot that `position` finds
 found_at : (key : Key) (slots : List (Option Slot)) (place : ℕ) (s : Slot) → position (is_of key) slots ≡ Some place → slice_get slots place ≡ Some (Some s) → s.key ≡ key
-found_at key slots place s found there = of_is key s (subst (λ (slot : Option Slot). is_of key slot ≡ true) (got_is slots place (Some s) None there) (position-Some (is_of key) slots place None found).1)
+found_at key slots place s found there = of_is key s (subst (λ (slot : Option Slot). is_of key slot ≡ true) (get_or_from_slice_get slots place (Some s) None there) (position-Some (is_of key) slots place None found).1)
 
 not_free : (slots : List (Option Slot)) (place : ℕ) (s : Slot) → position is_free slots ≡ Some place → slice_get slots place ≡ Some (Some s) → ⊥
-not_free slots place s free there = let e : false ≡ true = ap is_free (sym (got_is slots place (Some s) None there)) ∙ (position-Some is_free slots place None free).1 in cc
+not_free slots place s free there = let e : false ≡ true = ap is_free (sym (get_or_from_slice_get slots place (Some s) None there)) ∙ (position-Some is_free slots place None free).1 in cc
 
 -- what is dropped for another cause than its moment, and what is whole, ends the datagram of its key
 drops : (now : ℕ) (d : DgramValue) (f : FragmentValue) (reason : Dropped) → d.body ≡ fragment f → ¬ IsAlone f → (reason ≡ reasons.ClockBack → ⊥) → Ends (key_of d) (put now d (dropped reason))
@@ -155,7 +152,7 @@ module _ (puts : List Put) (now : ℕ) (slots : List (Option Slot)) (d : DgramVa
   held_joined _ _ (conflicts place s fits found there not) = held_emptied puts now slots (put now d (dropped reasons.Conflict)) before (drops now d f reasons.Conflict body cut (λ e. absurd cc))
   held_joined _ _ (waits place s fits found there agrees not) =
       let own : s.key ≡ key_of d = found_at (key_of d) slots place s found there in
-      held_set puts now slots (put now d waiting) before place (joined f s) (got_below slots place (Some s) there) own
+      held_set puts now slots (put now d waiting) before place (joined f s) (slice_get_within slots place (Some s) there) own
       (held_joins puts s (put now d waiting) f (record { of_key = sym own; body = body; cut = cut; outcome = refl }) (before.young place s there) fits agrees (before.held place s there)) (before.young place s there)
       (λ q t e other same. other (before.single q place t s e there (same ∙ sym own))) (λ t e. found_at (key_of d) slots place t found e)
   held_joined _ _ (completes place s names payload fits found there agrees is) =
@@ -180,7 +177,7 @@ module _ (puts : List Put) (now : ℕ) (slots : List (Option Slot)) (d : DgramVa
         subst (λ (k : Key). Leaves k puts now (since s.began left.0)) (found_at (key_of d) slots place s found there) left.1,
         is_conflict fits (λ all. not (holding.all_agree left.0 s left.2 f left.3 left.4 all)),
       )
-  join_tells _ _ (begins place fits new free) = (none, before.idle (key_of d) (no_slot (key_of d) slots new), is_unfinished fits (λ g member. absurd (none_within g member)) (cut_makes_nothing f cut))
+  join_tells _ _ (begins place fits new free) = (none, before.idle (key_of d) (no_slot (key_of d) slots new), is_unfinished fits (λ g member. absurd (holding.none_in g member)) (cut_makes_nothing f cut))
   join_tells _ _ (waits place s fits found there agrees not) =
       let left = held_left puts s now (before.young place s there) (before.held place s there) in (
         since s.began left.0,

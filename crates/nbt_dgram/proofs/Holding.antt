@@ -3,7 +3,7 @@ use Rattle.std.proofs.Common.{◌≡◌, ℕ, ◌+◌, ◌<◌, ◌≤◌, Bool,
 use Rattle.std.specs.Prelude.{◌⊎◌, slice_index}
 use Rattle.std.specs.List.{Contains}
 use Rattle.std.proofs.lemmas.Bool.{cases_lt}
-use Rattle.std.proofs.lemmas.List.{ext_get_or, length-map, length-take-le, length-replicate, get_or-take}
+use Rattle.std.proofs.lemmas.List.{ext_get_or, get_or-map, get_or-take, length-map, length-take-le}
 use Rattle.std.proofs.lemmas.List.Elements.{Contains-append_left, Contains-push, Contains-push_cases}
 use Rattle.nbt_dgram.specs.declared.msg_type.Delivery.{Delivery}
 use Rattle.nbt_dgram.specs.declared.dgram.Names.{Names}
@@ -14,8 +14,8 @@ use Rattle.nbt_dgram.specs.declared.slot.Slot.{Slot}
 use Rattle.nbt_dgram.specs.Dgram.{FragmentValue}
 use Rattle.nbt_dgram.specs.Fragments.{begin_of, end_of, Covers, octet_in, MakesUp}
 use Rattle.nbt_dgram.specs.Carrying.{AreNamed, AllAgree}
-use Rattle.nbt_dgram.specs.Slot.{nothing, fresh, known_at, Agrees, names_with, joined, IsWhole, Since, begun, one_more}
-use Rattle.nbt_dgram.proofs.Marks.{nothing_known, map_at, written-length, written_before, written_inside, written_behind}
+use Rattle.nbt_dgram.specs.Slot.{fresh, known_at, Agrees, names_with, joined, IsWhole, Since, begun, one_more}
+use Rattle.nbt_dgram.proofs.Marks.{nothing_known, nothing_room, written-length, written_before, written_inside, written_behind}
 
 -- what a slot says of the fragments that joined it
 record Holds (fragments : List FragmentValue) (s : Slot) : Type 0 where
@@ -31,12 +31,8 @@ record Holds (fragments : List FragmentValue) (s : Slot) : Type 0 where
 
 -- ---- the beginning
 
-none_in : {X : Type 0} (x : X) → Contains [] x → ⊥
+pub none_in : {X : Type 0} (x : X) → Contains [] x → ⊥
 none_in x h = omega (arith, h.1)
-
-nothing_room : length nothing ≡ 512
-unfolding nothing
-nothing_room = length-replicate {A = Option ℕ} 512 None
 
 holds_nothing : (key : Key) (now : ℕ) (delivery : Delivery) → Holds [] (fresh key now delivery)
 holds_nothing key now delivery = record {
@@ -167,7 +163,7 @@ holds _ _ (one_more fragments s f since fits agrees) = holds_more fragments s f 
 
 -- an octet below the end of a slot that is whole
 filled_at : (s : Slot) (names : Names) (whole : List ℕ) → IsWhole s names whole → (place : ℕ) → place < length whole → known_at s.octets place ≡ Some (slice_index whole place)
-filled_at s names whole is place less = sym (get_or-take (length whole) s.octets place None less) ∙ ap (λ (xs : List (Option ℕ)). known_at xs place) is.filled ∙ map_at whole place less
+filled_at s names whole is place less = sym (get_or-take (length whole) s.octets place None less) ∙ ap (λ (xs : List (Option ℕ)). known_at xs place) is.filled ∙ get_or-map Some whole place 0 None less
 
 pub made_up : (fragments : List FragmentValue) (s : Slot) → Since fragments s → (names : Names) (whole : List ℕ) → IsWhole s names whole → MakesUp fragments whole
 made_up fragments s since names whole is =
@@ -199,7 +195,7 @@ is_whole fragments s since whole made =
         filled = ext_get_or None (take (length whole) s.octets) (map Some whole) (size ∙ sym (length-map whole Some)) (λ place within.
             let less : place < length whole = omega (arith, size) in
             let f = made.covered place less in
-            get_or-take (length whole) s.octets place None less ∙ held.octet_to f.0 f.1 place f.2 ∙ ap (λ (k : ℕ). Some k) (sym (made.agrees f.0 f.1 place f.2).1) ∙ sym (map_at whole place less));
+            get_or-take (length whole) s.octets place None less ∙ held.octet_to f.0 f.1 place f.2 ∙ ap (λ (k : ℕ). Some k) (sym (made.agrees f.0 f.1 place f.2).1) ∙ sym (get_or-map Some whole place 0 None less));
       },
     )
 

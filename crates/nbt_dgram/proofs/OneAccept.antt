@@ -81,20 +81,16 @@ module _ (old : JoinerValue) (now : ℕ) (node : NodeValue) (own : Addr) (octets
 
   lookup_is : (c : DgramValue) (m : ℕ) (l : Lookup) (name : NameValue) (v : AcceptValue) (p : List ℕ) (y : JoinerValue) → DgramIs octets c m → c.body ≡ lookup l name → Accepts old now node own octets v p y
       → (nothing ≡ v) × ([] ≡ p) × (old ≡ y)
-  lookup_is c m l name _ _ _ at b (unreadable f bad) = (refl, refl, refl)
   lookup_is c m l name _ _ _ at b (error_told d n code is body) = absurd (let e : lookup l name ≡ error code = sym b ∙ body_of_one c d m n (error code) at is body in cc)
-  lookup_is c m l name _ _ _ at b (lookup_ignored d n _ _ is body) = (refl, refl, refl)
-  lookup_is c m l name _ _ _ at b (broadcast_ignored d n g is body _) = (refl, refl, refl)
   lookup_is c m l name _ _ _ at b (is_put d n g joined outcome sent new is body _ _ _) = absurd (let e : lookup l name ≡ fragment g = sym b ∙ body_of_one c d m n (fragment g) at is body in cc)
+  lookup_is c m l name _ _ _ at b _ = (refl, refl, refl)
 
   broadcast_is : (c : DgramValue) (m : ℕ) (f : FragmentValue) (v : AcceptValue) (p : List ℕ) (y : JoinerValue) → DgramIs octets c m → c.body ≡ fragment f → f.delivery ≡ Broadcast → Accepts old now node own octets v p y
       → (nothing ≡ v) × ([] ≡ p) × (old ≡ y)
-  broadcast_is c m f _ _ _ at b all (unreadable g bad) = (refl, refl, refl)
   broadcast_is c m f _ _ _ at b all (error_told d n code is body) = absurd (let e : fragment f ≡ error code = sym b ∙ body_of_one c d m n (error code) at is body in cc)
-  broadcast_is c m f _ _ _ at b all (lookup_ignored d n l name is body) = (refl, refl, refl)
-  broadcast_is c m f _ _ _ at b all (broadcast_ignored d n g is body _) = (refl, refl, refl)
   broadcast_is c m f _ _ _ at b all (is_put d n g joined outcome sent new is body not _ _) =
       absurd (not (ap (λ (h : FragmentValue). h.delivery) (sym (one_fragment c.body f g b (body_of_one c d m n (fragment g) at is body))) ∙ all))
+  broadcast_is c m f _ _ _ at b all _ = (refl, refl, refl)
 
   put_is : (c : DgramValue) (m : ℕ) (f : FragmentValue) (j : JoinedValue) (u : AcceptValue) (o : List ℕ) (x : JoinerValue) (v : AcceptValue) (p : List ℕ) (y : JoinerValue) → DgramIs octets c m → c.body ≡ fragment f → (f.delivery ≡ Broadcast → ⊥)
       → Puts old now c j x → Hands node now own c f.delivery j u o → Accepts old now node own octets v p y → (u ≡ v) × (o ≡ p) × (x ≡ y)

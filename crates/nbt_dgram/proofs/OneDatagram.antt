@@ -12,7 +12,6 @@ use Rattle.nbt_name.proofs.Readers.{Reads, reads_this, reads_up_to, reads_name, 
 use Rattle.nbt_dgram.specs.declared.fault.DgramFault.{DgramFault}
 use Rattle.nbt_dgram.specs.declared.msg_type.Delivery.{Delivery}
 use Rattle.nbt_dgram.specs.declared.msg_type.Delivery.TheVariants.{DirectUnique, DirectGroup, Broadcast}
-use Rattle.nbt_dgram.specs.declared.msg_type.Lookup.{Lookup}
 use Rattle.nbt_dgram.specs.declared.msg_type.Lookup.TheVariants.{Request, Positive, Negative}
 use Rattle.nbt_dgram.specs.declared.msg_type.MsgType.{MsgType}
 use Rattle.nbt_dgram.specs.declared.msg_type.MsgType.TheVariants as types
@@ -49,37 +48,10 @@ IsOfType n = ((t : MsgType) × (n ≡ type_number t)) ⊎ ((t : MsgType) → n �
 type_cases : (n : ℕ) → IsOfType n
 unfolding IsOfType
 type_cases n =
-    elim (cases_eq n 0x10) [
-      | inl e ↦ inl (types.Data DirectUnique, e)
-      | inr a ↦ elim (cases_eq n 0x11) [
-        | inl e ↦ inl (types.Data DirectGroup, e)
-        | inr b ↦ elim (cases_eq n 0x12) [
-          | inl e ↦ inl (types.Data Broadcast, e)
-          | inr c ↦ elim (cases_eq n 0x13) [
-            | inl e ↦ inl (types.Error, e)
-            | inr d ↦ elim (cases_eq n 0x14) [
-              | inl e ↦ inl (types.Lookup Request, e)
-              | inr f ↦ elim (cases_eq n 0x15) [
-                | inl e ↦ inl (types.Lookup Positive, e)
-                | inr g ↦ elim (cases_eq n 0x16) [
-                  | inl e ↦ inl (types.Lookup Negative, e)
-                  | inr h ↦ inr (none n a b c d f g h)
-                ]
-              ]
-            ]
-          ]
-        ]
-      ]
+    elim (cases_eq n (type_number (type_back n))) [
+      | inl e ↦ inl (type_back n, e)
+      | inr other ↦ inr (λ t e. other (e ∙ ap type_number (sym (type_back-number t) ∙ ap type_back (sym e))))
     ]
-  where
-    none : (n : ℕ) → (n ≡ 0x10 → ⊥) → (n ≡ 0x11 → ⊥) → (n ≡ 0x12 → ⊥) → (n ≡ 0x13 → ⊥) → (n ≡ 0x14 → ⊥) → (n ≡ 0x15 → ⊥) → (n ≡ 0x16 → ⊥) → (t : MsgType) → n ≡ type_number t → ⊥
-    none n a b c d f g h (types.Data DirectUnique) = a
-    none n a b c d f g h (types.Data DirectGroup) = b
-    none n a b c d f g h (types.Data Broadcast) = c
-    none n a b c d f g h types.Error = d
-    none n a b c d f g h (types.Lookup Request) = f
-    none n a b c d f g h (types.Lookup Positive) = g
-    none n a b c d f g h (types.Lookup Negative) = h
 
 -- ---- the parts, from within
 

@@ -11,7 +11,7 @@ use Rattle.nbt_dgram.specs.declared.dgram.Part.{Part}
 use Rattle.nbt_dgram.specs.declared.dgram.Part.TheVariants.{First, Later}
 use Rattle.nbt_dgram.specs.Numbers.{head_size}
 use Rattle.nbt_name.specs.Words.{word, long, word_at, long_at}
-use Rattle.nbt_dgram.specs.Fields.{octet_at, first_at, more_at, offset_at, length_at, end_at, within}
+use Rattle.nbt_dgram.specs.Fields.{octet_at, first_at, more_at, offset_at, end_at, within}
 use Rattle.nbt_dgram.specs.Dgram.{FragmentValue, BodyValue, fragment, error, lookup, DgramValue, type_of, IsTypeAt, NamesAt, PartAt, FragmentAt, BodyAt, DgramIs}
 use Rattle.nbt_dgram.specs.Text.{offset_of, names_text, dgm_length, flags_by, flags_of, head, body_text, text, IsPart, BodyHolds, BodyFits, HoldsNumbers, Fits}
 use Rattle.nbt_name.proofs.Behind.{Behind, onward, word_back, long_back, word_there, range_there, plain_there}
@@ -93,7 +93,7 @@ fragment_there octets counted f rest whole is fits flags b c =
     let parts2 : body_text (fragment f) ≡ word (dgm_length f) ++ (word (offset_of f.part) ++ (names ++ f.payload)) = simp append_assoc in
     let c0 : Behind counted 10 (word (dgm_length f) ++ (word (offset_of f.part) ++ (names ++ f.payload))) = subst (Behind counted 10) parts2 c in
     let c4 : Behind counted 14 (names ++ f.payload) = onward 4 (word (dgm_length f) ++ word (offset_of f.part)) (names ++ f.payload) refl c0 in
-    let length_is : length_at octets ≡ dgm_length f = word_there (dgm_length f) (word (offset_of f.part) ++ tail) fits b0 in
+    let length_is : word_at octets 10 ≡ dgm_length f = word_there (dgm_length f) (word (offset_of f.part) ++ tail) fits b0 in
     let offset_is : offset_at octets ≡ offset_of f.part = word_there (offset_of f.part) tail (offset_small f.part is) b2 in
     let end_is : end_at octets ≡ length counted = omega (arith, length_is, size, c.within) in
     let counted_is : within octets ≡ counted = rw (end_is, whole) (take_at counted rest (length counted) refl) in

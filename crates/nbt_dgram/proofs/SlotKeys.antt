@@ -1,13 +1,13 @@
 -- Slots by their keys: whether one stands there, and which stand where slots are emptied or one is set.
-use Rattle.std.proofs.Common.{◌≡◌, ℕ, zero, suc, ◌<◌, Bool, true, false, ◌&&◌, cond, List, [], ◌∷◌, length, map, set, replicate, Option, Some, None, refl, sym, ap, subst, ◌∙◌, arith, inl, inr, eq-eqb}
+use Rattle.std.proofs.Common.{◌≡◌, ℕ, zero, suc, ◌<◌, Bool, true, false, cond, List, [], ◌∷◌, length, map, set, replicate, Option, Some, None, refl, sym, ap, subst, ◌∙◌, arith, inl, inr, eq-eqb}
 use Rattle.std.specs.Prelude.{◌⊎◌, slice_get}
 use Rattle.std.specs.List.{position, position_or_len}
-use Rattle.std.proofs.lemmas.Bool.{cases_lt, cases_eq, eqb-true, lt-ltb}
+use Rattle.std.proofs.lemmas.Bool.{and_parts, cases_lt, cases_eq, eqb-true, false_from_ne_true, lt-ltb}
 use Rattle.std.proofs.lemmas.List.Sums.{fails_before_first}
+use Rattle.std.proofs.lemmas.Option.{get_or_from_slice_get, same_Some, slice_get_within}
 use Rattle.nbt_dgram.specs.declared.slot.Key.{Key}
 use Rattle.nbt_dgram.specs.declared.slot.Slot.{Slot}
 use Rattle.nbt_dgram.specs.Joiner.{is_of}
-use Rattle.nbt_dgram.proofs.SlotLists.{got_below, got_is}
 
 -- ---- keys
 
@@ -24,25 +24,17 @@ key_or a b =
       ]
     ]
 
-both : (a b : Bool) → (a && b) ≡ true → (a ≡ true) × (b ≡ true)
-both true b e = (refl, e)
-both false b e = absurd cc
-
 pub of_is : (key : Key) (s : Slot) → is_of key (Some s) ≡ true → s.key ≡ key
 of_is key s e =
-    let id = both _ _ e in
-    let source = both _ _ id.1 in
+    let id = and_parts _ _ e in
+    let source = and_parts _ _ id.1 in
     same_key s.key key (eqb-true s.key.id key.id id.0) (eqb-true s.key.source.ip key.source.ip source.0) (eqb-true s.key.source.port key.source.port source.1)
 
 pub is_of_own : (key : Key) (s : Slot) → s.key ≡ key → is_of key (Some s) ≡ true
 is_of_own key s same = subst (λ (k : Key). is_of k (Some s) ≡ true) same (rw (eq-eqb s.key.id s.key.id refl, eq-eqb s.key.source.ip s.key.source.ip refl, eq-eqb s.key.source.port s.key.source.port refl) refl)
 
 pub is_not_of : (key : Key) (s : Slot) → (s.key ≡ key → ⊥) → is_of key (Some s) ≡ false
-is_not_of key s other = by_test (is_of key (Some s)) refl
-  where
-    by_test : (b : Bool) → is_of key (Some s) ≡ b → b ≡ false
-    by_test true is = absurd (other (of_is key s is))
-    by_test false is = refl
+is_not_of key s other = false_from_ne_true (is_of key (Some s)) (λ is. other (of_is key s is))
 
 -- ---- whether a slot has a key
 
@@ -72,7 +64,7 @@ pub no_position : {X : Type 0} (test : X → Bool) (xs : List X) → position te
 no_position {X} test xs none place x there =
     elim (cases_lt (position_or_len test xs) (length xs)) [
       | inl less ↦ absurd (let e : Some (position_or_len test xs) ≡ None = rw (lt-ltb (position_or_len test xs) (length xs) less) at none in cc)
-      | inr all ↦ subst (λ (y : X). test y ≡ false) (got_is xs place x x there) (fails_before_first test xs place x (let within = got_below xs place x there in omega (arith, within, all)))
+      | inr all ↦ subst (λ (y : X). test y ≡ false) (get_or_from_slice_get xs place x x there) (fails_before_first test xs place x (let within = slice_get_within xs place x there in omega (arith, within, all)))
     ]
 
 pub no_slot : (key : Key) (slots : List (Option Slot)) → position (is_of key) slots ≡ None → NoSlot key slots
@@ -100,12 +92,9 @@ map_got test (x ∷ xs) (suc place) s e not = map_got test xs place s e not
 
 -- ---- a slot that is set
 
-same_slot : (s t : Slot) → ◌≡◌ {A = Option Slot} (Some s) (Some t) → s ≡ t
-same_slot s t e = cc
-
 pub got_set : (slots : List (Option Slot)) (i : ℕ) (new : Slot) (place : ℕ) (s : Slot) → slice_get (set slots i (Some new)) place ≡ Some (Some s) → ((place ≡ i) × (new ≡ s)) ⊎ ((place ≡ i → ⊥) × (slice_get slots place ≡ Some (Some s)))
 got_set [] i new place s e = absurd cc
-got_set (x ∷ xs) zero new zero s e = inl (refl, (let same : ◌≡◌ {A = Option Slot} (Some new) (Some s) = cc in same_slot new s same))
+got_set (x ∷ xs) zero new zero s e = inl (refl, (let same : ◌≡◌ {A = Option Slot} (Some new) (Some s) = cc in same_Some new s same))
 got_set (x ∷ xs) zero new (suc place) s e = inr ((λ same. omega (arith, same)), e)
 got_set (x ∷ xs) (suc i) new zero s e = inr ((λ same. omega (arith, same)), e)
 got_set (x ∷ xs) (suc i) new (suc place) s e = elim (got_set xs i new place s e) [ inl is ↦ inl (ap suc is.0, is.1) | inr old ↦ inr ((λ same. old.0 (omega (arith, same))), old.1) ]

@@ -3,20 +3,22 @@ use Rattle.std.proofs.Common.{◌≡◌, ℕ, zero, suc, ◌+◌, ◌-◌, ◌<�
 use Rattle.std.specs.Prelude.{slice_get, count_by}
 use Rattle.std.specs.List.{position, All}
 use Rattle.std.proofs.lemmas.List.{map-set, set-get_or, length-map, length-take-le, length-replicate, get_or-replicate, same_lists, get_or-append_right, get_or-drop}
+use Rattle.std.proofs.lemmas.Bool.{cond_both}
 use Rattle.std.proofs.lemmas.List.Edits.{map_over_more}
 use Rattle.std.proofs.lemmas.List.Elements.{All-map, All-weaker, All-set, All-get_or}
 use Rattle.std.proofs.lemmas.List.Sums.{count_by_more_yes, count_by_more_no}
 use Rattle.std.proofs.lemmas.List.Quantifiers.{position-Some}
+use Rattle.std.proofs.lemmas.Option.{get_or_from_slice_get, slice_get-get_or, slice_get_within}
 use Rattle.nbt_dgram.specs.declared.slot.Key.{Key}
 use Rattle.nbt_dgram.specs.declared.slot.Slot.{Slot}
 use Rattle.nbt_dgram.specs.declared.joined.Joined.{Joined}
 use Rattle.nbt_dgram.specs.declared.joined.Joined.TheVariants as results
 use Rattle.nbt_dgram.specs.Dgram.{FragmentValue}
 use Rattle.nbt_dgram.specs.Fragments.{begin_of, end_of}
-use Rattle.nbt_dgram.specs.Slot.{nothing, fresh, joined}
-use Rattle.nbt_dgram.specs.Joiner.{JoinedValue, waiting, joined_of, is_old, kept, is_of, emptied, HasRoom, Joins, no_room, begins, conflicts, waits, completes}
-use Rattle.nbt_dgram.specs.Inner.Joining.{JoinsSlot, disagrees, unfinished, finished, IsTaken, JoinsAt, Begins, no_place, in_place}
-use Rattle.nbt_dgram.proofs.Marks.{written-length}
+use Rattle.nbt_dgram.specs.Slot.{fresh, joined}
+use Rattle.nbt_dgram.specs.Joiner.{JoinedValue, waiting, joined_of, is_of, emptied, Joins, no_room, begins, conflicts, waits, completes}
+use Rattle.nbt_dgram.specs.Inner.Joining.{HasRoom, JoinsSlot, disagrees, unfinished, finished, IsTaken, JoinsAt, Begins, no_place, in_place}
+use Rattle.nbt_dgram.proofs.Marks.{nothing_room, written-length}
 
 -- ---- a loop that writes f over each element
 
@@ -36,31 +38,11 @@ count_step p xs i d false n m less is so_far new = new ∙ so_far ∙ sym (count
 
 -- ---- each slot has its 512 octets
 
-emptied_room : (key : Key) (slot : Option Slot) → HasRoom slot → HasRoom (emptied key slot)
-emptied_room key None room = tt
-emptied_room key (Some s) room = by_test (is_of key (Some s))
-  where
-    by_test : (b : Bool) → HasRoom (cond b None (Some s))
-    by_test true = tt
-    by_test false = room
-
-kept_room : (now : ℕ) (slot : Option Slot) → HasRoom slot → HasRoom (kept now slot)
-kept_room now None room = tt
-kept_room now (Some s) room = by_test (is_old now (Some s))
-  where
-    by_test : (b : Bool) → HasRoom (cond b None (Some s))
-    by_test true = tt
-    by_test false = room
-
-pub all_emptied_room : (key : Key) (slots : List (Option Slot)) → All HasRoom slots → All HasRoom (map (emptied key) slots)
-all_emptied_room key slots rooms = All-map HasRoom (emptied key) slots (All-weaker HasRoom (λ slot. HasRoom (emptied key slot)) (emptied_room key) slots rooms)
-
-pub all_kept_room : (now : ℕ) (slots : List (Option Slot)) → All HasRoom slots → All HasRoom (map (kept now) slots)
-all_kept_room now slots rooms = All-map HasRoom (kept now) slots (All-weaker HasRoom (λ slot. HasRoom (kept now slot)) (kept_room now) slots rooms)
-
-nothing_room : length nothing ≡ 512
-unfolding nothing
-nothing_room = length-replicate {A = Option ℕ} 512 None
+-- also where those that pass a test are emptied
+pub all_cleared_room : (test : Option Slot → Bool) (slots : List (Option Slot)) → All HasRoom slots → All HasRoom (map (λ slot. cond (test slot) None slot) slots)
+all_cleared_room test slots rooms =
+    All-map HasRoom (λ slot. cond (test slot) None slot) slots
+    (All-weaker HasRoom (λ slot. HasRoom (cond (test slot) None slot)) (λ slot room. cond_both (test slot) None slot HasRoom (λ e. tt) (λ e. room)) slots rooms)
 
 joined_room : (f : FragmentValue) (s : Slot) → end_of f ≤ 512 → length s.octets ≡ 512 → length (joined f s).octets ≡ 512
 joined_room f s fits room = written-length (begin_of f) f.payload s.octets (omega (arith, room)) ∙ room
@@ -78,21 +60,6 @@ begins_join slots now key f _ _ fits new (in_place place free) = begins place fi
 
 -- ---- the slot of a key
 
-get_there : {X : Type 0} (xs : List X) (i : ℕ) (d : X) → i < length xs → slice_get xs i ≡ Some (get_or xs i d)
-get_there [] i d less = absurd (omega arith)
-get_there (x ∷ xs) zero d less = refl
-get_there (x ∷ xs) (suc i) d less = get_there xs i d (omega arith)
-
-pub got_below : {X : Type 0} (xs : List X) (i : ℕ) (x : X) → slice_get xs i ≡ Some x → i < length xs
-got_below [] i x e = absurd cc
-got_below (y ∷ ys) zero x e = omega arith
-got_below (y ∷ ys) (suc i) x e = omega (arith, got_below ys i x e)
-
-pub got_is : {X : Type 0} (xs : List X) (i : ℕ) (x d : X) → slice_get xs i ≡ Some x → get_or xs i d ≡ x
-got_is [] i x d e = absurd cc
-got_is (y ∷ ys) zero x d e = cc
-got_is (y ∷ ys) (suc i) x d e = got_is ys i x d e
-
 slot_in : (key : Key) (slot : Option Slot) → is_of key slot ≡ true → (s : Slot) × (slot ≡ Some s)
 slot_in key None is = absurd cc
 slot_in key (Some s) is = (s, refl)
@@ -101,7 +68,7 @@ pub taken : (slots : List (Option Slot)) (key : Key) (place : ℕ) → position 
 taken slots key place found =
     let at = position-Some (is_of key) slots place None found in
     let slot = slot_in key (get_or slots place None) at.1 in
-    record { slot = slot.0; within = at.0; there = get_there slots place None at.0 ∙ ap (λ (x : Option Slot). Some x) slot.1 }
+    record { slot = slot.0; within = at.0; there = slice_get-get_or slots place None at.0 ∙ ap (λ (x : Option Slot). Some x) slot.1 }
 
 -- the fragments of a slot keep its key
 same_key : (old new : Slot) (f : FragmentValue) (outcome : JoinedValue) → JoinsSlot old f outcome new → new.key ≡ old.key
@@ -117,7 +84,7 @@ emptied_after : (slots : List (Option Slot)) (key : Key) (place : ℕ) (old new 
     → map (emptied key) (set slots place (Some new)) ≡ map (emptied key) slots
 emptied_after slots key place old new there is same =
     let is_new : is_of key (Some new) ≡ true = rw same is in
-    let at : get_or slots place None ≡ Some old = got_is slots place (Some old) None there in
+    let at : get_or slots place None ≡ Some old = get_or_from_slice_get slots place (Some old) None there in
     let before : get_or (map (emptied key) slots) place None ≡ None = mapped_at slots place at in
     map-set (emptied key) slots place (Some new) ∙ ap (set (map (emptied key) slots) place) (emptied_of key new is_new ∙ sym before) ∙ set-get_or (map (emptied key) slots) place None
   where
@@ -146,13 +113,13 @@ done_join slots mid after now key place f outcome fits found at done same = by_s
 
     by_slot : (old new : Slot) (outcome : JoinedValue) → slice_get slots place ≡ Some (Some old) → JoinsSlot old f outcome new → (outcome ≡ waiting → ⊥) → after ≡ map (emptied key) (set slots place (Some new)) → Joins slots now key f outcome after
     by_slot old new outcome there joins done same =
-        let is : is_of key (Some old) ≡ true = subst (λ (slot : Option Slot). is_of key slot ≡ true) (got_is slots place (Some old) None there) (position-Some (is_of key) slots place None found).1 in
+        let is : is_of key (Some old) ≡ true = subst (λ (slot : Option Slot). is_of key slot ≡ true) (get_or_from_slice_get slots place (Some old) None there) (position-Some (is_of key) slots place None found).1 in
         let left : after ≡ map (emptied key) slots = same ∙ emptied_after slots key place old new there is (same_key old new f outcome joins) in
         subst (Joins slots now key f outcome) (sym left) (by_case old new outcome there joins done)
 
 pub join_at_room : (slots after : List (Option Slot)) (place : ℕ) (f : FragmentValue) (outcome : JoinedValue) → end_of f ≤ 512 → All HasRoom slots → JoinsAt slots place f outcome after → All HasRoom after
 join_at_room slots after place f outcome fits rooms at =
-    let old_room : HasRoom (Some at.old) = subst HasRoom (got_is slots place (Some at.old) None at.there) (All-get_or HasRoom slots place None (got_below slots place (Some at.old) at.there) rooms) in
+    let old_room : HasRoom (Some at.old) = subst HasRoom (get_or_from_slice_get slots place (Some at.old) None at.there) (All-get_or HasRoom slots place None (slice_get_within slots place (Some at.old) at.there) rooms) in
     subst (All HasRoom) (sym at.after_is) (All-set HasRoom slots place (Some at.new) (new_room at.old at.new outcome at.joins old_room) rooms)
   where
     new_room : (old new : Slot) (outcome : JoinedValue) → JoinsSlot old f outcome new → HasRoom (Some old) → HasRoom (Some new)
@@ -162,9 +129,8 @@ join_at_room slots after place f outcome fits rooms at =
 
 -- what is not `Waiting` doesn't mean it
 pub not_waiting : (j : Joined) → (j ≡ results.Waiting → ⊥) → joined_of j ≡ waiting → ⊥
-not_waiting (results.Whole names payload) not e = absurd cc
 not_waiting results.Waiting not e = not refl
-not_waiting (results.Dropped reason) not e = absurd cc
+not_waiting _ not e = absurd cc
 
 -- slots that are all free
 pub all_free : (slots : List (Option Slot)) (n : ℕ) → length slots ≡ n → All (λ slot. slot ≡ None) slots → slots ≡ replicate n None

@@ -30,7 +30,7 @@ accept_of (m.Error id code) = told id code
 accept_of m.Waiting = waits
 accept_of m.Nothing = nothing
 
--- the error packet that says that nobody here holds the destination name, with the end's own address
+-- the error packet that says that the destination name isn't held here, with the node's own address
 abbrev pub not_present : ℕ → Addr → DgramValue
 not_present id own = record { id = id; source = own; body = error 0x82 }
 
@@ -43,7 +43,7 @@ pub data Hands (node : NodeValue) (now : ℕ) (own : Addr) (d : DgramValue) (del
   unfinished : Hands node now own d delivery waiting waits []
   was_dropped : (reason : Dropped) → Hands node now own d delivery (dropped reason) nothing []
 
--- What octets lead to, the octets that are sent, and the joiner afterwards: only a datagram for one end or a group is
+-- What octets lead to, the octets that are sent, and the joiner afterwards: only a datagram for one holder or a group is
 -- put to the joiner.
 pub data Accepts (old : JoinerValue) (now : ℕ) (node : NodeValue) (own : Addr) (octets : List ℕ) : AcceptValue → List ℕ → JoinerValue → Type 0 where
   unreadable : (fault : DgramFault) → FaultIs octets fault → Accepts old now node own octets nothing [] old
@@ -52,9 +52,3 @@ pub data Accepts (old : JoinerValue) (now : ℕ) (node : NodeValue) (own : Addr)
   broadcast_ignored : (d : DgramValue) (n : ℕ) (f : FragmentValue) → DgramIs octets d n → d.body ≡ fragment f → f.delivery ≡ Broadcast → Accepts old now node own octets nothing [] old
   is_put : (d : DgramValue) (n : ℕ) (f : FragmentValue) (joined : JoinedValue) (outcome : AcceptValue) (sent : List ℕ) (new : JoinerValue) → DgramIs octets d n → d.body ≡ fragment f → f.delivery ≢ Broadcast
       → Puts old now d joined new → Hands node now own d f.delivery joined outcome sent → Accepts old now node own octets outcome sent new
-
--- what the private function that puts a datagram to the joiner does
-pub data PutsUp (old : JoinerValue) (now : ℕ) (node : NodeValue) (own : Addr) (d : DgramValue) (delivery : Delivery) : AcceptValue → List ℕ → JoinerValue → Type 0 where
-  to_all : delivery ≡ Broadcast → PutsUp old now node own d delivery nothing [] old
-  to_some : (joined : JoinedValue) (outcome : AcceptValue) (sent : List ℕ) (new : JoinerValue) → delivery ≢ Broadcast → Puts old now d joined new → Hands node now own d delivery joined outcome sent
-      → PutsUp old now node own d delivery outcome sent new

@@ -10,7 +10,7 @@ use Rattle.nbt_dgram.specs.Dgram.{FragmentValue, fragment, DgramValue}
 use Rattle.nbt_dgram.specs.Fragments.{end_of, Covers, octet_in, MakesUp}
 use Rattle.nbt_dgram.specs.Joiner.{JoinedValue, whole, waiting, dropped, JoinerValue, joiner_of, key_of, Puts, Sweeps}
 
--- A packet that was put at a moment, and what it led to.
+-- A packet that was put at a time, and what it led to.
 pub record Put : Type 0 where
   pub now : ℕ
   pub packet : DgramValue
@@ -57,7 +57,7 @@ pub data GoesOn (key : Key) (until : ℕ) : List Put → List FragmentValue → 
   one_waits : (puts : List Put) (p : Put) (fragments : List FragmentValue) (f : FragmentValue) → GoesOn key until puts fragments → Waits key p f → p.now ≤ until → GoesOn key until (puts ++ p ∷ []) (fragments ++ f ∷ [])
   one_passes : (puts : List Put) (p : Put) (fragments : List FragmentValue) → GoesOn key until puts fragments → Passes key p → GoesOn key until (puts ++ p ∷ []) fragments
 
--- no fragment, or those since a moment
+-- no fragment, or those since a time
 pub data Unfinished : Type 0 where
   none : Unfinished
   since : (began : ℕ) → List FragmentValue → Unfinished
@@ -66,7 +66,7 @@ abbrev pub fragments_in : Unfinished → List FragmentValue
 fragments_in none = []
 fragments_in (since began fragments) = fragments
 
--- What is unfinished of a key at a moment, after these packets. Nothing: no fragment came, or none since a packet ended
+-- What is unfinished of a key at a time, after these packets. Nothing: no fragment came, or none since a packet ended
 -- their datagram, or more than 2,000 ms have passed since it began. Otherwise all fragments since the one that came
 -- when nothing was unfinished.
 pub data Leaves (key : Key) : List Put → (now : ℕ) → Unfinished → Type 0 where
@@ -77,7 +77,7 @@ pub data Leaves (key : Key) : List Put → (now : ℕ) → Unfinished → Type 0
   is_left : (before after : List Put) (first : Put) (f : FragmentValue) (fragments : List FragmentValue) (now : ℕ) → Leaves key before first.now none → Waits key first f
       → GoesOn key (first.now + 2000) after fragments → now ≤ first.now + 2000 → Leaves key (before ++ first ∷ after) now (since first.now (f ∷ fragments))
 
--- ---- what fragments tell
+-- ---- what is reported of fragments
 
 -- all names that they have are these
 abbrev pub AreNamed : List FragmentValue → Names → Type 0

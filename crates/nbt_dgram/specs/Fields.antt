@@ -13,16 +13,13 @@ first_at octets = nat_eq (octet_at octets 1 / 2 % 2) 1
 abbrev pub more_at : List ℕ → Bool
 more_at octets = nat_eq (octet_at octets 1 % 2) 1
 
--- DGM_LENGTH and PACKET_OFFSET
-abbrev pub length_at : List ℕ → ℕ
-length_at octets = word_at octets 10
-
+-- PACKET_OFFSET
 abbrev pub offset_at : List ℕ → ℕ
 offset_at octets = word_at octets 12
 
 -- where the octets that DGM_LENGTH counts end, and the octets up to there
 abbrev pub end_at : List ℕ → ℕ
-end_at octets = 14 + length_at octets
+end_at octets = 14 + word_at octets 10
 
 abbrev pub within : List ℕ → List ℕ
 within octets = take (end_at octets) octets

@@ -1,5 +1,5 @@
--- A joiner of fragments: what a packet does to it, and what it tells (our profile, after RFC 1002 section 5.3.3).
-use Rattle.std.specs.Prelude.{◌≡◌, ℕ, ◌+◌, ◌<◌, ◌≤◌, Bool, true, false, ◌&&◌, nat_eq, nat_lt, if◌then◌else◌, List, length, map, slice_set, slice_get, count_by, Option, Some, None}
+-- A joiner of fragments: what a packet does to it, and what it reports (our profile, after RFC 1002 section 5.3.3).
+use Rattle.std.specs.Prelude.{◌≡◌, ℕ, ◌+◌, ◌<◌, ◌≤◌, Bool, true, false, ◌&&◌, nat_eq, nat_lt, if◌then◌else◌, List, map, slice_set, slice_get, count_by, Option, Some, None}
 use Rattle.std.specs.List.{position}
 use Rattle.nbt_dgram.specs.declared.dgram.Names.{Names}
 use Rattle.nbt_dgram.specs.declared.dgram.Part.TheVariants.{First}
@@ -65,7 +65,7 @@ pub data Joins (slots : List (Option Slot)) (now : ℕ) (key : Key) (f : Fragmen
   completes : (place : ℕ) (s : Slot) (names : Names) (payload : List ℕ) → end_of f ≤ 512 → position (is_of key) slots ≡ Some place → slice_get slots place ≡ Some (Some s) → Agrees s f
       → IsWhole (joined f s) names payload → Joins slots now key f (whole names payload) (map (emptied key) slots)
 
--- ---- a joiner: the moment of the last packet or sweep, at first 0, and the slots
+-- ---- a joiner: the time of the last packet or sweep, at first 0, and the slots
 
 pub record JoinerValue : Type 0 where
   pub last : ℕ
@@ -94,8 +94,3 @@ pub data Puts (old : JoinerValue) (now : ℕ) (d : DgramValue) : JoinedValue →
 pub data Sweeps (old : JoinerValue) (now : ℕ) : ℕ → JoinerValue → Type 0 where
   too_early : now < old.last → Sweeps old now 0 old
   given_up : old.last ≤ now → Sweeps old now (count_by (is_old now) old.slots) (joiner_of now (map (kept now) old.slots))
-
--- the octets that a slot knows are of 512
-abbrev pub HasRoom : Option Slot → Type 0
-HasRoom None = Unit {0}
-HasRoom (Some s) = length s.octets ≡ 512

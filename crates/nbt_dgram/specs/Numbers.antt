@@ -71,10 +71,7 @@ fault_of f = record { kind = kind_of f.kind; place = f.place }
 -- the same within the octets that DGM_LENGTH counts: where these end within a name, DGM_LENGTH is wrong
 abbrev pub fault_by_kind : NameFaultKind → ℕ → DgramFault
 fault_by_kind names.Short place = record { kind = kinds.BadLength; place = 10 }
-fault_by_kind names.BadLabel place = record { kind = kinds.BadLabel; place = place }
-fault_by_kind names.BadHalf place = record { kind = kinds.BadHalf; place = place }
-fault_by_kind names.BadPointer place = record { kind = kinds.BadPointer; place = place }
-fault_by_kind names.Long place = record { kind = kinds.Long; place = place }
+fault_by_kind kind place = record { kind = kind_of kind; place = place }
 
 abbrev pub fault_within : NameFault → DgramFault
 fault_within f = fault_by_kind f.kind f.place

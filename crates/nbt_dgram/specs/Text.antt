@@ -31,8 +31,7 @@ flags_by (Later offset) true = 0x05
 
 abbrev pub flags_of : BodyValue → ℕ
 flags_of (fragment f) = flags_by f.part f.more
-flags_of (error code) = 0x06
-flags_of (lookup l name) = 0x06
+flags_of body = 0x06
 
 abbrev pub head : MsgType → (flags id : ℕ) → Addr → List ℕ
 head t flags id source = type_number t ∷ flags ∷ word id ++ long source.ip ++ word source.port
@@ -50,8 +49,7 @@ text d = head (type_of d.body) (flags_of d.body) d.id d.source ++ body_text d.bo
 -- DGM_LENGTH, where there is one, is at most 65,535
 abbrev pub BodyFits : BodyValue → Type 0
 BodyFits (fragment f) = dgm_length f < 2 ^ 16
-BodyFits (error code) = Unit {0}
-BodyFits (lookup l name) = Unit {0}
+BodyFits body = Unit {0}
 
 abbrev pub Fits : DgramValue → Type 0
 Fits d = BodyFits d.body

@@ -1,11 +1,12 @@
-//! What a node makes of a datagram's octets (RFC 1002 section 5.3.3).
+//! Accepting datagrams at a node (RFC 1002 section 5.3.3).
 
-ghost use Rattle.std.specs.Prelude.{◌≡◌, ◌≢◌, []};
+ghost use Rattle.std.specs.Prelude.{◌≡◌, []};
 ghost use Rattle.nbt_dgram.specs.declared.msg_type.Delivery.TheVariants.{Broadcast};
-ghost use Rattle.nbt_dgram.specs.Dgram.{fragment, fragment_of, body_of, dgram_of};
-ghost use Rattle.nbt_dgram.specs.Joiner.{whole, joined_of, octets_of, IsData};
+ghost use Rattle.nbt_dgram.specs.Dgram.{fragment, dgram_of};
+ghost use Rattle.nbt_dgram.specs.Joiner.{whole, octets_of, IsData};
 ghost use Rattle.nbt_dgram.specs.Text.{text};
-ghost use Rattle.nbt_dgram.specs.Accepting.{accept_of, Accepts, Hands, PutsUp, not_present};
+ghost use Rattle.nbt_dgram.specs.Accepting.{accept_of, Accepts, Hands, not_present};
+ghost use Rattle.nbt_dgram.specs.Inner.Accepting.{PutsUp};
 
 use crate::decoding::decode;
 use crate::dgram::{Body, Dgram, Names};
@@ -22,13 +23,13 @@ use nbt_node::Node;
 /// The error's code: destination name not present (RFC 1002 section 4.4.3).
 const NOT_PRESENT: u8 = 0x82;
 
-/// What the octets of one datagram mean for a node whose datagrams come to `own`.
+/// Accepts the octets of one datagram at a node that receives datagrams at `own`.
 ///
-/// - `Up` where a datagram for one end or a group (0x10, 0x11) is whole by `Joiner::put`, and the node holds the
+/// - `Up` where a datagram for one holder or a group (0x10, 0x11) is whole by `Joiner::put`, and the node holds the
 ///   destination name at `now`, of either kind.
-/// - `Reply` where one for one end (0x10) is whole, and the node doesn't hold that name: the error packet with its id,
-///   the code 0x82 and `own` as its source stands in `out`, for its SOURCE_IP and SOURCE_PORT. A moment before the
-///   node's last call holds no name.
+/// - `Reply` where one for one holder (0x10) is whole, and the node doesn't hold that name: the error packet with its id,
+///   the code 0x82 and `own` as its source is in `out`, for its SOURCE_IP and SOURCE_PORT. At a time before that of the
+///   node's last call it holds no name.
 /// - `Error` for an error packet (0x13), with its id and its code.
 /// - `Waiting` where other fragments are missing.
 /// - `Nothing` for all else: what `decode` refuses (its faults 1 to 8), what `Joiner::put` drops (1 to 4), a whole one for
@@ -56,7 +57,7 @@ pub fn accept<'a, const S: usize, const N: usize>(
     }
 }
 
-/// Puts a datagram to the joiner, but one to all ends of a scope.
+/// Puts a datagram to the joiner, unless it is for every host in a scope.
 fn put_up<'a, const S: usize, const N: usize>(
     joiner: &mut Joiner<S>,
     now: Moment,

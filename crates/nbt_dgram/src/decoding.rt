@@ -1,14 +1,13 @@
 //! Reading a datagram from octets (RFC 1002 section 4.4).
 
-ghost use Rattle.std.specs.Prelude.{◌≡◌, ◌≢◌, ℕ, ◌+◌, ◌<◌, ◌≤◌, ◌↔◌, Bool, true, false, Ok, Err, length, IfOk, IfErr, OnOk};
-ghost use Rattle.nbt_name.specs.Wire.{NameValue};
-ghost use Rattle.nbt_name.specs.Reading.{PlainNameAt, PlainFaultAt};
+ghost use Rattle.std.specs.Prelude.{◌≡◌, ◌≢◌, ℕ, ◌+◌, ◌<◌, ◌≤◌, ◌↔◌, true, Ok, Err, length, IfOk, IfErr};
+ghost use Rattle.nbt_name.specs.Reading.{PlainNameAt};
 ghost use Rattle.nbt_dgram.specs.declared.fault.DgramFault.{DgramFault};
 ghost use Rattle.nbt_dgram.specs.Numbers.{fault_within as name_fault, short, bad_offset, head_size};
-ghost use Rattle.nbt_dgram.specs.Fields.{octet_at, first_at, more_at, offset_at, end_at, within as counted};
+ghost use Rattle.nbt_dgram.specs.Fields.{first_at, more_at, offset_at, end_at};
 ghost use Rattle.nbt_dgram.specs.Text.{Fits};
 ghost use Rattle.nbt_dgram.specs.Inner.Decoding.{NameFaultAt, IsReadPart};
-ghost use Rattle.nbt_dgram.specs.Dgram.{DgramValue, IsTypeAt, NamesAt, PartAt, FragmentAt, BodyAt, DgramIs, NamesFault, FragmentFault, FaultIs, type_of, fragment_of, body_of, dgram_of, decoded};
+ghost use Rattle.nbt_dgram.specs.Dgram.{DgramValue, IsTypeAt, FragmentAt, BodyAt, DgramIs, NamesFault, FragmentFault, FaultIs, type_of, fragment_of, body_of, dgram_of, decoded};
 
 use crate::dgram::{Body, Dgram, Fragment, Names, Part};
 use crate::fault::{DgramFault, DgramFaultKind};

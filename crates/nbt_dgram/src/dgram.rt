@@ -1,4 +1,4 @@
-//! A datagram, as its parts.
+//! A datagram in its parts.
 //!
 //! ```text
 //!                      1 1 1 1 1 1 1 1 1 1 2 2 2 2 2 2 2 2 2 2 3 3
@@ -20,6 +20,14 @@
 //! RFC 1002 sections 4.4.1 to 4.4.5. DGM_LENGTH counts what stands after PACKET_OFFSET. PACKET_OFFSET counts octets
 //! of data, and names stand in the first fragment alone: our profile's choices.
 
+ghost use Rattle.std.specs.Prelude.{◌≡◌, ◌<◌, ◌≤◌, ◌^◌, ◌↔◌, true, false, length, IsTrue, IfSome, IfNone};
+ghost use Rattle.nbt_dgram.specs.declared.dgram.Names.{Names};
+ghost use Rattle.nbt_dgram.specs.declared.dgram.Part.TheVariants.{First};
+ghost use Rattle.nbt_dgram.specs.Dgram.{fragment_of, type_of, body_of, dgram_of};
+ghost use Rattle.nbt_dgram.specs.Fragments.{begin_of, end_of};
+ghost use Rattle.nbt_dgram.specs.Joiner.{IsData};
+ghost use Rattle.nbt_dgram.specs.Text.{offset_of, names_text, Fits};
+
 use crate::msg_type::{Delivery, Lookup, MsgType};
 use nbt_name::{Addr, Name};
 
@@ -33,8 +41,6 @@ pub struct Names {
 }
 
 impl Names {
-    ghost use Rattle.std.specs.Prelude.{◌≡◌};
-
     /// Equal names.
     pub fn copy(&self) -> Names
         ensures { result ≡ self.now }
@@ -64,17 +70,11 @@ pub struct Fragment<'a> {
     pub part: Part,
     /// Whether other fragments follow (M).
     pub more: bool,
-    /// USER_DATA, lent from the packet's octets.
+    /// USER_DATA, borrowed from the packet's octets.
     pub payload: &'a [u8],
 }
 
 impl Fragment<'_> {
-    ghost use Rattle.std.specs.Prelude.{◌≡◌, ◌<◌, ◌^◌, true, false, IfSome, IfNone};
-    ghost use Rattle.nbt_dgram.specs.declared.dgram.Names.{Names};
-    ghost use Rattle.nbt_dgram.specs.declared.dgram.Part.TheVariants.{First};
-    ghost use Rattle.nbt_dgram.specs.Dgram.{fragment_of};
-    ghost use Rattle.nbt_dgram.specs.Fragments.{begin_of, end_of};
-
     /// The names, where the fragment is the first and the last one: a whole datagram.
     pub(crate) fn names_if_whole(&self) -> Option<&Names>
         ensures whole { IfSome result (λ names. (self.now.part ≡ First names.now) × (self.now.more ≡ false)) }
@@ -113,7 +113,7 @@ pub enum Body<'a> {
     /// 0x13: the error's code (RFC 1002 section 4.4.3). 0x82 is destination name not present, 0x83 invalid source name
     /// format, 0x84 invalid destination name format; any other is read too.
     Error(u8),
-    /// 0x14 to 0x16: the name that is asked for (RFC 1002 sections 4.4.4 and 4.4.5).
+    /// 0x14 to 0x16: the name that is queried (RFC 1002 sections 4.4.4 and 4.4.5).
     Lookup(Lookup, Name),
 }
 
@@ -133,9 +133,6 @@ pub struct Dgram<'a> {
 const LENGTH_MOST: usize = 65535;
 
 impl Part {
-    ghost use Rattle.std.specs.Prelude.{◌≡◌, ◌≤◌, length};
-    ghost use Rattle.nbt_dgram.specs.Text.{offset_of, names_text};
-
     /// PACKET_OFFSET: how many octets of data stand before the fragment's.
     pub fn offset(&self) -> u16
         ensures { result ≡ offset_of self.now }
@@ -159,11 +156,6 @@ impl Part {
 }
 
 impl Dgram<'_> {
-    ghost use Rattle.std.specs.Prelude.{◌≡◌, ◌↔◌, IsTrue};
-    ghost use Rattle.nbt_dgram.specs.Dgram.{type_of, body_of, dgram_of};
-    ghost use Rattle.nbt_dgram.specs.Text.{Fits};
-    ghost use Rattle.nbt_dgram.specs.Joiner.{IsData};
-
     /// Whether the datagram has data: whether its type is 0x10 to 0x12.
     pub fn has_data(&self) -> bool
         ensures { IsTrue result ↔ IsData (dgram_of self.now) }
@@ -196,7 +188,7 @@ impl Dgram<'_> {
 }
 
 impl Default for Dgram<'_> {
-    /// A blank, which stands in the unused places of an `ArrayVec`: an error with code 0 from nowhere.
+    /// A blank for the unused places of an `ArrayVec`: an error with code 0 from nowhere.
     fn default() -> Self {
         Dgram {
             id: 0,

@@ -18,7 +18,7 @@ pub enum Dropped {
     /// 3: the fragment is of a new datagram, and no slot is free.
     #[error("Full")]
     Full,
-    /// 4: the moment is before an earlier one.
+    /// 4: the time is before an earlier one.
     #[error("ClockBack")]
     ClockBack,
 }
@@ -42,9 +42,9 @@ impl Dropped {
 /// A datagram's data.
 #[derive(Debug, Drop)]
 pub enum Payload<'a> {
-    /// Of any length, lent from the one packet that brought them.
+    /// Of any length, borrowed from the one packet that has them.
     Lent(&'a [u8]),
-    /// At most 512 octets, put together from fragments.
+    /// At most 512 octets, joined from fragments.
     Joined(ArrayVec<u8, 512>),
 }
 

@@ -11,18 +11,19 @@ use std::marker::Model;
 
 /// The fragments of up to `S` unfinished datagrams. A datagram is known by its SOURCE_IP, SOURCE_PORT and DGM_ID.
 ///
-/// It takes 8 + 1,584 `S` octets of memory: a slot has the two names, and at most 512 octets of data, each with a mark
-/// whether it is known.
+/// Its size is 8 + 1,584 `S` octets: a slot has the two names, and at most 512 octets of data, each with a mark whether it
+/// is known.
 #[derive(Debug, Drop)]
 pub struct Joiner<const S: usize> {
-    /// The moment of the last packet or sweep, in milliseconds.
+    /// The time of the last packet or sweep, in milliseconds.
     last: u64,
     slots: [Option<Slot>; S],
 }
 
 impl<const S: usize> Model for Joiner<S> {
     ghost use Rattle.std.specs.List.{All};
-    ghost use Rattle.nbt_dgram.specs.Joiner.{JoinerValue, joiner_of, HasRoom};
+    ghost use Rattle.nbt_dgram.specs.Inner.Joining.{HasRoom};
+    ghost use Rattle.nbt_dgram.specs.Joiner.{JoinerValue, joiner_of};
 
     ghost Value = { JoinerValue };
 
@@ -36,7 +37,7 @@ impl<const S: usize> Joiner<S> {
     ghost use Rattle.nbt_dgram.specs.Dgram.{dgram_of};
     ghost use Rattle.nbt_dgram.specs.Joiner.{joiner_of, joined_of, IsData, Puts, Sweeps};
 
-    /// A joiner without unfinished datagrams, whose last moment is 0.
+    /// A joiner without unfinished datagrams, whose last time is 0.
     pub fn new() -> Self
         ensures { result ≡ joiner_of 0 (replicate S None) }
     {
@@ -46,8 +47,8 @@ impl<const S: usize> Joiner<S> {
         }
     }
 
-    /// Takes a packet with data: a whole datagram, or a fragment of one. That it has data is the caller's:
-    /// `Dgram::has_data` tests it. In this order:
+    /// Handles a packet with data: a whole datagram, or a fragment of one. The caller must ensure that it has data, which
+    /// `Dgram::has_data` tests. In this order:
     ///
     /// - `ClockBack` (4) where `now` is before an earlier packet or sweep; nothing changes then. Otherwise each
     ///   datagram that began more than 2,000 ms before is given up first.

@@ -1,6 +1,6 @@
 //! What holds of datagrams, whatever the code does: laws over the definitions alone.
 
-ghost use Rattle.std.specs.Prelude.{◌≡◌, ◌≢◌, ℕ, ◌≤◌, ◌⊎◌, List, [], ◌∷◌, ◌++◌, length, slice_get, Some};
+ghost use Rattle.std.specs.Prelude.{◌≡◌, ◌≢◌, ℕ, ◌≤◌, ◌⊎◌, List, ◌++◌, length, slice_get, Some};
 ghost use Rattle.nbt_name.specs.declared.addr.Addr.{Addr};
 ghost use Rattle.nbt_name.specs.Wire.{AreOctets};
 ghost use Rattle.nbt_node.specs.Node.{NodeValue};
@@ -36,6 +36,7 @@ pub fn written_form_is_read()
 {}
 
 /// What is read can be written: each datagram that octets begin with fits.
+#[tactic(auto, using(crate::proofs::Fitting::read_fits))]
 pub fn what_is_read_fits()
     ensures { (octets : List ℕ) (d : DgramValue) (n : ℕ) → AreOctets octets → DgramIs octets d n → Fits d }
 {}
@@ -55,7 +56,7 @@ pub fn a_slot_is_whole_where_its_fragments_make_up_data()
 {}
 
 /// A joiner that was given packets one after the other, with sweeps between them, carries of each SOURCE_IP,
-/// SOURCE_PORT and DGM_ID exactly the fragments since their datagram began; and it tells what these and the packet's
+/// SOURCE_PORT and DGM_ID exactly the fragments since their datagram began; and it reports what these and the packet's
 /// own make up: Whole where they make up data, with these and their names, Waiting where they make up none, `Conflict`
 /// where it doesn't agree with one of them, `TooLong` past 512 octets, and `Full` only where none is carried. The packet
 /// is a fragment, and no earlier than the last packet or sweep. What packets leave unfinished is one thing.
@@ -75,12 +76,14 @@ pub fn a_joiner_carries_the_fragments_of_each_key()
 {}
 
 /// A packet does one thing to a joiner: what it leads to, and the joiner afterwards, are determined.
+#[tactic(auto, using(crate::proofs::OnePut::one_put))]
 pub fn a_packet_does_one_thing()
     ensures { (old : JoinerValue) (now : ℕ) (d : DgramValue) (j k : JoinedValue) (x y : JoinerValue)
         → Puts old now d j x → Puts old now d k y → (j ≡ k) × (x ≡ y) }
 {}
 
 /// Octets mean one thing for a node: what they lead to, what is sent, and the joiner afterwards, are determined.
+#[tactic(auto, using(crate::proofs::OneAccept::one_accept))]
 pub fn octets_mean_one_thing()
     ensures { (old : JoinerValue) (now : ℕ) (node : NodeValue) (own : Addr) (octets : List ℕ) → AreOctets octets
         → (u v : AcceptValue) (o p : List ℕ) (x y : JoinerValue)

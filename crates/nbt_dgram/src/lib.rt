@@ -1,4 +1,4 @@
-//! NetBIOS datagrams (RFC 1001 section 17, RFC 1002 sections 4.4 and 5.3). No call takes memory.
+//! NetBIOS datagrams (RFC 1001 section 17, RFC 1002 sections 4.4 and 5.3). No call allocates memory.
 #![tactic(auto)]
 
 mod accepting;

@@ -1,6 +1,6 @@
 //! The types of datagrams (RFC 1002 section 4.4.1).
 
-ghost use Rattle.std.specs.Prelude.{◌≡◌, ◌↔◌, Some};
+ghost use Rattle.std.specs.Prelude.{◌≡◌, ◌↔◌, Some, IsTrue};
 ghost use Rattle.nbt_dgram.specs.declared.msg_type.MsgType.{MsgType};
 ghost use Rattle.nbt_dgram.specs.Numbers.{type_number};
 
@@ -11,13 +11,11 @@ pub enum Delivery {
     DirectUnique,
     /// 0x11, DIRECT_GROUP DATAGRAM: each member of a group.
     DirectGroup,
-    /// 0x12, BROADCAST DATAGRAM: every end of a scope. It is read and written, and never handed up (our profile).
+    /// 0x12, BROADCAST DATAGRAM: every host in a scope. It is read and written, and never handed up (our profile).
     Broadcast,
 }
 
 impl Delivery {
-    ghost use Rattle.std.specs.Prelude.{◌≡◌, ◌↔◌, IsTrue};
-
     /// Whether this is the other one.
     pub(crate) fn is(self, other: Delivery) -> bool
         ensures { IsTrue result ↔ (self ≡ other) }
@@ -26,8 +24,7 @@ impl Delivery {
     }
 }
 
-/// What is asked of a datagram distribution server, or told by it. It is read and written, and not acted on (our
-/// profile).
+/// A query of a datagram distribution server, or its response. It is read and written, and not acted on (our profile).
 #[derive(Clone, Copy, Debug, PartialEq, Eq)]
 pub enum Lookup {
     /// 0x14, DATAGRAM QUERY REQUEST.
@@ -45,7 +42,7 @@ pub enum MsgType {
     Data(Delivery),
     /// 0x13, DATAGRAM ERROR.
     Error,
-    /// 0x14 to 0x16: a query, or its answer.
+    /// 0x14 to 0x16: a query, or its response.
     Lookup(Lookup),
 }
 

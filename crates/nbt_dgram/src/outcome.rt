@@ -9,9 +9,9 @@ use nbt_name::Addr;
 pub enum Accept<'a> {
     /// A datagram for a name that the node holds: its names and its data.
     Up(Names, Payload<'a>),
-    /// An error packet for this address stands in the buffer.
+    /// An error packet for this endpoint is in the buffer.
     Reply(Addr),
-    /// An error of another end: the datagram's id, and the code.
+    /// An error that another host reports: the datagram's id, and the code.
     Error(u16, u8),
     /// Other fragments are missing.
     Waiting,

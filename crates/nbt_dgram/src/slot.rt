@@ -1,10 +1,10 @@
 //! An unfinished datagram, and what its fragments say (RFC 1002 section 5.3.3).
 
-ghost use Rattle.std.specs.Prelude.{◌≡◌, ℕ, ◌+◌, ◌<◌, ◌≤◌, ◌↔◌, false, List, length, IsTrue, IfSome, IfNone, Some, None};
+ghost use Rattle.std.specs.Prelude.{◌≡◌, ℕ, ◌<◌, ◌≤◌, ◌↔◌, false, List, length, IsTrue, IfSome, IfNone, Some, None};
 ghost use Rattle.nbt_dgram.specs.declared.dgram.Names.{Names};
 ghost use Rattle.nbt_dgram.specs.declared.dgram.Part.TheVariants.{First};
 ghost use Rattle.nbt_dgram.specs.Dgram.{fragment_of};
-ghost use Rattle.nbt_dgram.specs.Fragments.{begin_of, end_of};
+ghost use Rattle.nbt_dgram.specs.Fragments.{end_of};
 ghost use Rattle.nbt_dgram.specs.Slot.{known_at, fresh, Agrees, joined, IsWhole};
 
 use crate::dgram::{Fragment, Names, Part};
@@ -26,7 +26,7 @@ pub(crate) struct Key {
 #[derive(Debug, Drop)]
 pub(crate) struct Slot {
     pub(crate) key: Key,
-    /// The moment of the fragment that took the slot.
+    /// The time of the fragment that began the slot.
     pub(crate) began: Moment,
     pub(crate) delivery: Delivery,
     /// The names, once the first fragment came.

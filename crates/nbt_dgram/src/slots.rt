@@ -1,12 +1,12 @@
 //! The slots of a joiner, each free or with an unfinished datagram.
 
-ghost use Rattle.std.specs.Prelude.{◌≡◌, ◌<◌, ◌≤◌, length, map, count_by, Some, IfSome, IfNone};
+ghost use Rattle.std.specs.Prelude.{◌≡◌, ◌<◌, ◌≤◌, length, map, count_by, Some};
 ghost use Rattle.std.specs.List.{position, All};
 ghost use Rattle.nbt_dgram.specs.Dgram.{fragment_of};
 ghost use Rattle.nbt_dgram.specs.Fragments.{end_of};
 ghost use Rattle.nbt_dgram.specs.Joiner as spec;
-ghost use Rattle.nbt_dgram.specs.Joiner.{kept, emptied, is_free, Joins, HasRoom, joined_of};
-ghost use Rattle.nbt_dgram.specs.Inner.Joining.{JoinsSlot, IsTaken, JoinsAt, Begins};
+ghost use Rattle.nbt_dgram.specs.Joiner.{kept, emptied, is_free, Joins, joined_of};
+ghost use Rattle.nbt_dgram.specs.Inner.Joining.{JoinsSlot, HasRoom, IsTaken, JoinsAt, Begins};
 
 use crate::dgram::Fragment;
 use crate::joined::{Dropped, Joined, Payload};

@@ -13,7 +13,7 @@ use nbt_name::{Addr, Name};
 /// The packets that data are split into: one, or two in order.
 pub type Fragments<'a> = ArrayVec<Dgram<'a>, 2>;
 
-/// The most octets of data (our profile; RFC 1001 section 17 leaves it to each end).
+/// The most octets of data (our profile; RFC 1001 section 17 leaves it to each node).
 pub(crate) const DATA_MOST: usize = 512;
 
 /// How many octets of a packet of 576 octets are left after PACKET_OFFSET, for the names and the data.

@@ -1,9 +1,9 @@
 //! Writing a datagram's one written form (RFC 1002 section 4.4).
 
-ghost use Rattle.std.specs.Prelude.{◌≡◌, ◌+◌, ◌<◌, ◌≤◌, ◌^◌, ◌↔◌, [], ◌∷◌, ◌++◌, length, OnOk, OnErr, IsErr};
+ghost use Rattle.std.specs.Prelude.{◌≡◌, ◌+◌, ◌<◌, ◌≤◌, ◌^◌, ◌↔◌, [], ◌++◌, length, OnOk, OnErr, IsErr};
 ghost use Rattle.nbt_dgram.specs.Dgram.{type_of, fragment, fragment_of, body_of, dgram_of};
 ghost use Rattle.nbt_dgram.specs.Text as spec;
-ghost use Rattle.nbt_dgram.specs.Text.{offset_of, names_text, dgm_length, flags_of, body_text, text, BodyFits, Fits};
+ghost use Rattle.nbt_dgram.specs.Text.{names_text, dgm_length, flags_of, body_text, text, Fits};
 
 use crate::dgram::{Body, Dgram, Fragment, Part};
 use crate::fault::Full;
@@ -19,7 +19,7 @@ const MORE: u8 = 0x01;
 
 /// Leaves in `out` the datagram's one written form and nothing else (RFC 1002 section 4.4): as a P node writes it, and
 /// with F alone where it is no fragment. `Full` (1) exactly where that form is longer than 576 octets; `out` is then
-/// empty. That the datagram fits is the caller's: `Dgram::fits` tests it.
+/// empty. The caller must ensure that the datagram fits, which `Dgram::fits` tests.
 pub fn encode(dgram: &Dgram<'_>, out: &mut ArrayVec<u8, 576>) -> Result<(), Full>
     requires { Fits (dgram_of dgram.now) }
     ensures ok { OnOk result (out.new.items ≡ text (dgram_of dgram.now)) }

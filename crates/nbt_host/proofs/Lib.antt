@@ -8,4 +8,18 @@ pub mod BackingOff
 pub mod Orders
 -- a turn by its parts, and turns up to the end of a host
 pub mod Turns
-pub mod Endings
+pub mod Releases
+-- the lines of names, one after the other
+mod Lines
+-- one turn, by what its calls returned
+mod OneTurn
+-- a turn of which nothing is printed
+mod Quiet
+-- what is known of a host by its fields, said of the host
+mod Opened
+-- a host begins, and what follows from how its calls came out
+mod Beginning
+-- what a host keeps of its names when it starts
+mod Starting
+-- the end of a host, by how the releases came out
+mod Ended

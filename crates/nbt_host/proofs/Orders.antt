@@ -9,9 +9,9 @@ use Rattle.nbt_node.specs.declared.fault.ReleaseFault.{ReleaseFault}
 use Rattle.nbt_node.specs.Node.{NodeValue}
 use Rattle.nbt_node.specs.Moves.{ask, give_back}
 use Rattle.nbt_node.specs.Calls.{ask_refusal, release_refusal, Sends}
-use Rattle.nbt_engine.specs.declared.port.Device.{Device}
-use Rattle.nbt_engine.specs.PortCalls.{PortCall, sent, send_failed, sending, Chain}
-use Rattle.nbt_engine.proofs.Chains.{chain_one, chain-append}
+use Rattle.nbt_port.specs.declared.port.Device.{Device}
+use Rattle.nbt_port.specs.PortCalls.{PortCall, sent, send_failed, sending, Chain}
+use Rattle.nbt_port.proofs.Chains.{chain_one, chain-append}
 use Rattle.nbt_host.specs.declared.goal.Goal.{Goal}
 use Rattle.nbt_host.specs.declared.goal.Stage.{Stage}
 use Rattle.nbt_host.specs.declared.goal.Stage.TheVariants.{Wanted, Leaving, Released, Left}

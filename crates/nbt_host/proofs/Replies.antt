@@ -9,9 +9,9 @@ use Rattle.nbt_packet.specs.Message.{MessageValue, message_of}
 use Rattle.nbt_node.specs.Node.{NodeValue}
 use Rattle.nbt_node.specs.Moves.{Told}
 use Rattle.nbt_node.specs.Datagrams.{Handles, Says}
-use Rattle.nbt_engine.specs.declared.port.Device.{Device}
-use Rattle.nbt_engine.specs.PortCalls.{PortCall, came, sent, send_failed, sending, receiving, Chain}
-use Rattle.nbt_engine.proofs.Chains.{chain_one}
+use Rattle.nbt_port.specs.declared.port.Device.{Device}
+use Rattle.nbt_port.specs.PortCalls.{PortCall, came, sent, send_failed, sending, receiving, Chain}
+use Rattle.nbt_port.proofs.Chains.{chain_one}
 use Rattle.nbt_host.specs.declared.news.Notice.{Notice}
 use Rattle.nbt_host.specs.Answering.{own_reply, sent_back, notice_of}
 use Rattle.nbt_host.specs.Hosting.{sending_to, HostHears, hears_nothing, hears, hears_back, LosesReply, loses_reply}

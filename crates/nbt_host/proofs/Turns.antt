@@ -2,9 +2,9 @@
 use Rattle.std.proofs.Common.{◌≡◌, ℕ, List, [], ◌∷◌, ◌++◌, map, refl, sym, subst, ◌∙◌, ap}
 use Rattle.nbt_name.specs.declared.addr.Addr.{Addr}
 use Rattle.nbt_node.specs.Node.{NodeValue}
-use Rattle.nbt_engine.specs.PortCalls.{PortCall, receive_failed, Chain}
-use Rattle.nbt_engine.specs.Turning.{PollsAll, BreaksPolls}
-use Rattle.nbt_engine.proofs.Chains.{chain_one, chain-append}
+use Rattle.nbt_port.specs.PortCalls.{PortCall, receive_failed, Chain}
+use Rattle.nbt_client.specs.Turning.{PollsAll, BreaksPolls}
+use Rattle.nbt_port.proofs.Chains.{chain_one, chain-append}
 use Rattle.nbt_host.specs.declared.goal.Goal.{Goal}
 use Rattle.nbt_host.specs.declared.hearing.Heard.{Heard}
 use Rattle.nbt_host.specs.Goals.{seen, heard_by}

@@ -4,7 +4,7 @@ use Rattle.std.specs.Bool.{then_some}
 use Rattle.nbt_lease.specs.Config.{milliseconds}
 use Rattle.nbt_name.specs.Wire.{same_name}
 use Rattle.nbt_node.specs.Node.{NodeValue, holds}
-use Rattle.nbt_engine.specs.declared.turning.Want.{Want}
+use Rattle.nbt_client.specs.declared.turning.Want.{Want}
 use Rattle.nbt_host.specs.declared.goal.Goal.{Goal}
 use Rattle.nbt_host.specs.declared.goal.Refusal.{Refusal}
 use Rattle.nbt_host.specs.declared.goal.Stage.{Stage}

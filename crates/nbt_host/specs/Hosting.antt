@@ -8,8 +8,8 @@ use Rattle.nbt_node.specs.Node.{NodeValue}
 use Rattle.nbt_node.specs.Moves.{give_back, Told}
 use Rattle.nbt_node.specs.Calls.{ask_refusal, release_refusal, Sends}
 use Rattle.nbt_node.specs.Datagrams.{Handles, Says}
-use Rattle.nbt_engine.specs.PortCalls.{PortCall, nothing_came, came, receive_failed, sent, send_failed}
-use Rattle.nbt_engine.specs.Turning.{AsksFor, PollsAll, BreaksPolls}
+use Rattle.nbt_port.specs.PortCalls.{PortCall, nothing_came, came, receive_failed, sent, send_failed}
+use Rattle.nbt_client.specs.Turning.{AsksFor, PollsAll, BreaksPolls}
 use Rattle.nbt_host.specs.declared.goal.Goal.{Goal}
 use Rattle.nbt_host.specs.declared.goal.Stage.{Stage}
 use Rattle.nbt_host.specs.declared.goal.Stage.TheVariants.{Wanted}

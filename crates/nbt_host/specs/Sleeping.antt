@@ -1,6 +1,6 @@
 -- When a machine slept, by its two clocks (our profile).
 use Rattle.std.specs.Prelude.{ℕ, ◌+◌, ◌<◌, [], ◌∷◌}
-use Rattle.nbt_engine.specs.PortCalls.{Chain}
+use Rattle.nbt_port.specs.PortCalls.{Chain}
 use Rattle.nbt_host.specs.declared.sleeping.Reading.{Reading}
 use Rattle.nbt_host.specs.declared.sleeping.TheConstants.{SLEEP}
 

@@ -3,12 +3,12 @@ use Rattle.std.specs.Prelude.{◌≡◌, ℕ, Bool, ◌↔◌, IsTrue, if◌then
 use Rattle.nbt_name.specs.declared.addr.Addr.{Addr}
 use Rattle.nbt_lease.specs.Config.{ConfigValue}
 use Rattle.nbt_node.specs.Calls.{started}
-use Rattle.nbt_engine.specs.PortCalls.{PortCall, Chain}
+use Rattle.nbt_port.specs.PortCalls.{PortCall, Chain}
 use Rattle.nbt_host.specs.declared.sleeping.Reading.{Reading}
 use Rattle.nbt_host.specs.Goals.{anew}
 use Rattle.nbt_host.specs.Sleeping.{HasSlept, Reads}
 use Rattle.nbt_host.specs.Hosting.{HostTurn, HostBreaks}
-use Rattle.nbt_host.specs.Ending.{HostValue}
+use Rattle.nbt_host.specs.Releasing.{HostValue}
 
 -- a host whose machine crashed and started at a moment
 abbrev pub started_again : (slots : ℕ) → Addr → ConfigValue → (now : ℕ) → HostValue → HostValue

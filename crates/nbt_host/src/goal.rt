@@ -4,7 +4,7 @@ ghost use Rattle.std.specs.Prelude.{◌≡◌, ◌≤◌, map};
 ghost use Rattle.nbt_host.specs.Goals.{fresh, anew, back_off, times_after, may_ask, is_known, is_kept, stage_at, seen_at, seen, heard, heard_by};
 
 use crate::news::{News, Notice};
-use nbt_engine::Want;
+use nbt_client::Want;
 use nbt_lease::Moment;
 use nbt_node::Node;
 

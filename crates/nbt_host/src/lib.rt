@@ -1,24 +1,45 @@
-//! A host: a node that is to hold the names of a list over a port and a clock, turn by turn, and answers for them (RFC 1002
-//! sections 5.1.2 and 4.2.13).
+//! A host: a node that is to hold the names of a list and answers for them (RFC 1002 sections 5.1.2 and 4.2.13), over a port and a
+//! clock, or over this machine's UDP and its clocks, with the lines that it prints (our profile).
 //!
-//! A [`Goal`] is a wanted name with what its host keeps of it. [`host_turn`] asks for the names, refreshes them, takes what
-//! comes and answers queries for what is held; [`waking_turn`] does so on a machine that may sleep, after which the host starts
-//! again; [`give_back`] gives all names back. No call takes memory, but what a port may take.
+//! A [`Goal`] is a wanted name with what its host keeps of it. [`host_turn`] registers and refreshes the names, takes what comes and
+//! answers queries for what is held; [`waking_turn`] does so on a machine that may sleep, after which the host starts again;
+//! [`give_back`] releases all names. These three take no memory, but what a port may take. [`Host`] prints what each turn showed:
+//!
+//! ```text
+//! host 192.0.2.7:137 asks 192.0.2.1:137 for 2 names
+//! 2026-11-24T09:12:03Z granted FILER#20 300 s
+//! 2026-11-24T09:12:03Z refused FILER#00: held by another (6)
+//! 2026-11-24T09:12:03Z asks again for FILER#00 after 5 s, 10 s .. at most 5 min
+//! ```
 #![tactic(auto)]
 
 mod answering;
-mod ending;
+mod arguments;
+mod begin;
+mod event;
 mod goal;
 mod hearing;
+mod host;
 mod news;
+mod release_lines;
+mod releasing;
 mod requesting;
+mod running;
 mod sleeping;
+mod turn_lines;
 mod turning;
 mod waking;
 
-pub use ending::{GIVING_BACK, give_back};
+pub use arguments::HostArguments;
+pub use begin::write_begin;
+pub use event::{Event, write_event};
 pub use goal::{Goal, Refusal, Stage};
+pub use host::{Host, Shown};
 pub use news::News;
+pub use release_lines::write_endings;
+pub use releasing::{GIVING_BACK, give_back};
+pub use running::{host_over, run_host};
 pub use sleeping::{Clocks, Reading, SLEEP};
+pub use turn_lines::{has_lines, write_turn};
 pub use turning::host_turn;
 pub use waking::waking_turn;

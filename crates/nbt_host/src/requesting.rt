@@ -1,15 +1,15 @@
 //! The requests of a host about its names, one a name.
 
 ghost use Rattle.std.specs.Prelude.{◌≡◌, ◌<◌, ◌^◌, List, [], ◌∷◌, ℕ, Option, Some, None, IfOk, OnOk, OnErr, if◌then◌else◌};
-ghost use Rattle.nbt_engine.specs.PortCalls.{PortCall, send_failed, Chain, CountsFailure};
+ghost use Rattle.nbt_port.specs.PortCalls.{PortCall, send_failed, Chain, CountsFailure};
 ghost use Rattle.nbt_host.specs.Hosting.{sending_to, Requests, RequestsAll, BreaksRequests};
 
 use crate::goal::{Goal, Stage};
 use arrayvec::ArrayVec;
-use nbt_engine::{Device, Port};
 use nbt_lease::Moment;
 use nbt_name::Addr;
 use nbt_node::Node;
+use nbt_port::{Device, Port};
 
 /// Leaves in `out` the request about one name, if there is one. Returns whether there is.
 fn request_for<const N: usize>(

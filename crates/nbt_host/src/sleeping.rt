@@ -3,8 +3,8 @@
 ghost use Rattle.std.specs.Prelude.{◌↔◌, IsTrue};
 ghost use Rattle.nbt_host.specs.Sleeping.{HasSlept, Reads};
 
-use nbt_engine::Clock;
 use nbt_lease::Moment;
+use nbt_port::Clock;
 
 /// By how many milliseconds the time of day may go beyond a steady clock between two readings (our profile).
 pub const SLEEP: u64 = 200;

@@ -1,16 +1,17 @@
 //! One turn of a host.
 
 ghost use Rattle.std.specs.Prelude.{◌<◌, ◌^◌, List, ℕ, OnOk, OnErr};
-ghost use Rattle.nbt_engine.specs.PortCalls.{PortCall, Chain, CountsFailure};
+ghost use Rattle.nbt_port.specs.PortCalls.{PortCall, Chain, CountsFailure};
 ghost use Rattle.nbt_host.specs.Hosting.{HostTurn, HostBreaks};
 
 use crate::goal::{Goal, hear_all, see_all};
 use crate::hearing::listen;
 use crate::requesting::request_all;
 use arrayvec::ArrayVec;
-use nbt_engine::{Clock, Device, Port, poll_all};
+use nbt_client::poll_all;
 use nbt_name::Addr;
 use nbt_node::Node;
+use nbt_port::{Clock, Device, Port};
 
 /// The host goes through one turn. The clock is read, and at that moment each name is looked at: where the hold that was told of
 /// is over by time, it has lapsed. In the list's order each name that is wanted is asked for, unless a refusal stands whose time

@@ -1,7 +1,7 @@
 //! A host whose machine may sleep.
 
 ghost use Rattle.std.specs.Prelude.{◌≡◌, ◌≤◌, ◌<◌, ◌^◌, ◌↔◌, map, IsTrue, IfOk, OnErr};
-ghost use Rattle.nbt_engine.specs.PortCalls.{CountsFailure};
+ghost use Rattle.nbt_port.specs.PortCalls.{CountsFailure};
 ghost use Rattle.nbt_node.specs.Node.{slots_most};
 ghost use Rattle.nbt_node.specs.Calls.{started};
 ghost use Rattle.nbt_host.specs.Goals.{anew};
@@ -11,10 +11,10 @@ ghost use Rattle.nbt_host.specs.Waking.{Wakes, WakingTurn, WakingBreaks};
 use crate::goal::{Goal, forget_all};
 use crate::sleeping::{Clocks, Reading};
 use crate::turning::host_turn;
-use nbt_engine::{Clock, Device, Port};
 use nbt_lease::{Config, Moment};
 use nbt_name::Addr;
 use nbt_node::Node;
+use nbt_port::{Clock, Device, Port};
 
 /// A turn of a host whose machine may have slept since the reading `last`. Both clocks are read. Where the machine slept, the host
 /// is as that of a machine that crashed and starts at the moment that the steady clock told last: the node knows nothing, has the

@@ -1,29 +1,17 @@
--- The set of ends agrees with the map after each change of both.
+-- The set of expiries agrees with the map after each change of both.
 use Rattle.std.proofs.Common.{◌≡◌, ◌==◌, ◌≢◌, ℕ, ◌≤◌, Bool, true, false, ◌&&◌, ◌||◌, cond, List, [], ◌∷◌, ◌++◌, Option, Some, None, Result, Ok, Err, OnOk, OnErr, unwrap_or, refl, sym, ap, ◌∙◌, subst, ⊎_elim}
-use Rattle.std.specs.List.{IsDistinct, filter}
-use Rattle.std.specs.Map.{lookup, keys_of, set_value}
-use Rattle.std.proofs.lemmas.Map.Steps.{set_value_same}
-use Rattle.std.specs.Option.{IfSome, IfNone}
-use Rattle.std.proofs.lemmas.Bool.{cases_Bool, cond-true, cond-false, both_ways, and_parts}
-use Rattle.nbt_name.specs.Wire.{NameValue, same_name}
-use Rattle.nbt_lease.specs.declared.lease.Lease.{Lease}
-use Rattle.nbt_lease.specs.declared.ends.Due.{Due}
-use Rattle.nbt_lease.specs.Lease.{is_live, at_name, HasNone, AreApart}
-use Rattle.nbt_lease.specs.Inner.Index.{Entries, members_of, due, is_due, in_set, has_end, Agrees, IsMember, if_any, TakenFrom}
+use Rattle.nbt_lease.proofs.Common.{filter, lookup, keys_of, set_value, set_value_same, IfSome, IfNone, cases_Bool, cond-true, cond-false, both_ways, and_parts, NameValue, same_name, Lease, Due, is_live, at_name, HasNone, AreApart, Entries, members_of, due, is_due, in_set, has_end, Agrees, IsMember, if_any, TakenFrom, eqb-true, eq-eqb}
+use Rattle.std.specs.List.{IsDistinct}
 use Rattle.nbt_name.proofs.Same.{same_name-true, same_name-same, same_name-turned}
 use Rattle.nbt_lease.proofs.Rows.{same_leases}
 use Rattle.nbt_lease.proofs.Sound.{apart_push, apart_replaced, apart_without}
 use Rattle.nbt_lease.proofs.Others.{some_there}
-use Rattle.nbt_lease.proofs.Dues.{number_again, same_number}
 use Rattle.nbt_lease.proofs.Flat.{live_stays}
 use Rattle.nbt_lease.proofs.Ending.{ends_so, ends-append, ends-push, ends-without, ends-renewed, no_end, none_beside}
 
-abbrev the_none : Entries
-the_none = []
-
-pub none_distinct : IsDistinct same_name (keys_of the_none)
+pub none_distinct : {K : Type 0} (same : K → K → Bool) → IsDistinct same []
 unfolding IsDistinct
-none_distinct = tt
+none_distinct same = tt
 
 -- ---- one name changes
 
@@ -54,7 +42,7 @@ changes_one es fs ds gs k w h names ends map some apart others here = record {
       (cases_Bool (same_name k d.name));
 }
 
--- a test of an end of this name, at another and at this name
+-- a test of an expiry of this name, at another and at this name
 elsewhere : (e a : ℕ) (k : NameValue) (b x : Bool) (d : Due) → same_name k d.name ≡ false → cond (is_due (due e k a) d) b x ≡ x
 elsewhere e a k b x d other = rw other refl
 
@@ -126,7 +114,7 @@ other_bool false y h = h
 pub other_end : (es : Entries) (ds : List Due) (k : NameValue) (addr new : ℕ) (before behind : List Lease) (l : Lease) → Agrees es ds → IsMember addr (members_of es k) before l behind → (l.end == new) ≡ false → in_set ds (due new k l.addr) ≡ false
 other_end es ds k addr new before behind l h member other =
     let apart : AreApart (before ++ l ∷ behind) = subst AreApart member.is (h.apart k) in
-    let own : ends_so new l.addr l ≡ false = rw (number_again l.addr, other) refl in
+    let own : ends_so new l.addr l ≡ false = rw (eq-eqb l.addr l.addr refl, other) refl in
     h.agree (due new k l.addr) ∙ (ap (has_end new l.addr) member.is ∙ (ends-append new l.addr before (l ∷ behind)
     ∙ (ap (λ (b : Bool). has_end new l.addr before || (b || has_end new l.addr behind)) own
     ∙ other_bool (has_end new l.addr before) (has_end new l.addr behind) (sym (ends-append new l.addr before behind) ∙ no_end new l.addr (before ++ behind) (none_beside before behind l apart)))))
@@ -154,12 +142,8 @@ members_stay es fs map = same_leases (members_of fs) (members_of es) (λ q. ap (
 
 -- ---- no leases
 
-no_dues : IsDistinct is_due []
-unfolding IsDistinct
-no_dues = tt
-
 pub agrees_none : (es : Entries) (ds : List Due) → es ≡ [] → ds ≡ [] → Agrees es ds
-agrees_none es ds none empty = rw (none, empty) (record { names = none_distinct; filled = λ q e. cc; apart = λ q. tt; once = no_dues; agree = λ d. refl })
+agrees_none es ds none empty = rw (none, empty) (record { names = none_distinct same_name; filled = λ q e. cc; apart = λ q. tt; once = none_distinct is_due; agree = λ d. refl })
 
 -- ---- what is taken out is the end that was due
 
@@ -171,7 +155,7 @@ pub only_end : (end : ℕ) (before behind : List Lease) (lease : Lease) → AreA
 only_end end before behind lease apart there =
     let none = sym (ends-append end lease.addr before behind) ∙ no_end end lease.addr (before ++ behind) (none_beside before behind lease apart) in
     let so = only_bool (has_end end lease.addr before) (has_end end lease.addr behind) (ends_so end lease.addr lease) none (sym (ends-append end lease.addr before (lease ∷ behind)) ∙ there) in
-    same_number lease.end end (and_parts (lease.addr == lease.addr) (lease.end == end) so).1
+    eqb-true lease.end end (and_parts (lease.addr == lease.addr) (lease.end == end) so).1
 
 pub found_out : (r : Option Lease) (P : Lease → Type 0) (N : Type 0) → IfSome r P → IfNone r N → (N → ⊥) → (lease : Lease) × P lease
 found_out None P N some none never = absurd (never none)
@@ -181,7 +165,7 @@ found_out (Some lease) P N some none never = (lease, some)
 pub due_there : (es : Entries) (ds : List Due) (d : Due) → Agrees es ds → in_set ds d ≡ true → HasNone d.addr (members_of es d.name) → ⊥
 due_there es ds d h there none = both_ways (in_set ds d) (h.agree d ∙ no_end d.end d.addr (members_of es d.name) none) there
 
--- the end of a member that was taken out
+-- the expiry of a member that was removed
 pub due_end : (es fs : Entries) (ds : List Due) (d : Due) (lease : Lease) → Agrees es ds → in_set ds d ≡ true → TakenFrom es fs d.name d.addr lease → d ≡ due lease.end d.name lease.addr
 due_end es fs ds d lease h there t =
     let apart : AreApart (t.before ++ lease ∷ t.behind) = subst AreApart t.member.is (h.apart d.name) in
@@ -215,10 +199,6 @@ either_way (Err e) P Q S U R p q s u ok err = err s u
 pub on_err : {T E : Type 0} (r : Result T E) (P : Type 0) → P → OnErr r P
 on_err (Ok x) P p = tt
 on_err (Err e) P p = p
-
-pub on_err_weaker : {T E : Type 0} (r : Result T E) (P Q : Type 0) → (P → Q) → OnErr r P → OnErr r Q
-on_err_weaker (Ok x) P Q weaker h = tt
-on_err_weaker (Err e) P Q weaker h = weaker h
 
 pub if_none : {T : Type 0} (r : Option T) (P : Type 0) → P → IfNone r P
 if_none None P p = p

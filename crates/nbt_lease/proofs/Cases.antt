@@ -1,31 +1,18 @@
--- The cases of a grant and a release: one stands, no two meet, and what they leave to others and to the asker.
+-- The cases of a grant and a release: one stands, no two meet, and what they leave to others and to the requester.
 use Rattle.std.proofs.Common.{◌≡◌, ◌≢◌, ℕ, ◌⊎◌, List, [], ◌∷◌, ◌++◌, refl, sym, ap, ◌∙◌, subst, inl, inr, ⊎_elim}
-use Rattle.std.proofs.lemmas.Bool.{cases_eq}
-use Rattle.nbt_name.specs.declared.addr.Kind.{Kind}
-use Rattle.nbt_name.specs.declared.addr.Kind.TheVariants.{Unique, Group}
-use Rattle.nbt_lease.specs.declared.lease.Lease.{Lease}
-use Rattle.nbt_lease.specs.Lease.{HasNone, AreGroup, AreApart}
-use Rattle.nbt_lease.specs.Rules.{Asked, IsAllowed, free, member, owner}
+use Rattle.nbt_lease.proofs.Common.{cases_eq, Kind, Unique, Group, Lease, HasNone, AreGroup, AreApart, Asked, IsAllowed, free, member, owner, HasOne}
 use Rattle.nbt_lease.proofs.Sound.{all_behind}
 
--- ---- the asker's lease, or none
+-- ---- the requester's lease, or none
 
--- A lease of an address, and the leases before it and after it.
-pub record Own (addr : ℕ) (leases : List Lease) : Type 0 where
-  pub before : List Lease
-  pub lease : Lease
-  pub behind : List Lease
-  pub is : leases ≡ before ++ lease ∷ behind
-  pub owner_is : lease.addr ≡ addr
-
-pub own_or_none : (addr : ℕ) (leases : List Lease) → Own addr leases ⊎ HasNone addr leases
+pub own_or_none : (addr : ℕ) (leases : List Lease) → HasOne addr leases ⊎ HasNone addr leases
 own_or_none addr [] = inr tt
 own_or_none addr (x ∷ xs) =
     ⊎_elim
     (λ same. inl (record { before = []; lease = x; behind = xs; is = refl; owner_is = same }))
     (λ other.
     ⊎_elim
-    (λ (own : Own addr xs). inl (record { before = x ∷ own.before; lease = own.lease; behind = own.behind; is = ap (λ (ys : List Lease). x ∷ ys) own.is; owner_is = own.owner_is }))
+    (λ (own : HasOne addr xs). inl (record { before = x ∷ own.before; lease = own.lease; behind = own.behind; is = ap (λ (ys : List Lease). x ∷ ys) own.is; owner_is = own.owner_is }))
     (λ none. inr (other, none))
     (own_or_none addr xs))
     (cases_eq x.addr addr)

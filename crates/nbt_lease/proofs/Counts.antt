@@ -1,10 +1,7 @@
--- How many leases live over all names is told by the leases of each name.
-use Rattle.std.proofs.Common.{◌≡◌, ℕ, suc, ◌+◌, ◌<◌, true, false, List, [], ◌∷◌, ◌++◌, sym, ap, ◌∙◌, subst, ⊎_elim}
-use Rattle.std.proofs.lemmas.Bool.{cases_Bool, cond-true, cond-false, lt-ltb}
-use Rattle.std.proofs.lemmas.List.{append-nil}
-use Rattle.nbt_name.specs.Wire.{NameValue, same_name}
-use Rattle.nbt_lease.specs.declared.lease.Lease.{Lease}
-use Rattle.nbt_lease.specs.Lease.{Rows, Leases, is_live, leases_at, live_count, at_name}
+-- How many leases live over all names is determined by the leases of each name.
+use Rattle.std.proofs.Common.{◌≡◌, ℕ, suc, ◌+◌, ◌<◌, true, false, List, [], ◌∷◌, ◌++◌, sym, ap, ◌∙◌, subst, ⊎_elim, ◌≤◌, length, arith}
+use Rattle.nbt_lease.proofs.Common.{cases_Bool, cond-true, cond-false, lt-ltb, append-nil, NameValue, same_name, Lease, Rows, Leases, is_live, leases_at, at_name, length-filter, count_by-le-length}
+use Rattle.nbt_lease.specs.Lease.{live_count}
 use Rattle.nbt_name.proofs.Same.{same_name-true, same_name-same, same_name-turned}
 use Rattle.nbt_lease.proofs.Rows.{row_lives, row_of_other, row_over, count_lives, count_over, none_live, none_count, leases_at-append, live_count-append, same_leases}
 
@@ -108,3 +105,7 @@ pub one_more : (m : ℕ) (name : NameValue) (lease : Lease) (a b : Rows) → m <
 one_more m name lease a b live after =
     same_count m b (a ++ (name, lease) ∷ []) (after ∙ sym (last_at m name lease a live))
     ∙ (live_count-append m a ((name, lease) ∷ []) ∙ ap (λ (n : ℕ). live_count m a + n) (count_lives m (name, lease) [] (lt-ltb m lease.end live) ∙ ap suc (none_count m)))
+
+pub live_at_most : (m : ℕ) (rows : Rows) → live_count m rows ≤ length rows
+unfolding live_count
+live_at_most m rows = omega (arith, length-filter (λ (r : NameValue × Lease). is_live m r.1) rows, count_by-le-length (λ (r : NameValue × Lease). is_live m r.1) rows)

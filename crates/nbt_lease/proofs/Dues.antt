@@ -1,20 +1,6 @@
--- Ends of leases: one is another where its parts are, as the order tells too.
-use Rattle.std.proofs.Common.{◌≡◌, ◌==◌, ℕ, ◌<◌, ◌≤◌, Bool, true, false, ◌&&◌, cond, length, List, Option, Some, None, [], ◌∷◌, refl, sym, ap, ◌∙◌, subst, ⊎_elim, arith}
-use Rattle.std.specs.Ordering.{nat_cmp, ordering_then, is_eq, is_gt}
-use Rattle.std.specs.declared.cmp.Ordering.{Ordering}
-use Rattle.std.specs.declared.cmp.Ordering.TheVariants.{Less, Equal, Greater}
-use Rattle.std.specs.Cmp.{tied_then, unsigned_tied, unsigned_Decides, IsEquivalence}
-use Rattle.std.specs.Cmp.Lexicographic.{slice_cmp}
-use Rattle.std.specs.List.{list_any, IsDistinct}
-use Rattle.std.specs.Option.{IfSome}
-use Rattle.std.specs.List.Sorted.{IsStrictlySortedBy}
-use Rattle.std.specs.Str.{bytes_eq}
-use Rattle.std.proofs.lemmas.Bool.{cases_Bool, both_ways, false_from_ne_true, and_parts, and_from}
-use Rattle.std.proofs.lemmas.Map.Text.{is_eq-slice_cmp}
-use Rattle.std.proofs.lemmas.Map.Keys.{IsDistinct-from_sorted, le_from_not_gt}
-use Rattle.nbt_name.specs.Wire.{NameValue, same_name}
-use Rattle.nbt_lease.specs.declared.ends.Due.{Due}
-use Rattle.nbt_lease.specs.Inner.Index.{is_due, in_set}
+-- Expiries of leases: one is another if its parts are, as the order says too.
+use Rattle.std.proofs.Common.{◌≡◌, ◌==◌, ◌<◌, ◌≤◌, Bool, true, false, ◌&&◌, cond, length, List, Option, Some, None, [], ◌∷◌, refl, sym, ap, ◌∙◌, subst, ⊎_elim, arith}
+use Rattle.nbt_lease.proofs.Common.{nat_cmp, ordering_then, is_eq, is_gt, Ordering, Less, Equal, Greater, tied_then, unsigned_tied, IsEquivalence, slice_cmp, list_any, IsDistinct, IfSome, IsStrictlySortedBy, cases_Bool, both_ways, false_from_ne_true, and_parts, and_from, is_eq-slice_cmp, IsDistinct-from_sorted, le_from_not_gt, NameValue, same_name, Due, is_due, in_set, eqb-true, eq-eqb}
 use Rattle.nbt_name.proofs.Same.{same_name-true, same_name-same}
 
 pub some_weaker : (r : Option Due) (P Q : Due → Type 0) → ((d : Due) → P d → Q d) → IfSome r P → IfSome r Q
@@ -23,23 +9,17 @@ some_weaker (Some d) P Q weaker h = weaker d h
 
 -- ---- equality
 
-pub same_number : (a b : ℕ) → (a == b) ≡ true → a ≡ b
-same_number a b h = (unsigned_Decides a b).0 h
-
-pub number_again : (a : ℕ) → (a == a) ≡ true
-number_again a = (unsigned_Decides a a).1 refl
-
 pub due_is : (a b : Due) → is_due a b ≡ true → a ≡ b
 due_is a b h =
     let parts = and_parts (same_name a.name b.name) ((a.addr == b.addr) && (a.end == b.end)) h in
     let numbers = and_parts (a.addr == b.addr) (a.end == b.end) parts.1 in
     let name : a.name ≡ b.name = same_name-true a.name b.name parts.0 in
-    let addr : a.addr ≡ b.addr = same_number a.addr b.addr numbers.0 in
-    let end : a.end ≡ b.end = same_number a.end b.end numbers.1 in
+    let addr : a.addr ≡ b.addr = eqb-true a.addr b.addr numbers.0 in
+    let end : a.end ≡ b.end = eqb-true a.end b.end numbers.1 in
     λ i. record { end = end i; name = name i; addr = addr i }
 
 pub due_again : (a : Due) → is_due a a ≡ true
-due_again a = and_from (same_name a.name a.name) ((a.addr == a.addr) && (a.end == a.end)) (same_name-same a.name) (and_from (a.addr == a.addr) (a.end == a.end) (number_again a.addr) (number_again a.end))
+due_again a = and_from (same_name a.name a.name) ((a.addr == a.addr) && (a.end == a.end)) (same_name-same a.name) (and_from (a.addr == a.addr) (a.end == a.end) (eq-eqb a.addr a.addr refl) (eq-eqb a.end a.end refl))
 
 due_turned : (a b : Due) → is_due a b ≡ is_due b a
 due_turned a b =
@@ -105,6 +85,6 @@ first_of Less b h = h
 first_of Equal b h = refl
 first_of Greater b h = h
 
--- the least of all ends first
+-- the first of all expiries first
 pub no_earlier : (a b : Due) → is_gt (due_cmp a b) ≡ false → a.end ≤ b.end
 no_earlier a b h = le_from_not_gt a.end b.end (first_of (nat_cmp a.end b.end) (ordering_then (name_cmp a.name b.name) (nat_cmp a.addr b.addr)) h)

@@ -1,14 +1,7 @@
--- Which ends a list of leases has, and what a change of one lease makes of them.
-use Rattle.std.proofs.Common.{◌≡◌, ◌==◌, ◌≢◌, ℕ, ◌+◌, ◌<◌, length, take, drop, get_or, Bool, true, false, ◌&&◌, ◌||◌, cond, List, [], ◌∷◌, ◌++◌, refl, sym, ap, ◌∙◌, subst, ⊎_elim, arith}
-use Rattle.std.specs.List.{list_any, AllByRecursion}
-use Rattle.std.proofs.lemmas.Bool.{cases_Bool, both_ways, false_from_ne_true, and_parts, and_from}
-use Rattle.std.proofs.lemmas.List.{drop_more, take-append-drop, length-take-le}
-use Rattle.std.proofs.lemmas.List.Folds.{list_any-append}
-use Rattle.nbt_lease.specs.declared.lease.Lease.{Lease}
-use Rattle.nbt_lease.specs.Lease.{HasNone, AreApart}
-use Rattle.nbt_lease.specs.Inner.Index.{has_end, AreLive, IsMember}
+-- Which expiries a list of leases has, and what a change of one lease makes of them.
+use Rattle.std.proofs.Common.{◌≡◌, ◌==◌, ◌≢◌, ℕ, ◌+◌, ◌<◌, length, take, drop, get_or, Bool, true, false, ◌&&◌, ◌||◌, cond, List, [], ◌∷◌, ◌++◌, refl, sym, ap, ◌∙◌, subst, arith}
+use Rattle.nbt_lease.proofs.Common.{AllByRecursion, false_from_ne_true, ne_eqb, and_parts, or_right, drop_more, take-append-drop, length-take-le, list_any-append, Lease, HasNone, AreApart, has_end, AreLive, IsMember, eqb-true, eq-eqb}
 use Rattle.nbt_lease.proofs.Sound.{all_behind}
-use Rattle.nbt_lease.proofs.Dues.{same_number, number_again}
 
 abbrev pub ends_so : ℕ → ℕ → Lease → Bool
 ends_so end addr lease = (lease.addr == addr) && (lease.end == end)
@@ -16,12 +9,9 @@ ends_so end addr lease = (lease.addr == addr) && (lease.end == end)
 pub ends-append : (end addr : ℕ) (xs ys : List Lease) → has_end end addr (xs ++ ys) ≡ (has_end end addr xs || has_end end addr ys)
 ends-append end addr xs ys = list_any-append (ends_so end addr) xs ys
 
-other_number : (a b : ℕ) → a ≢ b → (a == b) ≡ false
-other_number a b other = false_from_ne_true (a == b) (λ same. other (same_number a b same))
-
 pub no_end : (end addr : ℕ) (leases : List Lease) → HasNone addr leases → has_end end addr leases ≡ false
 no_end end addr [] none = refl
-no_end end addr (x ∷ xs) none = rw (other_number x.addr addr none.0) (no_end end addr xs none.1)
+no_end end addr (x ∷ xs) none = rw (ne_eqb x.addr addr none.0) (no_end end addr xs none.1)
 
 -- ---- no other lease has the address
 
@@ -47,7 +37,7 @@ ends-push end addr leases lease = pushed_bool (has_end end addr leases) (ends_so
 none_of : (end addr : ℕ) (before behind : List Lease) (lease : Lease) → AreApart (before ++ lease ∷ behind) → ends_so end addr lease ≡ true → has_end end addr (before ++ behind) ≡ false
 none_of end addr before behind lease apart so =
     let parts = and_parts (lease.addr == addr) (lease.end == end) so in
-    no_end end addr (before ++ behind) (subst (λ (n : ℕ). HasNone n (before ++ behind)) (same_number lease.addr addr parts.0) (none_beside before behind lease apart))
+    no_end end addr (before ++ behind) (subst (λ (n : ℕ). HasNone n (before ++ behind)) (eqb-true lease.addr addr parts.0) (none_beside before behind lease apart))
 
 gone_bool : (x y t : Bool) → (t ≡ true → (x || y) ≡ false) → cond t false (x || (t || y)) ≡ (x || y)
 gone_bool x y true none = sym (none refl)
@@ -86,20 +76,16 @@ ends-renewed end addr new before behind lease apart other =
       false_from_ne_true u (λ too. other (
           let old = and_parts (lease.addr == addr) (lease.end == end) so in
           let renewed = and_parts (lease.addr == addr) (new == end) too in
-          same_number new end renewed.1 ∙ sym (same_number lease.end end old.1))),
+          eqb-true new end renewed.1 ∙ sym (eqb-true lease.end end old.1))),
     ))
     ∙ sym (ends-append end addr before (record lease { end = new } ∷ behind)))
 
 -- ---- none is over
 
-or_right : (x y : Bool) → y ≡ true → (x || y) ≡ true
-or_right true y h = refl
-or_right false y h = h
-
 pub live_from : (now : ℕ) (leases : List Lease) → ((end addr : ℕ) → has_end end addr leases ≡ true → now < end) → AreLive now leases
 live_from now [] h = tt
 live_from now (x ∷ xs) h = (
-  h x.end x.addr (rw (number_again x.addr, number_again x.end) refl),
+  h x.end x.addr (rw (eq-eqb x.addr x.addr refl, eq-eqb x.end x.end refl) refl),
   live_from now xs (λ end addr there. h end addr (or_right (ends_so end addr x) (has_end end addr xs) there)),
 )
 

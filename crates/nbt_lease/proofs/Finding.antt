@@ -1,13 +1,6 @@
--- The search for an asker's lease, as far as it has come.
+-- The search for an requester's lease, as far as it has come.
 use Rattle.std.proofs.Common.{◌≡◌, ◌≢◌, ℕ, ◌+◌, ◌<◌, ◌↔◌, Bool, true, false, IsTrue, List, [], ◌∷◌, ◌++◌, length, take, get_or, refl, sym, ap, ◌∙◌, subst, ⊎_elim, arith}
-use Rattle.std.proofs.lemmas.Bool.{cases_eq, both_ways, false≢true}
-use Rattle.std.proofs.lemmas.List.{take_more, length-append}
-use Rattle.nbt_name.specs.declared.addr.Kind.TheVariants.{Unique, Group}
-use Rattle.nbt_lease.specs.declared.lease.Lease.{Lease}
-use Rattle.nbt_lease.specs.declared.standing.Standing.{Standing}
-use Rattle.nbt_lease.specs.Lease.{HasNone, AreGroup}
-use Rattle.nbt_lease.specs.Inner.Standing.{HasOne, StandsIn}
-use Rattle.nbt_lease.specs.Rules.{Asked, IsAllowed, free, member, owner}
+use Rattle.nbt_lease.proofs.Common.{cases_eq, both_ways, false≢true, append_assoc, take_more, length-append, Unique, Group, Lease, Standing, HasNone, AreGroup, HasOne, StandsIn, Asked, IsAllowed, free, member, owner}
 use Rattle.nbt_lease.proofs.Sound.{all_front, all_behind, all_joined}
 use Rattle.nbt_lease.proofs.Cases.{kind_cases, kinds_differ}
 
@@ -22,10 +15,6 @@ pub record Adds (lease : Lease) (addr : ℕ) (old new : Standing) : Type 0 where
   pub own : lease.addr ≡ addr → new.own ≡ true
   pub other : lease.addr ≢ addr → new.own ≡ old.own
 
-joined : (xs ys zs : List Lease) → (xs ++ ys) ++ zs ≡ xs ++ (ys ++ zs)
-joined [] ys zs = refl
-joined (x ∷ xs) ys zs = ap (λ (ls : List Lease). x ∷ ls) (joined xs ys zs)
-
 own_more : (addr : ℕ) (leases : List Lease) (lease : Lease) (old new : Standing) → Adds lease addr old new → (old.own ≡ true → HasOne addr leases) → new.own ≡ true → HasOne addr (leases ++ lease ∷ [])
 own_more addr leases lease old new adds so_far is =
     ⊎_elim
@@ -36,7 +25,7 @@ own_more addr leases lease old new adds so_far is =
       before = h.before;
       lease = h.lease;
       behind = h.behind ++ lease ∷ [];
-      is = ap (λ (ls : List Lease). ls ++ lease ∷ []) h.is ∙ joined h.before (h.lease ∷ h.behind) (lease ∷ []);
+      is = ap (λ (ls : List Lease). ls ++ lease ∷ []) h.is ∙ append_assoc h.before (h.lease ∷ h.behind) (lease ∷ []);
       owner_is = h.owner_is;
     })
     (cases_eq lease.addr addr)
@@ -82,7 +71,7 @@ owner_found a leases is_unique one none (free empty) = omega (arith, one, ap len
 owner_found a leases is_unique one none (member _ is_group) = kinds_differ a.kind is_unique is_group
 owner_found a leases is_unique one none (owner lease only own _ _) = (subst (HasNone a.addr) only none).0 own
 
--- one lease, of no group: the asker has it, or a grant isn't allowed
+-- one lease, of no group: the requester has it, or a grant isn't allowed
 pub owner_asks : (a : Asked) (leases : List Lease) (own : Bool) → length leases ≡ 1 → (AreGroup leases → ⊥) → a.kind ≡ Unique → (own ≡ true → HasOne a.addr leases) → (own ≡ false → HasNone a.addr leases) → IsTrue own ↔ IsAllowed a leases
 owner_asks a leases false one mixed is_unique has none = (λ h. absurd (false≢true h), λ allowed. absurd (owner_found a leases is_unique one (none refl) allowed))
 owner_asks a leases true one mixed is_unique has none = (λ _. let h = has refl in own_allowed a leases h.before h.behind h.lease h.is h.owner_is one mixed is_unique, λ _. refl)

@@ -1,17 +1,7 @@
--- The members of all names as rows, and the ends of all rows.
-use Rattle.std.proofs.Common.{◌≡◌, ◌≢◌, ℕ, suc, ◌+◌, ◌<◌, ◌≤◌, ◌⊎◌, Bool, true, false, ◌&&◌, ◌||◌, cond, List, [], ◌∷◌, ◌++◌, map, length, Option, Some, None, unwrap_or, refl, sym, ap, ◌∙◌, subst, inl, inr, ⊎_elim, arith}
-use Rattle.std.specs.List.{filter, list_any, IsDistinct, AllByRecursion}
-use Rattle.std.specs.Map.{lookup, keys_of}
-use Rattle.std.proofs.lemmas.Bool.{cases_Bool, cond-true, cond-false, lt-ltb, ltb-true, le-ltb}
-use Rattle.std.proofs.lemmas.List.{map-append, length-append, length-map}
-use Rattle.std.proofs.lemmas.List.Folds.{list_any-append}
-use Rattle.std.proofs.lemmas.Map.Keys.{IsDistinct-head, IsDistinct-tail, IsDistinct-cons}
-use Rattle.std.proofs.lemmas.Map.Made.{length-from_same_keys}
-use Rattle.nbt_name.specs.Wire.{NameValue, same_name}
-use Rattle.nbt_lease.specs.declared.lease.Lease.{Lease}
-use Rattle.nbt_lease.specs.declared.ends.Due.{Due}
-use Rattle.nbt_lease.specs.Lease.{Rows, Leases, is_live, leases_at, live_count, at_name, HasNone, AreApart}
-use Rattle.nbt_lease.specs.Inner.Index.{Entries, members_of, rows_of, due, is_due, in_set, has_end, Agrees, AreLive}
+-- The members of all names as rows, and the expiries of all rows.
+use Rattle.std.proofs.Common.{◌≡◌, ℕ, suc, ◌<◌, ◌≤◌, Bool, true, false, ◌&&◌, ◌||◌, cond, List, [], ◌∷◌, ◌++◌, map, length, Option, Some, None, unwrap_or, refl, sym, ap, ◌∙◌, subst, ⊎_elim, arith}
+use Rattle.nbt_lease.proofs.Common.{filter, list_any, AllByRecursion, lookup, keys_of, cases_Bool, cond-true, cond-false, lt-ltb, ltb-true, le-ltb, append-nil, map-append, length-append, length-map, or-false, list_any-append, IsDistinct-head, IsDistinct-tail, IsDistinct-cons, length-from_same_keys, NameValue, same_name, Lease, Due, Rows, Leases, is_live, leases_at, live_count, at_name, HasNone, AreApart, Entries, members_of, rows_of, due, is_due, in_set, has_end, Agrees, AreLive}
+use Rattle.std.specs.List.{IsDistinct}
 use Rattle.nbt_name.proofs.Same.{same_name-true, same_name-same, same_name-turned}
 use Rattle.nbt_lease.proofs.Rows.{row_lives, row_of_other, row_over, count_lives, none_live, none_count, leases_at-append, live_count-append, same_leases}
 use Rattle.nbt_lease.proofs.Dues.{due_equiv, member_is}
@@ -65,10 +55,6 @@ dues_elsewhere : (name : NameValue) (leases : List Lease) (d : Due) → same_nam
 dues_elsewhere name [] d other = refl
 dues_elsewhere name (x ∷ xs) d other = rw other (dues_elsewhere name xs d other)
 
-or_false : (b : Bool) → (b || false) ≡ b
-or_false true = refl
-or_false false = refl
-
 pub dues_are : (es : Entries) (d : Due) → IsDistinct same_name (keys_of es) → in_set (dues_of (rows_of es)) d ≡ has_end d.end d.addr (members_of es d.name)
 dues_are [] d distinct = refl
 dues_are (e ∷ es) d distinct =
@@ -76,7 +62,7 @@ dues_are (e ∷ es) d distinct =
     dues_joined e.0 e.1 (rows_of es) d ∙
     ⊎_elim
     (λ named. (λ i. dues_here e.0 e.1 d (turned_true d.name e.0 named) i || (rest ∙ ap (has_end d.end d.addr) (none_behind e es distinct d.name named)) i)
-    ∙ (or_false (has_end d.end d.addr e.1) ∙ ap (has_end d.end d.addr) (sym (here_is e es d.name named))))
+    ∙ (or-false (has_end d.end d.addr e.1) ∙ ap (has_end d.end d.addr) (sym (here_is e es d.name named))))
     (λ other. (λ i. dues_elsewhere e.0 e.1 d (same_name-turned d.name e.0 other) i || rest i) ∙ ap (has_end d.end d.addr) (sym (behind_is e es d.name other)))
     (cases_Bool (same_name d.name e.0))
   where
@@ -142,10 +128,6 @@ leases_elsewhere : (m : ℕ) (name q : NameValue) (leases : List Lease) → same
 leases_elsewhere m name q [] other = none_live m q
 leases_elsewhere m name q (x ∷ xs) other = row_of_other m (name, x) (rows_at name xs) q other ∙ leases_elsewhere m name q xs other
 
-append_none : (leases : List Lease) → leases ++ [] ≡ leases
-append_none [] = refl
-append_none (x ∷ xs) = ap (λ (ls : List Lease). x ∷ ls) (append_none xs)
-
 -- what lives of a name are its members that live
 pub leases_are : (m : ℕ) (es : Entries) (q : NameValue) → IsDistinct same_name (keys_of es) → leases_at m (rows_of es) q ≡ filter (is_live m) (members_of es q)
 leases_are m [] q distinct = none_live m q
@@ -154,7 +136,7 @@ leases_are m (e ∷ es) q distinct =
     leases_at-append m (rows_at e.0 e.1) (rows_of es) q ∙
     ⊎_elim
     (λ named. (λ i. leases_here m e.0 q e.1 (subst (λ (n : NameValue). same_name n q ≡ true) (same_name-true q e.0 named) (same_name-same q)) i ++ (rest ∙ ap (filter (is_live m)) (none_behind e es distinct q named)) i)
-    ∙ (append_none (filter (is_live m) e.1) ∙ ap (filter (is_live m)) (sym (here_is e es q named))))
+    ∙ (append-nil (filter (is_live m) e.1) ∙ ap (filter (is_live m)) (sym (here_is e es q named))))
     (λ other. (λ i. leases_elsewhere m e.0 q e.1 (same_name-turned q e.0 other) i ++ rest i) ∙ ap (filter (is_live m)) (sym (behind_is e es q other)))
     (cases_Bool (same_name q e.0))
 

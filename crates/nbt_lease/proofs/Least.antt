@@ -1,17 +1,9 @@
--- The least end of leases: found of a list, and kept as members come, go and move.
+-- The first expiry of leases: found of a list, and kept as members come, go and move.
 use Rattle.std.proofs.Common.{◌≡◌, ◌≢◌, ℕ, suc, ◌<◌, ◌≤◌, ◌+◌, List, [], ◌∷◌, ◌++◌, Option, Some, None, unwrap_or, refl, sym, ap, ◌∙◌, subst, length, get_or, set, take, drop, ⊎_elim, arith}
-use Rattle.std.proofs.lemmas.Bool.{cases_lt}
-use Rattle.std.proofs.lemmas.List.{take-append-drop, drop_more, take_more, length-take-le}
-use Rattle.std.proofs.lemmas.List.Elements.{All-cons, All-nil, All-head, All-tail, All-weaker}
-use Rattle.std.proofs.Math.Seq.{set-append_seam}
-use Rattle.std.specs.Prelude.{Any, All, min, filter}
-use Rattle.nbt_lease.specs.declared.lease.Lease.{Lease}
-use Rattle.nbt_lease.specs.Lease.{is_live}
-use Rattle.nbt_lease.specs.Inner.Index.{AreLive}
-use Rattle.nbt_lease.specs.Rules.{IsLeastEnd}
+use Rattle.nbt_lease.proofs.Common.{cases_lt, take-append-drop, drop_more, take_more, length-take-le, All-cons, All-nil, All-head, All-tail, All-weaker, set-append_seam, Any, All, min, filter, Lease, is_live, AreLive, IsLeastEnd}
 use Rattle.nbt_lease.proofs.Flat.{all_live}
 
--- the earlier of two ends, where there are two
+-- the earlier of two expiries, if there are two
 abbrev pub earlier : Option ℕ → Option ℕ → Option ℕ
 earlier None other = other
 earlier (Some end) None = Some end
@@ -73,7 +65,7 @@ joined : (before behind : List Lease) → least_of (before ++ behind) ≡ earlie
 joined [] behind = refl
 joined (lease ∷ before) behind = ap (earlier (Some lease.end)) (joined before behind) ∙ sym (earlier_grouped (Some lease.end) (least_of before) (least_of behind))
 
--- the end of one more
+-- the expiry of one more
 further : (least : Option ℕ) (end : ℕ) → earlier least (Some end) ≡ Some (min (unwrap_or least end) end)
 further None end = ap Some (omega arith)
 further (Some least) end = refl
@@ -84,7 +76,7 @@ one_more leases lease least is =
     (joined leases (lease ∷ []) ∙ (ap (λ (o : Option ℕ). earlier o (Some lease.end)) (one_least leases _ _ (least_of_is leases) is) ∙ further least lease.end))
     (least_of_is (leases ++ lease ∷ []))
 
--- without an end that isn't the least, it stays
+-- without an expiry that isn't the first, it stays
 others : (before : Option ℕ) (gone : ℕ) (behind : Option ℕ) → earlier before (earlier (Some gone) behind) ≢ Some gone → earlier before behind ≡ earlier before (earlier (Some gone) behind)
 others None gone None other = absurd (other refl)
 others None gone (Some behind) other = ap Some (omega (arith, λ (same : min gone behind ≡ gone). other (ap Some same)))

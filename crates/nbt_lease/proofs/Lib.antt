@@ -1,3 +1,4 @@
+pub mod Common
 pub mod Rows
 pub mod Counts
 pub mod Sound
@@ -5,11 +6,9 @@ pub mod Cases
 pub mod Outcomes
 pub mod Others
 pub mod Finding
-pub mod Changes
 pub mod Dues
 pub mod Ending
 pub mod Flat
 pub mod Agreeing
 pub mod Placing
-pub mod Drift
 pub mod Least

@@ -1,17 +1,6 @@
--- What a grant and a release leave to other addresses, and what a grant leaves to the asker.
-use Rattle.std.proofs.Common.{◌≡◌, ◌≢◌, ℕ, ◌≤◌, ◌⊎◌, ◌↔◌, List, [], ◌∷◌, ◌++◌, Result, Ok, max, refl, sym, ap, ◌∙◌, subst, inl, inr, ⊎_elim, arith}
-use Rattle.std.specs.List.{AllByRecursion, Contains}
-use Rattle.std.proofs.lemmas.Bool.{cond-true, cases_lt}
-use Rattle.std.proofs.lemmas.List.Elements.{Contains-append_left, Contains-append_right, Contains-append_cases, Contains-push, Contains-push_cases}
-use Rattle.nbt_name.specs.Wire.{NameValue, same_name}
-use Rattle.nbt_name.specs.declared.addr.Kind.TheVariants.{Group}
-use Rattle.nbt_lease.specs.declared.lease.Lease.{Lease}
-use Rattle.nbt_lease.specs.declared.lease.Grant.{Grant}
-use Rattle.nbt_lease.specs.declared.lease.Released.{Released}
-use Rattle.nbt_lease.specs.declared.fault.GrantFault.{GrantFault}
-use Rattle.nbt_lease.specs.Config.{ConfigValue}
-use Rattle.nbt_lease.specs.Lease.{Leases, TableValue, leases_at, live_count, at_name, AreGroup, AreApart, IsSound}
-use Rattle.nbt_lease.specs.Rules.{Asked, IsAllowed, free, member, owner, end_of, GrantCase, active, renews, group_full, table_full, begins, Grants, renewed, begun, IsGranted, ReleaseCase, gone, no_lease, of_others, Releases}
+-- What a grant and a release leave to other addresses, and what a grant leaves to the requester.
+use Rattle.std.proofs.Common.{◌≡◌, ◌≢◌, ℕ, ◌⊎◌, ◌↔◌, List, [], ◌∷◌, ◌++◌, Result, Ok, max, refl, sym, ap, ◌∙◌, subst, inl, inr, ⊎_elim, arith}
+use Rattle.nbt_lease.proofs.Common.{AllByRecursion, Contains, cond-true, cases_lt, Contains-append_left, Contains-append_right, Contains-append_cases, Contains-push, Contains-push_cases, NameValue, same_name, Group, Lease, Grant, Released, GrantFault, ConfigValue, Leases, TableValue, leases_at, live_count, at_name, AreGroup, AreApart, IsSound, Asked, IsAllowed, free, member, owner, end_of, GrantCase, renews, begins, Grants, renewed, begun, IsGranted, ReleaseCase, gone, Releases, All-contains, All-from_recursion}
 use Rattle.nbt_name.proofs.Same.{same_name-same}
 use Rattle.nbt_lease.proofs.Sound.{all_behind, alone, sound_after_grant}
 use Rattle.nbt_lease.proofs.Cases.{one_own}
@@ -46,22 +35,9 @@ placed (x ∷ xs) lease h =
     (contains_cases x xs lease h)
 
 each : (P : Lease → Type 0) (leases : List Lease) (lease : Lease) → Contains leases lease → AllByRecursion P leases → P lease
-each P leases lease h all =
-    let p = placed leases lease h in
-    (all_behind P p.before (lease ∷ p.behind) (subst (AllByRecursion P) p.is all)).0
+each P leases lease h all = All-contains P leases lease (All-from_recursion P leases all) h
 
--- another lease in one's place, or nothing, leaves the others
-other_in_place : (before behind : List Lease) (old new lease : Lease) → old ≢ lease → Contains (before ++ old ∷ behind) lease → Contains (before ++ new ∷ behind) lease
-other_in_place before behind old new lease apart h =
-    ⊎_elim
-    (λ front. Contains-append_left before (new ∷ behind) lease front)
-    (λ rest.
-    ⊎_elim
-    (λ same. absurd (apart same))
-    (λ after. Contains-append_right before (new ∷ behind) lease (contains_rest new behind lease after))
-    (contains_cases old behind lease rest))
-    (Contains-append_cases before (old ∷ behind) lease h)
-
+-- nothing in one's place leaves the others, and so does another lease
 without_place : (before behind : List Lease) (old lease : Lease) → old ≢ lease → Contains (before ++ old ∷ behind) lease → Contains (before ++ behind) lease
 without_place before behind old lease apart h =
     ⊎_elim
@@ -80,6 +56,9 @@ with_place before behind new lease h =
     (λ rest. Contains-append_right before (new ∷ behind) lease (contains_rest new behind lease rest))
     (Contains-append_cases before behind lease h)
 
+other_in_place : (before behind : List Lease) (old new lease : Lease) → old ≢ lease → Contains (before ++ old ∷ behind) lease → Contains (before ++ new ∷ behind) lease
+other_in_place before behind old new lease apart h = with_place before behind new lease (without_place before behind old lease apart h)
+
 addr_apart : (own lease : Lease) (addr : ℕ) → own.addr ≡ addr → lease.addr ≢ addr → own ≢ lease
 addr_apart own lease addr is other same = other (ap (λ (l : Lease). l.addr) (sym same) ∙ is)
 
@@ -87,9 +66,6 @@ addr_apart own lease addr is other same = other (ap (λ (l : Lease). l.addr) (sy
 
 others_after_grant : (config : ConfigValue) (now count : ℕ) (a : Asked) (leases after : List Lease) (result : Result Grant GrantFault) (lease : Lease) → lease.addr ≢ a.addr
     → GrantCase config now count a leases result after → Contains leases lease ↔ Contains after lease
-others_after_grant config now count a leases after result lease other (active _) = (λ h. h, λ h. h)
-others_after_grant config now count a leases after result lease other (group_full _ _ _) = (λ h. h, λ h. h)
-others_after_grant config now count a leases after result lease other (table_full _ _ _ _) = (λ h. h, λ h. h)
 others_after_grant config now count a leases after result lease other (renews _ before behind own is own_is) =
     let new : Lease = renewed config now a own in (
       λ h. other_in_place before behind own new lease (addr_apart own lease a.addr own_is other) (subst (λ (ls : List Lease). Contains ls lease) is h),
@@ -100,14 +76,14 @@ others_after_grant config now count a leases after result lease other (begins _ 
       λ h. Contains-append_left leases (new ∷ []) lease h,
       λ h. ⊎_elim (λ old. old) (λ same. absurd (addr_apart new lease a.addr refl other same)) (Contains-push_cases leases new lease h),
     )
+others_after_grant config now count a leases after result lease other rule = (λ h. h, λ h. h)
 
 others_after_release : (addr : ℕ) (leases after : List Lease) (result : Released) (lease : Lease) → lease.addr ≢ addr → ReleaseCase addr leases result after → Contains leases lease ↔ Contains after lease
-others_after_release addr leases after result lease other (no_lease _) = (λ h. h, λ h. h)
-others_after_release addr leases after result lease other (of_others _ _) = (λ h. h, λ h. h)
 others_after_release addr leases after result lease other (gone before behind own is own_is) = (
   λ h. without_place before behind own lease (addr_apart own lease addr own_is other) (subst (λ (ls : List Lease). Contains ls lease) is h),
   λ h. subst (λ (ls : List Lease). Contains ls lease) (sym is) (with_place before behind own lease h),
 )
+others_after_release addr leases after result lease other rule = (λ h. h, λ h. h)
 
 pub here : (name : NameValue) (leases : List Lease) (others : Leases) → at_name name leases others name ≡ leases
 here name leases others = cond-true (same_name name name) leases (others name) (same_name-same name)
@@ -129,36 +105,24 @@ others_released table now name addr result after lease r other =
     subst (λ (ls : List Lease). Contains leases lease ↔ Contains ls lease) (after_here name r.leases (leases_at now table.rows) after r.after_is)
     (others_after_release addr leases r.leases result lease other r.rule)
 
--- ---- the asker
+-- ---- the requester
 
 pub some_there : (before behind : List Lease) (lease : Lease) → before ++ lease ∷ behind ≡ [] → ⊥
 some_there [] behind lease empty = cc
 some_there (x ∷ before) behind lease empty = cc
 
--- a renewed lease is of the asked kind
+-- a renewed lease is of the requested kind
 kind_asked : (a : Asked) (leases before behind : List Lease) (own : Lease) → leases ≡ before ++ own ∷ behind → IsAllowed a leases → own.kind ≡ a.kind
 kind_asked a leases before behind own is (free empty) = absurd (some_there before behind own (sym is ∙ empty))
 kind_asked a leases before behind own is (member all is_group) = (all_behind (λ l. l.kind ≡ Group) before (own ∷ behind) (subst AreGroup is all)).0 ∙ sym is_group
 kind_asked a leases before behind own is (owner lease only _ unique is_unique) = ap (λ (l : Lease). l.kind) (alone before behind own lease (sym is ∙ only)).1 ∙ (unique ∙ sym is_unique)
-
--- the lease that the asker has afterwards, in the name's list
-record Granted (config : ConfigValue) (now : ℕ) (a : Asked) (grant : Grant) (leases after : List Lease) : Type 0 where
-  lease : Lease
-  stands : Contains after lease
-  addr_is : lease.addr ≡ a.addr
-  kind_is : lease.kind ≡ a.kind
-  end_is : lease.end ≡ grant.end
-  as_granted : end_of config now a ≤ lease.end
-  no_earlier : (old : Lease) → Contains leases old → old.addr ≡ a.addr → old.end ≤ lease.end
-  no_later : (lease.end ≡ end_of config now a) ⊎ ((old : Lease) × Contains leases old × (old.addr ≡ a.addr) × (lease.end ≡ old.end))
-  only : (other : Lease) → Contains after other → other.addr ≡ a.addr → other ≡ lease
 
 same_owner : (a : Asked) (leases before behind : List Lease) (own old : Lease) → AreApart leases → leases ≡ before ++ own ∷ behind → own.addr ≡ a.addr → Contains leases old → old.addr ≡ a.addr → own ≡ old
 same_owner a leases before behind own old apart is own_is stands old_is =
     let p = placed leases old stands in
     (one_own a.addr before behind p.before p.behind own old (subst AreApart is apart) (sym is ∙ p.is) own_is old_is).1
 
--- a renewed lease ends as granted, or as before
+-- a renewed lease expires as granted, or as before
 end_cases : (config : ConfigValue) (now : ℕ) (a : Asked) (leases before behind : List Lease) (own : Lease) → leases ≡ before ++ own ∷ behind → own.addr ≡ a.addr
     → (max own.end (end_of config now a) ≡ end_of config now a) ⊎ ((old : Lease) × Contains leases old × (old.addr ≡ a.addr) × (max own.end (end_of config now a) ≡ old.end))
 end_cases config now a leases before behind own is own_is =
@@ -167,47 +131,44 @@ end_cases config now a leases before behind own is own_is =
     (λ later. inr (own, subst (λ (ls : List Lease). Contains ls own) (sym is) (Contains-append_right before (own ∷ behind) own (contains_first own behind)), own_is, omega (arith, later)))
     (cases_lt own.end (end_of config now a))
 
-granted_in_list : (config : ConfigValue) (now count : ℕ) (a : Asked) (leases after : List Lease) (grant : Grant) → AreApart leases → AreApart after → GrantCase config now count a leases (Ok grant) after → Granted config now a grant leases after
-granted_in_list config now count a leases after grant apart after_apart (renews allowed before behind own is own_is) = record {
-  lease = renewed config now a own;
-  stands = Contains-append_right before (renewed config now a own ∷ behind) (renewed config now a own) (contains_first (renewed config now a own) behind);
-  addr_is = own_is;
-  kind_is = kind_asked a leases before behind own is allowed;
-  end_is = refl;
-  as_granted = omega arith;
-  no_earlier = λ old stands old_is. let same : own.end ≡ old.end = ap (λ (l : Lease). l.end) (same_owner a leases before behind own old apart is own_is stands old_is) in omega (arith, same);
-  no_later = end_cases config now a leases before behind own is own_is;
-  only = λ other stands other_is. sym (same_owner a (before ++ renewed config now a own ∷ behind) before behind (renewed config now a own) other after_apart refl own_is stands other_is);
-}
-granted_in_list config now count a leases after grant apart after_apart (begins allowed none _ _) = record {
-  lease = begun config now a;
-  stands = Contains-push leases (begun config now a);
-  addr_is = refl;
-  kind_is = refl;
-  end_is = refl;
-  as_granted = omega arith;
-  no_earlier = λ old stands old_is. absurd (each (λ l. l.addr ≢ a.addr) leases old stands none old_is);
-  no_later = inl refl;
-  only = λ other stands other_is. sym (same_owner a (leases ++ begun config now a ∷ []) leases [] (begun config now a) other after_apart refl refl stands other_is);
-}
+granted_in_list : (table : TableValue) (now : ℕ) (name : NameValue) (a : Asked) (after : List Lease) (grant : Grant) → AreApart (leases_at now table.rows name) → AreApart after
+    → GrantCase table.config now (live_count now table.rows) a (leases_at now table.rows name) (Ok grant) after → (lease : Lease) × IsGranted table now name a grant after lease
+granted_in_list table now name a after grant apart after_apart (renews allowed before behind own is own_is) =
+    let leases : List Lease = leases_at now table.rows name in
+    let new : Lease = renewed table.config now a own in (
+      new,
+      record {
+        stands = Contains-append_right before (new ∷ behind) new (contains_first new behind);
+        addr_is = own_is;
+        kind_is = kind_asked a leases before behind own is allowed;
+        end_is = refl;
+        as_granted = omega arith;
+        no_earlier = λ old stands old_is. let same : own.end ≡ old.end = ap (λ (l : Lease). l.end) (same_owner a leases before behind own old apart is own_is stands old_is) in omega (arith, same);
+        no_later = end_cases table.config now a leases before behind own is own_is;
+        only = λ other stands other_is. sym (same_owner a (before ++ new ∷ behind) before behind new other after_apart refl own_is stands other_is);
+      },
+    )
+granted_in_list table now name a after grant apart after_apart (begins allowed none _ _) =
+    let leases : List Lease = leases_at now table.rows name in
+    let new : Lease = begun table.config now a in (
+      new,
+      record {
+        stands = Contains-push leases new;
+        addr_is = refl;
+        kind_is = refl;
+        end_is = refl;
+        as_granted = omega arith;
+        no_earlier = λ old stands old_is. absurd (each (λ l. l.addr ≢ a.addr) leases old stands none old_is);
+        no_later = inl refl;
+        only = λ other stands other_is. sym (same_owner a (leases ++ new ∷ []) leases [] new other after_apart refl refl stands other_is);
+      },
+    )
 
 pub lease_stands : (table : TableValue) (now : ℕ) (name : NameValue) (a : Asked) (grant : Grant) (after : Leases) → IsSound table.config now (leases_at now table.rows) → Grants table now name a (Ok grant) after
     → (lease : Lease) × IsGranted table now name a grant (after name) lease
 lease_stands table now name a grant after sound g =
-    let leases : List Lease = leases_at now table.rows name in
-    let found = granted_in_list table.config now (live_count now table.rows) a leases g.leases grant (sound name).apart (sound_after_grant table.config now (live_count now table.rows) a leases g.leases (Ok grant) (sound name) g.rule).apart g.rule in (
-      found.lease,
-      record {
-        stands = subst (λ (ls : List Lease). Contains ls found.lease) (after_here name g.leases (leases_at now table.rows) after g.after_is) found.stands;
-        addr_is = found.addr_is;
-        kind_is = found.kind_is;
-        end_is = found.end_is;
-        as_granted = found.as_granted;
-        no_earlier = found.no_earlier;
-        no_later = found.no_later;
-        only = λ other stands. found.only other (subst (λ (ls : List Lease). Contains ls other) (sym (after_here name g.leases (leases_at now table.rows) after g.after_is)) stands);
-      },
-    )
+    subst (λ (ls : List Lease). (lease : Lease) × IsGranted table now name a grant ls lease) (after_here name g.leases (leases_at now table.rows) after g.after_is)
+    (granted_in_list table now name a g.leases grant (sound name).apart (sound_after_grant table.config now (live_count now table.rows) a (leases_at now table.rows name) g.leases (Ok grant) (sound name) g.rule).apart g.rule)
 
 beside_allowed : (a : Asked) (leases : List Lease) (other : Lease) → IsAllowed a leases → Contains leases other → other.addr ≢ a.addr → (other.kind ≡ Group) × (a.kind ≡ Group)
 beside_allowed a leases other (free empty) stands apart = absurd (omega (arith, (subst (λ (ls : List Lease). Contains ls other) empty stands).1))

@@ -1,17 +1,8 @@
 -- A grant and a release have one outcome.
 use Rattle.std.proofs.Common.{◌≡◌, ℕ, List, [], ◌∷◌, ◌++◌, length, true, false, Result, Ok, Err, max, refl, sym, ap, ◌∙◌, subst, ⊎_elim, arith}
-use Rattle.std.proofs.lemmas.Bool.{cases_lt}
-use Rattle.nbt_name.specs.Wire.{NameValue}
-use Rattle.nbt_lease.specs.declared.lease.Lease.{Lease}
-use Rattle.nbt_lease.specs.declared.lease.Grant.{Grant}
-use Rattle.nbt_lease.specs.declared.lease.Released.{Released}
-use Rattle.nbt_lease.specs.declared.lease.Released.TheVariants.{Gone, NoLease, OfOthers}
-use Rattle.nbt_lease.specs.declared.fault.GrantFault.{GrantFault}
-use Rattle.nbt_lease.specs.declared.fault.GrantFault.TheVariants.{Active, TableFull, GroupFull}
-use Rattle.nbt_lease.specs.Config.{ConfigValue}
-use Rattle.nbt_lease.specs.Lease.{Leases, TableValue, leases_at, live_count, members_most, at_name, HasNone, AreApart, IsSound}
-use Rattle.nbt_lease.specs.Rules.{Asked, IsAllowed, end_of, grant_until, GrantCase, active, renews, group_full, table_full, begins, Grants, renewed, begun, ReleaseCase, gone, no_lease, of_others, Releases}
-use Rattle.nbt_lease.proofs.Cases.{Own, own_or_none, not_none, one_own, allowed_or_not}
+use Rattle.nbt_lease.proofs.Common.{cases_lt, NameValue, Lease, Grant, Released, Gone, NoLease, OfOthers, GrantFault, Active, TableFull, GroupFull, ConfigValue, Leases, TableValue, leases_at, live_count, members_most, at_name, HasNone, AreApart, IsSound, Asked, IsAllowed, end_of, grant_until, GrantCase, active, renews, group_full, table_full, begins, Grants, renewed, begun, ReleaseCase, gone, no_lease, of_others, Releases, HasOne}
+use Rattle.nbt_lease.proofs.Others.{some_there}
+use Rattle.nbt_lease.proofs.Cases.{own_or_none, not_none, one_own, allowed_or_not}
 
 -- ---- a grant
 
@@ -36,7 +27,7 @@ granted_case config now count a leases =
     ⊎_elim
     (λ allowed.
     ⊎_elim
-    (λ (own : Own a.addr leases). record {
+    (λ (own : HasOne a.addr leases). record {
       result = Ok (grant_until config a (max own.lease.end (end_of config now a)) true);
       after = own.before ++ renewed config now a own.lease ∷ own.behind;
       rule = renews allowed own.before own.behind own.lease own.is own.owner_is;
@@ -101,7 +92,7 @@ not_owned addr (x ∷ xs) none = record { result = OfOthers; after = x ∷ xs; r
 released_case : (addr : ℕ) (leases : List Lease) → ReleaseOutcome addr leases
 released_case addr leases =
     ⊎_elim
-    (λ (own : Own addr leases). record { result = Gone; after = own.before ++ own.behind; rule = gone own.before own.behind own.lease own.is own.owner_is })
+    (λ (own : HasOne addr leases). record { result = Gone; after = own.before ++ own.behind; rule = gone own.before own.behind own.lease own.is own.owner_is })
     (λ none. not_owned addr leases none)
     (own_or_none addr leases)
 
@@ -110,17 +101,13 @@ release_found table now name addr =
     let case = released_case addr (leases_at now table.rows name) in
     (case.result, at_name name case.after (leases_at now table.rows), record { leases = case.after; rule = case.rule; after_is = refl })
 
-owned_is_some : (leases before behind : List Lease) (lease : Lease) → leases ≡ before ++ lease ∷ behind → leases ≡ [] → ⊥
-owned_is_some leases [] behind lease is empty = cc
-owned_is_some leases (x ∷ before) behind lease is empty = cc
-
 same_release : (addr : ℕ) (leases : List Lease) (r s : Released) (x y : List Lease) → AreApart leases → ReleaseCase addr leases r x → ReleaseCase addr leases s y → (r ≡ s) × (x ≡ y)
 same_release addr leases r s x y apart (gone before behind lease is own) (gone before' behind' lease' is' own') =
     let parts = one_own addr before behind before' behind' lease lease' (subst AreApart is apart) (sym is ∙ is') own own' in
     (refl, λ i. parts.0 i ++ parts.2 i)
-same_release addr leases r s x y apart (gone before behind lease is own) (no_lease empty) = absurd (owned_is_some leases before behind lease is empty)
+same_release addr leases r s x y apart (gone before behind lease is own) (no_lease empty) = absurd (some_there before behind lease (sym is ∙ empty))
 same_release addr leases r s x y apart (gone before behind lease is own) (of_others _ none) = absurd (not_none addr leases before behind lease is own none)
-same_release addr leases r s x y apart (no_lease empty) (gone before behind lease is own) = absurd (owned_is_some leases before behind lease is empty)
+same_release addr leases r s x y apart (no_lease empty) (gone before behind lease is own) = absurd (some_there before behind lease (sym is ∙ empty))
 same_release addr leases r s x y apart (no_lease _) (no_lease _) = (refl, refl)
 same_release addr leases r s x y apart (no_lease empty) (of_others some _) = absurd (some empty)
 same_release addr leases r s x y apart (of_others _ none) (gone before behind lease is own) = absurd (not_none addr leases before behind lease is own none)

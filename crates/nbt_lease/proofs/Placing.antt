@@ -1,30 +1,10 @@
 -- The exits of a grant and a release.
-use Rattle.std.proofs.Common.{◌≡◌, ◌≢◌, ℕ, ◌+◌, ◌<◌, ◌≤◌, List, [], ◌∷◌, ◌++◌, length, max, Bool, true, false, Option, Some, None, Result, Ok, Err, MatchResult, IfOk, OnErr, refl, sym, ap, ◌∙◌, subst, ⊎_elim, arith}
-use Rattle.std.specs.List.{filter, IsDistinct, AllByRecursion}
-use Rattle.std.specs.Map.{keys_of}
-use Rattle.std.specs.Bool.{OnFalse}
-use Rattle.std.specs.Option.{IfNone}
-use Rattle.std.proofs.lemmas.Bool.{cond_both, both_ways, cases_lt, false≢true}
-use Rattle.std.proofs.lemmas.List.{length-append}
-use Rattle.nbt_name.specs.Wire.{NameValue, same_name}
-use Rattle.nbt_lease.specs.declared.lease.Lease.{Lease}
-use Rattle.nbt_lease.specs.declared.lease.Grant.{Grant}
-use Rattle.nbt_lease.specs.declared.lease.Released.{Released}
-use Rattle.nbt_lease.specs.declared.lease.Released.TheVariants.{Gone}
-use Rattle.nbt_lease.specs.declared.fault.GrantFault.{GrantFault}
-use Rattle.nbt_lease.specs.declared.fault.GrantFault.TheVariants.{OutOfMemory}
-use Rattle.nbt_lease.specs.Lease.{Rows, Leases, TableValue, is_live, leases_at, live_count, members_most, at_name, HasNone, IsSound}
-use Rattle.nbt_lease.specs.Rules.{Asked, IsAllowed, end_of, grant_until, begun, renewed, GrantCase, active, renews, group_full, table_full, begins, Grants, ReleaseCase, gone, no_lease, of_others, Releases}
-use Rattle.nbt_lease.specs.Config.{ConfigValue, granted}
-use Rattle.nbt_lease.specs.Inner.Index.{Entries, members_of, rows_of, AreLive, IsMember, Renewed, Moves, Ended}
-use Rattle.nbt_lease.specs.declared.standing.Standing.{Standing}
-use Rattle.nbt_lease.specs.Inner.Standing.{StandsIn}
-use Rattle.nbt_lease.specs.Inner.Placing.{HoldsLive, Places}
-use Rattle.nbt_lease.proofs.Rows.{same_leases}
+use Rattle.std.proofs.Common.{◌≡◌, ◌≢◌, ℕ, ◌<◌, ◌≤◌, List, [], ◌∷◌, ◌++◌, length, max, Bool, true, false, Option, Some, None, Result, Ok, Err, OnErr, refl, sym, ap, ◌∙◌, subst, ⊎_elim, arith}
+use Rattle.nbt_lease.proofs.Common.{filter, IsDistinct, keys_of, OnFalse, IfNone, cond_both, both_ways, cases_lt, false≢true, length-append, NameValue, same_name, Lease, Grant, Released, Gone, GrantFault, OutOfMemory, Leases, TableValue, is_live, leases_at, live_count, members_most, at_name, HasNone, IsSound, Asked, IsAllowed, end_of, grant_until, begun, renewed, GrantCase, renews, begins, ReleaseCase, gone, Releases, ConfigValue, Entries, members_of, rows_of, AreLive, IsMember, Renewed, Moves, Ended, Standing, StandsIn, HoldsLive, Places}
 use Rattle.nbt_lease.proofs.Counts.{same_count}
 use Rattle.nbt_lease.proofs.Sound.{all_joined, all_replaced, all_without, sound_granted}
 use Rattle.nbt_lease.proofs.Others.{here}
-use Rattle.nbt_lease.proofs.Changes.{at_same}
+use Rattle.nbt_lease.proofs.Rows.{same_leases, at_same}
 use Rattle.nbt_lease.proofs.Finding.{found_in}
 use Rattle.nbt_lease.proofs.Flat.{leases_are, live_left, all_counted, leases_members}
 
@@ -56,9 +36,6 @@ holds_live table now old left is h = record { leases = h.leases ∙ ap (leases_a
 
 -- ---- one outcome of a call
 
-pub ok_is : {T E : Type 0} (r : Result T E) (x : T) (P : T → Type 0) → r ≡ Ok x → IfOk r P → P x
-ok_is {T} {E} r x P is h = subst (λ (o : Result T E). IfOk o P) is h
-
 pub err_is : {T E : Type 0} (r : Result T E) (P : Type 0) → ((x : T) → r ≡ Ok x → ⊥) → OnErr r P → P
 err_is (Ok x) P never h = absurd (never x refl)
 err_is (Err e) P never h = h
@@ -78,12 +55,12 @@ room_left members count full same left more = ⊎_elim (λ less. less) (λ most.
 pub holds_on : (table : TableValue) (now : ℕ) (es fs : Entries) → HoldsLive table now es → members_of fs ≡ members_of es → length (rows_of fs) ≡ length (rows_of es) → HoldsLive table now fs
 holds_on table now es fs holds same count = record { leases = same ∙ holds.leases; count = count ∙ holds.count }
 
--- how the asker stands
+-- how the requester stands
 pub stands_so : (table : TableValue) (now : ℕ) (name : NameValue) (addr other : ℕ) (es : Entries) (slice : List Lease) (standing : Standing) → HoldsLive table now es → addr ≡ other → slice ≡ members_of es name → StandsIn addr slice standing
     → StandsIn other (leases_at now table.rows name) standing
 stands_so table now name addr other es slice standing holds same is found = found_in addr other slice (leases_at now table.rows name) standing same (is ∙ ap (λ (f : Leases). f name) holds.leases) found
 
--- none of the asker's
+-- none of the requester's
 pub none_so : (table : TableValue) (now : ℕ) (name : NameValue) (addr other : ℕ) (es : Entries) → HoldsLive table now es → addr ≡ other → HasNone addr (members_of es name) → HasNone other (leases_at now table.rows name)
 none_so table now name addr other es holds same none = subst (HasNone other) (ap (λ (f : Leases). f name) holds.leases) (subst (λ (n : ℕ). HasNone n (members_of es name)) same none)
 
@@ -103,7 +80,7 @@ module _ (table : TableValue) (now : ℕ) (name : NameValue) (a : Asked) where
   leases_here : (es : Entries) (before behind : List Lease) (lease : Lease) → HoldsLive table now es → IsMember a.addr (members_of es name) before lease behind → leases_at now table.rows name ≡ before ++ lease ∷ behind
   leases_here es before behind lease holds is = ap (λ (f : Leases). f name) (sym holds.leases) ∙ is.is
 
-  -- the asker's lease is renewed
+  -- the requester's lease is renewed
   pub renews_lease : (es : Entries) (until : ℕ) (after : Leases) → HoldsLive table now es → IsAllowed a (leases_at now table.rows name) → Renewed es name a.addr (end_of table.config now a) until after → Places table now name a (Ok (grant_until table.config a until true)) after
   renews_lease es until after holds allowed r =
       let leases : List Lease = r.before ++ record r.lease { end = until } ∷ r.behind in
@@ -123,7 +100,7 @@ module _ (table : TableValue) (now : ℕ) (name : NameValue) (a : Asked) where
   same_middle [] behind x y e = cc
   same_middle (z ∷ before) behind x y e = let rest : before ++ x ∷ behind ≡ before ++ y ∷ behind = cc in same_middle before behind x y rest
 
-  -- memory was refused to an end that would move
+  -- out of memory for an expiry that would move
   pub runs_out_moving : (es : Entries) (after : Leases) → HoldsLive table now es → IsAllowed a (leases_at now table.rows name) → Moves es name a.addr (end_of table.config now a) → after ≡ leases_at now table.rows → Places table now name a (Err OutOfMemory) after
   runs_out_moving es after holds allowed m same =
       let new : Lease = renewed table.config now a m.lease in
@@ -158,7 +135,7 @@ module _ (table : TableValue) (now : ℕ) (name : NameValue) (a : Asked) where
   longer : (leases : List Lease) (lease : Lease) → leases ++ lease ∷ [] ≡ leases → ⊥
   longer leases lease e = omega (arith, ap length e, length-append leases (lease ∷ []))
 
-  -- memory was refused to a lease that would begin
+  -- out of memory for a lease that would begin
   pub runs_out : (after : Leases) → IsAllowed a (leases_at now table.rows name) → HasNone a.addr (leases_at now table.rows name) → length (leases_at now table.rows name) < members_most → live_count now table.rows < table.config.rows → after ≡ leases_at now table.rows → Places table now name a (Err OutOfMemory) after
   runs_out after allowed none room vacant same =
       let new : Lease = begun table.config now a in
@@ -184,12 +161,10 @@ live_at : (now : ℕ) (name : NameValue) (leases : List Lease) (others : Leases)
 live_at now name leases others one all q = cond_both (same_name q name) leases (others q) (AreLive now) (λ _. one) (λ _. all q)
 
 live_granted : (config : ConfigValue) (now count : ℕ) (a : Asked) (leases after : List Lease) (result : Result Grant GrantFault) → now < end_of config now a → GrantCase config now count a leases result after → AreLive now leases → AreLive now after
-live_granted config now count a leases after result onward (active _) h = h
-live_granted config now count a leases after result onward (group_full _ _ _) h = h
-live_granted config now count a leases after result onward (table_full _ _ _ _) h = h
 live_granted config now count a leases after result onward (renews _ before behind lease is _) h =
     all_replaced (λ l. now < l.end) before behind lease (renewed config now a lease) (λ live. omega (arith, live, onward)) (subst (AreLive now) is h)
 live_granted config now count a leases after result onward (begins _ _ _ _) h = all_joined (λ l. now < l.end) leases (begun config now a ∷ []) h (onward, tt)
+live_granted config now count a leases after result onward rule h = h
 
 pub live_placed : (table : TableValue) (now : ℕ) (name : NameValue) (a : Asked) (result : Result Grant GrantFault) (after : Leases) → now < end_of table.config now a → Places table now name a result after → ((q : NameValue) → AreLive now (leases_at now table.rows q)) → (q : NameValue) → AreLive now (after q)
 live_placed table now name a (Ok grant) after onward placed live =
@@ -200,8 +175,7 @@ live_placed table now name a (Err fault) after onward placed live = subst (λ (f
 
 live_released : (now addr : ℕ) (leases after : List Lease) (result : Released) → ReleaseCase addr leases result after → AreLive now leases → AreLive now after
 live_released now addr leases after result (gone before behind lease is _) h = all_without (λ l. now < l.end) before behind lease (subst (AreLive now) is h)
-live_released now addr leases after result (no_lease _) h = h
-live_released now addr leases after result (of_others _ _) h = h
+live_released now addr leases after result rule h = h
 
 pub live_after_release : (table : TableValue) (now : ℕ) (name : NameValue) (addr : ℕ) (result : Released) (after : Leases) → Releases table now name addr result after → ((q : NameValue) → AreLive now (leases_at now table.rows q)) → (q : NameValue) → AreLive now (after q)
 live_after_release table now name addr result after r live =
@@ -221,8 +195,7 @@ releases_none table now name addr result after same case = record { leases = lea
 
 kept_case : (addr : ℕ) (leases after : List Lease) (result : Released) → ReleaseCase addr leases result after → result ≢ Gone → after ≡ leases
 kept_case addr leases after result (gone _ _ _ _ _) other = absurd (other refl)
-kept_case addr leases after result (no_lease _) other = refl
-kept_case addr leases after result (of_others _ _) other = refl
+kept_case addr leases after result rule other = refl
 
 -- where nothing was released, the leases are as before
 pub nothing_released : (table : TableValue) (now : ℕ) (name : NameValue) (addr : ℕ) (result : Released) (after : Leases) → Releases table now name addr result after → result ≢ Gone → after ≡ leases_at now table.rows

@@ -1,12 +1,8 @@
--- Rows, and the leases that they hold of each name at a moment.
-use Rattle.std.proofs.Common.{◌≡◌, ◌≢◌, ℕ, suc, ◌+◌, ◌<◌, ◌≤◌, Bool, true, false, [], ◌∷◌, ◌++◌, map, length, refl, sym, ap, ◌∙◌, ⊎_elim, arith}
-use Rattle.std.specs.List.{filter}
-use Rattle.std.proofs.lemmas.Bool.{cases_Bool, both_ways, false_from_ne_true, and_parts, and_from, and_right, ltb-false, lt-ltb, le-ltb}
-use Rattle.std.proofs.lemmas.List.{map-append, length-append}
-use Rattle.std.proofs.lemmas.List.Elements.{filter-append}
-use Rattle.nbt_name.specs.Wire.{NameValue, same_name}
-use Rattle.nbt_lease.specs.declared.lease.Lease.{Lease}
-use Rattle.nbt_lease.specs.Lease.{Rows, Leases, is_live, is_row_of, leases_at, live_count}
+-- Rows, and the leases that they hold of each name at a time.
+use Rattle.std.proofs.Common.{◌≡◌, ℕ, suc, ◌+◌, ◌≤◌, Bool, true, false, ◌&&◌, [], ◌∷◌, ◌++◌, map, length, refl, sym, ap, ◌∙◌, ⊎_elim, arith}
+use Rattle.nbt_lease.proofs.Common.{filter, cases_Bool, and_right, ltb-false, le-ltb, map-append, length-append, filter-append, NameValue, same_name, Lease, Rows, Leases, is_live, cond-true, cond-false, at_name}
+use Rattle.nbt_lease.specs.Lease.{leases_at, live_count}
+use Rattle.nbt_name.proofs.Same.{same_name-true}
 
 -- ---- one row more, in front
 
@@ -21,7 +17,7 @@ row_of_other m row rows name other = rw other refl
 pub row_over : (m : ℕ) (row : NameValue × Lease) (rows : Rows) (name : NameValue) → is_live m row.1 ≡ false → leases_at m (row ∷ rows) name ≡ leases_at m rows name
 unfolding leases_at
 row_over m row rows name over =
-    let out : is_row_of m name row ≡ false = and_right (same_name row.0 name) (is_live m row.1) over in
+    let out : (same_name row.0 name && is_live m row.1) ≡ false = and_right (same_name row.0 name) (is_live m row.1) over in
     rw out refl
 
 pub count_lives : (m : ℕ) (row : NameValue × Lease) (rows : Rows) → is_live m row.1 ≡ true → live_count m (row ∷ rows) ≡ suc (live_count m rows)
@@ -42,7 +38,9 @@ none_count m = refl
 
 pub leases_at-append : (m : ℕ) (xs ys : Rows) (name : NameValue) → leases_at m (xs ++ ys) name ≡ leases_at m xs name ++ leases_at m ys name
 unfolding leases_at
-leases_at-append m xs ys name = ap (map (λ (row : NameValue × Lease). row.1)) (filter-append (is_row_of m name) xs ys) ∙ map-append (λ (row : NameValue × Lease). row.1) (filter (is_row_of m name) xs) (filter (is_row_of m name) ys)
+leases_at-append m xs ys name =
+    let here : NameValue × Lease → Bool = λ row. same_name row.0 name && is_live m row.1 in
+    ap (map (λ (row : NameValue × Lease). row.1)) (filter-append here xs ys) ∙ map-append (λ (row : NameValue × Lease). row.1) (filter here xs) (filter here ys)
 
 pub live_count-append : (m : ℕ) (xs ys : Rows) → live_count m (xs ++ ys) ≡ live_count m xs + live_count m ys
 unfolding live_count
@@ -84,3 +82,13 @@ pub same_later : (early late : ℕ) (a b : Rows) → early ≤ late → leases_a
 same_later early late a b onward same =
     same_leases (leases_at late a) (leases_at late b)
     (λ name. later_is early late a name onward ∙ (ap (λ (f : Leases). filter (is_live late) (f name)) same ∙ sym (later_is early late b name onward)))
+
+-- the leases of a name put there again
+pub at_same : (name : NameValue) (leases : Leases) → leases ≡ at_name name (leases name) leases
+at_same name leases =
+    same_leases leases (at_name name (leases name) leases)
+    (λ q.
+    ⊎_elim
+    (λ named. ap leases (same_name-true q name named) ∙ sym (cond-true (same_name q name) (leases name) (leases q) named))
+    (λ other. sym (cond-false (same_name q name) (leases name) (leases q) other))
+    (cases_Bool (same_name q name)))

@@ -1,20 +1,7 @@
 -- Leases stay sound: later, and after each case of a grant and a release.
 use Rattle.std.proofs.Common.{◌≡◌, ◌≢◌, ℕ, zero, suc, ◌≤◌, Bool, List, [], ◌∷◌, ◌++◌, Result, refl, sym, ap, ◌∙◌, subst, ⊎_elim, arith}
-use Rattle.std.specs.List.{AllByRecursion, filter}
-use Rattle.std.proofs.lemmas.Bool.{cases_Bool, cond_both}
-use Rattle.std.proofs.lemmas.List.Sums.{length-filter, count_by-le-length}
-use Rattle.std.proofs.lemmas.List.{length-append}
-use Rattle.nbt_name.specs.Wire.{NameValue, same_name}
-use Rattle.nbt_name.specs.declared.addr.Kind.{Kind}
-use Rattle.nbt_name.specs.declared.addr.Kind.TheVariants.{Unique, Group}
-use Rattle.nbt_lease.specs.declared.lease.Lease.{Lease}
-use Rattle.nbt_lease.specs.declared.lease.Grant.{Grant}
-use Rattle.nbt_lease.specs.declared.lease.Released.{Released}
-use Rattle.nbt_lease.specs.declared.fault.GrantFault.{GrantFault}
-use Rattle.nbt_lease.specs.Config.{ConfigValue, granted}
-use Rattle.nbt_lease.specs.Lease.{Rows, Leases, TableValue, is_live, leases_at, live_count, at_name, HasNone, AreApart, AreOneKind, latest_end, AreSound, IsSound, group, unique}
-use Rattle.nbt_lease.specs.Rules.{Asked, IsAllowed, free, member, owner, GrantCase, active, renews, group_full, table_full, begins, Grants, end_of, renewed, begun, ReleaseCase, gone, no_lease, of_others, Releases}
-use Rattle.nbt_lease.proofs.Rows.{later_is}
+use Rattle.nbt_lease.proofs.Common.{AllByRecursion, filter, cases_Bool, cond_both, length-filter, count_by-le-length, length-append, NameValue, same_name, Kind, Unique, Group, Lease, Grant, Released, GrantFault, ConfigValue, granted, Rows, Leases, TableValue, is_live, leases_at, live_count, at_name, HasNone, AreApart, AreOneKind, latest_end, AreSound, IsSound, group, unique, Asked, IsAllowed, free, member, owner, GrantCase, renews, begins, Grants, end_of, renewed, begun, ReleaseCase, gone, Releases, recursion_from_All, All-append, All-from_recursion, All-filter}
+use Rattle.nbt_lease.proofs.Rows.{later_is, none_live}
 
 -- ---- what holds of each lease, in parts of a list
 
@@ -27,16 +14,10 @@ all_behind P [] ys h = h
 all_behind P (x ∷ xs) ys h = all_behind P xs ys h.1
 
 pub all_joined : (P : Lease → Type 0) (xs ys : List Lease) → AllByRecursion P xs → AllByRecursion P ys → AllByRecursion P (xs ++ ys)
-all_joined P [] ys h k = k
-all_joined P (x ∷ xs) ys h k = (h.0, all_joined P xs ys h.1 k)
+all_joined P xs ys h k = recursion_from_All P (xs ++ ys) (All-append P xs ys (All-from_recursion P xs h) (All-from_recursion P ys k))
 
 pub all_filter : (P : Lease → Type 0) (p : Lease → Bool) (xs : List Lease) → AllByRecursion P xs → AllByRecursion P (filter p xs)
-all_filter P p [] h = tt
-all_filter P p (x ∷ xs) h =
-    ⊎_elim
-    (λ kept. rw kept (h.0, all_filter P p xs h.1))
-    (λ left. rw left (all_filter P p xs h.1))
-    (cases_Bool (p x))
+all_filter P p xs h = recursion_from_All P (filter p xs) (All-filter p P xs (All-from_recursion P xs h))
 
 -- another lease in one's place
 pub all_replaced : (P : Lease → Type 0) (xs ys : List Lease) (old new : Lease) → (P old → P new) → AllByRecursion P (xs ++ old ∷ ys) → AllByRecursion P (xs ++ new ∷ ys)
@@ -115,10 +96,6 @@ kind_push config now a leases (owner lease only own _ _) none = absurd ((subst (
 
 -- ---- none ends too late
 
--- another lease in one's place, which ends in time
-timely_replaced : (latest : ℕ) (xs ys : List Lease) (old new : Lease) → (old.end ≤ latest → new.end ≤ latest) → AllByRecursion (λ lease. lease.end ≤ latest) (xs ++ old ∷ ys) → AllByRecursion (λ lease. lease.end ≤ latest) (xs ++ new ∷ ys)
-timely_replaced latest = all_replaced (λ lease. lease.end ≤ latest)
-
 timely_later : (early late : ℕ) (xs : List Lease) → early ≤ late → AllByRecursion (λ lease. lease.end ≤ early) xs → AllByRecursion (λ lease. lease.end ≤ late) xs
 timely_later early late [] onward h = tt
 timely_later early late (x ∷ xs) onward h = (omega (arith, h.0), timely_later early late xs onward h.1)
@@ -149,9 +126,6 @@ sound_later config early late rows onward sound name =
     (sound_filter (latest_end config late) (is_live late) (leases_at early rows name) (sound_onward (latest_end config early) (latest_end config late) (leases_at early rows name) (omega arith) (sound name)))
 
 pub sound_after_grant : (config : ConfigValue) (now count : ℕ) (a : Asked) (leases after : List Lease) (result : Result Grant GrantFault) → AreSound (latest_end config now) leases → GrantCase config now count a leases result after → AreSound (latest_end config now) after
-sound_after_grant config now count a leases after result h (active _) = h
-sound_after_grant config now count a leases after result h (group_full _ _ _) = h
-sound_after_grant config now count a leases after result h (table_full _ _ _ _) = h
 sound_after_grant config now count a leases after result h (renews allowed before behind lease is own) =
     let new : Lease = renewed config now a lease in
     let old : AreSound (latest_end config now) (before ++ lease ∷ behind) = subst (AreSound (latest_end config now)) is h in
@@ -159,7 +133,7 @@ sound_after_grant config now count a leases after result h (renews allowed befor
       apart = apart_replaced before behind lease new refl old.apart;
       one_kind = kind_replaced before behind lease new refl old.one_kind;
       most = omega (arith, length-append before (lease ∷ behind), length-append before (new ∷ behind), old.most);
-      in_time = timely_replaced (latest_end config now) before behind lease new (λ h. omega (arith, end_in_time config now a)) old.in_time;
+      in_time = all_replaced (λ l. l.end ≤ latest_end config now) before behind lease new (λ h. omega (arith, end_in_time config now a)) old.in_time;
     }
 sound_after_grant config now count a leases after result h (begins allowed none room _) = record {
   apart = apart_push leases (begun config now a) none h.apart;
@@ -167,6 +141,7 @@ sound_after_grant config now count a leases after result h (begins allowed none 
   most = omega (arith, length-append leases (begun config now a ∷ []), room);
   in_time = all_joined (λ lease. lease.end ≤ latest_end config now) leases (begun config now a ∷ []) h.in_time (end_in_time config now a, tt);
 }
+sound_after_grant config now count a leases after result h rule = h
 
 pub sound_after_release : (latest addr : ℕ) (leases after : List Lease) (result : Released) → AreSound latest leases → ReleaseCase addr leases result after → AreSound latest after
 sound_after_release latest addr leases after result h (gone before behind lease is own) =
@@ -177,8 +152,7 @@ sound_after_release latest addr leases after result h (gone before behind lease 
       most = omega (arith, length-append before (lease ∷ behind), length-append before behind, old.most);
       in_time = all_without (λ l. l.end ≤ latest) before behind lease old.in_time;
     }
-sound_after_release latest addr leases after result h (no_lease _) = h
-sound_after_release latest addr leases after result h (of_others _ _) = h
+sound_after_release latest addr leases after result h rule = h
 
 -- at one name
 sound_at : (config : ConfigValue) (now : ℕ) (name : NameValue) (leases : List Lease) (others : Leases) → AreSound (latest_end config now) leases → IsSound config now others → IsSound config now (at_name name leases others)
@@ -191,3 +165,6 @@ sound_granted table now name a result after h g =
 pub sound_released : (table : TableValue) (now : ℕ) (name : NameValue) (addr : ℕ) (result : Released) (after : Leases) → IsSound table.config now (leases_at now table.rows) → Releases table now name addr result after → IsSound table.config now after
 sound_released table now name addr result after h r =
     subst (IsSound table.config now) (sym r.after_is) (sound_at table.config now name r.leases (leases_at now table.rows) (sound_after_release (latest_end table.config now) addr (leases_at now table.rows name) r.leases result (h name) r.rule) h)
+
+pub none_sound : (config : ConfigValue) (m : ℕ) → IsSound config m (leases_at m [])
+none_sound config m name = subst (AreSound (latest_end config m)) (sym (none_live m name)) (record { apart = tt; one_kind = group tt; most = omega arith; in_time = tt })

@@ -1,8 +1,7 @@
 -- The limits that a server and its nodes share, and the seconds that a lease is granted for (our profile).
 use Rattle.std.specs.Prelude.{ℕ, ◌*◌, ◌^◌, ◌≤◌, zero, suc, min}
-use Rattle.nbt_lease.specs.declared.config.TheConstants.{LIFE_MOST, LONGEST_MOST, ROWS_MOST}
 
--- the last moment of a clock, in milliseconds
+-- the last time of a clock, in milliseconds
 abbrev pub last_moment : ℕ
 last_moment = 2 ^ 60
 
@@ -13,13 +12,13 @@ milliseconds seconds = 1000 * seconds
 -- which limits there are: the greatest life of a datagram, in milliseconds, the longest lease, in seconds, and the live
 -- leases of a server
 abbrev pub IsLife : ℕ → Type 0
-IsLife life = (1 ≤ life) × (life ≤ LIFE_MOST)
+IsLife life = (1 ≤ life) × (life ≤ 60000)
 
 abbrev pub IsLongest : ℕ → Type 0
-IsLongest longest = (1 ≤ longest) × (longest ≤ LONGEST_MOST)
+IsLongest longest = (1 ≤ longest) × (longest ≤ 1000000)
 
 abbrev pub IsRows : ℕ → Type 0
-IsRows rows = (1 ≤ rows) × (rows ≤ ROWS_MOST)
+IsRows rows = (1 ≤ rows) × (rows ≤ 4096)
 
 -- A configuration as contracts see it.
 pub record ConfigValue : Type 0 where
@@ -35,8 +34,7 @@ pub record IsConfig (config : ConfigValue) : Type 0 where
   pub longest : IsLongest config.longest
   pub rows : IsRows config.rows
 
--- The seconds that are granted where ttl seconds are asked: the longest lease where ttl is 0, else the smaller of
--- the two. A reply's ttl is read in the same way.
+-- The seconds granted where ttl seconds are requested: the longest lease if ttl is 0, else the smaller of the two. A reply's ttl is read in the same way.
 abbrev pub granted : ℕ → ℕ → ℕ
 granted longest zero = longest
 granted longest (suc n) = min (suc n) longest

@@ -3,12 +3,12 @@ use Rattle.std.specs.Prelude.{ℕ, ◌+◌, ◌-◌, ◌*◌, ◌/◌, ◌≤◌
 use Rattle.nbt_lease.specs.Config.{milliseconds}
 
 -- The drift bound: while the true clock moved by `passed` ms, another moved by as many, but for a thousandth of them
--- and one millisecond. Any clock of a server or a node keeps it between any two moments.
+-- and one millisecond. Any clock of a server or a node keeps it between any two times.
 pub record IsWithinDrift (passed moved : ℕ) : Type 0 where
   pub ahead : 1000 * moved ≤ 1001 * passed + 1000
   pub back : 999 * passed ≤ 1000 * moved + 1000
 
--- The same between two moments: the true clock goes from `true_then` to `true_now`, the other from `read_then` to `read_now`.
+-- The same between two times: the true clock goes from `true_then` to `true_now`, the other from `read_then` to `read_now`.
 pub record KeepsDriftBound (true_then read_then true_now read_now : ℕ) : Type 0 where
   pub ahead : 1000 * read_now + 1001 * true_then ≤ 1000 * read_then + 1001 * true_now + 1000
   pub back : 999 * true_now + 1000 * read_then ≤ 999 * true_then + 1000 * read_now + 1000

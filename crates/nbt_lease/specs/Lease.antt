@@ -1,13 +1,12 @@
--- Leases, and what a table holds of them at a moment (our profile).
+-- Leases, and what a table holds of them at a time (our profile).
 use Rattle.std.specs.Prelude.{◌≡◌, ◌≢◌, ℕ, ◌+◌, ◌≤◌, Bool, ◌&&◌, if◌then◌else◌, nat_lt, List, [], ◌∷◌, map, filter, length, ⊤}
 use Rattle.std.specs.List.{AllByRecursion}
 use Rattle.nbt_name.specs.Wire.{NameValue, same_name}
 use Rattle.nbt_name.specs.declared.addr.Kind.TheVariants.{Unique, Group}
 use Rattle.nbt_lease.specs.declared.lease.Lease.{Lease}
-use Rattle.nbt_lease.specs.declared.standing.TheConstants.{MEMBERS_MOST}
 use Rattle.nbt_lease.specs.Config.{ConfigValue, milliseconds}
 
--- a lease lives until its end, and no longer at its end
+-- a lease lives until its expiry, and no longer at it
 abbrev pub is_live : ℕ → Lease → Bool
 is_live moment lease = nat_lt moment lease.end
 
@@ -26,14 +25,11 @@ pub record TableValue : Type 0 where
   pub last : ℕ
   pub rows : Rows
 
--- the leases that live at a moment
-abbrev pub is_row_of : ℕ → NameValue → NameValue × Lease → Bool
-is_row_of moment name row = same_name row.0 name && is_live moment row.1
-
+-- the leases that live at a time
 unfoldable pub leases_at : ℕ → Rows → Leases
-leases_at moment rows name = map (λ row. row.1) (filter (is_row_of moment name) rows)
+leases_at moment rows name = map (λ row. row.1) (filter (λ row. same_name row.0 name && is_live moment row.1) rows)
 
--- how many leases live at a moment, over all names
+-- how many leases live at a time, over all names
 unfoldable pub live_count : ℕ → Rows → ℕ
 live_count moment rows = length (filter (λ row. is_live moment row.1) rows)
 
@@ -58,16 +54,16 @@ pub data AreOneKind (leases : List Lease) : Type 0 where
   group : AreGroup leases → AreOneKind leases
   unique : (lease : Lease) → leases ≡ lease ∷ [] → lease.kind ≡ Unique → AreOneKind leases
 
--- a lease that is granted by a moment ends by then at the latest
+-- a lease that is granted by a time expires by then at the latest
 abbrev pub latest_end : ConfigValue → ℕ → ℕ
 latest_end config moment = moment + milliseconds config.longest
 
 -- the most live members of a group
 abbrev pub members_most : ℕ
-members_most = MEMBERS_MOST
+members_most = 1000
 
 -- What holds of the live leases of a name: no more than a group has, no two of one address, all of a group or one
--- unique, and none ends too late.
+-- unique, and none expires too late.
 pub record AreSound (latest : ℕ) (leases : List Lease) : Type 0 where
   pub apart : AreApart leases
   pub one_kind : AreOneKind leases

@@ -12,7 +12,7 @@ use Rattle.nbt_lease.specs.declared.fault.GrantFault.TheVariants.{Active, TableF
 use Rattle.nbt_lease.specs.Config.{ConfigValue, granted, milliseconds}
 use Rattle.nbt_lease.specs.Lease.{Leases, TableValue, leases_at, live_count, members_most, at_name, HasNone, AreGroup}
 
--- What is asked for: by which address, as which kind, and for how many seconds.
+-- A request for a lease: by which address, of which kind, and for how many seconds.
 pub record Asked : Type 0 where
   pub addr : ℕ
   pub kind : Kind
@@ -27,14 +27,14 @@ pub data IsAllowed (a : Asked) (leases : List Lease) : Type 0 where
   member : AreGroup leases → a.kind ≡ Group → IsAllowed a leases
   owner : (lease : Lease) → leases ≡ lease ∷ [] → lease.addr ≡ a.addr → lease.kind ≡ Unique → a.kind ≡ Unique → IsAllowed a leases
 
--- the end of a lease that is granted now
+-- the expiry of a lease that is granted now
 abbrev pub end_of : ConfigValue → ℕ → Asked → ℕ
 end_of config now a = now + milliseconds (granted config.longest a.ttl)
 
 abbrev pub grant_until : ConfigValue → Asked → (end : ℕ) → (renewed : Bool) → Grant
 grant_until config a end renewed = record { seconds = granted config.longest a.ttl; end = end; renewed = renewed }
 
--- a lease that begins, and one that is renewed: its end never comes earlier
+-- a lease that begins, and one that is renewed: its expiry never gets earlier
 abbrev pub begun : ConfigValue → ℕ → Asked → Lease
 begun config now a = record { addr = a.addr; kind = a.kind; end = end_of config now a }
 
@@ -65,7 +65,7 @@ pub record ChangesLeases (table : TableValue) (now : ℕ) (name : NameValue) (a 
   pub rule : Grants table now name a (Ok result) after
   pub other : after ≢ leases_at now table.rows
 
--- The one lease that the asker has after a grant: of the asked kind, ending with the grant, as long as it was granted
+-- The one lease that the requester has after a grant: of the requested kind, expiring with the grant, as long as it was granted
 -- for or as its lease lasted before, whichever is later.
 pub record IsGranted (table : TableValue) (now : ℕ) (name : NameValue) (a : Asked) (grant : Grant) (after : List Lease) (lease : Lease) : Type 0 where
   pub stands : Contains after lease
@@ -89,7 +89,7 @@ pub record Releases (table : TableValue) (now : ℕ) (name : NameValue) (addr : 
   pub rule : ReleaseCase addr (leases_at now table.rows name) result leases
   pub after_is : after ≡ at_name name leases (leases_at now table.rows)
 
--- the end that comes first
+-- the first expiry
 abbrev pub IsLeastEnd : List Lease → Option ℕ → Type 0
 IsLeastEnd leases None = leases ≡ []
 IsLeastEnd leases (Some end) = Any (λ lease. lease.end ≡ end) leases × All (λ lease. end ≤ lease.end) leases

@@ -1,4 +1,4 @@
-//! A lease that begins, in the map of names and in the set of ends, both at once.
+//! A lease that begins, in the map of names and in the set of expiries, both at once.
 
 ghost use Rattle.std.specs.Prelude.{◌≡◌, ◌+◌, None, Some, true, false, [], ◌∷◌, ◌++◌, length, if◌then◌else◌, IfSome, IfNone, OnOk, OnErr};
 ghost use Rattle.std.specs.List.{IsDistinct};
@@ -15,8 +15,8 @@ use indexmap::IndexMap;
 use nbt_name::Name;
 use std::alloc::{AllocError, Global};
 
-/// Begins a lease, which goes last at its name. Memory is taken by the members' vector, then by the set for the new end,
-/// then by the map for a new name. Where it is refused, the members and the ends are as before.
+/// Begins a lease, which goes last at its name. Memory is taken by the members' vector, then by the set for the new expiry,
+/// then by the map for a new name. If out of memory, the members and the expiries are as before.
 pub(crate) fn begin_in(
     members: &mut IndexMap<Name, Named>,
     ends: &mut Ends,
@@ -77,7 +77,7 @@ fn begin_first(
     Ok(())
 }
 
-/// Takes the member of this address out of its name, and the name out of the map with its last member. Takes no memory.
+/// Removes the member of this address from its name, and the name from the map with its last member. Takes no memory.
 pub(crate) fn take_out(members: &mut IndexMap<Name, Named>, name: &Name, addr: u32) -> Option<Lease>
     requires names { IsDistinct same_name (keys_of members.old.entries) }
     ensures taken { IfSome result (λ lease. TakenFrom members.old.entries members.new.entries name.now addr lease) }

@@ -38,9 +38,9 @@ pub const LONGEST_MOST: u32 = 1_000_000;
 pub const ROWS_MOST: usize = 4_096;
 
 impl Config {
-    /// The limits `life` in milliseconds, `longest` in seconds and `rows` in leases. Refused in this order, the first
-    /// that is out of its limits: `Life` (1) where `life` isn't 1 to 60,000, `Longest` (2) where `longest` isn't 1 to
-    /// 1,000,000, `Rows` (3) where `rows` isn't 1 to 4,096. Our profile.
+    /// The limits `life` in milliseconds, `longest` in seconds and `rows` in leases. Refused in this order: `Life` (1) if
+    /// `life` isn't 1 to 60,000, `Longest` (2) if `longest` isn't 1 to 1,000,000, `Rows` (3) if `rows` isn't 1 to 4,096. Our
+    /// profile.
     pub fn new(life: u64, longest: u32, rows: usize) -> Result<Config, ConfigFault>
         ensures found { IsOk result ↔ (IsLife life × IsLongest longest × IsRows rows) }
         ensures value { IfOk result (λ config. config ≡ config_of life longest rows) }
@@ -90,9 +90,9 @@ impl Config {
         self.rows
     }
 
-    /// The seconds that a lease is granted for where `ttl` seconds are asked: `longest` where `ttl` is 0, else the
-    /// smaller of `ttl` and `longest` (our profile; RFC 1002 section 6 reads 0 as without end). A reply's TTL is
-    /// read in the same way. It is 1 to `longest`.
+    /// The seconds that a lease is granted for where `ttl` seconds are requested: `longest` if `ttl` is 0, else the smaller of
+    /// `ttl` and `longest`; 1 to `longest` (our profile; RFC 1002 section 6 reads 0 as infinite). A reply's TTL is read in the
+    /// same way.
     pub fn granted(self, ttl: u32) -> u32
         ensures value { result ≡ granted self.longest ttl }
         ensures bounds { (1 ≤ result) × (result ≤ self.longest) }
@@ -105,9 +105,9 @@ impl Config {
     }
 
     /// How many milliseconds of its own clock a node holds a name for that was granted for `seconds`:
-    /// `floor((1000 * seconds - 1) * 999 / 1001) - 1`, and none for 0 seconds (our profile). Clocks drift: however slow the
-    /// node's and however fast the server's is, within a thousandth and a millisecond of the true one, the hold is over
-    /// before the lease. So 60 s are held for 59,878 ms. It is at least 996 where `seconds` is at least 1.
+    /// `floor((1000 * seconds - 1) * 999 / 1001) - 1`, and 0 for 0 seconds (our profile). Clocks drift: if the node's and the
+    /// server's keep within a thousandth and a millisecond of the true one, the hold ends before the lease. So 60 s are held
+    /// for 59,878 ms. It is at least 996 if `seconds` is at least 1.
     pub fn hold(seconds: u32) -> u64
         ensures value { result ≡ hold seconds }
         ensures at_least { 1 ≤ seconds → 996 ≤ result }
@@ -117,10 +117,9 @@ impl Config {
         (less_than_granted * 999 / 1001).saturating_sub(1)
     }
 
-    /// How many milliseconds of its own clock a name rests for after the last sending about it, and after its node's
-    /// start: `2 * life + floor(2 * life / 1000) + 2` (our profile). However fast the clock is, within a thousandth and a
-    /// millisecond of the true one, no datagram from before and no reply to one lives after a longer time. It is 4 to
-    /// 120,122.
+    /// How many milliseconds of its own clock a node waits after its start, and after it last sent something about a name:
+    /// `2 * life + floor(2 * life / 1000) + 2`, 4 to 120,122 (our profile). If the clock keeps within a thousandth and a
+    /// millisecond of the true one, no datagram from before, and no reply to one, lives longer.
     pub fn quiet(self) -> u64
         ensures value { result ≡ quiet self.life }
         ensures bounds { (4 ≤ result) × (result ≤ 120122) }

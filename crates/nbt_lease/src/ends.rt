@@ -1,4 +1,4 @@
-//! The ends of all leases, in order.
+//! The expiries of all leases, in order.
 
 ghost use Rattle.std.specs.Prelude.{◌≡◌, ◌+◌, ◌<◌, ◌≤◌, true, false, length, if◌then◌else◌, IfSome, IfNone, OnOk, OnErr, []};
 
@@ -9,7 +9,8 @@ use std::collections::BTreeSet;
 use std::marker::Model;
 use std::sync::ledger::Ledger;
 
-/// When the lease of a name and an address ends. The order is that of the ends, then of the names and the addresses.
+/// When the lease of a name and an address expires. The order is that of the expiries, then of the names and the
+/// addresses.
 #[derive(PartialEq, Eq, PartialOrd, Ord, Drop)]
 pub(crate) struct Due {
     pub end: u64,
@@ -17,7 +18,7 @@ pub(crate) struct Due {
     pub addr: u32,
 }
 
-/// The ends of all leases, each with its name and address. Only `take_due` shows one, and it counts that as a look.
+/// The expiries of all leases, each with its name and address. Only `take_due` shows one, and it counts that as a look.
 #[derive(Drop)]
 pub(crate) struct Ends {
     dues: BTreeSet<Due>,
@@ -37,7 +38,7 @@ impl Ends {
     ghost use Rattle.nbt_lease.specs.declared.ends.Due.{Due as Seen};
     ghost use Rattle.nbt_lease.specs.Inner.Index.{due, is_due, in_set};
 
-    /// No ends. Takes no memory.
+    /// No expiries. Takes no memory.
     pub fn new(alloc: Global) -> Ends
         ensures { result ≡ [] }
     {
@@ -53,7 +54,7 @@ impl Ends {
         self.dues.len()
     }
 
-    /// Adds the end of a lease that isn't there. Where memory is refused, all is as before.
+    /// Adds the expiry of a lease that isn't there. If out of memory, all is as before.
     pub fn insert(&mut self, end: u64, name: &Name, addr: u32) -> Result<(), AllocError>
         requires absent { in_set self.old (due end name.now addr) ≡ false }
         ensures found { OnOk result ((d : Seen) → in_set self.new d ≡ (if is_due (due end name.now addr) d then true else in_set self.old d)) }
@@ -66,7 +67,7 @@ impl Ends {
         Ok(())
     }
 
-    /// Takes out the end of a lease that is there. Takes no memory.
+    /// Removes the expiry of a lease that is there. Takes no memory.
     pub fn remove(&mut self, end: u64, name: &Name, addr: u32)
         requires there { in_set self.old (due end name.now addr) ≡ true }
         ensures found { (d : Seen) → in_set self.new d ≡ (if is_due (due end name.now addr) d then false else in_set self.old d) }
@@ -77,7 +78,7 @@ impl Ends {
         self.dues.remove(&Due { end, name, addr });
     }
 
-    /// Looks at the least end, and takes it out where it is over at `now`. Takes no memory.
+    /// Looks at the first expiry, and removes it if it is over at `now`. Takes no memory.
     pub fn take_due<L: Ledger>(&mut self, now: u64, looks: &mut Looks<L>) -> Option<Due>
         ensures looks { looks.new ≡ looks.old + 1 }
         ensures over { IfSome result (λ d. d.end ≤ now) }

@@ -32,20 +32,20 @@ impl ConfigFault {
     }
 }
 
-/// Why a name isn't granted (our profile's numbers). After any of them the live leases are as before. `Active` is tried
-/// first, then `GroupFull`, `TableFull` and `OutOfMemory`.
+/// Why a name isn't granted (our profile's numbers). The live leases are then as before. `Active` is checked first, then
+/// `GroupFull`, `TableFull` and `OutOfMemory`.
 #[derive(Clone, Copy, Debug, PartialEq, Eq, Error)]
 pub enum GrantFault {
-    /// 1: the name has live leases beside which this one may not stand.
+    /// 1: the name has live leases that conflict with this one.
     #[error("Active")]
     Active,
-    /// 2: as many leases live as the table keeps.
+    /// 2: the table is full of live leases.
     #[error("TableFull")]
     TableFull,
-    /// 3: 1,000 leases of the group live.
+    /// 3: the group has 1,000 live members.
     #[error("GroupFull")]
     GroupFull,
-    /// 4: memory was refused.
+    /// 4: out of memory.
     #[error("OutOfMemory")]
     OutOfMemory,
 }

@@ -1,4 +1,4 @@
-//! The leases by name, and their ends in order.
+//! The leases by name, and their expiries in order.
 
 ghost use Rattle.std.specs.Prelude.{◌≡◌, ◌+◌, ◌<◌, ◌≤◌, IsTrue, [], ◌∷◌, ◌++◌, length, map, filter, IfOk, IfSome, IfNone, OnOk, OnErr, if◌then◌else◌};
 ghost use Rattle.std.specs.Bool.{OnFalse};
@@ -19,8 +19,8 @@ use std::alloc::{AllocError, Global};
 use std::marker::Model;
 use std::sync::ledger::Ledger;
 
-/// The leases by name, and their ends in order. Each name has a member at least; its members are of different addresses;
-/// and the set holds the end, name and address of each member, and no other.
+/// The leases by name, and their expiries in order. Each name has a member at least; its members are of different
+/// addresses; and the set holds the expiry, name and address of each member, and no other.
 #[derive(Drop)]
 pub(crate) struct Index {
     members: IndexMap<Name, Named>,
@@ -64,7 +64,7 @@ impl Index {
         }
     }
 
-    /// Those members of a name that live at `now`, with their least end. One look-up; takes no memory.
+    /// Those members of a name that live at `now`, with their first expiry. One look-up; takes no memory.
     pub fn live(&self, name: &Name, now: u64) -> Members<'_>
         ensures { result ≡ filter (is_live now) (members_of self.now name.now) }
     {
@@ -81,15 +81,15 @@ impl Index {
         self.ends.count()
     }
 
-    /// Appends each name with each of its members, name after name, those of one name in order of their beginnings. Where memory
-    /// is refused, only some may be appended.
+    /// Appends each name with each of its members, name after name, those of one name in order of their beginnings. If out of
+    /// memory, only some may be appended.
     pub fn list(&self, out: &mut Vec<(Name, Lease)>) -> Result<(), AllocError>
         ensures { OnOk result (out.new.items ≡ out.old.items ++ rows_of self.now) }
     {
         list_in(&self.members, out)
     }
 
-    /// Begins a lease, which goes last at its name. Where memory is refused, the leases are as before.
+    /// Begins a lease, which goes last at its name. If out of memory, the leases are as before.
     pub fn begin(&mut self, name: &Name, lease: Lease) -> Result<(), AllocError>
         requires none { HasNone lease.addr (members_of self.old name.now) }
         ensures begun { OnOk result (members_of self.new ≡ at_name name.now (members_of self.old name.now ++ lease ∷ []) (members_of self.old)) }
@@ -101,9 +101,9 @@ impl Index {
         begin_in(&mut self.members, &mut self.ends, self.alloc, name, lease)
     }
 
-    /// Gives the member of this address this end, if its own is earlier, and returns its end; none where there is no such
-    /// member. Only an end that moves takes memory: the set grows by the new end before the old one goes. Where memory is
-    /// refused, the leases are as before.
+    /// Gives the member of this address this expiry, if its own is earlier, and returns its expiry; none if there is no such
+    /// member. Only an expiry that moves takes memory: the set grows by the new one before the old one goes. If out of
+    /// memory, the leases are as before.
     pub fn renew(&mut self, name: &Name, addr: u32, end: u64) -> Result<Option<u64>, AllocError>
         ensures renewed { IfOk result (λ found. IfSome found (λ until. Renewed self.old name.now addr end until (members_of self.new))) }
         ensures none { IfOk result (λ found. IfNone found (HasNone addr (members_of self.old name.now))) }
@@ -129,7 +129,7 @@ impl Index {
         Ok(Some(end))
     }
 
-    /// Ends the lease of the name and the address, if there is one. Takes no memory.
+    /// Removes the lease of the name and the address, if there is one. Takes no memory.
     pub fn end(&mut self, name: &Name, addr: u32) -> bool
         ensures gone { IsTrue result → Ended self.old name.now addr (members_of self.new) }
         ensures none { OnFalse result (HasNone addr (members_of self.old name.now)) }
@@ -144,7 +144,7 @@ impl Index {
         true
     }
 
-    /// Takes out the lease that is over first, if one is over at `now`. Takes no memory.
+    /// Removes the lease that expired first, if one is over at `now`. Takes no memory.
     fn pop_due<L: Ledger>(&mut self, now: u64, looks: &mut Looks<L>) -> bool
         ensures leases { (q : NameValue) → filter (is_live now) (members_of self.new q) ≡ filter (is_live now) (members_of self.old q) }
         ensures looks { looks.new ≡ looks.old + 1 }
@@ -159,7 +159,7 @@ impl Index {
         true
     }
 
-    /// Takes out the leases that are over at `now`: one look at each, and one more. Takes no memory.
+    /// Removes the leases that are over at `now`: one look at each, and one more. Takes no memory.
     pub fn drop_expired<L: Ledger>(&mut self, now: u64, looks: &mut Looks<L>)
         ensures leases { (q : NameValue) → members_of self.new q ≡ filter (is_live now) (members_of self.old q) }
         ensures looks { looks.new + length (rows_of self.new) ≡ looks.old + length (rows_of self.old) + 1 }

@@ -12,17 +12,17 @@ ghost use Rattle.nbt_lease.specs.Drift.{IsWithinDrift, KeepsDriftBound, hold, qu
 ghost use Rattle.nbt_lease.specs.Lease.{Leases, Rows, TableValue, is_live, leases_at, live_count, at_name, IsSound};
 ghost use Rattle.nbt_lease.specs.Rules.{Asked, Grants, Releases, IsGranted};
 
-/// How many leases live over all names is told by the leases of each name: the order between names doesn't matter.
+/// How many leases live over all names is determined by the leases of each name: the order between names doesn't matter.
 pub fn same_leases_same_count()
     ensures { (moment : ℕ) (a b : Rows) → leases_at moment a ≡ leases_at moment b → live_count moment a ≡ live_count moment b }
 {}
 
-/// Rows with the same leases at a moment have the same at a later one.
+/// Rows with the same leases at a time have the same at a later one.
 pub fn same_leases_later()
     ensures { (early late : ℕ) (a b : Rows) → early ≤ late → leases_at early a ≡ leases_at early b → leases_at late a ≡ leases_at late b }
 {}
 
-/// What lives of a name at a later moment is what lives then of its leases now, in their order.
+/// What lives of a name at a later time is what lives then of its leases now, in their order.
 pub fn later_leases_live_now()
     ensures { (early late : ℕ) (rows : Rows) (name : NameValue) → early ≤ late → leases_at late rows name ≡ filter (is_live late) (leases_at early rows name) }
 {}
@@ -40,7 +40,7 @@ pub fn one_name_changes()
     ensures same { (name : NameValue) (leases : Leases) → at_name name (leases name) leases ≡ leases }
 {}
 
-/// Leases that are sound at a moment are so at a later one, and after each grant and release.
+/// Leases that are sound at a time are so at a later one, and after each grant and release.
 pub fn leases_stay_sound()
     ensures later { (config : ConfigValue) (early late : ℕ) (rows : Rows) → early ≤ late → IsSound config early (leases_at early rows) → IsSound config late (leases_at late rows) }
     ensures granted { (table : TableValue) (now : ℕ) (name : NameValue) (a : Asked) (result : Result Grant GrantFault) (after : Leases) → IsSound table.config now (leases_at now table.rows) → Grants table now name a result after → IsSound table.config now after }
@@ -63,8 +63,8 @@ pub fn leases_of_others_stay()
         → Contains (leases_at now table.rows name) lease ↔ Contains (after name) lease }
 {}
 
-/// What is granted stands: afterwards the asker has one lease, of the asked kind, that ends with the grant: the seconds
-/// granted from now, or as before where that is later. Beside a lease of another address, both are of a group.
+/// What is granted stands: afterwards the requester has one lease, of the requested kind, that expires with the grant: the
+/// seconds granted from now, or as before if that is later. Beside a lease of another address, both are of a group.
 pub fn granted_lease_stands()
     ensures lease { (table : TableValue) (now : ℕ) (name : NameValue) (a : Asked) (grant : Grant) (after : Leases) → IsSound table.config now (leases_at now table.rows) → Grants table now name a (Ok grant) after
         → (lease : Lease) × IsGranted table now name a grant (after name) lease }
@@ -72,23 +72,23 @@ pub fn granted_lease_stands()
         → Contains (leases_at now table.rows name) other → other.addr ≢ a.addr → (other.kind ≡ Group) × (a.kind ≡ Group) }
 {}
 
-/// A node's hold ends before the lease that it rests on, although their clocks drift: while the node's own reading moves
-/// by less than `hold seconds`, the server's moves by less than `1000 * seconds`. Both keep the drift bound to one true
-/// clock. Said of what the clocks moved by, and of what they read at two moments.
+/// A node's hold ends before the lease that it rests on, although their clocks drift: while the node's clock moves by less
+/// than `hold seconds`, the server's moves by less than `1000 * seconds`. Both keep the drift bound to one true clock. Said
+/// of what the clocks moved by, and of what they read at two times.
 pub fn hold_ends_first()
     ensures moved { (passed node server seconds : ℕ) → IsWithinDrift passed node → IsWithinDrift passed server → node < hold seconds → server < 1000 * seconds }
     ensures between { (true_then true_now node_then node_now server_then server_now seconds : ℕ) → KeepsDriftBound true_then node_then true_now node_now → KeepsDriftBound true_then server_then true_now server_now
         → node_then ≤ node_now → node_now < node_then + hold seconds → server_now < server_then + 1000 * seconds }
 {}
 
-/// A name rests for more than two lives of a datagram, although the node's clock drifts: once its own reading has moved by
-/// more than `quiet life`, the true clock has moved by more than `2 * life`. Said in the same two ways.
+/// A name rests for more than two lives of a datagram, although the node's clock drifts: once it has moved by more than
+/// `quiet life`, the true clock has moved by more than `2 * life`. Said in the same two ways.
 pub fn rest_outlasts_datagrams()
     ensures moved { (passed node life : ℕ) → IsWithinDrift passed node → quiet life < node → 2 * life < passed }
     ensures between { (true_then true_now node_then node_now life : ℕ) → KeepsDriftBound true_then node_then true_now node_now → node_then + quiet life < node_now → true_then + 2 * life < true_now }
 {}
 
-/// The drift bound between two moments is that of what the clocks moved by.
+/// The drift bound between two times is that of what the clocks moved by.
 pub fn drift_bound_of_moves()
     ensures { (true_then read_then passed moved : ℕ) → IsWithinDrift passed moved ↔ KeepsDriftBound true_then read_then (true_then + passed) (read_then + moved) }
 {}

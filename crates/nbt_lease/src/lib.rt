@@ -1,7 +1,7 @@
-//! Names that are leased for a time: moments, the limits that all ends share, and the name server's table of leases.
+//! Names that are leased for a time: times, the limits that server and nodes share, and the name server's table of leases.
 //!
-//! A lease is a name's address, kind and end. It lives until its end and no longer at its end. Only `Table::grant`
-//! takes memory.
+//! A lease is a name's address, kind and expiry. It lives until its expiry, and no longer at it. Only `Table::grant` takes
+//! memory.
 #![tactic(auto)]
 
 mod both;

@@ -5,8 +5,8 @@ ghost use Rattle.std.specs.Prelude.{◌≡◌, ◌+◌, ◌<◌};
 use std::marker::Model;
 use std::sync::ledger::{Blank, Book, Ledger, Share};
 
-/// How many rows were looked at. It takes no octets at run time, and the table's set of ends shows no row without
-/// adding one to it.
+/// How many rows were looked at. It takes no octets at run time. The table's set of expiries shows no row without adding
+/// one to it.
 #[derive(Drop)]
 pub struct Looks<L: Ledger> {
     book: Book<L>,

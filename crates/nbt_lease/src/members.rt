@@ -6,11 +6,11 @@ ghost use Rattle.nbt_lease.specs.Rules.{IsLeastEnd};
 use crate::lease::Lease;
 use std::marker::Model;
 
-/// The live leases of a name at a moment, in order of their beginnings. It lends from the table and takes no memory.
+/// The live leases of a name at a time, in order of their beginnings. It borrows the table and takes no memory.
 #[derive(Drop)]
 pub struct Members<'a> {
     leases: &'a [Lease],
-    /// The least end among those that live, where it is known: none is over, and none was read yet.
+    /// The first expiry among those that live, if known: none is over, and none was read yet.
     least: Option<u64>,
     moment: u64,
 }
@@ -31,7 +31,7 @@ impl<'a> Model for Members<'a> {
 impl<'a> Members<'a> {
     ghost use Rattle.nbt_lease.specs.Lease.{is_live};
 
-    /// Those of these leases that live at `now`; `least` is the least end of all of them.
+    /// Those of these leases that live at `now`; `least` is the first expiry of all of them.
     pub(crate) fn new(leases: &'a [Lease], least: Option<u64>, now: u64) -> Members<'a>
         requires { IsLeastEnd leases.now least }
         ensures { result ≡ filter (is_live now) leases.now }
@@ -47,9 +47,9 @@ impl<'a> Members<'a> {
         }
     }
 
-    /// The least end among those that are left, in milliseconds; none where none is left. Takes no memory. The table
-    /// keeps it beside each name, so it is a look-up after a sweep at this moment, while none of them was read; else it
-    /// takes a pass over those that are left.
+    /// The first expiry among those that are left, in milliseconds; none if none is left. Takes no memory. The table keeps it
+    /// beside each name, so after a sweep at this time, and before a lease is read, it is a look-up; else it takes a pass
+    /// over those that are left.
     pub fn least_end(&self) -> Option<u64>
         ensures { IsLeastEnd self.now result }
     {

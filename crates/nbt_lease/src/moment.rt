@@ -1,12 +1,12 @@
-//! Moments of one clock.
+//! Times of one clock.
 
 ghost use Rattle.std.specs.Prelude.{◌≡◌, ◌<◌, ◌≤◌, ◌↔◌, IsSome, IfSome};
 ghost use Rattle.nbt_lease.specs.Config.{last_moment};
 
 use std::marker::Model;
 
-/// A moment: milliseconds since the beginning of a clock that no end sets, 0 to 2^60 (our profile). Ends of leases
-/// may be later, so they are a `u64` and no `Moment`.
+/// A time: milliseconds since the beginning of a monotonic clock, 0 to 2^60 (our profile). A lease may expire later, so an
+/// expiry is a `u64` and no `Moment`.
 #[derive(Clone, Copy, Debug, PartialEq, Eq, PartialOrd, Ord, Hash)]
 pub struct Moment {
     ms: u64,
@@ -25,7 +25,7 @@ impl Model for Moment {
     ghost inverse = { λ ms. record { ms = ms } };
 }
 
-/// The last moment, in milliseconds.
+/// The last time, in milliseconds.
 const LAST: u64 = 1 << 60;
 
 impl Moment {
@@ -36,7 +36,7 @@ impl Moment {
         Moment { ms: 0 }
     }
 
-    /// The moment of this many milliseconds; none above 2^60.
+    /// The time of this many milliseconds; none above 2^60.
     pub fn new(ms: u64) -> Option<Moment>
         ensures found { IsSome result ↔ (ms ≤ last_moment) }
         ensures value { IfSome result (λ moment. moment ≡ ms) }

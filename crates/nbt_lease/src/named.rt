@@ -11,11 +11,11 @@ use crate::members::Members;
 use std::alloc::{AllocError, Global};
 use std::marker::Model;
 
-/// The members of one name, in order of their beginnings, and beside them the least of their ends.
+/// The members of one name, in order of their beginnings, and their first expiry.
 #[derive(Drop)]
 pub(crate) struct Named {
     leases: Vec<Lease>,
-    /// None where there is no member.
+    /// None if there is no member.
     least: Option<u64>,
 }
 
@@ -49,14 +49,14 @@ impl Named {
         self.leases.as_slice()
     }
 
-    /// Those members that live at `now`, with their least end.
+    /// Those members that live at `now`, with their first expiry.
     pub fn live(&self, now: u64) -> Members<'_>
         ensures { result ≡ filter (is_live now) self.now }
     {
         Members::new(self.leases.as_slice(), self.least, now)
     }
 
-    /// Adds a member, which goes last. Where memory is refused, all is as before.
+    /// Adds a member, which goes last. If out of memory, all is as before.
     pub fn push(&mut self, lease: Lease) -> Result<(), AllocError>
         ensures added { OnOk result (self.new ≡ self.old ++ lease ∷ []) }
         ensures unchanged { OnErr result (self.new ≡ self.old) }
@@ -66,7 +66,7 @@ impl Named {
         Ok(())
     }
 
-    /// Takes out the last member.
+    /// Removes the last member.
     pub fn pop(&mut self)
         ensures { (leases : List Lease) (lease : Lease) → self.old ≡ leases ++ lease ∷ [] → self.new ≡ leases }
     {
@@ -76,7 +76,7 @@ impl Named {
         self.least = least_without(self.leases.as_slice(), self.least, last.end);
     }
 
-    /// Takes out the member of this address, if there is one. Takes no memory.
+    /// Removes the member of this address, if there is one. Takes no memory.
     pub fn take(&mut self, addr: u32) -> Option<Lease>
         ensures taken { IfSome result (λ lease. (before : List Lease) × (behind : List Lease) × IsMember addr self.old before lease behind × (self.new ≡ before ++ behind)) }
         ensures none { IfNone result (HasNone addr self.old) }
@@ -100,7 +100,7 @@ impl Named {
         None
     }
 
-    /// The end of the member at this place.
+    /// The expiry of the member at this place.
     pub fn end_at(&self, place: usize) -> u64
         requires { place < length self.now }
         ensures { (before : List Lease) (lease : Lease) (behind : List Lease) → self.now ≡ before ++ lease ∷ behind → length before ≡ place → result ≡ lease.end }
@@ -108,7 +108,7 @@ impl Named {
         self.leases[place].end
     }
 
-    /// Gives the member at this place another end.
+    /// Gives the member at this place another expiry.
     pub fn set_end(&mut self, place: usize, end: u64)
         requires { place < length self.old }
         ensures { (before : List Lease) (lease : Lease) (behind : List Lease) → self.old ≡ before ++ lease ∷ behind → length before ≡ place → self.new ≡ before ++ record lease { end = end } ∷ behind }
@@ -121,14 +121,14 @@ impl Named {
     }
 }
 
-/// The smaller of an end and the least of others, where there are others.
+/// The earlier of an expiry and the first of others, if there are others.
 fn least_with(least: Option<u64>, end: u64) -> u64
     ensures { result ≡ min (unwrap_or least end) end }
 {
     least.unwrap_or(end).min(end)
 }
 
-/// The least end of these leases, where it was `least` while one more ended at `gone`. Only where that one had it, it is
+/// The first expiry of these leases, if it was `least` while one more expired at `gone`. Only if that one had it, it is
 /// found anew, in one pass.
 fn least_without(leases: &[Lease], least: Option<u64>, gone: u64) -> Option<u64>
     requires { least ≢ Some gone → IsLeastEnd leases.now least }
@@ -140,7 +140,7 @@ fn least_without(leases: &[Lease], least: Option<u64>, gone: u64) -> Option<u64>
     least_of(leases)
 }
 
-/// The least end of these leases, in one pass.
+/// The first expiry of these leases, in one pass.
 fn least_of(leases: &[Lease]) -> Option<u64>
     ensures { IsLeastEnd leases.now result }
 {

@@ -1,4 +1,4 @@
-//! How an asker stands with a name.
+//! How a requester stands with a name.
 
 ghost use Rattle.std.specs.Prelude.{◌≡◌, ◌≢◌, ◌+◌, ◌<◌, ◌≤◌, ◌↔◌, true, false, IsTrue, length, List};
 ghost use Rattle.nbt_lease.specs.declared.lease.Lease.{Lease};
@@ -9,10 +9,10 @@ use nbt_name::Kind;
 /// The most live members of a group (our profile).
 const MEMBERS_MOST: usize = 1_000;
 
-/// How an asker stands with a name, all of whose leases live.
+/// How a requester stands with a name, all of whose leases live.
 #[derive(Drop)]
 pub(crate) struct Standing {
-    /// Whether one of the name's leases is the asker's.
+    /// Whether one of the name's leases is the requester's.
     pub own: bool,
     /// How many leases the name has.
     pub members: usize,
@@ -53,7 +53,7 @@ impl Standing {
         self.own = self.own || lease.addr == addr;
     }
 
-    /// Whether a lease of this kind may begin, or the asker's may be renewed as one.
+    /// Whether a lease of this kind may begin, or the requester's may be renewed as one.
     pub fn allows(&self, kind: Kind) -> bool
         ensures { (leases : List Lease) (a : Asked) → StandsIn a.addr leases self.now → a.kind ≡ kind → IsTrue result ↔ IsAllowed a leases }
     {

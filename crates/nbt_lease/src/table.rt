@@ -26,7 +26,7 @@ use std::sync::ledger::{Blank, Ledger};
 /// The leases of a name server: of each name those that live, in order of their beginnings. No two live leases are of
 /// one name and one address, and the live leases of a name are at most 1,000, all of a group, or one that is unique.
 ///
-/// Moments don't go back: `now` of each call is at least `last()`.
+/// Times don't go back: the caller must ensure that `now` of each call is at least `last()`.
 #[derive(Drop)]
 pub struct Table {
     config: Config,
@@ -53,7 +53,7 @@ impl Table {
     ghost use Rattle.nbt_lease.specs.Lease.{live_count, IsSound};
     ghost use Rattle.nbt_lease.specs.Rules.{asked, Grants, ChangesLeases, IsLeastEnd};
 
-    /// A table without leases, at moment 0. Takes no memory.
+    /// A table without leases, at time 0. Takes no memory.
     pub fn new(alloc: Global, config: Config) -> Table
         ensures config { result.config ≡ config }
         ensures last { result.last ≡ 0 }
@@ -73,7 +73,7 @@ impl Table {
         self.config
     }
 
-    /// The moment of the last `grant`, `release` or `sweep`, refused ones too; at first 0.
+    /// The time of the last `grant`, `release` or `sweep`, refused ones too; at first 0.
     pub fn last(&self) -> Moment
         ensures last { result ≡ self.now.last }
         ensures sound { IsSound self.now.config self.now.last (leases_at self.now.last self.now.rows) }
@@ -81,17 +81,17 @@ impl Table {
         self.last
     }
 
-    /// Grants the name to the address for `ttl` seconds, 0 standing for the longest lease, or renews its live lease,
+    /// Grants the name to the address for `ttl` seconds, or for the longest lease if `ttl` is 0; or renews its live lease,
     /// which keeps its place and never gets shorter. Returns the seconds granted, at most the longest lease, and the
-    /// lease's end. Refused in this order (our profile):
-    /// - `Active` (1): the name has live leases, and they aren't all of a group where a group is asked for, nor one
-    ///   unique lease of the asker where a unique name is asked for.
-    /// - `GroupFull` (3): a new lease is to begin, and 1,000 members of the group live.
-    /// - `TableFull` (2): a new lease is to begin, and as many leases live as the table keeps.
-    /// - `OutOfMemory` (4): memory was refused; only where the live leases would change.
+    /// lease's expiry. Refused in this order (our profile):
+    /// - `Active` (1): the name has live leases. For a group they aren't all of a group; for a unique name they aren't one
+    ///   unique lease of the address.
+    /// - `GroupFull` (3): a lease would begin, and the group has 1,000 live members.
+    /// - `TableFull` (2): a lease would begin, and the table is full of live leases.
+    /// - `OutOfMemory` (4): out of memory; only where the live leases would change.
     ///
-    /// After a refusal the live leases are as before. Each call takes out leases that are over, at any name, before it
-    /// takes memory. `now` is at least `last()`, and is `last()` afterwards.
+    /// After a refusal the live leases are as before. Each call removes expired leases of all names before it takes
+    /// memory. `now` is at least `last()`, and is `last()` afterwards.
     pub fn grant(
         &mut self,
         now: Moment,
@@ -123,9 +123,9 @@ impl Table {
         renew_or_begin(&mut self.index, self.config.rows(), name, lease, seconds)
     }
 
-    /// Takes out the address's live lease of the name, of either kind: `Gone`. Where it has none, `NoLease` where the
-    /// name has no live lease, else `OfOthers`; the live leases are then as before. Takes no memory. `now` is at least
-    /// `last()`, and is `last()` afterwards.
+    /// Removes the address's live lease of the name, of either kind: `Gone`. If it has none, `NoLease` if the name has no
+    /// live lease, else `OfOthers`; the live leases are then as before. Takes no memory. `now` is at least `last()`, and is
+    /// `last()` afterwards.
     pub fn release(&mut self, now: Moment, name: &Name, addr: u32) -> Released
         requires { self.old.last ≤ now }
         ensures rule { Releases self.old now name.now addr result (leases_at now self.new.rows) }
@@ -139,8 +139,8 @@ impl Table {
         end_lease(&mut self.index, name, addr)
     }
 
-    /// The live leases of the name at `now`, in order of their beginnings: at most 1,000. It lends them and takes
-    /// no memory. `now` is at least `last()`.
+    /// The live leases of the name at `now`, in order of their beginnings: at most 1,000. Borrows them and takes no memory.
+    /// `now` is at least `last()`.
     pub fn members<'a>(&'a self, now: Moment, name: &'a Name) -> Members<'a>
         requires { self.now.last ≤ now }
         ensures members { result ≡ leases_at now self.now.rows name.now }
@@ -149,16 +149,16 @@ impl Table {
         self.index.live(name, now.get())
     }
 
-    /// Appends all rows: each name with each of its leases, those of one name in order of their beginnings. Leases that are over may
-    /// stand among them. Where memory is refused, only some of them may be appended.
+    /// Appends all rows: each name with each of its leases, those of one name in order of their beginnings. Expired leases
+    /// may be among them. If out of memory, only some of them may be appended.
     pub fn list_rows(&self, out: &mut Vec<(Name, Lease)>) -> Result<(), AllocError>
         ensures { OnOk result (out.new.items ≡ out.old.items ++ self.now.rows) }
     {
         self.index.list(out)
     }
 
-    /// The least end among the live leases of the name at `now`, in milliseconds; none where it has no live lease.
-    /// Takes no memory. `now` is at least `last()`.
+    /// The first expiry among the live leases of the name at `now`, in milliseconds; none if it has no live lease. Takes no
+    /// memory. `now` is at least `last()`.
     pub fn least_end(&self, now: Moment, name: &Name) -> Option<u64>
         requires { self.now.last ≤ now }
         ensures end { IsLeastEnd (leases_at now self.now.rows name.now) result }
@@ -167,8 +167,8 @@ impl Table {
         self.members(now, name).least_end()
     }
 
-    /// Takes out the leases that are over at `now`, and no others. The live leases are as before. Takes no memory. `now` is at least
-    /// `last()`, and is `last()` afterwards.
+    /// Removes the leases that are over at `now`, and no others. Takes no memory. `now` is at least `last()`, and is `last()`
+    /// afterwards.
     pub fn sweep(&mut self, now: Moment)
         requires { self.old.last ≤ now }
         ensures leases { leases_at now self.new.rows ≡ leases_at now self.old.rows }
@@ -180,9 +180,8 @@ impl Table {
         self.sweep_uncounted::<Brand>(now, Blank::new(1));
     }
 
-    /// Takes out the leases that are over at `now`, and no others, looking at each of them and at one more at most: each
-    /// look adds one to `looks`. The live leases are as before. Takes no memory. `now` is at least `last()`, and is
-    /// `last()` afterwards.
+    /// Removes the leases that are over at `now`, and no others. It looks at each of them and at one more at most; each look
+    /// adds one to `looks`. Takes no memory. `now` is at least `last()`, and is `last()` afterwards.
     pub fn sweep_counted<L: Ledger>(&mut self, now: Moment, looks: &mut Looks<L>)
         requires { self.old.last ≤ now }
         ensures leases { leases_at now self.new.rows ≡ leases_at now self.old.rows }
@@ -196,7 +195,7 @@ impl Table {
         self.index.drop_expired(now.get(), looks);
     }
 
-    /// The same, where nobody counts the looks.
+    /// Sweeps without counting the looks.
     fn sweep_uncounted<L: Ledger>(&mut self, now: Moment, blank: Blank)
         requires time { self.old.last ≤ now }
         requires name { blank.name ≡ L.name }
@@ -213,7 +212,7 @@ impl Table {
     }
 }
 
-/// Takes out the leases that are over; nobody counts the looks.
+/// Removes the leases that are over, without counting the looks.
 fn drop_expired<L: Ledger>(index: &mut Index, now: u64, blank: Blank)
     requires name { blank.name ≡ L.name }
     requires parts { blank.parts ≡ L.parts }
@@ -226,7 +225,7 @@ fn drop_expired<L: Ledger>(index: &mut Index, now: u64, blank: Blank)
     index.drop_expired(now, &mut looks);
 }
 
-/// Renews the lease of the lease's address, or begins one, for so many seconds. All leases live.
+/// Renews the address's lease, or begins one, for this many seconds. All leases live.
 fn renew_or_begin(
     index: &mut Index,
     most: usize,
@@ -260,7 +259,7 @@ fn renew_or_begin(
     begin(index, most, name, lease, seconds)
 }
 
-/// Begins a lease, which goes last, for so many seconds. All leases live.
+/// Begins a lease, which goes last, for this many seconds. All leases live.
 fn begin(
     index: &mut Index,
     most: usize,

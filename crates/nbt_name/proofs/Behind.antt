@@ -1,12 +1,6 @@
 -- What stands in octets from a place on: words, ranges and names that were put there are read back.
 use Rattle.std.proofs.Common.{◌≡◌, ℕ, ◌+◌, ◌-◌, ◌^◌, ◌<◌, List, ◌∷◌, ◌++◌, length, take, drop, Some, refl, sym, ap, subst, ◌∙◌, arith, append_assoc}
-use Rattle.std.specs.Prelude.{slice_get, slice_range}
-use Rattle.std.proofs.lemmas.List.{length-append, length-take-le, take_at, drop_at, drop-drop, take-append-drop}
-use Rattle.byteorder.specs.Endian.{big_number}
-use Rattle.byteorder.specs.Numbers.{big_number-reads_back}
-use Rattle.nbt_name.specs.Words.{word, long, word_at, long_at}
-use Rattle.nbt_name.specs.Wire.{NameValue, IsName, wire}
-use Rattle.nbt_name.specs.Reading.{NameAt, PlainNameAt}
+use Rattle.nbt_name.proofs.Common.{slice_get, slice_range, length-append, length-take-le, take_at, drop_at, drop-drop, take-append-drop, big_number, big_number-reads_back, word, long, word_at, long_at, NameValue, IsName, wire, NameAt, PlainNameAt}
 use Rattle.nbt_name.proofs.ReadBack.{found_in, wire_is_read, plain_is_compressed}
 
 -- the octets from a place on

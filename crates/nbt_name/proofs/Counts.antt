@@ -1,15 +1,10 @@
 -- How many steps a reader makes: those of its path. Fewer than 112 labels fit into a name, and between two labels each pointer leads to a
 -- smaller place.
 use Rattle.std.proofs.Common.{◌≡◌, ℕ, suc, ◌+◌, ◌*◌, ◌≤◌, List, [], ◌∷◌, length, sym, ap, subst, arith}
-use Rattle.std.specs.Prelude.{slice_range}
-use Rattle.std.proofs.Math.Nat.{mul-le-mul_right}
-use Rattle.std.proofs.lemmas.List.{length-append}
-use Rattle.nbt_name.specs.declared.fault.NameFault.{NameFault}
-use Rattle.nbt_name.specs.declared.form.Form.{Form}
-use Rattle.nbt_name.specs.Wire.{NameValue}
+use Rattle.nbt_name.proofs.Common.{slice_range, mul-le-mul_right, length-append, NameFault, Form, NameValue, Spot, Finds, IsLater, Step, letters_pass, label_passes, pointer_leads, Path, here, start, Stands, Stuck, Fails}
 use Rattle.nbt_name.proofs.Walk.{Path-push, steps-push, end_in_steps, fault_in_steps}
 use Rattle.nbt_name.proofs.WireForms.{length-range}
-use Rattle.nbt_name.specs.Reading.{Spot, Finds, IsLater, Step, letters_pass, label_passes, pointer_leads, Path, here, start, steps_on, Stands, Stuck, Fails}
+use Rattle.nbt_name.specs.Reading.{steps_on}
 
 -- a reader on its path, that began with `base` and has counted each step
 pub record OnPath (form : Form) (octets : List ℕ) (place base : ℕ) (at : Spot) (count : ℕ) : Type 0 where

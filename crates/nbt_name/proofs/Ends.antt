@@ -1,14 +1,6 @@
 -- At each place stands one name or one fault: paths end, and a wire form is read back.
-use Rattle.std.proofs.Common.{◌≡◌, ℕ, suc, ◌+◌, ◌-◌, ◌*◌, ◌<◌, ◌≤◌, List, [], ◌∷◌, ◌++◌, length, Result, Ok, Err, sym, ap, subst, ◌∙◌, arith, Option, Some, refl}
-use Rattle.std.specs.Prelude.{slice_range, unwrap_or, ◌↔◌, IfOk, IfErr}
-use Rattle.std.proofs.Math.Nat.{mul-le-mul_right}
-use Rattle.std.proofs.lemmas.List.{length-append, append-nil}
-use Rattle.nbt_name.specs.declared.fault.NameFault.{NameFault}
-use Rattle.nbt_name.specs.declared.form.Form.{Form}
-use Rattle.nbt_name.specs.Wire.{NameValue, wire}
-use Rattle.nbt_name.specs.Reading.{Spot, Step, letters_pass, label_passes, pointer_leads, Stands, Fails, Path, here, onward}
-use Rattle.nbt_name.proofs.Looks.{found_within}
-use Rattle.std.specs.Prelude.{None}
+use Rattle.std.proofs.Common.{◌≡◌, ℕ, suc, ◌+◌, ◌-◌, ◌*◌, ◌<◌, ◌≤◌, List, [], ◌∷◌, ◌++◌, length, Result, Ok, Err, sym, ap, ◌∙◌, arith, Option, Some, refl}
+use Rattle.nbt_name.proofs.Common.{slice_range, unwrap_or, IfOk, mul-le-mul_right, length-append, append-nil, NameFault, Form, NameValue, wire, Spot, Step, letters_pass, label_passes, pointer_leads, Stands, Fails, Path, here, onward, None, slice_get_within}
 use Rattle.nbt_name.proofs.Walk.{fault_is_one, end_is_one, no_end_and_fault}
 use Rattle.nbt_name.proofs.WireForms.{wire_apart}
 
@@ -26,24 +18,6 @@ one_fault form octets place f g a b = fault_is_one f g a.path a.stuck b.path b.s
 
 pub not_both : (form : Form) (octets : List ℕ) (place : ℕ) (n : NameValue) (x : ℕ) (f : NameFault) → Stands form octets place n x → Fails form octets place f → ⊥
 not_both form octets place n x f a b = no_end_and_fault f a.path a.closes.later a.closes.zero b.path b.stuck
-
--- what a reader answers is what stands there
-pub Answers : Form → List ℕ → ℕ → Result (NameValue × ℕ) NameFault → Type 0
-Answers form octets place r = IfOk r (λ read. Stands form octets place read.0 read.1) × IfErr r (Fails form octets place)
-
-pub name_iff : (form : Form) (octets : List ℕ) (place : ℕ) (r : Result (NameValue × ℕ) NameFault) → IfOk r (λ read. Stands form octets place read.0 read.1) → IfErr r (Fails form octets place)
-    → (name : NameValue) (next : ℕ) → (r ≡ Ok (name, next)) ↔ Stands form octets place name next
-name_iff form octets place (Ok read) a b name next = (
-  λ e. let same : read ≡ (name, next) = cc in subst (λ (p : NameValue × ℕ). Stands form octets place p.0 p.1) same a,
-  λ s. let same = one_name form octets place read.0 name read.1 next a s in ap {B = Result (NameValue × ℕ) NameFault} Ok (λ i. (same.0 i, same.1 i)),
-)
-name_iff form octets place (Err f) a b name next = (λ e. absurd cc, λ s. absurd (not_both form octets place name next f s b))
-
-pub fault_iff : (form : Form) (octets : List ℕ) (place : ℕ) (r : Result (NameValue × ℕ) NameFault) → IfOk r (λ read. Stands form octets place read.0 read.1) → IfErr r (Fails form octets place)
-    → (fault : NameFault) → (r ≡ Err fault) ↔ Fails form octets place fault
-fault_iff form octets place (Ok read) a b fault = (λ e. absurd cc, λ s. absurd (not_both form octets place read.0 read.1 fault a s))
-fault_iff form octets place (Err f) a b fault =
-    (λ e. let same : f ≡ fault = cc in subst (Fails form octets place) same b, λ s. ap {B = Result (NameValue × ℕ) NameFault} Err (one_fault form octets place f fault b s))
 
 -- ---- steps come to an end
 
@@ -77,7 +51,7 @@ step_resumes : {form : Form} (octets : List ℕ) {s t : Spot} → Step form octe
 step_resumes octets (letters_pass first finds fits are) within r e = within r e
 step_resumes octets (label_passes n later finds low high room fits) within r e = within r e
 step_resumes octets {s} (pointer_leads high low compressed finds le at back) within r e =
-    kept s.resume (s.place + 2) r (omega (arith, found_within octets (s.place + 1) low at)) within e
+    kept s.resume (s.place + 2) r (omega (arith, slice_get_within octets (s.place + 1) low at)) within e
   where
     kept : (o : Option ℕ) (d r : ℕ) → d ≤ length octets → ((q : ℕ) → o ≡ Some q → q ≤ length octets) → Some (unwrap_or o d) ≡ Some r → r ≤ length octets
     kept None d r le h e = let same : d ≡ r = cc in omega arith
@@ -90,7 +64,7 @@ path_resumes octets (onward s t u step others) within = path_resumes octets othe
 pub next_within : (form : Form) (octets : List ℕ) (place : ℕ) (name : NameValue) (next : ℕ) → Stands form octets place name next → next ≤ length octets
 next_within form octets place name next stands =
     let spot : Spot = stands.spot in
-    after spot.resume (spot.place + 1) (omega (arith, found_within octets spot.place 0 stands.closes.zero)) (path_resumes octets stands.path (λ r e. absurd cc)) next stands.closes.next_is
+    after spot.resume (spot.place + 1) (omega (arith, slice_get_within octets spot.place 0 stands.closes.zero)) (path_resumes octets stands.path (λ r e. absurd cc)) next stands.closes.next_is
   where
     after : (o : Option ℕ) (d : ℕ) → d ≤ length octets → ((q : ℕ) → o ≡ Some q → q ≤ length octets) → (n : ℕ) → n ≡ unwrap_or o d → n ≤ length octets
     after None d le h n e = omega arith

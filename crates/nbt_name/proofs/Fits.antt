@@ -1,11 +1,6 @@
 -- Octets and the numbers that they spell have their ranges, and wire forms their sizes.
 use Rattle.std.proofs.Common.{◌≡◌, ℕ, ◌+◌, ◌-◌, ◌^◌, ◌<◌, ◌≤◌, List, [], ◌∷◌, ◌++◌, length, take, drop, arith, inl, inr}
-use Rattle.std.specs.Prelude.{slice_index, slice_range}
-use Rattle.std.proofs.lemmas.Bool.{cases_lt}
-use Rattle.std.proofs.lemmas.List.{length-append, length-take, get_or-drop, get_or-take}
-use Rattle.std.proofs.Math.ListN.{get_or-eq_default}
-use Rattle.nbt_name.specs.Words.{word_at, long_at}
-use Rattle.nbt_name.specs.Wire.{NameValue, IsName, AreOctets, letters, wire, wire_size}
+use Rattle.nbt_name.proofs.Common.{slice_index, slice_range, cases_lt, length-append, length-take, get_or-drop, get_or-take, get_or-eq_default, word_at, long_at, NameValue, IsName, AreOctets, letters, wire, wire_size}
 use Rattle.nbt_name.proofs.Letters.{length-letters}
 
 octets_drop : (n : ℕ) (xs : List ℕ) → AreOctets xs → AreOctets (drop n xs)

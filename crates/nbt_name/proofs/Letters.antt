@@ -1,9 +1,6 @@
 -- Half-ASCII: letters and the octets that they spell.
-use Rattle.std.proofs.Common.{◌≡◌, ℕ, zero, suc, ◌+◌, ◌-◌, ◌*◌, ◌/◌, ◌%◌, ◌<◌, List, [], ◌∷◌, ◌++◌, length, get_or, take, refl, sym, ap, ◌∙◌, arith}
-use Rattle.std.proofs.lemmas.List.{take_more}
-use Rattle.std.proofs.lemmas.List.Concat.{flat_map-append, flat_map-cons}
-use Rattle.nbt_name.specs.Wire.{AreOctets, letters}
-use Rattle.nbt_name.specs.Reading.{IsLetter}
+use Rattle.std.proofs.Common.{◌≡◌, ℕ, zero, suc, ◌+◌, ◌-◌, ◌*◌, ◌/◌, ◌%◌, ◌<◌, List, [], ◌∷◌, length, get_or, refl, sym, ap, ◌∙◌, arith}
+use Rattle.nbt_name.proofs.Common.{flat_map-cons, AreOctets, letters, IsLetter}
 
 -- the two letters of an octet
 abbrev pub halves : ℕ → List ℕ
@@ -12,19 +9,9 @@ halves o = (0x41 + o / 16) ∷ (0x41 + o % 16) ∷ []
 pub letters-cons : (o : ℕ) (os : List ℕ) → letters (o ∷ os) ≡ (0x41 + o / 16) ∷ (0x41 + o % 16) ∷ letters os
 letters-cons o os = flat_map-cons halves o os
 
-pub letters_more : (os : List ℕ) (i : ℕ) → i < length os → letters (take (i + 1) os) ≡ letters (take i os) ++ halves (get_or os i 0)
-letters_more os i lt = ap letters (take_more os i 0 lt) ∙ flat_map-append halves (take i os) (get_or os i 0 ∷ []) ∙ ap (λ (x : List ℕ). letters (take i os) ++ x) (flat_map-cons halves (get_or os i 0) [])
-
 pub length-letters : (os : List ℕ) → length (letters os) ≡ 2 * length os
 length-letters [] = refl
 length-letters (o ∷ os) = ap length (letters-cons o os) ∙ (omega (arith, length-letters os))
-
--- the octet that two letters spell
-pub octet_halves : (a b : ℕ) → IsLetter a → IsLetter b → halves ((a - 0x41) * 16 + (b - 0x41)) ≡ a ∷ b ∷ []
-octet_halves a b p q =
-    let high : 0x41 + ((a - 0x41) * 16 + (b - 0x41)) / 16 ≡ a = omega arith in
-    let low : 0x41 + ((a - 0x41) * 16 + (b - 0x41)) % 16 ≡ b = omega arith in
-    cc
 
 -- all of a list are letters
 abbrev pub AreLetters : List ℕ → Type 0
@@ -59,6 +46,10 @@ letters_are (o ∷ os) fit zero lt = let small : o < 256 = fit 0 in (omega arith
 letters_are (o ∷ os) fit (suc zero) lt = let small : o < 256 = fit 0 in (omega arith, omega arith)
 letters_are (o ∷ os) fit (suc (suc k)) lt = letters_are os (λ i. fit (suc i)) k (omega (arith, ap length (letters-cons o os)))
 
+pub octets_cons : (o : ℕ) (os : List ℕ) → o < 256 → AreOctets os → AreOctets (o ∷ os)
+octets_cons o os small fit zero = small
+octets_cons o os small fit (suc k) = fit k
+
 -- letters in pairs spell octets
 pub letters_spell : (n : ℕ) (ls : List ℕ) → length ls ≡ 2 * n → AreLetters ls → (os : List ℕ) × (length os ≡ n) × AreOctets os × (letters os ≡ ls)
 letters_spell zero [] e are = ([], refl, (λ k. omega arith), refl)
@@ -75,10 +66,6 @@ letters_spell (suc n) (a ∷ b ∷ ls) e are =
     let small : o < 256 = omega arith in
     (o ∷ rest.0, ap suc rest.1, octets_cons o rest.0 small rest.2, letters-cons o rest.0 ∙ both high low rest.3)
   where
-    octets_cons : (o : ℕ) (os : List ℕ) → o < 256 → AreOctets os → AreOctets (o ∷ os)
-    octets_cons o os small fit zero = small
-    octets_cons o os small fit (suc k) = fit k
-
     both : {x y x' y' : ℕ} {xs ys : List ℕ} → x ≡ x' → y ≡ y' → xs ≡ ys → x ∷ y ∷ xs ≡ x' ∷ y' ∷ ys
     both e f g = cc
 

@@ -1,5 +1,7 @@
 -- What several proofs share; the proof of a function is in the folder of its module and its name.
 
+-- the words and the lemmas of std that most of them cite
+pub mod Common
 -- what a reader sees at a spot is one thing: a step, a fault or the end
 pub mod Seen
 -- so one path leads from each place, to one end

@@ -1,7 +1,6 @@
 -- What `get` returns, as `slice_get`.
-use Rattle.std.proofs.Common.{◌≡◌, ℕ, ◌<◌, List, length, get_or, Some, None, sym, ltb, true, false, zero, suc, ◌∷◌, [], drop, arith, ltb-true, ltb-false}
-use Rattle.std.specs.Prelude.{slice_get}
-use Rattle.std.proofs.lemmas.Option.{slice_get-get_or, slice_get_past}
+use Rattle.std.proofs.Common.{◌≡◌, ℕ, List, length, get_or, Some, None, sym, ltb, true, false, zero, suc, ◌∷◌, [], drop, ltb-true, ltb-false}
+use Rattle.nbt_name.proofs.Common.{slice_get, slice_get-get_or, slice_get_past}
 
 pub none_at : (xs : List ℕ) (i : ℕ) → false ≡ ltb i (length xs) → slice_get xs i ≡ None
 none_at xs i e = slice_get_past xs i (ltb-false i (length xs) (sym e))
@@ -14,9 +13,3 @@ pub drop_found : (xs : List ℕ) (p x : ℕ) → slice_get xs p ≡ Some x → d
 drop_found [] p x found = absurd cc
 drop_found (y ∷ ys) zero x found = cc
 drop_found (y ∷ ys) (suc p) x found = drop_found ys p x found
-
--- and such a place is within
-pub found_within : (xs : List ℕ) (p x : ℕ) → slice_get xs p ≡ Some x → p < length xs
-found_within [] p x found = absurd cc
-found_within (y ∷ ys) zero x found = omega arith
-found_within (y ∷ ys) (suc p) x found = let within = found_within ys p x found in omega arith

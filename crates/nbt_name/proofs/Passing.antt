@@ -1,12 +1,6 @@
 -- The reader's steps, as steps of its spot.
 use Rattle.std.proofs.Common.{◌≡◌, ◌≢◌, ℕ, suc, ◌+◌, ◌-◌, List, [], ◌∷◌, ◌++◌, length, take, Option, Some, None, sym, ap, subst, ◌∙◌, arith, append_assoc, add-one}
-use Rattle.std.specs.Prelude.{slice_get, slice_range}
-use Rattle.std.specs.Option.{ForNone}
-use Rattle.std.proofs.lemmas.List.{length-append, append-nil}
-use Rattle.nbt_name.specs.Wire.{letters}
-use Rattle.nbt_name.specs.declared.form.Form.{Form}
-use Rattle.nbt_name.specs.Reading.{Spot, Step}
-use Rattle.nbt_name.specs.Inner.Reader.{passed_of}
+use Rattle.nbt_name.proofs.Common.{slice_get, slice_range, ForNone, length-append, append-nil, letters, Form, Spot, Step, passed_of}
 use Rattle.nbt_name.proofs.Letters.{length-letters}
 use Rattle.nbt_name.proofs.Looks.{drop_found}
 
@@ -42,9 +36,6 @@ length-passed (Some octets) scope sixteen e n =
 pub passed_push : (first : Option (List ℕ)) (scope sixteen more : List ℕ) → first ≡ Some sixteen → passed_of first (scope ++ more) ≡ passed_of first scope ++ more
 passed_push None scope sixteen more e = absurd cc
 passed_push (Some octets) scope sixteen more e = ap (λ (x : List ℕ). 0x20 ∷ x) (sym (append_assoc (letters octets) scope more))
-
-pub fresh_no_more : (first : Option (List ℕ)) (sixteen : List ℕ) (P : Type 0) → first ≡ Some sixteen → ForNone first P
-fresh_no_more first sixteen P e none = absurd cc
 
 -- the scope with the octets of a label at its end, as the octets passed
 pub label_passed : (first : Option (List ℕ)) (scope sixteen octets new : List ℕ) (p n k : ℕ) → first ≡ Some sixteen → slice_get octets p ≡ Some n → k ≡ n

@@ -1,11 +1,6 @@
 -- Where a plain name stands, its octets are its wire form.
 use Rattle.std.proofs.Common.{◌≡◌, ℕ, ◌+◌, ◌-◌, ◌≤◌, List, [], ◌∷◌, ◌++◌, length, take, drop, Option, None, refl, sym, ap, ◌∙◌, arith}
-use Rattle.std.specs.Prelude.{slice_range, unwrap_or}
-use Rattle.std.proofs.lemmas.List.{length-take-le, length-drop, drop-drop}
-use Rattle.std.proofs.Math.Seq.{take-add}
-use Rattle.nbt_name.specs.declared.form.Form.TheVariants.{Plain}
-use Rattle.nbt_name.specs.Wire.{NameValue, wire}
-use Rattle.nbt_name.specs.Reading.{Spot, Finds, past, letters_pass, label_passes, pointer_leads, Path, here, onward, PlainNameAt}
+use Rattle.nbt_name.proofs.Common.{slice_range, unwrap_or, length-take-le, length-drop, drop-drop, take-add, Plain, NameValue, wire, Spot, Finds, past, letters_pass, label_passes, pointer_leads, Path, here, onward, PlainNameAt}
 use Rattle.nbt_name.proofs.Ends.{next_within}
 use Rattle.nbt_name.proofs.Passing.{range_at}
 

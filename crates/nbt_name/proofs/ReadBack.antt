@@ -1,11 +1,6 @@
 -- A wire form, wherever it stands and whatever follows it, is read as its name.
 use Rattle.std.proofs.Common.{◌≡◌, ◌≢◌, ℕ, zero, suc, ◌+◌, ◌-◌, ◌*◌, ◌<◌, ◌≤◌, List, [], ◌∷◌, ◌++◌, length, drop, get_or, Some, None, refl, sym, ap, subst, ◌∙◌, arith, append_assoc}
-use Rattle.std.specs.Prelude.{slice_get, slice_range, slice_index}
-use Rattle.std.proofs.lemmas.List.{length-append, length-drop, take_at, drop_at, append-nil, drop-drop, get_or_append_left, get_or-drop}
-use Rattle.nbt_name.specs.declared.form.Form.TheVariants.{Plain, Compressed}
-use Rattle.nbt_name.specs.Scope.{IsScope, empty, label}
-use Rattle.nbt_name.specs.Wire.{NameValue, IsName, letters, wire}
-use Rattle.nbt_name.specs.Reading.{Spot, IsLetter, LettersAt, past, start, Step, letters_pass, label_passes, Path, here, onward, NameAt, PlainNameAt, target, pointer_leads}
+use Rattle.nbt_name.proofs.Common.{slice_get, slice_range, slice_index, length-append, length-drop, take_at, drop_at, append-nil, drop-drop, get_or_append_left, get_or-drop, Plain, Compressed, IsScope, empty, label, NameValue, IsName, letters, wire, Spot, IsLetter, LettersAt, past, start, Step, letters_pass, label_passes, Path, here, onward, NameAt, PlainNameAt, target, pointer_leads}
 use Rattle.nbt_name.proofs.Walk.{Path-compressed}
 use Rattle.nbt_name.proofs.Passing.{same_spot}
 use Rattle.nbt_name.proofs.Letters.{length-letters, letters_are}

@@ -1,12 +1,7 @@
 -- Readers: in octets stands one value or one fault. A reader of a packet is put together from readers of names, of
--- numbers and of what is left, and so this is told of the whole from its parts.
+-- numbers and of what is left, and so this is known of the whole from its parts.
 use Rattle.std.proofs.Common.{◌≡◌, ℕ, ◌<◌, ◌≤◌, List, Result, Ok, Err, refl, sym, ap, subst, ◌∙◌, arith, inl, inr}
-use Rattle.std.specs.Prelude.{◌⊎◌, ◌↔◌, IfOk, IfErr}
-use Rattle.std.proofs.lemmas.Bool.{cases_lt}
-use Rattle.nbt_name.specs.declared.fault.NameFault.{NameFault}
-use Rattle.nbt_name.specs.declared.form.Form.{Form}
-use Rattle.nbt_name.specs.Wire.{NameValue, AreOctets}
-use Rattle.nbt_name.specs.Reading.{Stands, Fails}
+use Rattle.nbt_name.proofs.Common.{◌⊎◌, ◌↔◌, IfOk, IfErr, cases_lt, NameFault, Form, NameValue, AreOctets, Stands, Fails}
 use Rattle.nbt_name.proofs.Ends.{one_name, one_fault, not_both}
 use Rattle.nbt_name.proofs.Looking.{name_or_fault}
 
@@ -48,12 +43,21 @@ reads_up_to end count fault = record {
   not_both = λ u f a b. omega (arith, a, b.1);
 }
 
--- a name with the place after it, or its fault as a packet's
+-- a name with the place after it, or its fault
+pub reads_stands : (form : Form) (octets : List ℕ) (place : ℕ) → Reads {X = NameValue × ℕ} {F = NameFault} (AreOctets octets) (λ x. Stands form octets place x.0 x.1) (Fails form octets place)
+reads_stands form octets place = record {
+  found = λ fits. elim (name_or_fault form octets place fits) [ inl name ↦ inl ((name.0, name.1), name.2) | inr bad ↦ inr bad ];
+  one_value = λ x y a b. (let same = one_name form octets place x.0 y.0 x.1 y.1 a b in λ i. (same.0 i, same.1 i));
+  one_fault = one_fault form octets place;
+  not_both = λ x. not_both form octets place x.0 x.1;
+}
+
+-- the same, where the fault is a packet's
 pub reads_name : {F Premise : Type 0} (form : Form) (octets : List ℕ) → (Premise → AreOctets octets) → (fault_of : NameFault → F) (place : ℕ)
     → Reads {X = NameValue × ℕ} {F = F} Premise (λ x. Stands form octets place x.0 x.1) (λ f. (n : NameFault) × Fails form octets place n × (fault_of n ≡ f))
 reads_name form octets fits fault_of place = record {
-  found = λ p. elim (name_or_fault form octets place (fits p)) [ inl name ↦ inl ((name.0, name.1), name.2) | inr bad ↦ inr (fault_of bad.0, (bad.0, bad.1, refl)) ];
-  one_value = λ x y a b. (let same = one_name form octets place x.0 y.0 x.1 y.1 a b in λ i. (same.0 i, same.1 i));
+  found = λ p. elim ((reads_stands form octets place).found (fits p)) [ inl name ↦ inl name | inr bad ↦ inr (fault_of bad.0, (bad.0, bad.1, refl)) ];
+  one_value = (reads_stands form octets place).one_value;
   one_fault = λ f g a b. sym a.2 ∙ ap fault_of (one_fault form octets place a.0 b.0 a.1 b.1) ∙ b.2;
   not_both = λ x f a b. not_both form octets place x.0 x.1 b.0 a b.1;
 }

@@ -1,8 +1,6 @@
 -- Scopes, label by label.
 use Rattle.std.proofs.Common.{◌≡◌, ℕ, ◌<◌, ◌≤◌, List, [], ◌∷◌, ◌++◌, length, take, drop, sym, ap, subst, arith, append_assoc, ◌-◌, inl, inr}
-use Rattle.std.specs.Prelude.{◌↔◌, ◌⊎◌}
-use Rattle.std.proofs.lemmas.List.{append-nil, length-append, length-take, take-append-drop, drop_at, take_rest}
-use Rattle.nbt_name.specs.Scope.{IsScope, empty, label}
+use Rattle.nbt_name.proofs.Common.{◌↔◌, ◌⊎◌, append-nil, length-append, length-take, take-append-drop, drop_at, take_rest, IsScope, empty, label}
 
 -- a label at the end
 pub IsScope-push : (scope octets : List ℕ) → IsScope scope → 1 ≤ length octets → length octets ≤ 63 → IsScope (scope ++ length octets ∷ octets)

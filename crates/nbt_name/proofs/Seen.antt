@@ -1,14 +1,6 @@
 -- What a reader sees at a spot is determined: one step, one fault, or the end. So no two paths from a place end differently.
 use Rattle.std.proofs.Common.{◌≡◌, ◌≢◌, ℕ, zero, suc, ◌+◌, ◌<◌, ◌≤◌, Bool, true, false, cond, eqb, ltb, leb, List, [], ◌∷◌, length, Option, Some, None, refl, ◌∙◌, arith, inl, inr, lt-ltb, le-ltb, le-leb, ne_eqb}
-use Rattle.std.specs.Prelude.{slice_get, slice_index, ◌⊎◌}
-use Rattle.std.proofs.lemmas.Bool.{lt-leb, cases_order, cases_lt}
-use Rattle.std.proofs.lemmas.List.{get_or_past}
-use Rattle.nbt_name.specs.declared.fault.NameFault.{NameFault}
-use Rattle.nbt_name.specs.declared.fault.NameFaultKind.{NameFaultKind}
-use Rattle.nbt_name.specs.declared.fault.NameFaultKind.TheVariants.{Short, BadLabel, BadHalf, BadPointer, Long}
-use Rattle.nbt_name.specs.declared.form.Form.{Form}
-use Rattle.nbt_name.specs.declared.form.Form.TheVariants.{Plain, Compressed}
-use Rattle.nbt_name.specs.Reading.{Spot, Finds, IsFirst, IsLater, IsLetter, LettersAt, target, past, led, Step, letters_pass, label_passes, pointer_leads, LetterFault, other_octet, octets_end, Stuck, missing, first_label_bad, letters_bad, label_bad, label_long, label_cut, pointer_plain, pointer_cut, pointer_onward}
+use Rattle.nbt_name.proofs.Common.{slice_get, slice_index, ◌⊎◌, lt-leb, cases_order, cases_lt, get_or_past, NameFault, NameFaultKind, Short, BadLabel, BadHalf, BadPointer, Long, Form, Plain, Compressed, Spot, Finds, IsFirst, IsLater, IsLetter, LettersAt, target, past, led, Step, letters_pass, label_passes, pointer_leads, LetterFault, other_octet, octets_end, Stuck, missing, first_label_bad, letters_bad, label_bad, label_long, label_cut, pointer_plain, pointer_cut, pointer_onward}
 
 pub data Sight : Type 0 where
   moves : Spot → Sight

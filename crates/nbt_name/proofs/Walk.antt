@@ -1,9 +1,7 @@
 -- Paths: one from each place to one end, and its steps.
 use Rattle.std.proofs.Common.{◌≡◌, ℕ, suc, List, refl, sym, ap, subst, ◌∙◌}
-use Rattle.nbt_name.specs.declared.fault.NameFault.{NameFault}
-use Rattle.nbt_name.specs.declared.form.Form.{Form}
-use Rattle.nbt_name.specs.declared.form.Form.TheVariants.{Plain, Compressed}
-use Rattle.nbt_name.specs.Reading.{Spot, Finds, IsLater, Step, letters_pass, label_passes, pointer_leads, Path, here, onward, steps_on, Stuck}
+use Rattle.nbt_name.proofs.Common.{NameFault, Form, Plain, Compressed, Spot, Finds, IsLater, Step, letters_pass, label_passes, pointer_leads, Path, here, onward, Stuck}
+use Rattle.nbt_name.specs.Reading.{steps_on}
 use Rattle.nbt_name.proofs.Seen.{moves, faults, ends, sight, step_seen, fault_seen, end_seen}
 
 -- a path and one more step

@@ -1,14 +1,9 @@
 -- Wire forms: none begins another, and what is passed on a path begins one.
-use Rattle.std.proofs.Common.{◌≡◌, ℕ, zero, suc, ◌+◌, ◌-◌, ◌*◌, ◌<◌, ◌≤◌, List, [], ◌∷◌, ◌++◌, length, take, drop, refl, sym, ap, subst, ◌∙◌, arith, append_assoc, inl, inr}
-use Rattle.std.specs.Prelude.{slice_range}
-use Rattle.std.proofs.lemmas.Bool.{cases_lt}
-use Rattle.std.proofs.lemmas.List.{length-append, length-take, length-drop, take_at, drop_at, get_or-take, get_or-drop, get_or_past, append-nil}
-use Rattle.nbt_name.specs.declared.form.Form.{Form}
-use Rattle.nbt_name.specs.Scope.{IsScope, empty, label}
-use Rattle.nbt_name.specs.Wire.{NameValue, IsName, AreOctets, letters, name_of, wire}
-use Rattle.nbt_name.specs.Reading.{Spot, LettersAt, Step, letters_pass, label_passes, pointer_leads, Path, here, onward}
-use Rattle.nbt_name.proofs.Letters.{length-letters, letters_spell, letters_apart, AreLetters}
+use Rattle.std.proofs.Common.{◌≡◌, ℕ, zero, suc, ◌+◌, ◌-◌, ◌*◌, ◌<◌, ◌≤◌, List, [], ◌∷◌, ◌++◌, length, take, drop, refl, sym, ap, subst, ◌∙◌, arith, append_assoc}
+use Rattle.nbt_name.proofs.Common.{slice_range, length-append, length-take, length-drop, take_at, drop_at, get_or-take, get_or-drop, append-nil, Form, IsScope, empty, label, NameValue, IsName, AreOctets, letters, name_of, wire, Spot, LettersAt, Step, letters_pass, label_passes, pointer_leads, Path, here, onward}
+use Rattle.nbt_name.proofs.Letters.{length-letters, letters_spell, letters_apart, octets_cons, AreLetters}
 use Rattle.nbt_name.proofs.Scopes.{IsScope-push}
+use Rattle.nbt_name.proofs.Fits.{octets_range}
 
 -- fronts of one length
 pub split_front : (us vs x y : List ℕ) → length us ≡ length vs → us ++ x ≡ vs ++ y → (us ≡ vs) × (x ≡ y)
@@ -39,10 +34,7 @@ wire_apart a b x y is_a is_b e =
     let parts = split_front (letters a.octets) (letters b.octets) (a.scope ++ 0 ∷ x) (b.scope ++ 0 ∷ y) count tails in
     let same_octets : a.octets ≡ b.octets = letters_apart a.octets b.octets (is_a.sixteen ∙ sym is_b.sixteen) parts.0 in
     let rest = scope_apart a.scope b.scope x y is_a.labels is_b.labels parts.1 in
-    (same_name a b same_octets rest.0, rest.1)
-  where
-    same_name : (m n : NameValue) → m.octets ≡ n.octets → m.scope ≡ n.scope → m ≡ n
-    same_name m n p q = λ i. record { octets = p i; scope = q i }
+    ((λ i. record { octets = same_octets i; scope = rest.0 i }), rest.1)
 
 -- What was passed: nothing, or the labels of a name.
 pub data IsPassed (passed : List ℕ) : Type 0 where
@@ -53,16 +45,6 @@ AreOctets-append : (xs ys : List ℕ) → AreOctets xs → AreOctets ys → AreO
 AreOctets-append [] ys fx fy k = fy k
 AreOctets-append (x ∷ xs) ys fx fy zero = fx zero
 AreOctets-append (x ∷ xs) ys fx fy (suc k) = AreOctets-append xs ys (λ i. fx (suc i)) fy k
-
-AreOctets-drop : (n : ℕ) (xs : List ℕ) → AreOctets xs → AreOctets (drop n xs)
-AreOctets-drop n xs fits k = rw get_or-drop (fits (n + k))
-
-AreOctets-take : (n : ℕ) (xs : List ℕ) → AreOctets xs → AreOctets (take n xs)
-AreOctets-take n xs fits k =
-    elim (cases_lt k n) [
-      | inl lt ↦ rw (get_or-take n xs k 0 lt) (fits k)
-      | inr le ↦ rw (get_or_past (take n xs) k 0 (omega (arith, length-take n xs))) (omega arith)
-    ]
 
 -- n octets from a place on, where they stand
 pub length-range : (octets : List ℕ) (p n : ℕ) → p + n ≤ length octets → length (slice_range octets p (p + n)) ≡ n
@@ -84,7 +66,7 @@ step_passed octets fits (label_passes n later finds low high room within) (nothi
 step_passed octets {s} fits (label_passes n later finds low high room within) (labels name is_name e) =
     let behind : List ℕ = slice_range octets (s.place + 1) (s.place + 1 + n) in
     let count : length behind ≡ n = length-range octets (s.place + 1) n within in
-    let all_fit : AreOctets behind = AreOctets-take ((s.place + 1 + n) - (s.place + 1)) (drop (s.place + 1) octets) (AreOctets-drop (s.place + 1) octets fits) in
+    let all_fit : AreOctets behind = octets_range octets (s.place + 1) (s.place + 1 + n) fits in
     let long : length s.passed ≡ 33 + length name.scope = ap length e ∙ (omega (arith, length-append (letters name.octets) name.scope, length-letters name.octets, is_name.sixteen)) in
     let scope_is : List ℕ = name.scope ++ n ∷ behind in
     labels (name_of name.octets (name.scope ++ n ∷ behind))
@@ -96,10 +78,6 @@ step_passed octets {s} fits (label_passes n later finds low high room within) (l
       scope_fits = AreOctets-append name.scope (n ∷ behind) is_name.scope_fits (octets_cons n behind (omega arith) all_fit);
     })
     (ap (λ (x : List ℕ). x ++ n ∷ behind) e ∙ ap (λ (x : List ℕ). 0x20 ∷ x) (append_assoc (letters name.octets) name.scope (n ∷ behind)))
-  where
-    octets_cons : (o : ℕ) (os : List ℕ) → o < 256 → AreOctets os → AreOctets (o ∷ os)
-    octets_cons o os small fit zero = small
-    octets_cons o os small fit (suc k) = fit k
 step_passed octets fits (pointer_leads high low compressed finds le at back) passed = passed
 
 pub path_passed : {form : Form} (octets : List ℕ) {s t : Spot} → AreOctets octets → Path form octets s t → IsPassed s.passed → IsPassed t.passed

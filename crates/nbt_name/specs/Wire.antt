@@ -28,7 +28,7 @@ pub record IsName (name : NameValue) : Type 0 where
 abbrev pub same_name : NameValue → NameValue → Bool
 same_name a b = bytes_eq a.octets b.octets && bytes_eq a.scope b.scope
 
--- The name begins with `*`, as no machine's does (RFC 1001 section 5.2); and the same as a test.
+-- The name begins with `*`, as no node's does (RFC 1001 section 5.2); and the same as a test.
 abbrev pub IsStar : NameValue → Type 0
 IsStar name = slice_index name.octets 0 ≡ 0x2A
 

@@ -1,6 +1,6 @@
-//! Where an end of the network is, and which kind of name it holds.
+//! Endpoints, and kinds of names.
 
-/// An end of the network: a 32-bit address (RFC 791) and a port.
+/// An endpoint: a 32-bit address (RFC 791) and a port.
 #[derive(Clone, Copy, Debug, PartialEq, Eq, PartialOrd, Ord, Hash)]
 pub struct Addr {
     /// The 32-bit address.
@@ -12,8 +12,8 @@ pub struct Addr {
 /// Who may hold a name (RFC 1001 section 5.2).
 #[derive(Clone, Copy, Debug, PartialEq, Eq, PartialOrd, Ord, Hash)]
 pub enum Kind {
-    /// One machine at a time.
+    /// One node at a time.
     Unique,
-    /// Any number of machines, as a group.
+    /// Any number of nodes, as a group.
     Group,
 }

@@ -1,4 +1,4 @@
-//! What a name's octets can have wrong, and where.
+//! What can be wrong with a name's octets, and where.
 
 ghost use Rattle.std.specs.Prelude.{◌≡◌, ◌↔◌, Some};
 ghost use Rattle.nbt_name.specs.declared.fault.NameFaultKind.{NameFaultKind};
@@ -49,7 +49,7 @@ impl NameFaultKind {
         }
     }
 
-    /// The kind of fault that a word names; `None` where it names none.
+    /// The kind of fault that a word names; `None` if it names none.
     pub fn from_word(word: &[u8]) -> Option<NameFaultKind>
         ensures { (kind : NameFaultKind) → (result ≡ Some kind) ↔ (word.now ≡ fault_word kind) }
     {
@@ -74,16 +74,16 @@ pub struct NameFault {
     pub place: usize,
 }
 
-/// Why sixteen octets and a scope make no name that a machine may hold (our profile's numbers and order).
+/// Why sixteen octets and a scope make no name that a node may hold (our profile's numbers and order).
 #[derive(Clone, Copy, Debug, PartialEq, Eq, Error)]
 pub enum NameRefusal {
-    /// 1: the first octet is `*` (0x2A), with which no machine's name begins (RFC 1001 section 5.2).
+    /// 1: the first octet is `*` (0x2A), with which no node's name begins (RFC 1001 section 5.2).
     #[error("Star")]
     Star,
     /// 2: the scope has more than 221 octets, so that the wire form would pass 255.
     #[error("ScopeLong")]
     ScopeLong,
-    /// 3: the scope is no row of labels of 1 to 63 octets, each after its length octet.
+    /// 3: the scope is no sequence of labels of 1 to 63 octets, each after its length octet.
     #[error("BadLabel")]
     BadLabel,
 }

@@ -10,7 +10,7 @@ use arrayvec::ArrayVec;
 use std::marker::Model;
 
 /// A NetBIOS name (RFC 1001 section 14): sixteen octets, the last of them mostly a service's number, and a scope of
-/// at most 221 octets. Two names are equal where their octets are, and their scopes' octets; the order is that of the
+/// at most 221 octets. Two names are equal if their octets are, and their scopes' octets; the order is that of the
 /// sixteen octets, then of the scope's.
 #[derive(Debug, PartialEq, Eq, PartialOrd, Ord, Hash, Drop)]
 pub struct Name {
@@ -35,9 +35,8 @@ impl Name {
     const STAR: u8 = 0x2A;
 
     /// The name of sixteen octets and a scope, given as its labels, each after its length octet, without the closing
-    /// zero. Refused in this order: `Star` (1) where the first octet is 0x2A; `ScopeLong` (2) where the scope has more
-    /// than 221 octets; `BadLabel` (3) where it is no row of labels of 1 to 63 octets. Our profile's order; RFC 1002
-    /// section 4.1.
+    /// zero. Refused in this order: `Star` (1) if the first octet is 0x2A; `ScopeLong` (2) if the scope has more than 221
+    /// octets; `BadLabel` (3) if it is no sequence of labels of 1 to 63 octets. Our profile's order; RFC 1002 section 4.1.
     pub fn new(octets: &[u8; 16], scope: &[u8]) -> Result<Name, NameRefusal>
         ensures found { IsOk result
             ↔ ((slice_index octets.now 0 ≢ 0x2A) × (length scope.now ≤ 221) × IsScope scope.now) }
@@ -145,8 +144,8 @@ impl Name {
         self.put_wire(out);
     }
 
-    /// Appends the wire form, 34 to 255 octets. That 255 have room is the caller's (RFC 1001 section 14, RFC 1002
-    /// section 4.1).
+    /// Appends the wire form, 34 to 255 octets. The caller must ensure that 255 fit (RFC 1001 section 14, RFC 1002 section
+    /// 4.1).
     pub fn put_wire<const CAP: usize>(&self, out: &mut ArrayVec<u8, CAP>)
         requires { length out.old.items + 255 ≤ CAP }
         ensures form { out.new.items ≡ out.old.items ++ wire self.now }

@@ -13,9 +13,9 @@ use crate::steps::Steps;
 use std::marker::Brand;
 use std::sync::ledger::{Blank, Ledger};
 
-/// Reads the plain name that stands at `place`, and returns it with the place after it. A pointer is a fault
-/// (`BadPointer`). The fault is the first one in reading order, with its place (RFC 1002 section 4.1). That `place` is
-/// at most the length is the caller's.
+/// Reads the plain name at `place`, and returns it with the place after it. A pointer is a fault (`BadPointer`). The fault is
+/// the first one in reading order, with its place (RFC 1002 section 4.1). The caller must ensure that `place` is at most the
+/// length.
 pub fn read_plain(octets: &[u8], place: usize) -> Result<(Name, usize), NameFault>
     requires { place ≤ length octets.now }
     ensures name { (name : NameValue) (next : ℕ) → (result ≡ Ok (name, next)) ↔ PlainNameAt octets.now place name next }
@@ -25,9 +25,9 @@ pub fn read_plain(octets: &[u8], place: usize) -> Result<(Name, usize), NameFaul
     read_uncounted::<Brand>(Form::Plain, octets, place, Blank::new(1))
 }
 
-/// Reads the name that stands at `place`, following pointers, and returns it with the place after it: after the first
-/// pointer, or after the closing zero where there is none. The fault is the first one in reading order, with its place
-/// (RFC 1002 section 4.1). That `place` is at most the length is the caller's.
+/// Reads the name at `place`, following pointers, and returns it with the place after it: after the first pointer, or after
+/// the closing zero if there is none. The fault is the first one in reading order, with its place (RFC 1002 section 4.1).
+/// The caller must ensure that `place` is at most the length.
 pub fn read_in(octets: &[u8], place: usize) -> Result<(Name, usize), NameFault>
     requires { place ≤ length octets.now }
     ensures name { (name : NameValue) (next : ℕ) → (result ≡ Ok (name, next)) ↔ NameAt octets.now place name next }
@@ -37,9 +37,9 @@ pub fn read_in(octets: &[u8], place: usize) -> Result<(Name, usize), NameFault>
     read_uncounted::<Brand>(Form::Compressed, octets, place, Blank::new(1))
 }
 
-/// What `read_in` does, in at most 112 steps for each octet and 112 more, whatever the octets are (our profile). A step
+/// Reads as `read_in` does, in at most 112 steps for each octet and 112 more, whatever the octets are (our profile). A step
 /// is a label passed, a pointer followed, or the closing zero. `steps` grows by exactly their number: by those on the way
-/// to the closing zero and by one for it, or, where the reading is refused, by those on the way to the fault.
+/// to the closing zero and by one for it, or by those on the way to the fault.
 pub fn read_in_counted<L: Ledger>(
     octets: &[u8],
     place: usize,
@@ -56,7 +56,7 @@ pub fn read_in_counted<L: Ledger>(
     read(Form::Compressed, octets, place, steps)
 }
 
-/// Reads a name in one of the two forms, where nobody counts the steps.
+/// Reads a name in one of the two forms, without counting the steps.
 fn read_uncounted<L: Ledger>(
     form: Form,
     octets: &[u8],

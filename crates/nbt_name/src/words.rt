@@ -6,7 +6,7 @@ ghost use Rattle.nbt_name.specs.Words.{word_at, long_at, word, long};
 use arrayvec::ArrayVec;
 use byteorder::{BigEndian, ByteOrder};
 
-/// The word of two octets that stands at `place`. That both stand there is the caller's (RFC 1002 section 4.2.1).
+/// The word of two octets at `place`. The caller must ensure that both exist (RFC 1002 section 4.2.1).
 pub fn read_word(octets: &[u8], place: usize) -> u16
     requires { place + 2 ≤ length octets.now }
     ensures { result ≡ word_at octets.now place }
@@ -14,8 +14,7 @@ pub fn read_word(octets: &[u8], place: usize) -> u16
     BigEndian::read_u16(&octets[place..])
 }
 
-/// The long word of four octets that stands at `place`. That all four stand there is the caller's (RFC 1002 section
-/// 4.2.1).
+/// The long word of four octets at `place`. The caller must ensure that all four exist (RFC 1002 section 4.2.1).
 pub fn read_long(octets: &[u8], place: usize) -> u32
     requires { place + 4 ≤ length octets.now }
     ensures { result ≡ long_at octets.now place }
@@ -23,7 +22,7 @@ pub fn read_long(octets: &[u8], place: usize) -> u32
     BigEndian::read_u32(&octets[place..])
 }
 
-/// Appends the two octets of a word. That they have room is the caller's (RFC 1002 section 4.2.1).
+/// Appends the two octets of a word. The caller must ensure that they fit (RFC 1002 section 4.2.1).
 pub fn put_word<const CAP: usize>(out: &mut ArrayVec<u8, CAP>, x: u16)
     requires { length out.old.items + 2 ≤ CAP }
     ensures { out.new.items ≡ out.old.items ++ word x }
@@ -33,7 +32,7 @@ pub fn put_word<const CAP: usize>(out: &mut ArrayVec<u8, CAP>, x: u16)
     out.try_extend_from_slice(&octets).unwrap();
 }
 
-/// Appends the four octets of a long word. That they have room is the caller's (RFC 1002 section 4.2.1).
+/// Appends the four octets of a long word. The caller must ensure that they fit (RFC 1002 section 4.2.1).
 pub fn put_long<const CAP: usize>(out: &mut ArrayVec<u8, CAP>, x: u32)
     requires { length out.old.items + 4 ≤ CAP }
     ensures { out.new.items ≡ out.old.items ++ long x }

@@ -5,15 +5,15 @@ use Rattle.nbt_name.specs.declared.addr.Addr.{Addr}
 use Rattle.nbt_lease.specs.Config.{milliseconds}
 use Rattle.nbt_server.specs.Serving.{ServerValue}
 use Rattle.nbt_server.specs.Calls.{ServerStarts}
-use Rattle.nbt_engine.specs.Udp.{UdpValue, MachineTells}
-use Rattle.nbt_journal.specs.Dates.{second_at}
-use Rattle.nbt_journal.specs.Limiting.{LimiterValue}
-use Rattle.nbt_journal.specs.declared.dates.Dates.{Dates}
+use Rattle.nbt_port.specs.Udp.{UdpValue, MachineTells}
+use Rattle.nbt_log.specs.Dates.{second_at}
+use Rattle.nbt_log.specs.Limiting.{LimiterValue}
+use Rattle.nbt_log.specs.declared.dates.Dates.{Dates}
 use Rattle.nbt_nbns.specs.Begin.{IsBegin}
-use Rattle.nbt_nbns.specs.Here.{Nbns, Begins, log_of, leases_of}
+use Rattle.nbt_nbns.specs.Running.{Nbns, Begins, log_of, leases_of}
 use Rattle.nbt_nbns.specs.Keeping.{KeeperValue}
 use Rattle.nbt_nbns.specs.Places.{FileValue}
-use Rattle.nbt_nbns.specs.declared.here.NbnsArguments.{NbnsArguments}
+use Rattle.nbt_nbns.specs.declared.running.NbnsArguments.{NbnsArguments}
 use Rattle.nbt_nbns.specs.declared.journal.Journal.{Journal}
 
 -- what a server and its journal are at first

@@ -1,7 +1,13 @@
 -- What several proofs share; the proof of a function is in the folder of its module and its name.
 
--- one turn, by what its port, its clock and its server returned
+-- turns of a server, and one of them by what its port, its clock and its server returned
+pub mod Running
+pub mod Taking
+pub mod OneServerTurn
 mod OneTurn
+-- what a message that is read says, and what is taken for a registration
+pub mod SambaReading
+pub mod SambaTaken
 -- a server and what watches it begin, over this machine
 mod Beginning
 -- what became of a look at the leases

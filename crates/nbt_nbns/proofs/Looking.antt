@@ -1,8 +1,8 @@
 -- What became of a look at the leases, by the parts of who keeps their list.
 use Rattle.std.proofs.Common.{◌≡◌, ◌≢◌, ℕ, List, Option, Some, sym, ap, subst, ◌∙◌}
 use Rattle.nbt_lease.specs.Lease.{Rows}
-use Rattle.nbt_journal.specs.Leases.{PrintsLeases}
-use Rattle.nbt_journal.specs.declared.dates.Dates.{Dates}
+use Rattle.nbt_log.specs.Leases.{PrintsLeases}
+use Rattle.nbt_log.specs.declared.dates.Dates.{Dates}
 use Rattle.nbt_nbns.specs.Keeping.{KeeperValue, IsDue, Keeps, early, same, written, failed}
 use Rattle.nbt_nbns.specs.declared.keeper.Kept.TheVariants as k
 

@@ -4,7 +4,7 @@ use Rattle.std.specs.Fmt.{decimal}
 use Rattle.nbt_name.specs.declared.addr.Addr.{Addr}
 use Rattle.nbt_text.specs.Address.{address_text}
 use Rattle.nbt_text.specs.Lines.{newline}
-use Rattle.nbt_journal.specs.Dates.{IsTimeText}
+use Rattle.nbt_log.specs.Dates.{IsTimeText}
 
 -- where it serves, for how long it is silent, and until when
 abbrev pub IsBegin : Addr → (silent until : ℕ) → List ℕ → Type 0

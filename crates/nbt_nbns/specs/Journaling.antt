@@ -3,9 +3,9 @@ use Rattle.std.specs.Prelude.{◌≡◌, ℕ, List, Option, Some, None}
 use Rattle.std.specs.Io.KnownBytes.{Appends}
 use Rattle.nbt_lease.specs.Lease.{Rows}
 use Rattle.nbt_server.specs.Serving.{ServerValue}
-use Rattle.nbt_journal.specs.Dates.{followed}
-use Rattle.nbt_journal.specs.Limiting.{LimiterValue}
-use Rattle.nbt_journal.specs.declared.dates.Dates.{Dates}
+use Rattle.nbt_log.specs.Dates.{followed}
+use Rattle.nbt_log.specs.Limiting.{LimiterValue}
+use Rattle.nbt_log.specs.declared.dates.Dates.{Dates}
 use Rattle.nbt_nbns.specs.Keeping.{KeeperValue, Keeps}
 use Rattle.nbt_nbns.specs.Logging.{Logs}
 use Rattle.nbt_nbns.specs.declared.journal.Journal.{Journal}

@@ -2,8 +2,8 @@
 use Rattle.std.specs.Prelude.{◌≡◌, ◌≢◌, ℕ, ◌+◌, ◌≤◌, ⊤, List, Option, Some, None, String}
 use Rattle.std.specs.String.{string_bytes}
 use Rattle.nbt_lease.specs.Lease.{Rows}
-use Rattle.nbt_journal.specs.Leases.{PrintsLeases}
-use Rattle.nbt_journal.specs.declared.dates.Dates.{Dates}
+use Rattle.nbt_log.specs.Leases.{PrintsLeases}
+use Rattle.nbt_log.specs.declared.dates.Dates.{Dates}
 use Rattle.nbt_nbns.specs.declared.keeper.Kept.{Kept}
 use Rattle.nbt_nbns.specs.declared.keeper.Kept.TheVariants as k
 use Rattle.nbt_nbns.specs.declared.keeper.TheConstants.{SECOND}

@@ -1,9 +1,14 @@
 pub mod Begin
-pub mod Here
+pub mod Inner
 pub mod Journaling
 pub mod Keeping
 pub mod Limits
 pub mod Logging
+pub mod OneAnswer
 pub mod Places
+pub mod Running
+pub mod Samba
+pub mod SambaPort
+pub mod Serving
 pub mod Turning
 pub mod Watching

@@ -2,11 +2,11 @@
 use Rattle.std.specs.Prelude.{◌≡◌, ℕ, Bool, true, false, List, [], Option, Some, None}
 use Rattle.nbt_server.specs.declared.outcome.Outcome.{Outcome}
 use Rattle.nbt_server.specs.declared.outcome.Outcome.TheVariants as o
-use Rattle.nbt_journal.specs.Dates.{second_at}
-use Rattle.nbt_journal.specs.Limiting.{LimiterValue, Limits}
-use Rattle.nbt_journal.specs.Lines.{IsLine}
-use Rattle.nbt_journal.specs.declared.dates.Dates.{Dates}
-use Rattle.nbt_journal.specs.declared.entry.Entry.{Entry}
+use Rattle.nbt_log.specs.Dates.{second_at}
+use Rattle.nbt_log.specs.Limiting.{LimiterValue, Limits}
+use Rattle.nbt_log.specs.Lines.{IsLine}
+use Rattle.nbt_log.specs.declared.dates.Dates.{Dates}
+use Rattle.nbt_log.specs.declared.entry.Entry.{Entry}
 
 -- a datagram that was no request to a server
 abbrev pub is_stranger : Outcome → Bool

@@ -3,9 +3,9 @@ use Rattle.std.specs.Prelude.{◌≡◌, ℕ, List, length, Option, Some, None}
 use Rattle.nbt_server.specs.Serving.{ServerValue}
 use Rattle.nbt_server.specs.Outcomes.{IsDone}
 use Rattle.nbt_server.specs.declared.outcome.Outcome.{Outcome}
-use Rattle.nbt_engine.specs.PortCalls.{PortCall, Chain}
-use Rattle.nbt_engine.specs.Serving.{Turn, acts_in, moments_in, Turns, passes, takes, goes_back, has_no_memory}
-use Rattle.nbt_journal.specs.declared.entry.Entry.{Entry}
+use Rattle.nbt_port.specs.PortCalls.{PortCall, Chain}
+use Rattle.nbt_nbns.specs.Serving.{Turn, acts_in, moments_in, Turns, passes, takes, goes_back, has_no_memory}
+use Rattle.nbt_log.specs.declared.entry.Entry.{Entry}
 
 -- What the log has of a turn: nothing, where no datagram came or it was lost; else its sender, its length, and what the server did.
 abbrev pub IsLogged : {old new : ServerValue} {turn : Turn} → Turns old turn new → Option Entry → Type 0

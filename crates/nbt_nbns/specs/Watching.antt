@@ -1,11 +1,11 @@
 -- A name server that stays up, and is watched (our profile).
 use Rattle.std.specs.Prelude.{◌≡◌, ℕ, List, Option}
 use Rattle.nbt_server.specs.Serving.{ServerValue}
-use Rattle.nbt_engine.specs.PortCalls.{PortCall}
-use Rattle.nbt_engine.specs.Serving.{Breaks}
-use Rattle.nbt_net.specs.Staying.{StaysUntil, GivesUp}
-use Rattle.nbt_net.specs.Until.{IsOver}
-use Rattle.nbt_net.specs.declared.limits.TheConstants.{FOREVER}
+use Rattle.nbt_port.specs.PortCalls.{PortCall}
+use Rattle.nbt_nbns.specs.Serving.{Breaks}
+use Rattle.nbt_port.specs.Staying.{StaysUntil, GivesUp}
+use Rattle.nbt_port.specs.Until.{IsOver}
+use Rattle.nbt_port.specs.declared.limits.TheConstants.{FOREVER}
 use Rattle.nbt_nbns.specs.Turning.{WatchesTurn}
 use Rattle.nbt_nbns.specs.declared.staying.Shown.{Shown}
 

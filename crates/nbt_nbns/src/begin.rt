@@ -4,7 +4,7 @@ ghost use Rattle.std.specs.Prelude.{◌≡◌, ◌++◌, ℕ, List, OnOk};
 ghost use Rattle.std.specs.String.{string_bytes};
 ghost use Rattle.nbt_nbns.specs.Begin.{IsBegin};
 
-use nbt_journal::write_time;
+use nbt_log::write_time;
 use nbt_name::Addr;
 use nbt_text::{end_line, write_address};
 use std::alloc::AllocError;

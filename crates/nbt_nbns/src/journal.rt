@@ -6,9 +6,9 @@ use crate::keeper::Keeper;
 use crate::logger::Logger;
 use crate::place::Place;
 use crate::staying::{Shown, Watcher};
-use nbt_engine::Clock;
-use nbt_journal::Dates;
 use nbt_lease::Moment;
+use nbt_log::Dates;
+use nbt_port::Clock;
 use nbt_server::Server;
 use std::io::Write;
 

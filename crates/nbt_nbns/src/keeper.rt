@@ -2,13 +2,13 @@
 
 ghost use Rattle.std.specs.Prelude.{◌≡◌, ◌↔◌, Some, IsTrue, IfOk, MatchResult};
 ghost use Rattle.std.specs.String.{string_bytes};
-ghost use Rattle.nbt_journal.specs.Leases.{PrintsLeases};
+ghost use Rattle.nbt_log.specs.Leases.{PrintsLeases};
 ghost use Rattle.nbt_nbns.specs.Keeping.{IsDue, Keeps, new_keeper, text_of};
 
 use crate::complaint::Complaint;
 use crate::place::Place;
-use nbt_journal::{Dates, write_leases};
 use nbt_lease::{Lease, Moment};
+use nbt_log::{Dates, write_leases};
 use nbt_name::Name;
 use nbt_server::Server;
 use std::alloc::{AllocError, Global};

@@ -1,20 +1,28 @@
-//! A name server that stays up: it logs what it made of each datagram, and keeps the list of its live leases in a file (RFC 1002
-//! section 5.1.4; the log, the file and the limits are our profile's).
+//! A name server over a port and a clock, turn by turn (RFC 1002 section 5.1.4), and one that stays up: it logs what it made of each
+//! datagram, and keeps the list of its live leases in a file (the log, the file and the limits are our profile's).
+//!
+//! A [`SambaPort`] has Samba's requests come as registrations (our profile). nmbd registers the names of its machine by OPCODE 15,
+//! as a machine with several addresses does; RFC 1002 section 4.2.1.1 doesn't list that OPCODE. The server of Samba's domain
+//! controllers registers its groups with RD clear, which is an overwrite (RFC 1002 section 4.2.3). Both become registrations (RFC
+//! 1002 section 4.2.2) by one octet of their flags.
 #![tactic(auto)]
 
 mod begin;
 mod complaint;
-mod here;
 mod journal;
 mod keeper;
+pub mod laws;
 mod limits;
 mod logger;
 mod place;
+mod running;
+mod samba;
+mod samba_port;
+mod serving;
 mod staying;
 mod turn;
 
 pub use begin::write_begin;
-pub use here::{NbnsArguments, run_nbns};
 pub use journal::Journal;
 pub use keeper::{Keeper, Kept};
 pub use limits::{
@@ -22,5 +30,9 @@ pub use limits::{
 };
 pub use logger::Logger;
 pub use place::{FilePlace, MemoryPlace, Place};
+pub use running::{NbnsArguments, run_nbns};
+pub use samba::take_registration;
+pub use samba_port::SambaPort;
+pub use serving::{Counts, serve_turns};
 pub use staying::{Shown, Watcher, watch_on};
 pub use turn::watched_turn;

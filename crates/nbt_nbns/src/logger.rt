@@ -7,7 +7,7 @@ ghost use Rattle.nbt_nbns.specs.Logging.{is_stranger, Logs};
 
 use crate::complaint::Complaint;
 use crate::staying::Shown;
-use nbt_journal::{Dates, Limiter, write_entry};
+use nbt_log::{Dates, Limiter, write_entry};
 use nbt_server::Outcome;
 use std::alloc::{AllocError, Global};
 use std::io;
@@ -24,7 +24,7 @@ pub struct Logger {
 }
 
 impl Model for Logger {
-    ghost use Rattle.nbt_journal.specs.Limiting.{LimiterValue};
+    ghost use Rattle.nbt_log.specs.Limiting.{LimiterValue};
 
     ghost Value = { LimiterValue };
 

@@ -2,18 +2,17 @@
 
 ghost use Rattle.std.specs.Prelude.{ℕ, List, Option, ◌<◌, ◌≤◌, ◌^◌, IfOk, IfErr, OnOk, OnErr};
 ghost use Rattle.nbt_server.specs.Serving.{ServerValue};
-ghost use Rattle.nbt_engine.specs.PortCalls.{CountsFailure};
-ghost use Rattle.nbt_engine.specs.Serving.{Breaks};
+ghost use Rattle.nbt_port.specs.PortCalls.{CountsFailure};
+ghost use Rattle.nbt_nbns.specs.Serving.{Breaks};
 ghost use Rattle.nbt_nbns.specs.declared.staying.Shown.{Shown};
-ghost use Rattle.nbt_net.specs.Staying.{StaysUntil, EndsEarly};
+ghost use Rattle.nbt_port.specs.Staying.{StaysUntil, EndsEarly};
 ghost use Rattle.nbt_nbns.specs.Watching.{ShowsTurn, WatchesOn, WatchesLast, BreaksWatching};
 
 use crate::turn::watched_turn;
 use arrayvec::ArrayVec;
-use nbt_engine::{Clock, Device, Fault, Port};
-use nbt_journal::Entry;
 use nbt_lease::Moment;
-use nbt_net::{FOREVER, Turn, Turned, is_over, stay_up, tell_end_of};
+use nbt_log::Entry;
+use nbt_port::{Clock, Device, FOREVER, Fault, Port, Turn, Turned, is_over, stay_up, tell_end_of};
 use nbt_server::Server;
 use std::io::Write;
 use std::time;

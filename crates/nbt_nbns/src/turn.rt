@@ -1,16 +1,16 @@
 //! One turn of a name server, and what it did in it.
 
 ghost use Rattle.std.specs.Prelude.{◌≡◌, ◌<◌, ◌^◌, IfOk, OnErr};
-ghost use Rattle.nbt_engine.specs.PortCalls.{CountsFailure};
-ghost use Rattle.nbt_engine.specs.Serving.{Breaks};
+ghost use Rattle.nbt_port.specs.PortCalls.{CountsFailure};
+ghost use Rattle.nbt_nbns.specs.Serving.{Breaks};
 ghost use Rattle.nbt_nbns.specs.Turning.{WatchesTurn};
 
 use arrayvec::ArrayVec;
-use nbt_engine::{Clock, Device, Port};
-use nbt_journal::Entry;
+use nbt_log::Entry;
+use nbt_port::{Clock, Device, Port};
 use nbt_server::Server;
 
-/// The server goes through one turn, as `nbt_engine::serve_turns` does, and what it did with the datagram that came is returned:
+/// The server goes through one turn, as [`serve_turns`](crate::serve_turns) does, and what it did with the datagram that came is returned:
 /// `None` where none came, and where it was lost. `octets` and `reply` are buffers of the turn. Refused with `Device` at the
 /// first call of the port that fails: the server is then as after the datagram that came.
 pub fn watched_turn<P: Port, C: Clock>(

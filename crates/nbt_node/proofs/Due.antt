@@ -1,6 +1,7 @@
 -- The first slot that has something due.
 use Rattle.std.proofs.Common.{◌≡◌, ℕ, Bool, true, false, List, [], ◌∷◌, Option, Some, None, refl, sym, ap, subst, ◌∙◌, inl, inr}
 use Rattle.std.specs.Prelude.{is_some, IfSome}
+use Rattle.std.proofs.lemmas.Bool.{true≢false, false≢true}
 use Rattle.nbt_name.specs.Wire.{NameValue}
 use Rattle.nbt_node.specs.declared.polling.Sending.{Sending}
 use Rattle.nbt_node.specs.declared.state.State.{State}
@@ -16,12 +17,9 @@ use Rattle.nbt_node.proofs.Known.{slot_tells}
 module _ (life now own id : ℕ) where
   first_here : (name : NameValue) (state : State) → is_due life now state ≡ true → (rest : List (Option Slot)) → first_due life now (slot_of name state ∷ rest) ≡ Some (record { name = name; state = state })
   first_here name state due rest = elim (slot_tells name state) [
-    | inl idle ↦ absurd (never (sym due ∙ ap (is_due life now) idle.0))
+    | inl idle ↦ absurd (true≢false (sym due ∙ ap (is_due life now) idle.0))
     | inr kept ↦ rw (kept.1, due) refl
   ]
-    where
-      never : true ≡ false → ⊥
-      never e = cc
 
   pub due_slot : (kept : Slot) (state : State) (sending : Option Sending) → state ≡ settled life now kept.state → is_some sending ≡ is_due life now state
       → IfSome sending (λ s. IsSending life now own id kept.name state s)
@@ -36,9 +34,6 @@ known_due life now [] slot apart first = absurd cc
 known_due life now (None ∷ rest) slot apart first = known_due life now rest slot apart first
 known_due life now (Some s ∷ rest) slot apart first = go (is_due life now s.state) refl (known_due life now rest slot apart.1)
   where
-    clash : false ≡ true → ⊥
-    clash e = cc
-
     go : (b : Bool) → is_due life now s.state ≡ b → (first_due life now rest ≡ Some slot → (state_in rest slot.name ≡ slot.state) × (is_in rest slot.name ≡ true))
         → (state_in (Some s ∷ rest) slot.name ≡ slot.state) × (is_in (Some s ∷ rest) slot.name ≡ true)
     go true due behind =
@@ -47,6 +42,6 @@ known_due life now (Some s ∷ rest) slot apart first = go (is_due life now s.st
     go false due behind =
         let found = behind (rw due at first) in
         elim (name_tells s.name slot.name) [
-          | inl same ↦ absurd (clash (sym apart.0 ∙ ap (λ (n : NameValue). is_in rest n) same.1 ∙ found.1))
+          | inl same ↦ absurd (false≢true (sym apart.0 ∙ ap (λ (n : NameValue). is_in rest n) same.1 ∙ found.1))
           | inr other ↦ rw other.0 found
         ]

@@ -1,10 +1,12 @@
 -- What is known of each name after a change of the slots.
-use Rattle.std.proofs.Common.{◌≡◌, ◌≢◌, ℕ, zero, ◌<◌, Bool, true, false, cond, List, [], ◌∷◌, length, map, suc, get_or, Option, Some, None, refl, sym, ap, subst, ◌∙◌, arith, inl, inr}
+use Rattle.std.proofs.Common.{◌≡◌, ◌≢◌, ℕ, zero, ◌<◌, true, false, cond, List, [], ◌∷◌, length, map, suc, get_or, Option, Some, None, refl, sym, ap, subst, ◌∙◌, arith, inl, inr}
 use Rattle.std.specs.Prelude.{◌⊎◌, ◌||◌, replicate}
+use Rattle.std.proofs.lemmas.Bool.{cond_both, or_parts, or_from, false≢true}
+use Rattle.std.proofs.lemmas.List.{ext_get_or, get_or-replicate, length-replicate}
 use Rattle.nbt_name.specs.Wire.{NameValue, same_name}
 use Rattle.nbt_name.proofs.Same.{same_name-same, same_name-other, name_tells}
 use Rattle.nbt_node.specs.declared.state.State.{State}
-use Rattle.nbt_node.specs.declared.state.State.TheVariants.{Idle, Asking, Held, Releasing, Resting}
+use Rattle.nbt_node.specs.declared.state.State.TheVariants.{Idle}
 use Rattle.nbt_node.specs.declared.state.Slot.{Slot}
 use Rattle.nbt_node.specs.Settling.{settled}
 use Rattle.nbt_node.specs.Node.{is_named, is_in, has_room, AreDistinct, state_in, slot_of, put, take_slot, with_state, settled_slot}
@@ -13,17 +15,7 @@ use Rattle.nbt_node.specs.Node.{is_named, is_in, has_room, AreDistinct, state_in
 
 pub slot_tells : (n : NameValue) (state : State) → ((state ≡ Idle) × (slot_of n state ≡ None)) ⊎ ((state ≢ Idle) × (slot_of n state ≡ Some (record { name = n; state = state })))
 slot_tells n Idle = inl (refl, refl)
-slot_tells n (Asking kind ttl last p) = inr (λ e. cc, refl)
-slot_tells n (Held kind ttl until renew last pending) = inr (λ e. cc, refl)
-slot_tells n (Releasing kind last p) = inr (λ e. cc, refl)
-slot_tells n (Resting last) = inr (λ e. cc, refl)
-
-or_false : (a b : Bool) → (a || b) ≡ false → (a ≡ false) × (b ≡ false)
-or_false true b e = absurd cc
-or_false false b e = (refl, e)
-
-or_none : (a b : Bool) → a ≡ false → b ≡ false → (a || b) ≡ false
-or_none a b e f = rw (e, f) refl
+slot_tells n _ = inr (λ e. cc, refl)
 
 -- a slot of another name, or of one that is Idle, tells nothing of a name
 skips : (slot : Option Slot) (rest : List (Option Slot)) (q : NameValue) → is_named slot q ≡ false → state_in (slot ∷ rest) q ≡ state_in rest q
@@ -32,7 +24,7 @@ skips (Some s) rest q other = rw other refl
 
 not_in_step : (slot : Option Slot) (rest : List (Option Slot)) (q : NameValue) → is_named slot q ≡ false → is_in rest q ≡ false → is_in (slot ∷ rest) q ≡ false
 not_in_step None rest q other out = out
-not_in_step (Some s) rest q other out = or_none (same_name s.name q) (is_in rest q) other out
+not_in_step (Some s) rest q other out = or_from (same_name s.name q) (is_in rest q) other out
 
 slot_of-other : (n : NameValue) (state : State) (q : NameValue) → same_name n q ≡ false → is_named (slot_of n state) q ≡ false
 slot_of-other n state q other = elim (slot_tells n state) [ inl idle ↦ rw idle.1 refl | inr kept ↦ rw kept.1 other ]
@@ -40,15 +32,12 @@ slot_of-other n state q other = elim (slot_tells n state) [ inl idle ↦ rw idle
 pub absent : (xs : List (Option Slot)) (q : NameValue) → is_in xs q ≡ false → state_in xs q ≡ Idle
 absent [] q out = refl
 absent (None ∷ rest) q out = absent rest q out
-absent (Some s ∷ rest) q out = let parts = or_false (same_name s.name q) (is_in rest q) out in rw parts.0 (absent rest q parts.1)
+absent (Some s ∷ rest) q out = let parts = or_parts (same_name s.name q) (is_in rest q) out in rw parts.0 (absent rest q parts.1)
 
 -- a slot before slots that don't have its name
 distinct_step : (n : NameValue) (state : State) (rest : List (Option Slot)) → is_in rest n ≡ false → AreDistinct rest → AreDistinct (slot_of n state ∷ rest)
 distinct_step n Idle rest out apart = apart
-distinct_step n (Asking kind ttl last p) rest out apart = (out, apart)
-distinct_step n (Held kind ttl until renew last pending) rest out apart = (out, apart)
-distinct_step n (Releasing kind last p) rest out apart = (out, apart)
-distinct_step n (Resting last) rest out apart = (out, apart)
+distinct_step n _ rest out apart = (out, apart)
 
 -- ---- time
 
@@ -57,7 +46,7 @@ module _ (life now : ℕ) where
   is_in-settled [] q out = refl
   is_in-settled (None ∷ rest) q out = is_in-settled rest q out
   is_in-settled (Some s ∷ rest) q out =
-      let parts = or_false (same_name s.name q) (is_in rest q) out in
+      let parts = or_parts (same_name s.name q) (is_in rest q) out in
       not_in_step (slot_of s.name (settled life now s.state)) (map (settled_slot life now) rest) q (slot_of-other s.name (settled life now s.state) q parts.0) (is_in-settled rest q parts.1)
 
   pub distinct-settled : (xs : List (Option Slot)) → AreDistinct xs → AreDistinct (map (settled_slot life now) xs)
@@ -138,22 +127,14 @@ put-same (Some s ∷ rest) name state apart there = elim (name_tells s.name name
   | inr other ↦ rw (other.0, other.0) (put-same rest name state apart.1 (rw other.0 at there))
 ]
 
--- a name without a slot is not put anywhere
-pub put-absent : (xs : List (Option Slot)) (name : NameValue) (state : State) → is_in xs name ≡ false → put xs name state ≡ xs
-put-absent [] name state out = refl
-put-absent (None ∷ rest) name state out = ap (λ (ys : List (Option Slot)). None ∷ ys) (put-absent rest name state out)
-put-absent (Some s ∷ rest) name state out =
-    let parts = or_false (same_name s.name name) (is_in rest name) out in
-    rw parts.0 (ap (λ (ys : List (Option Slot)). Some s ∷ ys) (put-absent rest name state parts.1))
-
 is_in-put : (xs : List (Option Slot)) (name : NameValue) (state : State) (q : NameValue) → is_in xs q ≡ false → is_in (put xs name state) q ≡ false
 is_in-put [] name state q out = refl
 is_in-put (None ∷ rest) name state q out = is_in-put rest name state q out
 is_in-put (Some s ∷ rest) name state q out =
-    let parts = or_false (same_name s.name q) (is_in rest q) out in
+    let parts = or_parts (same_name s.name q) (is_in rest q) out in
     elim (name_tells s.name name) [
       | inl same ↦ rw same.0 (not_in_step (slot_of name state) rest q (slot_of-other name state q (subst (λ (n : NameValue). same_name n q ≡ false) same.1 parts.0)) parts.1)
-      | inr other ↦ rw other.0 (or_none (same_name s.name q) (is_in (put rest name state) q) parts.0 (is_in-put rest name state q parts.1))
+      | inr other ↦ rw other.0 (or_from (same_name s.name q) (is_in (put rest name state) q) parts.0 (is_in-put rest name state q parts.1))
     ]
 
 pub distinct-put : (xs : List (Option Slot)) (name : NameValue) (state : State) → AreDistinct xs → AreDistinct (put xs name state)
@@ -175,26 +156,23 @@ pub take-same : (xs : List (Option Slot)) (name : NameValue) (state : State) →
 take-same [] name state out room = absurd cc
 take-same (None ∷ rest) name state out room = own_slot name state rest out
 take-same (Some s ∷ rest) name state out room =
-    let parts = or_false (same_name s.name name) (is_in rest name) out in
+    let parts = or_parts (same_name s.name name) (is_in rest name) out in
     rw parts.0 (take-same rest name state parts.1 room)
 
 is_in-take : (xs : List (Option Slot)) (name : NameValue) (state : State) (q : NameValue) → q ≢ name → is_in xs q ≡ false → is_in (take_slot xs name state) q ≡ false
 is_in-take [] name state q ne out = refl
 is_in-take (None ∷ rest) name state q ne out = not_in_step (slot_of name state) rest q (slot_of-other name state q (same_name-other name q (λ e. ne (sym e)))) out
 is_in-take (Some s ∷ rest) name state q ne out =
-    let parts = or_false (same_name s.name q) (is_in rest q) out in
-    or_none (same_name s.name q) (is_in (take_slot rest name state) q) parts.0 (is_in-take rest name state q ne parts.1)
+    let parts = or_parts (same_name s.name q) (is_in rest q) out in
+    or_from (same_name s.name q) (is_in (take_slot rest name state) q) parts.0 (is_in-take rest name state q ne parts.1)
 
 pub distinct-take : (xs : List (Option Slot)) (name : NameValue) (state : State) → is_in xs name ≡ false → AreDistinct xs → AreDistinct (take_slot xs name state)
 distinct-take [] name state out apart = tt
 distinct-take (None ∷ rest) name state out apart = distinct_step name state rest out apart
 distinct-take (Some s ∷ rest) name state out apart =
-    let parts = or_false (same_name s.name name) (is_in rest name) out in
-    let ne : s.name ≢ name = λ e. differ (sym parts.0 ∙ ap (λ (n : NameValue). same_name s.name n) (sym e) ∙ same_name-same s.name) in
+    let parts = or_parts (same_name s.name name) (is_in rest name) out in
+    let ne : s.name ≢ name = λ e. false≢true (sym parts.0 ∙ ap (λ (n : NameValue). same_name s.name n) (sym e) ∙ same_name-same s.name) in
     (is_in-take rest name state s.name ne apart.0, distinct-take rest name state parts.1 apart.1)
-  where
-    differ : false ≡ true → ⊥
-    differ e = cc
 
 -- Idle, put into a free slot, changes nothing
 pub take-idle : (xs : List (Option Slot)) (name : NameValue) → take_slot xs name Idle ≡ xs
@@ -219,54 +197,31 @@ length-take_slot (Some s ∷ rest) name state = ap suc (length-take_slot rest na
 
 -- ---- the slots once a name has another state
 
-pub changed_slots : (xs ys zs : List (Option Slot)) (name : NameValue) (state : State) → false ≡ is_in xs name → ys ≡ put xs name state → zs ≡ take_slot ys name state → zs ≡ with_state xs name state
-changed_slots xs ys zs name state out put_is take_is =
-    take_is ∙ ap (λ (ws : List (Option Slot)). take_slot ws name state) (put_is ∙ put-absent xs name state (sym out)) ∙ sym (rw (sym out) refl)
-
 pub distinct-with_state : (xs : List (Option Slot)) (name : NameValue) (state : State) → AreDistinct xs → AreDistinct (with_state xs name state)
-distinct-with_state xs name state apart = go (is_in xs name) refl
-  where
-    go : (b : Bool) → is_in xs name ≡ b → AreDistinct (cond b (put xs name state) (take_slot xs name state))
-    go true e = distinct-put xs name state apart
-    go false e = distinct-take xs name state e apart
+distinct-with_state xs name state apart = cond_both (is_in xs name) (put xs name state) (take_slot xs name state) AreDistinct (λ e. distinct-put xs name state apart) (λ e. distinct-take xs name state e apart)
 
 pub length-with_state : (xs : List (Option Slot)) (name : NameValue) (state : State) → length (with_state xs name state) ≡ length xs
-length-with_state xs name state = go (is_in xs name)
-  where
-    go : (b : Bool) → length (cond b (put xs name state) (take_slot xs name state)) ≡ length xs
-    go true = length-put xs name state
-    go false = length-take_slot xs name state
+length-with_state xs name state = cond_both (is_in xs name) (put xs name state) (take_slot xs name state) (λ ys. length ys ≡ length xs) (λ e. length-put xs name state) (λ e. length-take_slot xs name state)
 
 pub with_state-other : (xs : List (Option Slot)) (name : NameValue) (state : State) (q : NameValue) → q ≢ name → state_in (with_state xs name state) q ≡ state_in xs q
-with_state-other xs name state q ne = go (is_in xs name)
-  where
-    go : (b : Bool) → state_in (cond b (put xs name state) (take_slot xs name state)) q ≡ state_in xs q
-    go true = put-other xs name state q ne
-    go false = take-other xs name state q ne
+with_state-other xs name state q ne =
+    cond_both (is_in xs name) (put xs name state) (take_slot xs name state) (λ ys. state_in ys q ≡ state_in xs q) (λ e. put-other xs name state q ne) (λ e. take-other xs name state q ne)
 
 -- the name has a slot, or there is room for one, or it needs none
 pub with_state-same : (xs : List (Option Slot)) (name : NameValue) (state : State) → AreDistinct xs → (is_in xs name ≡ false → (has_room xs ≡ true) ⊎ (state ≡ Idle)) → state_in (with_state xs name state) name ≡ state
-with_state-same xs name state apart room = go (is_in xs name) refl
+with_state-same xs name state apart room =
+    cond_both (is_in xs name) (put xs name state) (take_slot xs name state) (λ ys. state_in ys name ≡ state) (λ e. put-same xs name state apart e) (λ e. free e (room e))
   where
     free : is_in xs name ≡ false → (has_room xs ≡ true) ⊎ (state ≡ Idle) → state_in (take_slot xs name state) name ≡ state
     free out (inl some) = take-same xs name state out some
     free out (inr idle) = rw idle (ap (λ (ys : List (Option Slot)). state_in ys name) (take-idle xs name) ∙ absent xs name out)
 
-    go : (b : Bool) → is_in xs name ≡ b → state_in (cond b (put xs name state) (take_slot xs name state)) name ≡ state
-    go true e = put-same xs name state apart e
-    go false e = free e (room e)
-
 -- ---- slots that are all free
 
-all_free_of : (xs : List (Option Slot)) → ((i : ℕ) → i < length xs → get_or xs i None ≡ None) → xs ≡ replicate (length xs) None
-all_free_of [] each = refl
-all_free_of (x ∷ xs) each =
-    let first : x ≡ None = each 0 (omega arith) in
-    let others : xs ≡ replicate (length xs) None = all_free_of xs (λ i h. each (suc i) (omega arith)) in
-    cc
-
 pub all_free : (xs : List (Option Slot)) (n : ℕ) → length xs ≡ n → ((i : ℕ) → i < n → get_or xs i None ≡ None) → xs ≡ replicate n None
-all_free xs n count each = all_free_of xs (λ i h. each i (omega arith)) ∙ ap (λ (k : ℕ). replicate k None) count
+all_free xs n count each =
+    ext_get_or None xs (replicate n None) (count ∙ sym (length-replicate {A = Option Slot} n None))
+    (λ i within. each i (omega (arith, count, within)) ∙ sym (get_or-replicate {A = Option Slot} n i None None (omega (arith, count, within))))
 
 distinct-free : (n : ℕ) → AreDistinct (replicate n None)
 distinct-free zero = tt

@@ -3,6 +3,7 @@ use Rattle.std.proofs.Common.{◌≡◌, ◌≢◌, ℕ, ◌+◌, ◌<◌, ◌�
 use Rattle.std.specs.Prelude.{◌⊎◌, ◌||◌, nat_lt, nat_le, MatchOption}
 use Rattle.std.proofs.lemmas.List.{length-map}
 use Rattle.std.proofs.Math.Nat.{le_trans}
+use Rattle.std.proofs.lemmas.Bool.{or_parts}
 use Rattle.nbt_name.specs.declared.addr.Addr.{Addr}
 use Rattle.nbt_name.specs.declared.addr.Kind.{Kind}
 use Rattle.nbt_name.specs.Wire.{NameValue}
@@ -12,57 +13,59 @@ use Rattle.nbt_node.specs.declared.fault.AskFault.TheVariants as fault
 use Rattle.nbt_node.specs.declared.lookup.Lookup.{Lookup}
 use Rattle.nbt_node.specs.declared.polling.Sending.{Sending}
 use Rattle.nbt_node.specs.declared.state.State.{State}
-use Rattle.nbt_node.specs.declared.state.State.TheVariants.{Idle, Asking, Held, Releasing, Resting}
+use Rattle.nbt_node.specs.declared.state.State.TheVariants.{Idle}
 use Rattle.nbt_node.specs.declared.state.Slot.{Slot}
 use Rattle.nbt_node.specs.Settling.{settled}
-use Rattle.nbt_node.specs.Node.{NodeValue, IsNode, is_in, has_room, AreDistinct, AreAwake, state_in, state_of, with_state, settled_slot, state_at, changed, settled_node}
+use Rattle.nbt_node.specs.Inner.Keeping.{AreAwake, IsNode}
+use Rattle.nbt_node.specs.Node.{NodeValue, is_in, has_room, AreDistinct, state_in, state_of, with_state, settled_slot, state_at, changed, settled_node}
 use Rattle.nbt_node.specs.Transaction.{next_due}
-use Rattle.nbt_node.specs.Moves.{NameEvent, ask, poll, hear, nothing, Told, Move, NameMoves, asks, gives_back, asks_again, gives_back_again, refreshes_again, refreshes, granted_to, renewed_to, refused_to, loses_asked, loses_held, freed, asking_waits, giving_back_waits, refresh_waits, unmoved}
+use Rattle.nbt_node.specs.Moves.{NameEvent, ask, poll, hear, nothing, Told, Move, NameMoves, asks, unmoved}
 use Rattle.nbt_packet.specs.Spelling.{AreWritten}
 use Rattle.nbt_node.specs.Calls.{is_busy, is_quiet, ask_refusal, question, LooksUp, slot_due, lookup_due, due_lookup, Polls, polls_name, polls_lookup, polls_nothing}
 use Rattle.nbt_node.specs.Datagrams.{same_end, NodeHears, from_server, from_stranger, ends, Ends, is_answered, is_unanswered}
-use Rattle.nbt_node.specs.EachName.{ByTimeAlone, OthersByTimeAlone}
 use Rattle.nbt_node.specs.Inner.Sending.{IsSending}
 use Rattle.nbt_node.proofs.Due.{known_due}
 use Rattle.nbt_node.proofs.Awake.{awake-settled, awake-with_state}
 use Rattle.nbt_node.proofs.Known.{absent, distinct-settled, state_in-settled, distinct-with_state, length-with_state, with_state-other, with_state-same}
 
--- what the node keeps, it keeps
+-- what the node keeps, it keeps: where time alone passes, and where a name has another state then
+pub settles : (old new : NodeValue) (count life now : ℕ) (xs ys : List (Option Slot)) → IsNode count old → old.slots ≡ xs → new.slots ≡ ys → ys ≡ map (settled_slot life now) xs
+    → new.start ≡ old.start → new.last ≡ now → old.last ≤ now → IsNode count new
+settles old new count life now xs ys is old_is new_is settled_is start_is last_is later = record {
+  slots_at_most = is.slots_at_most;
+  slots_at_least = is.slots_at_least;
+  count_is = ap length (new_is ∙ settled_is) ∙ length-map xs (settled_slot life now) ∙ ap length (sym old_is) ∙ is.count_is;
+  apart = subst AreDistinct (sym (new_is ∙ settled_is)) (distinct-settled life now xs (subst AreDistinct old_is is.apart));
+  awake = subst AreAwake (sym (new_is ∙ settled_is)) (awake-settled life now xs);
+  since = rw (start_is, last_is) (le_trans is.since later);
+}
+
 pub keeps : (old new : NodeValue) (count life now : ℕ) (xs ys zs : List (Option Slot)) (name : NameValue) (state : State) → IsNode count old → old.slots ≡ xs → new.slots ≡ zs
     → ys ≡ map (settled_slot life now) xs → zs ≡ with_state ys name state → new.start ≡ old.start → new.last ≡ now → old.last ≤ now → IsNode count new
-keeps old new count life now xs ys zs name state is old_is new_is settles changes start_is last_is later =
-    let apart : AreDistinct xs = subst AreDistinct old_is is.apart in
-    let apart_then : AreDistinct ys = rw settles (distinct-settled life now xs apart) in
+keeps old new count life now xs ys zs name state is old_is new_is settled_is changes start_is last_is later =
+    let mid : NodeValue = record new { slots = ys } in
+    let then_is : IsNode count mid = settles old mid count life now xs ys is old_is refl settled_is start_is last_is later in
     record {
       slots_at_most = is.slots_at_most;
       slots_at_least = is.slots_at_least;
-      count_is = ap length (new_is ∙ changes) ∙ length-with_state ys name state ∙ ap length settles ∙ length-map xs (settled_slot life now) ∙ ap length (sym old_is) ∙ is.count_is;
-      apart = subst AreDistinct (sym (new_is ∙ changes)) (distinct-with_state ys name state apart_then);
-      awake = subst AreAwake (sym (new_is ∙ changes)) (awake-with_state ys name state (subst AreAwake (sym settles) (awake-settled life now xs)));
-      since = rw (start_is, last_is) (le_trans is.since later);
+      count_is = ap length (new_is ∙ changes) ∙ length-with_state ys name state ∙ then_is.count_is;
+      apart = subst AreDistinct (sym (new_is ∙ changes)) (distinct-with_state ys name state then_is.apart);
+      awake = subst AreAwake (sym (new_is ∙ changes)) (awake-with_state ys name state then_is.awake);
+      since = then_is.since;
     }
 
 -- ---- what becomes of each name
+
+-- only time has passed
+abbrev pub ByTimeAlone : NodeValue → ℕ → NodeValue → Type 0
+ByTimeAlone old now new = (q : NameValue) → state_of new q ≡ state_at old now q
 
 -- a name that is Idle stays so, unless it is asked for
 from_idle : (node : NodeValue) (now : ℕ) (name : NameValue) (before : State) (event : NameEvent) (after : State) (sent : Option MessageValue) (told : Told) (next : ℕ) → Move node now name before event after sent told next
     → before ≡ Idle → ((kind : Kind) (ttl : ℕ) → event ≢ ask kind ttl) → after ≡ Idle
 from_idle node now name _ _ _ _ _ _ (asks kind ttl rested) idle other = absurd (other kind ttl refl)
-from_idle node now name _ _ _ _ _ _ (gives_back kind ttl until renew last pending) idle other = absurd cc
-from_idle node now name _ _ _ _ _ _ (asks_again kind ttl last p ready) idle other = absurd cc
-from_idle node now name _ _ _ _ _ _ (gives_back_again kind last p ready) idle other = absurd cc
-from_idle node now name _ _ _ _ _ _ (refreshes_again kind ttl until renew last p ready) idle other = absurd cc
-from_idle node now name _ _ _ _ _ _ (refreshes kind ttl until renew last ready rested) idle other = absurd cc
-from_idle node now name _ _ _ _ _ _ (granted_to kind ttl last p r same) idle other = absurd cc
-from_idle node now name _ _ _ _ _ _ (renewed_to kind ttl until renew last p r same) idle other = absurd cc
-from_idle node now name _ _ _ _ _ _ (refused_to kind ttl last rcode p r same bad) idle other = absurd cc
-from_idle node now name _ _ _ _ _ _ (loses_asked kind ttl last p r differs) idle other = absurd cc
-from_idle node now name _ _ _ _ _ _ (loses_held kind ttl until renew last rcode pending r bad why) idle other = absurd cc
-from_idle node now name _ _ _ _ _ _ (freed kind last rcode p n k a) idle other = absurd cc
-from_idle node now name _ _ _ _ _ _ (asking_waits kind ttl last p n t) idle other = absurd cc
-from_idle node now name _ _ _ _ _ _ (giving_back_waits kind last p n t) idle other = absurd cc
-from_idle node now name _ _ _ _ _ _ (refresh_waits kind ttl until renew last p n t) idle other = absurd cc
 from_idle node now name _ _ _ _ _ _ (unmoved state message out) idle other = idle
+from_idle node now name _ _ _ _ _ _ _ idle other = absurd cc
 
 module _ (old new : NodeValue) (now : ℕ) (name : NameValue) (event : NameEvent) (sent : Option MessageValue) (told : Told) where
   -- a move of one name is the node's
@@ -76,7 +79,7 @@ module _ (old new : NodeValue) (now : ℕ) (name : NameValue) (event : NameEvent
       }
 
   -- every other name changes by time alone
-  pub others_by_time : NameMoves old now name event new sent told → AreDistinct old.slots → OthersByTimeAlone old now name new
+  pub others_by_time : NameMoves old now name event new sent told → AreDistinct old.slots → (q : NameValue) → q ≢ name → state_of new q ≡ state_at old now q
   others_by_time moves apart q ne =
       ap (λ (n : NodeValue). state_in n.slots q) moves.node
       ∙ with_state-other (map (settled_slot old.config.life now) old.slots) name (settled old.config.life now moves.after) q ne
@@ -118,16 +121,9 @@ none_of : {X : Type 0} (b : Bool) (x : X) (o : Option X) → None ≡ cond b (So
 none_of true x o e = absurd cc
 none_of false x o e = (refl, e)
 
-or_false : (a b : Bool) → (a || b) ≡ false → (a ≡ false) × (b ≡ false)
-or_false true b e = absurd cc
-or_false false b e = (refl, e)
-
 neither_is_idle : (state : State) → is_busy state ≡ false → is_quiet state ≡ false → state ≡ Idle
 neither_is_idle Idle busy rests = refl
-neither_is_idle (Asking kind ttl last p) busy rests = absurd cc
-neither_is_idle (Held kind ttl until renew last pending) busy rests = absurd cc
-neither_is_idle (Releasing kind last p) busy rests = absurd cc
-neither_is_idle (Resting last) busy rests = absurd cc
+neither_is_idle _ busy rests = absurd cc
 
 pub may_ask : (node : NodeValue) (now : ℕ) (name : NameValue) → None ≡ ask_refusal node now name → MayAsk node now name
 may_ask node now name e =
@@ -135,32 +131,18 @@ may_ask node now name e =
     let star = none_of _ _ _ clock.1 in
     let busy = none_of (is_busy (state_at node now name)) _ _ star.1 in
     let rests = none_of (is_quiet (state_at node now name) || nat_le now (node.start + quiet node.config.life)) _ _ busy.1 in
-    let still = or_false (is_quiet (state_at node now name)) (nat_le now (node.start + quiet node.config.life)) rests.0 in
+    let still = or_parts (is_quiet (state_at node now name)) (nat_le now (node.start + quiet node.config.life)) rests.0 in
     record {
       idle = neither_is_idle (state_at node now name) busy.0 still.0;
-      rested = above now (node.start + quiet node.config.life) still.1;
+      rested = leb-false now (node.start + quiet node.config.life) still.1;
       room = roomy (has_room (map (settled_slot node.config.life now) node.slots)) rests.1;
     }
   where
-    above : (a b : ℕ) → nat_le a b ≡ false → b < a
-    above a b e = leb-false a b e
-
     roomy : (b : Bool) → None ≡ cond b None (Some fault.Full) → b ≡ true
     roomy true e = refl
     roomy false e = absurd cc
 
 -- ---- time alone
-
-pub settles : (old new : NodeValue) (count life now : ℕ) (xs ys : List (Option Slot)) → IsNode count old → old.slots ≡ xs → new.slots ≡ ys → ys ≡ map (settled_slot life now) xs
-    → new.start ≡ old.start → new.last ≡ now → old.last ≤ now → IsNode count new
-settles old new count life now xs ys is old_is new_is settled_is start_is last_is later = record {
-  slots_at_most = is.slots_at_most;
-  slots_at_least = is.slots_at_least;
-  count_is = ap length (new_is ∙ settled_is) ∙ length-map xs (settled_slot life now) ∙ ap length (sym old_is) ∙ is.count_is;
-  apart = subst AreDistinct (sym (new_is ∙ settled_is)) (distinct-settled life now xs (subst AreDistinct old_is is.apart));
-  awake = subst AreAwake (sym (new_is ∙ settled_is)) (awake-settled life now xs);
-  since = rw (start_is, last_is) (le_trans is.since later);
-}
 
 -- every name, where only time has passed; and no name has two slots
 pub by_time : (old new : NodeValue) (now : ℕ) → new.slots ≡ (settled_node old now).slots → AreDistinct old.slots → ByTimeAlone old now new
@@ -219,13 +201,12 @@ pub ignored : (old inside new : NodeValue) (now : ℕ) (from : Addr) (name : Nam
 ignored old inside new now from name message inside_is stranger new_is =
     from_stranger new (ap (λ (n : NodeValue). same_end from n.server) (sym inside_is) ∙ sym stranger) new_is
 
-pub heard : (old inside new : NodeValue) (now : ℕ) (from : Addr) (name : NameValue) (message : MessageValue) → inside ≡ old → true ≡ same_end from inside.server → (state after : State) (told : Told) → state ≡ state_at old now name
-    → Move old now name state (hear message) after None told old.next_id → new ≡ changed old now name after inside.next_id → NodeHears old now from name message new None told
-heard old inside new now from name message inside_is server state after told state_is move new_is =
-    let move_at : Move old now name (state_at old now name) (hear message) after None told old.next_id = rw (← state_is) move in
+pub heard : (old inside new : NodeValue) (now : ℕ) (from : Addr) (name : NameValue) (message : MessageValue) → inside ≡ old → true ≡ same_end from inside.server → (after : State) (told : Told)
+    → Move old now name (state_at old now name) (hear message) after None told old.next_id → new ≡ changed old now name after inside.next_id → NodeHears old now from name message new None told
+heard old inside new now from name message inside_is server after told move new_is =
     let whole : new ≡ changed old now name after old.next_id = new_is ∙ ap (λ (n : NodeValue). changed old now name after n.next_id) inside_is in
     from_server new told (ap (λ (n : NodeValue). same_end from n.server) (sym inside_is) ∙ sym server)
-    (name_moves old new now name (hear message) None told after old.next_id move_at whole)
+    (name_moves old new now name (hear message) None told after old.next_id move whole)
 
 -- ---- what may end the lookup: the node as the code has it open is the settled one
 

@@ -1,22 +1,20 @@
 -- What a call of a node does is determined.
 use Rattle.std.proofs.Common.{◌≡◌, ℕ, ◌+◌, true, false, List, Option, Some, None, refl, sym, ap, subst, ◌∙◌}
+use Rattle.std.proofs.lemmas.Option.{same_Some}
 use Rattle.nbt_name.specs.declared.addr.Addr.{Addr}
 use Rattle.nbt_name.specs.Wire.{NameValue}
-use Rattle.nbt_packet.specs.Message.{MessageValue, registration, overwrite, refresh, release, query, status_request, registered, released, found, not_found, status, wait}
+use Rattle.nbt_packet.specs.Message.{MessageValue, status_request, registered, released, found, not_found, status, wait}
 use Rattle.nbt_packet.specs.Text.{text}
 use Rattle.nbt_packet.specs.Spelling.{Spells, AreWritten}
 use Rattle.nbt_node.specs.declared.lookup.Lookup.{Lookup}
 use Rattle.nbt_node.specs.declared.lookup.Wanted.{Wanted}
 use Rattle.nbt_node.specs.declared.state.Slot.{Slot}
-use Rattle.nbt_node.specs.Node.{NodeValue, state_at, changed}
+use Rattle.nbt_node.specs.Node.{NodeValue, settled_node, state_at, changed}
 use Rattle.nbt_node.specs.Transaction.{next_due}
 use Rattle.nbt_node.specs.Moves.{NameEvent, poll, hear, Told, nothing, finds, finds_none, lists, NameMoves}
-use Rattle.nbt_node.specs.Calls.{Sends, question, with_lookup, Opens, Polls, polls_name, polls_lookup, polls_nothing}
+use Rattle.nbt_node.specs.Calls.{Sends, question, Opens, Polls, polls_name, polls_lookup, polls_nothing}
 use Rattle.nbt_node.specs.Datagrams.{NodeHears, from_server, from_stranger, Lists, lists_names, lists_nothing, Ends, is_answered, is_unanswered, Idles, idles, NodeTakes, NodeTakesOctets, spelled, unspelled, Handles}
 use Rattle.nbt_node.proofs.OneMove.{one_outcome}
-
-same_some : {X : Type 0} (x y : X) (o : Option X) → o ≡ Some x → o ≡ Some y → x ≡ y
-same_some x y o a b = let e : ◌≡◌ (Some x) (Some y) = sym a ∙ b in cc
 
 not_both : {X : Type 0} (x : X) (o : Option X) → o ≡ None → o ≡ Some x → ⊥
 not_both x o a b = let e : ◌≡◌ None (Some x) = sym a ∙ b in cc
@@ -24,6 +22,16 @@ not_both x o a b = let e : ◌≡◌ None (Some x) = sym a ∙ b in cc
 one_written : (m : Option MessageValue) (x y : List ℕ) → AreWritten m x → AreWritten m y → x ≡ y
 one_written None x y a b = a ∙ sym b
 one_written (Some message) x y a b = a.0 ∙ sym b.0
+
+-- the laws, by which others prove theirs
+abbrev pub OneSending : Type 0
+OneSending = (old a b : NodeValue) (now : ℕ) (name : NameValue) (event : NameEvent) (x y : List ℕ) → Sends old now name event a x → Sends old now name event b y → (a ≡ b) × (x ≡ y)
+
+abbrev pub OnePoll : Type 0
+OnePoll = (old a b : NodeValue) (now : ℕ) (to other : Option Addr) (x y : List ℕ) → Polls old now a to x → Polls old now b other y → (a ≡ b) × (to ≡ other) × (x ≡ y)
+
+abbrev pub OneHandling : Type 0
+OneHandling = (old a b : NodeValue) (now : ℕ) (from : Addr) (octets : List ℕ) (t u : Told) (x y : List ℕ) → Handles old now from octets a t x → Handles old now from octets b u y → (a ≡ b) × (t ≡ u) × (x ≡ y)
 
 module _ (old : NodeValue) (now : ℕ) where
   one_name_moves : (name : NameValue) (event : NameEvent) (a b : NodeValue) (m n : Option MessageValue) (t u : Told) → NameMoves old now name event a m t → NameMoves old now name event b n u → (a ≡ b) × (m ≡ n) × (t ≡ u)
@@ -43,15 +51,15 @@ module _ (old : NodeValue) (now : ℕ) where
 
   pub one_poll : (a b : NodeValue) (to other : Option Addr) (x y : List ℕ) → Polls old now a to x → Polls old now b other y → (a ≡ b) × (to ≡ other) × (x ≡ y)
   one_poll _ _ _ _ _ _ (polls_name s a x due sends) (polls_name t b y seen also) =
-      let is : s ≡ t = same_some s t _ due seen in
+      let is : s ≡ t = same_Some s t (sym due ∙ seen) in
       let same = one_sending t.name poll a b x y (subst (λ (slot : Slot). Sends old now slot.name poll a x) is sends) also in
       (same.0, refl, same.1)
   one_poll _ _ _ _ _ _ (polls_name s a x due sends) (polls_lookup l b y quiet seen looks written) = absurd (not_both s _ quiet due)
   one_poll _ _ _ _ _ _ (polls_name s a x due sends) (polls_nothing b quiet ended passes) = absurd (not_both s _ quiet due)
   one_poll _ _ _ _ _ _ (polls_lookup l a x quiet due looks written) (polls_name t b y seen also) = absurd (not_both t _ quiet seen)
   one_poll _ _ _ _ _ _ (polls_lookup l a x quiet due looks written) (polls_lookup k b y _ seen also wrote) =
-      let is : l ≡ k = same_some l k _ due seen in (
-        looks ∙ ap (λ (q : Lookup). with_lookup old now (Some (record q { tries = q.tries + 1; due = next_due now })) old.next_id) is ∙ sym also,
+      let is : l ≡ k = same_Some l k (sym due ∙ seen) in (
+        looks ∙ ap (λ (q : Lookup). let n : NodeValue = record (settled_node old now) { lookup = Some (record q { tries = q.tries + 1; due = next_due now }); next_id = old.next_id } in n) is ∙ sym also,
         ap (λ (q : Lookup). Some q.to) is,
         written.0 ∙ ap (λ (q : Lookup). text (question q)) is ∙ sym wrote.0,
       )
@@ -84,11 +92,6 @@ module _ (old : NodeValue) (now : ℕ) where
   one_idling _ _ _ _ _ _ (idles a passes) (idles b also) = (passes ∙ sym also, refl, refl)
 
   one_taking : (from : Addr) (message : MessageValue) (a b : NodeValue) (m n : Option MessageValue) (t u : Told) → NodeTakes old now from message a m t → NodeTakes old now from message b n u → (a ≡ b) × (m ≡ n) × (t ≡ u)
-  one_taking from (registration r) a b m n t u x y = one_idling a b m n t u x y
-  one_taking from (overwrite r) a b m n t u x y = one_idling a b m n t u x y
-  one_taking from (refresh r) a b m n t u x y = one_idling a b m n t u x y
-  one_taking from (release id name kind addr) a b m n t u x y = one_idling a b m n t u x y
-  one_taking from (query id name) a b m n t u x y = one_idling a b m n t u x y
   one_taking from (status_request id name) a b m n t u x y = one_listing id name a b m n t u x y
   one_taking from (registered rcode r) a b m n t u x y = one_hearing from r.name (registered rcode r) a b m n t u x y
   one_taking from (released id rcode name kind addr) a b m n t u x y = one_hearing from name (released id rcode name kind addr) a b m n t u x y
@@ -96,6 +99,7 @@ module _ (old : NodeValue) (now : ℕ) where
   one_taking from (not_found id rcode name) a b m n t u x y = one_ending from (not_found id rcode name) finds_none a b m n t u x y
   one_taking from (status id name names) a b m n t u x y = one_ending from (status id name names) (lists names) a b m n t u x y
   one_taking from (wait id name ttl) a b m n t u x y = one_hearing from name (wait id name ttl) a b m n t u x y
+  one_taking from _ a b m n t u x y = one_idling a b m n t u x y
 
   -- ---- octets, which spell one message at most
 

@@ -1,6 +1,7 @@
 -- No two lines of the table of moves are about one event on one state.
 use Rattle.std.proofs.Common.{◌≡◌, ◌≢◌, ℕ, Bool, true, false, cond, eqb, Option, Some, None, refl, sym, ap, ◌∙◌, inl, inr, eq-eqb, ne_eqb}
-use Rattle.std.specs.Prelude.{◌⊎◌, ◌||◌, if◌then◌else◌, nat_eq}
+use Rattle.std.specs.Prelude.{◌⊎◌, if◌then◌else◌, nat_eq}
+use Rattle.std.proofs.lemmas.Bool.{or_parts}
 use Rattle.nbt_name.specs.declared.addr.Kind.{Kind}
 use Rattle.nbt_name.specs.Wire.{NameValue}
 use Rattle.nbt_packet.specs.declared.message.Registration.{Registration}
@@ -10,7 +11,7 @@ use Rattle.nbt_node.specs.declared.state.State.TheVariants.{Idle, Asking, Held, 
 use Rattle.nbt_node.specs.declared.transaction.Transaction.{Transaction}
 use Rattle.nbt_node.specs.Node.{NodeValue}
 use Rattle.nbt_node.specs.Transaction.{opened, again, put_off, wait_until}
-use Rattle.nbt_node.specs.Moves.{Move, NameEvent, ask, give_back, poll, hear, Told, nothing, is_granted, is_renewed, is_refused, is_lost, is_freed, waits, id_after, claim, has_id, matters, granted_by, held_for, asks, gives_back, asks_again, gives_back_again, refreshes_again, refreshes, granted_to, renewed_to, refused_to, loses_asked, loses_held, freed, asking_waits, giving_back_waits, refresh_waits, unmoved}
+use Rattle.nbt_node.specs.Moves.{Move, NameEvent, ask, give_back, poll, hear, Told, nothing, is_granted, is_renewed, is_refused, is_lost, is_freed, waits, id_after, claim, has_id, matters, granted_by, held_for, granted_to, renewed_to, refused_to, loses_asked, loses_held, freed, asking_waits, giving_back_waits, refresh_waits, unmoved}
 
 -- what comes of an event, as far as a line is about it
 record Outcome : Type 0 where
@@ -57,19 +58,15 @@ module _ (node : NodeValue) (now : ℕ) (name : NameValue) where
   outcome (hear message) state = on_reply state message
   outcome event state = now_in state None nothing
 
-  or_false : (a b : Bool) → (a || b) ≡ false → (a ≡ false) × (b ≡ false)
-  or_false true b e = absurd cc
-  or_false false b e = (refl, e)
-
   same_id : (n : ℕ) → eqb n n ≡ true
   same_id n = eq-eqb n n refl
 
   -- a reply that doesn't matter
   still : (state : State) (message : MessageValue) → matters state message ≡ false → on_reply state message ≡ now_in state None nothing
-  still (Asking kind ttl last p) (registered rcode r) e = let parts = or_false (eqb r.id p.id) (eqb rcode 7) e in rw (parts.0, parts.1) refl
+  still (Asking kind ttl last p) (registered rcode r) e = let parts = or_parts (eqb r.id p.id) (eqb rcode 7) e in rw (parts.0, parts.1) refl
   still (Asking kind ttl last p) (wait w n t) e = rw e refl
   still (Held kind ttl until renew last None) (registered rcode r) e = rw e refl
-  still (Held kind ttl until renew last (Some p)) (registered rcode r) e = let parts = or_false (eqb r.id p.id) (eqb rcode 7) e in rw (parts.0, parts.1) refl
+  still (Held kind ttl until renew last (Some p)) (registered rcode r) e = let parts = or_parts (eqb r.id p.id) (eqb rcode 7) e in rw (parts.0, parts.1) refl
   still (Held kind ttl until renew last (Some p)) (wait w n t) e = rw e refl
   still (Releasing kind last p) (released w rcode n k a) e = rw e refl
   still (Releasing kind last p) (wait w n t) e = rw e refl
@@ -89,12 +86,6 @@ module _ (node : NodeValue) (now : ℕ) (name : NameValue) where
 
   is_outcome : (before : State) (event : NameEvent) (after : State) (sent : Option MessageValue) (told : Told) (next : ℕ) → Move node now name before event after sent told next
       → outcome event before ≡ record { state = after; sent = sent; told = told; next = next }
-  is_outcome _ _ _ _ _ _ (asks kind ttl rested) = refl
-  is_outcome _ _ _ _ _ _ (gives_back kind ttl until renew last pending) = refl
-  is_outcome _ _ _ _ _ _ (asks_again kind ttl last p ready) = refl
-  is_outcome _ _ _ _ _ _ (gives_back_again kind last p ready) = refl
-  is_outcome _ _ _ _ _ _ (refreshes_again kind ttl until renew last p ready) = refl
-  is_outcome _ _ _ _ _ _ (refreshes kind ttl until renew last ready rested) = refl
   is_outcome _ _ _ _ _ _ (granted_to kind ttl last p r same) = rw (eq-eqb r.id p.id same) refl
   is_outcome _ _ _ _ _ _ (renewed_to kind ttl until renew last p r same) = rw (eq-eqb r.id p.id same) refl
   is_outcome _ _ _ _ _ _ (refused_to kind ttl last rcode p r same bad) = rw (eq-eqb r.id p.id same, ne_eqb rcode 0 bad) refl
@@ -105,6 +96,7 @@ module _ (node : NodeValue) (now : ℕ) (name : NameValue) where
   is_outcome _ _ _ _ _ _ (giving_back_waits kind last p n t) = rw (same_id p.id) refl
   is_outcome _ _ _ _ _ _ (refresh_waits kind ttl until renew last p n t) = rw (same_id p.id) refl
   is_outcome _ _ _ _ _ _ (unmoved state message out) = still state message out
+  is_outcome _ _ _ _ _ _ _ = refl
 
   pub one_outcome : (before : State) (event : NameEvent) (a b : State) (m n : Option MessageValue) (t u : Told) (i j : ℕ) → Move node now name before event a m t i → Move node now name before event b n u j
       → (a ≡ b) × (m ≡ n) × (t ≡ u) × (i ≡ j)

@@ -1,46 +1,64 @@
--- Where a name's slot is, and what putting a state there changes.
-use Rattle.std.proofs.Common.{◌≡◌, ℕ, suc, ◌<◌, Bool, true, false, cond, List, ◌∷◌, ◌++◌, length, take, drop, get_or, set, Option, Some, None, refl, sym, ap, subst, ◌∙◌}
+-- Where a name's slot is, or the lowest free one, and what a state that is put there changes.
+use Rattle.std.proofs.Common.{◌≡◌, ℕ, zero, suc, ◌<◌, true, false, Bool, List, [], ◌∷◌, length, get_or, set, Option, Some, None, refl, sym, ap, arith, inl, inr}
 use Rattle.std.specs.Prelude.{is_none}
-use Rattle.std.proofs.Math.Seq.{drop-cons}
-use Rattle.std.proofs.lemmas.List.{set_split}
-use Rattle.nbt_name.specs.Wire.{NameValue}
+use Rattle.std.specs.List.{position, position_or_len}
+use Rattle.std.proofs.lemmas.Bool.{cases_lt, lt-ltb, or_from}
+use Rattle.std.proofs.lemmas.List.Quantifiers.{position-Some}
+use Rattle.std.proofs.lemmas.List.Sums.{fails_before_first}
+use Rattle.nbt_name.specs.Wire.{NameValue, same_name}
 use Rattle.nbt_node.specs.declared.state.State.{State}
 use Rattle.nbt_node.specs.declared.state.Slot.{Slot}
-use Rattle.nbt_node.specs.Node.{is_named, slot_of, put, take_slot}
+use Rattle.nbt_node.specs.Node.{is_named, is_in, slot_of, put, take_slot, with_state}
 
-put_here : (slot : Option Slot) (rest : List (Option Slot)) (name : NameValue) (state : State) → true ≡ is_named slot name → put (slot ∷ rest) name state ≡ slot_of name state ∷ rest
-put_here None rest name state here = absurd cc
-put_here (Some s) rest name state here = rw (sym here)
+-- where nothing passes a test, it fails at each place
+fails_everywhere : (test : Option Slot → Bool) (xs : List (Option Slot)) → position test xs ≡ None → (k : ℕ) → k < length xs → test (get_or xs k None) ≡ false
+fails_everywhere test xs none k within =
+    elim (cases_lt (position_or_len test xs) (length xs)) [
+      | inl less ↦ absurd (let e : Some (position_or_len test xs) ≡ None = rw (lt-ltb (position_or_len test xs) (length xs) less) at none in cc)
+      | inr all ↦ fails_before_first test xs k None (omega (arith, within, all))
+    ]
 
-take_here : (slot : Option Slot) (rest : List (Option Slot)) (name : NameValue) (state : State) → true ≡ is_none slot → take_slot (slot ∷ rest) name state ≡ slot_of name state ∷ rest
-take_here None rest name state here = refl
-take_here (Some s) rest name state here = absurd cc
+module _ (name : NameValue) (state : State) where
+  put_at : (xs : List (Option Slot)) (i : ℕ) → i < length xs → is_named (get_or xs i None) name ≡ true → ((k : ℕ) → k < i → is_named (get_or xs k None) name ≡ false)
+      → (is_in xs name ≡ true) × (put xs name state ≡ set xs i (slot_of name state))
+  put_at [] i within here before = absurd (omega arith)
+  put_at (None ∷ rest) zero within here before = absurd cc
+  put_at (None ∷ rest) (suc i) within here before =
+      let behind = put_at rest i (omega arith) here (λ k less. before (suc k) (omega arith)) in
+      (behind.0, ap (λ (ys : List (Option Slot)). None ∷ ys) behind.1)
+  put_at (Some s ∷ rest) zero within here before = rw here (refl, refl)
+  put_at (Some s ∷ rest) (suc i) within here before =
+      let behind = put_at rest i (omega arith) here (λ k less. before (suc k) (omega arith)) in
+      rw (before 0 (omega arith)) (behind.0, ap (λ (ys : List (Option Slot)). Some s ∷ ys) behind.1)
 
-when : {X : Type 0} (b : Bool) (x y z : X) → true ≡ b → z ≡ cond b x y → z ≡ x
-when true x y z here is = is
-when false x y z here is = absurd cc
+  take_at : (xs : List (Option Slot)) (i : ℕ) → i < length xs → is_none (get_or xs i None) ≡ true → ((k : ℕ) → k < i → is_none (get_or xs k None) ≡ false) → take_slot xs name state ≡ set xs i (slot_of name state)
+  take_at [] i within here before = absurd (omega arith)
+  take_at (None ∷ rest) zero within here before = refl
+  take_at (None ∷ rest) (suc i) within here before = absurd (let e : true ≡ false = before 0 (omega arith) in cc)
+  take_at (Some s ∷ rest) zero within here before = absurd cc
+  take_at (Some s ∷ rest) (suc i) within here before = ap (λ (ys : List (Option Slot)). Some s ∷ ys) (take_at rest i (omega arith) here (λ k less. before (suc k) (omega arith)))
 
--- the slot at a place, which the walk has reached, is the one that changes
-pub put_step : (xs ys : List (Option Slot)) (i : ℕ) (item new : Option Slot) (name : NameValue) (state : State) → ys ≡ xs → i < length xs → true ≡ is_named (get_or ys i item) name
-    → new ≡ cond (is_named (get_or ys i item) name) (slot_of name state) (get_or ys i item) → put xs name state ≡ take i xs ++ put (drop i xs) name state → set ys i new ≡ put xs name state
-put_step xs ys i item new name state same within here is walked =
-    let at_xs : true ≡ is_named (get_or xs i item) name = subst (λ (zs : List (Option Slot)). true ≡ is_named (get_or zs i item) name) same here in
-    let new_is : new ≡ slot_of name state = when (is_named (get_or ys i item) name) (slot_of name state) (get_or ys i item) new here is in
-    ap (λ (zs : List (Option Slot)). set zs i new) same
-    ∙ ap (λ (s : Option Slot). set xs i s) new_is
-    ∙ set_split xs i (slot_of name state) within
-    ∙ ap (λ (zs : List (Option Slot)). take i xs ++ zs) (sym (put_here (get_or xs i item) (drop (suc i) xs) name state at_xs))
-    ∙ ap (λ (zs : List (Option Slot)). take i xs ++ put zs name state) (sym (drop-cons xs i item within))
-    ∙ sym walked
+  not_in : (xs : List (Option Slot)) → ((k : ℕ) → k < length xs → is_named (get_or xs k None) name ≡ false) → is_in xs name ≡ false
+  not_in [] each = refl
+  not_in (None ∷ rest) each = not_in rest (λ k within. each (suc k) (omega arith))
+  not_in (Some s ∷ rest) each = or_from (same_name s.name name) (is_in rest name) (each 0 (omega arith)) (not_in rest (λ k within. each (suc k) (omega arith)))
 
-pub take_step : (xs ys : List (Option Slot)) (i : ℕ) (item new : Option Slot) (name : NameValue) (state : State) → ys ≡ xs → i < length xs → true ≡ is_none (get_or ys i item)
-    → new ≡ cond (is_none (get_or ys i item)) (slot_of name state) (get_or ys i item) → take_slot xs name state ≡ take i xs ++ take_slot (drop i xs) name state → set ys i new ≡ take_slot xs name state
-take_step xs ys i item new name state same within here is walked =
-    let at_xs : true ≡ is_none (get_or xs i item) = subst (λ (zs : List (Option Slot)). true ≡ is_none (get_or zs i item)) same here in
-    let new_is : new ≡ slot_of name state = when (is_none (get_or ys i item)) (slot_of name state) (get_or ys i item) new here is in
-    ap (λ (zs : List (Option Slot)). set zs i new) same
-    ∙ ap (λ (s : Option Slot). set xs i s) new_is
-    ∙ set_split xs i (slot_of name state) within
-    ∙ ap (λ (zs : List (Option Slot)). take i xs ++ zs) (sym (take_here (get_or xs i item) (drop (suc i) xs) name state at_xs))
-    ∙ ap (λ (zs : List (Option Slot)). take i xs ++ take_slot zs name state) (sym (drop-cons xs i item within))
-    ∙ sym walked
+  no_room : (xs : List (Option Slot)) → ((k : ℕ) → k < length xs → is_none (get_or xs k None) ≡ false) → take_slot xs name state ≡ xs
+  no_room [] each = refl
+  no_room (None ∷ rest) each = absurd (let e : true ≡ false = each 0 (omega arith) in cc)
+  no_room (Some s ∷ rest) each = ap (λ (ys : List (Option Slot)). Some s ∷ ys) (no_room rest (λ k within. each (suc k) (omega arith)))
+
+pub own_changed : (xs : List (Option Slot)) (name : NameValue) (state : State) (i : ℕ) → position (λ slot. is_named slot name) xs ≡ Some i → set xs i (slot_of name state) ≡ with_state xs name state
+own_changed xs name state i found =
+    let at = position-Some (λ (slot : Option Slot). is_named slot name) xs i None found in
+    let is = put_at name state xs i at.0 at.1 at.2 in
+    rw is.0 (sym is.1)
+
+pub free_changed : (xs : List (Option Slot)) (name : NameValue) (state : State) (i : ℕ) → position (λ slot. is_named slot name) xs ≡ None → position is_none xs ≡ Some i → set xs i (slot_of name state) ≡ with_state xs name state
+free_changed xs name state i none found =
+    let at = position-Some is_none xs i None found in
+    rw (not_in name state xs (fails_everywhere (λ (slot : Option Slot). is_named slot name) xs none)) (sym (take_at name state xs i at.0 at.1 at.2))
+
+pub none_changed : (xs : List (Option Slot)) (name : NameValue) (state : State) → position (λ slot. is_named slot name) xs ≡ None → position is_none xs ≡ None → xs ≡ with_state xs name state
+none_changed xs name state none full =
+    rw (not_in name state xs (fails_everywhere (λ (slot : Option Slot). is_named slot name) xs none)) (sym (no_room name state xs (fails_everywhere is_none xs full)))

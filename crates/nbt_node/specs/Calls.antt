@@ -89,11 +89,8 @@ question l = question_of l.wanted l.id l.name
     question_of Names id name = status_request id name
 
 -- every name by time alone, and the lookup as it is now
-abbrev pub with_lookup : NodeValue → ℕ → Option Lookup → (next_id : ℕ) → NodeValue
-with_lookup node now lookup next_id = record (settled_node node now) { lookup = lookup; next_id = next_id }
-
 abbrev pub LooksUp : NodeValue → ℕ → Option Lookup → (next_id : ℕ) → NodeValue → Type 0
-LooksUp old now lookup next_id new = new ≡ with_lookup old now lookup next_id
+LooksUp old now lookup next_id new = new ≡ record (settled_node old now) { lookup = lookup; next_id = next_id }
 
 -- a lookup opens
 pub record Opens (old : NodeValue) (now : ℕ) (name : NameValue) (to : Addr) (wanted : Wanted) (new : NodeValue) (octets : List ℕ) : Type 0 where

@@ -44,12 +44,10 @@ pub data Lists (old : NodeValue) (now id : ℕ) (name : NameValue) : NodeValue �
   lists_names : (new : NodeValue) → is_listed_for old now name ≡ true → Passes old now new → Lists old now id name new (Some (status id name (names_listed old now name))) replied
   lists_nothing : (new : NodeValue) → is_listed_for old now name ≡ false → Passes old now new → Lists old now id name new None nothing
 
--- a lookup ends by what it asks for, or by word that it isn't there, with its id and its name where one is told, and
--- only from the end that was asked
+-- a lookup ends by what it asks for, or by a reply that it doesn't exist, with its id and its name where there is one, and
+-- only from the endpoint that was queried
 abbrev pub wants : MessageValue → Wanted → Bool
 wants (found id name ttl entries cut) Entries = true
-wants (found id name ttl entries cut) Names = false
-wants (status id name names) Entries = false
 wants (status id name names) Names = true
 wants (not_found id rcode name) wanted = true
 wants message wanted = false
@@ -70,7 +68,7 @@ pub data Ends (old : NodeValue) (now : ℕ) (from : Addr) (message : MessageValu
 pub data Idles (old : NodeValue) (now : ℕ) : NodeValue → Option MessageValue → Told → Type 0 where
   idles : (new : NodeValue) → Passes old now new → Idles old now new None nothing
 
--- what a message from an end makes of the node, what is sent back to that end, and what is told
+-- what a message from an endpoint makes of the node, what is sent back there, and what is reported
 abbrev pub NodeTakes : NodeValue → ℕ → Addr → MessageValue → NodeValue → Option MessageValue → Told → Type 0
 NodeTakes old now from (registered rcode r) = NodeHears old now from r.name (registered rcode r)
 NodeTakes old now from (released id rcode name kind addr) = NodeHears old now from name (released id rcode name kind addr)

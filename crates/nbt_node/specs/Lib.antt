@@ -5,6 +5,4 @@ pub mod Node
 pub mod Moves
 pub mod Calls
 pub mod Datagrams
-pub mod EachName
-pub mod OneAnswer
 pub mod Inner

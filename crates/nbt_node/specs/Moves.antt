@@ -1,4 +1,4 @@
--- The moves of one name at a node: what events make of its state, what is sent, and what the node's user is told
+-- The moves of one name at a node: what events make of its state, what is sent, and what is reported to the node's user
 -- (RFC 1001 section 15.2, RFC 1002 section 5.1.2; the states and timers are our profile's).
 use Rattle.std.specs.Prelude.{◌≡◌, ◌≢◌, ℕ, ◌+◌, ◌*◌, ◌<◌, ◌≤◌, Bool, true, false, ◌&&◌, ◌||◌, nat_eq, nat_lt, nat_le, if◌then◌else◌, ◌⊎◌, List, Option, Some, None}
 use Rattle.nbt_name.specs.declared.addr.Kind.{Kind}
@@ -15,14 +15,14 @@ use Rattle.nbt_node.specs.declared.transaction.Transaction.{Transaction}
 use Rattle.nbt_node.specs.Transaction.{is_next, opened, again, put_off, wait_until}
 use Rattle.nbt_node.specs.Node.{NodeValue, state_at, changed}
 
--- what happens to a name: it is asked for, given back or polled, or the server says something about it
+-- what happens to a name: it is registered, released or polled, or the server says something about it
 pub data NameEvent : Type 0 where
   ask : Kind → (ttl : ℕ) → NameEvent
   give_back : NameEvent
   poll : NameEvent
   hear : MessageValue → NameEvent
 
--- what the node's user is told
+-- what is reported to the node's user
 pub data Told : Type 0 where
   nothing : Told
   replied : Told
@@ -70,7 +70,7 @@ claim node id name kind ttl = record { id = id; name = name; kind = kind; addr =
 abbrev pub conflict : ℕ
 conflict = 7
 
--- the reply has the id of what is open, or is a conflict demand to a name that is asked for or held
+-- the reply has the id of the pending request, or is a conflict demand to a name that is being registered or held
 abbrev pub has_id : Option Transaction → ℕ → Bool
 has_id None id = false
 has_id (Some p) id = nat_eq id p.id
@@ -92,7 +92,7 @@ granted_by node r = granted node.config.longest r.ttl
 abbrev pub held_for : Kind → (ttl first seconds last : ℕ) → State
 held_for kind ttl first seconds last = Held kind ttl (first + hold seconds) (first + 500 * seconds) last None
 
--- The table: a state, an event, the state afterwards, what is sent to the server, what is told, and the next id.
+-- The table: a state, an event, the state afterwards, what is sent to the server, what is reported, and the next id.
 pub data Move (node : NodeValue) (now : ℕ) (name : NameValue) : State → NameEvent → State → Option MessageValue → Told → ℕ → Type 0 where
   asks : (kind : Kind) (ttl : ℕ) → node.start + quiet node.config.life < now
       → Move node now name Idle (ask kind ttl) (Asking kind ttl now (opened node.next_id now)) (Some (registration (claim node node.next_id name kind ttl))) nothing (id_after node.next_id)
@@ -128,8 +128,8 @@ pub data Move (node : NodeValue) (now : ℕ) (name : NameValue) : State → Name
       → Move node now name (Held kind ttl until renew last (Some p)) (hear (wait p.id n t)) (Held kind ttl until renew last (Some (put_off (wait_until now t) p))) None waits node.next_id
   unmoved : (state : State) (message : MessageValue) → matters state message ≡ false → Move node now name state (hear message) state None nothing node.next_id
 
--- One name moves, from its state at the moment; what comes of it is settled once more. Every other name and the lookup
--- change by time alone. The moment is then the last one; nothing else changes but the next id.
+-- One name moves, from its state at this time; what comes of it is settled once more. Every other name and the lookup
+-- change by time alone. This time is then the last one; nothing else changes but the next id.
 pub record NameMoves (old : NodeValue) (now : ℕ) (name : NameValue) (event : NameEvent) (new : NodeValue) (sent : Option MessageValue) (told : Told) : Type 0 where
   pub after : State
   pub move : Move old now name (state_at old now name) event after sent told new.next_id

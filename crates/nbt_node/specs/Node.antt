@@ -1,5 +1,6 @@
 -- A node as contracts see it: what it knows of each name, and its lookup (our profile; RFC 1001 section 15.2).
-use Rattle.std.specs.Prelude.{◌≡◌, ◌≢◌, ℕ, Bool, true, false, ◌||◌, nat_lt, is_some, if◌then◌else◌, ◌≤◌, List, [], ◌∷◌, length, map, Option, Some, None}
+use Rattle.std.specs.Prelude.{◌≡◌, ℕ, Bool, false, ◌||◌, nat_lt, is_some, is_none, if◌then◌else◌, List, [], ◌∷◌, map, Option, Some, None}
+use Rattle.std.specs.List.{list_any}
 use Rattle.nbt_name.specs.declared.addr.Addr.{Addr}
 use Rattle.nbt_name.specs.declared.addr.Kind.{Kind}
 use Rattle.nbt_name.specs.Wire.{NameValue, same_name}
@@ -11,7 +12,7 @@ use Rattle.nbt_node.specs.declared.lookup.Lookup.{Lookup}
 use Rattle.nbt_node.specs.Transaction.{is_over}
 use Rattle.nbt_node.specs.Settling.{settled}
 
--- Its own address and its server's, the limits, its start, the moment of the last call that wasn't refused (its start,
+-- Its own address and its server's, the limits, its start, the time of the last call that wasn't refused (its start,
 -- before the first), the id that comes next, the lookup that is open, and the slots: each is free or has a name.
 pub record NodeValue : Type 0 where
   pub addr : Addr
@@ -35,21 +36,13 @@ is_in (None ∷ rest) name = is_in rest name
 is_in (Some slot ∷ rest) name = same_name slot.name name || is_in rest name
 
 abbrev pub has_room : List (Option Slot) → Bool
-has_room [] = false
-has_room (None ∷ rest) = true
-has_room (Some slot ∷ rest) = has_room rest
+has_room slots = list_any is_none slots
 
 -- no name has two slots
 abbrev pub AreDistinct : List (Option Slot) → Type 0
 AreDistinct [] = Unit {0}
 AreDistinct (None ∷ rest) = AreDistinct rest
 AreDistinct (Some slot ∷ rest) = (is_in rest slot.name ≡ false) × AreDistinct rest
-
--- no slot has a name that is Idle
-abbrev pub AreAwake : List (Option Slot) → Type 0
-AreAwake [] = Unit {0}
-AreAwake (None ∷ rest) = AreAwake rest
-AreAwake (Some slot ∷ rest) = (slot.state ≢ Idle) × AreAwake rest
 
 -- a name that has no slot is Idle
 abbrev pub state_in : List (Option Slot) → NameValue → State
@@ -81,16 +74,6 @@ with_state slots name state = if is_in slots name then put slots name state else
 abbrev pub slots_most : ℕ
 slots_most = 14
 
--- What a node of `count` slots keeps. The last two: no name that has a slot is Idle, and the node's start isn't after its
--- last moment.
-pub record IsNode (count : ℕ) (node : NodeValue) : Type 0 where
-  pub slots_at_most : count ≤ slots_most
-  pub slots_at_least : 1 ≤ count
-  pub count_is : length node.slots ≡ count
-  pub apart : AreDistinct node.slots
-  pub awake : AreAwake node.slots
-  pub since : node.start ≤ node.last
-
 -- ---- time
 
 abbrev pub settled_slot : (life now : ℕ) → Option Slot → Option Slot
@@ -101,13 +84,13 @@ abbrev pub settled_lookup : (now : ℕ) → Option Lookup → Option Lookup
 settled_lookup now None = None
 settled_lookup now (Some l) = if is_over now l.tries l.due then None else Some l
 
--- every name and the lookup at a moment
+-- every name and the lookup at a time
 abbrev pub settled_node : NodeValue → ℕ → NodeValue
 settled_node node now = record node { last = now; lookup = settled_lookup now node.lookup; slots = map (settled_slot node.config.life now) node.slots }
 
 -- ---- one name
 
--- once a name has moved to a state at a moment, which settles there
+-- once a name has moved to a state at a time, which settles then
 abbrev pub changed : NodeValue → ℕ → NameValue → State → (next_id : ℕ) → NodeValue
 changed node now name after next_id =
     record (settled_node node now) { next_id = next_id; slots = with_state (map (settled_slot node.config.life now) node.slots) name (settled node.config.life now after) }
@@ -115,7 +98,7 @@ changed node now name after next_id =
 abbrev pub state_of : NodeValue → NameValue → State
 state_of node name = state_in node.slots name
 
--- at a moment
+-- at a time
 abbrev pub state_at : NodeValue → ℕ → NameValue → State
 state_at node now name = settled node.config.life now (state_of node name)
 
@@ -123,7 +106,7 @@ abbrev pub held_at : ℕ → State → Option Kind
 held_at now (Held kind ttl until renew last pending) = if nat_lt now until then Some kind else None
 held_at now _ = None
 
--- the kind as which the node holds a name at a moment; at a moment before its last it holds none
+-- the kind as which the node holds a name at a time; at a time before its last it holds none
 abbrev pub holds : NodeValue → NameValue → ℕ → Option Kind
 holds node name now = if nat_lt now node.last then None else held_at now (state_of node name)
 

@@ -14,7 +14,7 @@ abbrev pub pending_at : (now : ℕ) → Option Transaction → Option Transactio
 pending_at now None = None
 pending_at now (Some r) = if is_over now r.tries r.due then None else Some r
 
--- the state in which time's own moves end at a moment
+-- the state once time alone has done its part
 abbrev pub settled : (life now : ℕ) → State → State
 settled life now Idle = Idle
 settled life now (Asking kind ttl last p) = if is_over now p.tries p.due then rested life now last else Asking kind ttl last p

@@ -1,8 +1,7 @@
 //! The requests that a node sends about a name (RFC 1002 sections 4.2.2, 4.2.4 and 4.2.9), and the ids that it gives them.
 
-ghost use Rattle.std.specs.Prelude.{◌≡◌, ◌+◌, Some};
-ghost use Rattle.nbt_packet.specs.Message.{message_of, IsRegistration, HoldsNumbers, Fits, release};
-ghost use Rattle.nbt_packet.specs.Spelling.{HasFewRows};
+ghost use Rattle.std.specs.Prelude.{◌≡◌};
+ghost use Rattle.nbt_packet.specs.Message.{message_of, IsRegistration, HoldsNumbers, release};
 ghost use Rattle.nbt_node.specs.Moves.{id_after};
 
 use nbt_name::{Kind, Name};
@@ -15,7 +14,7 @@ pub fn id_after(id: u16) -> u16
     id.checked_add(1).unwrap_or(0)
 }
 
-/// What a node with this address says of a name in a request.
+/// What a node with this address says of a name in a request for it.
 pub fn claim(own: u32, id: u16, name: &Name, kind: Kind, ttl: u32) -> Registration
     ensures value { result ≡ record { id = id; name = name.now; kind = kind; addr = own; ttl = ttl } }
     ensures whole { IsRegistration result }
@@ -30,7 +29,7 @@ pub fn claim(own: u32, id: u16, name: &Name, kind: Kind, ttl: u32) -> Registrati
     }
 }
 
-/// The request that gives a name back.
+/// The request that releases a name.
 pub fn release<'a>(own: u32, id: u16, name: &Name, kind: Kind) -> Message<'a>
     ensures value { message_of result ≡ release id name.now kind own }
     ensures whole { HoldsNumbers (message_of result) }

@@ -8,19 +8,19 @@ ghost use Rattle.nbt_node.specs.Numbers.{ask_fault_number, ask_fault_word, relea
 
 use thiserror::Error;
 
-/// Why a name isn't asked for (our profile's numbers). They are tried in this order: `ClockBack`, `BadName`, `Busy`,
+/// Why a registration is refused (our profile's numbers). They are tried in this order: `ClockBack`, `BadName`, `Busy`,
 /// `Quiet`, `Full`.
 #[derive(Clone, Copy, Debug, PartialEq, Eq, Error)]
 #[error("{}", self.word())]
 pub enum AskFault {
-    /// 1: the name is being given back, or rests: since the node's start, or since the last sending about it, no more
+    /// 1: the name is being released, or rests: since the node's start, or since the last sending about it, no more
     /// than `Config::quiet()` has passed by the node's clock, so that an old datagram may still be on its way.
     Quiet,
-    /// 2: the name was asked for already, or is held.
+    /// 2: a registration of the name is pending, or the name is held.
     Busy,
     /// 3: no slot is free.
     Full,
-    /// 4: the moment is before the node's start, or before that of an earlier call that wasn't refused.
+    /// 4: the time is before the node's start, or before that of an earlier call that wasn't refused.
     ClockBack,
     /// 5: the name begins with `*`.
     BadName,
@@ -68,13 +68,13 @@ impl AskFault {
     }
 }
 
-/// Why a name isn't given back (our profile's numbers). `ClockBack` is tried first.
+/// Why a release is refused (our profile's numbers). `ClockBack` is tried first.
 #[derive(Clone, Copy, Debug, PartialEq, Eq, Error)]
 #[error("{}", self.word())]
 pub enum ReleaseFault {
     /// 1: the name isn't held.
     NotHeld,
-    /// 4: the moment is before the node's start, or before that of an earlier call that wasn't refused.
+    /// 4: the time is before the node's start, or before that of an earlier call that wasn't refused.
     ClockBack,
 }
 
@@ -111,13 +111,13 @@ impl ReleaseFault {
     }
 }
 
-/// Why nothing is looked up (our profile's numbers). They are tried in this order: `ClockBack`, `BadName`, `Busy`.
+/// Why a lookup is refused (our profile's numbers). They are tried in this order: `ClockBack`, `BadName`, `Busy`.
 #[derive(Clone, Copy, Debug, PartialEq, Eq, Error)]
 #[error("{}", self.word())]
 pub enum LookupFault {
     /// 2: a lookup is open.
     Busy,
-    /// 4: the moment is before the node's start, or before that of an earlier call that wasn't refused.
+    /// 4: the time is before the node's start, or before that of an earlier call that wasn't refused.
     ClockBack,
     /// 5: the name to be resolved begins with `*`.
     BadName,
@@ -159,7 +159,7 @@ impl LookupFault {
     }
 }
 
-/// 4: the moment is before that of an earlier call that wasn't refused, or before the start.
+/// 4: the time is before the node's start, or before that of an earlier call that wasn't refused.
 #[derive(Clone, Copy, Debug, PartialEq, Eq, Error)]
 #[error("ClockBack")]
 pub struct ClockBack;

@@ -1,31 +1,39 @@
 //! What holds of a node's names, moves and calls, whatever the code does: laws over the definitions alone.
 
-ghost use Rattle.std.specs.Prelude.{◌≡◌, ℕ, ◌≤◌, Option};
+ghost use Rattle.std.specs.Prelude.{◌≡◌, ◌≢◌, ◌⊎◌, ℕ, ◌≤◌, List, Option, None};
+ghost use Rattle.nbt_name.specs.declared.addr.Addr.{Addr};
+ghost use Rattle.nbt_name.specs.declared.addr.Kind.{Kind};
 ghost use Rattle.nbt_name.specs.Wire.{NameValue};
 ghost use Rattle.nbt_packet.specs.Message.{MessageValue};
+ghost use Rattle.nbt_lease.specs.Config.{ConfigValue};
+ghost use Rattle.nbt_node.specs.declared.lookup.Wanted.{Wanted};
 ghost use Rattle.nbt_node.specs.declared.state.State.{State};
 ghost use Rattle.nbt_node.specs.Settling.{settled};
-ghost use Rattle.nbt_node.specs.Node.{NodeValue};
-ghost use Rattle.nbt_node.specs.Moves.{NameEvent, Told, Move};
-ghost use Rattle.nbt_node.specs.EachName.{StartsApart, OneNameMoves, TimePasses};
-ghost use Rattle.nbt_node.specs.OneAnswer.{OneSending, OneOpening, OnePoll, OneHandling, SettlesInSteps};
+ghost use Rattle.nbt_node.specs.Node.{NodeValue, AreDistinct, settled_node, state_of, state_at};
+ghost use Rattle.nbt_node.specs.Moves.{NameEvent, ask, Told, Move, NameMoves};
+ghost use Rattle.nbt_node.specs.Calls.{started, ask_refusal, Sends, Opens, Polls};
+ghost use Rattle.nbt_node.specs.Datagrams.{Handles};
 
-/// Time's own moves end: a state that is settled at a moment stays as it is there.
+/// A state that is settled at a time stays as it is at that time.
+#[tactic(auto, using(crate::proofs::Steps::settled_twice))]
 pub fn settling_ends()
     ensures { (life now : ℕ) (state : State) → settled life now (settled life now state) ≡ settled life now state }
 {}
 
-/// Settling at one moment, and then at a later one, is settling at the later one.
+/// Settling at one time, and then at a later one, is settling at the later one.
+#[tactic(auto, using(crate::proofs::Steps::settled_twice))]
 pub fn settling_in_steps()
     ensures { (life a b : ℕ) (state : State) → a ≤ b → settled life b (settled life a state) ≡ settled life b state }
 {}
 
-/// The same of a node, its names and its lookup. Where both moments are one, so it ends.
+/// The same of a node, its names and its lookup, also where both times are the same.
+#[tactic(auto, using(crate::proofs::Steps::node_steps))]
 pub fn a_node_settles_in_steps()
-    ensures { SettlesInSteps }
+    ensures { (node : NodeValue) (a b : ℕ) → a ≤ b → settled_node (settled_node node a) b ≡ settled_node node b }
 {}
 
 /// No two lines of the table of moves are about one event on one state.
+#[tactic(auto, using(crate::proofs::OneMove::one_outcome))]
 pub fn one_move()
     ensures { (node : NodeValue) (now : ℕ) (name : NameValue) (before : State) (event : NameEvent) (a b : State) (m n : Option MessageValue) (t u : Told) (i j : ℕ)
         → Move node now name before event a m t i → Move node now name before event b n u j → (a ≡ b) × (m ≡ n) × (t ≡ u) × (i ≡ j) }
@@ -34,17 +42,29 @@ pub fn one_move()
 /// What becomes of each name of a node in which no name has two slots. So it is at the node's start, and after each of its
 /// calls. The name that moves is then as its line says, and settled; every other name changes by time alone.
 pub fn each_name()
-    ensures start { StartsApart }
-    ensures moves { OneNameMoves }
-    ensures time { TimePasses }
+    ensures start { (count : ℕ) (addr server : Addr) (config : ConfigValue) (now : ℕ) → AreDistinct (started count addr server config now).slots }
+
+    // Where the name is registered, that may not be refused.
+    ensures moves { (old new : NodeValue) (now : ℕ) (name : NameValue) (event : NameEvent) (sent : Option MessageValue) (told : Told)
+        → AreDistinct old.slots → (moves : NameMoves old now name event new sent told)
+        → (((kind : Kind) (ttl : ℕ) → event ≢ ask kind ttl) ⊎ (ask_refusal old now name ≡ None) → state_of new name ≡ settled old.config.life now moves.after)
+        × ((q : NameValue) → q ≢ name → state_of new q ≡ state_at old now q) × AreDistinct new.slots }
+
+    // Where the slots are settled alone: time passes, and a lookup opens, goes on or ends.
+    ensures time { (old new : NodeValue) (now : ℕ) → AreDistinct old.slots → new.slots ≡ (settled_node old now).slots
+        → ((q : NameValue) → state_of new q ≡ state_at old now q) × AreDistinct new.slots }
 {}
 
-/// Each call of a node has one answer: the node afterwards, what is sent, and what is told.
+/// Each call of a node has one answer: the node afterwards, what is sent, and what is reported.
 pub fn one_answer()
-    ensures sending { OneSending }
-    ensures opening { OneOpening }
-    ensures poll { OnePoll }
-    ensures handling { OneHandling }
+    ensures sending { (old a b : NodeValue) (now : ℕ) (name : NameValue) (event : NameEvent) (x y : List ℕ)
+        → Sends old now name event a x → Sends old now name event b y → (a ≡ b) × (x ≡ y) }
+    ensures opening { (old a b : NodeValue) (now : ℕ) (name : NameValue) (to : Addr) (wanted : Wanted) (x y : List ℕ)
+        → Opens old now name to wanted a x → Opens old now name to wanted b y → (a ≡ b) × (x ≡ y) }
+    ensures poll { (old a b : NodeValue) (now : ℕ) (to other : Option Addr) (x y : List ℕ)
+        → Polls old now a to x → Polls old now b other y → (a ≡ b) × (to ≡ other) × (x ≡ y) }
+    ensures handling { (old a b : NodeValue) (now : ℕ) (from : Addr) (octets : List ℕ) (t u : Told) (x y : List ℕ)
+        → Handles old now from octets a t x → Handles old now from octets b u y → (a ≡ b) × (t ≡ u) × (x ≡ y) }
 {
     nbt_packet::laws::one_message_spelled();
 }

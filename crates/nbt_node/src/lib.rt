@@ -1,5 +1,5 @@
-//! An end node of the name service: it asks for names, holds them, refreshes and gives them back, looks up names and
-//! replies to status requests (RFC 1001 section 15, RFC 1002 section 5.1). No call takes memory.
+//! An end node of the name service: it registers names, holds, refreshes and releases them, looks up names, and replies to
+//! status requests (RFC 1001 section 15, RFC 1002 section 5.1). No call allocates memory.
 #![tactic(auto)]
 
 mod asking;
@@ -19,3 +19,4 @@ mod transaction;
 pub use event::Event;
 pub use fault::{AskFault, ClockBack, LookupFault, ReleaseFault};
 pub use node::Node;
+pub use transaction::RETRY_TIMEOUT;

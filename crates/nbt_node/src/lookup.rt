@@ -1,7 +1,12 @@
-//! Looking up who holds a name, and what names an end holds (RFC 1002 sections 4.2.12 and 4.2.17).
+//! Looking up who holds a name, and which names a host holds (RFC 1002 sections 4.2.12 and 4.2.17).
 
-ghost use Rattle.std.specs.Prelude.{◌≡◌};
-ghost use Rattle.nbt_node.specs.Datagrams.{same_end};
+ghost use Rattle.std.specs.Prelude.{◌≡◌, ◌+◌, [], None, Some, is_some, nat_eq, ◌&&◌, MatchOption};
+ghost use Rattle.nbt_packet.specs.Message.{message_of, HoldsNumbers};
+ghost use Rattle.nbt_packet.specs.Spelling.{id_of, name_in, AreWritten};
+ghost use Rattle.nbt_node.specs.Node.{settled_lookup};
+ghost use Rattle.nbt_node.specs.Transaction.{next_due};
+ghost use Rattle.nbt_node.specs.Calls.{question, due_lookup};
+ghost use Rattle.nbt_node.specs.Datagrams.{same_end, wants, tells_name, ends};
 
 use crate::transaction::{is_next, is_over, next_due};
 use arrayvec::ArrayVec;
@@ -12,9 +17,9 @@ use nbt_packet::{Message, write};
 /// What a lookup asks for.
 #[derive(Clone, Copy, Debug, PartialEq, Eq)]
 pub enum Wanted {
-    /// The entries of the ends that hold a name.
+    /// The entries of a name's holders.
     Entries,
-    /// The names that an end holds.
+    /// The names that a host holds.
     Names,
 }
 
@@ -23,14 +28,14 @@ pub enum Wanted {
 pub struct Lookup {
     pub id: u16,
     pub name: Name,
-    /// The end that is asked.
+    /// The endpoint that is queried.
     pub to: Addr,
     pub wanted: Wanted,
     pub tries: u8,
     pub due: u64,
 }
 
-/// Whether two ends are one: by address and port.
+/// Whether two endpoints are the same, by address and port.
 pub fn is_same_end(a: Addr, b: Addr) -> bool
     ensures { result ≡ same_end a b }
 {
@@ -38,14 +43,6 @@ pub fn is_same_end(a: Addr, b: Addr) -> bool
 }
 
 impl Lookup {
-    ghost use Rattle.std.specs.Prelude.{◌≡◌, ◌+◌, [], None, Some, is_some, nat_eq, ◌&&◌, MatchOption};
-    ghost use Rattle.nbt_packet.specs.Message.{message_of, HoldsNumbers};
-    ghost use Rattle.nbt_packet.specs.Spelling.{id_of, name_in, AreWritten};
-    ghost use Rattle.nbt_node.specs.Node.{settled_lookup};
-    ghost use Rattle.nbt_node.specs.Transaction.{next_due};
-    ghost use Rattle.nbt_node.specs.Calls.{question, due_lookup};
-    ghost use Rattle.nbt_node.specs.Datagrams.{wants, tells_name, ends};
-
     /// The request of a lookup.
     pub fn question<'a>(&self) -> Message<'a>
         ensures value { message_of result ≡ question self.now }
@@ -80,7 +77,7 @@ impl Lookup {
         }
     }
 
-    /// Sends a lookup's request once more, where that is due. Returns the end that is asked.
+    /// Sends a lookup's request once more, where that is due. Returns the endpoint that is queried.
     pub fn poll(
         lookup: &mut Option<Lookup>,
         now: Moment,
@@ -105,8 +102,8 @@ impl Lookup {
         }
     }
 
-    /// Whether a message from an end ends the lookup: it is what the lookup asks for, or word that it isn't there, with
-    /// the lookup's id and name, from the end that was asked.
+    /// Whether a message from an endpoint ends the lookup: it has what the lookup asks for, or says that it doesn't exist,
+    /// with the lookup's id and name, and comes from the endpoint that was queried.
     pub fn ends(lookup: &Option<Lookup>, from: Addr, message: &Message<'_>) -> bool
         ensures { result ≡ ends lookup.now from (message_of message.now) }
     {
@@ -116,7 +113,7 @@ impl Lookup {
         }
     }
 
-    /// Whether a message tells what the lookup asks for, with its id and its name where it has one.
+    /// Whether a message answers the lookup, with its id and its name where it has one.
     fn is_told(&self, message: &Message<'_>) -> bool
         ensures { result ≡ (wants (message_of message.now) self.now.wanted && (nat_eq (id_of (message_of message.now)) self.now.id && tells_name (name_in (message_of message.now)) self.now.name)) }
     {

@@ -1,4 +1,4 @@
-//! An end node: the names that it asks for and holds.
+//! An end node: the names that it registers and holds.
 
 ghost use Rattle.std.specs.Prelude.{◌≡◌, ℕ, ◌≤◌, ◌<◌, ◌↔◌, List, [], Option, None, IsNone, OnOk, OnErr, IfOk, IsErr};
 ghost use Rattle.std.specs.Result.{result_err};
@@ -17,7 +17,7 @@ use crate::transaction::{Transaction, next_due};
 use arrayvec::ArrayVec;
 use nbt_lease::{Config, Moment};
 use nbt_name::{Addr, Kind, Name};
-use nbt_packet::{Message, Registration, read, write};
+use nbt_packet::{Message, read, write};
 use std::marker::Model;
 
 /// A node of `N` slots, 1 to 14 (RFC 1001 section 10.2): one for each name that isn't `Idle`.
@@ -34,7 +34,8 @@ pub struct Node<const N: usize> {
 }
 
 impl<const N: usize> Model for Node<N> {
-    ghost use Rattle.nbt_node.specs.Node.{NodeValue, IsNode};
+    ghost use Rattle.nbt_node.specs.Inner.Keeping.{IsNode};
+    ghost use Rattle.nbt_node.specs.Node.{NodeValue};
 
     ghost Value = { NodeValue };
 
@@ -44,17 +45,16 @@ impl<const N: usize> Model for Node<N> {
 }
 
 impl<const N: usize> Node<N> {
-    ghost use Rattle.nbt_name.specs.declared.addr.Kind.{Kind as NameKind};
-    ghost use Rattle.nbt_packet.specs.Message.{MessageValue, message_of, message_if, registered, released, wait};
+    ghost use Rattle.nbt_packet.specs.Message.{MessageValue, message_of, message_if};
     ghost use Rattle.nbt_node.specs.Node.{slots_most, holds, changed, settled_node, state_at, lookup_open, AreDistinct};
-    ghost use Rattle.nbt_node.specs.Moves.{ask, give_back, told_of};
+    ghost use Rattle.nbt_node.specs.Moves.{Move, ask, give_back, hear, told_of};
     ghost use Rattle.nbt_packet.specs.Spelling.{AreWritten};
     ghost use Rattle.nbt_node.specs.Calls.{started, ask_refusal, release_refusal, resolve_refusal, status_refusal, Sends, Opens, Polls, slot_due};
     ghost use Rattle.nbt_node.specs.Datagrams.{NodeHears, Lists, Ends, NodeTakes, Handles, Says, is_listed_for};
 
-    /// A node at `addr` whose name server is at `server`. It knows nothing, and asks for nothing until more than
-    /// `Config::quiet()` has passed: two lives of a datagram, and what its clock may be fast by (our profile). All moments
-    /// that a node is given are of its own clock. That `N` is 1 to 14 is the caller's.
+    /// A node at `addr` whose name server is at `server`. It holds no name, and registers none until more than
+    /// `Config::quiet()` has passed: two lives of a datagram, and what its clock may be fast by (our profile). All times
+    /// that a node is given are read from its own clock. The caller must ensure that `N` is 1 to 14.
     pub fn start(addr: Addr, server: Addr, config: Config, now: Moment) -> Node<N>
         requires slots_at_least { 1 ≤ N }
         requires slots_at_most { N ≤ slots_most }
@@ -84,8 +84,8 @@ impl<const N: usize> Node<N> {
         self.addr
     }
 
-    /// As which kind the node holds the name at `now`; `None` where it doesn't, or where `now` is before the moment of
-    /// its last call.
+    /// As which kind the node holds the name at `now`; `None` where it doesn't, or where `now` is before the time of its
+    /// last call.
     pub fn holds(&self, now: Moment, name: &Name) -> Option<Kind>
         ensures { result ≡ holds self.now name.now now }
     {
@@ -95,7 +95,7 @@ impl<const N: usize> Node<N> {
         slots::state_in(&self.slots, name).held_at(now)
     }
 
-    /// Why the name may not be asked for, judged by the node that is settled at `now`.
+    /// Why the name may not be registered, judged by the node that is settled at `now`.
     fn ask_fault(&self, now: Moment, name: &Name) -> Option<AskFault>
         ensures fault { result ≡ ask_refusal self.now now name.now }
         ensures later { IsNone result → self.now.last ≤ now }
@@ -132,13 +132,13 @@ impl<const N: usize> Node<N> {
         self.last = now;
     }
 
-    /// Asks the server for the name, for `ttl` seconds or, where that is 0, as long as may be: `out` then holds the
-    /// NAME REGISTRATION REQUEST for the server, and nothing else (RFC 1002 section 4.2.2). Refused in this order, the
-    /// node staying as it was and `out` empty: `ClockBack` (4), where `now` is before the node's start or the moment of
-    /// an earlier call that wasn't refused; `BadName` (5), where the name begins with `*`; `Busy` (2), where the name was
-    /// asked for already or is held; `Quiet` (1), where the name is being given back, or no more than
-    /// `Config::quiet()` has passed since the node's start, or since the last sending about the name; `Full` (3), where
-    /// no slot is free.
+    /// Registers the name at the server, for `ttl` seconds or, where that is 0, for as long as the server grants: `out`
+    /// then holds the NAME REGISTRATION REQUEST for the server, and nothing else (RFC 1002 section 4.2.2). Refused in
+    /// this order, the node staying as it was and `out` empty: `ClockBack` (4), where `now` is before the node's start or
+    /// the time of an earlier call that wasn't refused; `BadName` (5), where the name begins with `*`; `Busy` (2), where
+    /// a registration of the name is pending or the name is held; `Quiet` (1), where the name is being released, or no
+    /// more than `Config::quiet()` has passed since the node's start, or since the last sending about the name; `Full`
+    /// (3), where no slot is free.
     pub fn ask(
         &mut self,
         now: Moment,
@@ -169,10 +169,10 @@ impl<const N: usize> Node<N> {
         Ok(())
     }
 
-    /// Gives the name back: `out` then holds the NAME RELEASE REQUEST for the server, and nothing else (RFC 1002 section
-    /// 4.2.9). The name isn't held any more, and may not be asked for until more than `Config::quiet()` has passed since
+    /// Releases the name: `out` then holds the NAME RELEASE REQUEST for the server, and nothing else (RFC 1002 section
+    /// 4.2.9). The name isn't held any more, and may not be registered until more than `Config::quiet()` has passed since
     /// the last sending about it. Refused in this order, the node staying as it was and `out` empty: `ClockBack` (4),
-    /// where `now` is before the node's start or the moment of an earlier call that wasn't refused; `NotHeld` (1), where
+    /// where `now` is before the node's start or the time of an earlier call that wasn't refused; `NotHeld` (1), where
     /// the name isn't held.
     pub fn release(
         &mut self,
@@ -216,11 +216,11 @@ impl<const N: usize> Node<N> {
     }
 
     /// Sends at most one datagram that is due at `now`: that of the lowest slot that has one, or else the lookup's.
-    /// Returns the address for which it stands in `out`, or `None`, `out` being empty. Whoever polls calls until
-    /// `None`. A request is sent again 5,000 ms after its last sending, three times in all, and a hold is refreshed
+    /// Returns the endpoint to which the caller must send what `out` holds, or `None`, `out` being empty. The caller polls
+    /// until `None` comes. A request is sent again 5,000 ms after its last sending, three times in all, and a hold is refreshed
     /// after half of the seconds that were granted, but only where more than `Config::quiet()` has passed since the last
     /// sending about the name (RFC 1002 sections 5.1.2.6 and 6; the numbers are our profile's). Refused with
-    /// `ClockBack` (4) where `now` is before the node's start or the moment of an earlier call that wasn't refused: the
+    /// `ClockBack` (4) where `now` is before the node's start or the time of an earlier call that wasn't refused: the
     /// node stays as it was, and `out` is empty.
     pub fn poll(
         &mut self,
@@ -255,7 +255,7 @@ impl<const N: usize> Node<N> {
         Lookup::poll(&mut self.lookup, now, out)
     }
 
-    /// Whether a lookup is open at `now`; `false` where `now` is before the moment of the last call.
+    /// Whether a lookup is open at `now`; `false` where `now` is before the time of the last call.
     pub fn lookup_open(&self, now: Moment) -> bool
         ensures { result ≡ lookup_open self.now now }
     {
@@ -264,7 +264,7 @@ impl<const N: usize> Node<N> {
 
     /// Looks up at the server who holds the name: `out` then holds the NAME QUERY REQUEST for the server, and nothing
     /// else (RFC 1002 section 4.2.12). Refused in this order, the node staying as it was and `out` empty: `ClockBack`
-    /// (4), where `now` is before the node's start or the moment of an earlier call that wasn't refused; `BadName` (5),
+    /// (4), where `now` is before the node's start or the time of an earlier call that wasn't refused; `BadName` (5),
     /// where the name begins with `*`; `Busy` (2), where a lookup is open. No name's state changes but by time.
     pub fn resolve(
         &mut self,
@@ -291,9 +291,9 @@ impl<const N: usize> Node<N> {
         Ok(())
     }
 
-    /// Asks the end at `to` for the names that it holds: `out` then holds the NODE STATUS REQUEST for it, and nothing
+    /// Asks the host at `to` for the names that it holds: `out` then holds the NODE STATUS REQUEST for it, and nothing
     /// else (RFC 1002 section 4.2.17). Refused in this order, the node staying as it was and `out` empty: `ClockBack`
-    /// (4), where `now` is before the node's start or the moment of an earlier call that wasn't refused; `Busy` (2),
+    /// (4), where `now` is before the node's start or the time of an earlier call that wasn't refused; `Busy` (2),
     /// where a lookup is open. No name's state changes but by time.
     pub fn name_status(
         &mut self,
@@ -317,7 +317,7 @@ impl<const N: usize> Node<N> {
         Ok(())
     }
 
-    /// Opens a lookup at the end at `to`.
+    /// Opens a lookup at the endpoint `to`.
     fn look_up(
         &mut self,
         now: Moment,
@@ -344,12 +344,13 @@ impl<const N: usize> Node<N> {
         self.lookup = Some(lookup);
     }
 
-    /// Takes a datagram from an end, and returns what it was to the node. A reply of the server counts only from the
-    /// server's address and port, with the id and name of what is open; a conflict demand (RCODE 7) drops a name that is
-    /// asked for or held, whatever its id (our profile). A lookup ends only by the end that was asked. A status request
-    /// for a name that begins with `*`, or that the node holds, is replied to whoever sent it: `out` then holds the NODE
-    /// STATUS RESPONSE for `from`, at most 576 octets (RFC 1002 section 4.2.18); else `out` is empty. Refused with
-    /// `ClockBack` (4) where `now` is before the node's start or the moment of an earlier call that wasn't refused: the
+    /// Handles a datagram from an endpoint, and returns what it was to the node. A reply of the server counts only from the
+    /// server's address and port, with the id and name of the pending request; a conflict demand (RCODE 7) drops a name
+    /// that is being registered or held, whatever its id (our profile). A lookup ends only by the endpoint that was
+    /// queried. A status request for a name that begins with `*`, or that the node holds, is replied to whoever sent it:
+    /// `out` then holds the NODE STATUS RESPONSE for `from`, at most 576 octets (RFC 1002 section 4.2.18); else `out` is
+    /// empty. Refused with
+    /// `ClockBack` (4) where `now` is before the node's start or the time of an earlier call that wasn't refused: the
     /// node stays as it was, and `out` is empty.
     pub fn on_datagram<'a>(
         &mut self,
@@ -392,7 +393,7 @@ impl<const N: usize> Node<N> {
         }
     }
 
-    /// What a message from an end makes of the node.
+    /// What a message from an endpoint makes of the node.
     fn take<'a>(
         &mut self,
         now: Moment,
@@ -408,14 +409,27 @@ impl<const N: usize> Node<N> {
             Message::Registered {
                 rcode,
                 registration,
-            } => self.hear_registered(now, from, *rcode, registration),
+            } => {
+                let state = self.state_at(now, &registration.name);
+                let seconds = self.config.granted(registration.ttl);
+                let outcome = on_registered(&state, *rcode, registration.id, seconds);
+                self.hear(now, from, &registration.name, &outcome.state, outcome.event)
+            }
             Message::Released {
                 id,
                 rcode,
                 name,
                 ..
-            } => self.hear_released(now, from, *id, *rcode, name),
-            Message::Wait { id, name, ttl } => self.hear_wait(now, from, *id, name, *ttl),
+            } => {
+                let state = self.state_at(now, name);
+                let outcome = on_released(&state, *rcode, *id);
+                self.hear(now, from, name, &outcome.state, outcome.event)
+            }
+            Message::Wait { id, name, ttl } => {
+                let state = self.state_at(now, name);
+                let outcome = on_wait(&state, *id, *ttl, now);
+                self.hear(now, from, name, &outcome.state, outcome.event)
+            }
             Message::StatusRequest { id, name } => self.list_names(now, *id, name, out),
             Message::Found { entries, cut, .. } => {
                 let found = Event::Found { entries, cut: *cut };
@@ -468,7 +482,7 @@ impl<const N: usize> Node<N> {
         name.is_star() || self.state_at(now, name).held_kind().is_some()
     }
 
-    /// What may end the lookup, and is then told.
+    /// Ends the lookup where the message answers it, and reports this event then.
     fn end_lookup<'a>(
         &mut self,
         now: Moment,
@@ -487,72 +501,26 @@ impl<const N: usize> Node<N> {
         event
     }
 
-    /// A registration's reply.
-    fn hear_registered<'a>(
+    /// Gives a name the state that a reply leads to, and reports the event, where the server sent the reply.
+    fn hear<'a>(
         &mut self,
         now: Moment,
         from: Addr,
-        rcode: u8,
-        r: &Registration,
-    ) -> Event<'a>
-        requires { self.old.last ≤ now }
-        ensures { NodeHears self.old now from r.now.name (registered rcode r.now) self.new None (told_of result) }
-    {
-        if !is_same_end(from, self.server) {
-            self.settle(now);
-            return Event::Nothing;
-        }
-        let state = self.state_at(now, &r.name);
-        let outcome = on_registered(&state, rcode, r.id, self.config.granted(r.ttl));
-        let id = self.next_id;
-        self.change(now, &r.name, &outcome.state, id);
-        outcome.event
-    }
-
-    /// A release's reply.
-    fn hear_released<'a>(
-        &mut self,
-        now: Moment,
-        from: Addr,
-        id: u16,
-        rcode: u8,
         name: &Name,
+        state: &State,
+        event: Event<'a>,
     ) -> Event<'a>
         requires { self.old.last ≤ now }
-        ensures { (k : NameKind) (a : ℕ) → NodeHears self.old now from name.now (released id rcode name.now k a) self.new None (told_of result) }
+        ensures { (message : MessageValue) → Move self.old now name.now (state_at self.old now name.now) (hear message) state.now None (told_of event.entry) self.old.next_id
+            → NodeHears self.old now from name.now message self.new None (told_of result) }
     {
         if !is_same_end(from, self.server) {
             self.settle(now);
             return Event::Nothing;
         }
-        let state = self.state_at(now, name);
-        let outcome = on_released(&state, rcode, id);
         let id = self.next_id;
-        self.change(now, name, &outcome.state, id);
-        outcome.event
-    }
-
-    /// A WACK.
-    fn hear_wait<'a>(
-        &mut self,
-        now: Moment,
-        from: Addr,
-        id: u16,
-        name: &Name,
-        ttl: u32,
-    ) -> Event<'a>
-        requires { self.old.last ≤ now }
-        ensures { NodeHears self.old now from name.now (wait id name.now ttl) self.new None (told_of result) }
-    {
-        if !is_same_end(from, self.server) {
-            self.settle(now);
-            return Event::Nothing;
-        }
-        let state = self.state_at(now, name);
-        let outcome = on_wait(&state, id, ttl, now);
-        let id = self.next_id;
-        self.change(now, name, &outcome.state, id);
-        outcome.event
+        self.change(now, name, state, id);
+        event
     }
 
     /// The name's state at `now`.

@@ -1,6 +1,6 @@
 //! What is sent again when its time has come, and when a hold is refreshed (RFC 1002 sections 5.1.2.6 and 6).
 
-ghost use Rattle.std.specs.Prelude.{◌≡◌, ℕ, ◌≤◌, List, ◌∷◌, map, Option, Some, None, is_some, IfSome, IsNone};
+ghost use Rattle.std.specs.Prelude.{◌≡◌, ℕ, List, ◌∷◌, map, Option, Some, None, is_some, IfSome, IsNone};
 ghost use Rattle.nbt_node.specs.declared.state.Slot.{Slot as Kept};
 ghost use Rattle.nbt_name.specs.declared.addr.Kind.{Kind as NameKind};
 ghost use Rattle.nbt_name.specs.Wire.{NameValue};
@@ -27,7 +27,7 @@ pub struct Sending<'a> {
     pub next_id: u16,
 }
 
-/// What is to be sent about a name, if anything: by a node with this address and next id.
+/// What is to be sent about a name, if anything, by a node with this address and next id.
 fn polled<'a>(
     state: &State,
     name: &Name,

@@ -127,9 +127,7 @@ pub fn on_registered<'a>(state: &State, rcode: u8, id: u16, seconds: u32) -> Out
                 }
             }
         }
-        State::Idle => unmoved(state),
-        State::Releasing { .. } => unmoved(state),
-        State::Resting { .. } => unmoved(state),
+        _ => unmoved(state),
     }
 }
 
@@ -138,22 +136,13 @@ pub fn on_released<'a>(state: &State, rcode: u8, id: u16) -> Outcome<'a>
     ensures { (node : NodeValue) (now : ℕ) (name n : NameValue) (k : NameKind) (a : ℕ)
         → Move node now name state.now (hear (released id rcode n k a)) result.state None (told_of result.event) node.next_id }
 {
-    match state {
-        State::Releasing {
-            last,
-            pending: given_back,
-            ..
-        } => {
-            if given_back.id != id {
-                return unmoved(state);
-            }
-            rests(*last, Event::Freed(rcode))
-        }
-        State::Idle => unmoved(state),
-        State::Asking { .. } => unmoved(state),
-        State::Held { .. } => unmoved(state),
-        State::Resting { .. } => unmoved(state),
+    let State::Releasing { last, pending, .. } = state else {
+        return unmoved(state);
+    };
+    if pending.id != id {
+        return unmoved(state);
     }
+    rests(*last, Event::Freed(rcode))
 }
 
 /// What a WACK with this id and TTL makes of a name: the next sending is put off.

@@ -9,8 +9,8 @@ use crate::transaction::{Transaction, is_over};
 use nbt_lease::{Config, Moment};
 use nbt_name::Kind;
 
-/// Whether no more than `Config::quiet()` has passed at `now` since a moment, so that a datagram of before it, or the reply to
-/// one, may still be on its way.
+/// Whether no more than `Config::quiet()` has passed at `now` since this time, so that a datagram from before it, or the reply
+/// to one, may still be on its way.
 pub fn is_resting(since: Moment, config: Config, now: Moment) -> bool
     ensures { result ≡ nat_le now (since + quiet config.life) }
 {
@@ -40,7 +40,7 @@ impl State {
     ghost use Rattle.nbt_node.specs.Node.{held_at};
     ghost use Rattle.nbt_node.specs.Calls.{is_busy, is_quiet, held_kind};
 
-    /// The state in which time's own moves end at `now`.
+    /// The state once time alone has done its part at `now`.
     pub fn settled(&self, config: Config, now: Moment) -> State
         ensures { result ≡ settled config.life now self.now }
     {
@@ -78,7 +78,7 @@ impl State {
         }
     }
 
-    /// Whether the name was asked for already, or is held.
+    /// Whether a registration is pending, or the name is held.
     pub fn is_busy(&self) -> bool
         ensures { result ≡ is_busy self.now }
     {

@@ -1,7 +1,8 @@
 //! The slots of a node: each is free, or has a name that isn't `Idle`.
 
-ghost use Rattle.std.specs.Prelude.{◌≡◌, ◌≤◌, ◌↔◌, map, is_none, if◌then◌else◌};
-ghost use Rattle.nbt_node.specs.Node.{state_in, slot_of, settled_slot, is_named, is_in, has_room, put, take_slot, with_state};
+ghost use Rattle.std.specs.Prelude.{◌≡◌, map, is_none};
+ghost use Rattle.std.specs.List.{position};
+ghost use Rattle.nbt_node.specs.Node.{state_in, slot_of, settled_slot, is_named, has_room, with_state};
 ghost use Rattle.nbt_node.specs.Settling.{settled};
 
 use crate::state::{Slot, State};
@@ -45,7 +46,7 @@ pub fn settle(slots: &mut [Option<Slot>], config: Config, now: Moment)
     }
 }
 
-/// Whether a slot is free once time has done its own at `now`.
+/// Whether a slot is free once it is settled at `now`.
 fn is_free(slot: &Option<Slot>, config: Config, now: Moment) -> bool
     ensures { result ≡ is_none (settled_slot config.life now slot.now) }
 {
@@ -67,71 +68,53 @@ pub fn has_room(slots: &[Option<Slot>], config: Config, now: Moment) -> bool
     false
 }
 
-/// Puts another state into the name's slot, and frees the slot where that is `Idle`. Returns whether it is the name's.
-fn put_into(slot: &mut Option<Slot>, name: &Name, state: &State) -> bool
-    ensures found { result ≡ is_named slot.old name.now }
-    ensures slot { slot.new ≡ (if is_named slot.old name.now then slot_of name.now state.now else slot.old) }
+/// Whether this is the name's slot.
+fn is_named(slot: &Option<Slot>, name: &Name) -> bool
+    ensures { result ≡ is_named slot.now name.now }
 {
     match slot {
-        Some(kept) if kept.name == *name => {
-            if *state == State::Idle {
-                *slot = None;
-            } else {
-                kept.state = *state;
-            }
-            true
-        }
-        _ => false,
+        Some(slot) => slot.name == *name,
+        None => false,
     }
 }
 
-/// Puts another state into the name's slot. Returns whether it has one.
-fn put(slots: &mut [Option<Slot>], name: &Name, state: &State) -> bool
-    ensures found { result ≡ is_in slots.old name.now }
-    ensures slots { slots.new ≡ put slots.old name.now state.now }
+/// The place of the name's slot.
+fn find(slots: &[Option<Slot>], name: &Name) -> Option<usize>
+    ensures { result ≡ position (λ slot. is_named slot name.now) slots.now }
 {
-    for slot in slots.iter_mut() {
-        if put_into(slot, name, state) {
-            return true;
-        }
-    }
-    false
+    slots.iter().position(|slot| is_named(slot, name))
 }
 
-/// Puts a name and its state into a free slot. Returns whether it did.
-fn take_into(slot: &mut Option<Slot>, name: &Name, state: &State) -> bool
-    ensures found { result ≡ is_none slot.old }
-    ensures slot { slot.new ≡ (if is_none slot.old then slot_of name.now state.now else slot.old) }
+/// The lowest free place.
+fn find_free(slots: &[Option<Slot>]) -> Option<usize>
+    ensures { result ≡ position is_none slots.now }
 {
-    if slot.is_some() {
-        return false;
-    }
-    if *state != State::Idle {
-        *slot = Some(Slot {
-            name: name.copy(),
-            state: *state,
-        });
-    }
-    true
+    slots.iter().position(|slot| slot.is_none())
 }
 
-/// Puts a name and its state into the lowest free slot, where there is one.
-fn take(slots: &mut [Option<Slot>], name: &Name, state: &State)
-    ensures { slots.new ≡ take_slot slots.old name.now state.now }
+/// The slot of a name in this state. A name that is `Idle` has none.
+fn slot_of(name: &Name, state: &State) -> Option<Slot>
+    ensures { result ≡ slot_of name.now state.now }
 {
-    for slot in slots.iter_mut() {
-        if take_into(slot, name, state) {
-            return;
-        }
+    if *state == State::Idle {
+        return None;
     }
+    Some(Slot {
+        name: name.copy(),
+        state: *state,
+    })
 }
 
 /// Puts another state into the name's slot, or else into the lowest free one.
 pub fn change(slots: &mut [Option<Slot>], name: &Name, state: &State)
     ensures { slots.new ≡ with_state slots.old name.now state.now }
 {
-    if put(slots, name, state) {
+    if let Some(place) = find(slots, name) {
+        slots[place] = slot_of(name, state);
         return;
     }
-    take(slots, name, state);
+    let Some(place) = find_free(slots) else {
+        return;
+    };
+    slots[place] = slot_of(name, state);
 }

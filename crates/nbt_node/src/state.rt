@@ -4,17 +4,17 @@ use crate::transaction::Transaction;
 use nbt_lease::Moment;
 use nbt_name::{Kind, Name};
 
-/// The state of one name at a node. Moments later than any `Moment` may be are milliseconds.
+/// The state of one name at a node. A time that may be later than any `Moment` is in milliseconds.
 #[derive(Clone, Copy, Debug, PartialEq, Eq)]
 pub enum State {
-    /// Nothing is known of the name, and it may be asked for.
+    /// Nothing is known of the name, and it may be registered.
     Idle,
-    /// The name was asked for, and no reply has ended the registration.
+    /// No reply has ended the registration.
     Asking {
         kind: Kind,
-        /// The TTL asked for, in seconds.
+        /// The requested TTL, in seconds.
         ttl: u32,
-        /// The moment of the last sending about the name.
+        /// When the last request about the name was sent.
         last: Moment,
         pending: Transaction,
     },
@@ -29,13 +29,13 @@ pub enum State {
         /// The refresh that no reply has ended.
         pending: Option<Transaction>,
     },
-    /// The name was given back, and no reply has ended the release.
+    /// No reply has ended the release.
     Releasing {
         kind: Kind,
         last: Moment,
         pending: Transaction,
     },
-    /// The name may not be asked for until more than `Config::quiet()` has passed since the last sending.
+    /// The name may not be registered until more than `Config::quiet()` has passed since the last sending.
     Resting {
         last: Moment,
     },

@@ -1,6 +1,6 @@
 //! The names that a status reply lists (RFC 1002 section 4.2.18).
 
-ghost use Rattle.std.specs.Prelude.{◌≡◌, ◌+◌, ◌*◌, ◌%◌, ◌≤◌, ◌++◌, length, Some};
+ghost use Rattle.std.specs.Prelude.{◌≡◌, ◌+◌, ◌%◌, ◌≤◌, ◌++◌, length, Some};
 ghost use Rattle.std.specs.List.{flat_map};
 ghost use Rattle.nbt_packet.specs.Message.{status};
 ghost use Rattle.nbt_packet.specs.Spelling.{AreWritten};

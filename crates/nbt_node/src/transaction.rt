@@ -1,21 +1,21 @@
 //! Requests that no reply has ended (RFC 1002 sections 5.1.2 and 6).
 
 ghost use Rattle.std.specs.Prelude.{◌≡◌, ◌<◌};
-ghost use Rattle.nbt_node.specs.Transaction.{sendings, next_due, is_next, is_over};
+ghost use Rattle.nbt_node.specs.Transaction.{sendings, next_due, is_next, is_over, opened, again, put_off};
 
 use nbt_lease::Moment;
 
-/// How often a request is sent in all (RFC 1002 section 6).
+/// How often a request is sent in all (UCAST_REQ_RETRY_COUNT, RFC 1002 section 6).
 const SENDINGS: u8 = 3;
 
-/// After how many milliseconds a request is sent again (RFC 1002 section 6).
-const RETRY: u64 = 5_000;
+/// The milliseconds after which a request without a reply is sent again (UCAST_REQ_RETRY_TIMEOUT, RFC 1002 section 6).
+pub const RETRY_TIMEOUT: u32 = 5_000;
 
 /// When a request that is sent at `now` is due again.
 pub fn next_due(now: Moment) -> u64
     ensures { result ≡ next_due now }
 {
-    now.get() + RETRY
+    now.get() + u64::from(RETRY_TIMEOUT)
 }
 
 /// Whether a request is to be sent once more.
@@ -36,7 +36,7 @@ pub fn is_over(tries: u8, due: u64, now: Moment) -> bool
 #[derive(Clone, Copy, Debug, PartialEq, Eq)]
 pub struct Transaction {
     pub id: u16,
-    /// The moment of its first sending.
+    /// When it was sent first.
     pub first: Moment,
     /// How often it was sent.
     pub tries: u8,
@@ -45,8 +45,6 @@ pub struct Transaction {
 }
 
 impl Transaction {
-    ghost use Rattle.nbt_node.specs.Transaction.{opened, again, put_off};
-
     /// A request that is sent first at `now`.
     pub fn open(id: u16, now: Moment) -> Transaction
         ensures { result ≡ opened id now }

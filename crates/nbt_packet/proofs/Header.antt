@@ -1,10 +1,6 @@
 -- The counts that stand before a place.
 use Rattle.std.proofs.Common.{◌≡◌, ℕ, ◌≤◌, List, length, arith, Option, subst}
-use Rattle.nbt_packet.specs.declared.fault.Fault.{Fault}
-use Rattle.nbt_name.specs.Words.{word_at}
-use Rattle.nbt_packet.specs.Inner.Decoding.{CountFault, cut, great, IsHeaderOf}
-use Rattle.nbt_packet.specs.declared.decoding.Header.{Header}
-use Rattle.nbt_packet.specs.Packet.{Count, questions, answers, authorities, additionals, CountsFit, SectionAt, PacketFault, header_cut, count_great}
+use Rattle.nbt_packet.proofs.Common.{Fault, word_at, CountFault, cut, great, IsHeaderOf, Header, Count, questions, answers, authorities, additionals, CountsFit, SectionAt, PacketFault, header_cut, count_great}
 
 -- counts that fit one by one
 pub counts_fit : (octets : List ℕ) (end : ℕ) → (6 ≤ end → word_at octets 4 ≤ 1) → (8 ≤ end → word_at octets 6 ≤ 1) → (10 ≤ end → word_at octets 8 ≤ 0) → (12 ≤ end → word_at octets 10 ≤ 1) → CountsFit octets end

@@ -1,7 +1,11 @@
 -- What several proofs share; the proof of a function is in the folder of its module and its name.
 
+-- the words and the lemmas of std that most of them cite
+pub mod Common
 -- the counts of a header, one by one
 pub mod Header
+-- which sections a packet has, and what they are not
+pub mod Reasons
 -- no packet meets two lines of the table of messages
 pub mod OneMessage
 -- all octets begin with one packet or have one fault, and no octets spell two messages
@@ -16,5 +20,3 @@ pub mod ReadBack
 pub mod Sizes
 -- a message that octets spell can be written
 pub mod Writable
--- which sections a packet has, and what they are not
-pub mod Reasons

@@ -1,18 +1,7 @@
 -- No packet meets two lines of the table.
 use Rattle.std.proofs.Common.{◌≡◌, ℕ, ◌+◌, ◌*◌, List, Option, Some, None, refl, sym, ap, ◌∙◌, arith}
-use Rattle.std.specs.Prelude.{◌↔◌, Bool, true, false, IsTrue, slice_index, slice_range}
-use Rattle.nbt_name.specs.Wire.{NameValue}
-use Rattle.nbt_packet.specs.declared.message.Registration.{Registration}
-use Rattle.nbt_packet.specs.declared.packet.Question.{Question}
-use Rattle.nbt_packet.specs.Packet.{PacketValue, RecordValue}
-use Rattle.nbt_packet.specs.Message.{MessageValue, registration, overwrite, refresh, release, query, status_request, registered, released, found, not_found, status, wait, nb, internet_record, IsEntry, ClaimsEntry, AnswersEntry, GivesName, MessageIs}
-
--- one section holds one record
-one_of : {X : Type 0} {x y : X} {o : Option X} → o ≡ Some x → o ≡ Some y → x ≡ y
-one_of {X} {x} {y} a b = inside (sym a ∙ b)
-  where
-    inside : ◌≡◌ {A = Option X} (Some x) (Some y) → x ≡ y
-    inside e = cc
+use Rattle.nbt_packet.proofs.Common.{◌↔◌, Bool, true, false, IsTrue, slice_index, slice_range, NameValue, Registration, Question, PacketValue, RecordValue, MessageValue, registration, overwrite, refresh, release, query, status_request, registered, released, found, not_found, status, wait, nb, internet_record, IsEntry, ClaimsEntry, AnswersEntry, GivesName, MessageIs}
+use Rattle.nbt_packet.proofs.Reasons.{one_of}
 
 -- one record with one entry makes one registration
 one_entry : (r s : Registration) (x y : List ℕ) → internet_record r.name nb r.ttl x ≡ internet_record s.name nb s.ttl y → r.id ≡ s.id → IsEntry x r.kind r.addr → IsEntry y s.kind s.addr → r ≡ s

@@ -1,20 +1,7 @@
 -- Octets begin with one packet, or have one fault: section by section.
 use Rattle.std.proofs.Common.{◌≡◌, ℕ, zero, suc, ◌+◌, ◌<◌, ◌≤◌, List, length, Option, Some, None, refl, sym, subst, ◌∙◌, arith, inl, inr}
-use Rattle.std.specs.Prelude.{◌⊎◌, slice_range}
-use Rattle.std.proofs.lemmas.Bool.{cases_lt}
-use Rattle.nbt_name.specs.declared.fault.NameFault.{NameFault}
-use Rattle.nbt_name.specs.declared.form.Form.TheVariants.{Compressed}
-use Rattle.nbt_name.specs.Words.{word_at, long_at}
-use Rattle.nbt_name.specs.Wire.{NameValue, AreOctets}
-use Rattle.nbt_name.specs.Reading.{NameAt, FaultAt}
+use Rattle.nbt_packet.proofs.Common.{◌⊎◌, slice_range, cases_lt, NameFault, Compressed, word_at, long_at, NameValue, AreOctets, NameAt, FaultAt, Fault, Question, fault_of, short, too_many, CountFault, cut, great, RecordValue, PacketValue, QuestionAt, RecordAt, SectionAt, Count, questions, answers, authorities, additionals, CountsFit, IsHeader, PacketIs, QuestionFault, question_name, question_cut, RecordFault, record_name, record_cut, rdata_cut, PacketFault, header_cut, count_great, question_bad, answer_bad, additional_bad, MessageValue, MessageIs, Spells}
 use Rattle.nbt_name.proofs.Readers.{Reads, reads_this, reads_up_to, reads_name, reads_same, reads_as, reads_then}
-use Rattle.nbt_packet.specs.declared.fault.Fault.{Fault}
-use Rattle.nbt_packet.specs.declared.packet.Question.{Question}
-use Rattle.nbt_packet.specs.Numbers.{fault_of, short, too_many}
-use Rattle.nbt_packet.specs.Inner.Decoding.{CountFault, cut, great}
-use Rattle.nbt_packet.specs.Packet.{RecordValue, PacketValue, QuestionAt, RecordAt, SectionAt, Count, questions, answers, authorities, additionals, CountsFit, IsHeader, PacketIs, QuestionFault, question_name, question_cut, RecordFault, record_name, record_cut, rdata_cut, PacketFault, header_cut, count_great, question_bad, answer_bad, additional_bad}
-use Rattle.nbt_packet.specs.Message.{MessageValue, MessageIs}
-use Rattle.nbt_packet.specs.Spelling.{Spells}
 use Rattle.nbt_packet.proofs.Header.{counts_fit, count_fault}
 use Rattle.nbt_packet.proofs.OneMessage.{one_line}
 

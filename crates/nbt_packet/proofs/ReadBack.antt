@@ -1,14 +1,6 @@
 -- The written form of each message that fits is a packet that spells it.
 use Rattle.std.proofs.Common.{◌≡◌, true, false, ℕ, ◌+◌, ◌*◌, ◌-◌, ◌/◌, ◌%◌, ◌<◌, ◌≤◌, ◌^◌, List, [], ◌∷◌, ◌++◌, length, replicate, Some, None, refl, sym, arith, inl}
-use Rattle.std.specs.Prelude.{slice_range}
-use Rattle.std.proofs.lemmas.List.{length-append, take_at}
-use Rattle.nbt_name.specs.declared.addr.Kind.{Kind}
-use Rattle.nbt_name.specs.declared.addr.Kind.TheVariants.{Unique, Group}
-use Rattle.nbt_name.specs.Wire.{NameValue}
-use Rattle.nbt_packet.specs.declared.message.Registration.{Registration}
-use Rattle.nbt_packet.specs.Packet.{PacketValue, PacketIs}
-use Rattle.nbt_packet.specs.Message.{MessageValue, registration, overwrite, refresh, release, query, status_request, registered, released, found, not_found, status, wait, nb, nbstat, null, internet_record, opcode_of, rcode_of, IsUnicast, Responds, IsChallenge, IsEntry, Answers, ClaimsEntry, AnswersEntry, HoldsNumbers, Fits, MessageIs}
-use Rattle.nbt_packet.specs.Text.{entry, text}
+use Rattle.nbt_packet.proofs.Common.{slice_range, length-append, take_at, Kind, Unique, Group, NameValue, Registration, PacketValue, PacketIs, MessageValue, registration, overwrite, refresh, release, query, status_request, registered, released, found, not_found, status, wait, nb, nbstat, null, internet_record, IsChallenge, IsEntry, Answers, ClaimsEntry, AnswersEntry, HoldsNumbers, Fits, MessageIs, entry, text}
 use Rattle.nbt_name.proofs.Behind.{long_back}
 use Rattle.nbt_packet.proofs.Shapes.{asked_packet, bare_packet, answer_packet, claim_packet, asking_is, bare_is, answering_is, claiming_is}
 
@@ -30,27 +22,6 @@ answers_it id flags name rtype ttl rdata = record { no_question = refl; answer_i
 
 answers_entry : (flags : ℕ) (r : Registration) → r.addr < 2 ^ 32 → AnswersEntry (answer_packet r.id flags r.name nb r.ttl (entry r.kind r.addr)) r
 answers_entry flags r fits = record { rdata = entry r.kind r.addr; id = refl; answers = answers_it r.id flags r.name nb r.ttl (entry r.kind r.addr); entry = entry_is r.kind r.addr fits }
-
--- ---- flags with an RCODE
-
-record FlagsAre (flags opcode rcode : ℕ) : Type 0 where
-  small : flags < 2 ^ 16
-  response : 0x8000 ≤ flags
-  opcode_is : opcode_of flags ≡ opcode
-  unicast : IsUnicast flags
-  rcode_is : rcode ≡ rcode_of flags
-
-registered_flags : (rcode : ℕ) → rcode ≤ 15 → FlagsAre (0xAD80 + rcode) 5 rcode
-registered_flags rcode most = record { small = omega arith; response = omega arith; opcode_is = omega arith; unicast = omega arith; rcode_is = omega arith }
-
-released_flags : (rcode : ℕ) → rcode ≤ 15 → FlagsAre (0xB400 + rcode) 6 rcode
-released_flags rcode most = record { small = omega arith; response = omega arith; opcode_is = omega arith; unicast = omega arith; rcode_is = omega arith }
-
-queried_flags : (rcode : ℕ) → rcode ≤ 15 → FlagsAre (0x8580 + rcode) 0 rcode
-queried_flags rcode most = record { small = omega arith; response = omega arith; opcode_is = omega arith; unicast = omega arith; rcode_is = omega arith }
-
-responds : (flags opcode rcode : ℕ) → FlagsAre flags opcode rcode → Responds flags opcode
-responds flags opcode rcode f = record { response = f.response; opcode_is = f.opcode_is; unicast = f.unicast }
 
 no_challenge : (rcode : ℕ) → rcode ≤ 15 → ¬ IsChallenge (0xAD80 + rcode)
 no_challenge rcode most challenge = challenge.end_node (omega arith)
@@ -109,20 +80,21 @@ text_is_read (status_request id name) rest (id_fits, is_name) fits = (
   asking_is id 0 nbstat name rest id_fits (omega arith) (omega arith) is_name,
   (refl, omega arith, refl, record { question_is = refl; no_answer = refl; no_additional = refl }),
 )
-text_is_read (registered rcode r) rest (id, name, addr, ttl) fits =
-    let flags = registered_flags rcode fits in
-    let p : PacketValue = answer_packet r.id (0xAD80 + rcode) r.name nb r.ttl (entry r.kind r.addr) in (
-      p,
-      answering_is r.id (0xAD80 + rcode) r.name nb r.ttl (entry r.kind r.addr) rest id flags.small name (omega arith) ttl (entry_short r.kind r.addr),
-      (inl (responds (0xAD80 + rcode) 5 rcode flags), no_challenge rcode fits, flags.rcode_is, answers_entry (0xAD80 + rcode) r addr),
-    )
-text_is_read (released id rcode name kind addr) rest (id_fits, is_name, addr_fits) fits =
-    let flags = released_flags rcode fits in
-    let p : PacketValue = answer_packet id (0xB400 + rcode) name nb 0 (entry kind addr) in (
-      p,
-      answering_is id (0xB400 + rcode) name nb 0 (entry kind addr) rest id_fits flags.small is_name (omega arith) (omega arith) (entry_short kind addr),
-      (responds (0xB400 + rcode) 6 rcode flags, flags.rcode_is, 0, answers_entry (0xB400 + rcode) (record { id = id; name = name; kind = kind; addr = addr; ttl = 0 }) addr_fits),
-    )
+text_is_read (registered rcode r) rest (id, name, addr, ttl) fits = (
+  answer_packet r.id (0xAD80 + rcode) r.name nb r.ttl (entry r.kind r.addr),
+  answering_is r.id (0xAD80 + rcode) r.name nb r.ttl (entry r.kind r.addr) rest id (omega arith) name (omega arith) ttl (entry_short r.kind r.addr),
+  (inl (record { response = omega arith; opcode_is = omega arith; unicast = omega arith }), no_challenge rcode fits, omega arith, answers_entry (0xAD80 + rcode) r addr),
+)
+text_is_read (released id rcode name kind addr) rest (id_fits, is_name, addr_fits) fits = (
+  answer_packet id (0xB400 + rcode) name nb 0 (entry kind addr),
+  answering_is id (0xB400 + rcode) name nb 0 (entry kind addr) rest id_fits (omega arith) is_name (omega arith) (omega arith) (entry_short kind addr),
+  (
+    record { response = omega arith; opcode_is = omega arith; unicast = omega arith },
+    omega arith,
+    0,
+    answers_entry (0xB400 + rcode) (record { id = id; name = name; kind = kind; addr = addr; ttl = 0 }) addr_fits,
+  ),
+)
 text_is_read (found id name ttl entries false) rest (id_fits, is_name, ttl_fits, octets) (some, most, whole) = (
   answer_packet id 0x8580 name nb ttl entries,
   answering_is id 0x8580 name nb ttl entries rest id_fits (omega arith) is_name (omega arith) ttl_fits (omega arith),
@@ -133,17 +105,16 @@ text_is_read (found id name ttl entries true) rest (id_fits, is_name, ttl_fits, 
   answering_is id 0x8780 name nb ttl entries rest id_fits (omega arith) is_name (omega arith) ttl_fits (omega arith),
   (refl, record { response = omega arith; opcode_is = refl; unicast = refl }, refl, (λ e. refl, λ e. refl), answers_it id 0x8780 name nb ttl entries, (some, whole)),
 )
-text_is_read (not_found id rcode None) rest id_fits (low, most) =
-    let flags = queried_flags rcode most in
-    let p : PacketValue = bare_packet id (0x8580 + rcode) in
-    (p, bare_is id (0x8580 + rcode) rest id_fits flags.small, (refl, responds (0x8580 + rcode) 0 rcode flags, flags.rcode_is, λ none. omega arith, record { no_question = refl; no_answer = refl; no_additional = refl }))
-text_is_read (not_found id rcode (Some name)) rest (id_fits, is_name) (low, most) =
-    let flags = queried_flags rcode most in
-    let p : PacketValue = answer_packet id (0x8580 + rcode) name null 0 [] in (
-      p,
-      answering_is id (0x8580 + rcode) name null 0 [] rest id_fits flags.small is_name (omega arith) (omega arith) (omega arith),
-      (refl, responds (0x8580 + rcode) 0 rcode flags, flags.rcode_is, λ none. omega arith, (_, record { no_question = refl; answer_is = refl; no_additional = refl }, refl)),
-    )
+text_is_read (not_found id rcode None) rest id_fits (low, most) = (
+  bare_packet id (0x8580 + rcode),
+  bare_is id (0x8580 + rcode) rest id_fits (omega arith),
+  (refl, record { response = omega arith; opcode_is = omega arith; unicast = omega arith }, omega arith, λ none. omega arith, record { no_question = refl; no_answer = refl; no_additional = refl }),
+)
+text_is_read (not_found id rcode (Some name)) rest (id_fits, is_name) (low, most) = (
+  answer_packet id (0x8580 + rcode) name null 0 [],
+  answering_is id (0x8580 + rcode) name null 0 [] rest id_fits (omega arith) is_name (omega arith) (omega arith) (omega arith),
+  (refl, record { response = omega arith; opcode_is = omega arith; unicast = omega arith }, omega arith, λ none. omega arith, (_, record { no_question = refl; answer_is = refl; no_additional = refl }, refl)),
+)
 text_is_read (status id name entries) rest (id_fits, is_name, octets) (most, whole) = (
   answer_packet id 0x8400 name nbstat 0 (names_of entries),
   answering_is id 0x8400 name nbstat 0 (names_of entries) rest id_fits (omega arith) is_name (omega arith) (omega arith) (names_short entries most),

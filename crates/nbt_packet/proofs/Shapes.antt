@@ -1,24 +1,11 @@
 -- The sections of a written form, where they stand, and the packet of each shape.
 use Rattle.std.proofs.Common.{◌≡◌, ℕ, ◌+◌, ◌<◌, ◌≤◌, ◌^◌, List, [], ◌∷◌, ◌++◌, length, Some, None, refl, sym, ap, subst, ◌∙◌, arith, append_assoc}
-use Rattle.std.specs.Prelude.{slice_range}
-use Rattle.std.proofs.lemmas.List.{length-append}
-use Rattle.nbt_name.specs.Wire.{NameValue, IsName, wire}
-use Rattle.nbt_name.specs.Reading.{NameAt}
-use Rattle.nbt_packet.specs.declared.message.Registration.{Registration}
-use Rattle.nbt_name.specs.Words.{word, long, word_at}
-use Rattle.nbt_packet.specs.Packet.{PacketValue, QuestionAt, RecordAt, CountsFit, IsHeader, PacketIs, questions, answers, authorities, additionals}
-use Rattle.nbt_packet.specs.Message.{internet, nb}
-use Rattle.nbt_packet.specs.Text.{header, record_fields, entry, question_octets, claim_octets, answer_octets}
+use Rattle.nbt_packet.proofs.Common.{slice_range, length-append, NameValue, IsName, wire, NameAt, Registration, word, long, word_at, PacketValue, QuestionAt, RecordAt, IsHeader, PacketIs, internet, nb, header, record_fields, entry, question_octets, claim_octets, answer_octets}
 use Rattle.nbt_name.proofs.ReadBack.{pointer_is_read}
+use Rattle.nbt_packet.proofs.Header.{counts_fit}
 use Rattle.nbt_name.proofs.Behind.{Behind, onward, word_back, word_there, long_there, range_there, octet_there, name_there}
 
 -- ---- the header
-
-counts_fit : (octets : List ℕ) → word_at octets 4 ≤ 1 → word_at octets 6 ≤ 1 → word_at octets 8 ≤ 0 → word_at octets 10 ≤ 1 → CountsFit octets 12
-counts_fit octets a b c d _ _ questions within = a
-counts_fit octets a b c d _ _ answers within = b
-counts_fit octets a b c d _ _ authorities within = c
-counts_fit octets a b c d _ _ additionals within = d
 
 record HeaderThere (octets : List ℕ) (id flags qs ans ads : ℕ) (body : List ℕ) : Type 0 where
   whole : IsHeader octets
@@ -39,7 +26,7 @@ header_there id flags qs ans ads body id_fits flags_fit one_q one_a one_ad =
     let none : word_at octets 8 ≡ 0 = refl in
     let ads_are : word_at octets 10 ≡ ads = word_back ads body (omega arith) in
     record {
-      whole = (omega arith, counts_fit octets (rw qs_are one_q) (rw ans_are one_a) (omega (arith, none)) (rw ads_are one_ad));
+      whole = (omega arith, counts_fit octets 12 (λ _. rw qs_are one_q) (λ _. rw ans_are one_a) (λ _. omega (arith, none)) (λ _. rw ads_are one_ad));
       id_is = sym id_is;
       flags_is = sym flags_is;
       questions_are = qs_are;

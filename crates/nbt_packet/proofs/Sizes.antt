@@ -1,18 +1,9 @@
 -- How long written forms are.
 use Rattle.std.proofs.Common.{◌≡◌, ◌≤◌, ℕ, ◌+◌, ◌/◌, List, [], ◌∷◌, ◌++◌, length, Some, None, refl, arith}
-use Rattle.std.specs.Prelude.{replicate}
-use Rattle.std.proofs.lemmas.List.{length-append}
-use Rattle.nbt_name.specs.declared.addr.Kind.{Kind}
-use Rattle.nbt_name.specs.declared.addr.Kind.TheVariants.{Unique, Group}
-use Rattle.nbt_name.specs.Wire.{NameValue, IsName, wire, wire_size}
+use Rattle.nbt_packet.proofs.Common.{replicate, length-append, Kind, Unique, Group, NameValue, IsName, wire, wire_size, Registration, word, MessageValue, HoldsNumbers, registration, overwrite, refresh, release, query, status_request, registered, released, found, not_found, status, wait, nb, nbstat, null, internet, header, record_fields, entry, question_octets, claim_octets, answer_octets, found_flags, text, size_of, HasFewRows}
 use Rattle.nbt_name.proofs.Fits.{length-wire}
-use Rattle.nbt_packet.specs.declared.message.Registration.{Registration}
-use Rattle.nbt_name.specs.Words.{word}
-use Rattle.nbt_packet.specs.Message.{MessageValue, HoldsNumbers, registration, overwrite, refresh, release, query, status_request, registered, released, found, not_found, status, wait, nb, nbstat, null, internet}
-use Rattle.nbt_packet.specs.Text.{header, record_fields, entry, question_octets, claim_octets, answer_octets, found_flags, text, size_of}
-use Rattle.nbt_packet.specs.Spelling.{HasFewRows}
 
-length-entry : (kind : Kind) (addr : ℕ) → length (entry kind addr) ≡ 6
+pub length-entry : (kind : Kind) (addr : ℕ) → length (entry kind addr) ≡ 6
 length-entry Unique addr = refl
 length-entry Group addr = refl
 
@@ -57,16 +48,7 @@ pub few_rows : (m : MessageValue) → HoldsNumbers m → HasFewRows m → length
 few_rows m holds few = rw (length-text m holds) (size_small m holds few)
   where
     size_small : (m : MessageValue) → HoldsNumbers m → HasFewRows m → size_of m ≤ 576
-    size_small (registration r) holds few = omega (arith, holds.1.fits)
-    size_small (overwrite r) holds few = omega (arith, holds.1.fits)
-    size_small (refresh r) holds few = omega (arith, holds.1.fits)
-    size_small (registered rcode r) holds few = omega (arith, holds.1.fits)
     size_small (found id name ttl entries cut) holds few = omega (arith, holds.1.fits, length-wire name holds.1, few)
     size_small (not_found id rcode None) holds few = omega arith
-    size_small (not_found id rcode (Some name)) holds few = omega (arith, holds.1.fits)
     size_small (status id name names) holds few = omega (arith, holds.1.fits, few)
-    size_small (release id name kind addr) holds few = omega (arith, holds.1.fits)
-    size_small (query id name) holds few = omega (arith, holds.1.fits)
-    size_small (status_request id name) holds few = omega (arith, holds.1.fits)
-    size_small (released id rcode name kind addr) holds few = omega (arith, holds.1.fits)
-    size_small (wait id name ttl) holds few = omega (arith, holds.1.fits)
+    size_small m holds few = omega (arith, holds.1.fits)

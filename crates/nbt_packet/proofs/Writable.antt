@@ -1,16 +1,7 @@
 -- A message that octets spell holds numbers in their ranges, and has a written form.
 use Rattle.std.proofs.Common.{◌≡◌, ℕ, ◌+◌, ◌-◌, ◌*◌, ◌^◌, ◌<◌, List, length, drop, Option, Some, None, ap, subst, ◌∙◌, arith}
-use Rattle.std.specs.Prelude.{slice_index, slice_range}
-use Rattle.std.proofs.lemmas.List.{length-take-le, length-drop}
-use Rattle.nbt_name.specs.declared.addr.Kind.{Kind}
-use Rattle.nbt_name.specs.Wire.{NameValue, IsName, AreOctets}
+use Rattle.nbt_packet.proofs.Common.{slice_index, slice_range, length-take-le, length-drop, same_Some, Kind, NameValue, IsName, AreOctets, Registration, Question, word_at, RecordValue, PacketValue, QuestionAt, RecordAt, SectionAt, PacketIs, MessageValue, registration, overwrite, refresh, release, query, status_request, registered, released, found, not_found, status, wait, IsEntry, ClaimsEntry, AnswersEntry, GivesName, MessageIs, IsRegistration, HoldsNumbers, Fits, Spells}
 use Rattle.nbt_name.proofs.Fits.{octets_range, word_fits, long_fits}
-use Rattle.nbt_packet.specs.declared.message.Registration.{Registration}
-use Rattle.nbt_packet.specs.declared.packet.Question.{Question}
-use Rattle.nbt_name.specs.Words.{word_at}
-use Rattle.nbt_packet.specs.Packet.{RecordValue, PacketValue, QuestionAt, RecordAt, SectionAt, PacketIs}
-use Rattle.nbt_packet.specs.Message.{MessageValue, registration, overwrite, refresh, release, query, status_request, registered, released, found, not_found, status, wait, IsEntry, ClaimsEntry, AnswersEntry, GivesName, MessageIs, IsRegistration, HoldsNumbers, Fits}
-use Rattle.nbt_packet.specs.Spelling.{Spells}
 
 -- ---- what stands in a packet
 
@@ -41,10 +32,7 @@ record_holds octets fits place r next at =
 section_holds : {X : Type 0} (At : ℕ → X → ℕ → Type 0) (Holds : X → Type 0) → ((place : ℕ) (x : X) (next : ℕ) → At place x next → Holds x)
     → (count place : ℕ) (section : Option X) (next : ℕ) → SectionAt At count place section next → (x : X) → section ≡ Some x → Holds x
 section_holds At Holds each count place None next at x e = absurd cc
-section_holds {X} At Holds each count place (Some y) next at x e = subst Holds (inside e) (each place y next at.1)
-  where
-    inside : {a b : X} → ◌≡◌ {A = Option X} (Some a) (Some b) → a ≡ b
-    inside e = cc
+section_holds At Holds each count place (Some y) next at x e = subst Holds (same_Some y x e) (each place y next at.1)
 
 packet_holds : (octets : List ℕ) → AreOctets octets → (p : PacketValue) (n : ℕ) → PacketIs octets p n → PacketHolds p
 packet_holds octets fits p n is = record {

@@ -1,9 +1,6 @@
 -- What the writer's steps put together is a message's written form.
 use Rattle.std.proofs.Common.{◌≡◌, ℕ, ◌+◌, ◌/◌, List, [], ◌∷◌, ◌++◌, length, replicate, arith, ap, ◌∙◌, append_assoc, length-append}
-use Rattle.nbt_name.specs.Wire.{NameValue, wire}
-use Rattle.nbt_name.specs.Words.{word, long}
-use Rattle.nbt_packet.specs.Message.{status, nbstat, internet}
-use Rattle.nbt_packet.specs.Text.{header, text}
+use Rattle.nbt_packet.proofs.Common.{NameValue, wire, word, long, status, nbstat, internet, header, text}
 
 -- what stands between a record's name and its RDATA
 fields_of : (rtype ttl rdlength : ℕ) → List ℕ

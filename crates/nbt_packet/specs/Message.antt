@@ -1,12 +1,12 @@
 -- Messages, and the table of the packets that spell them: RFC 1002 sections 4.2.2 to 4.2.18.
 use Rattle.std.specs.Prelude.{◌≡◌, ◌≢◌, ℕ, ◌+◌, ◌*◌, ◌/◌, ◌%◌, ◌^◌, ◌<◌, ◌≤◌, ◌↔◌, ◌⊎◌, Bool, IsTrue, List, length, slice_index, slice_range, Option, Some, None, nat_lt, if◌then◌else◌}
-use Rattle.nbt_name.specs.declared.addr.Kind.{Kind}
-use Rattle.nbt_name.specs.declared.addr.Kind.TheVariants.{Unique, Group}
-use Rattle.nbt_name.specs.Wire.{NameValue, IsName, AreOctets}
+pub use Rattle.nbt_name.specs.declared.addr.Kind.{Kind}
+pub use Rattle.nbt_name.specs.declared.addr.Kind.TheVariants.{Unique, Group}
+pub use Rattle.nbt_name.specs.Wire.{NameValue, IsName, AreOctets}
 use Rattle.nbt_packet.specs.declared.message.Message.{Message}
 use Rattle.nbt_packet.specs.declared.message.Message.TheVariants as m
-use Rattle.nbt_packet.specs.declared.message.Registration.{Registration}
-use Rattle.nbt_packet.specs.declared.packet.Question.{Question}
+pub use Rattle.nbt_packet.specs.declared.message.Registration.{Registration}
+pub use Rattle.nbt_packet.specs.declared.packet.Question.{Question}
 use Rattle.nbt_name.specs.Words.{long_at}
 use Rattle.nbt_packet.specs.Packet.{PacketValue, RecordValue}
 
@@ -48,14 +48,14 @@ DesiresRecursion flags = flags / 0x100 % 2 ≡ 1
 abbrev pub OffersRecursion : ℕ → Type 0
 OffersRecursion flags = flags / 0x80 % 2 ≡ 1
 
--- B clear: sent to one end
+-- B clear: unicast
 abbrev pub IsUnicast : ℕ → Type 0
 IsUnicast flags = flags / 0x10 % 2 ≡ 0
 
 abbrev pub rcode_of : ℕ → ℕ
 rcode_of flags = flags % 16
 
--- a request, or a response, of this OPCODE, sent to one end
+-- a unicast request, or response, of this OPCODE
 pub record Requests (flags opcode : ℕ) : Type 0 where
   pub request : IsRequest flags
   pub opcode_is : opcode_of flags ≡ opcode

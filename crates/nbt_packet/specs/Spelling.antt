@@ -1,8 +1,7 @@
 -- What octets say: the words by which crates above speak of datagrams, with no packet, section or place among them.
 use Rattle.std.specs.Prelude.{◌≡◌, ℕ, ◌*◌, ◌≤◌, List, [], length, Option, Some, None}
-use Rattle.nbt_name.specs.Wire.{NameValue}
 use Rattle.nbt_packet.specs.Packet.{PacketValue, PacketIs}
-use Rattle.nbt_packet.specs.Message.{MessageValue, MessageIs, registration, overwrite, refresh, release, query, status_request, registered, released, found, not_found, status, wait}
+use Rattle.nbt_packet.specs.Message.{NameValue, MessageValue, MessageIs, registration, overwrite, refresh, release, query, status_request, registered, released, found, not_found, status, wait}
 use Rattle.nbt_packet.specs.Text.{text, entries_most}
 
 -- The octets begin with a packet that spells the message; what comes after that packet is not looked at.
@@ -17,7 +16,7 @@ abbrev pub AreWritten : Option MessageValue → List ℕ → Type 0
 AreWritten None octets = octets ≡ []
 AreWritten (Some message) octets = (octets ≡ text message) × Spells octets message
 
--- a message's id, by which a reply is told from others
+-- a message's id, which matches a reply to its request
 abbrev pub id_of : MessageValue → ℕ
 id_of (registration r) = r.id
 id_of (overwrite r) = r.id

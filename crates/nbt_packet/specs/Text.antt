@@ -1,11 +1,8 @@
 -- The one written form of each message: RFC 1002 sections 4.2.2 to 4.2.18.
 use Rattle.std.specs.Prelude.{ℕ, ◌+◌, ◌-◌, ◌/◌, Bool, true, false, List, [], ◌∷◌, ◌++◌, length, Some, None, replicate}
-use Rattle.nbt_name.specs.declared.addr.Kind.{Kind}
-use Rattle.nbt_name.specs.declared.addr.Kind.TheVariants.{Unique, Group}
-use Rattle.nbt_name.specs.Wire.{NameValue, wire, wire_size}
-use Rattle.nbt_packet.specs.declared.message.Registration.{Registration}
+use Rattle.nbt_name.specs.Wire.{wire, wire_size}
 use Rattle.nbt_name.specs.Words.{word, long}
-use Rattle.nbt_packet.specs.Message.{MessageValue, registration, overwrite, refresh, release, query, status_request, registered, released, found, not_found, status, wait, nb, nbstat, null, internet}
+use Rattle.nbt_packet.specs.Message.{Kind, Unique, Group, NameValue, Registration, MessageValue, registration, overwrite, refresh, release, query, status_request, registered, released, found, not_found, status, wait, nb, nbstat, null, internet}
 
 -- the six words
 abbrev pub header : (id flags questions answers additionals : ℕ) → List ℕ
@@ -75,7 +72,7 @@ size_of (not_found id rcode (Some name)) = 22 + wire_size name
 size_of (status id name names) = 69 + wire_size name + length names
 size_of (wait id name ttl) = 24 + wire_size name
 
--- the most entries of six octets for which a response has room in 576 octets, beside its name's wire form and 22 octets
+-- the most entries of six octets that fit in a response of 576 octets, beside its name's wire form and 22 octets
 -- of header and record fields
 abbrev pub entries_most : NameValue → ℕ
 entries_most name = (576 - 22 - length (wire name)) / 6

@@ -19,9 +19,9 @@ use crate::wire::{
 use byteorder::{BigEndian, ByteOrder};
 use nbt_name::Kind;
 
-/// The message that a packet spells, or `None` where it spells none of this profile (RFC 1002 sections 4.2.2 to
-/// 4.2.18). B set makes a packet no message, but for a status request. TC is looked at in a positive response to a query
-/// alone, as `cut`. AA, the two zero bits and a request's RCODE are not looked at.
+/// The message that a packet spells, or `None` if it spells none of this profile (RFC 1002 sections 4.2.2 to 4.2.18). B must
+/// be clear, but in a status request. TC is read in a positive response to a query alone, as `cut`. AA, the two zero bits
+/// and a request's RCODE are ignored.
 pub fn classify<'a>(packet: &Packet<'a>) -> Option<Message<'a>>
     ensures { (message : MessageValue) → (message_if result ≡ Some message) ↔ MessageIs (packet_of packet.now) message }
 {
@@ -316,7 +316,7 @@ fn names_end(rdata: &[u8]) -> usize
     1 + NODE_NAME * usize::from(rdata[0])
 }
 
-/// A node's names; what comes after them is not looked at.
+/// A node's names; what comes after them is ignored.
 fn names_in(rdata: &[u8]) -> &[u8]
     requires counted { 0 < length rdata.now }
     requires whole { 1 + 18 * slice_index rdata.now 0 ≤ length rdata.now }

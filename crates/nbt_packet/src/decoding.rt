@@ -12,10 +12,10 @@ use crate::packet::{Packet, Question, Record};
 use crate::wire::{ANCOUNT, ARCOUNT, FLAGS, HEADER, NAME_TRN_ID, NSCOUNT, QDCOUNT};
 use nbt_name::{NameFaultKind, read_in, read_long, read_word};
 
-/// Reads the packet that the octets begin with, and returns it with how many octets it took. The fault is the first
-/// one in reading order: `TooMany` (6) as soon as a count was read that is above 1 (NSCOUNT: above 0); a name's own
-/// (1 to 5); `Short` (1) at the octets' length wherever they end. Octets after the packet are not looked at (RFC 1002
-/// section 4.2.1; the limits on counts are our profile).
+/// Reads the packet that the octets begin with, and returns it with its length in octets. The fault is the first one in
+/// reading order: `TooMany` (6) at a count above 1 (NSCOUNT: above 0); a name's own (1 to 5); `Short` (1) at the octets'
+/// length if they end within the packet. Octets after the packet are ignored (RFC 1002 section 4.2.1; the limits on counts
+/// are our profile).
 pub fn decode(octets: &[u8]) -> Result<(Packet<'_>, usize), Fault>
     ensures packet { (packet : PacketValue) (n : ℕ) → (decoded result ≡ Ok (packet, n)) ↔ PacketIs octets.now packet n }
     ensures fault { (fault : Fault) → (decoded result ≡ Err fault) ↔ PacketFault octets.now fault }

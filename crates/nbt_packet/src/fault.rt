@@ -1,4 +1,4 @@
-//! What a packet's octets can have wrong, and where; and a message too long to be written.
+//! What can be wrong with a packet's octets, and where; and a message too long to be written.
 
 ghost use Rattle.std.specs.Prelude.{◌≡◌, ◌↔◌, Some};
 ghost use Rattle.nbt_packet.specs.declared.fault.FaultKind.{FaultKind};
@@ -40,7 +40,7 @@ impl FaultKind {
         }
     }
 
-    /// The kind of fault that a word names; `None` where it names none.
+    /// The kind of fault that a word names; `None` if it names none.
     pub fn from_word(word: &[u8]) -> Option<FaultKind>
         ensures { (kind : FaultKind) → (result ≡ Some kind) ↔ (word.now ≡ fault_word kind) }
     {

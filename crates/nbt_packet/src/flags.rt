@@ -19,7 +19,7 @@ pub fn is_request(flags: u16) -> bool
     flags < 0x8000
 }
 
-/// B clear: the packet was sent to one end.
+/// B clear: the packet was unicast.
 pub fn is_unicast(flags: u16) -> bool
     ensures { IsTrue result ↔ IsUnicast flags }
 {

@@ -5,18 +5,18 @@ ghost use Rattle.std.specs.Prelude.{◌≡◌, ◌↔◌, IsTrue};
 use crate::wire::{ADDR_ENTRIES_MOST, ADDR_ENTRY, NODE_NAME, NODE_NAMES_MOST, RCODE_MOST};
 use nbt_name::{Kind, Name};
 
-/// What an end says of a name that it asks for or has: the name, of which kind, at which address, for how long.
+/// What a node says of a name that it requests or has: the name, its kind, its address, and for how long.
 #[derive(Debug, Drop)]
 pub struct Registration {
     /// The transaction's id.
     pub id: u16,
     /// The name.
     pub name: Name,
-    /// One machine's, or a group's.
+    /// Unique, or a group's.
     pub kind: Kind,
-    /// NB_ADDRESS, the 32-bit address of the end that asks.
+    /// NB_ADDRESS, the node's 32-bit address.
     pub addr: u32,
-    /// The TTL in seconds; 0 is as long as may be.
+    /// The TTL in seconds; 0 is as long as possible.
     pub ttl: u32,
 }
 
@@ -33,30 +33,30 @@ pub enum Message<'a> {
     Release {
         /// The transaction's id.
         id: u16,
-        /// The name that is given up.
+        /// The name that is released.
         name: Name,
-        /// One machine's, or a group's.
+        /// Unique, or a group's.
         kind: Kind,
-        /// NB_ADDRESS, the 32-bit address of the end that gives it up.
+        /// NB_ADDRESS, the node's 32-bit address.
         addr: u32,
     },
     /// NAME QUERY REQUEST (RFC 1002 section 4.2.12).
     Query {
         /// The transaction's id.
         id: u16,
-        /// The name that is asked for.
+        /// The name that is queried.
         name: Name,
     },
     /// NODE STATUS REQUEST (RFC 1002 section 4.2.17).
     StatusRequest {
         /// The transaction's id.
         id: u16,
-        /// A name of the node that is asked, or the one that stands for all.
+        /// A name of the queried node, or `*` for all.
         name: Name,
     },
     /// POSITIVE and NEGATIVE NAME REGISTRATION RESPONSE (RFC 1002 sections 4.2.5 and 4.2.6).
     Registered {
-        /// RCODE: 0 where the name is registered, 1 to 15 why it is not.
+        /// RCODE: 0 if the name is registered, 1 to 15 why it is not.
         rcode: u8,
         /// The registration that is replied to: its id, name, kind and address, and the TTL that is granted.
         registration: Registration,
@@ -65,24 +65,24 @@ pub enum Message<'a> {
     Released {
         /// The transaction's id.
         id: u16,
-        /// RCODE: 0 where the name is released, 1 to 15 why it is not.
+        /// RCODE: 0 if the name is released, 1 to 15 why it is not.
         rcode: u8,
-        /// The name that was given up.
+        /// The name that was released.
         name: Name,
-        /// One machine's, or a group's.
+        /// Unique, or a group's.
         kind: Kind,
-        /// NB_ADDRESS, the 32-bit address of the end that gave it up.
+        /// NB_ADDRESS, the node's 32-bit address.
         addr: u32,
     },
     /// POSITIVE NAME QUERY RESPONSE (RFC 1002 section 4.2.13).
     Found {
         /// The transaction's id.
         id: u16,
-        /// The name that was asked for.
+        /// The name that was queried.
         name: Name,
         /// How long the entries may be kept, in seconds.
         ttl: u32,
-        /// The name's entries of six octets each, NB_FLAGS and NB_ADDRESS, lent as they stand.
+        /// The name's entries of six octets each, NB_FLAGS and NB_ADDRESS, borrowed from the packet's octets.
         entries: &'a [u8],
         /// TC: the name has more entries than these (RFC 1002 section 4.2.1.1).
         cut: bool,
@@ -93,16 +93,16 @@ pub enum Message<'a> {
         id: u16,
         /// RCODE, 1 to 15: why there are no entries.
         rcode: u8,
-        /// The name that was asked for, where the response has its record.
+        /// The name that was queried, if the response has its record.
         name: Option<Name>,
     },
     /// NODE STATUS RESPONSE (RFC 1002 section 4.2.18).
     Status {
         /// The transaction's id.
         id: u16,
-        /// The name that was asked with.
+        /// The name that was queried.
         name: Name,
-        /// The node's names of 18 octets each, the sixteen octets and NAME_FLAGS, lent as they stand.
+        /// The node's names of 18 octets each, the sixteen octets and NAME_FLAGS, borrowed from the packet's octets.
         names: &'a [u8],
     },
     /// WAIT FOR ACKNOWLEDGEMENT RESPONSE (RFC 1002 section 4.2.16).
@@ -111,7 +111,7 @@ pub enum Message<'a> {
         id: u16,
         /// The name of the request that waits.
         name: Name,
-        /// For how many seconds the end is to wait.
+        /// For how many seconds the node is to wait.
         ttl: u32,
     },
 }

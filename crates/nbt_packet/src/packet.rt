@@ -23,7 +23,7 @@ use nbt_name::Name;
 /// A question (RFC 1002 section 4.2.1.2).
 #[derive(Debug, Drop)]
 pub struct Question {
-    /// The name that is asked for.
+    /// The name that is queried.
     pub name: Name,
     /// QUESTION_TYPE: 0x0020 is NB, 0x0021 NBSTAT.
     pub rtype: u16,
@@ -42,21 +42,21 @@ pub struct Record<'a> {
     pub class: u16,
     /// How long the record may be kept, in seconds.
     pub ttl: u32,
-    /// RDATA, at most 65,535 octets, lent from the packet's octets.
+    /// RDATA, at most 65,535 octets, borrowed from the packet's octets.
     pub rdata: &'a [u8],
 }
 
 /// A packet of the name service (RFC 1002 section 4.2.1).
 #[derive(Debug, Drop)]
 pub struct Packet<'a> {
-    /// NAME_TRN_ID, by which a reply is told from others.
+    /// NAME_TRN_ID, which matches a reply to its request.
     pub id: u16,
     /// The header's second word: R and OPCODE, the flags and RCODE.
     pub flags: u16,
-    /// The question, where QDCOUNT is 1.
+    /// The question, if QDCOUNT is 1.
     pub question: Option<Question>,
-    /// The answer, where ANCOUNT is 1.
+    /// The answer, if ANCOUNT is 1.
     pub answer: Option<Record<'a>>,
-    /// The additional record, where ARCOUNT is 1.
+    /// The additional record, if ARCOUNT is 1.
     pub additional: Option<Record<'a>>,
 }

@@ -8,8 +8,8 @@ use crate::classifying::classify;
 use crate::decoding::decode;
 use crate::message::Message;
 
-/// The message that the octets spell, or `None` where they spell none of this profile: where they begin with no packet,
-/// or with one that `classify` knows no message of. Octets after the packet are not looked at (RFC 1002 section 4.2).
+/// The message that the octets spell, or `None` if they begin with no packet, or with one that spells no message of this
+/// profile. Octets after the packet are ignored (RFC 1002 section 4.2).
 pub fn read(octets: &[u8]) -> Option<Message<'_>>
     ensures { (message : MessageValue) → (message_if result ≡ Some message) ↔ Spells octets.now message }
 {

@@ -4,7 +4,7 @@
 /// this order.
 #[derive(Clone, Copy, Debug, PartialEq, Eq)]
 pub enum Reason {
-    /// The profile has no request, or no response, of this OPCODE.
+    /// Our profile has no request, or no response, with this OPCODE.
     Opcode,
     /// B is set, and the packet is no status request.
     Broadcast,

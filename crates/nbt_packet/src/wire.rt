@@ -40,7 +40,7 @@ pub const OPCODE_RELEASE: u16 = 6;
 pub const OPCODE_WACK: u16 = 7;
 /// OPCODE of a refresh (RFC 1002 section 4.2.1.1).
 pub const OPCODE_REFRESH: u16 = 8;
-/// OPCODE of a refresh in the layout of RFC 1002 section 4.2.4, and in packets of ends that follow it.
+/// OPCODE of a refresh in the layout of RFC 1002 section 4.2.4, and of nodes that follow it.
 pub const OPCODE_REFRESH_9: u16 = 9;
 
 /// The greatest RCODE, of four bits (RFC 1002 section 4.2.1.1).

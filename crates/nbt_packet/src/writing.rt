@@ -50,8 +50,8 @@ const QUESTION_NAME: u16 = 0xC00C;
 /// RDATA of WAIT FOR ACKNOWLEDGEMENT RESPONSE: the flags of the request that waits (RFC 1002 section 4.2.16).
 const WAITS: [u8; 2] = [0x29, 0x00];
 
-/// Leaves in `out` the message's one written form and nothing else (RFC 1002 section 4.2). `Full` (7) exactly where
-/// that form is longer than 576 octets; `out` is then empty. That the message fits is the caller's: `Message::fits`
+/// Leaves in `out` the message's one written form and nothing else (RFC 1002 section 4.2). Refused with `Full` (7) if that
+/// form is longer than 576 octets; `out` is then empty. The caller must ensure that the message fits: `Message::fits`
 /// tests it.
 pub fn encode(message: &Message<'_>, out: &mut ArrayVec<u8, 576>) -> Result<(), Full>
     requires { Fits (message_of message.now) }
@@ -81,15 +81,21 @@ pub fn encode(message: &Message<'_>, out: &mut ArrayVec<u8, 576>) -> Result<(), 
         ),
         Message::Registered {
             rcode,
-            registration,
-        } => return put_registered(out, *rcode, registration),
+            registration: r,
+        } => {
+            let flags = REGISTERED + u16::from(*rcode);
+            return put_entry_packet(out, r.id, flags, &r.name, r.ttl, r.kind, r.addr);
+        }
         Message::Released {
             id,
             rcode,
             name,
             kind,
             addr,
-        } => return put_released(out, *id, *rcode, name, *kind, *addr),
+        } => {
+            let flags = RELEASED + u16::from(*rcode);
+            return put_entry_packet(out, *id, flags, name, 0, *kind, *addr);
+        }
         Message::Found {
             id,
             name,
@@ -107,7 +113,7 @@ pub fn encode(message: &Message<'_>, out: &mut ArrayVec<u8, 576>) -> Result<(), 
 }
 
 /// Leaves in `out` the message's one written form and nothing else: at most 576 octets, which spell that message (RFC 1002
-/// section 4.2.1). That the message fits, and has no more entries or names than have room, is the caller's.
+/// section 4.2.1). The caller must ensure that the message fits, and that its entries or names do.
 pub fn write(message: &Message<'_>, out: &mut ArrayVec<u8, 576>)
     requires fits { Fits (message_of message.now) }
     requires row_count { HasFewRows (message_of message.now) }
@@ -164,41 +170,23 @@ fn put_release(out: &mut ArrayVec<u8, 576>, id: u16, name: &Name, kind: Kind, ad
     put_claim_packet(out, RELEASE, &claim);
 }
 
-/// A registration's response, with its one entry (RFC 1002 sections 4.2.5 and 4.2.6).
-fn put_registered(out: &mut ArrayVec<u8, 576>, rcode: u8, r: &Registration) -> Result<(), Full>
-    requires empty { out.old.items ≡ [] }
-    requires rcode { rcode ≤ 15 }
-    ensures ok { OnOk result
-        (out.new.items ≡ answer_octets r.now.id (0xAD80 + rcode) r.now.name nb r.now.ttl (entry r.now.kind r.now.addr)) }
-    ensures full { IsErr result
-        ↔ (576 < length (answer_octets r.now.id (0xAD80 + rcode) r.now.name nb r.now.ttl (entry r.now.kind r.now.addr))) }
-    ensures empty { OnErr result (out.new.items ≡ []) }
-    ensures numbers { IsRegistration r.now }
-{
-    let flags = REGISTERED + u16::from(rcode);
-    let rdata = entry_octets(r.kind, r.addr);
-    put_answer_packet(out, r.id, flags, &r.name, NB, r.ttl, &rdata)
-}
-
-/// A release's response, with its one entry and a TTL of 0 (RFC 1002 sections 4.2.10 and 4.2.11).
-fn put_released(
+/// The response to a registration or a release, with one entry (RFC 1002 sections 4.2.5, 4.2.6, 4.2.10 and 4.2.11).
+fn put_entry_packet(
     out: &mut ArrayVec<u8, 576>,
     id: u16,
-    rcode: u8,
+    flags: u16,
     name: &Name,
+    ttl: u32,
     kind: Kind,
     addr: u32,
 ) -> Result<(), Full>
-    requires empty { out.old.items ≡ [] }
-    requires rcode { rcode ≤ 15 }
-    ensures ok { OnOk result (out.new.items ≡ answer_octets id (0xB400 + rcode) name.now nb 0 (entry kind addr)) }
-    ensures full { IsErr result ↔ (576 < length (answer_octets id (0xB400 + rcode) name.now nb 0 (entry kind addr))) }
+    requires { out.old.items ≡ [] }
+    ensures ok { OnOk result (out.new.items ≡ answer_octets id flags name.now nb ttl (entry kind addr)) }
+    ensures full { IsErr result ↔ (576 < length (answer_octets id flags name.now nb ttl (entry kind addr))) }
     ensures empty { OnErr result (out.new.items ≡ []) }
     ensures name { IsName name.now }
 {
-    let flags = RELEASED + u16::from(rcode);
-    let rdata = entry_octets(kind, addr);
-    put_answer_packet(out, id, flags, name, NB, 0, &rdata)
+    put_answer_packet(out, id, flags, name, NB, ttl, &entry_octets(kind, addr))
 }
 
 /// The flags of a positive name query response (RFC 1002 section 4.2.13).
@@ -255,7 +243,7 @@ fn put_status(out: &mut ArrayVec<u8, 576>, id: u16, name: &Name, names: &[u8]) -
     Ok(())
 }
 
-/// A response with one answer. `Full` where it is longer than 576 octets.
+/// A response with one answer. `Full` if it is longer than 576 octets.
 fn put_answer_packet(
     out: &mut ArrayVec<u8, 576>,
     id: u16,
@@ -345,8 +333,8 @@ fn put_record_fields(out: &mut ArrayVec<u8, 576>, rtype: u16, ttl: u32, rdlength
     put_word(out, rdlength);
 }
 
-/// The most entries of six octets for which a positive name query response has room in a datagram of 576 octets beside
-/// this name: 49 beside a wire form of 255 octets, 86 beside one of 34, the shortest (RFC 1002 section 4.2.13).
+/// The most entries of six octets that fit beside this name in a positive name query response of 576 octets: 49 beside a
+/// wire form of 255 octets, 86 beside one of 34, the shortest (RFC 1002 section 4.2.13).
 pub fn entries_most(name: &Name) -> usize
     ensures value { result ≡ spec.entries_most name.now }
     ensures bounds { (49 ≤ result) × (result ≤ 86) }

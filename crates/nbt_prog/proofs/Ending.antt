@@ -5,13 +5,13 @@ use Rattle.std.proofs.lemmas.Bool.{false≢true}
 use Rattle.std.specs.Io.KnownBytes.{Appends}
 use Rattle.std.specs.String.{string_bytes}
 use Rattle.nbt_args.specs.declared.texts.CommandLine.{CommandLine}
-use Rattle.nbt_engine.specs.Faults.{fault_status}
-use Rattle.nbt_engine.specs.declared.fault.Fault.{Fault as Why}
-use Rattle.nbt_engine.specs.declared.fault.Fault.TheVariants as why
-use Rattle.nbt_offline.specs.Printed.{ending_status, is_done}
-use Rattle.nbt_offline.specs.declared.printed.Ending.{Ending}
-use Rattle.nbt_offline.specs.declared.printed.Ending.TheVariants.{Done, Refused}
-use Rattle.nbt_offline.specs.declared.printed.Printed.{Printed}
+use Rattle.nbt_port.specs.Faults.{fault_status}
+use Rattle.nbt_port.specs.declared.fault.Fault.{Fault as Why}
+use Rattle.nbt_port.specs.declared.fault.Fault.TheVariants as why
+use Rattle.nbt_prog.specs.Printed.{ending_status, is_done}
+use Rattle.nbt_prog.specs.declared.offline.printed.Ending.{Ending}
+use Rattle.nbt_prog.specs.declared.offline.printed.Ending.TheVariants.{Done, Refused}
+use Rattle.nbt_prog.specs.declared.offline.printed.Printed.{Printed}
 use Rattle.nbt_prog.specs.Inner.Failure.{failure_status}
 use Rattle.nbt_prog.specs.Inner.Outcome.{status_of_outcome, text_of_outcome}
 use Rattle.nbt_prog.specs.Running.{Ends, IsDone, IsUnread, Prints}

@@ -1,4 +1,11 @@
+pub mod Answering
+pub mod Drawing
+pub mod Failures
 pub mod Inner
+pub mod Input
 pub mod Network
 pub mod Numbers
+pub mod Printed
 pub mod Running
+pub mod Showing
+pub mod Texts

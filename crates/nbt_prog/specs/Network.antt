@@ -6,8 +6,8 @@ use Rattle.nbt_name.specs.declared.addr.Kind.TheVariants.{Group}
 use Rattle.nbt_lease.specs.Config.{ConfigValue}
 use Rattle.nbt_text.specs.Address.{SpellsAddress}
 use Rattle.nbt_text.specs.NameText.{SpellsName}
-use Rattle.nbt_net.specs.declared.node.NodeArguments.{NodeArguments}
-use Rattle.nbt_net.specs.declared.serve.ServeArguments.{ServeArguments}
+use Rattle.nbt_bench.specs.declared.node.NodeArguments.{NodeArguments}
+use Rattle.nbt_bench.specs.declared.serve.ServeArguments.{ServeArguments}
 use Rattle.nbt_args.specs.declared.limits.LimitedArgument.TheVariants.{Life, Longest, Ttl, Turns}
 use Rattle.nbt_args.specs.declared.texts.NodeTexts.{NodeTexts}
 use Rattle.nbt_args.specs.declared.texts.ServeTexts.{ServeTexts}

@@ -7,15 +7,15 @@ use Rattle.nbt_args.specs.declared.texts.CommandLine.{CommandLine}
 use Rattle.nbt_args.specs.declared.texts.CommandLine.TheVariants as line
 use Rattle.nbt_args.specs.declared.texts.AnswerTexts.{AnswerTexts}
 use Rattle.nbt_args.specs.declared.texts.ShowTexts.{ShowTexts}
-use Rattle.nbt_net.specs.Node.{RunsNodeHere}
-use Rattle.nbt_net.specs.Serve.{RunsServerHere}
-use Rattle.nbt_net.specs.declared.node.NodeArguments.{NodeArguments}
-use Rattle.nbt_net.specs.declared.serve.ServeArguments.{ServeArguments}
-use Rattle.nbt_offline.specs.Answering.{Answers, AnswerArguments}
-use Rattle.nbt_offline.specs.Drawing.{Draws}
-use Rattle.nbt_offline.specs.Input.{IsInput}
-use Rattle.nbt_offline.specs.Showing.{ShowsHex, ExplainsHex}
-use Rattle.nbt_offline.specs.Texts.{IsHexadecimal}
+use Rattle.nbt_bench.specs.Node.{RunsNodeHere}
+use Rattle.nbt_bench.specs.Serve.{RunsServerHere}
+use Rattle.nbt_bench.specs.declared.node.NodeArguments.{NodeArguments}
+use Rattle.nbt_bench.specs.declared.serve.ServeArguments.{ServeArguments}
+use Rattle.nbt_prog.specs.Answering.{Answers, AnswerArguments}
+use Rattle.nbt_prog.specs.Drawing.{Draws}
+use Rattle.nbt_prog.specs.Input.{IsInput}
+use Rattle.nbt_prog.specs.Showing.{ShowsHex, ExplainsHex}
+use Rattle.nbt_prog.specs.Texts.{IsHexadecimal}
 use Rattle.nbt_show.specs.Verdicts.{PrintsChecked}
 use Rattle.nbt_sim.specs.Script.{Plays}
 use Rattle.nbt_text.specs.Lines.{lines, one_line}

@@ -7,8 +7,8 @@ ghost use Rattle.nbt_prog.specs.Inner.Failure.{failure_status};
 ghost use Rattle.nbt_prog.specs.Inner.Outcome.{status_of_outcome, text_of_outcome};
 
 use crate::failure::Failure;
-use nbt_engine::Fault;
-use nbt_offline::Printed;
+use crate::offline::Printed;
+use nbt_port::Fault;
 use std::io;
 use std::io::Write;
 

@@ -2,8 +2,9 @@
 
 ghost use Rattle.std.specs.Prelude.{◌≡◌, ◌≤◌};
 
+use crate::offline;
 use nbt_args::{Refusal, Text};
-use nbt_engine::Fault;
+use nbt_port::Fault;
 use std::io;
 
 /// Why a command did not do its work.
@@ -75,21 +76,21 @@ impl From<Refusal> for Failure {
     }
 }
 
-impl From<nbt_offline::Failure> for Failure {
+impl From<offline::Failure> for Failure {
     ghost use Rattle.nbt_prog.specs.Inner.Failure.{failure_of_offline};
 
     ghost from_gives = { λ error failure. failure ≡ failure_of_offline error };
 
-    fn from(error: nbt_offline::Failure) -> Failure {
+    fn from(error: offline::Failure) -> Failure {
         match error {
-            nbt_offline::Failure::Unreadable => Failure::Unreadable,
-            nbt_offline::Failure::Fault(fault) => Failure::Fault(fault),
+            offline::Failure::Unreadable => Failure::Unreadable,
+            offline::Failure::Fault(fault) => Failure::Fault(fault),
         }
     }
 }
 
 impl From<io::Error> for Failure {
-    ghost use Rattle.nbt_engine.specs.Faults.{fault_of_io};
+    ghost use Rattle.nbt_port.specs.Faults.{fault_of_io};
     ghost use Rattle.nbt_prog.specs.declared.failure.Failure.TheVariants as failure;
 
     ghost from_gives = { λ error result. result ≡ failure.Fault (fault_of_io error) };

@@ -15,12 +15,13 @@ mod failure;
 mod machine;
 mod network;
 mod numbers;
+mod offline;
 mod running;
 
 use concluding::conclude;
 use failure::Failure;
 pub use machine::run_on;
-use nbt_engine::Fault;
+use nbt_port::Fault;
 pub use running::run;
 use std::alloc::Global;
 use std::convert::AsStr;
@@ -83,7 +84,7 @@ pub fn command_telling<M: Net + time::Clock + Files, S: AsStr, R: Read, W: Write
         Err(refusal) => conclude(Err(Failure::from(refusal)), writer),
     };
     if status == Fault::Memory.status() {
-        nbt_offline::report(OUT_OF_MEMORY, errors);
+        offline::report(OUT_OF_MEMORY, errors);
     }
     status
 }

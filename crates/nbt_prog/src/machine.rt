@@ -2,10 +2,10 @@
 
 ghost use Rattle.std.specs.Prelude.{◌≡◌, ◌≢◌, ◌≤◌, ◌⊎◌, OnOk, IfErr};
 ghost use Rattle.nbt_admin.specs.Running.{Runs as RunsAdmin};
-ghost use Rattle.nbt_net.specs.Node.{RunsNodeHere};
-ghost use Rattle.nbt_net.specs.Serve.{RunsServerHere};
-ghost use Rattle.nbt_net.specs.declared.node.NodeArguments.{NodeArguments};
-ghost use Rattle.nbt_net.specs.declared.serve.ServeArguments.{ServeArguments};
+ghost use Rattle.nbt_bench.specs.Node.{RunsNodeHere};
+ghost use Rattle.nbt_bench.specs.Serve.{RunsServerHere};
+ghost use Rattle.nbt_bench.specs.declared.node.NodeArguments.{NodeArguments};
+ghost use Rattle.nbt_bench.specs.declared.serve.ServeArguments.{ServeArguments};
 ghost use Rattle.nbt_prog.specs.Inner.Failure.{failure_status};
 ghost use Rattle.nbt_prog.specs.Network.{ServeGiven, NodeGiven};
 ghost use Rattle.nbt_prog.specs.Running.{EndsOn};
@@ -94,7 +94,7 @@ fn serve<M: Net + time::Clock, W: Write, E: Write>(
     ensures failure { IfErr result (λ failure. failure_status failure ≢ 0) }
 {
     let arguments = serve_arguments(alloc, texts, errors)?;
-    nbt_net::run_server(machine, alloc, &arguments, writer, errors)?;
+    nbt_bench::run_server(machine, alloc, &arguments, writer, errors)?;
     Ok(())
 }
 
@@ -127,7 +127,7 @@ fn node<M: Net + time::Clock, W: Write, E: Write>(
     ensures failure { IfErr result (λ failure. failure_status failure ≢ 0) }
 {
     let arguments = node_arguments(alloc, texts, errors)?;
-    nbt_net::run_node(machine, &arguments, writer, errors)?;
+    nbt_bench::run_node(machine, &arguments, writer, errors)?;
     Ok(())
 }
 
@@ -154,6 +154,6 @@ fn play_loop<M: Net, W: Write, E: Write>(
     errors: &mut E,
 ) -> Result<(), Failure> {
     let ports = ports_of(alloc, port)?;
-    nbt_loop::run(machine, alloc, ports, writer, errors)?;
+    nbt_bench::run_loop(machine, alloc, ports, writer, errors)?;
     Ok(())
 }

@@ -4,18 +4,19 @@ ghost use Rattle.std.specs.Prelude.{◌≡◌, ◌↔◌, IfOk, IfErr, IsSome, I
 ghost use Rattle.nbt_name.specs.Wire.{IsStar};
 ghost use Rattle.nbt_name.specs.declared.addr.Kind.TheVariants.{Group};
 ghost use Rattle.nbt_text.specs.Address.{SpellsAddress};
-ghost use Rattle.nbt_offline.specs.Texts.{IsAddress};
+ghost use Rattle.nbt_prog.specs.Texts.{IsAddress};
 ghost use Rattle.nbt_prog.specs.Inner.Failure.{UsageFails};
 ghost use Rattle.nbt_prog.specs.Inner.Refusals.{ServeFails, NodeFails, AreLimits, AreTurns, IsHeld};
 ghost use Rattle.nbt_prog.specs.Network.{ServeGiven, NodeGiven, IsConfigOf, SpellsTurns, SpellsHeld};
 
 use crate::failure::Failure;
 use crate::numbers::number;
+use crate::offline;
 use nbt_args::{GROUP, LimitedArgument, LimitedCommand, NodeTexts, ServeTexts};
-use nbt_engine::Want;
+use nbt_bench::{NodeArguments, ServeArguments};
+use nbt_client::Want;
 use nbt_lease::{Config, ROWS_MOST};
 use nbt_name::{Addr, Kind, Name};
-use nbt_net::{NodeArguments, ServeArguments};
 use nbt_text::parse_name;
 use std::alloc::Global;
 use std::io;
@@ -100,7 +101,7 @@ fn address_of<E: Write>(text: &str, errors: &mut E) -> Result<Addr, Failure>
     ensures read { IfOk result (SpellsAddress text.now) }
     ensures failure { IfErr result (λ failure. ¬ IsAddress text.now × (failure ≡ Failure.Unreadable)) }
 {
-    Ok(nbt_offline::address_of(text, errors)?)
+    Ok(offline::address_of(text, errors)?)
 }
 
 /// The name that a text spells, where it can be held.

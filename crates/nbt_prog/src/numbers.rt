@@ -8,8 +8,8 @@ ghost use Rattle.nbt_prog.specs.Numbers.{IsWithin, SpellsWithin};
 
 use crate::failure::Failure;
 use nbt_args::{LimitedArgument, LimitedCommand, bad_value};
+use nbt_bench::Ports;
 use nbt_lease::Moment;
-use nbt_loop::Ports;
 use nbt_text::parse_number;
 use std::alloc::Global;
 

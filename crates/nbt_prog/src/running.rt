@@ -3,7 +3,7 @@
 ghost use Rattle.std.specs.Prelude.{◌≡◌, ◌≢◌, ◌≤◌, ◌⊎◌, IfOk, IfErr, codes};
 ghost use Rattle.std.specs.String.{string_bytes};
 ghost use Rattle.std.specs.Io.KnownBytes.{Appends};
-ghost use Rattle.nbt_offline.specs.Printed.{is_done};
+ghost use Rattle.nbt_prog.specs.Printed.{is_done};
 ghost use Rattle.nbt_text.specs.Lines.{one_line};
 ghost use Rattle.nbt_prog.specs.Inner.Failure.{failure_status};
 ghost use Rattle.nbt_prog.specs.Running.{Ends, Prints, PrintsAnswer, PrintsShow};
@@ -12,9 +12,10 @@ use crate::concluding::conclude;
 use crate::failure::Failure;
 use crate::network::{node_arguments, serve_arguments};
 use crate::numbers::{ports_of, time_of};
+use crate::offline;
+use crate::offline::Printed;
 use nbt_args::{AdminLine, AnswerTexts, CommandLine, ShowTexts};
-use nbt_engine::Fault;
-use nbt_offline::Printed;
+use nbt_port::Fault;
 use std::alloc::Global;
 use std::io::{Read, Write};
 
@@ -51,9 +52,9 @@ fn outcome_of<R: Read, E: Write>(
     match line {
         CommandLine::Answer(texts) => answer(alloc, texts, errors),
         CommandLine::Show(texts) => show(alloc, texts, reader, errors),
-        CommandLine::Check => Ok(nbt_offline::check(alloc, reader, errors)?),
-        CommandLine::Sim => Ok(nbt_offline::sim(alloc, reader, errors)?),
-        CommandLine::Draw => Ok(nbt_offline::draw(alloc, reader, errors)?),
+        CommandLine::Check => Ok(offline::check(alloc, reader, errors)?),
+        CommandLine::Sim => Ok(offline::sim(alloc, reader, errors)?),
+        CommandLine::Draw => Ok(offline::draw(alloc, reader, errors)?),
         _ => Err(without_machine(alloc, line, errors)),
     }
 }
@@ -67,7 +68,7 @@ fn answer<E: Write>(
     ensures failure { IfErr result (λ failure. failure_status failure ≢ 0) }
 {
     let at = time_of(alloc, texts.at)?;
-    let printed = nbt_offline::answer(alloc, texts.from, texts.hex, at, errors)?;
+    let printed = offline::answer(alloc, texts.from, texts.hex, at, errors)?;
     Ok(printed)
 }
 
@@ -82,9 +83,9 @@ fn show<R: Read, E: Write>(
     ensures failure { IfErr result (λ failure. failure_status failure ≢ 0) }
 {
     if texts.explain {
-        Ok(nbt_offline::explain(alloc, texts.kind, texts.hex, reader, errors)?)
+        Ok(offline::explain(alloc, texts.kind, texts.hex, reader, errors)?)
     } else {
-        Ok(nbt_offline::show(alloc, texts.kind, texts.hex, errors)?)
+        Ok(offline::show(alloc, texts.kind, texts.hex, errors)?)
     }
 }
 

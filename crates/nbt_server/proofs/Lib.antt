@@ -1,3 +1,5 @@
+-- Common: the words and the lemmas of std that most proofs cite.
+pub mod Common
 -- Rules: what the code has found, as a line of the server's rules.
 pub mod Rules
 -- OneServing: two answers of the rules are the same.

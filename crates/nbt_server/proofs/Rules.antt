@@ -1,34 +1,14 @@
 -- What the code has found, as a line of the server's rules and what was done by it; and that replies have a written form, which
 -- is short.
-use Rattle.std.proofs.Common.{◌≡◌, true, false, ℕ, zero, suc, ◌-◌, ◌++◌, ◌*◌, ◌%◌, ◌<◌, ◌≤◌, List, [], ◌∷◌, take, length, length-append, append_assoc, append-nil, ap, ◌∙◌, Option, Some, None, Result, Ok, Err, sym, subst, refl, arith}
-use Rattle.std.proofs.lemmas.Bool.{lt-ltb, le-ltb}
-use Rattle.std.proofs.lemmas.List.{length-take}
-use Rattle.std.proofs.lemmas.List.Elements.{All-contains, All-from_recursion}
-use Rattle.std.specs.Prelude.{IfOk, OnErr, Bool, min, nat_lt, nat_eq, is_some, if◌then◌else◌}
-use Rattle.nbt_name.specs.declared.addr.Kind.{Kind}
-use Rattle.nbt_name.specs.declared.addr.Kind.TheVariants.{Unique, Group}
-use Rattle.nbt_name.specs.Wire.{NameValue}
-use Rattle.nbt_packet.specs.declared.message.Message.{Message}
+use Rattle.std.proofs.Common.{◌≡◌, true, false, ℕ, zero, suc, ◌-◌, ◌++◌, ◌*◌, ◌%◌, ◌<◌, ◌≤◌, List, [], ◌∷◌, take, length, length-append, append_assoc, append-nil, ap, ◌∙◌, Option, Some, Result, Ok, Err, sym, subst, refl, arith}
+use Rattle.nbt_server.proofs.Common.{lt-ltb, le-ltb, length-take, All-contains, All-from_recursion, IfOk, OnErr, Bool, min, nat_lt, nat_eq, is_some, if◌then◌else◌, Kind, NameValue, Message, Registration, MessageValue, message_of, query, registered, release, released, not_found, AreWritten, entry, GrantFault, Grant, Lease, Released, Leases, TableValue, members_most, AreSound, leases_at, Grants, Releases, IsLeastEnd, Claim, Refusal, Outcome, rcode_of, not_own, refusal_by, claim, claim_in, grant_outcome, release_outcome, done_by, Does, has_reply, IsUnanswered, no_message, IsDone, AsksFor, IsOwn, IsForNodes, asked_in, refused_error, name_error, fault_rcode, found_reply, grant_reply, release_rcode, entries, Serves, registers, refuses, releases, refuses_release, finds, finds_none, ServerValue, ServesOctets, is_silent, is_no_message, serves}
+use Rattle.nbt_packet.proofs.Sizes.{length-entry}
 use Rattle.nbt_packet.specs.declared.message.Message.TheVariants as code
-use Rattle.nbt_packet.specs.declared.message.Registration.{Registration}
-use Rattle.nbt_packet.specs.Message.{MessageValue, message_of, query, registered, release, released, not_found}
-use Rattle.nbt_packet.specs.Spelling.{AreWritten}
-use Rattle.nbt_packet.specs.Text.{entry}
-use Rattle.nbt_lease.specs.declared.fault.GrantFault.{GrantFault}
 use Rattle.nbt_lease.specs.declared.fault.GrantFault.TheVariants as faults
-use Rattle.nbt_lease.specs.declared.lease.Grant.{Grant}
-use Rattle.nbt_lease.specs.declared.lease.Lease.{Lease}
-use Rattle.nbt_lease.specs.declared.lease.Released.{Released}
 use Rattle.nbt_lease.specs.declared.lease.Released.TheVariants as outcomes
-use Rattle.nbt_lease.specs.Lease.{Leases, TableValue, members_most, AreSound, leases_at}
-use Rattle.nbt_lease.specs.Rules.{Grants, Releases, IsLeastEnd}
-use Rattle.nbt_server.specs.declared.outcome.Claim.{Claim}
-use Rattle.nbt_server.specs.declared.outcome.Refusal.{Refusal}
 use Rattle.nbt_server.specs.declared.outcome.Refusal.TheVariants as why
-use Rattle.nbt_server.specs.declared.outcome.Outcome.{Outcome}
 use Rattle.nbt_server.specs.declared.outcome.Outcome.TheVariants as o
-use Rattle.nbt_server.specs.Outcomes.{rcode_of, not_own, refusal_by, claim, claim_in, grant_outcome, release_outcome, done_by, Does, has_reply, IsUnanswered, no_message, for_nodes, request, IsDone}
-use Rattle.nbt_server.specs.Serving.{AsksFor, IsOwn, IsForNodes, asked_in, refused_error, name_error, fault_rcode, refusal as refusal_reply, found_reply, grant_reply, release_rcode, entries, Serves, registers, refuses, refuses_overwrite, releases, refuses_release, finds, finds_none, passes_over, ServerValue, ServesOctets, is_silent, is_no_message, serves}
+use Rattle.nbt_server.specs.Serving.{refusal as refusal_reply}
 
 -- ---- one outcome of a call
 
@@ -45,9 +25,7 @@ on_err (Err e) h make = make h
 -- a refusal's RCODE is that of its rule
 grant_rcode : (leases : List Lease) (fault : GrantFault) → rcode_of (refusal_by leases fault) ≡ fault_rcode fault
 grant_rcode leases faults.Active = refl
-grant_rcode leases faults.TableFull = refl
-grant_rcode leases faults.GroupFull = refl
-grant_rcode leases faults.OutOfMemory = refl
+grant_rcode leases fault = refl
 
 either_rcode : (star : Bool) → rcode_of (if star then why.Star else why.NotOwn) ≡ refused_error
 either_rcode true = refl
@@ -103,24 +81,16 @@ grant_replies false c seconds = refl
 
 release_replies : (leases : List Lease) (c : Claim) (result : Released) → has_reply (release_outcome leases c result) ≡ true
 release_replies leases c outcomes.Gone = refl
-release_replies leases c outcomes.NoLease = refl
-release_replies leases c outcomes.OfOthers = refl
+release_replies leases c result = refl
 
 message_replies : {table : TableValue} {now ip : ℕ} {m : MessageValue} {reply : Option MessageValue} {after : Leases} (does : Serves table now ip m reply after) → has_reply (done_by does) ≡ is_some reply
 message_replies (registers m r (Ok grant) after asks own rule) = grant_replies grant.renewed (claim_in r) grant.seconds
-message_replies (registers m r (Err fault) after asks own rule) = refl
-message_replies (refuses m r asks other) = refl
-message_replies (refuses_overwrite r) = refl
 message_replies {table} {now} (releases id name kind addr result after own rule) = release_replies (leases_at now table.rows name) (claim name kind addr) result
-message_replies (refuses_release id name kind addr other) = refl
-message_replies (finds id name end least) = refl
-message_replies (finds_none id name none) = refl
-message_replies (passes_over m nodes) = refl
+message_replies does = refl
 
 pub unanswered_replies : (octets : List ℕ) (outcome : Outcome) → IsUnanswered octets outcome → has_reply outcome ≡ false
 unanswered_replies octets _ (no_message none) = refl
-unanswered_replies octets _ (for_nodes m spelled nodes) = refl
-unanswered_replies octets _ (request m name spelled other is) = refl
+unanswered_replies octets _ is = refl
 
 pub replies : {server : ServerValue} {now ip : ℕ} {octets : List ℕ} {reply : Option MessageValue} {after : Leases} (does : ServesOctets server now ip octets reply after) (outcome : Outcome)
     → IsDone does outcome → has_reply outcome ≡ is_some reply
@@ -138,26 +108,16 @@ is_for_nodes (code.Overwrite r) a b c d e = b r refl
 is_for_nodes (code.Refresh r) a b c d e = c r refl
 is_for_nodes (code.Release id name kind addr) a b c d e = d id name kind addr refl
 is_for_nodes (code.Query id name) a b c d e = e id name refl
-is_for_nodes (code.StatusRequest id name) a b c d e = tt
-is_for_nodes (code.Registered rcode r) a b c d e = tt
-is_for_nodes (code.Released id rcode name kind addr) a b c d e = tt
-is_for_nodes (code.Found id name ttl entries cut) a b c d e = tt
-is_for_nodes (code.NotFound id rcode name) a b c d e = tt
-is_for_nodes (code.Status id name names) a b c d e = tt
-is_for_nodes (code.Wait id name ttl) a b c d e = tt
+is_for_nodes m a b c d e = tt
 
 -- ---- what a query finds
-
-length-entry : (kind : Kind) (addr : ℕ) → length (entry kind addr) ≡ 6
-length-entry Unique addr = refl
-length-entry Group addr = refl
 
 -- each entry has six octets
 pub length-entries : (leases : List Lease) → length (entries leases) ≡ 6 * length leases
 length-entries [] = refl
 length-entries (lease ∷ rest) = omega (arith, length-append (entry lease.kind lease.addr) (entries rest), length-entry lease.kind lease.addr, length-entries rest)
 
--- where there is a least end, there is a lease
+-- if there is a first expiry, there is a lease
 some_lease : (leases : List Lease) (end : ℕ) → IsLeastEnd leases (Some end) → 0 < length leases
 some_lease [] end least = absurd (omega arith)
 some_lease (lease ∷ rest) end least = omega arith
@@ -187,7 +147,7 @@ module _ (table : TableValue) (now ip id : ℕ) (name : NameValue) (after : Leas
       subst (λ (ls : Leases). ls name ≡ [] → Does table now ip (query id name) outcome out ls) (sym same)
       (λ none_now. (Some (not_found id name_error (Some name)), finds_none id name none_now, is, written)) none
 
--- the least end is a lease's, and none ends too late
+-- the first expiry is a lease's, and none is too late
 pub ends_in_time : (ls : List Lease) (latest end : ℕ) → IsLeastEnd ls (Some end) → AreSound latest ls → end ≤ latest
 ends_in_time ls latest end least sound =
     let one = least.0 in
@@ -196,7 +156,7 @@ ends_in_time ls latest end least sound =
 
 -- ---- a name's leases, listed one after the other
 
--- a lease is listed where there is room
+-- a lease is listed while more fit
 pub lists_next : (room : ℕ) (written : List ℕ) (lease : Lease) (rest : List Lease) (all : List ℕ) → 0 < room → written ++ entries (take room (lease ∷ rest)) ≡ all
     → (written ++ entry lease.kind lease.addr) ++ entries (take (room - 1) rest) ≡ all
 lists_next zero written lease rest all some is = absurd (omega arith)
@@ -204,7 +164,7 @@ lists_next (suc k) written lease rest all some is =
     let left : suc k - 1 ≡ k = omega arith in
     rw left (append_assoc written (entry lease.kind lease.addr) (entries (take k rest)) ∙ is)
 
--- where there is none, all that have room are listed
+-- if none fits, all that fit are listed
 pub lists_no_more : (written : List ℕ) (room : ℕ) (rest : List Lease) (all : List ℕ) → room ≡ 0 → written ++ entries (take room rest) ≡ all → written ≡ all
 lists_no_more written zero rest all none is = sym (append-nil written) ∙ is
 lists_no_more written (suc k) rest all none is = absurd (omega arith)
@@ -218,7 +178,7 @@ pub lists_all : (written : List ℕ) (room : ℕ) (rest : List Lease) (all : Lis
 lists_all written room rest all none is =
     sym (append-nil written) ∙ (ap (λ (es : List ℕ). written ++ es) (sym (no_entries room)) ∙ (ap (λ (ls : List Lease). written ++ entries (take room ls)) (sym none) ∙ is))
 
--- a list is cut where it is longer than what has room
+-- a list is cut if it is longer than what fits
 pub is_longer : (most : ℕ) (leases : List Lease) → most < length leases → nat_lt (length (take most leases)) (length leases) ≡ true
 is_longer most leases more = lt-ltb (length (take most leases)) (length leases) (omega (arith, length-take most leases))
 

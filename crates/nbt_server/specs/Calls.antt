@@ -1,14 +1,13 @@
--- What a server's calls make of it: it starts, takes a datagram, or has no memory for one (our profile). Which leases live
+-- What a server's calls make of it: it starts, handles a datagram, or runs out of memory (our profile). Which leases live
 -- afterwards is all that is said of its table.
 use Rattle.std.specs.Prelude.{◌≡◌, ℕ, ◌≤◌, List, [], Option, IfSome, is_some}
 use Rattle.nbt_packet.specs.Message.{MessageValue}
 use Rattle.nbt_packet.specs.Spelling.{Spells, AreWritten}
 use Rattle.nbt_packet.specs.Text.{text}
 use Rattle.nbt_lease.specs.Config.{ConfigValue}
-use Rattle.nbt_lease.specs.Lease.{leases_at}
 use Rattle.nbt_server.specs.declared.outcome.Outcome.{Outcome}
 use Rattle.nbt_server.specs.Outcomes.{has_reply, IsDone}
-use Rattle.nbt_server.specs.Serving.{ServerValue, ServesOctets, OctetsNeedMemory}
+use Rattle.nbt_server.specs.Serving.{leases_at, ServerValue, speaks_from, ServesOctets, NeedsMemory}
 
 -- a server that starts: it has no lease
 pub record ServerStarts (config : ConfigValue) (now : ℕ) (server : ServerValue) : Type 0 where
@@ -17,7 +16,7 @@ pub record ServerStarts (config : ConfigValue) (now : ℕ) (server : ServerValue
   pub config_is : server.table.config ≡ config
   pub empty : server.table.rows ≡ []
 
--- A server takes a datagram from this 32-bit address, at a moment that doesn't go back: with this reply, whose written
+-- A server handles a datagram from this 32-bit address, at a time that doesn't go back: with this reply, whose written
 -- form spells it, or with none.
 pub record ServerTakes (old : ServerValue) (now ip : ℕ) (octets : List ℕ) (reply : Option MessageValue) (new : ServerValue) : Type 0 where
   pub goes_on : old.last ≤ now
@@ -27,7 +26,7 @@ pub record ServerTakes (old : ServerValue) (now ip : ℕ) (octets : List ℕ) (r
   pub last : new.last ≡ now
   pub config : new.table.config ≡ old.table.config
 
--- This is what it did with a datagram that it took, which says whether there is a reply; `out` is its written form, or empty.
+-- This is what it did with a datagram, which says whether there is a reply; `out` is its written form, or empty.
 pub record ServerHandles (old : ServerValue) (now ip : ℕ) (octets : List ℕ) (outcome : Outcome) (out : List ℕ) (new : ServerValue) : Type 0 where
   pub reply : Option MessageValue
   pub takes : ServerTakes old now ip octets reply new
@@ -35,10 +34,13 @@ pub record ServerHandles (old : ServerValue) (now ip : ℕ) (octets : List ℕ) 
   pub has_reply_is : has_reply outcome ≡ is_some reply
   pub written : AreWritten reply out
 
--- Memory was refused to it for a datagram that changes the leases: they are as before.
+-- It ran out of memory for a message that would change the leases: they are as before.
 pub record ServerForgets (old : ServerValue) (now ip : ℕ) (octets : List ℕ) (new : ServerValue) : Type 0 where
   pub goes_on : old.last ≤ now
-  pub needs : OctetsNeedMemory old now ip octets
+  pub message : MessageValue
+  pub speaks : speaks_from old ≤ now
+  pub spelled : Spells octets message
+  pub needs : NeedsMemory old.table now ip message
   pub leases : leases_at now new.table.rows ≡ leases_at now old.table.rows
   pub start : new.start ≡ old.start
   pub last : new.last ≡ now

@@ -1,23 +1,15 @@
 -- What a name server did, by the rule that it followed: our profile.
-use Rattle.std.specs.Prelude.{◌≡◌, ℕ, nat_eq, Bool, true, false, if◌then◌else◌, List, [], ◌∷◌, Option, Some, Result, Ok, Err}
-use Rattle.nbt_name.specs.declared.addr.Kind.{Kind}
+use Rattle.std.specs.Prelude.{◌≡◌, ℕ, nat_eq, Bool, true, false, if◌then◌else◌, List, [], ◌∷◌, Option, Some, Ok, Err}
 use Rattle.nbt_name.specs.Wire.{NameValue}
-use Rattle.nbt_packet.specs.declared.message.Registration.{Registration}
 use Rattle.nbt_packet.specs.Message.{MessageValue}
-use Rattle.nbt_packet.specs.Spelling.{Spells, AreWritten, name_in}
-use Rattle.nbt_lease.specs.declared.fault.GrantFault.{GrantFault}
+use Rattle.nbt_packet.specs.Spelling.{AreWritten, name_in}
 use Rattle.nbt_lease.specs.declared.fault.GrantFault.TheVariants as faults
-use Rattle.nbt_lease.specs.declared.lease.Grant.{Grant}
-use Rattle.nbt_lease.specs.declared.lease.Lease.{Lease}
-use Rattle.nbt_lease.specs.declared.lease.Released.{Released}
-use Rattle.nbt_lease.specs.declared.lease.Released.TheVariants.{Gone, NoLease, OfOthers}
-use Rattle.nbt_lease.specs.Lease.{Leases, TableValue, leases_at}
 use Rattle.nbt_server.specs.declared.outcome.Claim.{Claim}
 use Rattle.nbt_server.specs.declared.outcome.Refusal.{Refusal}
 use Rattle.nbt_server.specs.declared.outcome.Refusal.TheVariants as why
 use Rattle.nbt_server.specs.declared.outcome.Outcome.{Outcome}
 use Rattle.nbt_server.specs.declared.outcome.Outcome.TheVariants as o
-use Rattle.nbt_server.specs.Serving.{IsForNodes, server_error, refused_error, active_error, Serves, registers, refuses, refuses_overwrite, releases, refuses_release, finds, finds_none, passes_over, ServerValue, ServesOctets, is_silent, is_no_message, serves}
+use Rattle.nbt_server.specs.Serving.{Kind, Registration, Spells, GrantFault, Grant, Lease, Released, Gone, NoLease, OfOthers, Leases, TableValue, leases_at, IsForNodes, server_error, refused_error, active_error, Serves, registers, refuses, refuses_overwrite, releases, refuses_release, finds, finds_none, passes_over, ServerValue, ServesOctets, is_silent, is_no_message, serves}
 
 -- ---- refusals
 

@@ -2,25 +2,25 @@
 -- refusal of what is not the sender's own, and which refusal has which RCODE are our profile.
 use Rattle.std.specs.Prelude.{◌≡◌, ℕ, ◌+◌, ◌-◌, ◌/◌, ◌<◌, ◌≤◌, Bool, nat_lt, List, [], take, length, Option, Some, None, Result, Ok, Err}
 use Rattle.std.specs.List.{flat_map}
-use Rattle.nbt_name.specs.declared.addr.Kind.{Kind}
+pub use Rattle.nbt_name.specs.declared.addr.Kind.{Kind}
 use Rattle.nbt_name.specs.Wire.{NameValue, IsStar}
-use Rattle.nbt_packet.specs.declared.message.Registration.{Registration}
+pub use Rattle.nbt_packet.specs.declared.message.Registration.{Registration}
 use Rattle.nbt_packet.specs.Message.{MessageValue, registration, overwrite, refresh, release, query, registered, released, found, not_found}
-use Rattle.nbt_packet.specs.Spelling.{Spells}
+pub use Rattle.nbt_packet.specs.Spelling.{Spells}
 use Rattle.nbt_packet.specs.Text.{entry, entries_most}
-use Rattle.nbt_lease.specs.declared.fault.GrantFault.{GrantFault}
+pub use Rattle.nbt_lease.specs.declared.fault.GrantFault.{GrantFault}
 use Rattle.nbt_lease.specs.declared.fault.GrantFault.TheVariants.{Active, TableFull, GroupFull, OutOfMemory}
-use Rattle.nbt_lease.specs.declared.lease.Grant.{Grant}
-use Rattle.nbt_lease.specs.declared.lease.Lease.{Lease}
-use Rattle.nbt_lease.specs.declared.lease.Released.{Released}
-use Rattle.nbt_lease.specs.declared.lease.Released.TheVariants.{Gone, NoLease, OfOthers}
+pub use Rattle.nbt_lease.specs.declared.lease.Grant.{Grant}
+pub use Rattle.nbt_lease.specs.declared.lease.Lease.{Lease}
+pub use Rattle.nbt_lease.specs.declared.lease.Released.{Released}
+pub use Rattle.nbt_lease.specs.declared.lease.Released.TheVariants.{Gone, NoLease, OfOthers}
 use Rattle.nbt_lease.specs.Config.{milliseconds}
-use Rattle.nbt_lease.specs.Lease.{Leases, TableValue, leases_at}
+pub use Rattle.nbt_lease.specs.Lease.{Leases, TableValue, leases_at}
 use Rattle.nbt_lease.specs.Rules.{Asked, asked, Grants, ChangesLeases, Releases, IsLeastEnd}
 
--- ---- what is asked
+-- ---- what is requested
 
--- A registration and a refresh ask for a lease.
+-- A registration and a refresh request a lease.
 pub data AsksFor : MessageValue → Registration → Type 0 where
   by_registration : (r : Registration) → AsksFor (registration r) r
   by_refresh : (r : Registration) → AsksFor (refresh r) r
@@ -44,7 +44,7 @@ IsForNodes _ = Unit {0}
 -- ---- what is replied
 
 -- RCODEs of the replies (RFC 1002 sections 4.2.6, 4.2.11 and 4.2.14): the server fails, the name isn't there, the server
--- refuses, another machine has the name
+-- refuses, another node owns the name
 abbrev pub server_error : ℕ
 server_error = 2
 
@@ -71,13 +71,13 @@ abbrev pub grant_reply : Registration → Result Grant GrantFault → MessageVal
 grant_reply r (Ok grant) = registered 0 (record r { ttl = grant.seconds })
 grant_reply r (Err fault) = refusal (fault_rcode fault) r
 
--- a release is refused only where other machines have the name, and the sender hasn't
+-- a release is refused only if other nodes have the name, and the sender doesn't
 abbrev pub release_rcode : Released → ℕ
 release_rcode Gone = 0
 release_rcode NoLease = 0
 release_rcode OfOthers = active_error
 
--- the seconds until an end, rounded up
+-- the seconds until an expiry, rounded up
 abbrev pub seconds_until : (now end : ℕ) → ℕ
 seconds_until now end = (end - now + 999) / 1000
 
@@ -85,7 +85,7 @@ seconds_until now end = (end - now + 999) / 1000
 abbrev pub entries : List Lease → List ℕ
 entries leases = flat_map (λ lease. entry lease.kind lease.addr) leases
 
--- a response lists the first leases of a name: all, or as many as have room in a datagram
+-- a response lists the first leases of a name: all, or as many as fit in a datagram
 abbrev pub listed : NameValue → List Lease → List Lease
 listed name leases = take (entries_most name) leases
 
@@ -93,13 +93,13 @@ listed name leases = take (entries_most name) leases
 abbrev pub is_cut : NameValue → List Lease → Bool
 is_cut name leases = nat_lt (length (listed name leases)) (length leases)
 
--- its TTL is that of the least end among all leases, listed or not
+-- its TTL is that of the first expiry among all leases, listed or not
 abbrev pub found_reply : (id : ℕ) → NameValue → (now end : ℕ) → List Lease → MessageValue
 found_reply id name now end leases = found id name (seconds_until now end) (entries (listed name leases)) (is_cut name leases)
 
 -- ---- the server's rules
 
--- What the server does with a message from an end at the address `ip`: the reply, or none, and the leases that live
+-- What the server does with a message from the address `ip`: the reply, or none, and the leases that live
 -- afterwards. A line for each rule.
 pub data Serves (table : TableValue) (now ip : ℕ) : MessageValue → Option MessageValue → Leases → Type 0 where
   registers : (m : MessageValue) (r : Registration) (result : Result Grant GrantFault) (after : Leases) → AsksFor m r → IsOwn ip r.name r.addr → Grants table now r.name (asked_in r) result after
@@ -126,7 +126,7 @@ pub record NeedsMemory (table : TableValue) (now ip : ℕ) (m : MessageValue) : 
 
 -- ---- datagrams
 
--- What contracts see of a server: when it started, the moment of the last datagram, and its table.
+-- What contracts see of a server: when it started, the time of the last datagram, and its table.
 pub record ServerValue : Type 0 where
   pub start : ℕ
   pub last : ℕ
@@ -143,9 +143,3 @@ pub data ServesOctets (server : ServerValue) (now ip : ℕ) (octets : List ℕ) 
   is_no_message : ((m : MessageValue) → ¬ Spells octets m) → ServesOctets server now ip octets None (leases_at now server.table.rows)
   serves : (m : MessageValue) (reply : Option MessageValue) (after : Leases) → speaks_from server ≤ now → Spells octets m → Serves server.table now ip m reply after
       → ServesOctets server now ip octets reply after
-
-pub record OctetsNeedMemory (server : ServerValue) (now ip : ℕ) (octets : List ℕ) : Type 0 where
-  pub message : MessageValue
-  pub speaks : speaks_from server ≤ now
-  pub spelled : Spells octets message
-  pub needs : NeedsMemory server.table now ip message

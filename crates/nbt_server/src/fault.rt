@@ -1,17 +1,17 @@
-//! Why a server doesn't take a datagram.
+//! Why a server doesn't accept a datagram.
 
 ghost use Rattle.std.specs.Prelude.{◌≡◌};
 ghost use Rattle.nbt_server.specs.Numbers.{server_fault_number};
 
 use thiserror::Error;
 
-/// Why a server doesn't take a datagram (our profile).
+/// Why a server doesn't accept a datagram (our profile).
 #[derive(Clone, Copy, Debug, PartialEq, Eq, Error)]
 pub enum ServerFault {
-    /// 1: the moment is before the server's start, or before that of an earlier datagram that was no `ClockBack`.
+    /// 1: the time is before the server's start, or before that of an earlier datagram that was no `ClockBack`.
     #[error("ClockBack")]
     ClockBack,
-    /// 2: memory was refused for a new lease, or for a later end of one.
+    /// 2: out of memory for a new lease, or for a later expiry.
     #[error("OutOfMemory")]
     OutOfMemory,
 }

@@ -2,7 +2,7 @@
 
 ghost use Rattle.nbt_server.specs.OneAnswer.{OneReply};
 
-/// Of sound leases, octets from one address at one moment have one reply, and leave the same leases.
+/// If the leases are sound, octets from one address at one time have one reply, and leave the same leases.
 pub fn one_reply()
     ensures { OneReply }
 {

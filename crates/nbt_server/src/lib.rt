@@ -1,8 +1,8 @@
 //! A name server for point-to-point nodes (RFC 1001 section 15.1, RFC 1002 section 5.1.4). The standard calls it NBNS;
 //! others call it WINS.
 //!
-//! A [`Server`] is a value. It is given each datagram with the time at which it came, writes the reply into a buffer of
-//! the caller, and returns what it did. It opens no socket and reads no clock.
+//! A [`Server`] is a value. It handles each datagram with the time at which it came, writes the reply into the caller's
+//! buffer, and returns what it did. It opens no socket and reads no clock.
 #![tactic(auto)]
 
 mod fault;

@@ -6,11 +6,11 @@ ghost use Rattle.nbt_server.specs.Outcomes.{claim_in, has_reply, rcode_of};
 use nbt_name::{Kind, Name};
 use nbt_packet::Registration;
 
-/// RCODE SRV_ERR: the server can't (RFC 1002 section 4.2.6).
+/// RCODE SRV_ERR: the server failed (RFC 1002 section 4.2.6).
 const SERVER_ERROR: u8 = 2;
-/// RCODE RFS_ERR: the server refuses (RFC 1002 section 4.2.6).
+/// RCODE RFS_ERR: the request is refused for policy reasons (RFC 1002 section 4.2.6).
 const REFUSED: u8 = 5;
-/// RCODE ACT_ERR: another machine has the name (RFC 1002 section 4.2.6).
+/// RCODE ACT_ERR: another node owns the name (RFC 1002 section 4.2.6).
 const ACTIVE: u8 = 6;
 
 /// What a registration, a refresh, an overwrite or a release is about.
@@ -18,14 +18,14 @@ const ACTIVE: u8 = 6;
 pub struct Claim {
     /// The name.
     pub name: Name,
-    /// One machine's, or a group's.
+    /// Unique, or a group's.
     pub kind: Kind,
-    /// NB_ADDRESS, the 32-bit address of the machine.
+    /// NB_ADDRESS, the node's 32-bit address.
     pub addr: u32,
 }
 
 impl Claim {
-    /// That of a registration, a refresh or an overwrite.
+    /// The claim of a registration, a refresh or an overwrite.
     pub(crate) fn from_registration(asked: &Registration) -> Claim
         ensures { result ≡ claim_in asked.now }
     {
@@ -46,11 +46,11 @@ pub enum Refusal {
     Star,
     /// RFS_ERR (5): it is an overwrite.
     Overwrite,
-    /// ACT_ERR (6): other leases of the name live, the first of them that of this 32-bit address.
+    /// ACT_ERR (6): the name has other live leases; this is the 32-bit address of the first.
     Active(u32),
-    /// SRV_ERR (2): as many leases live as the table keeps.
+    /// SRV_ERR (2): the table is full of live leases.
     TableFull,
-    /// SRV_ERR (2): 1,000 members of the group live.
+    /// SRV_ERR (2): the group has 1,000 live members.
     GroupFull,
 }
 
@@ -71,25 +71,25 @@ impl Refusal {
 /// What a server did with a datagram.
 #[derive(Debug, PartialEq, Eq, Drop)]
 pub enum Outcome {
-    /// A lease begins, for so many seconds.
+    /// A lease was granted for this many seconds.
     Granted(Claim, u32),
-    /// The machine's lease goes on, for so many seconds.
+    /// The node's lease was renewed for this many seconds.
     Renewed(Claim, u32),
-    /// A registration, a refresh or an overwrite is refused.
+    /// A registration, a refresh or an overwrite was refused.
     Refused(Claim, Refusal),
-    /// The machine's lease ends.
+    /// The node's lease was released.
     Released(Claim),
-    /// A release of a name without leases: it has a positive response, and nothing changes.
+    /// A release of a name without leases: the response is positive, and nothing changes.
     NotLeased(Claim),
-    /// A release is refused: `NotOwn`, `Star` or `Active`.
+    /// A release was refused: `NotOwn`, `Star` or `Active`.
     NotReleased(Claim, Refusal),
-    /// A query was answered with the leases of this name.
+    /// A query for this name was answered with its leases.
     Found(Name),
-    /// A query was answered: this name has no lease.
+    /// A query for this name was answered: it has no lease.
     NotFound(Name),
-    /// No reply: a request, about this name, before the server speaks.
+    /// No reply: a request for this name during the silence after the start.
     Silent(Name),
-    /// No reply: a message for nodes, which is a response or a status request.
+    /// No reply: a response or a status request, which are for nodes.
     ForNodes,
     /// No reply: the octets spell no message.
     NoMessage,

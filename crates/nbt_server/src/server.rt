@@ -15,7 +15,7 @@ use nbt_packet::read;
 use std::alloc::Global;
 use std::marker::Model;
 
-/// A name server (RFC 1001 section 15.1, RFC 1002 section 5.1.4): the leases that it has given, and since when it runs.
+/// A name server (RFC 1001 section 15.1, RFC 1002 section 5.1.4): the leases that it has granted, and the time it started.
 #[derive(Drop)]
 pub struct Server {
     start: Moment,
@@ -50,25 +50,24 @@ impl Server {
         }
     }
 
-    /// Takes a datagram of these octets, which came at `now` from `from`, and returns what it did. The reply to `from` stands
-    /// in `out`, at most 576 octets; `out` is empty where there is none (RFC 1002 section 5.1.4; the rules that are our
-    /// profile's are marked so):
+    /// Handles a datagram of these octets, received at `now` from `from`, and returns what it did. `out` then has the reply to
+    /// `from`, at most 576 octets, or is empty if there is none (RFC 1002 section 5.1.4; rules of our profile are marked
+    /// so):
     ///
-    /// - Until the longest lease has passed since the start there is no reply, and no lease changes (our profile).
-    /// - A registration or refresh is granted for its TTL, at most the longest lease, a TTL of 0 asking for that; or
-    ///   refused with ACT_ERR (6) where other leases stand in its way, or SRV_ERR (2) where 1,000 members of the group
-    ///   or as many leases as the table keeps live. RFS_ERR (5) where its address isn't that of `from`, or its name begins
-    ///   with `*` (our profile).
-    /// - A release takes away the lease of the sender alone. It is refused with ACT_ERR where others have the name and
-    ///   the sender hasn't, and with RFS_ERR like a registration.
-    /// - A query is answered with the live leases in order of their beginnings, as many as have room in 576 octets; TC is
-    ///   set where these aren't all. Its TTL is the seconds until the first of all of them ends, rounded up. Or with
-    ///   NAM_ERR (3).
+    /// - There is no reply, and no lease changes, until the longest lease has passed since the start (our profile).
+    /// - A registration or refresh is granted for its TTL, at most the longest lease; a TTL of 0 requests that. It is refused
+    ///   with ACT_ERR (6) if other leases conflict, with SRV_ERR (2) if the group has 1,000 live members or the table is
+    ///   full, and with RFS_ERR (5) if its address isn't that of `from`, or its name begins with `*` (our profile).
+    /// - A release ends the lease of the sender alone. It is refused with ACT_ERR if others have the name and the sender
+    ///   doesn't, and with RFS_ERR like a registration.
+    /// - A query is answered with the live leases in order of their beginnings, as many as fit in 576 octets; TC is set if
+    ///   these aren't all. The TTL is the seconds until the first of all of them expires, rounded up. If there is none, the
+    ///   answer is NAM_ERR (3).
     /// - An overwrite is refused with RFS_ERR (our profile). All else has no reply.
     ///
-    /// Refused in this order, `out` being empty: `ClockBack` (1) where `now` is before the start, or before an earlier
-    /// datagram that was no `ClockBack`: nothing changes. `OutOfMemory` (2) where memory was refused to a registration or
-    /// refresh that changes the leases: start and live leases stay, and the last moment is `now`.
+    /// Refusals, in this order; `out` is then empty. `ClockBack` (1): `now` is before the start, or before an earlier datagram
+    /// that was no `ClockBack`; nothing changes. `OutOfMemory` (2): a registration or refresh that changes the leases ran
+    /// out of memory; start and live leases stay, and the last time is `now`.
     pub fn handle(
         &mut self,
         now: Moment,
@@ -101,8 +100,8 @@ impl Server {
         }
     }
 
-    /// Takes a datagram as [`Server::handle`] does. Returns whether there is a reply to `from`, which stands in `out` then, at
-    /// most 576 octets; else `out` is empty. Refused as there.
+    /// Handles a datagram as [`Server::handle`] does, with the same refusals. Returns whether `out` has a reply to `from`, at
+    /// most 576 octets; else `out` is empty.
     pub fn on_datagram(
         &mut self,
         now: Moment,
@@ -125,7 +124,7 @@ impl Server {
         }
     }
 
-    /// The moment of the last datagram that was no `ClockBack`, at first that of the start.
+    /// The time of the last datagram that was no `ClockBack`, at first that of the start.
     pub fn last(&self) -> Moment
         ensures last { result ≡ self.now.last }
         ensures start { self.now.start ≤ self.now.last }
@@ -136,7 +135,7 @@ impl Server {
         self.last
     }
 
-    /// Its leases: those that live, and maybe some that are over.
+    /// The leases: those that live, and maybe some that are over.
     pub fn table(&self) -> &Table
         ensures table { result.now ≡ self.now.table }
         ensures last { self.now.table.last ≤ self.now.last }
@@ -144,7 +143,7 @@ impl Server {
         &self.table
     }
 
-    /// Until when the server is silent, in milliseconds: leases that were given before its start may last so long.
+    /// Until when the server is silent, in milliseconds: leases granted before its start may last that long.
     fn speaks_from(&self) -> u64
         ensures value { result ≡ speaks_from self.now }
         ensures limits { IsConfig self.now.table.config }

@@ -18,15 +18,15 @@ use nbt_name::Name;
 use nbt_packet::{Message, Registration, entries_most, entry_octets, write};
 use std::alloc::AllocError;
 
-/// RCODE NAM_ERR: the name isn't there (RFC 1002 section 4.2.14).
+/// RCODE NAM_ERR: the name has no lease (RFC 1002 section 4.2.14).
 const NAME_ERROR: u8 = 3;
 
 /// The most octets of a response's entries: 86 of six octets each, beside a name without a scope (RFC 1002 section
 /// 4.2.13).
 const ENTRIES_OCTETS: usize = 516;
 
-/// Does with a message from the address `ip` what the rules say, and returns what that was. The reply stands in `out`, if
-/// there is one; else `out` stays empty.
+/// Handles a message from the address `ip` by the rules, and returns what it did. `out` has the reply, or stays empty if
+/// there is none.
 pub(crate) fn serve(
     table: &mut Table,
     now: Moment,
@@ -58,7 +58,7 @@ pub(crate) fn serve(
     }
 }
 
-/// What there is to say of a message before the server speaks (our profile).
+/// The outcome of a message during the silence after the start (our profile).
 pub(crate) fn unanswered(message: Message<'_>) -> Outcome
     ensures { (octets : List ℕ) → Spells octets (message_of message.entry) → IsUnanswered octets result }
 {
@@ -72,7 +72,7 @@ pub(crate) fn unanswered(message: Message<'_>) -> Outcome
     }
 }
 
-/// Why a request isn't the sender's own, about one name; none where it is (our profile).
+/// Why a request isn't the sender's own; none if it is (our profile).
 fn refusal_of(ip: u32, name: &Name, addr: u32) -> Option<Refusal>
     ensures own { IfNone result (IsOwn ip name.now addr) }
     ensures other { IfSome result (λ refusal. (¬ IsOwn ip name.now addr) × (refusal ≡ not_own ip addr)) }
@@ -86,7 +86,7 @@ fn refusal_of(ip: u32, name: &Name, addr: u32) -> Option<Refusal>
     None
 }
 
-/// Grants what a registration or a refresh asks for, or refuses it (RFC 1002 section 5.1.4.1).
+/// Grants a registration or a refresh, or refuses it (RFC 1002 section 5.1.4.1).
 fn lease(
     table: &mut Table,
     now: Moment,
@@ -114,7 +114,7 @@ fn lease(
     Ok(refuse(asked, refusal, out))
 }
 
-/// Why a grant is refused; none where there is no memory for it.
+/// Why a grant is refused; none if it ran out of memory.
 fn refusal_by(fault: GrantFault, table: &Table, now: Moment, name: &Name) -> Option<Refusal>
     requires { table.now.last ≤ now }
     ensures refusal { IfSome result (λ refusal. (refusal ≡ refusal_by (leases_at now table.now.rows name.now) fault) × (fault ≢ GrantFault.OutOfMemory)) }
@@ -128,7 +128,7 @@ fn refusal_by(fault: GrantFault, table: &Table, now: Moment, name: &Name) -> Opt
     }
 }
 
-/// The address of the first live lease of a name; 0 where there is none.
+/// The address of the first live lease of a name; 0 if there is none.
 fn holder(table: &Table, now: Moment, name: &Name) -> u32
     requires { table.now.last ≤ now }
     ensures { result ≡ holder (leases_at now table.now.rows name.now) }
@@ -161,7 +161,7 @@ fn refuse(asked: Registration, refusal: Refusal, out: &mut ArrayVec<u8, 576>) ->
     Outcome::Refused(respond(asked, refusal.rcode(), 0, out), refusal)
 }
 
-/// Leaves in `out` a response to a registration, a refresh or an overwrite; returns what that was about.
+/// Leaves in `out` a response to a registration, a refresh or an overwrite, and returns its claim.
 fn respond(asked: Registration, rcode: u8, ttl: u32, out: &mut ArrayVec<u8, 576>) -> Claim
     requires { rcode ≤ 15 }
     ensures claim { result ≡ claim_in asked }
@@ -236,9 +236,9 @@ fn respond_release(id: u16, rcode: u8, claim: &Claim, out: &mut ArrayVec<u8, 576
     write(&reply, out);
 }
 
-/// Leaves in `out` the response to a query, and returns which it is: the first leases of the name, as many as have room, with the seconds until the
-/// first of all its leases ends; or that the name isn't there (RFC 1002 sections 4.2.13 and 4.2.14). Leases that are over
-/// go first, so that the least end is looked up.
+/// Leaves in `out` the response to a query, and returns which it is: the first leases of the name, as many as fit, with the
+/// seconds until the first of all its leases expires; or that it has no lease (RFC 1002 sections 4.2.13 and 4.2.14).
+/// Expired leases are removed first, so that the first expiry is looked up.
 fn find(table: &mut Table, now: Moment, id: u16, name: Name, out: &mut ArrayVec<u8, 576>) -> Outcome
     requires limits { IsConfig table.old.config }
     requires time { table.old.last ≤ now }
@@ -268,7 +268,7 @@ fn find(table: &mut Table, now: Moment, id: u16, name: Name, out: &mut ArrayVec<
     Outcome::Found(name)
 }
 
-/// The seconds from a moment to an end, rounded up.
+/// The seconds until an expiry, rounded up.
 fn seconds_left(now: Moment, end: u64) -> u32
     requires { end ≤ now + milliseconds LONGEST_MOST }
     ensures { result ≡ seconds_until now end }
@@ -280,15 +280,15 @@ fn seconds_left(now: Moment, end: u64) -> u32
 /// What a response to a query says of a name's live leases.
 #[derive(Drop)]
 struct Listed {
-    /// The entries of the first ones, as many as have room, in their order (RFC 1002 section 4.2.13).
+    /// The entries of the first ones, as many as fit, in their order (RFC 1002 section 4.2.13).
     entries: ArrayVec<u8, ENTRIES_OCTETS>,
     /// Whether there are more.
     cut: bool,
-    /// The least of all their ends; none where there is no lease.
+    /// The first expiry of all; none if there is no lease.
     end: Option<u64>,
 }
 
-/// What there is to say of a name's live leases, by one look-up. It reads those that have room, and one more at most.
+/// The response's part of a name's live leases, by one look-up. It reads those that fit, and one more at most.
 fn list(table: &Table, now: Moment, name: &Name) -> Listed
     requires { table.now.last ≤ now }
     ensures entries { result.entries.items ≡ entries (listed name.now (leases_at now table.now.rows name.now)) }

@@ -1,89 +1,58 @@
--- Lines of the caller's table, by what the code finds.
-use Rattle.std.proofs.Common.{◌≡◌, ◌≢◌, ℕ, ◌+◌, ◌<◌, ◌≤◌, Vec, refl, sym, ap, ◌∙◌, subst, arith, inl, inr}
+-- Lines of the tables of callers and listeners, by what the code finds.
+use Rattle.std.proofs.Common.{◌≡◌, ◌≢◌, ℕ, ◌+◌, ◌<◌, ◌≤◌, true, false, Option, Some, None, Vec, refl, arith, inl, inr}
+use Rattle.std.specs.Prelude.{is_some}
 use Rattle.std.proofs.lemmas.Bool.{cases_lt}
 use Rattle.std.specs.Global.{Global}
 use Rattle.nbt_name.specs.declared.addr.Addr.{Addr}
+use Rattle.nbt_name.specs.declared.addr.Kind.{Kind}
 use Rattle.nbt_name.specs.Wire.{NameValue}
-use Rattle.nbt_session.specs.declared.caller.CallerAnswer.{CallerAnswer}
 use Rattle.nbt_session.specs.declared.caller.CallerState.{CallerState}
-use Rattle.nbt_session.specs.declared.caller.CallerState.TheVariants.{Connecting, Waiting, Failed}
+use Rattle.nbt_session.specs.declared.caller.CallerState.TheVariants.{Connecting, Failed}
 use Rattle.nbt_session.specs.declared.caller.Failure.{Failure}
-use Rattle.nbt_session.specs.declared.caller.Failure.TheVariants.{NoConnection, TooManyTries}
-use Rattle.nbt_session.specs.declared.event.Event.{Event}
-use Rattle.nbt_session.specs.declared.event.Event.TheVariants as events
 use Rattle.nbt_session.specs.declared.packet.Packet.{Packet}
 use Rattle.nbt_session.specs.declared.packet.Packet.TheVariants as packets
-use Rattle.nbt_session.specs.declared.packet.PacketType.TheVariants.{Message, KeepAlive}
-use Rattle.nbt_session.specs.Event.{EventValue, event_of, packet, lost}
-use Rattle.nbt_session.specs.Packet.{retarget, type_of, packet_of}
-use Rattle.nbt_session.specs.Caller.{AnswerValue, answer_of, connect, fail, CallerMoves, connects, is_not_connected, is_cut_off, is_not_connected_at_last, is_cut_off_at_last, is_spoken_to_unasked, is_taken, is_refused, is_retargeted, is_retargeted_at_last, waits_on, gets_a_message_for_an_answer, gets_a_request_for_an_answer, gets_a_message, stays_alive, ends, gets_what_has_no_place, waits_connected_already, is_open_already, stays_closed, stays_failed}
-
--- an equal line
-pub moves_by : {called calling : NameValue} {s : CallerState} (e f : EventValue) (t u : CallerState) (a b : AnswerValue) → e ≡ f → t ≡ u → a ≡ b → CallerMoves called calling s f u b → CallerMoves called calling s e t a
-moves_by {called} {calling} {s} e f t u a b p q r moves =
-    subst (λ (x : EventValue). CallerMoves called calling s x t a) (sym p) (subst (λ (x : CallerState). CallerMoves called calling s f x a) (sym q) (subst (λ (x : AnswerValue). CallerMoves called calling s f u x) (sym r) moves))
-
-pub state_by : {called calling : NameValue} {e : EventValue} {t : CallerState} {a : AnswerValue} (s r : CallerState) → s ≡ r → CallerMoves called calling r e t a → CallerMoves called calling s e t a
-state_by {called} {calling} {e} {t} {a} s r p moves = subst (λ (x : CallerState). CallerMoves called calling x e t a) (sym p) moves
+use Rattle.nbt_session.specs.declared.packet.PacketType.TheVariants.{Message, Request, KeepAlive}
+use Rattle.nbt_session.specs.Event.{EventValue}
+use Rattle.nbt_session.specs.Packet.{type_of, packet_of}
+use Rattle.nbt_session.specs.Caller.{AnswerValue, connect, fail, CallerMoves, connects, is_not_connected, is_cut_off, is_not_connected_at_last, is_cut_off_at_last, is_spoken_to_unasked, is_taken, is_refused, is_retargeted, is_retargeted_at_last, waits_on, gets_a_message_for_an_answer, gets_a_request_for_an_answer, gets_a_message, stays_alive, ends, gets_what_has_no_place, waits_connected_already, is_open_already, stays_closed, stays_failed}
 
 -- what follows where a try may be left, and where none is
 pub record NextTry (to : Addr) (tries : ℕ) (failure : Failure) (t : CallerState) (a : AnswerValue) : Type 0 where
   pub more : tries < 4 → (t ≡ Connecting to (tries + 1)) × (a ≡ connect to)
   pub last : tries ≡ 4 → (t ≡ Failed) × (a ≡ fail failure)
 
-pub lost_connecting : (called calling : NameValue) (to : Addr) (tries : ℕ) (t : CallerState) (a : AnswerValue) → tries ≤ 4 → NextTry to tries NoConnection t a → CallerMoves called calling (Connecting to tries) lost t a
-lost_connecting called calling to tries t a fits next =
+pub tries_next : {called calling : NameValue} (at : ℕ → CallerState) (e : EventValue) (to : Addr) (failure : Failure) → ((tries : ℕ) → tries < 4 → CallerMoves called calling (at tries) e (Connecting to (tries + 1)) (connect to))
+    → CallerMoves called calling (at 4) e Failed (fail failure) → (tries : ℕ) (t : CallerState) (a : AnswerValue) → tries ≤ 4 → NextTry to tries failure t a → CallerMoves called calling (at tries) e t a
+tries_next {called} {calling} at e to failure again over tries t a fits next =
     elim (cases_lt tries 4) [
-      | inl less ↦ moves_by _ _ _ _ _ _ refl (next.more less).0 (next.more less).1 (is_not_connected to tries less)
+      | inl less ↦ rw ((next.more less).0, (next.more less).1) (again tries less)
       | inr all ↦
           let four : tries ≡ 4 = omega arith in
-          subst (λ (k : ℕ). CallerMoves called calling (Connecting to k) lost t a) (sym four) (moves_by _ _ _ _ _ _ refl (next.last four).0 (next.last four).1 (is_not_connected_at_last to))
+          rw (four, (next.last four).0, (next.last four).1) over
     ]
 
-pub lost_waiting : (called calling : NameValue) (to : Addr) (tries : ℕ) (t : CallerState) (a : AnswerValue) → tries ≤ 4 → NextTry to tries NoConnection t a → CallerMoves called calling (Waiting to tries) lost t a
-lost_waiting called calling to tries t a fits next =
-    elim (cases_lt tries 4) [
-      | inl less ↦ moves_by _ _ _ _ _ _ refl (next.more less).0 (next.more less).1 (is_cut_off to tries less)
-      | inr all ↦
-          let four : tries ≡ 4 = omega arith in
-          subst (λ (k : ℕ). CallerMoves called calling (Waiting to k) lost t a) (sym four) (moves_by _ _ _ _ _ _ refl (next.last four).0 (next.last four).1 (is_cut_off_at_last to))
-    ]
+-- ---- packets of another type
 
-pub retargeted : (called calling : NameValue) (to other : Addr) (tries : ℕ) (t : CallerState) (a : AnswerValue) → tries ≤ 4 → NextTry other tries TooManyTries t a → CallerMoves called calling (Waiting to tries) (packet (retarget other)) t a
-retargeted called calling to other tries t a fits next =
-    elim (cases_lt tries 4) [
-      | inl less ↦ moves_by _ _ _ _ _ _ refl (next.more less).0 (next.more less).1 (is_retargeted to other tries less)
-      | inr all ↦
-          let four : tries ≡ 4 = omega arith in
-          subst (λ (k : ℕ). CallerMoves called calling (Waiting to k) (packet (retarget other)) t a) (sym four) (moves_by _ _ _ _ _ _ refl (next.last four).0 (next.last four).1 (is_retargeted_at_last to other))
-    ]
-
--- an answer as the code has it
-pub answers_by : {called calling : NameValue} {s : CallerState} {e : EventValue} (x y : CallerState × CallerAnswer) → x ≡ y → CallerMoves called calling s e y.0 (answer_of y.1) → CallerMoves called calling s e x.0 (answer_of x.1)
-answers_by {called} {calling} {s} {e} x y p moves = subst (λ (z : CallerState × CallerAnswer). CallerMoves called calling s e z.0 (answer_of z.1)) (sym p) moves
-
-pub event_by : {called calling : NameValue} {s t : CallerState} {a : AnswerValue} (e f : EventValue) → e ≡ f → CallerMoves called calling s f t a → CallerMoves called calling s e t a
-event_by {called} {calling} {s} {t} {a} e f p moves = subst (λ (x : EventValue). CallerMoves called calling s x t a) (sym p) moves
-
--- a packet that came
-pub came : {event : Event} {p q : Packet} → event ≡ events.Packet p → p ≡ q → event_of event ≡ packet (packet_of q)
-came e f = ap event_of e ∙ ap (λ (x : Packet). packet (packet_of x)) f
+pub no_request : (p : Packet) → ((called calling : NameValue) → p ≡ packets.Request called calling → ⊥) → type_of (packet_of p) ≢ Request
+no_request (packets.Request called calling) none e = none called calling refl
+no_request _ none e = cc
 
 pub no_message : (p : Packet) → ((octets : Vec ℕ Global) → p ≡ packets.Message octets → ⊥) → type_of (packet_of p) ≢ Message
 no_message (packets.Message octets) none e = none octets refl
-no_message (packets.Request called calling) none e = cc
-no_message packets.Positive none e = cc
-no_message (packets.Negative code) none e = cc
-no_message (packets.Retarget to) none e = cc
-no_message packets.KeepAlive none e = cc
+no_message _ none e = cc
 
 pub no_keep_alive : (p : Packet) → (p ≡ packets.KeepAlive → ⊥) → type_of (packet_of p) ≢ KeepAlive
 no_keep_alive packets.KeepAlive none e = none refl
-no_keep_alive (packets.Message octets) none e = cc
-no_keep_alive (packets.Request called calling) none e = cc
-no_keep_alive packets.Positive none e = cc
-no_keep_alive (packets.Negative code) none e = cc
-no_keep_alive (packets.Retarget to) none e = cc
+no_keep_alive _ none e = cc
+
+-- whether the node holds a name
+pub kind_held : (o : Option Kind) → is_some o ≡ true → (kind : Kind) × (o ≡ Some kind)
+kind_held None e = absurd cc
+kind_held (Some kind) e = (kind, refl)
+
+pub none_held : (o : Option Kind) → is_some o ≡ false → o ≡ None
+none_held None e = refl
+none_held (Some kind) e = absurd cc
 
 -- ---- one line at a time
 

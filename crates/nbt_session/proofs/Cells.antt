@@ -34,11 +34,7 @@ four_cells (a ∷ b ∷ h ∷ l ∷ []) octet flags n rest fits four e is =
     let one : a ≡ octet = cc in
     let two : b ≡ flags = cc in
     record { high = h; low = l; cells = cc; counts = omega arith; fits_high = fits 2; fits_low = fits 3 }
-four_cells [] octet flags n rest fits four e is = absurd (omega arith)
-four_cells (a ∷ []) octet flags n rest fits four e is = absurd (omega arith)
-four_cells (a ∷ b ∷ []) octet flags n rest fits four e is = absurd (omega arith)
-four_cells (a ∷ b ∷ h ∷ []) octet flags n rest fits four e is = absurd (omega arith)
-four_cells (a ∷ b ∷ h ∷ l ∷ x ∷ xs) octet flags n rest fits four e is = absurd (omega arith)
+four_cells _ octet flags n rest fits four e is = absurd (omega arith)
 
 -- such octets are the header that says so
 pub header_is : (xs : List ℕ) (kind : PacketType) (flags n : ℕ) → flags ≤ 1 → Spells (octet_of kind) flags n xs → xs ≡ header kind n
@@ -74,13 +70,7 @@ addr_octets (a ∷ b ∷ c ∷ d ∷ e ∷ f ∷ []) ip port fits six i p =
     let five : port / 256 % 256 ≡ e = omega arith in
     let last : port % 256 ≡ f = omega arith in
     cc
-addr_octets [] ip port fits six i p = absurd (omega arith)
-addr_octets (a ∷ []) ip port fits six i p = absurd (omega arith)
-addr_octets (a ∷ b ∷ []) ip port fits six i p = absurd (omega arith)
-addr_octets (a ∷ b ∷ c ∷ []) ip port fits six i p = absurd (omega arith)
-addr_octets (a ∷ b ∷ c ∷ d ∷ []) ip port fits six i p = absurd (omega arith)
-addr_octets (a ∷ b ∷ c ∷ d ∷ e ∷ []) ip port fits six i p = absurd (omega arith)
-addr_octets (a ∷ b ∷ c ∷ d ∷ e ∷ f ∷ x ∷ xs) ip port fits six i p = absurd (omega arith)
+addr_octets _ ip port fits six i p = absurd (omega arith)
 
 -- a whole header, as it is read
 pub whole_header : (xs : List ℕ) (kind : PacketType) (octet flags high low : ℕ) → AreOctets xs → length xs ≡ 4 → true ≡ ltb 0 (length xs) → octet ≡ get_or xs 0 octet → true ≡ ltb 1 (length xs) → flags ≡ get_or xs 1 flags

@@ -1,7 +1,7 @@
 -- What a piece makes of the packet that comes.
-use Rattle.std.proofs.Common.{◌≡◌, ◌≢◌, ℕ, ◌+◌, ◌-◌, ◌<◌, ◌≤◌, List, [], ◌∷◌, ◌++◌, length, take, drop, min, Option, Some, None, Ok, Err, refl, sym, ap, subst, ◌∙◌, arith, append_assoc}
+use Rattle.std.proofs.Common.{◌≡◌, ◌≢◌, ℕ, ◌+◌, ◌-◌, ◌<◌, ◌≤◌, List, [], ◌++◌, length, take, drop, min, Option, Some, None, Ok, Err, refl, sym, ap, subst, ◌∙◌, arith, append_assoc}
 use Rattle.std.proofs.Math.Seq.{take-add}
-use Rattle.std.proofs.lemmas.List.{length-append, length-take, length-drop, append-nil, take-append-drop, take_all}
+use Rattle.std.proofs.lemmas.List.{length-append, length-take, length-drop, append-nil, nil_from_length, take-append-drop, take_all}
 use Rattle.nbt_name.specs.Wire.{AreOctets}
 use Rattle.nbt_name.proofs.Fits.{octets_take}
 use Rattle.nbt_session.specs.declared.fault.Fault.{Fault}
@@ -149,15 +149,11 @@ cut_by held piece head body frame e is cut none = subst (λ (x : Option Frame). 
 
 -- ---- in a message
 
-empty_by : (piece : List ℕ) → length piece ≡ 0 → piece ≡ []
-empty_by [] none = refl
-empty_by (x ∷ xs) none = absurd (omega arith)
-
 pub ends_at : (piece held : List ℕ) (before : PiecesState) (missing : ℕ) → before ≡ inside missing → missing ≡ 0 → held ≡ [] → TakesPart piece before (Ok (0, Some message_end)) (between held)
 ends_at piece held before missing at none empty = rw (at, none, empty) message_ends
 
 pub waits_at : (piece : List ℕ) (before : PiecesState) (missing n : ℕ) → before ≡ inside missing → 0 < missing → n ≡ min missing (length piece) → n ≡ 0 → TakesPart piece before (Ok (0, None)) before
-waits_at piece before missing n at some count none = rw at (message_waits missing some (empty_by piece (omega arith)))
+waits_at piece before missing n at some count none = rw at (message_waits missing some (nil_from_length piece (omega arith)))
 
 pub goes_on_at : (piece : List ℕ) (before : PiecesState) (missing n : ℕ) → before ≡ inside missing → n ≡ min missing (length piece) → 0 < n → AreOctets piece → TakesPart piece before (Ok (n, Some (message_data (take n piece)))) (inside (missing - n))
 goes_on_at piece before missing n at count some are = rw at (message_goes_on missing n count some (octets_take n piece are))

@@ -7,7 +7,7 @@ use Rattle.nbt_name.specs.Reading.{PlainNameAt, PlainFaultAt}
 use Rattle.nbt_session.specs.declared.fault.Fault.{Fault}
 use Rattle.nbt_session.specs.declared.packet.PacketType.{PacketType}
 use Rattle.nbt_session.specs.declared.packet.PacketType.TheVariants.{Request}
-use Rattle.nbt_session.specs.Packet.{PacketValue, message, request, positive, negative, retarget, keep_alive, octet_of, HasLength, header, framed, type_of, body_of, IsPacket}
+use Rattle.nbt_session.specs.Packet.{PacketValue, request, octet_of, HasLength, header, framed, type_of, body_of, IsPacket}
 use Rattle.nbt_session.specs.Stream.{Begins, name_fault, RequestFault, called_bad, calling_bad, not_filled, count, HasFault, type_bad, flags_bad, length_bad, request_bad}
 use Rattle.nbt_session.proofs.Packets.{NameLaws, octet_apart, most_fits, body_fits, body_short, header_apart, frame_apart}
 
@@ -130,11 +130,7 @@ one_fault laws octets _ _ (request_bad body rest f e has bad) (request_bad body2
 -- a packet that is a request is its names' text
 is_request : NameLaws → PlainLaws → (p : PacketValue) (body : List ℕ) (f : Fault) → IsPacket p → type_of p ≡ Request → body_of p ≡ body → RequestFault body f → ⊥
 is_request names laws (request called calling) body f is t e bad = no_request_fault names laws called calling f is.0 is.1 (subst (λ (xs : List ℕ). RequestFault xs f) (sym e) bad)
-is_request names laws (message octets) body f is t e bad = cc
-is_request names laws positive body f is t e bad = cc
-is_request names laws (negative code) body f is t e bad = cc
-is_request names laws (retarget to) body f is t e bad = cc
-is_request names laws keep_alive body f is t e bad = cc
+is_request names laws _ body f is t e bad = cc
 
 pub no_fault : NameLaws → PlainLaws → (octets : List ℕ) (p : PacketValue) (rest : List ℕ) (f : Fault) → Begins octets p rest → HasFault octets f → ⊥
 no_fault names laws octets p rest _ (is, e) (type_bad t rest2 e2 unknown) = unknown (type_of p) cc

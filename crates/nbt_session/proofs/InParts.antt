@@ -1,5 +1,5 @@
 -- A stream's parts, put together, are its packets and its rest.
-use Rattle.std.proofs.Common.{◌≡◌, ℕ, zero, suc, ◌+◌, ◌-◌, ◌<◌, ◌≤◌, List, [], ◌∷◌, ◌++◌, length, take, min, Option, Some, None, Ok, Err, refl, sym, ap, subst, ◌∙◌, arith, append_assoc}
+use Rattle.std.proofs.Common.{◌≡◌, ℕ, zero, suc, ◌-◌, ◌<◌, ◌≤◌, List, [], ◌∷◌, ◌++◌, length, take, Option, Some, None, Ok, Err, refl, sym, ap, subst, ◌∙◌, arith, append_assoc}
 use Rattle.std.specs.List.{flat_map}
 use Rattle.std.proofs.lemmas.List.{length-append, length-take, append-nil, take_all}
 use Rattle.nbt_name.specs.Wire.{AreOctets}
@@ -164,11 +164,7 @@ IsSound (faulty fault) = ⊥
 
 ok_sound : (piece : List ℕ) (n : ℕ) (part : Option PartValue) (s t : PiecesState) → TakesPart piece s (Ok (n, part)) t → IsSound t
 ok_sound piece _ _ _ _ (message_starts held n size within fits whole) = tt
-ok_sound piece _ _ _ _ (message_goes_on missing n count some are) = tt
-ok_sound piece _ _ _ _ (message_waits missing some none) = tt
-ok_sound piece _ _ _ _ message_ends = tt
-ok_sound piece _ _ _ _ (packet_is_whole held n packet within is apart whole) = tt
-ok_sound piece _ _ _ _ (piece_is_held held apart partial none) = tt
+ok_sound piece _ _ _ _ _ = tt
 
 run_sound : (s : PiecesState) (octets : List ℕ) (parts : List PartValue) (u : PiecesState) → PartsRun s octets parts u → IsSound s → IsSound u
 run_sound _ _ _ _ (ends s) sound = sound

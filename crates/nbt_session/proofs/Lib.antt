@@ -1,8 +1,6 @@
-pub mod Answering
 pub mod Calls
 pub mod Cells
 pub mod Comings
-pub mod Entries
 pub mod Faults
 pub mod Gathering
 pub mod InParts

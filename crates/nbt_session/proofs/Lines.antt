@@ -1,23 +1,22 @@
 -- The listener's table: one line at a time, and what its lines keep.
-use Rattle.std.proofs.Common.{◌≡◌, ◌≢◌, ℕ, zero, suc, ◌+◌, ◌<◌, ◌≤◌, cond, List, [], ◌∷◌, length, get_or, Option, Some, None, refl, sym, ap, subst, ◌∙◌, arith, inl, inr}
+use Rattle.std.proofs.Common.{◌≡◌, ◌≢◌, ℕ, ◌+◌, ◌<◌, ◌≤◌, cond, List, length, get_or, Option, Some, None, refl, sym, ap, subst, ◌∙◌, arith, inl, inr}
 use Rattle.std.specs.Prelude.{slice_get, slice_set, slice_index_or, All, Any, ◌⊎◌}
 use Rattle.std.specs.List.{AllWithin}
 use Rattle.std.proofs.lemmas.Bool.{cases_lt}
 use Rattle.std.proofs.lemmas.List.Sums.{sum_by-set}
+use Rattle.std.proofs.lemmas.Option.{get_or_from_slice_get, slice_get_within}
 use Rattle.nbt_name.specs.declared.addr.Addr.{Addr}
 use Rattle.nbt_name.specs.declared.addr.Kind.{Kind}
 use Rattle.nbt_name.specs.Wire.{NameValue}
 use Rattle.nbt_session.specs.declared.listener.Entry.{Entry}
 use Rattle.nbt_session.specs.declared.listener.Slot.{Slot}
-use Rattle.nbt_session.specs.declared.listener.Slot.TheVariants.{Free, Fresh, Open}
+use Rattle.nbt_session.specs.declared.listener.Slot.TheVariants.{Free, Open}
 use Rattle.nbt_session.specs.Event.{EventValue, packet}
 use Rattle.nbt_session.specs.Packet.{request, retarget}
 use Rattle.nbt_session.specs.Listener.{ListenerValue, ListenerAnswerValue, send_and_close, is_open, open_count, TakesCall, FirstThatTakes, CallMoves, name_is_not_present, nobody_listens, nobody_listens_for_it, too_many_are_open, goes_elsewhere, is_taken, SlotMoves, stands, is_lost, is_called, waits_on, gets_no_request, gets_a_message, stays_alive, gets_what_has_no_place, is_not_there, stands_already, is_open_already, ListenerMoves, LetsIn}
 
 got : {X : Type 0} (xs : List X) (k : ℕ) (x d : X) → slice_get xs k ≡ Some x → (slice_index_or xs k d ≡ x) × (k < length xs)
-got [] k x d e = absurd cc
-got (y ∷ ys) zero x d e = (cc, omega arith)
-got (y ∷ ys) (suc k) x d e = let later = got ys k x d e in (later.0, omega (arith, later.1))
+got xs k x d e = (get_or_from_slice_get xs k x d e, slice_get_within xs k x e)
 
 not_before : (es : List Entry) (called calling : NameValue) (e : Entry) (k n : ℕ) → slice_get es k ≡ Some e → k < n → TakesCall e called calling → AllWithin (λ x. ¬ TakesCall x called calling) es 0 n → ⊥
 not_before es called calling e k n there less takes none =
@@ -132,10 +131,7 @@ one_listener_move holds old a b slot event x y m n =
 call_held : (holds : NameValue → Option Kind) (es : List Entry) (most opened : ℕ) (called calling : NameValue) (s : Slot) (a : ListenerAnswerValue) → CallMoves holds es most opened called calling s a → LetsIn a → (kind : Kind) × (holds called ≡ Some kind)
 call_held holds es most opened called calling _ _ (is_taken k e h first room is) lets = (k, h)
 call_held holds es most opened called calling _ _ (goes_elsewhere k e to h first room is) lets = (k, h)
-call_held holds es most opened called calling _ _ (name_is_not_present h) lets = elim lets [ ]
-call_held holds es most opened called calling _ _ (nobody_listens kind h none) lets = elim lets [ ]
-call_held holds es most opened called calling _ _ (nobody_listens_for_it kind h some none) lets = elim lets [ ]
-call_held holds es most opened called calling _ _ (too_many_are_open kind entry h first full) lets = elim lets [ ]
+call_held holds es most opened called calling _ _ _ lets = elim lets [ ]
 
 -- whose call goes on
 pub record Called (holds : NameValue → Option Kind) (event : EventValue) : Type 0 where
@@ -149,16 +145,7 @@ slot_held : (holds : NameValue → Option Kind) (es : List Entry) (most opened :
 slot_held holds es most opened _ _ _ _ (is_called called calling t a move) lets =
     let held = call_held holds es most opened called calling t a move lets in
     record { called = called; calling = calling; kind = held.0; asks = refl; held = held.1 }
-slot_held holds es most opened _ _ _ _ stands lets = elim lets [ ]
-slot_held holds es most opened _ _ _ _ (is_lost slot) lets = elim lets [ ]
-slot_held holds es most opened _ _ _ _ waits_on lets = elim lets [ ]
-slot_held holds es most opened _ _ _ _ (gets_no_request p a b) lets = elim lets [ ]
-slot_held holds es most opened _ _ _ _ (gets_a_message octets) lets = elim lets [ ]
-slot_held holds es most opened _ _ _ _ stays_alive lets = elim lets [ ]
-slot_held holds es most opened _ _ _ _ (gets_what_has_no_place p a b) lets = elim lets [ ]
-slot_held holds es most opened _ _ _ _ (is_not_there p) lets = elim lets [ ]
-slot_held holds es most opened _ _ _ _ stands_already lets = elim lets [ ]
-slot_held holds es most opened _ _ _ _ is_open_already lets = elim lets [ ]
+slot_held holds es most opened _ _ _ _ _ lets = elim lets [ ]
 
 pub lets_in_held : (holds : NameValue → Option Kind) (old new : ListenerValue) (slot : ℕ) (event : EventValue) (answer : ListenerAnswerValue) → ListenerMoves holds old slot event new answer → LetsIn answer
     → (called calling : NameValue) × (kind : Kind) × (event ≡ packet (request called calling)) × (holds called ≡ Some kind)
@@ -180,35 +167,21 @@ count_set slots k before after e =
     omega arith
 
 call_room : (holds : NameValue → Option Kind) (es : List Entry) (most opened : ℕ) (called calling : NameValue) (s : Slot) (a : ListenerAnswerValue) → CallMoves holds es most opened called calling s a → (s ≡ Free) ⊎ (opened < most)
-call_room holds es most opened called calling _ _ (name_is_not_present h) = inl refl
-call_room holds es most opened called calling _ _ (nobody_listens k h none) = inl refl
-call_room holds es most opened called calling _ _ (nobody_listens_for_it k h some none) = inl refl
-call_room holds es most opened called calling _ _ (too_many_are_open k e h first full) = inl refl
-call_room holds es most opened called calling _ _ (goes_elsewhere k e to h first room is) = inl refl
 call_room holds es most opened called calling _ _ (is_taken k e h first room is) = inr room
+call_room holds es most opened called calling _ _ _ = inl refl
 
 -- a connection that is open was so before, or there was room
 slot_room : (holds : NameValue → Option Kind) (es : List Entry) (most opened : ℕ) (s t : Slot) (e : EventValue) (a : ListenerAnswerValue) → SlotMoves holds es most opened s e t a → (worth t ≤ worth s) ⊎ (opened < most)
-slot_room holds es most opened _ _ _ _ stands = inl (omega arith)
-slot_room holds es most opened _ _ _ _ (is_lost slot) = inl (omega arith)
 slot_room holds es most opened _ _ _ _ (is_called called calling t a move) =
     elim (call_room holds es most opened called calling t a move) [
       | inl free ↦ inl (omega (arith, ap worth free))
       | inr room ↦ inr room
     ]
-slot_room holds es most opened _ _ _ _ waits_on = inl (omega arith)
-slot_room holds es most opened _ _ _ _ (gets_no_request p a b) = inl (omega arith)
-slot_room holds es most opened _ _ _ _ (gets_a_message octets) = inl (omega arith)
-slot_room holds es most opened _ _ _ _ stays_alive = inl (omega arith)
-slot_room holds es most opened _ _ _ _ (gets_what_has_no_place p a b) = inl (omega arith)
-slot_room holds es most opened _ _ _ _ (is_not_there p) = inl (omega arith)
-slot_room holds es most opened _ _ _ _ stands_already = inl (omega arith)
-slot_room holds es most opened _ _ _ _ is_open_already = inl (omega arith)
+slot_room holds es most opened _ _ _ _ _ = inl (omega arith)
 
 at_most_one : (s : Slot) → worth s ≤ 1
-at_most_one Free = omega arith
-at_most_one Fresh = omega arith
 at_most_one Open = omega arith
+at_most_one _ = omega arith
 
 pub most_are_open : (holds : NameValue → Option Kind) (old new : ListenerValue) (slot : ℕ) (event : EventValue) (answer : ListenerAnswerValue) → ListenerMoves holds old slot event new answer → open_count old.slots ≤ old.most → open_count new.slots ≤ new.most
 most_are_open holds old new slot event answer m fits =

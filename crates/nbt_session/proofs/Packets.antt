@@ -25,20 +25,11 @@ octet_apart Positive Positive e = refl
 octet_apart Negative Negative e = refl
 octet_apart Retarget Retarget e = refl
 octet_apart KeepAlive KeepAlive e = refl
-octet_apart Message _ e = absurd (omega arith)
-octet_apart Request _ e = absurd (omega arith)
-octet_apart Positive _ e = absurd (omega arith)
-octet_apart Negative _ e = absurd (omega arith)
-octet_apart Retarget _ e = absurd (omega arith)
-octet_apart KeepAlive _ e = absurd (omega arith)
+octet_apart _ _ e = absurd (omega arith)
 
 pub most_fits : (kind : PacketType) → most kind ≤ 131071
 most_fits Message = omega arith
-most_fits Request = omega arith
-most_fits Positive = omega arith
-most_fits Negative = omega arith
-most_fits Retarget = omega arith
-most_fits KeepAlive = omega arith
+most_fits _ = omega arith
 
 -- a packet's octets are as many as its type has
 pub body_fits : (p : PacketValue) → IsPacket p → HasLength (type_of p) (length (body_of p))
@@ -79,12 +70,7 @@ packet_by names positive positive is_p is_q t e = refl
 packet_by names (negative a) (negative b) is_p is_q t e = cc
 packet_by names (retarget a) (retarget b) is_p is_q t e = ap retarget (retarget_apart a b is_p.0 is_p.1 is_q.0 is_q.1 e)
 packet_by names keep_alive keep_alive is_p is_q t e = refl
-packet_by names (message xs) _ is_p is_q t e = cc
-packet_by names (request a b) _ is_p is_q t e = cc
-packet_by names positive _ is_p is_q t e = cc
-packet_by names (negative a) _ is_p is_q t e = cc
-packet_by names (retarget a) _ is_p is_q t e = cc
-packet_by names keep_alive _ is_p is_q t e = cc
+packet_by names _ _ is_p is_q t e = cc
 
 -- Headers in front of others: their type and their length are the same, and so is what follows.
 pub record SameHeader (a b : PacketType) (n m : ℕ) (x y : List ℕ) : Type 0 where

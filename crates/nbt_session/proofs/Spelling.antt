@@ -1,25 +1,17 @@
 -- A plain name's octets are its wire form, and a name's fault stands within the octets.
-use Rattle.std.proofs.Common.{◌≡◌, ℕ, zero, suc, ◌+◌, ◌-◌, ◌<◌, ◌≤◌, List, [], ◌∷◌, ◌++◌, length, take, drop, Option, Some, None, refl, sym, ap, ◌∙◌, arith, append_assoc, add-one}
+use Rattle.std.proofs.Common.{◌≡◌, ℕ, zero, suc, ◌+◌, ◌-◌, ◌≤◌, List, [], ◌∷◌, ◌++◌, length, take, drop, Option, Some, None, refl, sym, ap, ◌∙◌, arith, append_assoc, add-one}
 use Rattle.std.specs.Prelude.{slice_get, slice_range, unwrap_or}
 use Rattle.std.proofs.lemmas.List.{take-append-drop, drop-drop, drop_all, append-nil}
+use Rattle.std.proofs.Math.Seq.{drop-cons}
+use Rattle.std.proofs.lemmas.Option.{get_or_from_slice_get, slice_get_within}
 use Rattle.nbt_name.specs.declared.fault.NameFault.{NameFault}
 use Rattle.nbt_name.specs.declared.form.Form.{Form}
 use Rattle.nbt_name.specs.declared.form.Form.TheVariants.{Plain}
 use Rattle.nbt_name.specs.Wire.{NameValue, IsName, wire}
 use Rattle.nbt_name.specs.Reading.{Spot, start, Step, letters_pass, label_passes, pointer_leads, Path, here, onward, PlainNameAt, PlainFaultAt, LetterFault, other_octet, octets_end, Stuck, missing, first_label_bad, letters_bad, label_bad, label_long, label_cut, pointer_plain, pointer_cut, pointer_onward}
 
-found_within : (xs : List ℕ) (p x : ℕ) → slice_get xs p ≡ Some x → p < length xs
-found_within [] p x found = absurd cc
-found_within (y ∷ ys) zero x found = omega arith
-found_within (y ∷ ys) (suc p) x found = let within = found_within ys p x found in omega arith
-
 drop_found : (xs : List ℕ) (p x : ℕ) → slice_get xs p ≡ Some x → drop p xs ≡ x ∷ drop (p + 1) xs
-drop_found xs p x found = rw add-one (from xs p x found)
-  where
-    from : (xs : List ℕ) (p x : ℕ) → slice_get xs p ≡ Some x → drop p xs ≡ x ∷ drop (suc p) xs
-    from [] p x found = absurd cc
-    from (y ∷ ys) zero x found = cc
-    from (y ∷ ys) (suc p) x found = from ys p x found
+drop_found xs p x found = rw add-one (drop-cons xs p x (slice_get_within xs p x found) ∙ ap (λ (y : ℕ). y ∷ drop (suc p) xs) (get_or_from_slice_get xs p x x found))
 
 -- ---- faults
 
@@ -29,14 +21,14 @@ letters_within octets place _ (octets_end k lt before ends) = omega arith
 
 stuck_within : (form : Form) (octets : List ℕ) (s : Spot) (f : NameFault) → Stuck form octets s f → f.place ≤ length octets
 stuck_within form octets s _ (missing none) = omega arith
-stuck_within form octets s _ (first_label_bad n first finds other small) = omega (arith, found_within octets s.place n finds)
+stuck_within form octets s _ (first_label_bad n first finds other small) = omega (arith, slice_get_within octets s.place n finds)
 stuck_within form octets s f (letters_bad f2 first finds bad) = letters_within octets (s.place + 1) f2 bad
-stuck_within form octets s _ (label_bad n later finds low high) = omega (arith, found_within octets s.place n finds)
-stuck_within form octets s _ (label_long n later finds low high long) = omega (arith, found_within octets s.place n finds)
+stuck_within form octets s _ (label_bad n later finds low high) = omega (arith, slice_get_within octets s.place n finds)
+stuck_within form octets s _ (label_long n later finds low high long) = omega (arith, slice_get_within octets s.place n finds)
 stuck_within form octets s _ (label_cut n later finds low high room cut) = omega arith
-stuck_within form octets s _ (pointer_plain high plain finds le) = omega (arith, found_within octets s.place high finds)
+stuck_within form octets s _ (pointer_plain high plain finds le) = omega (arith, slice_get_within octets s.place high finds)
 stuck_within form octets s _ (pointer_cut high compressed finds le none) = omega arith
-stuck_within form octets s _ (pointer_onward high low compressed finds le at ahead) = omega (arith, found_within octets s.place high finds)
+stuck_within form octets s _ (pointer_onward high low compressed finds le at ahead) = omega (arith, slice_get_within octets s.place high finds)
 
 pub fault_within : (octets : List ℕ) (place : ℕ) (f : NameFault) → PlainFaultAt octets place f → f.place ≤ length octets
 fault_within octets place f at = stuck_within Plain octets at.spot f at.stuck

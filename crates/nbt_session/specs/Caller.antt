@@ -1,5 +1,5 @@
--- The end that calls: RFC 1002 section 5.2.1 and our profile.
-use Rattle.std.specs.Prelude.{◌≢◌, ℕ, ◌+◌, ◌<◌, ◌≤◌, List}
+-- The caller of a session: RFC 1002 section 5.2.1 and our profile.
+use Rattle.std.specs.Prelude.{◌≢◌, ℕ, ◌+◌, ◌<◌, List}
 use Rattle.nbt_name.specs.declared.addr.Addr.{Addr}
 use Rattle.nbt_name.specs.Wire.{NameValue}
 use Rattle.nbt_session.specs.declared.caller.CallerAnswer.{CallerAnswer}
@@ -26,14 +26,6 @@ pub data AnswerValue : Type 0 where
   up : List ℕ → AnswerValue
   closed : AnswerValue
   fail : Failure → AnswerValue
-
--- no call has more than four tries
-abbrev pub TriesFit : CallerState → Type 0
-TriesFit (Connecting to tries) = tries ≤ 4
-TriesFit (Waiting to tries) = tries ≤ 4
-TriesFit Open = Unit {0}
-TriesFit Closed = Unit {0}
-TriesFit Failed = Unit {0}
 
 -- What a call does: the state, what happens, the state afterwards, and the answer. A lost connection is tried again
 -- and a retarget is followed, four tries in all.

@@ -1,9 +1,9 @@
--- The end that listens: RFC 1002 section 5.2.1 and our profile.
-use Rattle.std.specs.Prelude.{◌≡◌, ◌≢◌, ℕ, ◌<◌, ◌≤◌, Bool, true, false, List, [], ◌∷◌, slice_get, slice_set, Option, Some, None, All, Any, count_by}
-use Rattle.std.specs.List.{AllWithin}
+-- The listener for sessions: RFC 1002 section 5.2.1 and our profile.
+use Rattle.std.specs.Prelude.{◌≡◌, ◌≢◌, ℕ, ◌<◌, ◌≤◌, Bool, true, false, not, List, slice_get, slice_set, Option, Some, None, All, Any, count_by}
+use Rattle.std.specs.List.{AllWithin, filter}
 use Rattle.nbt_name.specs.declared.addr.Addr.{Addr}
 use Rattle.nbt_name.specs.declared.addr.Kind.{Kind}
-use Rattle.nbt_name.specs.Wire.{NameValue}
+use Rattle.nbt_name.specs.Wire.{NameValue, same_name}
 use Rattle.nbt_session.specs.declared.listener.Entry.{Entry}
 use Rattle.nbt_session.specs.declared.listener.ListenerAnswer.{ListenerAnswer}
 use Rattle.nbt_session.specs.declared.listener.ListenerAnswer.TheVariants as answers
@@ -27,23 +27,18 @@ pub data ListenerAnswerValue : Type 0 where
   up : List ℕ → ListenerAnswerValue
 
 -- without the entries of a name
-pub data Without (called : NameValue) : List Entry → List Entry → Type 0 where
-  empty : Without called [] []
-  goes : (entry : Entry) (old new : List Entry) → entry.called ≡ called → Without called old new
-      → Without called (entry ∷ old) new
-  stays : (entry : Entry) (old new : List Entry) → entry.called ≢ called → Without called old new
-      → Without called (entry ∷ old) (entry ∷ new)
+abbrev pub Without : NameValue → List Entry → List Entry → Type 0
+Without called old new = new ≡ filter (λ entry. not (same_name entry.called called)) old
 
 -- how many connections are open
 abbrev pub is_open : Slot → Bool
-is_open Free = false
-is_open Fresh = false
 is_open Open = true
+is_open slot = false
 
 abbrev pub open_count : List Slot → ℕ
 open_count slots = count_by is_open slots
 
--- an entry takes a call: it has the called name, and takes any calling name or that one
+-- an entry accepts a call: it has the called name, and any calling name or that one
 abbrev pub IsFor : Option NameValue → NameValue → Type 0
 IsFor None calling = Unit {0}
 IsFor (Some one) calling = one ≡ calling
@@ -51,7 +46,7 @@ IsFor (Some one) calling = one ≡ calling
 abbrev pub TakesCall : Entry → NameValue → NameValue → Type 0
 TakesCall entry called calling = (entry.called ≡ called) × IsFor entry.calling calling
 
--- the first entry that takes a call
+-- the first entry that accepts a call
 pub record FirstThatTakes (entries : List Entry) (called calling : NameValue) (entry : Entry) : Type 0 where
   pub place : ℕ
   pub stands : slice_get entries place ≡ Some entry
@@ -59,7 +54,7 @@ pub record FirstThatTakes (entries : List Entry) (called calling : NameValue) (e
   pub before : AllWithin (λ e. ¬ TakesCall e called calling) entries 0 place
 
 -- What is done with a call, where `holds` says which names the node holds: refused by the first reason that applies,
--- in this order; then sent elsewhere; else taken.
+-- in this order; then retargeted; else accepted.
 pub data CallMoves (holds : NameValue → Option Kind) (entries : List Entry) (most opened : ℕ) (called calling : NameValue) : Slot → ListenerAnswerValue → Type 0 where
   name_is_not_present : holds called ≡ None → CallMoves holds entries most opened called calling Free (send_and_close (negative 0x82))
   nobody_listens : (kind : Kind) → holds called ≡ Some kind → All (λ e. e.called ≢ called) entries

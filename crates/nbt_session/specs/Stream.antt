@@ -36,10 +36,7 @@ bad kind place = record { kind = kind; place = place }
 -- fault of LENGTH.
 abbrev pub name_fault_by : NameFaultKind → ℕ → Fault
 name_fault_by names.Short place = bad BadLength 2
-name_fault_by names.BadLabel place = bad BadName (4 + place)
-name_fault_by names.BadHalf place = bad BadName (4 + place)
-name_fault_by names.BadPointer place = bad BadName (4 + place)
-name_fault_by names.Long place = bad BadName (4 + place)
+name_fault_by kind place = bad BadName (4 + place)
 
 abbrev pub name_fault : NameFault → Fault
 name_fault f = name_fault_by f.kind f.place

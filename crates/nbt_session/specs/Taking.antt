@@ -1,5 +1,6 @@
 -- A session's stream in pieces, one after the other.
 use Rattle.std.specs.Prelude.{◌≡◌, ℕ, ◌≤◌, List, [], ◌∷◌, ◌++◌, length, take, Option, Some, None, Result, Ok, Err}
+use Rattle.std.specs.Option.{option_map}
 use Rattle.nbt_session.specs.declared.fault.Fault.{Fault}
 use Rattle.nbt_session.specs.declared.fault.StreamFault.{StreamFault}
 use Rattle.nbt_session.specs.declared.fault.StreamFault.TheVariants.{Malformed, OutOfMemory}
@@ -17,7 +18,7 @@ abbrev pub Taken : Type 0
 Taken = Result (ℕ × Option PacketValue) StreamFault
 
 -- What a stream makes of a piece. A packet is whole: what was held and what is taken are its text. None is: the whole
--- piece joins what is held. They have a fault: so it stays. Memory is refused: nothing is taken and nothing changes.
+-- piece joins what is held. They have a fault: so it stays. Out of memory: nothing is taken and nothing changes.
 pub data Takes (piece : List ℕ) : StreamState → Taken → StreamState → Type 0 where
   packet_is_whole : (held : List ℕ) (n : ℕ) (packet : PacketValue) → n ≤ length piece → IsPacket packet
       → held ++ take n piece ≡ text packet
@@ -41,10 +42,6 @@ pub data Run : StreamState → List ℕ → List PacketValue → StreamState →
       → Takes piece s (Err OutOfMemory) t → Run t octets packets u → Run s octets packets u
 
 -- what the code returns, as a value
-abbrev pub packet_if : Option Packet → Option PacketValue
-packet_if None = None
-packet_if (Some p) = Some (packet_of p)
-
 abbrev pub taken : Result (ℕ × Option Packet) StreamFault → Taken
-taken (Ok t) = Ok (t.0, packet_if t.1)
+taken (Ok t) = Ok (t.0, option_map packet_of t.1)
 taken (Err fault) = Err fault

@@ -7,7 +7,7 @@ ghost use Rattle.nbt_session.specs.Packet.{HasLength, IsPacket, type_of, body_of
 ghost use Rattle.nbt_session.specs.Stream.{RequestFault, name_fault};
 
 use crate::fault::{Fault, FaultKind};
-use crate::header::HEADER;
+use crate::header::{HEADER, bad};
 use crate::packet::{Packet, PacketType};
 use nbt_name::{Addr, NameFault, NameFaultKind, read_long, read_plain, read_word};
 
@@ -47,10 +47,7 @@ fn request_in(body: &[u8]) -> Result<Packet, Fault>
         Err(fault) => return Err(fault_of(fault)),
     };
     if end < body.len() {
-        return Err(Fault {
-            kind: FaultKind::BadLength,
-            place: 2,
-        });
+        return Err(bad(FaultKind::BadLength, 2));
     }
     Ok(Packet::Request { called, calling })
 }
@@ -62,17 +59,11 @@ fn fault_of(fault: NameFault) -> Fault
     ensures { result ≡ name_fault fault }
 {
     match fault.kind {
-        NameFaultKind::Short => Fault {
-            kind: FaultKind::BadLength,
-            place: 2,
-        },
+        NameFaultKind::Short => bad(FaultKind::BadLength, 2),
         NameFaultKind::BadLabel
         | NameFaultKind::BadHalf
         | NameFaultKind::BadPointer
-        | NameFaultKind::Long => Fault {
-            kind: FaultKind::BadName,
-            place: HEADER + fault.place,
-        },
+        | NameFaultKind::Long => bad(FaultKind::BadName, HEADER + fault.place),
     }
 }
 

@@ -1,10 +1,11 @@
-//! The end that calls (RFC 1001 section 16.1, RFC 1002 section 5.2.1).
+//! The caller of a session (RFC 1001 section 16.1, RFC 1002 section 5.2.1).
 
 ghost use Rattle.std.specs.Prelude.{◌≡◌, ◌+◌, ◌<◌, ◌≤◌};
 ghost use Rattle.nbt_name.specs.Wire.{NameValue};
 ghost use Rattle.nbt_session.specs.declared.caller.CallerState.TheVariants.{Connecting, Waiting, Open, Failed};
 ghost use Rattle.nbt_session.specs.Event.{event_of};
-ghost use Rattle.nbt_session.specs.Caller.{CallerMoves, TriesFit, answer_of, connect, fail};
+ghost use Rattle.nbt_session.specs.Caller.{CallerMoves, answer_of, connect, fail};
+ghost use Rattle.nbt_session.specs.Inner.Calling.{TriesFit};
 
 use crate::event::Event;
 use crate::packet::Packet;
@@ -15,7 +16,7 @@ use std::marker::Model;
 /// count too (our profile).
 const TRIES: u8 = 4;
 
-/// What the end that calls does next.
+/// What the caller does next.
 #[derive(Debug, PartialEq, Eq, Drop)]
 pub enum CallerAnswer {
     /// Nothing.
@@ -37,7 +38,7 @@ pub enum CallerAnswer {
 /// Why a call failed (our profile's numbers).
 #[derive(Clone, Copy, Debug, PartialEq, Eq)]
 pub enum Failure {
-    /// 1: the fourth connection couldn't be had, or was lost before the call was taken.
+    /// 1: the fourth connection couldn't be established, or was lost before the call was accepted.
     NoConnection,
     /// 2: the call was refused, with the code of the NEGATIVE SESSION RESPONSE.
     Refused(u8),
@@ -80,7 +81,7 @@ pub enum CallerState {
         /// Which try this is, 1 to 4.
         tries: u8,
     },
-    /// The call was taken.
+    /// The call was accepted.
     Open,
     /// The session was open, and is over.
     Closed,
@@ -88,7 +89,7 @@ pub enum CallerState {
     Failed,
 }
 
-/// One call to a name, by a name. No call of it takes memory.
+/// One call to a name, by a name. Its methods allocate no memory.
 #[derive(Debug, Drop)]
 pub struct Caller {
     called: Name,
@@ -97,7 +98,8 @@ pub struct Caller {
 }
 
 impl Model for Caller {
-    ghost use Rattle.nbt_session.specs.Caller.{CallerValue, TriesFit};
+    ghost use Rattle.nbt_session.specs.Caller.{CallerValue};
+    ghost use Rattle.nbt_session.specs.Inner.Calling.{TriesFit};
 
     ghost Value = { CallerValue };
 

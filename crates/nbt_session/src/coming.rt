@@ -1,7 +1,6 @@
 //! The packet that comes next on a session's stream, as far as it came (RFC 1002 section 4.3).
 
 ghost use Rattle.std.specs.Prelude.{◌≡◌, ◌+◌, ◌≤◌, [], ◌++◌, length, None, IfOk, IfErr};
-ghost use Rattle.nbt_session.specs.Packet.{HasLength};
 ghost use Rattle.nbt_session.specs.Parts.{TakesPart, between};
 ghost use Rattle.nbt_session.specs.Stream.{HasFault};
 

@@ -2,13 +2,13 @@
 
 use crate::packet::Packet;
 
-/// What happens to a connection: at the end that calls, and at the end that listens.
+/// What happens to a connection, at the caller and at the listener.
 #[derive(Debug, PartialEq, Eq, Drop)]
 pub enum Event {
-    /// The connection stands.
+    /// The connection is established.
     Connected,
     /// A packet came.
     Packet(Packet),
-    /// The connection is gone, couldn't be had, or its stream has a fault.
+    /// The connection is lost, couldn't be established, or its stream has a fault.
     Lost,
 }

@@ -1,4 +1,4 @@
-//! What a session's stream can have wrong, and where; and what hinders that a packet is written.
+//! What a session's stream can have wrong, and where; and why a packet is not written.
 
 ghost use Rattle.std.specs.Prelude.{◌≡◌};
 ghost use Rattle.nbt_session.specs.Numbers.{kind_number, kind_word, stream_fault_number, encode_fault_number};
@@ -62,7 +62,7 @@ pub enum StreamFault {
     /// 1 to 4: what comes next on the stream is no packet. The stream returns this from then on.
     #[error("{0}")]
     Malformed(Fault),
-    /// 5: memory was refused. The stream is as it was.
+    /// 5: out of memory. The stream is as it was.
     #[error("OutOfMemory")]
     OutOfMemory,
 }
@@ -107,7 +107,7 @@ pub enum EncodeFault {
     /// 1: the message is longer than the 131,071 octets that 17 bits of length can say (RFC 1002 section 4.3.1).
     #[error("TooLong")]
     TooLong,
-    /// 2: memory was refused.
+    /// 2: out of memory.
     #[error("OutOfMemory")]
     OutOfMemory,
 }

@@ -59,7 +59,8 @@ pub(crate) fn frame_of(header: &[u8]) -> Result<Option<Frame>, Fault>
     Ok(Some(Frame { kind, count }))
 }
 
-fn bad(kind: FaultKind, place: usize) -> Fault
+/// A fault at a place.
+pub(crate) fn bad(kind: FaultKind, place: usize) -> Fault
     ensures { result ≡ record { kind = kind; place = place } }
 {
     Fault { kind, place }

@@ -80,7 +80,7 @@ pub fn a_message_that_lacks_octets()
         → IsPartial (header Message size ++ octets) × ((fault : Fault) → ¬ HasFault (header Message size ++ octets) fault) }
 {}
 
-/// A stream that is given a piece has one answer, and is in one state afterwards, unless memory is refused.
+/// A stream that is given a piece has one answer, and is in one state afterwards, unless it runs out of memory.
 pub fn one_answer()
     ensures { (piece : List ℕ) (before a b : StreamState) (x y : Taken)
         → Takes piece before x a → Takes piece before y b
@@ -91,6 +91,7 @@ pub fn one_answer()
 }
 
 /// What happens to a call has one line of its table: one state afterwards and one answer.
+#[tactic(auto, using(crate::proofs::Calls::one_call_move))]
 pub fn one_call_move()
     ensures { (called calling : NameValue) (before a b : CallerState) (event : EventValue) (x y : AnswerValue)
         → CallerMoves called calling before event a x → CallerMoves called calling before event b y → (a ≡ b) × (x ≡ y) }
@@ -102,7 +103,7 @@ pub fn one_listener_move()
         → ListenerMoves holds before slot event a x → ListenerMoves holds before slot event b y → (a ≡ b) × (x ≡ y) }
 {}
 
-/// A call is taken, or sent elsewhere, only where the node holds the called name.
+/// A call is accepted, or retargeted, only where the node holds the called name.
 pub fn calls_go_to_held_names()
     ensures { (holds : NameValue → Option Kind) (before after : ListenerValue) (slot : ℕ) (event : EventValue) (answer : ListenerAnswerValue)
         → ListenerMoves holds before slot event after answer → LetsIn answer

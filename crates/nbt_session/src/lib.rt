@@ -1,5 +1,4 @@
-//! NetBIOS sessions over TCP (RFC 1002 section 4.3): the stream of packets, the end that calls and the end that
-//! listens.
+//! NetBIOS sessions over TCP (RFC 1002 section 4.3): the stream of packets, the caller and the listener.
 #![tactic(auto)]
 
 mod body;

@@ -1,9 +1,9 @@
-//! The end that listens (RFC 1001 section 16.1.1, RFC 1002 section 5.2.1).
+//! The listener for sessions (RFC 1001 section 16.1.1, RFC 1002 section 5.2.1).
 
 ghost use Rattle.std.specs.Prelude.{◌≡◌, ◌≢◌, ℕ, ◌<◌, ◌≤◌, ◌↔◌, List, [], ◌∷◌, ◌++◌, length, replicate, Option, is_some, IfSome, IfNone, OnOk, OnErr, IsErr, IsTrue, All, Any};
 ghost use Rattle.std.specs.Bool.{OnTrue, OnFalse};
 ghost use Rattle.nbt_name.specs.declared.addr.Kind.{Kind};
-ghost use Rattle.nbt_name.specs.Wire.{NameValue};
+ghost use Rattle.nbt_name.specs.Wire.{NameValue, same_name};
 ghost use Rattle.nbt_node.specs.Node.{holds as node_holds};
 ghost use Rattle.nbt_session.specs.declared.listener.Entry.{Entry};
 ghost use Rattle.nbt_session.specs.declared.listener.Slot.TheVariants.{Free, Fresh, Open};
@@ -33,19 +33,19 @@ const INSUFFICIENT: u8 = 0x83;
 /// Unspecified.
 const UNSPECIFIED: u8 = 0x8F;
 
-/// Calls that are taken: to a name, by anybody or by one name; here, or at the address that they are retargeted to.
+/// Calls that are accepted: to a name, by anybody or by one name; here, or at the endpoint that they are retargeted to.
 #[derive(Debug, PartialEq, Eq, Drop)]
 pub struct Entry {
     /// The name that is called.
     pub called: Name,
     /// The one name that may call, or none where any may.
     pub calling: Option<Name>,
-    /// Where the call is to be made instead.
+    /// The endpoint to which the call is retargeted.
     pub retarget: Option<Addr>,
 }
 
 impl Default for Entry {
-    /// An entry for the name `*`, which no node holds: it takes no call.
+    /// An entry for the name `*`, which no node holds: it accepts no call.
     fn default() -> Entry {
         Entry {
             called: Name::any(&[]).unwrap(),
@@ -55,7 +55,7 @@ impl Default for Entry {
     }
 }
 
-/// As many entries stand as there is room for.
+/// The listener has as many entries as it may have.
 #[derive(Clone, Copy, Debug, PartialEq, Eq, Error)]
 #[error("Full")]
 pub struct Full;
@@ -65,13 +65,13 @@ pub struct Full;
 pub enum Slot {
     /// There is none.
     Free,
-    /// It stands, and no request came.
+    /// It is established, and no request came.
     Fresh,
-    /// The call was taken.
+    /// The call was accepted.
     Open,
 }
 
-/// What the end that listens does next with a connection.
+/// What the listener does next with a connection.
 #[derive(Debug, PartialEq, Eq, Drop)]
 pub enum ListenerAnswer {
     /// Nothing.
@@ -86,7 +86,7 @@ pub enum ListenerAnswer {
     Up(Vec<u8>),
 }
 
-/// A listener of up to `L` entries, over `M` connections. No call of it takes memory.
+/// A listener of up to `L` entries, over `M` connections. Its methods allocate no memory.
 #[derive(Debug, Drop)]
 pub struct Listener<const L: usize, const M: usize> {
     entries: ArrayVec<Entry, L>,
@@ -103,8 +103,8 @@ impl<const L: usize, const M: usize> Model for Listener<L, M> {
 }
 
 impl<const L: usize, const M: usize> Listener<L, M> {
-    /// A listener that takes no calls yet, and of whose connections `most` may be open at a time. That `most` is at most
-    /// `M` is the caller's.
+    /// A listener that accepts no calls yet, and of whose connections `most` may be open at a time. The caller must ensure
+    /// that `most` is at most `M`.
     pub fn new(most: usize) -> Listener<L, M>
         requires { most ≤ M }
         ensures { result ≡ record { entries = []; slots = replicate M Free; most = most } }
@@ -116,8 +116,8 @@ impl<const L: usize, const M: usize> Listener<L, M> {
         }
     }
 
-    /// Takes calls by the entry from now on, where no earlier entry takes them. `Full` where `L` entries stand; nothing
-    /// changes then.
+    /// Accepts calls by the entry from now on, where no earlier entry accepts them. `Full` where there are `L` entries;
+    /// nothing changes then.
     pub fn listen(&mut self, entry: Entry) -> Result<(), Full>
         ensures ok { OnOk result (self.new ≡ record self.old { entries = self.old.entries ++ entry ∷ [] }) }
         ensures full { IsErr result ↔ (length self.old.entries ≡ L) }
@@ -130,7 +130,7 @@ impl<const L: usize, const M: usize> Listener<L, M> {
         Ok(())
     }
 
-    /// Takes away all entries of the name.
+    /// Removes all entries of the name.
     pub fn unlisten(&mut self, called: &Name)
         ensures entries { Without called.now self.old.entries self.new.entries }
         ensures slots { self.new.slots ≡ self.old.slots }
@@ -142,8 +142,8 @@ impl<const L: usize, const M: usize> Listener<L, M> {
     /// What the listener does when something happens to a connection, by the names that the node holds at `now`
     /// (RFC 1002 section 5.2.1; what may follow what is our profile). A call is refused by the first reason that
     /// applies, with the code of a NEGATIVE SESSION RESPONSE: the node doesn't hold the called name (0x82), no entry
-    /// has it (0x80), none of these takes the calling name (0x81), `most` connections are open (0x83). Else the first
-    /// entry that takes it says whether it is retargeted or taken. That `slot` is below `M` is the caller's.
+    /// has it (0x80), none of these accepts the calling name (0x81), `most` connections are open (0x83). Else the first
+    /// entry that accepts it says whether it is retargeted or accepted. The caller must ensure that `slot` is below `M`.
     pub fn on<const N: usize>(
         &mut self,
         now: Moment,
@@ -212,7 +212,7 @@ fn on_free(event: Event) -> (Slot, ListenerAnswer)
     }
 }
 
-/// The connection stands, and no request came.
+/// The connection is established, and no request came.
 fn on_fresh(
     entries: &[Entry],
     most: usize,
@@ -310,7 +310,7 @@ fn refused(code: u8) -> (Slot, ListenerAnswer)
     )
 }
 
-/// The first entry that takes the call.
+/// The first entry that accepts the call.
 fn first_that_takes<'a>(entries: &'a [Entry], called: &Name, calling: &Name) -> Option<&'a Entry>
     ensures found { IfSome result (λ entry. FirstThatTakes entries.now called.now calling.now entry.now) }
     ensures none { IfNone result (All (λ e. ¬ TakesCall e called.now calling.now) entries.now) }
@@ -336,7 +336,7 @@ fn listens_on(entries: &[Entry], called: &Name) -> bool
     false
 }
 
-/// Whether the entry takes the call.
+/// Whether the entry accepts the call.
 fn takes(entry: &Entry, called: &Name, calling: &Name) -> bool
     ensures { IsTrue result ↔ TakesCall entry.now called.now calling.now }
 {
@@ -349,7 +349,7 @@ fn takes(entry: &Entry, called: &Name, calling: &Name) -> bool
     }
 }
 
-/// Takes away all entries of the name.
+/// Removes all entries of the name.
 fn without<const L: usize>(entries: &mut ArrayVec<Entry, L>, called: &Name)
     ensures { Without called.now entries.old.items entries.new.items }
 {
@@ -357,7 +357,8 @@ fn without<const L: usize>(entries: &mut ArrayVec<Entry, L>, called: &Name)
 }
 
 fn is_same(a: &Name, b: &Name) -> bool
-    ensures { IsTrue result ↔ (a.now ≡ b.now) }
+    ensures value { result ≡ same_name a.now b.now }
+    ensures same { IsTrue result ↔ (a.now ≡ b.now) }
 {
     a == b
 }

@@ -1,4 +1,4 @@
-//! What a session's stream hands out, without holding a message.
+//! What a session's stream returns, without holding a message.
 
 use crate::packet::Packet;
 
@@ -7,7 +7,7 @@ use crate::packet::Packet;
 pub enum Part<'a> {
     /// A message begins, of this number of octets, 131,071 at most (RFC 1002 section 4.3.6).
     MessageStart(usize),
-    /// The next octets of the message, one at least, lent from the piece.
+    /// The next octets of the message, one at least, borrowed from the piece.
     MessageData(&'a [u8]),
     /// The message is whole.
     MessageEnd,

@@ -8,9 +8,8 @@ use crate::fault::{Fault, StreamFault};
 use crate::part::Part;
 use std::marker::Model;
 
-/// A stream of session packets that comes in pieces, and hands out a message's octets as they come (RFC 1002 section
-/// 4.3). It takes no memory, and holds what came of the next packet, but of a message its header alone: at most 514
-/// octets.
+/// A stream of session packets that comes in pieces, and returns a message's octets as they come (RFC 1002 section 4.3).
+/// It allocates no memory, and holds what came of the next packet, but of a message its header alone: at most 514 octets.
 #[derive(Debug, Drop)]
 pub struct Pieces {
     coming: Coming,
@@ -61,7 +60,7 @@ impl Pieces {
     }
 
     /// Takes the octets of `piece` up to the end of one part, and says how many it took: all of them where it returns
-    /// no part (RFC 1002 section 4.3). `MessageStart` comes as soon as the header is whole, `MessageData` lends the
+    /// no part (RFC 1002 section 4.3). `MessageStart` comes as soon as the header is whole, `MessageData` borrows the
     /// octets of the piece that belong to the message, and `MessageEnd` is returned by the next call after the last of
     /// them, of an empty piece too, and takes none. Refused, as soon as the octets are there that show it: `BadType`
     /// (1), `BadFlags` (2), `BadLength` (3), `BadName` (4), with a place counted from the packet's first octet, and

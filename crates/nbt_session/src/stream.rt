@@ -14,7 +14,7 @@ use std::marker::Model;
 use std::mem;
 
 /// A stream of session packets that comes in pieces (RFC 1002 section 4.3). It holds what came of the next packet, at
-/// most 131,075 octets, and takes memory for a message's alone.
+/// most 131,075 octets, and allocates memory for a message's alone.
 #[derive(Debug, Drop)]
 pub struct Stream {
     pieces: Pieces,
@@ -34,7 +34,7 @@ impl Model for Stream {
 }
 
 impl Stream {
-    /// A stream of which nothing came. It takes no memory.
+    /// A stream of which nothing came. It allocates no memory.
     pub fn new(alloc: Global) -> Stream
         ensures { result ≡ holding [] }
     {

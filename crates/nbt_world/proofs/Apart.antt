@@ -19,9 +19,6 @@ use Rattle.nbt_world.specs.Inner.Kept.{Replied, known, Claims, ClaimsIn, Invaria
 use Rattle.nbt_world.proofs.Knowing.{ended-down}
 use Rattle.nbt_world.proofs.Covering.{down_claims}
 
-pub apart_none : AreApart []
-apart_none i j a b p q same = absurd (none-some a p)
-
 -- one address more, which doesn't stand among the others
 pub apart_more : (first : Addr) (others : List Addr) → (IsAmong first.ip others → ⊥) → AreApart (first ∷ others) ↔ AreApart others
 apart_more first others off = (λ apart i j a b p q same. down i j (apart (suc i) (suc j) a b p q same), λ apart i j a b p q same. up apart i j a b p q same)
@@ -75,11 +72,7 @@ abbrev pub fresh : ConfigValue → Addr → List Addr → WorldValue
 fresh config server others = record { now = at_zero; config = config; ends = ends_at server others; sent = []; least = first_least; kept = true }
 
 pub zero_read : (number : ℕ) → reading at_zero number ≡ 0
-zero_read number = go (cases_lt number 9)
-  where
-    go : (number < 9) ⊎ (9 ≤ number) → reading at_zero number ≡ 0
-    go (inl lt) = get_or-replicate 9 number 0 0 lt
-    go (inr past) = get_or_past (replicate 9 0) number 0 past
+zero_read number = elim (cases_lt number 9) [ inl lt ↦ get_or-replicate 9 number 0 0 lt | inr past ↦ get_or_past (replicate 9 0) number 0 past ]
 
 -- an end that is there is one of nine
 pub end_within : (server : Addr) (others : List Addr) → length others ≤ 8 → (number : ℕ) → IsEnd (ends_at server others) number → number < 9
@@ -92,7 +85,7 @@ first_numbers number lt =
     ∙ (λ i. record { ahead = 1000 * sym (zero_read number) i + 1001 * (2 ^ 60 - 0); behind = 999 * 0 + 1000 * (2 ^ 60 - sym (zero_read number) i) })
 
 pub is_fresh : (config : ConfigValue) (server : Addr) (others : List Addr) → length others ≤ 8 → IsFresh config (server ∷ others) (fresh config server others)
-is_fresh config server others few = record { now = refl; readings = zero_read; least = λ n e. first_numbers n (end_within server others few n e); kept = refl; config_is = refl; addrs_are = addrs_at server others; no_server = refl; no_node = none_at server others; nothing_sent = refl }
+is_fresh config server others few = record { now = refl; readings = zero_read; least = λ n e. first_numbers n (end_within server others few n e); kept = refl; config_is = refl; addrs_are = addrs_at server others; no_server = refl; none_crashed = refl; no_node = none_at server others; nothing_sent = refl }
 
 nothing_among : (d : Datagram) → Contains [] d → ⊥
 nothing_among d c = let lt = c.1 in absurd (omega arith)

@@ -2,7 +2,9 @@
 -- when one node changes, and when the server starts or crashes.
 use Rattle.std.proofs.Common.{◌≡◌, ℕ, suc, ◌+◌, ◌*◌, ◌<◌, ◌≤◌, Bool, true, false, cond, List, [], ◌∷◌, Option, Some, None, refl, sym, ap, subst, ◌∙◌, arith, inl, inr}
 use Rattle.std.specs.Prelude.{Contains, IsTrue, ◌⊎◌, filter}
+use Rattle.std.specs.Option.{option_or}
 use Rattle.std.proofs.lemmas.Bool.{lt-ltb, cases_eq}
+use Rattle.std.proofs.lemmas.Option.{same_Some}
 use Rattle.std.proofs.lemmas.List.Elements.{Contains-push_cases, Contains-append_cases, Contains-append_right}
 use Rattle.nbt_name.specs.declared.addr.Addr.{Addr}
 use Rattle.nbt_name.specs.declared.addr.Kind.{Kind}
@@ -18,13 +20,13 @@ use Rattle.nbt_world.specs.declared.clocks.Clocks.{Clocks}
 use Rattle.nbt_world.specs.declared.clocks.Least.{Least}
 use Rattle.nbt_world.specs.declared.network.Datagram.{Datagram}
 use Rattle.nbt_world.specs.Drift.{reading}
-use Rattle.nbt_world.specs.World.{WorldValue, addr_of, IsEnd, node_of, with_server, with_node}
+use Rattle.nbt_world.specs.World.{WorldValue, addr_of, IsEnd, node_of, latest, with_server, with_node}
 use Rattle.nbt_server.specs.Calls.{ServerStarts}
-use Rattle.nbt_world.specs.Inner.Kept.{Asked, Replied, known, RequestsEnded, RepliesFresh, Claims, has, may_get, Covers, ClaimsIn, IsCoveredIn, IsNodeOf, AreRead, IsSent, Invariant, ClaimsKept}
+use Rattle.nbt_world.specs.Inner.Kept.{Asked, Replied, known, RequestsEnded, RepliesFresh, Claims, has, may_get, Covers, IsCovered, ClaimsIn, IsCoveredIn, IsNodeOf, AreRead, IsSent, Invariant, ClaimsKept}
 use Rattle.nbt_world.proofs.Knowing.{Within, knows}
 use Rattle.nbt_world.proofs.Drifting.{HoldLaw, hold_over}
 use Rattle.nbt_world.proofs.Claiming.{NoNewClaim, claims_fewer}
-use Rattle.nbt_world.proofs.Keeping.{Grows, Adds, no_reply_more, addr_with, node_with_other, node_with_here, node_changes, server_addr_with, server_node_with}
+use Rattle.nbt_world.proofs.Keeping.{replied_among, Grows, Adds, no_reply_more, addr_with, node_with_other, node_with_here, node_changes, server_addr_with, server_node_with}
 
 -- ---- what is no claim
 
@@ -37,6 +39,11 @@ idle_claims (has j e w) = w
 idle_claims (may_get j first moment r w a d) = w
 
 -- ---- no claim is new, and what covers them stays
+
+-- more replies are there, and what backs a claim is another
+pub covered_as : {longest number : ℕ} {replied more : Clocks → MessageValue → Type 0} {backs others : Kind → ℕ → Type 0} {kind : Kind} {end : ℕ} → Within replied more → (is : IsCovered longest number replied backs kind end)
+    → others kind (reading is.moment 0 + 1000 * is.seconds) → IsCovered longest number more others kind end
+covered_as grows is backed = record { moment = is.moment; message = is.message; replied_is = grows is.moment is.message is.replied_is; seconds = is.seconds; within = is.within; counted = is.counted; backed = backed }
 
 pub claims_frame : (w v : WorldValue) → ((n : ℕ) (a : Addr) → addr_of w.ends n ≡ Some a → reading w.now n ≤ reading v.now n) → ((n : ℕ) → addr_of v.ends n ≡ addr_of w.ends n)
     → ((n : ℕ) (a : Addr) (name : NameValue) (kind : Kind) (end : ℕ) → addr_of w.ends n ≡ Some a → ClaimsIn v n a name kind end → reading v.now n < end → ClaimsIn w n a name kind end)
@@ -74,12 +81,8 @@ contains_filter p (y ∷ xs) x e c = go (contains_filter p xs x e) (Contains-app
     here true f same = (0, omega arith, same)
     here false f same = absurd cc
 
-    first : Contains [] x ⊎ (y ≡ x) → Contains (cond (p y) (y ∷ filter p xs) (filter p xs)) x
-    first (inl d) = let lt = d.1 in absurd (omega arith)
-    first (inr same) = here (p y) (ap p same ∙ e) same
-
     go : (Contains xs x → Contains (filter p xs) x) → Contains (y ∷ []) x ⊎ Contains xs x → Contains (cond (p y) (y ∷ filter p xs) (filter p xs)) x
-    go among (inl d) = first (Contains-push_cases [] y x d)
+    go among (inl d) = elim (Contains-push_cases [] y x d) [ inl none ↦ absurd (omega (arith, none.1)) | inr same ↦ here (p y) (ap p same ∙ e) same ]
     go among (inr d) = keep (p y) (among d)
 
 later_backs : LaterLive → (now later : ℕ) (server : Option ServerValue) (ip : ℕ) (name : NameValue) (kind : Kind) (till : ℕ) → now ≤ later → later < till → Covers now server ip name kind till → Covers later server ip name kind till
@@ -107,44 +110,25 @@ clock_claims law holds {w} {later} {lower} {still_kept} on_time le read all on =
         → IsCoveredIn (record w { now = later; least = lower; kept = still_kept }) n a name kind end
     still n a name kind end p c lt is =
         let counted = is.counted in
-        record {
-          moment = is.moment;
-          message = is.message;
-          replied_is = is.replied_is;
-          seconds = is.seconds;
-          within = is.within;
-          counted = is.counted;
-          backed = later_backs law (reading w.now 0) (reading later 0) w.ends.server a.ip name kind (reading is.moment 0 + 1000 * is.seconds) (le 0 (w.ends.server_addr, refl))
-              (hold_over holds read on all n (a, p) is.replied_is is.seconds (omega arith)) is.backed;
-        }
+        covered_as (λ moment message r. r) is
+        (later_backs law (reading w.now 0) (reading later 0) (latest w.ends) a.ip name kind (reading is.moment 0 + 1000 * is.seconds) (le 0 (w.ends.server_addr, refl)) (hold_over holds read on all n (a, p) is.replied_is is.seconds (omega arith)) is.backed)
 
 -- ---- a node changes: what it claims, it claimed before, and what else holds of it is told name by name
 
 pub replied_still : {old new : List Datagram} {server to : Addr} {name : NameValue} → Grows old new → Within (Replied old server to name) (Replied new server to name)
-replied_still grows moment message r =
-    record { datagram = r.datagram; among = grows r.datagram r.among; sender = r.sender; receiver = r.receiver; moment_is = r.moment_is; spelled = r.spelled; reply = r.reply }
+replied_still grows moment message r = replied_among r (grows r.datagram r.among)
 
 node_claims : {w : WorldValue} {i : ℕ} {addr : Addr} {sent : List Datagram} → Adds w i addr sent → (x : Option NodeValue) → IsTrue w.kept → ((name : NameValue) → NoNewClaim w.config.longest w.config.life w.now.clock (Replied w.sent w.ends.server_addr addr name) (known (node_of w.ends (suc i)) name) (known x name))
     → ClaimsKept (record w { ends = with_node w.ends (suc i) x; sent = sent })
 node_claims {w} {i} {addr} {sent} adds x on own = claims_frame w (record w { ends = with_node w.ends (suc i) x; sent = sent }) (λ n a p. omega arith) (addr_with w.ends i x) old still (adds.kept.claims on)
   where
-    value_at : (n : ℕ) → n ≡ suc i → node_of (with_node w.ends (suc i) x) n ≡ x
-    value_at n e = ap (node_of (with_node w.ends (suc i) x)) e ∙ node_with_here w.ends i x addr adds.at
-
-    same_addr : (n : ℕ) (a : Addr) → addr_of w.ends n ≡ Some a → n ≡ suc i → Some a ≡ Some addr
-    same_addr n a p e = sym p ∙ ap (addr_of w.ends) e ∙ adds.at
-
     by : (n : ℕ) (a : Addr) (name : NameValue) (kind : Kind) (end : ℕ) → addr_of w.ends n ≡ Some a → (n ≡ suc i) ⊎ (n ≡ suc i → ⊥)
         → Claims w.config.longest w.config.life w.now.clock (Replied w.sent w.ends.server_addr a name) (known (node_of (with_node w.ends (suc i) x) n) name) kind end → ClaimsIn w n a name kind end
     by n a name kind end p (inl e) c =
-        subst (λ (y : Addr). Claims w.config.longest w.config.life w.now.clock (Replied w.sent w.ends.server_addr y name) (known (node_of w.ends n) name) kind end) (same_value (sym (same_addr n a p e)))
-        (subst (λ (m : ℕ). Claims w.config.longest w.config.life w.now.clock (Replied w.sent w.ends.server_addr addr name) (known (node_of w.ends m) name) kind end) (sym e)
-        (own name kind end
-        (subst (λ (z : Option NodeValue). Claims w.config.longest w.config.life w.now.clock (Replied w.sent w.ends.server_addr addr name) (known z name) kind end) (value_at n e)
-        (subst (λ (y : Addr). Claims w.config.longest w.config.life w.now.clock (Replied w.sent w.ends.server_addr y name) (known (node_of (with_node w.ends (suc i) x) n) name) kind end) (same_value (same_addr n a p e)) c))))
-      where
-        same_value : {a b : Addr} → Some a ≡ Some b → a ≡ b
-        same_value e = cc
+        subst (λ (m : ℕ). addr_of w.ends m ≡ Some a → Claims w.config.longest w.config.life w.now.clock (Replied w.sent w.ends.server_addr a name) (known (node_of (with_node w.ends (suc i) x) m) name) kind end → ClaimsIn w m a name kind end) (sym e)
+        (λ at.
+        subst (λ (y : Addr). Claims w.config.longest w.config.life w.now.clock (Replied w.sent w.ends.server_addr y name) (known (node_of (with_node w.ends (suc i) x) (suc i)) name) kind end → ClaimsIn w (suc i) y name kind end) (same_Some addr a (sym adds.at ∙ at))
+        (λ d. own name kind end (subst (λ (z : Option NodeValue). Claims w.config.longest w.config.life w.now.clock (Replied w.sent w.ends.server_addr addr name) (known z name) kind end) (node_with_here w.ends i x addr adds.at) d))) p c
     by n a name kind end p (inr ne) c = subst (λ (z : Option NodeValue). Claims w.config.longest w.config.life w.now.clock (Replied w.sent w.ends.server_addr a name) (known z name) kind end) (node_with_other w.ends i x n ne) c
 
     old : (n : ℕ) (a : Addr) (name : NameValue) (kind : Kind) (end : ℕ) → addr_of w.ends n ≡ Some a → ClaimsIn (record w { ends = with_node w.ends (suc i) x; sent = sent }) n a name kind end → reading w.now n < end → ClaimsIn w n a name kind end
@@ -153,15 +137,7 @@ node_claims {w} {i} {addr} {sent} adds x on own = claims_frame w (record w { end
 
     still : (n : ℕ) (a : Addr) (name : NameValue) (kind : Kind) (end : ℕ) → addr_of w.ends n ≡ Some a → ClaimsIn w n a name kind end → reading w.now n < end → IsCoveredIn w n a name kind end
         → IsCoveredIn (record w { ends = with_node w.ends (suc i) x; sent = sent }) n a name kind end
-    still n a name kind end p c lt is = record {
-      moment = is.moment;
-      message = is.message;
-      replied_is = replied_still adds.grows is.moment is.message is.replied_is;
-      seconds = is.seconds;
-      within = is.within;
-      counted = is.counted;
-      backed = is.backed;
-    }
+    still n a name kind end p c lt is = covered_as (replied_still adds.grows) is is.backed
 
 -- What holds of one name of a node, by these limits, once the node is another and the list is this one.
 pub record NameKept (config : ConfigValue) (w : WorldValue) (i : ℕ) (addr : Addr) (sent : List Datagram) (old new : Option NodeValue) (name : NameValue) : Type 0 where
@@ -176,21 +152,22 @@ node_kept adds x is names = node_changes adds x is (λ on name. (names on name).
 -- ---- the server starts, and crashes: the silence lasts as long as any claim
 
 -- the server is another, and nothing was sent
-pub server_claims : (w : WorldValue) (x : Option ServerValue) → Invariant w → IsTrue w.kept
-    → ((n : ℕ) (a : Addr) (name : NameValue) (kind : Kind) (end : ℕ) → addr_of w.ends n ≡ Some a → ClaimsIn w n a name kind end → reading w.now n < end → (is : IsCoveredIn w n a name kind end) → Covers (reading w.now 0) x a.ip name kind (reading is.moment 0 + 1000 * is.seconds))
-    → ClaimsKept (record w { ends = with_server w.ends x; sent = w.sent })
-server_claims w x kept on backs =
-    claims_frame w (record w { ends = with_server w.ends x; sent = w.sent }) (λ n a p. omega arith) (server_addr_with w.ends x)
-    (λ n a name kind end p c lt. subst (λ (z : Option NodeValue). Claims w.config.longest w.config.life w.now.clock (Replied w.sent w.ends.server_addr a name) (known z name) kind end) (server_node_with w.ends x n) c)
-    (λ n a name kind end p c lt is.
-    record { moment = is.moment; message = is.message; replied_is = is.replied_is; seconds = is.seconds; within = is.within; counted = is.counted; backed = backs n a name kind end p c lt is })
+pub server_claims : (w : WorldValue) (x y : Option ServerValue) → Invariant w → IsTrue w.kept
+    → ((n : ℕ) (a : Addr) (name : NameValue) (kind : Kind) (end : ℕ) → addr_of w.ends n ≡ Some a → ClaimsIn w n a name kind end → reading w.now n < end → (is : IsCoveredIn w n a name kind end) → Covers (reading w.now 0) (option_or x y) a.ip name kind (reading is.moment 0 + 1000 * is.seconds))
+    → ClaimsKept (record w { ends = with_server w.ends x y; sent = w.sent })
+server_claims w x y kept on backs =
+    claims_frame w (record w { ends = with_server w.ends x y; sent = w.sent }) (λ n a p. omega arith) (server_addr_with w.ends x y)
+    (λ n a name kind end p c lt. subst (λ (z : Option NodeValue). Claims w.config.longest w.config.life w.now.clock (Replied w.sent w.ends.server_addr a name) (known z name) kind end) (server_node_with w.ends x y n) c)
+    (λ n a name kind end p c lt is. covered_as (λ moment message r. r) is (backs n a name kind end p c lt is))
     (kept.claims on)
 
-pub crashed_claims : (w : WorldValue) → Invariant w → IsTrue w.kept → ClaimsKept (record w { ends = with_server w.ends None; sent = w.sent })
-crashed_claims w kept on = server_claims w None kept on (λ n a name kind end p c lt is. tt)
+-- the server crashes, or resumes: it is as it was
+pub same_claims : (w : WorldValue) (x y : Option ServerValue) → option_or x y ≡ latest w.ends → Invariant w → IsTrue w.kept → ClaimsKept (record w { ends = with_server w.ends x y; sent = w.sent })
+same_claims w x y same kept on =
+    server_claims w x y kept on (λ n a name kind end p c lt is. subst (λ (s : Option ServerValue). Covers (reading w.now 0) s a.ip name kind (reading is.moment 0 + 1000 * is.seconds)) (sym same) is.backed)
 
-pub started_claims : (w : WorldValue) (server : ServerValue) → Invariant w → IsTrue w.kept → ServerStarts w.config (reading w.now 0) server → ClaimsKept (record w { ends = with_server w.ends (Some server); sent = w.sent })
-started_claims w server kept on new = server_claims w (Some server) kept on backs
+pub started_claims : (w : WorldValue) (server : ServerValue) → Invariant w → IsTrue w.kept → ServerStarts w.config (reading w.now 0) server → ClaimsKept (record w { ends = with_server w.ends (Some server) None; sent = w.sent })
+started_claims w server kept on new = server_claims w (Some server) None kept on backs
   where
     backs : (n : ℕ) (a : Addr) (name : NameValue) (kind : Kind) (end : ℕ) → addr_of w.ends n ≡ Some a → ClaimsIn w n a name kind end → reading w.now n < end → (is : IsCoveredIn w n a name kind end)
         → Covers (reading w.now 0) (Some server) a.ip name kind (reading is.moment 0 + 1000 * is.seconds)

@@ -25,19 +25,19 @@ use Rattle.nbt_world.specs.declared.clocks.Clocks.{Clocks}
 use Rattle.nbt_world.specs.declared.ends.Ends.{Ends}
 use Rattle.nbt_world.specs.declared.network.Datagram.{Datagram}
 use Rattle.nbt_world.specs.Drift.{reading}
-use Rattle.nbt_world.specs.World.{WorldValue, IsDeliverable, addr_of, node_of, with_server, with_node, datagram}
-use Rattle.nbt_world.specs.Step.{NodeHandles, TakenValue, takes, after_taking, ServerDoes, server_takes, server_forgets, EndTakes, finds_down, by_server, by_node}
+use Rattle.nbt_world.specs.World.{WorldValue, IsDeliverable, addr_of, node_of, latest, with_server, with_node, datagram}
+use Rattle.nbt_world.specs.Step.{NodeHandles, MovesName, TakenValue, takes, after_taking, ServerDoes, server_takes, server_forgets, EndTakes, finds_down, by_server, by_node}
 use Rattle.nbt_world.specs.Inner.Kept.{IsRequest, IsReply, Asked, Replied, known, IsOpen, IsServerOf, Invariant}
 use Rattle.std.proofs.lemmas.List.Elements.{Contains-push_cases}
 use Rattle.nbt_world.proofs.Knowing.{Moved, Draws, fresh-reply}
 use Rattle.nbt_world.proofs.Claiming.{IsListed}
-use Rattle.nbt_world.proofs.Keeping.{Grows, asked_still, asked_before, addr_with, node_with_here, server_changes}
+use Rattle.nbt_world.proofs.Keeping.{Grows, asked_still, replied_among, asked_before, addr_with, node_with_here, server_changes, latest-up}
 use Rattle.nbt_world.proofs.Covering.{NameKept}
 use Rattle.nbt_name.proofs.Same.{names_apart}
-use Rattle.nbt_world.specs.Inner.Handing.{Origin, listed, strange}
+use Rattle.nbt_world.specs.Inner.Handing.{Origin, listed, strange, harmless}
 use Rattle.nbt_world.proofs.Naming.{OneMessage, Laws, Sending, is_new, nothing_new, grows_by, UpAt, up_at, node_stays, stays_by_moves, adds_none, node_moves, kept_by_time, kept_hearing}
 use Rattle.nbt_world.proofs.Granting.{LeaseLaws}
-use Rattle.nbt_world.proofs.Served.{Took, served_claims, forgotten_claims}
+use Rattle.nbt_world.proofs.Served.{Took, request_moves, served_claims, still_claims}
 use Rattle.nbt_world.proofs.Events.{passed, time_kept, other_kept}
 
 -- ---- a node hears something about a name
@@ -83,6 +83,7 @@ heard_listed {w} {from = from} {name} at heard same named r e = go heard.origin
   where
     go : Origin w from heard.addr heard.octets → (moment : Clocks) × Replied w.sent w.ends.server_addr at.addr name moment (registered 0 r) × IsDeliverable w.config.life w.now.clock moment.clock
     go (strange off) = absurd (off (0, w.ends.server_addr, refl, ap (λ (a : Addr). a.ip) (sym same)))
+    go (harmless off) = absurd (off (registered 0 r, subst (λ (k : MessageValue). Spells heard.octets k) e heard.spells, refl))
     go (listed d c f t o delivered) = (
       d.moment,
       record {
@@ -235,15 +236,20 @@ octets_no_overwrite (serving.serves k p l speaks spells does) = serves_no_overwr
 -- what is among the replies once one more is sent: what was, and that one
 replied_more : OneMessage → {w : WorldValue} {addr : Addr} {d : Datagram} {m : MessageValue} → Sending w addr d m → {server a : Addr} {name : NameValue} {moment : Clocks} {message : MessageValue} → Replied (w.sent ++ d ∷ []) server a name moment message
     → Replied w.sent server a name moment message ⊎ ((moment ≡ w.now) × (d.to ≡ a) × (message ≡ m))
-replied_more law {w} {d = d} {m} s {server} {a} {name} {moment} {message} r = go (Contains-push_cases w.sent d r.datagram r.among)
-  where
-    go : Contains w.sent r.datagram ⊎ (d ≡ r.datagram) → Replied w.sent server a name moment message ⊎ ((moment ≡ w.now) × (d.to ≡ a) × (message ≡ m))
-    go (inl c) = inl (record { datagram = r.datagram; among = c; sender = r.sender; receiver = r.receiver; moment_is = r.moment_is; spelled = r.spelled; reply = r.reply })
-    go (inr e) = inr (
-      sym r.moment_is ∙ ap (λ (y : Datagram). y.moment) (sym e) ∙ s.now_is,
-      ap (λ (y : Datagram). y.to) e ∙ r.receiver,
-      law d.octets.items message m (subst (λ (y : Datagram). Spells y.octets.items message) (sym e) r.spelled) s.spelled,
-    )
+replied_more law {w} {d = d} {m} s {message = message} r =
+    elim (Contains-push_cases w.sent d r.datagram r.among) [
+      | inl c ↦ inl (replied_among r c)
+      | inr e ↦ inr (
+        sym r.moment_is ∙ ap (λ (y : Datagram). y.moment) (sym e) ∙ s.now_is,
+        ap (λ (y : Datagram). y.to) e ∙ r.receiver,
+        law d.octets.items message m (subst (λ (y : Datagram). Spells y.octets.items message) (sym e) r.spelled) s.spelled,
+      )
+    ]
+
+-- what is asked moves a name
+asks_moves : (name : NameValue) (m : MessageValue) → Asks name m → MovesName m
+asks_moves name m (by_request q) = request_moves name m q
+asks_moves name m (by_overwrite r e) = rw e tt
 
 -- that one was drawn by a request of the end to which it goes
 reply_drawn : {w : WorldValue} {number n : ℕ} {from addr a : Addr} {octets : List ℕ} {name : NameValue} {moment : Clocks} → Handed w number from addr octets → addr_of w.ends n ≡ Some a → from ≡ a → Draw octets name → moment ≡ w.now
@@ -252,6 +258,7 @@ reply_drawn {w} {n = n} {from} {addr} {a} {octets} {name} {moment} h p same draw
   where
     by_origin : Origin w from addr octets → Draws w.config.life n w.now.clock (reading w.now n) (Asked w.sent a.ip name) moment
     by_origin (strange off) = absurd (off (n, a, p, ap (λ (x : Addr). x.ip) (sym same)))
+    by_origin (harmless off) = absurd (off (draw.message, draw.spells, asks_moves name draw.message draw.asks))
     by_origin (listed x c f t o delivered) = by draw.asks
       where
         spelled_in : Spells x.octets.items draw.message
@@ -291,7 +298,7 @@ server_kept laws {w} {server} {new} is t = record {
       (serves_octets_sound laws (subst (λ (c : ConfigValue). IsSound c (reading w.now 0) (leases_at (reading w.now 0) server.table.rows)) (sym is.config_is) is.sound) t.serves);
 }
 
-took : {w : WorldValue} {server new : ServerValue} {from addr : Addr} {octets : List ℕ} {reply : Option MessageValue} {sent : List Datagram} → Handed w 0 from addr octets → w.ends.server ≡ Some server
+took : {w : WorldValue} {server new : ServerValue} {from addr : Addr} {octets : List ℕ} {reply : Option MessageValue} {sent : List Datagram} → Handed w 0 from addr octets → latest w.ends ≡ Some server
     → ServerTakes server (reading w.now 0) from.ip octets reply new → Grows w.sent sent
     → ((a : Addr) (q : NameValue) (moment : Clocks) (message : MessageValue) → Replied sent w.ends.server_addr a q moment message → Replied w.sent w.ends.server_addr a q moment message ⊎ ((moment ≡ w.now) × (from ≡ a) × (reply ≡ Some message)))
     → IsTrue w.kept → Took w server new from addr octets reply sent
@@ -309,16 +316,16 @@ took {w} {server} h up t grows more on =
       more = more;
     }
 
-server_takes_kept : Laws → LeaseLaws → {w : WorldValue} {server new : ServerValue} {from addr : Addr} {octets : List ℕ} {taken : TakenValue} → Handed w 0 from addr octets → w.ends.server ≡ Some server
-    → ServerDoes (reading w.now 0) server from.ip octets taken new → Invariant (after_taking w (with_server w.ends (Some new)) addr from taken)
+server_takes_kept : Laws → LeaseLaws → {w : WorldValue} {server new : ServerValue} {from addr : Addr} {octets : List ℕ} {taken : TakenValue} → Handed w 0 from addr octets → latest w.ends ≡ Some server
+    → ServerDoes (reading w.now 0) server from.ip octets taken new → Invariant (after_taking w (with_server w.ends (Some new) w.ends.crashed) addr from taken)
 server_takes_kept law laws {w} {server} {new} h up (server_takes None n t) =
-    server_changes w (Some new) w.sent h.kept (λ s e. subst (λ (x : ServerValue). IsServerOf w x) (same_Some new s e) (server_kept laws (h.kept.server server up) t)) (nothing_new w w.ends.server_addr) h.kept.replies
+    server_changes w (Some new) w.ends.crashed w.sent h.kept (λ s e. subst (λ (x : ServerValue). IsServerOf w x) (same_Some new s e) (server_kept laws (h.kept.server server up) t)) (nothing_new w w.ends.server_addr) h.kept.replies
     (λ on. served_claims laws (took h up t (λ d c. c) (λ a q moment message r. inl r) on))
 server_takes_kept law laws {w} {server} {new} {from} {addr} h up (server_takes (Some m) n t) =
     let d = datagram addr from w.now (text m) in
     let sending : Sending w w.ends.server_addr d m =
     record { from_is = sym (same_Some w.ends.server_addr addr h.at); now_is = refl; written = refl; spelled = t.spelled; no_overwrite = octets_no_overwrite t.serves } in
-    server_changes w (Some new) (w.sent ++ d ∷ []) h.kept (λ s e. subst (λ (x : ServerValue). IsServerOf w x) (same_Some new s e) (server_kept laws (h.kept.server server up) t)) (is_new law.one_message h.kept 0 refl sending)
+    server_changes w (Some new) w.ends.crashed (w.sent ++ d ∷ []) h.kept (λ s e. subst (λ (x : ServerValue). IsServerOf w x) (same_Some new s e) (server_kept laws (h.kept.server server up) t)) (is_new law.one_message h.kept 0 refl sending)
     (λ on n a name p.
     fresh-reply (h.kept.requests on n a name p) (asked_still (grows_by w.sent d)) (no_request_more h.kept sending n p)
     (λ moment message r.
@@ -329,8 +336,8 @@ server_takes_kept law laws {w} {server} {new} {from} {addr} h up (server_takes (
     (h.kept.replies on n a name p))
     (λ on. served_claims laws (took h up t (grows_by w.sent d) (λ a q moment message r. elim (replied_more law.one_message sending r) [ inl old ↦ inl old | inr is ↦ inr (is.0, is.1, ap Some (sym is.2)) ]) on))
 server_takes_kept law laws {w} {server} {new} h up (server_forgets n t) =
-    server_changes w (Some new) w.sent h.kept (λ s e. subst (λ (x : ServerValue). IsServerOf w x) (same_Some new s e) is) (nothing_new w w.ends.server_addr) h.kept.replies
-    (λ on. forgotten_claims h.kept on up t)
+    server_changes w (Some new) w.ends.crashed w.sent h.kept (λ s e. subst (λ (x : ServerValue). IsServerOf w x) (same_Some new s e) is) (nothing_new w w.ends.server_addr) h.kept.replies
+    (λ on. still_claims h.kept on up t.leases t.start t.config)
   where
     is : IsServerOf w new
     is =
@@ -346,5 +353,5 @@ server_takes_kept law laws {w} {server} {new} h up (server_forgets n t) =
 pub taking_kept : Laws → LeaseLaws → {w : WorldValue} {from addr : Addr} {octets : List ℕ} {number : ℕ} {taken : TakenValue} {ends : Ends} → Handed w number from addr octets
     → EndTakes (reading w.now number) w.ends from octets number taken ends → Invariant (after_taking w ends addr from taken)
 taking_kept law laws h (finds_down n down) = h.kept
-taking_kept law laws h (by_server server new t up does) = server_takes_kept law laws h up does
+taking_kept law laws {w} h (by_server server new t up does) = server_takes_kept law laws h (latest-up w.ends server up) does
 taking_kept law laws h (by_node i node new reply up hears) = node_hears_kept law i h up hears

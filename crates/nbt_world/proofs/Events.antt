@@ -13,7 +13,7 @@ use Rattle.nbt_node.specs.Node.{NodeValue, AreDistinct, state_of}
 use Rattle.nbt_node.specs.Settling.{settled}
 use Rattle.nbt_node.specs.Transaction.{next_due}
 use Rattle.nbt_node.specs.Moves.{NameEvent, poll, give_back, nothing}
-use Rattle.nbt_node.specs.EachName.{ByTimeAlone}
+use Rattle.nbt_node.proofs.Moving.{ByTimeAlone}
 use Rattle.nbt_node.proofs.Moving.{by_time, settled_apart, others_by_time, asked_is, known_is, may_ask}
 use Rattle.nbt_packet.specs.Spelling.{AreWritten}
 use Rattle.nbt_node.specs.Calls.{Sends, LooksUp, question, Opens, Polls, polls_name, polls_lookup, polls_nothing as nothing_due}

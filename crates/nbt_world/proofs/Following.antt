@@ -10,23 +10,23 @@ use Rattle.std.specs.Prelude.{IsTrue}
 use Rattle.nbt_lease.specs.Drift.{quiet}
 use Rattle.nbt_world.specs.declared.clocks.Clocks.{Clocks}
 use Rattle.nbt_world.specs.Drift.{reading}
-use Rattle.nbt_world.specs.World.{WorldValue, addr_of, node_of}
+use Rattle.nbt_world.specs.World.{WorldValue, addr_of, node_of, latest}
 use Rattle.nbt_world.proofs.Drifting.{RestLaw, asked_are_past}
 use Rattle.nbt_world.specs.Inner.Kept.{Known, known, last_sending, WantsIn, Wants, IsOpen, IsOpenIn, Covers, IsCoveredIn, Invariant}
-use Rattle.nbt_world.specs.Inner.Facts.{CoversIn, by_lease, by_silence, while_down, ClaimsAreCovered, IsRested, OpenIsFresh, RequestsHaveEnded}
+use Rattle.nbt_world.specs.Inner.Facts.{CoversIn, by_lease, by_silence, never_up, ClaimsAreCovered, IsRested, OpenIsFresh, RequestsHaveEnded}
 
 pub claims_covered : (w : WorldValue) → Invariant w → IsTrue w.kept → ClaimsAreCovered w
-claims_covered w kept on n a name kind end p c lt = (is.moment, is.seconds, is.counted, go w.ends.server refl (is.backed))
+claims_covered w kept on n a name kind end p c lt =
+    let past : reading is.moment 0 ≤ reading w.now 0 =
+    subst (λ (m : Clocks). reading m 0 ≤ reading w.now 0) (is.replied_is).moment_is ((kept.sent (is.replied_is).datagram (is.replied_is).among).seen 0 (w.ends.server_addr, refl)).read in
+    let within = is.within in
+    (is.moment, is.seconds, is.counted, go (latest w.ends) refl is.backed, omega arith)
   where
     is : IsCoveredIn w n a name kind end
     is = (kept.claims on).covered n a name kind end p c lt
 
-    go : (s : Option ServerValue) → w.ends.server ≡ s → Covers (reading w.now 0) s a.ip name kind (reading is.moment 0 + 1000 * is.seconds) → CoversIn w a name kind (reading is.moment 0 + 1000 * is.seconds)
-    go None e b =
-        let past : reading is.moment 0 ≤ reading w.now 0 =
-        subst (λ (m : Clocks). reading m 0 ≤ reading w.now 0) (is.replied_is).moment_is ((kept.sent (is.replied_is).datagram (is.replied_is).among).seen 0 (w.ends.server_addr, refl)).read in
-        let within = is.within in
-        while_down e (omega arith)
+    go : (s : Option ServerValue) → latest w.ends ≡ s → Covers (reading w.now 0) s a.ip name kind (reading is.moment 0 + 1000 * is.seconds) → CoversIn w a name kind (reading is.moment 0 + 1000 * is.seconds)
+    go None e b = never_up e
     go (Some server) e (inl leased) = by_lease server e leased
     go (Some server) e (inr silent) = by_silence server e silent
 

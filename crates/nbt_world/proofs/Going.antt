@@ -1,7 +1,7 @@
 -- What each step makes of the clocks, and so what a run does: told where the bound is kept, and where no event moves the
 -- clocks apart, in step, and kept until a clock stops.
 use Rattle.std.proofs.Common.{◌≡◌, ℕ, zero, suc, ◌+◌, ◌-◌, ◌*◌, ◌^◌, ◌<◌, ◌≤◌, List, [], ◌∷◌, ◌++◌, length, take, get_or, Some, refl, sym, subst, ◌∙◌, arith}
-use Rattle.std.specs.Prelude.{IsTrue, All, min}
+use Rattle.std.specs.Prelude.{IsTrue, All, min, slice_index}
 use Rattle.std.proofs.lemmas.List.{take_more, take_all}
 use Rattle.std.proofs.lemmas.List.Elements.{All-push, All-nil, All-cons, All-head, All-tail}
 use Rattle.nbt_name.specs.declared.addr.Addr.{Addr}
@@ -16,12 +16,12 @@ use Rattle.nbt_world.specs.declared.event.Event.{Event}
 use Rattle.nbt_world.specs.declared.event.Outcome.{Outcome}
 use Rattle.nbt_world.specs.Drift.{reading, later, least_of, numbers_of, lesser, IsAllowed}
 use Rattle.nbt_world.specs.World.{WorldValue, IsEnd, addr_of, with_node, datagram, IsFresh}
-use Rattle.nbt_world.specs.Step.{Advances, Step, ticks, advances, starts, starts_nothing, crashes, crashes_nothing, node_does, node_is_down, no_datagram, no_end, too_late, delivered, from_an_end, to_no_end, from_a_stranger, CallOutcomeValue, nothing, refusal, octets_to, after, TakenValue, is_down, is_lost, takes, EndTakes, finds_down, by_server, by_node, after_taking, Starts, server_starts, node_starts, Crashes, server_crashes, node_crashes}
+use Rattle.nbt_world.specs.Step.{Advances, Step, ticks, advances, starts, starts_nothing, crashes, crashes_nothing, resumes, resumes_nothing, node_does, node_is_down, no_datagram, no_end, too_late, delivered, from_an_end, to_no_end, from_a_stranger, beside_no_end, beside_moves, beside_to_no_end, from_beside, CallOutcomeValue, nothing, refusal, octets_to, after, TakenValue, is_down, is_lost, takes, EndTakes, finds_down, by_server, by_node, after_taking, Starts, server_starts, node_starts, Crashes, server_crashes, node_crashes, Resumes, server_resumes}
 use Rattle.nbt_world.specs.Inner.Kept.{AreRead}
 use Rattle.nbt_world.specs.Safety.{IsSafe, AreSafe, AreSafeWhileKept, IsInStep, LetsClocksDrift, MoveClocksAlike, NoClockStopped, AreKeptUntilClocksStop, RunsSafely}
 use Rattle.nbt_world.proofs.Keeping.{addr_with, server_addr_with, read_with}
 use Rattle.nbt_world.proofs.Clock.{sees, read_on, goes_up}
-use Rattle.nbt_world.proofs.Exact.{Goes, Traced, traced_more, traced_first}
+use Rattle.nbt_world.proofs.Exact.{Goes, Traced, traced_more, traced_first, traced_fresh}
 
 -- ---- the clocks go on
 
@@ -54,53 +54,74 @@ goes_with w ends sent same read = record {
   same = same;
 }
 
-goes_nowhere : (w : WorldValue) → AreRead w → Goes w w
-goes_nowhere w read = goes_with w w.ends w.sent (λ n. refl) read
-
 with_same : (ends : Ends) (n : ℕ) (x : Option NodeValue) (k : ℕ) → addr_of (with_node ends n x) k ≡ addr_of ends k
 with_same ends zero x k = refl
 with_same ends (suc i) x k = addr_with ends i x k
 
 starts_same : {config : ConfigValue} {now number : ℕ} {old new : Ends} → Starts config now old number new → (n : ℕ) → addr_of new n ≡ addr_of old n
-starts_same {old = old} (server_starts server down is) n = server_addr_with old (Some server) n
+starts_same {old = old} (server_starts server down is) n = server_addr_with old (Some server) None n
 starts_same {old = old} (node_starts index addr at down) n = addr_with old index _ n
 
 crashes_same : {number : ℕ} {old new : Ends} → Crashes old number new → (n : ℕ) → addr_of new n ≡ addr_of old n
-crashes_same {old = old} (server_crashes server up) n = server_addr_with old None n
+crashes_same {old = old} (server_crashes server up) n = server_addr_with old None (Some server) n
 crashes_same {old = old} (node_crashes index node up) n = addr_with old index None n
+
+resumes_same : {now : ℕ} {old new : Ends} → Resumes now old new → (n : ℕ) → addr_of new n ≡ addr_of old n
+resumes_same {old = old} (server_resumes kept server down is goes_on) n = server_addr_with old (Some server) None n
 
 takes_same : {now number : ℕ} {from : Addr} {octets : List ℕ} {taken : TakenValue} {old new : Ends} → EndTakes now old from octets number taken new → (n : ℕ) → addr_of new n ≡ addr_of old n
 takes_same (finds_down k down) n = refl
-takes_same {old = old} (by_server server s t up does) n = server_addr_with old (Some s) n
+takes_same {old = old} (by_server server s t up does) n = server_addr_with old (Some s) old.crashed n
 takes_same {old = old} (by_node index node s reply up hears) n = addr_with old index (Some s) n
 
-goes_after : (w : WorldValue) (number : ℕ) (new : NodeValue) (given : CallOutcomeValue) → AreRead w → Goes w (after w number new given)
-goes_after w number new nothing read = goes_with w (with_node w.ends number (Some new)) w.sent (with_same w.ends number (Some new)) read
-goes_after w number new (refusal fault) read = goes_with w (with_node w.ends number (Some new)) w.sent (with_same w.ends number (Some new)) read
-goes_after w number new (octets_to to octets) read = goes_with w (with_node w.ends number (Some new)) (w.sent ++ datagram new.addr to w.now octets ∷ []) (with_same w.ends number (Some new)) read
+-- What an event makes of the clocks: all go on alike, each goes on by its own milliseconds, or they stay, and only ends and
+-- datagrams are others.
+data Passes (w : WorldValue) (event : Event) : WorldValue → Type 0 where
+  clocks_alike : (ms : ℕ) (v : WorldValue) → Advances w ms (λ n. ms) v → Passes w event v
+  clocks_apart : (ms : ℕ) (moves : ℕ → ℕ) (v : WorldValue) → LetsClocksDrift event → Advances w ms moves v → Passes w event v
+  clocks_stay : (ends : Ends) (sent : List Datagram) → ((n : ℕ) → addr_of ends n ≡ addr_of w.ends n) → Passes w event (record w { ends = ends; sent = sent })
 
-goes_taking : (w : WorldValue) (ends : Ends) (from to : Addr) (taken : TakenValue) → ((n : ℕ) → addr_of ends n ≡ addr_of w.ends n) → AreRead w → Goes w (after_taking w ends from to taken)
-goes_taking w ends from to is_down same read = goes_with w ends w.sent same read
-goes_taking w ends from to is_lost same read = goes_with w ends w.sent same read
-goes_taking w ends from to (takes None) same read = goes_with w ends w.sent same read
-goes_taking w ends from to (takes (Some reply)) same read = goes_with w ends (w.sent ++ datagram from to w.now (text reply) ∷ []) same read
+nothing_passes : (w : WorldValue) {event : Event} → Passes w event w
+nothing_passes w = clocks_stay w.ends w.sent (λ n. refl)
 
-step_goes : {w v : WorldValue} {event : Event} {outcome : Outcome} → Step w event outcome v → AreRead w → Goes w v
-step_goes (ticks ms new adv) read = goes_on adv read
-step_goes (advances ms readings new adv) read = goes_on adv read
-step_goes {w} (starts number ends s) read = goes_with w ends w.sent (starts_same s) read
-step_goes {w} (starts_nothing number off) read = goes_nowhere w read
-step_goes {w} (crashes number ends s) read = goes_with w ends w.sent (crashes_same s) read
-step_goes {w} (crashes_nothing number off) read = goes_nowhere w read
-step_goes {w} (node_does e number node new given own up does) read = goes_after w number new given read
-step_goes {w} (node_is_down e number own down) read = goes_nowhere w read
-step_goes {w} (no_datagram k none) read = goes_nowhere w read
-step_goes {w} (no_end k d is off) read = goes_nowhere w read
-step_goes {w} (too_late k d number is at late) read = goes_nowhere w read
-step_goes {w} (delivered k d number taken ends is at in_time t) read = goes_taking w ends d.to d.from taken (takes_same t) read
-step_goes {w} (from_an_end from number octets is) read = goes_nowhere w read
-step_goes {w} (to_no_end from number octets none) read = goes_nowhere w read
-step_goes {w} (from_a_stranger from addr number octets taken ends off at t) read = goes_taking w ends addr from taken (takes_same t) read
+after_passes : (w : WorldValue) (number : ℕ) (new : NodeValue) (given : CallOutcomeValue) {event : Event} → Passes w event (after w number new given)
+after_passes w number new nothing = clocks_stay (with_node w.ends number (Some new)) w.sent (with_same w.ends number (Some new))
+after_passes w number new (refusal fault) = clocks_stay (with_node w.ends number (Some new)) w.sent (with_same w.ends number (Some new))
+after_passes w number new (octets_to to octets) = clocks_stay (with_node w.ends number (Some new)) (w.sent ++ datagram new.addr to w.now octets ∷ []) (with_same w.ends number (Some new))
+
+taking_passes : (w : WorldValue) (ends : Ends) (from to : Addr) (taken : TakenValue) {event : Event} → ((n : ℕ) → addr_of ends n ≡ addr_of w.ends n) → Passes w event (after_taking w ends from to taken)
+taking_passes w ends from to is_down same = clocks_stay ends w.sent same
+taking_passes w ends from to is_lost same = clocks_stay ends w.sent same
+taking_passes w ends from to (takes None) same = clocks_stay ends w.sent same
+taking_passes w ends from to (takes (Some reply)) same = clocks_stay ends (w.sent ++ datagram from to w.now (text reply) ∷ []) same
+
+step_passes : {w v : WorldValue} {event : Event} {outcome : Outcome} → Step w event outcome v → Passes w event v
+step_passes (ticks ms new adv) = clocks_alike ms new adv
+step_passes (advances ms readings new adv) = clocks_apart ms (slice_index readings) new tt adv
+step_passes {w} (starts number ends s) = clocks_stay ends w.sent (starts_same s)
+step_passes {w} (starts_nothing number off) = nothing_passes w
+step_passes {w} (crashes number ends s) = clocks_stay ends w.sent (crashes_same s)
+step_passes {w} (crashes_nothing number off) = nothing_passes w
+step_passes {w} (resumes ends s) = clocks_stay ends w.sent (resumes_same s)
+step_passes {w} (resumes_nothing off) = nothing_passes w
+step_passes {w} (node_does e number node new given own up does) = after_passes w number new given
+step_passes {w} (node_is_down e number own down) = nothing_passes w
+step_passes {w} (no_datagram k none) = nothing_passes w
+step_passes {w} (no_end k d is off) = nothing_passes w
+step_passes {w} (too_late k d number is at late) = nothing_passes w
+step_passes {w} (delivered k d number taken ends is at in_time t) = taking_passes w ends d.to d.from taken (takes_same t)
+step_passes {w} (from_an_end from number octets is) = nothing_passes w
+step_passes {w} (to_no_end from number octets none) = nothing_passes w
+step_passes {w} (from_a_stranger from addr number octets taken ends off at t) = taking_passes w ends addr from taken (takes_same t)
+step_passes {w} (beside_no_end from number octets off) = nothing_passes w
+step_passes {w} (beside_moves from number octets is) = nothing_passes w
+step_passes {w} (beside_to_no_end from number octets none) = nothing_passes w
+step_passes {w} (from_beside from addr number octets taken ends is off at t) = taking_passes w ends addr from taken (takes_same t)
+
+passes_goes : {w v : WorldValue} {event : Event} → Passes w event v → AreRead w → Goes w v
+passes_goes (clocks_alike ms v adv) read = goes_on adv read
+passes_goes (clocks_apart ms moves v may adv) read = goes_on adv read
+passes_goes {w} (clocks_stay ends sent same) read = goes_with w ends sent same read
 
 -- ---- clocks that move alike
 
@@ -109,33 +130,10 @@ record StaysAlike (P : WorldValue → Type 0) : Type 0 where
   ticks : (w v : WorldValue) (ms : ℕ) → Advances w ms (λ n. ms) v → AreRead w → P w → P v
   others : (w : WorldValue) (ends : Ends) (sent : List Datagram) → ((n : ℕ) → addr_of ends n ≡ addr_of w.ends n) → P w → P (record w { ends = ends; sent = sent })
 
-after_alike : {P : WorldValue → Type 0} → StaysAlike P → (w : WorldValue) (number : ℕ) (new : NodeValue) (given : CallOutcomeValue) → P w → P (after w number new given)
-after_alike stays w number new nothing is = stays.others w (with_node w.ends number (Some new)) w.sent (with_same w.ends number (Some new)) is
-after_alike stays w number new (refusal fault) is = stays.others w (with_node w.ends number (Some new)) w.sent (with_same w.ends number (Some new)) is
-after_alike stays w number new (octets_to to octets) is = stays.others w (with_node w.ends number (Some new)) (w.sent ++ datagram new.addr to w.now octets ∷ []) (with_same w.ends number (Some new)) is
-
-taking_alike : {P : WorldValue → Type 0} → StaysAlike P → (w : WorldValue) (ends : Ends) (from to : Addr) (taken : TakenValue) → ((n : ℕ) → addr_of ends n ≡ addr_of w.ends n) → P w → P (after_taking w ends from to taken)
-taking_alike stays w ends from to is_down same is = stays.others w ends w.sent same is
-taking_alike stays w ends from to is_lost same is = stays.others w ends w.sent same is
-taking_alike stays w ends from to (takes None) same is = stays.others w ends w.sent same is
-taking_alike stays w ends from to (takes (Some reply)) same is = stays.others w ends (w.sent ++ datagram from to w.now (text reply) ∷ []) same is
-
-step_alike : {P : WorldValue → Type 0} → StaysAlike P → {w v : WorldValue} {event : Event} {outcome : Outcome} → Step w event outcome v → AreRead w → (LetsClocksDrift event → ⊥) → P w → P v
-step_alike stays {w} {v} (ticks ms new adv) read one is = stays.ticks w v ms adv read is
-step_alike stays (advances ms readings new adv) read one is = absurd (one tt)
-step_alike stays {w} (starts number ends s) read one is = stays.others w ends w.sent (starts_same s) is
-step_alike stays (starts_nothing number off) read one is = is
-step_alike stays {w} (crashes number ends s) read one is = stays.others w ends w.sent (crashes_same s) is
-step_alike stays (crashes_nothing number off) read one is = is
-step_alike stays {w} (node_does e number node new given own up does) read one is = after_alike stays w number new given is
-step_alike stays (node_is_down e number own down) read one is = is
-step_alike stays (no_datagram k none) read one is = is
-step_alike stays (no_end k d at off) read one is = is
-step_alike stays (too_late k d number at to late) read one is = is
-step_alike stays {w} (delivered k d number taken ends at to in_time t) read one is = taking_alike stays w ends d.to d.from taken (takes_same t) is
-step_alike stays (from_an_end from number octets of) read one is = is
-step_alike stays (to_no_end from number octets none) read one is = is
-step_alike stays {w} (from_a_stranger from addr number octets taken ends off at t) read one is = taking_alike stays w ends addr from taken (takes_same t) is
+passes_alike : {P : WorldValue → Type 0} → StaysAlike P → {w v : WorldValue} {event : Event} → Passes w event v → AreRead w → (LetsClocksDrift event → ⊥) → P w → P v
+passes_alike all {w} (clocks_alike ms v adv) read one is = all.ticks w v ms adv read is
+passes_alike all (clocks_apart ms moves v may adv) read one is = absurd (one may)
+passes_alike all {w} (clocks_stay ends sent same) read one is = all.others w ends sent same is
 
 -- an end that is there afterwards was there before
 was_end : {w v : WorldValue} {ms : ℕ} {moves : ℕ → ℕ} → Advances w ms moves v → (n : ℕ) → IsEnd v.ends n → IsEnd w.ends n
@@ -224,17 +222,15 @@ IsKeptWhileGoing w = NoClockStopped w → IsTrue w.kept × IsSafe w
 
 -- what holds after some of its events
 pub record Along (events : List Event) (old : WorldValue) (worlds : List WorldValue) (last : WorldValue) : Type 0 where
-  pub read : AreRead last
   pub safe : AreSafeWhileKept worlds
-  pub traced : (config : ConfigValue) (addrs : List Addr) → IsFresh config addrs old → Traced worlds last
+  pub traced : Traced old worlds last
   pub in_step : IsTrue old.kept → IsInStep old → MoveClocksAlike events → AreSafe worlds × AreInStep last
   pub alike : IsTrue old.kept → MoveClocksAlike events → AreKeptUntilClocksStop worlds × IsKeptUntilStopped last
 
 pub along_first : (w : WorldValue) → AreRead w → (IsTrue w.kept → IsSafe w) → Along [] w (w ∷ []) w
 along_first w read safe = record {
-  read = read;
   safe = All-cons (λ x. IsTrue x.kept → IsSafe x) w [] safe (All-nil (λ x. IsTrue x.kept → IsSafe x));
-  traced = λ config addrs fresh. traced_first config addrs w fresh read;
+  traced = traced_first w read;
   in_step = λ on same one. (All-cons IsSafe w [] (safe on) (All-nil IsSafe), (on, same));
   alike = λ on one. (All-cons IsKeptWhileGoing w [] (λ going. (on, safe on)) (All-nil IsKeptWhileGoing), λ going. on);
 }
@@ -246,23 +242,22 @@ all_parts P (y ∷ xs) x all = let rest = all_parts P xs x (All-tail P y (xs ++ 
 along_more : {events : List Event} {old w v : WorldValue} {worlds : List WorldValue} {event : Event} {outcome : Outcome} → Step w event outcome v → (IsTrue v.kept → IsSafe v) → Along events old worlds w
     → Along (events ++ event ∷ []) old (worlds ++ v ∷ []) v
 along_more {events} {w = w} {v} {worlds} {event} step safe is = record {
-  read = goes.read;
   safe = All-push (λ x. IsTrue x.kept → IsSafe x) worlds v is.safe safe;
-  traced = λ config addrs fresh. traced_more worlds w v goes (is.traced config addrs fresh);
+  traced = traced_more worlds w v goes is.traced;
   in_step = λ on same one.
       let parts = all_parts (λ e. LetsClocksDrift e → ⊥) events event one in
       let was = is.in_step on same parts.0 in
-      let stands = step_alike in_step_alike step is.read parts.1 was.1 in
+      let stands = passes_alike in_step_alike (step_passes step) (is.traced).read parts.1 was.1 in
       (All-push IsSafe worlds v was.0 (safe stands.0), stands);
   alike = λ on one.
       let parts = all_parts (λ e. LetsClocksDrift e → ⊥) events event one in
       let was = is.alike on parts.0 in
-      let stands = step_alike kept_alike step is.read parts.1 was.1 in
+      let stands = passes_alike kept_alike (step_passes step) (is.traced).read parts.1 was.1 in
       (All-push IsKeptWhileGoing worlds v was.0 (λ going. (stands going, safe (stands going))), stands);
 }
   where
     goes : Goes w v
-    goes = step_goes step is.read
+    goes = passes_goes (step_passes step) (is.traced).read
 
 pub along_next : (events : List Event) (k : ℕ) {old w v : WorldValue} {worlds : List WorldValue} {event : Event} {outcome : Outcome} → k < length events → event ≡ get_or events k event → Step w event outcome v
     → (IsTrue v.kept → IsSafe v) → Along (take k events) old worlds w → Along (take (k + 1) events) old (worlds ++ v ∷ []) v
@@ -272,7 +267,7 @@ along_next events k {old} {v = v} {worlds} {event} within at step safe is =
 
 pub runs_safely : {events : List Event} {old : WorldValue} {worlds : List WorldValue} {last : WorldValue} → Along events old worlds last → RunsSafely events old worlds last
 runs_safely is =
-    record { safe = is.safe; told = λ config addrs fresh. (is.traced config addrs fresh).told; one_clock = λ on same one. (is.in_step on same one).0; alike = λ on one. (is.alike on one).0 }
+    record { safe = is.safe; told = λ config addrs fresh. traced_fresh fresh is.traced; told_on = (is.traced).told; one_clock = λ on same one. (is.in_step on same one).0; alike = λ on one. (is.alike on one).0 }
 
 pub runs_whole : (events : List Event) (k : ℕ) {old : WorldValue} {worlds : List WorldValue} {last : WorldValue} → length events ≤ k → Along (take k events) old worlds last → RunsSafely events old worlds last
 runs_whole events k {old} {worlds} {last} le is = runs_safely (subst (λ (es : List Event). Along es old worlds last) (take_all k events le) is)

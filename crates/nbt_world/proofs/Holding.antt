@@ -24,14 +24,6 @@ pub record AreHolders (nodes : List NodeEnd) (name : NameValue) (now : Clocks) (
   pub all : (index : ℕ) (kind : Kind) → index < count → held_at_place nodes index name now ≡ Some kind → Contains holders (record { node = suc index; kind = kind })
   pub in_order : (i j : ℕ) (d : Holder) → i < j → j < length holders → (get_or holders i d).node < (get_or holders j d).node
 
-pub no_holders : (nodes : List NodeEnd) (name : NameValue) (now : Clocks) → AreHolders nodes name now 0 []
-no_holders nodes name now = record {
-  holders_at_most = omega arith;
-  only = λ h c. let lt = c.1 in absurd (omega arith);
-  all = λ index kind lt is. absurd (omega arith);
-  in_order = λ i j d lt within. absurd (omega arith);
-}
-
 -- one place more, which holds nothing
 pub passes_over : {nodes : List NodeEnd} {name : NameValue} {now : Clocks} {count : ℕ} {holders : List Holder} → held_at_place nodes count name now ≡ None → AreHolders nodes name now count holders → AreHolders nodes name now (count + 1) holders
 passes_over {nodes} {name} {now} {count} {holders} none are = record {

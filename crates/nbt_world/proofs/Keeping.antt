@@ -2,6 +2,7 @@
 -- other ends and names stays, and so only what is new has to be shown.
 use Rattle.std.proofs.Common.{◌≡◌, ◌≢◌, ℕ, zero, suc, ◌≤◌, List, [], ◌∷◌, length, Option, Some, None, refl, sym, ap, subst, ◌∙◌, arith, inl, inr}
 use Rattle.std.specs.Prelude.{slice_get, Contains, IsTrue, ◌⊎◌}
+use Rattle.std.specs.Option.{option_or}
 use Rattle.std.proofs.lemmas.Bool.{cases_eq}
 use Rattle.std.proofs.lemmas.Option.{none-some, same_Some}
 use Rattle.nbt_name.specs.declared.addr.Addr.{Addr}
@@ -15,7 +16,7 @@ use Rattle.nbt_world.specs.declared.ends.NodeEnd.{NodeEnd}
 use Rattle.nbt_world.specs.declared.ends.Ends.{Ends}
 use Rattle.nbt_world.specs.declared.network.Datagram.{Datagram}
 use Rattle.nbt_world.specs.Drift.{reading}
-use Rattle.nbt_world.specs.World.{WorldValue, addr_at, addr_of, IsEnd, node_in, node_of, put_node, with_server, with_node}
+use Rattle.nbt_world.specs.World.{WorldValue, addr_at, addr_of, IsEnd, node_in, node_of, put_node, latest, with_server, with_node}
 use Rattle.nbt_world.specs.Inner.Kept.{Asked, Replied, known, RequestsEnded, RepliesFresh, IsNodeOf, IsServerOf, IsSeen, AreRead, IsSent, ClaimsKept, Invariant}
 use Rattle.nbt_world.proofs.Knowing.{Within, ended-frame, ended-down, fresh-frame}
 
@@ -98,36 +99,32 @@ pub asked_read : (w : WorldValue) {sent : List Datagram} {ip : ℕ} {name : Name
     → (moment : Clocks) (message : MessageValue) → Asked sent ip name moment message → reading moment n ≤ reading w.now n
 asked_read w n end all moment message x = subst (λ (m : Clocks). reading m n ≤ reading w.now n) x.moment_is ((all x.datagram x.among).seen n end).read
 
+-- what was asked or replied is in another list that has its datagram
+pub asked_among : {old new : List Datagram} {ip : ℕ} {name : NameValue} {moment : Clocks} {message : MessageValue} (a : Asked old ip name moment message) → Contains new a.datagram → Asked new ip name moment message
+asked_among a c = record { datagram = a.datagram; among = c; sender = a.sender; moment_is = a.moment_is; spelled = a.spelled; request = a.request }
+
+pub replied_among : {old new : List Datagram} {server to : Addr} {name : NameValue} {moment : Clocks} {message : MessageValue} (a : Replied old server to name moment message) → Contains new a.datagram → Replied new server to name moment message
+replied_among a c = record { datagram = a.datagram; among = c; sender = a.sender; receiver = a.receiver; moment_is = a.moment_is; spelled = a.spelled; reply = a.reply }
+
 -- what is new in the list isn't from this address
 pub asked_before : {old new : List Datagram} {ip : ℕ} {name : NameValue} (from : Addr) → from.ip ≢ ip → ((d : Datagram) → Contains new d → Contains old d ⊎ (d.from ≡ from)) → Within (Asked new ip name) (Asked old ip name)
-asked_before {old} {ip = ip} {name = name} from ne from_new moment message a = go (from_new a.datagram a.among)
-  where
-    go : Contains old a.datagram ⊎ (a.datagram.from ≡ from) → Asked old ip name moment message
-    go (inl c) = record { datagram = a.datagram; among = c; sender = a.sender; moment_is = a.moment_is; spelled = a.spelled; request = a.request }
-    go (inr e) = absurd (ne (ap (λ (f : Addr). f.ip) (sym e) ∙ a.sender))
+asked_before from ne from_new moment message a =
+    elim (from_new a.datagram a.among) [ inl c ↦ asked_among a c | inr e ↦ absurd (ne (ap (λ (f : Addr). f.ip) (sym e) ∙ a.sender)) ]
 
 -- what was asked and replied stays in a list that has grown
 abbrev pub Grows : List Datagram → List Datagram → Type 0
 Grows old new = (d : Datagram) → Contains old d → Contains new d
 
 pub asked_still : {old new : List Datagram} {ip : ℕ} {name : NameValue} → Grows old new → Within (Asked old ip name) (Asked new ip name)
-asked_still grows moment message a =
-    record { datagram = a.datagram; among = grows a.datagram a.among; sender = a.sender; moment_is = a.moment_is; spelled = a.spelled; request = a.request }
+asked_still grows moment message a = asked_among a (grows a.datagram a.among)
 
 -- what is new in the list isn't from the server
 replied_before : {old new : List Datagram} {from server to : Addr} {name : NameValue} → from ≢ server → ((d : Datagram) → Contains new d → Contains old d ⊎ (d.from ≡ from)) → Within (Replied new server to name) (Replied old server to name)
-replied_before {old} {from = from} {server = server} {to = to} {name = name} ne from_new moment message a = go (from_new a.datagram a.among)
-  where
-    go : Contains old a.datagram ⊎ (a.datagram.from ≡ from) → Replied old server to name moment message
-    go (inl c) = record { datagram = a.datagram; among = c; sender = a.sender; receiver = a.receiver; moment_is = a.moment_is; spelled = a.spelled; reply = a.reply }
-    go (inr e) = absurd (ne (sym e ∙ a.sender))
+replied_before ne from_new moment message a = elim (from_new a.datagram a.among) [ inl c ↦ replied_among a c | inr e ↦ absurd (ne (sym e ∙ a.sender)) ]
 
 -- a node isn't where the server is
 node_not_server : (w : WorldValue) (i : ℕ) (addr : Addr) → Invariant w → addr_of w.ends (suc i) ≡ Some addr → addr ≢ w.ends.server_addr
-node_not_server w i addr kept at e = suc_zero i (kept.ends.apart (suc i) zero addr w.ends.server_addr at refl (ap (λ (a : Addr). a.ip) e))
-  where
-    suc_zero : (k : ℕ) → suc k ≡ zero → ⊥
-    suc_zero k e = cc
+node_not_server w i addr kept at e = let none : suc i ≡ zero = kept.ends.apart (suc i) zero addr w.ends.server_addr at refl (ap (λ (a : Addr). a.ip) e) in cc
 
 -- ---- one node changes
 
@@ -136,18 +133,10 @@ abbrev pub IsNew : WorldValue → Addr → List Datagram → Type 0
 IsNew w addr sent = (d : Datagram) → Contains sent d → Contains w.sent d ⊎ ((d.from ≡ addr) × IsSent w.ends w.now w.least d)
 
 all_sent : (w : WorldValue) (addr : Addr) (sent : List Datagram) → Invariant w → IsNew w addr sent → (d : Datagram) → Contains sent d → IsSent w.ends w.now w.least d
-all_sent w addr sent kept new d c = go (new d c)
-  where
-    go : Contains w.sent d ⊎ ((d.from ≡ addr) × IsSent w.ends w.now w.least d) → IsSent w.ends w.now w.least d
-    go (inl old) = kept.sent d old
-    go (inr is) = is.1
+all_sent w addr sent kept new d c = elim (new d c) [ inl old ↦ kept.sent d old | inr is ↦ is.1 ]
 
 from_new : (w : WorldValue) (addr : Addr) (sent : List Datagram) → IsNew w addr sent → (d : Datagram) → Contains sent d → Contains w.sent d ⊎ (d.from ≡ addr)
-from_new w addr sent new d c = go (new d c)
-  where
-    go : Contains w.sent d ⊎ ((d.from ≡ addr) × IsSent w.ends w.now w.least d) → Contains w.sent d ⊎ (d.from ≡ addr)
-    go (inl old) = inl old
-    go (inr is) = inr is.0
+from_new w addr sent new d c = elim (new d c) [ inl old ↦ inl old | inr is ↦ inr is.0 ]
 
 -- A node has sent what is new in a list, or nothing is new.
 pub record Adds (w : WorldValue) (i : ℕ) (addr : Addr) (sent : List Datagram) : Type 0 where
@@ -217,45 +206,46 @@ node_changes {w} {i} {addr} {sent} adds x is names replies claims = record {
 
 -- ---- the server changes
 
-pub server_addr_with : (ends : Ends) (x : Option ServerValue) (n : ℕ) → addr_of (with_server ends x) n ≡ addr_of ends n
-server_addr_with ends x zero = refl
-server_addr_with ends x (suc j) = refl
+-- the one that is up is the latest
+pub latest-up : (ends : Ends) (server : ServerValue) → ends.server ≡ Some server → latest ends ≡ Some server
+latest-up ends server up = rw up refl
 
-pub server_node_with : (ends : Ends) (x : Option ServerValue) (n : ℕ) → node_of (with_server ends x) n ≡ node_of ends n
-server_node_with ends x zero = refl
-server_node_with ends x (suc j) = refl
+pub server_addr_with : (ends : Ends) (x y : Option ServerValue) (n : ℕ) → addr_of (with_server ends x y) n ≡ addr_of ends n
+server_addr_with ends x y zero = refl
+server_addr_with ends x y (suc j) = refl
 
-pub server_changes : (w : WorldValue) (x : Option ServerValue) (sent : List Datagram) → Invariant w
-    → ((server : ServerValue) → x ≡ Some server → IsServerOf w server) → IsNew w w.ends.server_addr sent
+pub server_node_with : (ends : Ends) (x y : Option ServerValue) (n : ℕ) → node_of (with_server ends x y) n ≡ node_of ends n
+server_node_with ends x y zero = refl
+server_node_with ends x y (suc j) = refl
+
+pub server_changes : (w : WorldValue) (x y : Option ServerValue) (sent : List Datagram) → Invariant w
+    → ((server : ServerValue) → option_or x y ≡ Some server → IsServerOf w server) → IsNew w w.ends.server_addr sent
     → (IsTrue w.kept → (n : ℕ) (a : Addr) (name : NameValue) → addr_of w.ends n ≡ Some a
     → RepliesFresh w.config.life n w.now.clock (reading w.now n) (Asked sent a.ip name) (Replied sent w.ends.server_addr a name) (known (node_of w.ends n) name))
-    → (IsTrue w.kept → ClaimsKept (record w { ends = with_server w.ends x; sent = sent }))
-    → Invariant (record w { ends = with_server w.ends x; sent = sent })
-server_changes w x sent kept is new replies claims = record {
+    → (IsTrue w.kept → ClaimsKept (record w { ends = with_server w.ends x y; sent = sent }))
+    → Invariant (record w { ends = with_server w.ends x y; sent = sent })
+server_changes w x y sent kept is new replies claims = record {
   ends = record {
     nodes_at_least = kept.ends.nodes_at_least;
     nodes_at_most = kept.ends.nodes_at_most;
-    apart = λ j k a b p q same. kept.ends.apart j k a b (sym (server_addr_with w.ends x j) ∙ p) (sym (server_addr_with w.ends x k) ∙ q) same;
+    apart = λ j k a b p q same. kept.ends.apart j k a b (sym (server_addr_with w.ends x y j) ∙ p) (sym (server_addr_with w.ends x y k) ∙ q) same;
   };
-  clocks = read_with w (with_server w.ends x) sent (server_addr_with w.ends x) kept.clocks;
+  clocks = read_with w (with_server w.ends x y) sent (server_addr_with w.ends x y) kept.clocks;
   nodes = λ n a node p up.
-      let k = kept.nodes n a node (sym (server_addr_with w.ends x n) ∙ p) (sym (server_node_with w.ends x n) ∙ up) in
+      let k = kept.nodes n a node (sym (server_addr_with w.ends x y n) ∙ p) (sym (server_node_with w.ends x y n) ∙ up) in
       record { addr_is = k.addr_is; server_is = k.server_is; config_is = k.config_is; distinct = k.distinct; past = k.past };
   server = λ server up. let k = is server up in record { config_is = k.config_is; past = k.past; sound = k.sound };
-  sent = λ d c. sent_frame (server_addr_with w.ends x) (omega arith) (λ n e seen. seen) (all_sent w w.ends.server_addr sent kept new d c);
-  requests = λ on n a name p. requests_at on n a name (sym (server_addr_with w.ends x n) ∙ p);
-  replies = λ on n a name p. rw (server_node_with w.ends x n) (replies on n a name (sym (server_addr_with w.ends x n) ∙ p));
+  sent = λ d c. sent_frame (server_addr_with w.ends x y) (omega arith) (λ n e seen. seen) (all_sent w w.ends.server_addr sent kept new d c);
+  requests = λ on n a name p. requests_at on n a name (sym (server_addr_with w.ends x y n) ∙ p);
+  replies = λ on n a name p. rw (server_node_with w.ends x y n) (replies on n a name (sym (server_addr_with w.ends x y n) ∙ p));
   claims = claims;
 }
   where
     requests_at : IsTrue w.kept → (n : ℕ) (a : Addr) (name : NameValue) → addr_of w.ends n ≡ Some a
-        → RequestsEnded w.config.life n w.now.clock (reading w.now n) (Asked sent a.ip name) (known (node_of (with_server w.ends x) n) name)
+        → RequestsEnded w.config.life n w.now.clock (reading w.now n) (Asked sent a.ip name) (known (node_of (with_server w.ends x y) n) name)
     requests_at on zero a name p =
         ended-down (asked_read w zero (a, p) (all_sent w w.ends.server_addr sent kept new))
     requests_at on (suc j) a name p =
         ended-frame (omega arith) (omega arith)
-        (asked_before w.ends.server_addr (λ same. zero_suc j (kept.ends.apart zero (suc j) w.ends.server_addr a refl p same)) (from_new w w.ends.server_addr sent new))
+        (asked_before w.ends.server_addr (λ same. let none : zero ≡ suc j = kept.ends.apart zero (suc j) w.ends.server_addr a refl p same in cc) (from_new w w.ends.server_addr sent new))
         (kept.requests on (suc j) a name p)
-      where
-        zero_suc : (k : ℕ) → zero ≡ suc k → ⊥
-        zero_suc k e = cc

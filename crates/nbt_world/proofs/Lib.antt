@@ -22,3 +22,5 @@ pub mod Running
 pub mod Going
 pub mod Holding
 pub mod Apart
+pub mod Getting
+pub mod Beginning

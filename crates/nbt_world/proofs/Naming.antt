@@ -22,7 +22,7 @@ use Rattle.nbt_world.specs.Inner.Kept.{IsRequest, Asked, Replied, known, Request
 use Rattle.nbt_world.proofs.Knowing.{Stays, Moved, Within, IsMore, ArePast, past-more, knows, ended-settled, ended-heard, ended-frame, ended-sent, is_sent, fresh-settled, fresh-heard, fresh-frame, fresh-sent}
 use Rattle.nbt_world.proofs.Claiming.{IsListed, claims_by_time, claims_sends, claims_hears}
 use Rattle.nbt_world.proofs.Drifting.{RestLaw, asked_are_past}
-use Rattle.nbt_world.proofs.Keeping.{IsNew, Grows, Adds, adds_nothing, no_reply_more, asked_still, addr_there}
+use Rattle.nbt_world.proofs.Keeping.{IsNew, Grows, Adds, adds_nothing, no_reply_more, asked_still, asked_among, addr_there}
 use Rattle.nbt_world.proofs.Covering.{NameKept, node_kept}
 
 -- the law of messages that this rests on
@@ -91,13 +91,13 @@ nothing_new w addr d c = inl c
 -- what the network then has of requests: what it had, and this message where it is one
 asks_more : OneMessage → {w : WorldValue} {addr : Addr} {d : Datagram} {m : MessageValue} → Sending w addr d m → {ip : ℕ} {q : NameValue} {moment : Clocks} {message : MessageValue} → Asked (w.sent ++ d ∷ []) ip q moment message
     → Asked w.sent ip q moment message ⊎ ((moment ≡ w.now) × (message ≡ m) × IsRequest q m)
-asks_more law {w} {d = d} {m = m} s {ip} {q} {moment} {message} a = go (Contains-push_cases w.sent d a.datagram a.among)
-  where
-    go : Contains w.sent a.datagram ⊎ (d ≡ a.datagram) → Asked w.sent ip q moment message ⊎ ((moment ≡ w.now) × (message ≡ m) × IsRequest q m)
-    go (inl c) = inl (record { datagram = a.datagram; among = c; sender = a.sender; moment_is = a.moment_is; spelled = a.spelled; request = a.request })
-    go (inr e) =
-        let same = law d.octets.items message m (subst (λ (y : Datagram). Spells y.octets.items message) (sym e) a.spelled) s.spelled in
-        inr (sym a.moment_is ∙ ap (λ (y : Datagram). y.moment) (sym e) ∙ s.now_is, same, subst (λ (k : MessageValue). IsRequest q k) same a.request)
+asks_more law {w} {d = d} {m = m} s {q = q} {message = message} a =
+    elim (Contains-push_cases w.sent d a.datagram a.among) [
+      | inl c ↦ inl (asked_among a c)
+      | inr e ↦
+          let same = law d.octets.items message m (subst (λ (y : Datagram). Spells y.octets.items message) (sym e) a.spelled) s.spelled in
+          inr (sym a.moment_is ∙ ap (λ (y : Datagram). y.moment) (sym e) ∙ s.now_is, same, subst (λ (k : MessageValue). IsRequest q k) same a.request)
+    ]
 
 -- the name that the message is about, and the others, of which nothing was said
 pub own_more : OneMessage → {w : WorldValue} {addr : Addr} {d : Datagram} {m : MessageValue} → Sending w addr d m → (n : ℕ) {ip : ℕ} {q : NameValue} → IsMore n (reading w.now n) m (Asked w.sent ip q) (Asked (w.sent ++ d ∷ []) ip q)

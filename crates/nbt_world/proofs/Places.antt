@@ -2,6 +2,7 @@
 use Rattle.std.proofs.Common.{◌≡◌, ◌≢◌, ℕ, zero, suc, ◌-◌, ◌<◌, ◌≤◌, Bool, true, false, List, [], ◌∷◌, length, get_or, set, drop, Option, Some, None, refl, sym, ap, subst, ◌∙◌, arith, inl, inr}
 use Rattle.std.specs.Prelude.{slice_get, is_some, is_none, IsSome, MatchBool, ◌⊎◌}
 use Rattle.std.specs.List.{refill}
+use Rattle.std.specs.Option.{option_or}
 use Rattle.std.proofs.lemmas.List.{take_at, length-set}
 use Rattle.std.proofs.lemmas.Option.{slice_get_read, slice_get_past, none-some, same_Some}
 use Rattle.std.proofs.lemmas.Bool.{cases_lt}
@@ -14,8 +15,8 @@ use Rattle.nbt_node.specs.Node.{NodeValue}
 use Rattle.nbt_node.specs.Calls.{started}
 use Rattle.nbt_world.specs.declared.ends.NodeEnd.{NodeEnd}
 use Rattle.nbt_world.specs.declared.ends.Ends.{Ends}
-use Rattle.nbt_world.specs.World.{IsOfEnd, addr_at, addr_of, node_in, node_of, put_node, with_server, with_node}
-use Rattle.nbt_world.specs.Step.{IsDown, IsUp, Starts, server_starts, node_starts, Crashes, server_crashes, node_crashes, TakenValue, is_down, takes, ServerDoes, NodeHandles, EndTakes, finds_down, by_server, by_node}
+use Rattle.nbt_world.specs.World.{IsOfEnd, addr_at, addr_of, node_in, node_of, put_node, latest, with_server, with_node}
+use Rattle.nbt_world.specs.Step.{IsDown, IsUp, Starts, server_starts, node_starts, Crashes, server_crashes, node_crashes, Resumes, server_resumes, TakenValue, is_down, takes, ServerDoes, NodeHandles, EndTakes, finds_down, by_server, by_node}
 
 -- ---- numbers
 
@@ -94,15 +95,11 @@ none_past ends n lt =
     go i le = let past = slice_get_past ends.nodes.items i le in rw past (refl, refl)
 
 pub within_from : (ends : Ends) (n : ℕ) → IsSome (addr_of ends n) → n ≢ 0 → n ≤ length ends.nodes.items
-within_from ends n some ne = go (cases_lt (length ends.nodes.items) n)
+within_from ends n some ne = elim (cases_lt (length ends.nodes.items) n) [ inl lt ↦ absurd (is_none_some (addr_of ends n) (none_past ends n lt).0 some) | inr le ↦ le ]
   where
-    go : (length ends.nodes.items < n) ⊎ (n ≤ length ends.nodes.items) → n ≤ length ends.nodes.items
-    go (inl lt) = absurd (is_none_some (addr_of ends n) (none_past ends n lt).0 some)
-      where
-        is_none_some : (o : Option Addr) → o ≡ None → IsSome o → ⊥
-        is_none_some None e s = cc
-        is_none_some (Some a) e s = cc
-    go (inr le) = le
+    is_none_some : (o : Option Addr) → o ≡ None → IsSome o → ⊥
+    is_none_some None e s = cc
+    is_none_some (Some a) e s = cc
 
 -- ---- ends that start, crash and take
 
@@ -116,17 +113,22 @@ is_there : {X : Type 0} (o : Option X) → is_some o ≡ true → (x : X) × (o 
 is_there None e = absurd cc
 is_there (Some x) e = (x, refl)
 
-pub server_crashed : (ends : Ends) (n : ℕ) → n ≡ 0 → is_some ends.server ≡ true → Crashes ends n (with_server ends None)
+is_nothing : {X : Type 0} (o : Option X) → is_some o ≡ false → o ≡ None
+is_nothing None e = refl
+is_nothing (Some s) e = absurd cc
+
+pub server_crashed : (ends : Ends) (n : ℕ) → n ≡ 0 → is_some ends.server ≡ true → Crashes ends n (with_server ends None ends.server)
 server_crashed ends n e is =
     let s = is_there ends.server is in
-    subst (λ (m : ℕ). Crashes ends m (with_server ends None)) (sym e) (server_crashes s.0 s.1)
+    subst (λ (m : ℕ). Crashes ends m (with_server ends None ends.server)) (sym e)
+    (subst (λ (o : Option ServerValue). Crashes ends 0 (with_server ends None o)) (sym s.1) (server_crashes s.0 s.1))
 
-pub server_stays_down : (ends : Ends) (n : ℕ) → n ≡ 0 → is_none ends.server ≡ true → ¬ IsUp ends n
-server_stays_down ends n e is = subst (λ (m : ℕ). ¬ IsUp ends m) (sym e) (λ u. none_is ends.server u.0 is u.1)
-  where
-    none_is : (o : Option ServerValue) (s : ServerValue) → is_none o ≡ true → o ≡ Some s → ⊥
-    none_is None s is e = cc
-    none_is (Some t) s is e = absurd cc
+pub server_resumed : (ends : Ends) → is_some ends.server ≡ false → is_some ends.crashed ≡ true → (now : ℕ) → ((was : ServerValue) → latest ends ≡ Some was → was.last ≤ now) → Resumes now ends (with_server ends ends.crashed None)
+server_resumed ends down is now past =
+    let s = is_there ends.crashed is in
+    let on = past s.0 (λ i. option_or (is_nothing ends.server down i) (s.1 i)) in
+    subst (λ (o : Option ServerValue). Resumes now ends (with_server ends o None)) (sym s.1)
+    (server_resumes s.0 s.0 (is_nothing ends.server down) s.1 (record { leases = refl; start = refl; config = refl; was_called = on; called = on }))
 
 pub node_crashed : (ends : Ends) (n : ℕ) (ys : List NodeEnd) (r : NodeEnd) (b : Bool) (e : NodeEnd) → Reads ends n ys r
     → MatchBool b (IsSome (get_or ys (n - 1) r).node × (e ≡ record (get_or ys (n - 1) r) { node = None })) (((get_or ys (n - 1) r).node ≡ None) × (e ≡ get_or ys (n - 1) r))
@@ -135,21 +137,15 @@ node_crashed ends n ys r true e reads is =
     let node = is_there (get_or ys (n - 1) r).node is.0 in
     let left : written_back ends n ys e ≡ with_node ends n None = ap (λ (x : NodeEnd). written_back ends n ys x) is.1 ∙ written_node None reads in
     let up : node_of ends n ≡ Some node.0 = node_read reads ∙ node.1 in
-    subst (λ (x : Ends). Crashes ends n x) (sym left) (crashed n reads.is_node up)
-  where
-    crashed : (m : ℕ) → m ≢ 0 → {node : NodeValue} → node_of ends m ≡ Some node → Crashes ends m (with_node ends m None)
-    crashed zero ne up = absurd (ne refl)
-    crashed (suc i) ne {node} up = node_crashes i node up
-node_crashed ends n ys r false e reads is =
-    (up n reads.is_node (node_read reads ∙ is.0), ap (λ (x : NodeEnd). written_back ends n ys x) is.1 ∙ written_same reads)
-  where
-    up : (m : ℕ) → m ≢ 0 → node_of ends m ≡ None → ¬ IsUp ends m
-    up zero ne down = absurd (ne refl)
-    up (suc i) ne down = λ u. none-some u.0 (sym down ∙ u.1)
+    subst (λ (x : Ends). Crashes ends n x) (sym left) (place_from (λ m. node_of ends m ≡ Some node.0 → Crashes ends m (with_node ends m None)) n reads.is_node (λ at. node_crashes (n - 1) node.0 at) up)
+node_crashed ends n ys r false e reads is = (
+  place_from (λ m. node_of ends m ≡ None → ¬ IsUp ends m) n reads.is_node (λ down u. none-some u.0 (sym down ∙ u.1)) (node_read reads ∙ is.0),
+  ap (λ (x : NodeEnd). written_back ends n ys x) is.1 ∙ written_same reads,
+)
 
 pub server_took : {now n : ℕ} {ends : Ends} {from : Addr} {octets : List ℕ} {server new : ServerValue} {taken : TakenValue} → n ≡ 0 → ends.server ≡ Some server
-    → ServerDoes now server from.ip octets taken new → EndTakes now ends from octets n taken (with_server ends (Some new))
-server_took {now} {ends = ends} {from} {octets} {server} {new} {taken} e is does = subst (λ (m : ℕ). EndTakes now ends from octets m taken (with_server ends (Some new))) (sym e) (by_server server new taken is does)
+    → ServerDoes now server from.ip octets taken new → EndTakes now ends from octets n taken (with_server ends (Some new) ends.crashed)
+server_took {now} {ends = ends} {from} {octets} {server} {new} {taken} e is does = subst (λ (m : ℕ). EndTakes now ends from octets m taken (with_server ends (Some new) ends.crashed)) (sym e) (by_server server new taken is does)
 
 pub server_is_down : {now n : ℕ} {ends : Ends} {from : Addr} {octets : List ℕ} → n ≡ 0 → ends.server ≡ None → EndTakes now ends from octets n is_down ends
 server_is_down {n = n} {ends} e is = finds_down n (subst (λ (m : ℕ). IsDown ends m) (sym e) is)
@@ -158,36 +154,19 @@ pub node_took : {now n : ℕ} {ends : Ends} {from : Addr} {octets : List ℕ} {y
     → (get_or ys (n - 1) r).node ≡ Some node → NodeHandles now node from octets reply new
     → EndTakes now ends from octets n (takes reply) (written_back ends n ys (record (get_or ys (n - 1) r) { node = Some new }))
 node_took {now} {n} {ends} {from} {octets} {node = node} {new} {reply} reads is hears =
-    subst (λ (x : Ends). EndTakes now ends from octets n (takes reply) x) (sym (written_node (Some new) reads)) (took n reads.is_node (node_read reads ∙ is))
-  where
-    took : (m : ℕ) → m ≢ 0 → node_of ends m ≡ Some node → EndTakes now ends from octets m (takes reply) (with_node ends m (Some new))
-    took zero ne up = absurd (ne refl)
-    took (suc i) ne up = by_node i node new reply up hears
+    subst (λ (x : Ends). EndTakes now ends from octets n (takes reply) x) (sym (written_node (Some new) reads))
+    (place_from (λ m. node_of ends m ≡ Some node → EndTakes now ends from octets m (takes reply) (with_node ends m (Some new))) n reads.is_node (λ up. by_node (n - 1) node new reply up hears) (node_read reads ∙ is))
 
 pub node_is_down : {now n : ℕ} {ends : Ends} {from : Addr} {octets : List ℕ} {ys : List NodeEnd} {r : NodeEnd} → Reads ends n ys r → (get_or ys (n - 1) r).node ≡ None
     → EndTakes now ends from octets n is_down (written_back ends n ys (get_or ys (n - 1) r))
-node_is_down {now} {n} {ends} {from} {octets} reads is =
-    subst (λ (x : Ends). EndTakes now ends from octets n is_down x) (sym (written_same reads)) (finds_down n (down n reads.is_node (addr_read reads) (node_read reads ∙ is)))
-  where
-    down : (m : ℕ) → m ≢ 0 → {addr : Addr} → addr_of ends m ≡ Some addr → node_of ends m ≡ None → IsDown ends m
-    down zero ne at is = absurd (ne refl)
-    down (suc i) ne {addr} at is = (addr, at, is)
+node_is_down {now} {n} {ends} {from} {octets} {ys} {r} reads is =
+    subst (λ (x : Ends). EndTakes now ends from octets n is_down x) (sym (written_same reads))
+    (finds_down n (place_from (λ m. addr_of ends m ≡ Some (get_or ys (n - 1) r).addr → node_of ends m ≡ None → IsDown ends m) n reads.is_node (λ at down. ((get_or ys (n - 1) r).addr, at, down)) (addr_read reads) (node_read reads ∙ is)))
 
 pub server_started : {config : ConfigValue} {now n : ℕ} {ends : Ends} {server : ServerValue} → n ≡ 0 → is_some ends.server ≡ false → ServerStarts config now server
-    → Starts config now ends n (with_server ends (Some server))
+    → Starts config now ends n (with_server ends (Some server) None)
 server_started {config} {now} {ends = ends} {server} e is new =
-    subst (λ (m : ℕ). Starts config now ends m (with_server ends (Some server))) (sym e) (server_starts server (is_nothing ends.server is) new)
-  where
-    is_nothing : (o : Option ServerValue) → is_some o ≡ false → o ≡ None
-    is_nothing None e = refl
-    is_nothing (Some s) e = absurd cc
-
-pub server_stays_up : (ends : Ends) (n : ℕ) → n ≡ 0 → is_some ends.server ≡ true → ¬ IsDown ends n
-server_stays_up ends n e is = subst (λ (m : ℕ). ¬ IsDown ends m) (sym e) (λ down. some_is ends.server is down)
-  where
-    some_is : (o : Option ServerValue) → is_some o ≡ true → o ≡ None → ⊥
-    some_is None is e = absurd cc
-    some_is (Some t) is e = cc
+    subst (λ (m : ℕ). Starts config now ends m (with_server ends (Some server) None)) (sym e) (server_starts server (is_nothing ends.server is) new)
 
 pub node_started : (config : ConfigValue) (now : ℕ) (ends : Ends) (n : ℕ) (ys : List NodeEnd) (r : NodeEnd) (b : Bool) (e : NodeEnd) → Reads ends n ys r
     → MatchBool b (((get_or ys (n - 1) r).node ≡ None) × (e ≡ record (get_or ys (n - 1) r) { node = Some (started 14 (get_or ys (n - 1) r).addr ends.server_addr config now) }))
@@ -196,18 +175,14 @@ pub node_started : (config : ConfigValue) (now : ℕ) (ends : Ends) (n : ℕ) (y
 node_started config now ends n ys r true e reads is =
     let left : written_back ends n ys e ≡ with_node ends n (Some (started 14 (get_or ys (n - 1) r).addr ends.server_addr config now)) =
     ap (λ (x : NodeEnd). written_back ends n ys x) is.1 ∙ written_node _ reads in
-    subst (λ (x : Ends). Starts config now ends n x) (sym left) (begun n reads.is_node (addr_read reads) (node_read reads ∙ is.0))
-  where
-    begun : (m : ℕ) → m ≢ 0 → {addr : Addr} → addr_of ends m ≡ Some addr → node_of ends m ≡ None → Starts config now ends m (with_node ends m (Some (started 14 addr ends.server_addr config now)))
-    begun zero ne at down = absurd (ne refl)
-    begun (suc i) ne {addr} at down = node_starts i addr at down
+    subst (λ (x : Ends). Starts config now ends n x) (sym left)
+    (place_from (λ m. addr_of ends m ≡ Some (get_or ys (n - 1) r).addr → node_of ends m ≡ None → Starts config now ends m (with_node ends m (Some (started 14 (get_or ys (n - 1) r).addr ends.server_addr config now)))) n reads.is_node
+    (λ at down. node_starts (n - 1) (get_or ys (n - 1) r).addr at down) (addr_read reads) (node_read reads ∙ is.0))
 node_started config now ends n ys r false e reads is =
-    let node = is_there (get_or ys (n - 1) r).node is.0 in
-    (down n reads.is_node (node_read reads ∙ node.1), ap (λ (x : NodeEnd). written_back ends n ys x) is.1 ∙ written_same reads)
-  where
-    down : (m : ℕ) → m ≢ 0 → {node : NodeValue} → node_of ends m ≡ Some node → ¬ IsDown ends m
-    down zero ne up = absurd (ne refl)
-    down (suc i) ne {node} up = λ d. none-some node (sym d.2 ∙ up)
+    let node = is_there (get_or ys (n - 1) r).node is.0 in (
+      place_from (λ m. node_of ends m ≡ Some node.0 → ¬ IsDown ends m) n reads.is_node (λ up d. none-some node.0 (sym d.2 ∙ up)) (node_read reads ∙ node.1),
+      ap (λ (x : NodeEnd). written_back ends n ys x) is.1 ∙ written_same reads,
+    )
 
 -- ---- 32-bit addresses
 

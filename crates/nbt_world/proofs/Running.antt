@@ -26,3 +26,14 @@ run_whole events k {w} {last} {worlds} le run = subst (λ (es : List Event). Run
 -- the event at which a run stopped takes memory
 pub stopped_at : (events : List Event) (k : ℕ) (event : Event) → k < length events → event ≡ get_or events k event → (TakesNoMemory event → ⊥) → IfSome (slice_get events k) (λ e. ¬ TakesNoMemory e)
 stopped_at events k event within is takes = rw (slice_get_read events (length events) k event refl within is) takes
+
+-- ---- runs of one event, two and three
+
+pub ran_one : {a b : WorldValue} {e : Event} {x : Outcome} → Step a e x b → Run (e ∷ []) a (a ∷ b ∷ []) b
+ran_one s = goes_on _ _ _ _ _ _ _ s (ends _)
+
+pub ran_two : {a b c : WorldValue} {e f : Event} {x y : Outcome} → Step a e x b → Step b f y c → Run (e ∷ f ∷ []) a (a ∷ b ∷ c ∷ []) c
+ran_two s t = goes_on _ _ _ _ _ _ _ s (ran_one t)
+
+pub ran_three : {a b c d : WorldValue} {e f g : Event} {x y z : Outcome} → Step a e x b → Step b f y c → Step c g z d → Run (e ∷ f ∷ g ∷ []) a (a ∷ b ∷ c ∷ d ∷ []) d
+ran_three s t u = goes_on _ _ _ _ _ _ _ s (ran_two t u)

@@ -7,7 +7,7 @@ use Rattle.nbt_name.specs.declared.addr.Kind.{Kind}
 use Rattle.nbt_name.specs.declared.addr.Kind.TheVariants.{Group}
 use Rattle.nbt_name.specs.Wire.{NameValue}
 use Rattle.nbt_packet.specs.declared.message.Registration.{Registration}
-use Rattle.nbt_packet.specs.Message.{MessageValue, registered}
+use Rattle.nbt_packet.specs.Message.{MessageValue, registration, overwrite, refresh, release, query, status_request, registered, released, found, not_found, status, wait}
 use Rattle.nbt_packet.specs.Spelling.{Spells}
 use Rattle.nbt_lease.specs.declared.lease.Lease.{Lease}
 use Rattle.nbt_lease.specs.Config.{ConfigValue, granted}
@@ -18,14 +18,15 @@ use Rattle.nbt_node.specs.Node.{NodeValue}
 use Rattle.nbt_world.specs.declared.clocks.Clocks.{Clocks}
 use Rattle.nbt_world.specs.declared.network.Datagram.{Datagram}
 use Rattle.nbt_world.specs.Drift.{reading}
-use Rattle.nbt_world.specs.World.{WorldValue, addr_of, node_of, with_server}
-use Rattle.nbt_server.specs.Calls.{ServerTakes, ServerForgets}
+use Rattle.nbt_world.specs.World.{WorldValue, addr_of, node_of, latest, with_server}
+use Rattle.nbt_server.specs.Calls.{ServerTakes}
+use Rattle.nbt_world.specs.Step.{MovesName}
 use Rattle.nbt_world.specs.Inner.Kept.{IsRequest, AsksAs, Replied, known, Wants, Claims, has, may_get, IsLeased, Covers, ClaimsIn, IsCoveredIn, ClaimsKept, Invariant}
 use Rattle.nbt_world.proofs.Claiming.{claims_want}
 use Rattle.nbt_world.proofs.Drifting.{hold_over}
 use Rattle.nbt_world.proofs.Keeping.{Grows, server_addr_with, server_node_with}
-use Rattle.nbt_world.proofs.Covering.{replied_still, server_claims}
-use Rattle.nbt_world.specs.Inner.Handing.{Origin, listed, strange}
+use Rattle.nbt_world.proofs.Covering.{covered_as, replied_still, server_claims}
+use Rattle.nbt_world.specs.Inner.Handing.{Origin, listed, strange, harmless}
 use Rattle.nbt_world.proofs.Granting.{LeaseLaws, Gives, granted_most, octets_keep, octets_give}
 
 -- the end of this number, which is at this address, asks for the name as this kind, or holds it
@@ -33,10 +34,26 @@ record WantsAt (w : WorldValue) (n : ℕ) (a : Addr) (q : NameValue) (kind : Kin
   at : addr_of w.ends n ≡ Some a
   wants : Wants (known (node_of w.ends n) q) kind
 
+-- a request moves a name
+pub request_moves : (name : NameValue) (m : MessageValue) → IsRequest name m → MovesName m
+request_moves name (registration r) is = tt
+request_moves name (overwrite r) is = tt
+request_moves name (refresh r) is = tt
+request_moves name (release id n kind addr) is = tt
+request_moves name (query id n) is = is
+request_moves name (status_request id n) is = is
+request_moves name (registered rcode r) is = absurd is
+request_moves name (released id rcode n kind addr) is = is
+request_moves name (found id n ttl entries cut) is = is
+request_moves name (not_found id rcode n) is = is
+request_moves name (status id n names) is = is
+request_moves name (wait id n ttl) is = is
+
 -- what it has asked with these octets is the name as its kind
 asked_kind : {w : WorldValue} {from to : Addr} {octets : List ℕ} {n : ℕ} {a : Addr} {q : NameValue} {kind : Kind} → Invariant w → IsTrue w.kept → Origin w from to octets → WantsAt w n a q kind
     → (m : MessageValue) → Spells octets m → a.ip ≡ from.ip → IsRequest q m → AsksAs kind m
 asked_kind {n = n} {a} kept on (strange off) want m spells same is = absurd (off (n, a, want.at, same))
+asked_kind {q = q} kept on (harmless off) want m spells same is = absurd (off (m, spells, request_moves q m is))
 asked_kind {n = n} {a} {q} {kind} kept on (listed d c f t o delivered) want m spells same is =
     (kept.requests on n a q want.at).one_kind kind d.moment m want.wants
     (record { datagram = d; among = c; sender = ap (λ (x : Addr). x.ip) f ∙ sym same; moment_is = refl; spelled = subst (λ (xs : List ℕ). Spells xs m) (sym o) spells; request = is }) delivered
@@ -45,7 +62,7 @@ asked_kind {n = n} {a} {q} {kind} kept on (listed d c f t o delivered) want m sp
 pub record Took (w : WorldValue) (server new : ServerValue) (from to : Addr) (octets : List ℕ) (reply : Option MessageValue) (sent : List Datagram) : Type 0 where
   pub kept : Invariant w
   pub on : IsTrue w.kept
-  pub up : w.ends.server ≡ Some server
+  pub up : latest w.ends ≡ Some server
   pub config_is : server.table.config ≡ w.config
   pub sound : IsSound server.table.config (reading w.now 0) (leases_at (reading w.now 0) server.table.rows)
   pub origin : Origin w from to octets
@@ -101,37 +118,29 @@ backs_still laws {server = server} {new} took want (inr silent) =
     inr (omega arith)
 
 pub served_claims : LeaseLaws → {w : WorldValue} {server new : ServerValue} {from to : Addr} {octets : List ℕ} {reply : Option MessageValue} {sent : List Datagram} → Took w server new from to octets reply sent
-    → ClaimsKept (record w { ends = with_server w.ends (Some new); sent = sent })
+    → ClaimsKept (record w { ends = with_server w.ends (Some new) w.ends.crashed; sent = sent })
 served_claims laws {w} {server} {new} {from} {reply = reply} {sent} took = record {
-  covered = λ n a q kind end p c lt. let at = sym (server_addr_with w.ends (Some new) n) ∙ p in covered n a q kind end at lt (is_claimed n a q kind end at c);
+  covered = λ n a q kind end p c lt. let at = sym (server_addr_with w.ends (Some new) w.ends.crashed n) ∙ p in covered n a q kind end at lt (is_claimed n a q kind end at c);
   beside = λ i j a b q k l d e ne p s c x f y.
-      let at = sym (server_addr_with w.ends (Some new) i) ∙ p in
-      let by = sym (server_addr_with w.ends (Some new) j) ∙ s in
+      let at = sym (server_addr_with w.ends (Some new) w.ends.crashed i) ∙ p in
+      let by = sym (server_addr_with w.ends (Some new) w.ends.crashed j) ∙ s in
       beside i j a b q k l d e ne at by x y (is_claimed i a q k d at c) (is_claimed j b q l e by f);
 }
   where
-    is_claimed : (n : ℕ) (a : Addr) (q : NameValue) (kind : Kind) (end : ℕ) → addr_of w.ends n ≡ Some a → ClaimsIn (record w { ends = with_server w.ends (Some new); sent = sent }) n a q kind end
+    is_claimed : (n : ℕ) (a : Addr) (q : NameValue) (kind : Kind) (end : ℕ) → addr_of w.ends n ≡ Some a → ClaimsIn (record w { ends = with_server w.ends (Some new) w.ends.crashed; sent = sent }) n a q kind end
         → Claimed w from reply sent n a q kind end
     is_claimed n a q kind end p c =
         claimed took p
-        (subst (λ (z : Option NodeValue). Claims w.config.longest w.config.life w.now.clock (Replied sent w.ends.server_addr a q) (known z q) kind end) (server_node_with w.ends (Some new) n) c)
+        (subst (λ (z : Option NodeValue). Claims w.config.longest w.config.life w.now.clock (Replied sent w.ends.server_addr a q) (known z q) kind end) (server_node_with w.ends (Some new) w.ends.crashed n) c)
 
-    backed : (a : Addr) (q : NameValue) (kind : Kind) (till : ℕ) → Covers (reading w.now 0) w.ends.server a.ip q kind till → Covers (reading w.now 0) (Some server) a.ip q kind till
+    backed : (a : Addr) (q : NameValue) (kind : Kind) (till : ℕ) → Covers (reading w.now 0) (latest w.ends) a.ip q kind till → Covers (reading w.now 0) (Some server) a.ip q kind till
     backed a q kind till b = subst (λ (s : Option ServerValue). Covers (reading w.now 0) s a.ip q kind till) took.up b
 
     covered : (n : ℕ) (a : Addr) (q : NameValue) (kind : Kind) (end : ℕ) → addr_of w.ends n ≡ Some a → reading w.now n < end → Claimed w from reply sent n a q kind end
-        → IsCoveredIn (record w { ends = with_server w.ends (Some new); sent = sent }) n a q kind end
+        → IsCoveredIn (record w { ends = with_server w.ends (Some new) w.ends.crashed; sent = sent }) n a q kind end
     covered n a q kind end p lt (before c) =
         let is = (took.kept.claims took.on).covered n a q kind end p c lt in
-        record {
-          moment = is.moment;
-          message = is.message;
-          replied_is = replied_still took.grows is.moment is.message is.replied_is;
-          seconds = is.seconds;
-          within = is.within;
-          counted = is.counted;
-          backed = backs_still laws took (record { at = p; wants = claims_want c }) (backed a q kind (reading is.moment 0 + 1000 * is.seconds) is.backed);
-        }
+        covered_as (replied_still took.grows) is (backs_still laws took (record { at = p; wants = claims_want c }) (backed a q kind (reading is.moment 0 + 1000 * is.seconds) is.backed))
     covered n a q kind end p lt (given g ends) =
         let leased = ((gives laws took g).1).leased in
         record {
@@ -166,15 +175,14 @@ served_claims laws {w} {server} {new} {from} {reply = reply} {sent} took = recor
     beside i j a b q k l d e ne p s x y (before c) (given g ends) = grant_beside (λ z. ne (sym z)) g p x c
     beside i j a b q k l d e ne p s x y (given g ends) (given h last) = absurd (ne (took.kept.ends.apart i j a b p s (ap (λ (z : Addr). z.ip) (sym g.to_is ∙ h.to_is))))
 
--- memory was refused: the leases are as they were
-pub forgotten_claims : {w : WorldValue} {server new : ServerValue} {ip : ℕ} {octets : List ℕ} → Invariant w → IsTrue w.kept → w.ends.server ≡ Some server → ServerForgets server (reading w.now 0) ip octets new
-    → ClaimsKept (record w { ends = with_server w.ends (Some new); sent = w.sent })
-forgotten_claims {w} {server} {new} kept on up forgets =
-    server_claims w (Some new) kept on (λ n a q kind end p c lt is. still a q kind (reading is.moment 0 + 1000 * is.seconds) (subst (λ (s : Option ServerValue). Covers (reading w.now 0) s a.ip q kind (reading is.moment 0 + 1000 * is.seconds)) up is.backed))
+-- the leases are as they were, and the silence
+pub still_claims : {w : WorldValue} {server new : ServerValue} → Invariant w → IsTrue w.kept → latest w.ends ≡ Some server → leases_at (reading w.now 0) new.table.rows ≡ leases_at (reading w.now 0) server.table.rows
+    → new.start ≡ server.start → new.table.config ≡ server.table.config → {kept : Option ServerValue} → ClaimsKept (record w { ends = with_server w.ends (Some new) kept; sent = w.sent })
+still_claims {w} {server} {new} kept on up leases start config {kept = y} =
+    server_claims w (Some new) y kept on (λ n a q kind end p c lt is. still a q kind (reading is.moment 0 + 1000 * is.seconds) (subst (λ (s : Option ServerValue). Covers (reading w.now 0) s a.ip q kind (reading is.moment 0 + 1000 * is.seconds)) up is.backed))
   where
     still : (a : Addr) (q : NameValue) (kind : Kind) (till : ℕ) → Covers (reading w.now 0) (Some server) a.ip q kind till → Covers (reading w.now 0) (Some new) a.ip q kind till
-    still a q kind till (inl leased) = inl (subst (λ (ls : List Lease). IsLeased ls a.ip kind till) (ap (λ (f : NameValue → List Lease). f q) (sym forgets.leases)) leased)
+    still a q kind till (inl leased) = inl (subst (λ (ls : List Lease). IsLeased ls a.ip kind till) (ap (λ (f : NameValue → List Lease). f q) (sym leases)) leased)
     still a q kind till (inr silent) =
-        let start = forgets.start in
-        let longest : new.table.config.longest ≡ server.table.config.longest = ap (λ (c : ConfigValue). c.longest) forgets.config in
+        let longest : new.table.config.longest ≡ server.table.config.longest = ap (λ (c : ConfigValue). c.longest) config in
         inr (omega arith)

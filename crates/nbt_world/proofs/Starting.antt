@@ -1,10 +1,11 @@
 -- What a world keeps when an end starts, and when one crashes.
-use Rattle.std.proofs.Common.{◌≡◌, ℕ, zero, suc, [], Option, Some, None, refl, sym, subst, arith}
+use Rattle.std.proofs.Common.{◌≡◌, ℕ, zero, suc, [], Option, Some, None, refl, sym, subst, ◌∙◌, arith}
 use Rattle.std.specs.Prelude.{replicate}
+use Rattle.std.specs.Option.{option_or}
 use Rattle.std.proofs.lemmas.Option.{none-some, same_Some}
 use Rattle.nbt_name.specs.Wire.{NameValue}
 use Rattle.nbt_lease.specs.Config.{ConfigValue}
-use Rattle.nbt_lease.specs.Lease.{Rows, leases_at, AreSound, group, IsSound}
+use Rattle.nbt_lease.specs.Lease.{Leases, Rows, leases_at, AreSound, group, IsSound}
 use Rattle.nbt_server.specs.Serving.{ServerValue}
 use Rattle.nbt_node.specs.declared.state.State.TheVariants.{Idle}
 use Rattle.nbt_node.specs.Node.{NodeValue, state_in}
@@ -12,13 +13,14 @@ use Rattle.nbt_node.specs.Calls.{started}
 use Rattle.nbt_node.proofs.Known.{distinct-none}
 use Rattle.nbt_world.specs.declared.ends.Ends.{Ends}
 use Rattle.nbt_world.specs.Drift.{reading}
-use Rattle.nbt_world.specs.World.{WorldValue}
-use Rattle.nbt_world.specs.Step.{Starts, server_starts, node_starts, Crashes, server_crashes, node_crashes}
+use Rattle.nbt_world.specs.World.{WorldValue, latest, with_server}
+use Rattle.nbt_world.specs.Step.{Starts, server_starts, node_starts, Crashes, server_crashes, node_crashes, Resumes, server_resumes}
 use Rattle.nbt_world.specs.Inner.Kept.{Asked, Replied, known, RequestsEnded, RepliesFresh, IsNodeOf, IsServerOf, Invariant}
 use Rattle.nbt_world.proofs.Knowing.{ended-start, ended-down, fresh-start, fresh-down}
-use Rattle.nbt_world.proofs.Keeping.{adds_nothing, addr_there, asked_read, server_changes}
+use Rattle.nbt_world.proofs.Keeping.{adds_nothing, addr_there, asked_read, server_changes, latest-up}
 use Rattle.nbt_world.proofs.Naming.{nothing_new}
-use Rattle.nbt_world.proofs.Covering.{down_claims, idle_claims, node_kept, crashed_claims, started_claims}
+use Rattle.nbt_world.proofs.Served.{still_claims}
+use Rattle.nbt_world.proofs.Covering.{down_claims, idle_claims, node_kept, same_claims, started_claims}
 
 no_lease : (latest now : ℕ) (name : NameValue) → AreSound latest (leases_at now [] name)
 unfolding leases_at
@@ -33,7 +35,7 @@ idle_in (suc n) q = idle_in n q
 
 pub starts_kept : (w : WorldValue) (number : ℕ) (ends : Ends) → Invariant w → Starts w.config (reading w.now number) w.ends number ends → Invariant (record w { ends = ends })
 starts_kept w number ends kept (server_starts server down new) =
-    server_changes w (Some server) w.sent kept (λ s e. subst (λ (x : ServerValue). IsServerOf w x) (same_Some server s e) is) (nothing_new w w.ends.server_addr) kept.replies (λ on. started_claims w server kept on new)
+    server_changes w (Some server) None w.sent kept (λ s e. subst (λ (x : ServerValue). IsServerOf w x) (same_Some server s e) is) (nothing_new w w.ends.server_addr) kept.replies (λ on. started_claims w server kept on new)
   where
     is : IsServerOf w server
     is = record { config_is = new.config_is; past = let e = new.last in omega arith; sound = new_is_sound w.config (reading w.now 0) server.table.rows new.empty }
@@ -50,8 +52,26 @@ starts_kept w number ends kept (node_starts i addr at down) =
       claims = λ kind end c. absurd (idle_claims (rw (idle_in 14 q) at c));
     })
 
+-- the server is as it was
+same_kept : (w : WorldValue) (x y : Option ServerValue) → option_or x y ≡ latest w.ends → Invariant w → Invariant (record w { ends = with_server w.ends x y })
+same_kept w x y same kept =
+    server_changes w x y w.sent kept (λ s e. kept.server s (sym same ∙ e)) (nothing_new w w.ends.server_addr) kept.replies (λ on. same_claims w x y same kept on)
+
+pub resumes_kept : (w : WorldValue) (ends : Ends) → Invariant w → Resumes (reading w.now 0) w.ends ends → Invariant (record w { ends = ends })
+resumes_kept w ends kept (server_resumes was server down is resumes) =
+    server_changes w (Some server) None w.sent kept (λ s e. subst (λ (x : ServerValue). IsServerOf w x) (same_Some server s e) as_kept) (nothing_new w w.ends.server_addr) kept.replies
+    (λ on. still_claims kept on there resumes.leases resumes.start resumes.config)
+  where
+    there : latest w.ends ≡ Some was
+    there = rw (down, is) refl
+
+    as_kept : IsServerOf w server
+    as_kept =
+        let k = kept.server was there in
+        record { config_is = resumes.config ∙ k.config_is; past = resumes.called; sound = subst (λ (l : Leases). IsSound w.config (reading w.now 0) l) (sym resumes.leases) k.sound }
+
 pub crashes_kept : (w : WorldValue) (number : ℕ) (ends : Ends) → Invariant w → Crashes w.ends number ends → Invariant (record w { ends = ends })
-crashes_kept w number ends kept (server_crashes server up) = server_changes w None w.sent kept (λ s e. absurd (none-some s e)) (nothing_new w w.ends.server_addr) kept.replies (λ on. crashed_claims w kept on)
+crashes_kept w number ends kept (server_crashes server up) = same_kept w None (Some server) (sym (latest-up w.ends server up)) kept
 crashes_kept w number ends kept (node_crashes i node up) =
     let there = addr_there w.ends (suc i) node up in
     node_kept (adds_nothing i kept there.1) None (λ s e. absurd (none-some s e))

@@ -1,5 +1,5 @@
 -- What each event makes of a world, as the code has found it: a line of the step, and a world that keeps what it kept.
-use Rattle.std.proofs.Common.{◌≡◌, ℕ, zero, suc, Bool, true, false, List, length, ltb, get_or, Some, None, refl, sym, ap, subst, ◌∙◌}
+use Rattle.std.proofs.Common.{◌≡◌, ℕ, zero, suc, Bool, true, false, cond, List, length, ltb, get_or, Some, None, refl, sym, ap, subst, ◌∙◌}
 use Rattle.std.specs.Prelude.{slice_get, Contains, MatchBool, Result, Ok, Err, IfOk}
 use Rattle.std.proofs.lemmas.Bool.{ltb-true, ltb-false}
 use Rattle.std.proofs.lemmas.Option.{slice_get_read, slice_get_past, slice_get_within, get_or_from_slice_get, none-some}
@@ -8,13 +8,12 @@ use Rattle.nbt_node.specs.Node.{NodeValue}
 use Rattle.nbt_world.specs.declared.ends.Ends.{Ends}
 use Rattle.nbt_world.specs.declared.network.Datagram.{Datagram}
 use Rattle.nbt_world.specs.declared.event.Event.{Event}
-use Rattle.nbt_world.specs.declared.event.Event.TheVariants as e
 use Rattle.nbt_world.specs.declared.event.OutOfMemory.{OutOfMemory}
 use Rattle.nbt_world.specs.declared.event.Outcome.{Outcome}
 use Rattle.nbt_world.specs.declared.event.Outcome.TheVariants as o
 use Rattle.nbt_world.specs.Drift.{reading}
 use Rattle.nbt_world.specs.World.{WorldValue, addr_of, node_of, with_node}
-use Rattle.nbt_world.specs.Step.{number_in, CallOutcomeValue, NodeDoes, after, outcome_of, IsDown, IsUp, Starts, Crashes, TakenValue, EndTakes, after_taking, outcome_of_taking, Step, starts, starts_nothing, crashes, crashes_nothing, node_does, node_is_down}
+use Rattle.nbt_world.specs.Step.{number_in, CallOutcomeValue, NodeDoes, after, outcome_of, TakenValue, EndTakes, after_taking, outcome_of_taking, Step, node_does, node_is_down}
 use Rattle.nbt_world.specs.Inner.Kept.{IsNodeOf, Invariant}
 use Rattle.nbt_world.proofs.Keeping.{addr_there}
 use Rattle.nbt_world.specs.Inner.Handing.{Origin, HandsOver}
@@ -22,7 +21,6 @@ use Rattle.nbt_world.proofs.Naming.{Laws, up_at}
 use Rattle.nbt_world.proofs.Events.{does_kept}
 use Rattle.nbt_world.proofs.Deliveries.{taking_kept}
 use Rattle.nbt_world.proofs.Granting.{LeaseLaws}
-use Rattle.nbt_world.proofs.Starting.{starts_kept, crashes_kept}
 
 -- nothing has changed
 pub same_world : (w : WorldValue) (ends : Ends) (sent : List Datagram) → ends ≡ w.ends → sent ≡ w.sent → w ≡ record w { ends = ends; sent = sent }
@@ -31,35 +29,16 @@ same_world w ends sent p q = λ i. record w { ends = sym p i; sent = sym q i }
 pub node_is_of : (w : WorldValue) (n : ℕ) (node : NodeValue) → Invariant w → node_of w.ends n ≡ Some node → (addr : Addr) × IsNodeOf w n addr node
 node_is_of w n node kept up = let there = addr_there w.ends n node up in (there.0, kept.nodes n there.0 node there.1 up)
 
--- ---- an end starts, or crashes
+-- ---- an end starts, crashes or resumes: it has changed as the event says, or there was nothing to do
 
-pub started_kept : (w : WorldValue) (number : ℕ) (ends : Ends) (b : Bool) → Invariant w → MatchBool b (Starts w.config (reading w.now number) w.ends number ends) ((¬ IsDown w.ends number) × (ends ≡ w.ends)) → Invariant (record w { ends = ends })
-started_kept w number ends true kept is = starts_kept w number ends kept is
-started_kept w number ends false kept is = subst (λ (x : Ends). Invariant (record w { ends = x })) (sym is.1) kept
+pub turned_kept : {P : Type 0} (Q : Type 0) (w : WorldValue) (ends : Ends) (b : Bool) → Invariant w → (P → Invariant (record w { ends = ends })) → MatchBool b P (Q × (ends ≡ w.ends)) → Invariant (record w { ends = ends })
+turned_kept Q w ends true kept turns is = turns is
+turned_kept Q w ends false kept turns is = subst (λ (x : Ends). Invariant (record w { ends = x })) (sym is.1) kept
 
-pub has_started : (w : WorldValue) (number : ℕ) (ends : Ends) (b : Bool) → b ≡ true → MatchBool b (Starts w.config (reading w.now number) w.ends number ends) ((¬ IsDown w.ends number) × (ends ≡ w.ends))
-    → Step w (e.Start number) o.Done (record w { ends = ends })
-has_started w number ends true p is = starts number ends is
-has_started w number ends false p is = absurd cc
-
-pub has_not_started : (w : WorldValue) (number : ℕ) (ends : Ends) (b : Bool) → b ≡ false → MatchBool b (Starts w.config (reading w.now number) w.ends number ends) ((¬ IsDown w.ends number) × (ends ≡ w.ends))
-    → Step w (e.Start number) o.Nothing (record w { ends = ends })
-has_not_started w number ends true p is = absurd cc
-has_not_started w number ends false p is = subst (λ (x : Ends). Step w (e.Start number) o.Nothing (record w { ends = x })) (sym is.1) (starts_nothing number is.0)
-
-pub crashed_kept : (w : WorldValue) (number : ℕ) (ends : Ends) (b : Bool) → Invariant w → MatchBool b (Crashes w.ends number ends) ((¬ IsUp w.ends number) × (ends ≡ w.ends)) → Invariant (record w { ends = ends })
-crashed_kept w number ends true kept is = crashes_kept w number ends kept is
-crashed_kept w number ends false kept is = subst (λ (x : Ends). Invariant (record w { ends = x })) (sym is.1) kept
-
-pub has_crashed : (w : WorldValue) (number : ℕ) (ends : Ends) (b : Bool) → b ≡ true → MatchBool b (Crashes w.ends number ends) ((¬ IsUp w.ends number) × (ends ≡ w.ends))
-    → Step w (e.Crash number) o.Done (record w { ends = ends })
-has_crashed w number ends true p is = crashes number ends is
-has_crashed w number ends false p is = absurd cc
-
-pub has_not_crashed : (w : WorldValue) (number : ℕ) (ends : Ends) (b : Bool) → b ≡ false → MatchBool b (Crashes w.ends number ends) ((¬ IsUp w.ends number) × (ends ≡ w.ends))
-    → Step w (e.Crash number) o.Nothing (record w { ends = ends })
-has_not_crashed w number ends true p is = absurd cc
-has_not_crashed w number ends false p is = subst (λ (x : Ends). Step w (e.Crash number) o.Nothing (record w { ends = x })) (sym is.1) (crashes_nothing number is.0)
+pub has_turned : {P Q : Type 0} (w : WorldValue) (event : Event) (ends : Ends) (b : Bool) → (P → Step w event o.Done (record w { ends = ends })) → (Q → Step w event o.Nothing w) → MatchBool b P (Q × (ends ≡ w.ends))
+    → Step w event (cond b o.Done o.Nothing) (record w { ends = ends })
+has_turned w event ends true turns stays is = turns is
+has_turned w event ends false turns stays is = subst (λ (x : Ends). Step w event o.Nothing (record w { ends = x })) (sym is.1) (stays is.0)
 
 -- ---- a node does something
 

@@ -2,4 +2,5 @@ pub mod Drift
 pub mod World
 pub mod Step
 pub mod Safety
+pub mod Getting
 pub mod Inner

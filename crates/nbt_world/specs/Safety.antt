@@ -10,7 +10,8 @@ use Rattle.nbt_node.specs.Node.{NodeValue, holds}
 use Rattle.nbt_world.specs.declared.event.Event.{Event}
 use Rattle.nbt_world.specs.declared.event.Outcome.{Outcome}
 use Rattle.nbt_world.specs.declared.event.Event.TheVariants.{Advance}
-use Rattle.nbt_world.specs.Drift.{reading, IsBounded}
+use Rattle.nbt_world.specs.declared.clocks.Least.{Least}
+use Rattle.nbt_world.specs.Drift.{reading, IsBounded, least_of, IsAllowed}
 use Rattle.nbt_world.specs.World.{WorldValue, IsEnd, node_of, IsFresh}
 use Rattle.nbt_world.specs.Step.{Step}
 
@@ -50,6 +51,10 @@ pub data Run : List Event → WorldValue → List WorldValue → WorldValue → 
 abbrev pub KeepDriftBound : List WorldValue → Type 0
 KeepDriftBound worlds = (i j : ℕ) (early late : WorldValue) → i ≤ j → slice_get worlds i ≡ Some early → slice_get worlds j ≡ Some late → (number : ℕ) → IsEnd late.ends number → IsBounded early.now late.now number
 
+-- Each of these worlds keeps the bound to these least numbers.
+abbrev pub KeepBoundTo : List Least → List WorldValue → Type 0
+KeepBoundTo least worlds = (index : ℕ) (world : WorldValue) → slice_get worlds index ≡ Some world → (number : ℕ) → IsEnd world.ends number → IsAllowed (least_of least number) world.now number
+
 -- all ends read the true clock
 abbrev pub IsInStep : WorldValue → Type 0
 IsInStep world = (number : ℕ) → IsEnd world.ends number → reading world.now number ≡ world.now.clock
@@ -71,11 +76,13 @@ NoClockStopped world = (world.now.clock < last_moment) × ((number : ℕ) → Is
 abbrev pub AreKeptUntilClocksStop : List WorldValue → Type 0
 AreKeptUntilClocksStop worlds = All (λ world. NoClockStopped world → IsTrue world.kept × IsSafe world) worlds
 
--- What is promised of the worlds along a run: each up to which the bound was kept is safe; from a new world, `kept` says
--- exactly where it was. Where no event moves the clocks apart, all of them are safe if all ends read the true clock at
+-- What is promised of the worlds along a run: each up to which the bound was kept is safe. From a new world, `kept` says
+-- exactly whether it was; from any world, whether it was before, and is between any two of these and to the least numbers
+-- of before. Where no event moves the clocks apart, all of them are safe if all ends read the true clock at
 -- first; and whatever they read, from a world that kept the bound all keep it, and are safe, until a clock stops.
 pub record RunsSafely (events : List Event) (old : WorldValue) (worlds : List WorldValue) (new : WorldValue) : Type 0 where
   pub safe : AreSafeWhileKept worlds
   pub told : (config : ConfigValue) (addrs : List Addr) → IsFresh config addrs old → IsTrue new.kept ↔ KeepDriftBound worlds
+  pub told_on : IsTrue new.kept ↔ (IsTrue old.kept × KeepBoundTo old.least worlds × KeepDriftBound worlds)
   pub one_clock : IsTrue old.kept → IsInStep old → MoveClocksAlike events → AreSafe worlds
   pub alike : IsTrue old.kept → MoveClocksAlike events → AreKeptUntilClocksStop worlds

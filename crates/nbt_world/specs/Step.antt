@@ -1,13 +1,14 @@
 -- One step of the world: what an event makes of it, a line for each outcome (our profile).
-use Rattle.std.specs.Prelude.{◌≡◌, ◌≢◌, ℕ, ◌↔◌, IsTrue, zero, suc, List, [], ◌∷◌, ◌++◌, length, slice_get, slice_index, Option, Some, None}
+use Rattle.std.specs.Prelude.{◌≡◌, ◌≢◌, ℕ, ◌≤◌, ◌↔◌, IsTrue, zero, suc, List, [], ◌∷◌, ◌++◌, length, slice_get, slice_index, Option, Some, None, ◌⊎◌}
 use Rattle.std.specs.Global.{Vec}
 use Rattle.nbt_name.specs.declared.addr.Addr.{Addr}
 use Rattle.nbt_name.specs.declared.addr.Kind.{Kind}
 use Rattle.nbt_name.specs.Wire.{NameValue}
-use Rattle.nbt_packet.specs.Message.{MessageValue}
+use Rattle.nbt_packet.specs.Message.{MessageValue, registration, overwrite, refresh, release, registered}
 use Rattle.nbt_packet.specs.Text.{text}
 use Rattle.nbt_packet.specs.Spelling.{Spells}
 use Rattle.nbt_lease.specs.Config.{ConfigValue}
+use Rattle.nbt_lease.specs.Lease.{leases_at}
 use Rattle.nbt_server.specs.Serving.{ServerValue}
 use Rattle.nbt_server.specs.Calls.{ServerStarts, ServerTakes, ServerForgets}
 use Rattle.nbt_node.specs.declared.fault.AskFault.{AskFault}
@@ -26,7 +27,7 @@ use Rattle.nbt_world.specs.declared.ends.Taken.{Taken}
 use Rattle.nbt_world.specs.declared.ends.Taken.TheVariants as t
 use Rattle.nbt_world.specs.declared.network.Datagram.{Datagram}
 use Rattle.nbt_world.specs.declared.event.Event.{Event}
-use Rattle.nbt_world.specs.declared.event.Event.TheVariants.{Tick, Advance, Start, Crash, Ask, Release, Resolve, NameStatus, Poll, Deliver, Stranger}
+use Rattle.nbt_world.specs.declared.event.Event.TheVariants.{Tick, Advance, Start, Crash, Resume, Ask, Release, Resolve, NameStatus, Poll, Deliver, Stranger, Beside}
 use Rattle.nbt_world.specs.declared.event.Outcome.{Outcome}
 use Rattle.nbt_world.specs.declared.event.Outcome.TheVariants as o
 use Rattle.nbt_world.specs.Drift.{reading, later, least_of, numbers_of, lesser, IsAllowed}
@@ -87,14 +88,31 @@ IsUp ends (suc index) = (node : NodeValue) × (node_of ends (suc index) ≡ Some
 
 -- an end that was down starts, and knows nothing
 pub data Starts (config : ConfigValue) (now : ℕ) (old : Ends) : ℕ → Ends → Type 0 where
-  server_starts : (server : ServerValue) → old.server ≡ None → ServerStarts config now server → Starts config now old 0 (with_server old (Some server))
+  server_starts : (server : ServerValue) → old.server ≡ None → ServerStarts config now server → Starts config now old 0 (with_server old (Some server) None)
   node_starts : (index : ℕ) (addr : Addr) → addr_of old (suc index) ≡ Some addr → node_of old (suc index) ≡ None
       → Starts config now old (suc index) (with_node old (suc index) (Some (started slots_most addr old.server_addr config now)))
 
--- an end that was up is down, and nothing of it is kept
+-- An end that was up is down. What the server was is kept, and of a node nothing is.
 pub data Crashes (old : Ends) : ℕ → Ends → Type 0 where
-  server_crashes : (server : ServerValue) → old.server ≡ Some server → Crashes old 0 (with_server old None)
+  server_crashes : (server : ServerValue) → old.server ≡ Some server → Crashes old 0 (with_server old None (Some server))
   node_crashes : (index : ℕ) (node : NodeValue) → node_of old (suc index) ≡ Some node → Crashes old (suc index) (with_node old (suc index) None)
+
+-- A server resumes: it has the live leases that it had, its start, and so its silence, and its limits, and its clock
+-- didn't go back.
+pub record ServerResumes (was : ServerValue) (now : ℕ) (server : ServerValue) : Type 0 where
+  pub leases : leases_at now server.table.rows ≡ leases_at now was.table.rows
+  pub start : server.start ≡ was.start
+  pub config : server.table.config ≡ was.table.config
+  pub was_called : was.last ≤ now
+  pub called : server.last ≤ now
+
+-- a server that crashed resumes
+pub data Resumes (now : ℕ) (old : Ends) : Ends → Type 0 where
+  server_resumes : (was server : ServerValue) → old.server ≡ None → old.crashed ≡ Some was → ServerResumes was now server → Resumes now old (with_server old (Some server) None)
+
+-- the server is up, or never was
+abbrev pub CannotResume : Ends → Type 0
+CannotResume ends = IsUp ends 0 ⊎ (ends.crashed ≡ None)
 
 -- what becomes of a datagram at an end: the end is down, has no memory for it, or takes it, with a reply or none
 pub data TakenValue : Type 0 where
@@ -115,7 +133,7 @@ pub record NodeHandles (now : ℕ) (old : NodeValue) (from : Addr) (octets : Lis
 pub data EndTakes (now : ℕ) (old : Ends) (from : Addr) (octets : List ℕ) : ℕ → TakenValue → Ends → Type 0 where
   finds_down : (number : ℕ) → IsDown old number → EndTakes now old from octets number is_down old
   by_server : (server new : ServerValue) (taken : TakenValue) → old.server ≡ Some server → ServerDoes now server from.ip octets taken new
-      → EndTakes now old from octets 0 taken (with_server old (Some new))
+      → EndTakes now old from octets 0 taken (with_server old (Some new) old.crashed)
   by_node : (index : ℕ) (node new : NodeValue) (reply : Option MessageValue) → node_of old (suc index) ≡ Some node → NodeHandles now node from octets reply new
       → EndTakes now old from octets (suc index) (takes reply) (with_node old (suc index) (Some new))
 
@@ -125,6 +143,20 @@ IsTaken t.Down octets taken = taken ≡ is_down
 IsTaken t.Lost octets taken = taken ≡ is_lost
 IsTaken t.Silent octets taken = taken ≡ takes None
 IsTaken t.Replies octets taken = (reply : MessageValue) × (taken ≡ takes (Some reply)) × (octets ≡ text reply) × Spells octets reply
+
+-- ---- what another program on an end's machine may not send
+
+-- a request about a lease, or a grant: what could take a lease away, or give a name
+abbrev pub MovesName : MessageValue → Type 0
+MovesName (registration r) = Unit {0}
+MovesName (overwrite r) = Unit {0}
+MovesName (refresh r) = Unit {0}
+MovesName (release id name kind addr) = Unit {0}
+MovesName (registered rcode r) = rcode ≡ 0
+MovesName _ = ⊥
+
+abbrev pub SpellMove : List ℕ → Type 0
+SpellMove octets = (message : MessageValue) × Spells octets message × MovesName message
 
 -- ---- what comes of it
 
@@ -171,6 +203,8 @@ pub data Step (old : WorldValue) : Event → Outcome → WorldValue → Type 0 w
   starts_nothing : (number : ℕ) → ¬ IsDown old.ends number → Step old (Start number) o.Nothing old
   crashes : (number : ℕ) (ends : Ends) → Crashes old.ends number ends → Step old (Crash number) o.Done (record old { ends = ends })
   crashes_nothing : (number : ℕ) → ¬ IsUp old.ends number → Step old (Crash number) o.Nothing old
+  resumes : (ends : Ends) → Resumes (reading old.now 0) old.ends ends → Step old Resume o.Done (record old { ends = ends })
+  resumes_nothing : CannotResume old.ends → Step old Resume o.Nothing old
   -- a node does something of its own, or is down
   node_does : (event : Event) (number : ℕ) (node new : NodeValue) (given : CallOutcomeValue) → number_in event ≡ Some number → node_of old.ends number ≡ Some node → NodeDoes node (reading old.now number) event new given
       → Step old event (outcome_of old given) (after old number new given)
@@ -189,6 +223,13 @@ pub data Step (old : WorldValue) : Event → Outcome → WorldValue → Type 0 w
   from_a_stranger : (from addr : Addr) (number : ℕ) (octets : Vec ℕ) (taken : TakenValue) (ends : Ends) → ¬ IsOfEnd old.ends from.ip → addr_of old.ends number ≡ Some addr
       → EndTakes (reading old.now number) old.ends from octets.items number taken ends
       → Step old (Stranger from number octets) (outcome_of_taking old taken) (after_taking old ends addr from taken)
+  -- another program on an end's machine sends a datagram
+  beside_no_end : (from : Addr) (number : ℕ) (octets : Vec ℕ) → ¬ IsOfEnd old.ends from.ip → Step old (Beside from number octets) o.Nobody old
+  beside_moves : (from : Addr) (number : ℕ) (octets : Vec ℕ) → SpellMove octets.items → Step old (Beside from number octets) o.Nobody old
+  beside_to_no_end : (from : Addr) (number : ℕ) (octets : Vec ℕ) → addr_of old.ends number ≡ None → Step old (Beside from number octets) o.Nobody old
+  from_beside : (from addr : Addr) (number : ℕ) (octets : Vec ℕ) (taken : TakenValue) (ends : Ends) → IsOfEnd old.ends from.ip → ¬ SpellMove octets.items → addr_of old.ends number ≡ Some addr
+      → EndTakes (reading old.now number) old.ends from octets.items number taken ends
+      → Step old (Beside from number octets) (outcome_of_taking old taken) (after_taking old ends addr from taken)
 
 -- room for a datagram may be made for all other events
 abbrev pub TakesNoMemory : Event → Type 0
@@ -196,4 +237,5 @@ TakesNoMemory (Tick ms) = Unit {0}
 TakesNoMemory (Advance ms readings) = Unit {0}
 TakesNoMemory (Start number) = Unit {0}
 TakesNoMemory (Crash number) = Unit {0}
+TakesNoMemory Resume = Unit {0}
 TakesNoMemory _ = ⊥

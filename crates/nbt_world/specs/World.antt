@@ -1,6 +1,6 @@
 -- The world: all ends, the network between them, the true clock, and what each end reads (our profile).
 use Rattle.std.specs.Prelude.{◌≡◌, ℕ, ◌+◌, ◌≤◌, Bool, IsTrue, zero, suc, List, [], ◌∷◌, length, map, slice_get, Option, Some, None}
-use Rattle.std.specs.Option.{option_map}
+use Rattle.std.specs.Option.{option_map, option_or}
 use Rattle.nbt_name.specs.declared.addr.Addr.{Addr}
 use Rattle.nbt_lease.specs.Config.{ConfigValue}
 use Rattle.nbt_server.specs.Serving.{ServerValue}
@@ -50,8 +50,12 @@ IsOfEnd ends ip = (number : ℕ) × (addr : Addr) × (addr_of ends number ≡ So
 
 -- ---- changes of one thing, all else as it was
 
-abbrev pub with_server : Ends → Option ServerValue → Ends
-with_server ends server = record ends { server = server }
+abbrev pub with_server : Ends → (server crashed : Option ServerValue) → Ends
+with_server ends server crashed = record ends { server = server; crashed = crashed }
+
+-- the server, or, while it is down, what it was when it crashed
+abbrev pub latest : Ends → Option ServerValue
+latest ends = option_or ends.server ends.crashed
 
 abbrev pub put_node : List NodeEnd → ℕ → Option NodeValue → List NodeEnd
 put_node [] index value = []
@@ -94,7 +98,7 @@ pub record AreAddrs (addrs : List Addr) : Type 0 where
 
 -- ends at these addresses, which are all down
 abbrev pub ends_at : Addr → List Addr → Ends
-ends_at server others = record { server_addr = server; server = None; nodes = record { items = map (λ addr. record { addr = addr; node = None }) others } }
+ends_at server others = record { server_addr = server; server = None; crashed = None; nodes = record { items = map (λ addr. record { addr = addr; node = None }) others } }
 
 -- all ends are down, all clocks are at 0, and no datagram was sent
 pub record IsFresh (config : ConfigValue) (addrs : List Addr) (world : WorldValue) : Type 0 where
@@ -105,5 +109,6 @@ pub record IsFresh (config : ConfigValue) (addrs : List Addr) (world : WorldValu
   pub config_is : world.config ≡ config
   pub addrs_are : (number : ℕ) → addr_of world.ends number ≡ slice_get addrs number
   pub no_server : world.ends.server ≡ None
+  pub none_crashed : world.ends.crashed ≡ None
   pub no_node : (number : ℕ) → node_of world.ends number ≡ None
   pub nothing_sent : world.sent ≡ []

@@ -25,11 +25,13 @@ pub struct NodeEnd {
     pub node: Option<Node<SLOTS>>,
 }
 
-/// All ends: the server's address, what it is while it is up, and the nodes in order of their numbers.
+/// All ends: the server's address, what it is while it is up, what it was when it crashed, until it starts or resumes, and
+/// the nodes in order of their numbers.
 #[derive(Drop)]
 pub struct Ends {
     pub server_addr: Addr,
     pub server: Option<Server>,
+    pub crashed: Option<Server>,
     pub nodes: ArrayVec<NodeEnd, 8>,
 }
 
@@ -84,8 +86,8 @@ pub enum Taken {
 }
 
 impl Ends {
-    ghost use Rattle.nbt_world.specs.World.{ends_at, addr_of, node_of, IsOfEnd, with_node};
-    ghost use Rattle.nbt_world.specs.Step.{number_in, given_of, NodeDoes, Starts, Crashes, EndTakes, IsDown, IsUp, TakenValue, IsTaken};
+    ghost use Rattle.nbt_world.specs.World.{ends_at, latest, addr_of, node_of, IsOfEnd, with_node};
+    ghost use Rattle.nbt_world.specs.Step.{number_in, given_of, NodeDoes, Starts, Crashes, Resumes, CannotResume, EndTakes, IsDown, IsUp, TakenValue, IsTaken};
 
     /// A server and nodes at these addresses, which are all down.
     pub fn new(server_addr: Addr, others: &[Addr]) -> Ends
@@ -102,6 +104,7 @@ impl Ends {
         Ends {
             server_addr,
             server: None,
+            crashed: None,
             nodes,
         }
     }
@@ -146,6 +149,7 @@ impl Ends {
                 return false;
             }
             self.server = Some(Server::start(alloc, config, now));
+            self.crashed = None;
             return true;
         }
         if number > self.nodes.len() {
@@ -163,13 +167,25 @@ impl Ends {
             if self.server.is_none() {
                 return false;
             }
-            self.server = None;
+            self.crashed = self.server.take();
             return true;
         }
         if number > self.nodes.len() {
             return false;
         }
         crash_node(&mut self.nodes[number - 1])
+    }
+
+    /// Brings the server back with the leases that it had when it crashed, where it is down and was up. Returns whether it
+    /// was.
+    pub fn resume(&mut self) -> bool
+        ensures { (now : ℕ) → ((was : ServerValue) → latest self.old ≡ Some was → was.last ≤ now) → MatchBool result (Resumes now self.old self.new) (CannotResume self.old × (self.new ≡ self.old)) }
+    {
+        if self.server.is_some() || self.crashed.is_none() {
+            return false;
+        }
+        self.server = self.crashed.take();
+        true
     }
 
     /// A node does what an event says, where it is there and up: its address, and what it gives.

@@ -20,8 +20,10 @@ pub enum Event {
     },
     /// An end starts, and knows nothing of before.
     Start(usize),
-    /// An end crashes, and nothing of it is kept.
+    /// An end crashes. A node loses everything; the server can resume.
     Crash(usize),
+    /// The server resumes after a crash, with the live leases that it had. It isn't silent.
+    Resume,
     /// A node asks for a name.
     Ask {
         /// The node's number.
@@ -69,23 +71,34 @@ pub enum Event {
         /// Its octets.
         octets: Vec<u8>,
     },
+    /// Another program on an end's machine sends a datagram to the end of a number, where it comes at once.
+    Beside {
+        /// The address that it is from, with an end's 32 bits and any port.
+        from: Addr,
+        /// The number of the end that it is for.
+        to: usize,
+        /// Its octets: any but a registration, an overwrite, a refresh, a release or a positive reply to a registration.
+        octets: Vec<u8>,
+    },
 }
 
 /// What came of an event.
 #[derive(Clone, Copy, Debug, PartialEq, Eq)]
 pub enum Outcome {
-    /// The clocks went on, or the end started or crashed.
+    /// The clocks went on, or the end started, crashed or resumed.
     Done,
     /// The datagram of this number was sent.
     Sent(usize),
     /// The node refused the call, with this number.
     Refused(u8),
-    /// Nothing was to do: the end is so already, the world has no such end to start or crash, or nothing was due.
+    /// Nothing was to do: the end is up or down already, the world has no such end, the server never was up before it was to
+    /// resume, or nothing was due.
     Nothing,
     /// The end is down, or the world has no such node.
     Down,
     /// There is no such datagram or no end at its address; or a stranger's datagram is for no end, or from an end's
-    /// 32-bit address.
+    /// 32-bit address. Or another program's datagram is for no end, from an address that is no end's, or would move a
+    /// name.
     Nobody,
     /// The datagram's life has passed, or memory was refused to the server for it.
     Lost,

@@ -1,12 +1,20 @@
 //! What holds of every world, whatever the code does: laws over the definitions alone.
 
-ghost use Rattle.std.specs.Prelude.{◌≡◌, ℕ, Some, IsTrue};
-ghost use Rattle.nbt_name.specs.Wire.{NameValue};
+ghost use Rattle.std.specs.Prelude.{◌≡◌, ◌≢◌, ℕ, ◌+◌, ◌*◌, ◌^◌, ◌<◌, ◌≤◌, List, Some, IsTrue, length};
+ghost use Rattle.nbt_name.specs.Wire.{NameValue, IsStar};
+ghost use Rattle.nbt_lease.specs.Config.{ConfigValue, IsConfig};
+ghost use Rattle.nbt_lease.specs.Drift.{quiet};
 ghost use Rattle.nbt_name.specs.declared.addr.Addr.{Addr};
-ghost use Rattle.nbt_world.specs.World.{WorldValue, addr_of};
+ghost use Rattle.nbt_world.specs.World.{WorldValue, addr_of, IsEnd, IsFresh};
 ghost use Rattle.nbt_world.specs.Inner.Kept.{Invariant};
 ghost use Rattle.nbt_world.specs.Inner.Facts.{LeasesAreSound, ClaimsAreCovered, ClaimsAreOfGroups, OpenIsFresh, RequestsHaveEnded};
-ghost use Rattle.nbt_world.specs.Safety.{IsSafe};
+ghost use Rattle.nbt_world.specs.Safety.{IsSafe, holding};
+ghost use Rattle.nbt_name.specs.declared.addr.Kind.{Kind};
+ghost use Rattle.nbt_world.specs.Step.{Step};
+ghost use Rattle.nbt_world.specs.Getting.{CanGet};
+ghost use Rattle.nbt_world.specs.declared.event.Event.TheVariants as event;
+ghost use Rattle.nbt_world.specs.declared.event.Outcome.{Outcome};
+ghost use Rattle.nbt_world.specs.declared.event.Outcome.TheVariants as outcome;
 
 /// What follows from the facts that every world keeps: live leases are sound; and where the readings kept the drift bound
 /// so far, claims are covered by leases or by the silence, two claims on one name are both of a group, what is open is
@@ -21,3 +29,20 @@ pub fn facts_of_every_world()
 {
     nbt_lease::laws::rest_outlasts_datagrams();
 }
+
+/// A node gets a free name as soon as its request and the reply arrive: where the name can be got, whatever worlds the three
+/// events lead to, the node holds the name in the last, unless the server was out of memory for the request.
+pub fn free_name_is_got()
+    ensures { (a b c d : WorldValue) (number : ℕ) (name : NameValue) (kind : Kind) (ttl : ℕ) (o p q : Outcome) → Invariant a → CanGet a number name
+        → Step a (event.Ask number name kind ttl) o b → Step b (event.Deliver (length a.sent)) p c → p ≢ outcome.Lost → Step c (event.Deliver (length a.sent + 1)) q d
+        → holding d number name ≡ Some kind }
+{
+    nbt_packet::laws::one_message_spelled();
+}
+
+/// In a new world each name but `*` can be got, once the server and the node have started and then as many milliseconds have
+/// passed as the server is silent for, and more than the node rests for.
+pub fn new_world_can_get()
+    ensures { (config : ConfigValue) (addrs : List Addr) (a b c d : WorldValue) (node ms : ℕ) (name : NameValue) (o p q : Outcome) → IsFresh config addrs a → IsConfig config → IsEnd a.ends (node + 1) → ¬ IsStar name
+        → 1000 * config.longest ≤ ms → quiet config.life < ms → ms ≤ 2 ^ 60 → Step a (event.Start 0) o b → Step b (event.Start (node + 1)) p c → Step c (event.Tick ms) q d → CanGet d (node + 1) name }
+{}

@@ -1,11 +1,12 @@
 //! The network between the ends.
 
-ghost use Rattle.std.specs.Prelude.{◌≡◌, ℕ, ◌<◌, Some, [], ◌∷◌, ◌++◌};
+ghost use Rattle.std.specs.Prelude.{◌≡◌, ℕ, ◌<◌, Some, [], ◌∷◌, ◌++◌, ◌↔◌, IsTrue};
 ghost use Rattle.std.specs.Vec.{vec_len, vec_capacity};
 ghost use Rattle.nbt_node.specs.Node.{NodeValue};
 ghost use Rattle.nbt_world.specs.declared.ends.Ends.{Ends as EndsValue};
 ghost use Rattle.nbt_world.specs.World.{WorldValue, with_node};
-ghost use Rattle.nbt_world.specs.Step.{given_of, after, outcome_of, TakenValue, IsTaken, after_taking, outcome_of_taking};
+ghost use Rattle.nbt_packet.specs.Message.{message_of};
+ghost use Rattle.nbt_world.specs.Step.{MovesName, SpellMove, given_of, after, outcome_of, TakenValue, IsTaken, after_taking, outcome_of_taking};
 
 use crate::clocks::Clocks;
 use crate::ends::Taken;
@@ -13,6 +14,7 @@ use crate::event::Outcome;
 use crate::node_call::CallOutcome;
 use arrayvec::ArrayVec;
 use nbt_name::Addr;
+use nbt_packet::{Message, read};
 
 /// A datagram that an end sent.
 #[derive(Debug, Drop)]
@@ -32,6 +34,30 @@ impl Datagram {
         let mut copy = ArrayVec::new();
         copy.try_extend_from_slice(self.octets.as_slice()).unwrap();
         copy
+    }
+}
+
+/// Whether a message is a request about a lease, or grants one.
+fn moves_name(message: &Message<'_>) -> bool
+    ensures { IsTrue result ↔ MovesName (message_of message.now) }
+{
+    match message {
+        Message::Registration(_)
+        | Message::Overwrite(_)
+        | Message::Refresh(_)
+        | Message::Release { .. } => true,
+        Message::Registered { rcode, .. } => *rcode == 0,
+        _ => false,
+    }
+}
+
+/// Whether octets spell such a message.
+pub fn spell_move(octets: &[u8]) -> bool
+    ensures { IsTrue result ↔ SpellMove octets.now }
+{
+    match read(octets) {
+        Some(message) => moves_name(&message),
+        None => false,
     }
 }
 

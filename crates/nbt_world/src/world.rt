@@ -1,20 +1,22 @@
 //! The world: its events, one at a time and in a row.
 
-ghost use Rattle.std.specs.Prelude.{◌≡◌, ◌≤◌, ◌<◌, ◌↔◌, ℕ, Some, None, List, length, take, slice_get, slice_index, slice_index_or, IsOk, IsTrue, IfSome, IfOk, OnOk, IfErr, OnErr, MatchResult, Contains};
+ghost use Rattle.std.specs.Prelude.{cond, ◌≡◌, ◌≤◌, ◌<◌, ◌↔◌, ℕ, Some, None, List, length, take, slice_get, slice_index, slice_index_or, IsOk, IsTrue, IfSome, IfOk, OnOk, IfErr, OnErr, MatchResult, Contains};
 ghost use Rattle.nbt_name.specs.declared.addr.Kind.{Kind as KindValue};
 ghost use Rattle.std.specs.Option.{option_map};
 ghost use Rattle.nbt_world.specs.Drift.{reading as reading_of};
 ghost use Rattle.nbt_world.specs.World.{WorldValue, AreAddrs, IsEnd, IsFresh, addr_of, node_of};
 ghost use Rattle.nbt_world.specs.Step.{Advances, Step, number_in, TakesNoMemory};
 ghost use Rattle.nbt_world.specs.Safety.{Run, holding, MayHold, IsSafe, RunsSafely};
+ghost use Rattle.nbt_world.specs.Getting.{CanGet, getting};
 ghost use Rattle.nbt_world.specs.Inner.Kept.{AreRead};
 ghost use Rattle.nbt_world.specs.Inner.Handing.{Origin, HandsOver};
+ghost use Rattle.nbt_world.specs.declared.event.Outcome.TheVariants as outcome;
 ghost use Rattle.nbt_world.specs.declared.ends.Holder.{Holder as HolderValue};
 
 use crate::clocks::{Clocks, ENDS_MOST, Least, at_beginning, watch};
 use crate::ends::{Ends, Holder, are_apart};
 use crate::event::{Event, OutOfMemory, Outcome};
-use crate::network::{Datagram, give, reply};
+use crate::network::{Datagram, give, reply, spell_move};
 use crate::node_call::SLOTS;
 use arrayvec::ArrayVec;
 use nbt_lease::{Config, Moment};
@@ -54,6 +56,17 @@ impl Model for World {
     ghost view = { λ w. record { now = w.clocks; config = w.config; ends = w.ends; sent = w.sent.items; least = w.least; kept = w.kept } };
 
     ghost invariant = { λ w. Invariant (record { now = w.clocks; config = w.config; ends = w.ends; sent = w.sent.items; least = w.least; kept = w.kept }) };
+}
+
+/// What comes of a change of an end, where it was made and where there was nothing to do.
+fn done(changed: bool) -> Outcome
+    ensures { result ≡ cond changed outcome.Done outcome.Nothing }
+{
+    if changed {
+        Outcome::Done
+    } else {
+        Outcome::Nothing
+    }
 }
 
 impl World {
@@ -116,22 +129,21 @@ impl World {
         ensures { Step self.old (Event.Start number) result self.new }
     {
         let now = self.clocks.reading(number);
-        if self.ends.start(self.alloc, number, self.config, now) {
-            Outcome::Done
-        } else {
-            Outcome::Nothing
-        }
+        done(self.ends.start(self.alloc, number, self.config, now))
     }
 
     /// An end crashes.
     fn crash(&mut self, number: usize) -> Outcome
         ensures { Step self.old (Event.Crash number) result self.new }
     {
-        if self.ends.crash(number) {
-            Outcome::Done
-        } else {
-            Outcome::Nothing
-        }
+        done(self.ends.crash(number))
+    }
+
+    /// The server resumes after a crash.
+    fn resume(&mut self) -> Outcome
+        ensures { Step self.old Event.Resume result self.new }
+    {
+        done(self.ends.resume())
     }
 
     /// A node does something of its own.
@@ -155,7 +167,7 @@ impl World {
     }
 
     /// The end of this number, at the address `to`, takes octets from an address, and its reply is sent back. The octets are
-    /// those of a datagram of the list that may still be delivered, or a stranger's.
+    /// those of a datagram of the list that may still be delivered, a stranger's, or such as move no name.
     fn hand_over(
         &mut self,
         number: usize,
@@ -223,10 +235,32 @@ impl World {
         self.hand_over(number, from, to, octets.as_slice())
     }
 
+    /// Another program on an end's machine sends a datagram.
+    fn beside(
+        &mut self,
+        from: Addr,
+        number: usize,
+        octets: &Vec<u8>,
+    ) -> Result<Outcome, OutOfMemory>
+        ensures step { IfOk result (λ outcome. Step self.old (Event.Beside from number octets.now) outcome self.new) }
+        ensures refused { OnErr result (self.new ≡ self.old) }
+    {
+        if !self.ends.has_ip(from.ip) {
+            return Ok(Outcome::Nobody);
+        }
+        if spell_move(octets.as_slice()) {
+            return Ok(Outcome::Nobody);
+        }
+        let Some(to) = self.ends.addr(number) else {
+            return Ok(Outcome::Nobody);
+        };
+        self.hand_over(number, from, to, octets.as_slice())
+    }
+
     /// What happens next: the clocks go on, an end starts or crashes, a node does something of its own, a datagram of
     /// the list is delivered, or one comes from a stranger. Returns what came of it. With `OutOfMemory`, where room for
-    /// one datagram more was refused, the world is as it was. A `Tick`, `Advance`, `Start` or `Crash` takes no memory. No
-    /// two nodes hold one name afterwards, unless both as a group, where `kept` answers true.
+    /// one datagram more was refused, the world is as it was. A `Tick`, `Advance`, `Start`, `Crash` or `Resume` takes no
+    /// memory. No two nodes hold one name afterwards, unless both as a group, where `kept` answers true.
     pub fn step(&mut self, event: &Event) -> Result<Outcome, OutOfMemory>
         ensures step { IfOk result (λ outcome. Step self.old event.now outcome self.new) }
         ensures safe { IsTrue self.new.kept → IsSafe self.new }
@@ -238,6 +272,7 @@ impl World {
             Event::Advance { ms, readings } => Ok(self.advance(*ms, readings)),
             Event::Start(number) => Ok(self.start(*number)),
             Event::Crash(number) => Ok(self.crash(*number)),
+            Event::Resume => Ok(self.resume()),
             Event::Ask { node, .. } => self.node_event(*node, event),
             Event::Release { node, .. } => self.node_event(*node, event),
             Event::Resolve { node, .. } => self.node_event(*node, event),
@@ -245,13 +280,14 @@ impl World {
             Event::Poll(node) => self.node_event(*node, event),
             Event::Deliver(k) => self.deliver(*k),
             Event::Stranger { from, to, octets } => self.stranger(*from, *to, octets),
+            Event::Beside { from, to, octets } => self.beside(*from, *to, octets),
         };
         self.is_safe();
         outcome
     }
 
     /// The events in order, as far as memory is there. With `OutOfMemory`, the number of the event that it was refused
-    /// to, which is no `Tick`, `Advance`, `Start` or `Crash`: the world is then as after those before it. In no world along
+    /// to, which is no `Tick`, `Advance`, `Start`, `Crash` or `Resume`: the world is then as after those before it. In no world along
     /// the run up to which the drift bound was kept do two nodes hold one name, unless both as a group.
     pub fn run(&mut self, events: &[Event]) -> Result<(), (usize, OutOfMemory)>
         ensures ran { OnOk result ((worlds : List WorldValue) × Run events.now self.old worlds self.new × RunsSafely events.now self.old worlds self.new) }
@@ -265,6 +301,32 @@ impl World {
                 Err(fault) => return Err((number, fault)),
             }
         }
+        Ok(())
+    }
+
+    /// A node gets a free name, by three events: the node requests it, its datagram is delivered, and then the server's reply.
+    /// The name must be free, the server must be up and past its silence with room for a lease, and the node must be up and
+    /// rested, with a free slot and the name Idle. On `OutOfMemory`, also where the server was out of memory for the
+    /// request, the world is as after the events before.
+    pub fn get(&mut self, node: usize, name: Name, kind: Kind, ttl: u32) -> Result<(), OutOfMemory>
+        requires { CanGet self.old node name }
+        ensures got { OnOk result (holding self.new node name ≡ Some kind) }
+        ensures ran { OnOk result ((worlds : List WorldValue) × Run (getting self.old node name kind ttl) self.old worlds self.new) }
+        ensures stopped { OnErr result ((k : ℕ) × (worlds : List WorldValue) × Run (take k (getting self.old node name kind ttl)) self.old worlds self.new) }
+    {
+        crate::laws::free_name_is_got();
+        let asked = self.sent.len();
+        self.step(&Event::Ask {
+            node,
+            name,
+            kind,
+            ttl,
+        })?;
+        match self.step(&Event::Deliver(asked))? {
+            Outcome::Lost => return Err(OutOfMemory),
+            _ => {}
+        }
+        self.step(&Event::Deliver(asked + 1))?;
         Ok(())
     }
 

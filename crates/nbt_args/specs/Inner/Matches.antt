@@ -20,3 +20,12 @@ arguments_of matches name = unwrap_or (option_map raw_values (matched_of (found_
 abbrev pub IsFlag : ArgMatches → List ℕ → Bool → Type 0
 IsFlag matches name true = one_text (found_of matches) name ≡ Some (codes "true")
 IsFlag matches name false = (one_text (found_of matches) name ≡ Some (codes "false")) ⊎ (one_text (found_of matches) name ≡ None)
+
+-- a flag tells whether that option was given
+abbrev pub Tells : ArgMatches → List ℕ → Bool → Type 0
+Tells matches name flag = (IsFlag matches name true → flag ≡ true) × (IsFlag matches name false → flag ≡ false)
+
+-- the number of turns; there is none under --forever
+abbrev pub TellsTurns : ArgMatches → Option (List ℕ) → Type 0
+TellsTurns matches turns = (IsFlag matches (codes "forever") true → turns ≡ None)
+    × (IsFlag matches (codes "forever") false → turns ≡ Some (argument_of matches (codes "turns")))

@@ -15,6 +15,11 @@ pub data JoinsSlot (s : Slot) (f : FragmentValue) : JoinedValue → Slot → Typ
   unfinished : Agrees s f → ((names : Names) (payload : List ℕ) → ¬ IsWhole (joined f s) names payload) → JoinsSlot s f waiting (joined f s)
   finished : (names : Names) (payload : List ℕ) → Agrees s f → IsWhole (joined f s) names payload → JoinsSlot s f (whole names payload) (joined f s)
 
+-- the octets that a slot knows are of 512
+abbrev pub HasRoom : Option Slot → Type 0
+HasRoom None = Unit {0}
+HasRoom (Some s) = length s.octets ≡ 512
+
 -- the slot in a place
 pub record IsTaken (slots : List (Option Slot)) (place : ℕ) : Type 0 where
   pub slot : Slot

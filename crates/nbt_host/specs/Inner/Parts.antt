@@ -3,10 +3,10 @@ use Rattle.std.specs.Prelude.{◌≡◌, ℕ, Bool, List, length, ◌↔◌, IsT
 use Rattle.std.specs.List.{flat_map}
 use Rattle.nbt_name.specs.declared.addr.Addr.{Addr}
 use Rattle.nbt_node.specs.Node.{NodeValue}
-use Rattle.nbt_engine.specs.PortCalls.{PortCall, receive_failed, Chain}
+use Rattle.nbt_port.specs.PortCalls.{PortCall, receive_failed, Chain}
 use Rattle.nbt_host.specs.declared.hearing.Heard.{Heard}
 use Rattle.nbt_host.specs.Hosting.{HostHears, LosesReply}
-use Rattle.nbt_host.specs.Ending.{HostValue, EndTurn, TurnsTo, TurnsOn, GoesOn, acts_in, moments_in}
+use Rattle.nbt_host.specs.Releasing.{HostValue, EndTurn, TurnsTo, TurnsOn, GoesOn, acts_in, moments_in}
 
 -- One receive, the reading after it, and what is heard.
 pub record Listens {P C : Type 0} (does : P → PortCall → P → Type 0) (tells : C → ℕ → C → Type 0) (heard : Heard) (p : P) (c : C) (s : NodeValue) (q : P) (d : C) (t : NodeValue) : Type 0 where

@@ -1,11 +1,11 @@
--- The leases of each name, and the set of their ends (private types alone).
+-- The leases of each name, and the set of their expiries (private types alone).
 use Rattle.std.specs.Prelude.{◌≡◌, ◌≢◌, ℕ, ◌<◌, max, Bool, ◌&&◌, nat_eq, List, [], ◌∷◌, ◌++◌, map, Option, Some, None, if◌then◌else◌, unwrap_or}
 use Rattle.std.specs.List.{list_any, IsDistinct, AllByRecursion}
 use Rattle.std.specs.Map.{lookup, keys_of}
 use Rattle.nbt_name.specs.Wire.{NameValue, same_name}
 use Rattle.nbt_lease.specs.declared.lease.Lease.{Lease}
 use Rattle.nbt_lease.specs.declared.ends.Due.{Due}
-use Rattle.nbt_lease.specs.Lease.{Leases, Rows, at_name, HasNone, AreApart}
+use Rattle.nbt_lease.specs.Lease.{Leases, Rows, at_name, AreApart}
 
 -- each name with its members, in order of their beginnings
 abbrev pub Entries : Type 0
@@ -20,7 +20,7 @@ abbrev pub rows_of : Entries → Rows
 rows_of [] = []
 rows_of (entry ∷ entries) = map (λ lease. (entry.0, lease)) entry.1 ++ rows_of entries
 
--- when the lease of a name and an address ends
+-- when the lease of a name and an address expires
 abbrev pub due : ℕ → NameValue → ℕ → Due
 due end name addr = record { end = end; name = name; addr = addr }
 
@@ -30,11 +30,11 @@ is_due a b = same_name a.name b.name && (nat_eq a.addr b.addr && nat_eq a.end b.
 abbrev pub in_set : List Due → Due → Bool
 in_set ends d = list_any (λ e. is_due e d) ends
 
--- whether a member of this address ends then
+-- whether a member of this address expires then
 abbrev pub has_end : ℕ → ℕ → List Lease → Bool
 has_end end addr leases = list_any (λ lease. nat_eq lease.addr addr && nat_eq lease.end end) leases
 
--- The set of ends agrees with the map: it holds the end, name and address of each member, and nothing else.
+-- The set of expiries agrees with the map: it holds the expiry, name and address of each member, and nothing else.
 pub record Agrees (entries : Entries) (ends : List Due) : Type 0 where
   pub names : IsDistinct same_name (keys_of entries)
   pub filled : (name : NameValue) → lookup (same_name name) entries ≢ Some []
@@ -42,7 +42,7 @@ pub record Agrees (entries : Entries) (ends : List Due) : Type 0 where
   pub once : IsDistinct is_due ends
   pub agree : (d : Due) → in_set ends d ≡ has_end d.end d.addr (members_of entries d.name)
 
--- none is over at this moment
+-- none is over at this time
 abbrev pub AreLive : ℕ → List Lease → Type 0
 AreLive moment leases = AllByRecursion (λ lease. moment < lease.end) leases
 
@@ -56,14 +56,14 @@ abbrev pub if_any : List Lease → Option (List Lease)
 if_any [] = None
 if_any (lease ∷ leases) = Some (lease ∷ leases)
 
--- The member of an address was taken out of its name, and the name was with its last member.
+-- The member of an address was removed from its name, and the name with its last member.
 pub record TakenFrom (old new : Entries) (name : NameValue) (addr : ℕ) (lease : Lease) : Type 0 where
   pub before : List Lease
   pub behind : List Lease
   pub member : IsMember addr (members_of old name) before lease behind
   pub left : (q : NameValue) → lookup (same_name q) new ≡ (if same_name name q then if_any (before ++ behind) else lookup (same_name q) old)
 
--- The member of an address ends later, if this end is later than its own.
+-- The member of an address expires later, if this expiry is later than its own.
 pub record Renewed (old : Entries) (name : NameValue) (addr end until : ℕ) (after : Leases) : Type 0 where
   pub before : List Lease
   pub lease : Lease
@@ -72,7 +72,7 @@ pub record Renewed (old : Entries) (name : NameValue) (addr end until : ℕ) (af
   pub until_is : until ≡ max lease.end end
   pub after_is : after ≡ at_name name (before ++ record lease { end = until } ∷ behind) (members_of old)
 
--- The end of the member of an address would move.
+-- The expiry of the member of an address would move.
 pub record Moves (old : Entries) (name : NameValue) (addr end : ℕ) : Type 0 where
   pub before : List Lease
   pub lease : Lease

@@ -14,7 +14,7 @@ pub record HoldsLive (table : TableValue) (now : ℕ) (entries : Entries) : Type
   pub leases : members_of entries ≡ leases_at now table.rows
   pub count : length (rows_of entries) ≡ live_count now table.rows
 
--- A lease may begin among these, if there is room in the table.
+-- A lease may begin among these, if the table isn't full.
 pub record MayBegin (a : Asked) (leases : List Lease) : Type 0 where
   pub allowed : IsAllowed a leases
   pub none : HasNone a.addr leases

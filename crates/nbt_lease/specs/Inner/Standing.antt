@@ -1,4 +1,4 @@
--- How an asker stands with a name, as the code finds it (private functions alone).
+-- How a requester stands with a name, as the code finds it (private functions alone).
 use Rattle.std.specs.Prelude.{◌≡◌, ℕ, ◌↔◌, true, false, IsTrue, List, ◌∷◌, ◌++◌, length}
 use Rattle.nbt_lease.specs.declared.standing.Standing.{Standing}
 use Rattle.nbt_lease.specs.declared.lease.Lease.{Lease}

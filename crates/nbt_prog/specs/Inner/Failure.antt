@@ -2,10 +2,10 @@
 use Rattle.std.specs.Prelude.{◌≡◌, ◌⊎◌, ℕ, List, [], Option, Some, None, codes}
 use Rattle.nbt_args.specs.declared.refusal.Refusal.{Refusal}
 use Rattle.nbt_args.specs.declared.refusal.Refusal.TheVariants as refusal
-use Rattle.nbt_engine.specs.Faults.{fault_status, fault_line}
-use Rattle.nbt_engine.specs.declared.fault.Fault.TheVariants.{Memory}
-use Rattle.nbt_offline.specs.declared.failure.Failure.{Failure as OfflineFailure}
-use Rattle.nbt_offline.specs.declared.failure.Failure.TheVariants as offline
+use Rattle.nbt_port.specs.Faults.{fault_status, fault_line}
+use Rattle.nbt_port.specs.declared.fault.Fault.TheVariants.{Memory}
+use Rattle.nbt_prog.specs.declared.offline.failure.Failure.{Failure as OfflineFailure}
+use Rattle.nbt_prog.specs.declared.offline.failure.Failure.TheVariants as offline
 use Rattle.nbt_text.specs.Lines.{one_line}
 use Rattle.nbt_prog.specs.declared.failure.Failure.{Failure}
 use Rattle.nbt_prog.specs.declared.failure.Failure.TheVariants.{Help, Usage, Unreadable, Complaint, Fault}

@@ -1,8 +1,8 @@
 -- How a command ends.
 use Rattle.std.specs.Prelude.{ℕ, List, Option, Some, Result, Ok, Err}
 use Rattle.std.specs.String.{string_bytes}
-use Rattle.nbt_offline.specs.Printed.{ending_status}
-use Rattle.nbt_offline.specs.declared.printed.Printed.{Printed}
+use Rattle.nbt_prog.specs.Printed.{ending_status}
+use Rattle.nbt_prog.specs.declared.offline.printed.Printed.{Printed}
 use Rattle.nbt_prog.specs.declared.failure.Failure.{Failure}
 use Rattle.nbt_prog.specs.Inner.Failure.{failure_status, failure_text}
 

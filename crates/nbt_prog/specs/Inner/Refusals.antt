@@ -5,7 +5,7 @@ use Rattle.nbt_name.specs.Wire.{NameValue}
 use Rattle.nbt_args.specs.declared.limits.LimitedArgument.TheVariants.{Life, Longest, Ttl, Turns}
 use Rattle.nbt_args.specs.declared.texts.NodeTexts.{NodeTexts}
 use Rattle.nbt_args.specs.declared.texts.ServeTexts.{ServeTexts}
-use Rattle.nbt_offline.specs.Texts.{IsAddress}
+use Rattle.nbt_prog.specs.Texts.{IsAddress}
 use Rattle.nbt_prog.specs.Inner.Failure.{failure_status, out_of_memory}
 use Rattle.nbt_prog.specs.Network.{SpellsHeld}
 use Rattle.nbt_prog.specs.Numbers.{IsWithin}

@@ -1,5 +1,5 @@
 -- What a stream holds, as the code has it: where its parts stand, and what came of a message.
-use Rattle.std.specs.Prelude.{◌≡◌, ℕ, ◌+◌, ◌≤◌, List, [], ◌∷◌, ◌++◌, length, take, Ok, Err}
+use Rattle.std.specs.Prelude.{◌≡◌, ℕ, ◌+◌, ◌≤◌, List, [], ◌++◌, length, take, Ok, Err}
 use Rattle.nbt_session.specs.declared.fault.StreamFault.TheVariants.{Malformed, OutOfMemory}
 use Rattle.nbt_session.specs.declared.packet.PacketType.TheVariants.{Message}
 use Rattle.nbt_session.specs.Packet.{header}

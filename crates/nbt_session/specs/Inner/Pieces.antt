@@ -1,5 +1,5 @@
 -- Where a stream in parts stands, as the code has it.
-use Rattle.std.specs.Prelude.{◌≡◌, ◌≤◌, []}
+use Rattle.std.specs.Prelude.{◌≡◌, []}
 use Rattle.nbt_session.specs.declared.coming.Coming.{Coming}
 use Rattle.nbt_session.specs.declared.pieces.Place.{Place}
 use Rattle.nbt_session.specs.declared.pieces.Place.TheVariants as places

@@ -14,29 +14,30 @@ use Rattle.nbt_node.specs.declared.state.State.TheVariants.{Idle}
 use Rattle.nbt_node.specs.Node.{NodeValue, state_of}
 use Rattle.nbt_world.specs.declared.clocks.Clocks.{Clocks}
 use Rattle.nbt_world.specs.Drift.{reading}
-use Rattle.nbt_world.specs.World.{WorldValue, IsDeliverable, addr_of, node_of}
+use Rattle.nbt_world.specs.World.{WorldValue, IsDeliverable, addr_of, node_of, latest}
 use Rattle.nbt_world.specs.Inner.Kept.{Asked, Replied, AsksAs, DrawnBy, known, last_sending, Wants, IsOpen, IsLeased, ClaimsIn}
 
 -- ---- leases
 
--- The live leases of a server that is up are sound.
+-- The live leases of the server are sound, also while it is down.
 abbrev pub LeasesAreSound : WorldValue → Type 0
-LeasesAreSound world = (server : ServerValue) → world.ends.server ≡ Some server → IsSound world.config (reading world.now 0) (leases_at (reading world.now 0) server.table.rows)
+LeasesAreSound world = (server : ServerValue) → latest world.ends ≡ Some server → IsSound world.config (reading world.now 0) (leases_at (reading world.now 0) server.table.rows)
 
 -- ---- claims
 
--- A live lease of this address and kind lasts until then, as the server reads, or its silence does, or, while the server is
--- down, the silence that it would begin with now.
+-- A live lease of this address and kind lasts until then, as the server reads, or its silence does, also while it is down.
 pub data CoversIn (world : WorldValue) (addr : Addr) (name : NameValue) (kind : Kind) (till : ℕ) : Type 0 where
-  by_lease : (server : ServerValue) → world.ends.server ≡ Some server → IsLeased (leases_at (reading world.now 0) server.table.rows name) addr.ip kind till → CoversIn world addr name kind till
-  by_silence : (server : ServerValue) → world.ends.server ≡ Some server → till ≤ speaks_from server → CoversIn world addr name kind till
-  while_down : world.ends.server ≡ None → till ≤ reading world.now 0 + 1000 * world.config.longest → CoversIn world addr name kind till
+  by_lease : (server : ServerValue) → latest world.ends ≡ Some server → IsLeased (leases_at (reading world.now 0) server.table.rows name) addr.ip kind till → CoversIn world addr name kind till
+  by_silence : (server : ServerValue) → latest world.ends ≡ Some server → till ≤ speaks_from server → CoversIn world addr name kind till
+  never_up : latest world.ends ≡ None → CoversIn world addr name kind till
 
 -- A claim that isn't over, as its node reads, is covered: from some moment at which the server replied, it ends no later
--- than the node may hold for some seconds, and what covers it lasts for as many, as the server reads.
+-- than the node may hold for some seconds, and what covers it lasts for as many, as the server reads; they end no later than
+-- a silence that would begin now.
 abbrev pub ClaimsAreCovered : WorldValue → Type 0
 ClaimsAreCovered world = (number : ℕ) (addr : Addr) (name : NameValue) (kind : Kind) (end : ℕ) → addr_of world.ends number ≡ Some addr → ClaimsIn world number addr name kind end → reading world.now number < end
     → (moment : Clocks) × (seconds : ℕ) × (end ≤ reading moment number + hold seconds) × CoversIn world addr name kind (reading moment 0 + 1000 * seconds)
+    × (reading moment 0 + 1000 * seconds ≤ reading world.now 0 + 1000 * world.config.longest)
 
 -- Two claims of different nodes on one name, neither of which is over, are both of a group.
 abbrev pub ClaimsAreOfGroups : WorldValue → Type 0

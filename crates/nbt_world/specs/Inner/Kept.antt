@@ -23,7 +23,7 @@ use Rattle.nbt_world.specs.declared.clocks.Least.{Least}
 use Rattle.nbt_world.specs.declared.ends.Ends.{Ends}
 use Rattle.nbt_world.specs.declared.network.Datagram.{Datagram}
 use Rattle.nbt_world.specs.Drift.{reading, ahead, behind, least_of, IsAllowed}
-use Rattle.nbt_world.specs.World.{WorldValue, nodes_most, IsDeliverable, addr_of, IsEnd, node_of}
+use Rattle.nbt_world.specs.World.{WorldValue, nodes_most, IsDeliverable, addr_of, IsEnd, node_of, latest}
 
 -- ---- what the network has of one node and one name
 
@@ -133,7 +133,7 @@ pub record IsLeased (leases : List Lease) (ip : ℕ) (kind : Kind) (till : ℕ) 
   pub among : Contains leases (record { addr = ip; kind = kind; end = end })
   pub lasts : till ≤ end
 
--- a live lease of this address lasts until then, or the server's silence does; a server that is down will be silent
+-- A live lease of this address lasts until then, or the server's silence does. One that never was up will be silent.
 abbrev pub Covers : (now : ℕ) → Option ServerValue → (ip : ℕ) → NameValue → Kind → (till : ℕ) → Type 0
 Covers now None ip name kind till = Unit {0}
 Covers now (Some server) ip name kind till = IsLeased (leases_at now server.table.rows name) ip kind till ⊎ (till ≤ speaks_from server)
@@ -189,8 +189,8 @@ pub record IsNodeOf (world : WorldValue) (number : ℕ) (addr : Addr) (node : No
   pub distinct : AreDistinct node.slots
   pub past : node.last ≤ reading world.now number
 
--- the server that is up has the world's limits, and sound leases, none of which ends later than the longest lease from
--- what it reads now
+-- The server, also while it is down, has the world's limits, and sound leases, none of which ends later than the longest
+-- lease from what it reads now.
 pub record IsServerOf (world : WorldValue) (server : ServerValue) : Type 0 where
   pub config_is : server.table.config ≡ world.config
   pub past : server.last ≤ reading world.now 0
@@ -230,7 +230,7 @@ abbrev pub ClaimsIn : WorldValue → (number : ℕ) → Addr → NameValue → K
 ClaimsIn world number addr name = Claims world.config.longest world.config.life world.now.clock (Replied world.sent world.ends.server_addr addr name) (known (node_of world.ends number) name)
 
 abbrev pub IsCoveredIn : WorldValue → (number : ℕ) → Addr → NameValue → Kind → (end : ℕ) → Type 0
-IsCoveredIn world number addr name = IsCovered world.config.longest number (Replied world.sent world.ends.server_addr addr name) (Covers (reading world.now 0) world.ends.server addr.ip name)
+IsCoveredIn world number addr name = IsCovered world.config.longest number (Replied world.sent world.ends.server_addr addr name) (Covers (reading world.now 0) (latest world.ends) addr.ip name)
 
 -- Each claim that isn't over, by its node's reading, is covered, and two of different nodes are both of a group.
 pub record ClaimsKept (world : WorldValue) : Type 0 where
@@ -245,7 +245,7 @@ pub record Invariant (world : WorldValue) : Type 0 where
   pub ends : AreEnds world.ends
   pub clocks : AreRead world
   pub nodes : (number : ℕ) (addr : Addr) (node : NodeValue) → addr_of world.ends number ≡ Some addr → node_of world.ends number ≡ Some node → IsNodeOf world number addr node
-  pub server : (server : ServerValue) → world.ends.server ≡ Some server → IsServerOf world server
+  pub server : (server : ServerValue) → latest world.ends ≡ Some server → IsServerOf world server
   pub sent : (d : Datagram) → Contains world.sent d → IsSent world.ends world.now world.least d
   -- where the readings kept the drift bound so far
   pub requests : IsTrue world.kept → (number : ℕ) (addr : Addr) (name : NameValue) → addr_of world.ends number ≡ Some addr

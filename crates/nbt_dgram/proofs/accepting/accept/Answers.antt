@@ -3,7 +3,8 @@ use Rattle.nbt_name.specs.declared.addr.Addr.{Addr}
 use Rattle.nbt_node.specs.Node.{NodeValue}
 use Rattle.nbt_dgram.specs.Dgram.{fragment_of, body_of, dgram_of, fragment, DgramIs, FragmentValue, DgramValue}
 use Rattle.nbt_dgram.specs.Joiner.{JoinerValue}
-use Rattle.nbt_dgram.specs.Accepting.{AcceptValue, Accepts, PutsUp, to_all, to_some, unreadable, error_told, lookup_ignored, broadcast_ignored, is_put}
+use Rattle.nbt_dgram.specs.Accepting.{AcceptValue, Accepts, unreadable, error_told, lookup_ignored, broadcast_ignored, is_put}
+use Rattle.nbt_dgram.specs.Inner.Accepting.{PutsUp, to_all, to_some}
 use Rattle.nbt_dgram.proofs.accepting.accept.Goals as goal
 
 pub returns-in_default : goal.returns-in_default

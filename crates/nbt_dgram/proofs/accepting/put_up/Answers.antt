@@ -1,5 +1,6 @@
 use Rattle.nbt_dgram.specs.Joiner.{waiting, dropped, whole, octets_of}
-use Rattle.nbt_dgram.specs.Accepting.{to_all, to_some, unfinished, was_dropped}
+use Rattle.nbt_dgram.specs.Accepting.{unfinished, was_dropped}
+use Rattle.nbt_dgram.specs.Inner.Accepting.{to_all, to_some}
 use Rattle.nbt_dgram.proofs.accepting.put_up.Goals as goal
 
 pub returns-then-is : goal.returns-then-is

@@ -1,8 +1,8 @@
 use Rattle.std.proofs.Common.{◌<◌, ◌≤◌, sym, arith}
 use Rattle.nbt_dgram.specs.Dgram.{fragment_of}
 use Rattle.nbt_dgram.specs.Fragments.{end_of}
-use Rattle.nbt_dgram.specs.Joiner.{joined_of, too_long}
-use Rattle.nbt_dgram.proofs.SlotLists.{all_emptied_room, begins_room, begins_join, taken, waits_join, done_join, join_at_room, not_waiting}
+use Rattle.nbt_dgram.specs.Joiner.{joined_of, is_of, too_long}
+use Rattle.nbt_dgram.proofs.SlotLists.{all_cleared_room, begins_room, begins_join, taken, waits_join, done_join, join_at_room, not_waiting}
 use Rattle.nbt_dgram.proofs.slots.join.Goals as goal
 
 pub returns-then-end-gt-DATA_MOST-clause-joins : goal.returns-then-end-gt-DATA_MOST-clause-joins
@@ -11,7 +11,7 @@ returns-then-end-gt-DATA_MOST-clause-joins c =
     rw c.empty.ensures (too_long above)
 
 pub returns-then-end-gt-DATA_MOST-clause-room : goal.returns-then-end-gt-DATA_MOST-clause-room
-returns-then-end-gt-DATA_MOST-clause-room c = rw c.empty.ensures (all_emptied_room c.args.key c.args.slots.now c.requires)
+returns-then-end-gt-DATA_MOST-clause-room c = rw c.empty.ensures (all_cleared_room (is_of c.args.key) c.args.slots.now c.requires)
 
 pub returns-in_default-clause-joins : goal.returns-in_default-clause-joins
 returns-in_default-clause-joins c =
@@ -43,5 +43,5 @@ returns-in_default-join_at c =
       joins = done_join c.args.slots.now c.join_at.new.slots c.empty-in_default-join_at.new.slots c.args.now c.args.key c.in-Some.place (fragment_of c.args.fragment.now) (joined_of c.join_at.result) fits
           (sym c.in-Some.ensures) c.join_at.ensures (not_waiting c.join_at.result c.in_default-join_at.not-Waiting) c.empty-in_default-join_at.ensures;
       room = rw c.empty-in_default-join_at.ensures
-          (all_emptied_room c.args.key c.join_at.new.slots (join_at_room c.args.slots.now c.join_at.new.slots c.in-Some.place (fragment_of c.args.fragment.now) (joined_of c.join_at.result) fits c.requires c.join_at.ensures));
+          (all_cleared_room (is_of c.args.key) c.join_at.new.slots (join_at_room c.args.slots.now c.join_at.new.slots c.in-Some.place (fragment_of c.args.fragment.now) (joined_of c.join_at.result) fits c.requires c.join_at.ensures));
     }

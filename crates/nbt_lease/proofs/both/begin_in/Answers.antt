@@ -1,9 +1,5 @@
 use Rattle.std.proofs.Common.{Some, List, sym, ap, ◌∙◌}
-use Rattle.std.specs.Map.{lookup}
-use Rattle.std.proofs.lemmas.Map.Steps.{set_value_same}
-use Rattle.nbt_lease.specs.declared.lease.Lease.{Lease}
-use Rattle.nbt_name.specs.Wire.{same_name}
-use Rattle.nbt_lease.specs.Inner.Index.{Entries}
+use Rattle.nbt_lease.proofs.Common.{lookup, set_value_same, Lease, same_name, Entries}
 use Rattle.nbt_lease.proofs.Agreeing.{on_err}
 use Rattle.nbt_lease.proofs.both.begin_in.Goals as goal
 

@@ -1,8 +1,5 @@
 use Rattle.std.proofs.Common.{◌≡◌, ◌++◌, ◌∷◌, List, map, sym, ap, ◌∙◌, append_assoc}
-use Rattle.nbt_name.specs.Wire.{NameValue}
-use Rattle.nbt_lease.specs.declared.lease.Lease.{Lease}
-use Rattle.nbt_lease.specs.Lease.{Rows}
-use Rattle.nbt_lease.specs.Inner.Index.{Entries, rows_of}
+use Rattle.nbt_lease.proofs.Common.{NameValue, Lease, Rows, Entries, rows_of}
 use Rattle.nbt_lease.proofs.index.list_in.Goals as goal
 
 -- the leases of one name more

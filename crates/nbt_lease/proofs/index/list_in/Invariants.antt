@@ -1,5 +1,5 @@
 use Rattle.std.proofs.Common.{◌≡◌, ◌++◌, length}
-use Rattle.nbt_lease.specs.Inner.Index.{rows_of}
+use Rattle.nbt_lease.proofs.Common.{rows_of}
 use Rattle.nbt_lease.proofs.index.list_in.Given as goal
 
 abbrev pub invariant-names : goal.invariant-names

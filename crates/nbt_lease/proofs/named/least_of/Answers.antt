@@ -1,7 +1,5 @@
 use Rattle.std.proofs.Common.{◌+◌, ℕ, Some, List, take, refl, sym, subst, arith}
-use Rattle.std.proofs.lemmas.List.{take_all}
-use Rattle.nbt_lease.specs.declared.lease.Lease.{Lease}
-use Rattle.nbt_lease.specs.Rules.{IsLeastEnd}
+use Rattle.nbt_lease.proofs.Common.{take_all, Lease, IsLeastEnd}
 use Rattle.nbt_lease.proofs.Least.{one_on}
 use Rattle.nbt_lease.proofs.named.least_of.Goals as goal
 

@@ -1,11 +1,5 @@
-use Rattle.std.proofs.Common.{◌≡◌, ◌+◌, ℕ, ◌<◌, ◌≤◌, [], ◌∷◌, ◌++◌, length, false, Err, Ok, sym, ap, subst, ◌∙◌, arith}
-use Rattle.nbt_lease.specs.declared.lease.Grant.{Grant}
-use Rattle.nbt_lease.specs.declared.lease.Lease.{Lease}
-use Rattle.nbt_lease.specs.declared.fault.GrantFault.TheVariants.{TableFull, OutOfMemory}
-use Rattle.nbt_lease.specs.Lease.{at_name}
-use Rattle.nbt_lease.specs.Rules.{begun, end_of, table_full}
-use Rattle.nbt_lease.specs.Inner.Index.{members_of}
-use Rattle.nbt_lease.specs.Inner.Placing.{Places}
+use Rattle.std.proofs.Common.{[], ◌∷◌, ◌++◌, false, Ok, sym, ap, subst, ◌∙◌, arith}
+use Rattle.nbt_lease.proofs.Common.{Grant, Lease, TableFull, at_name, table_full, members_of, Places}
 use Rattle.nbt_lease.proofs.Placing.{refuses, runs_out, begins_lease}
 use Rattle.nbt_lease.proofs.table.begin.Goals as goal
 

@@ -1,12 +1,5 @@
-use Rattle.std.proofs.Common.{◌≡◌, List, [], length, refl, sym, ap, subst, ◌∙◌, arith}
-use Rattle.std.proofs.lemmas.Bool.{both_ways, eq-eqb}
-use Rattle.std.proofs.lemmas.List.{nil_from_length}
-use Rattle.nbt_lease.specs.declared.lease.Lease.{Lease}
-use Rattle.nbt_lease.specs.declared.lease.Released.TheVariants.{NoLease, OfOthers}
-use Rattle.nbt_lease.specs.Lease.{Leases, leases_at}
-use Rattle.nbt_lease.specs.Rules.{no_lease, of_others}
-use Rattle.nbt_lease.specs.Inner.Index.{members_of}
-use Rattle.nbt_lease.proofs.Dues.{same_number}
+use Rattle.std.proofs.Common.{◌≡◌, [], length, refl, sym, ap, ◌∙◌}
+use Rattle.nbt_lease.proofs.Common.{both_ways, eq-eqb, nil_from_length, NoLease, OfOthers, Leases, no_lease, of_others, members_of, eqb-true}
 use Rattle.nbt_lease.proofs.Placing.{takes_back, releases_none, none_so, false_is}
 use Rattle.nbt_lease.proofs.table.end_lease.Goals as goal
 
@@ -16,7 +9,7 @@ returns-then-end-clause-rule c table now holds = takes_back table now c.args.nam
 pub returns-then-is_empty-clause-rule : goal.returns-then-is_empty-clause-rule
 returns-then-is_empty-clause-rule c table now holds =
     let same = false_is c.end.result _ c.if-end.false c.end.ensures.unchanged in
-    let none : c.members.result.now ≡ [] = nil_from_length c.members.result.now (same_number (length c.members.result.now) 0 (sym c.is_empty.ensures ∙ c.if-is_empty.true)) in
+    let none : c.members.result.now ≡ [] = nil_from_length c.members.result.now (eqb-true (length c.members.result.now) 0 (sym c.is_empty.ensures ∙ c.if-is_empty.true)) in
     releases_none table now c.args.name.now c.args.addr NoLease (members_of c.end.new.self) (same ∙ holds.leases)
     (no_lease (ap (λ (f : Leases). f c.args.name.now) (sym (same ∙ holds.leases)) ∙ (sym c.members.ensures ∙ none)))
 

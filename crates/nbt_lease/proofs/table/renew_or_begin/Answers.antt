@@ -1,13 +1,6 @@
-use Rattle.std.proofs.Common.{◌≡◌, ℕ, ◌<◌, ◌≤◌, length, Bool, true, false, Option, Some, Err, Ok, IfOk, refl, sym, ap, subst, ◌∙◌, arith}
-use Rattle.std.specs.Option.{IfSome, IfNone}
-use Rattle.std.proofs.lemmas.Bool.{both_ways}
-use Rattle.nbt_lease.specs.declared.lease.Lease.{Lease}
-use Rattle.nbt_lease.specs.declared.fault.GrantFault.TheVariants.{Active, GroupFull, OutOfMemory}
-use Rattle.nbt_lease.specs.Lease.{Leases, leases_at, HasNone}
-use Rattle.nbt_lease.specs.Rules.{active, group_full}
-use Rattle.nbt_lease.specs.Inner.Index.{members_of, Renewed, Moves}
-use Rattle.nbt_lease.specs.Inner.Placing.{Places}
-use Rattle.nbt_lease.proofs.Placing.{ok_is, err_is, none_is, room_left, holds_on, stands_so, none_so, refuses, renews_lease, runs_out_moving}
+use Rattle.std.proofs.Common.{ℕ, length, true, Option, Ok, sym, ap, subst, ◌∙◌, arith}
+use Rattle.nbt_lease.proofs.Common.{IfSome, both_ways, IfOk-at_ok, Lease, Active, GroupFull, Leases, leases_at, HasNone, active, group_full, members_of, Renewed, Moves, Places}
+use Rattle.nbt_lease.proofs.Placing.{err_is, none_is, room_left, holds_on, stands_so, none_so, refuses, renews_lease, runs_out_moving}
 use Rattle.nbt_lease.proofs.table.renew_or_begin.Goals as goal
 
 pub returns-then-not-allows-clause-rule : goal.returns-then-not-allows-clause-rule
@@ -29,7 +22,7 @@ pub returns-in-Some-clause-rule : goal.returns-in-Some-clause-rule
 returns-in-Some-clause-rule c table now a holds most_is lease_is seconds_is =
     let found = stands_so table now c.args.name.now c.args.lease.addr a.addr c.args.index.now c.members.result.now c.find-standing.result holds (ap (λ (l : Lease). l.addr) lease_is) c.members.ensures c.find-standing.ensures in
     let allows = c.allows.ensures (leases_at now table.rows c.args.name.now) a found (sym (ap (λ (l : Lease). l.kind) lease_is)) in
-    let renewed = ok_is c.renew.result c.in-Ok.renewed _ c.in-Ok.is c.renew.ensures.renewed in
+    let renewed = IfOk-at_ok _ c.in-Ok.is c.renew.ensures.renewed in
     let here = subst (λ (o : Option ℕ). IfSome o (λ until. Renewed c.args.index.now c.args.name.now c.args.lease.addr c.args.lease.end until (members_of c.renew.new.self))) c.in-Some.is renewed in
     subst (λ (s : ℕ). Places table now c.args.name.now a (Ok (record { seconds = s; end = c.in-Some.end; renewed = true })) (members_of c.renew.new.self)) (sym seconds_is)
     (renews_lease table now c.args.name.now a c.args.index.now c.in-Some.end (members_of c.renew.new.self) holds (allows.0 c.if-not-allows.false)
@@ -39,23 +32,23 @@ pub returns-then-is_full-clause-rule : goal.returns-then-is_full-clause-rule
 returns-then-is_full-clause-rule c table now a holds most_is lease_is seconds_is =
     let found = stands_so table now c.args.name.now c.args.lease.addr a.addr c.args.index.now c.members.result.now c.find-standing.result holds (ap (λ (l : Lease). l.addr) lease_is) c.members.ensures c.find-standing.ensures in
     let allows = c.allows.ensures (leases_at now table.rows c.args.name.now) a found (sym (ap (λ (l : Lease). l.kind) lease_is)) in
-    let none = none_is c.in-Ok.renewed _ c.in_default-renewed.not-Some (ok_is c.renew.result c.in-Ok.renewed _ c.in-Ok.is c.renew.ensures.none) in
-    let same = none_is c.in-Ok.renewed _ c.in_default-renewed.not-Some (ok_is c.renew.result c.in-Ok.renewed _ c.in-Ok.is c.renew.ensures.none_left) in
+    let none = none_is c.in-Ok.renewed _ c.in_default-renewed.not-Some (IfOk-at_ok _ c.in-Ok.is c.renew.ensures.none) in
+    let same = none_is c.in-Ok.renewed _ c.in_default-renewed.not-Some (IfOk-at_ok _ c.in-Ok.is c.renew.ensures.none_left) in
     refuses table now c.args.name.now a GroupFull (members_of c.renew.new.self) (λ e. cc) (same ∙ holds.leases)
     (group_full (allows.0 c.if-not-allows.false) (none_so table now c.args.name.now c.args.lease.addr a.addr c.args.index.now holds (ap (λ (l : Lease). l.addr) lease_is) none) (omega (arith, found.members, c.is_full.ensures.0 c.if-is_full.true)))
 
 pub begin-requires-clause-none : goal.begin-requires-clause-none
 begin-requires-clause-none c =
-    let none = none_is c.in-Ok.renewed _ c.in_default-renewed.not-Some (ok_is c.renew.result c.in-Ok.renewed _ c.in-Ok.is c.renew.ensures.none) in
-    let same = none_is c.in-Ok.renewed _ c.in_default-renewed.not-Some (ok_is c.renew.result c.in-Ok.renewed _ c.in-Ok.is c.renew.ensures.none_left) in
+    let none = none_is c.in-Ok.renewed _ c.in_default-renewed.not-Some (IfOk-at_ok _ c.in-Ok.is c.renew.ensures.none) in
+    let same = none_is c.in-Ok.renewed _ c.in_default-renewed.not-Some (IfOk-at_ok _ c.in-Ok.is c.renew.ensures.none_left) in
     subst (λ (f : Leases). HasNone c.args.lease.addr (f c.args.name.now)) (sym same) none
 
 pub returns-clause-rule : goal.returns-clause-rule
 returns-clause-rule c table now a holds most_is lease_is seconds_is =
     let found = stands_so table now c.args.name.now c.args.lease.addr a.addr c.args.index.now c.members.result.now c.find-standing.result holds (ap (λ (l : Lease). l.addr) lease_is) c.members.ensures c.find-standing.ensures in
     let allows = c.allows.ensures (leases_at now table.rows c.args.name.now) a found (sym (ap (λ (l : Lease). l.kind) lease_is)) in
-    let none = none_is c.in-Ok.renewed _ c.in_default-renewed.not-Some (ok_is c.renew.result c.in-Ok.renewed _ c.in-Ok.is c.renew.ensures.none) in
-    let same = none_is c.in-Ok.renewed _ c.in_default-renewed.not-Some (ok_is c.renew.result c.in-Ok.renewed _ c.in-Ok.is c.renew.ensures.none_left) in
+    let none = none_is c.in-Ok.renewed _ c.in_default-renewed.not-Some (IfOk-at_ok _ c.in-Ok.is c.renew.ensures.none) in
+    let same = none_is c.in-Ok.renewed _ c.in_default-renewed.not-Some (IfOk-at_ok _ c.in-Ok.is c.renew.ensures.none_left) in
     c.begin.ensures.rule table now a (holds_on table now c.args.index.now c.renew.new.self holds same c.renew.ensures.count) most_is lease_is seconds_is
     (record {
       allowed = allows.0 c.if-not-allows.false;

@@ -1,6 +1,5 @@
 use Rattle.std.proofs.Common.{refl, arith}
-use Rattle.std.proofs.lemmas.List.{nil_from_length}
-use Rattle.nbt_name.specs.Scope.{empty}
+use Rattle.nbt_name.proofs.Common.{nil_from_length, empty}
 use Rattle.nbt_name.proofs.Scopes.{scope_behind}
 use Rattle.nbt_name.proofs.name.is_scope.Goals as goal
 

@@ -1,5 +1,5 @@
 use Rattle.std.proofs.Common.{◌↔◌, length}
-use Rattle.nbt_name.specs.Scope.{IsScope}
+use Rattle.nbt_name.proofs.Common.{IsScope}
 use Rattle.nbt_name.proofs.name.is_scope.Given as goal
 
 abbrev pub invariant-loop-count : goal.invariant-loop-count

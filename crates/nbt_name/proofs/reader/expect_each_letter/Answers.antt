@@ -1,7 +1,5 @@
 use Rattle.std.proofs.Common.{◌+◌, arith, sym, ltb-true, ltb-false}
-use Rattle.std.proofs.lemmas.Bool.{both_ways}
-use Rattle.std.proofs.lemmas.List.{get_or_read}
-use Rattle.nbt_name.specs.Reading.{other_octet, octets_end}
+use Rattle.nbt_name.proofs.Common.{both_ways, get_or_read, other_octet, octets_end}
 use Rattle.nbt_name.proofs.reader.expect_each_letter.Goals as goal
 
 pub returns-in_default-clause-fault : goal.returns-in_default-clause-fault

@@ -1,5 +1,5 @@
 use Rattle.std.proofs.Common.{◌+◌, ◌≤◌, length}
-use Rattle.nbt_name.specs.Reading.{LettersAt}
+use Rattle.nbt_name.proofs.Common.{LettersAt}
 use Rattle.nbt_name.proofs.reader.expect_each_letter.Given as goal
 
 abbrev pub invariant-loop-k : goal.invariant-loop-k

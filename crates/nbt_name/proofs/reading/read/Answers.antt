@@ -1,9 +1,5 @@
 use Rattle.std.proofs.Common.{refl, sym, ap, subst, arith, ℕ, ◌+◌}
-use Rattle.std.proofs.lemmas.Result.{err_from_is_err_and}
-use Rattle.nbt_name.specs.declared.reader.Reader.{Reader}
-use Rattle.nbt_name.specs.Wire.{IsName, AreOctets, name_of}
-use Rattle.nbt_name.specs.Reading.{Spot}
-use Rattle.nbt_name.specs.Inner.Reader.{passed_of, spot_of}
+use Rattle.nbt_name.proofs.Common.{err_from_is_err_and, Reader, IsName, AreOctets, name_of, Spot, passed_of, spot_of}
 use Rattle.nbt_name.proofs.Passing.{later_passed}
 use Rattle.nbt_name.proofs.WireForms.{IsPassed, nothing, path_passed, closed_name}
 use Rattle.nbt_name.proofs.Ends.{step_within, step_works}

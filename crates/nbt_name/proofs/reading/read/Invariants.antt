@@ -1,5 +1,5 @@
 use Rattle.std.proofs.Common.{◌+◌, ◌≤◌, length}
-use Rattle.nbt_name.specs.Inner.Reader.{spot_of}
+use Rattle.nbt_name.proofs.Common.{spot_of}
 use Rattle.nbt_name.proofs.Ends.{work}
 use Rattle.nbt_name.proofs.Counts.{OnPath, IsCounted}
 use Rattle.nbt_name.proofs.reading.read.Given as goal

@@ -1,10 +1,11 @@
-use Rattle.nbt_name.specs.declared.form.Form.TheVariants.{Compressed}
-use Rattle.nbt_name.proofs.Ends.{name_iff, fault_iff, result_within}
+use Rattle.nbt_name.proofs.Common.{Compressed}
+use Rattle.nbt_name.proofs.Ends.{result_within}
+use Rattle.nbt_name.proofs.Readers.{reads_stands, value_iff, fault_iff}
 use Rattle.nbt_name.proofs.reading.read_in.Goals as goal
 
 pub returns : goal.returns
 returns c = record {
-  name = name_iff Compressed c.args.octets.now c.args.place c.read_uncounted.result c.read_uncounted.ensures.name c.read_uncounted.ensures.fault;
-  fault = fault_iff Compressed c.args.octets.now c.args.place c.read_uncounted.result c.read_uncounted.ensures.name c.read_uncounted.ensures.fault;
+  name = λ name next. value_iff (reads_stands Compressed c.args.octets.now c.args.place) c.read_uncounted.result c.read_uncounted.ensures.name c.read_uncounted.ensures.fault (name, next);
+  fault = fault_iff (reads_stands Compressed c.args.octets.now c.args.place) c.read_uncounted.result c.read_uncounted.ensures.name c.read_uncounted.ensures.fault;
   within = result_within Compressed c.args.octets.now c.args.place c.read_uncounted.result c.read_uncounted.ensures.name;
 }

@@ -1,8 +1,8 @@
 use Rattle.std.proofs.Common.{ℕ, Bool, true, false, List, Option, Some, None, refl}
 use Rattle.std.specs.Prelude.{IsTrue}
 use Rattle.std.specs.Io.KnownBytes.{Appends}
-use Rattle.nbt_journal.specs.Limiting.{LimiterValue}
-use Rattle.nbt_journal.specs.declared.dates.Dates.{Dates}
+use Rattle.nbt_log.specs.Limiting.{LimiterValue}
+use Rattle.nbt_log.specs.declared.dates.Dates.{Dates}
 use Rattle.nbt_nbns.specs.Journaling.{LogsIn, no_log, logged, not_logged}
 use Rattle.nbt_nbns.specs.Logging.{Logs}
 use Rattle.nbt_nbns.specs.declared.staying.Shown.{Shown}

@@ -1,8 +1,8 @@
 use Rattle.std.proofs.Common.{◌≡◌, ℕ, [], refl, sym, ap, subst, ◌∙◌, append-nil}
 use Rattle.std.specs.String.{string_bytes}
 use Rattle.nbt_text.proofs.Joining.{OnOk-map}
-use Rattle.nbt_journal.specs.Dates.{second_at}
-use Rattle.nbt_journal.specs.Lines.{IsLine}
+use Rattle.nbt_log.specs.Dates.{second_at}
+use Rattle.nbt_log.specs.Lines.{IsLine}
 use Rattle.nbt_nbns.specs.Logging.{nothing, stranger, left_out, other}
 use Rattle.nbt_nbns.proofs.logger.write_limited.Goals as goal
 

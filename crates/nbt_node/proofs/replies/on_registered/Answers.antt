@@ -1,6 +1,6 @@
 use Rattle.std.proofs.Common.{refl, sym, ◌∙◌}
 use Rattle.nbt_packet.specs.Message.{registered}
-use Rattle.nbt_node.proofs.Table.{stays, differs, asking_demanded, held_demanded, asking_refused, held_refused, asking_granted, held_renewed}
+use Rattle.nbt_node.proofs.Table.{stays, not_registering, differs, asking_demanded, held_demanded, asking_refused, held_refused, asking_granted, held_renewed}
 use Rattle.nbt_node.proofs.replies.on_registered.Goals as goal
 
 pub returns-then-asked-id : goal.returns-then-asked-id
@@ -40,14 +40,6 @@ returns-else-rcode-ne0-2 c = λ node now name r id_is seconds_is.
     held_renewed node now name c.args.state.now _ c.in-Held.kind c.in-Held.ttl c.in-Held.until c.in-Held.renew c.in-Held.last c.in-Held.pending c.in-Some.refresh c.args.rcode c.args.seconds r
     c.in-Held.is c.in-Some.is (id_is ∙ sym c.if-refresh-id.false) c.if-rcode-ne0-2.false seconds_is c.hold-in-Some.ensures
 
-pub returns-in-Idle : goal.returns-in-Idle
-returns-in-Idle c = λ node now name r id_is seconds_is.
-    stays node now name c.args.state.now _ (registered c.args.rcode r) _ c.unmoved.ensures.state c.unmoved.ensures.told (rw c.in-Idle.is refl)
-
-pub returns-in-Releasing : goal.returns-in-Releasing
-returns-in-Releasing c = λ node now name r id_is seconds_is.
-    stays node now name c.args.state.now _ (registered c.args.rcode r) _ c.unmoved-in-Releasing.ensures.state c.unmoved-in-Releasing.ensures.told (rw c.in-Releasing.is refl)
-
-pub returns-in-Resting : goal.returns-in-Resting
-returns-in-Resting c = λ node now name r id_is seconds_is.
-    stays node now name c.args.state.now _ (registered c.args.rcode r) _ c.unmoved-in-Resting.ensures.state c.unmoved-in-Resting.ensures.told (rw c.in-Resting.is refl)
+pub returns-in_default : goal.returns-in_default
+returns-in_default c = λ node now name r id_is seconds_is.
+    stays node now name c.args.state.now _ (registered c.args.rcode r) _ c.unmoved.ensures.state c.unmoved.ensures.told (not_registering c.args.state.now c.args.rcode r c.in_default.not-Asking c.in_default.not-Held)

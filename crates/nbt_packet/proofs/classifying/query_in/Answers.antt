@@ -1,6 +1,4 @@
-use Rattle.std.proofs.lemmas.Result.{IfErr-weaker}
-use Rattle.nbt_packet.specs.Packet.{packet_of}
-use Rattle.nbt_packet.specs.Reasons.{asking, finding, denying}
+use Rattle.nbt_packet.proofs.Common.{IfErr-weaker, packet_of, asking, finding, denying}
 use Rattle.nbt_packet.proofs.Reasons.{is_reason}
 use Rattle.nbt_packet.proofs.classifying.query_in.Goals as goal
 

@@ -1,9 +1,5 @@
 use Rattle.std.proofs.Common.{◌≡◌, ◌≢◌, ℕ, sym, ◌∙◌, subst, arith}
-use Rattle.std.proofs.lemmas.Bool.{true≢false}
-use Rattle.std.proofs.lemmas.Result.{IfErr-weaker}
-use Rattle.nbt_packet.specs.Message.{IsRequest, IsResponse, opcode_of}
-use Rattle.nbt_packet.specs.Packet.{packet_of}
-use Rattle.nbt_packet.specs.Reasons.{Shape, asking, claiming, confirming, finding, denying, waiting, HasShape, IsOfEntry, no_shape}
+use Rattle.nbt_packet.proofs.Common.{true≢false, IfErr-weaker, IsRequest, IsResponse, opcode_of, packet_of, Shape, asking, claiming, confirming, finding, denying, waiting, HasShape, IsOfEntry, no_shape}
 use Rattle.nbt_packet.proofs.Reasons.{is_reason}
 use Rattle.nbt_packet.proofs.classifying.try_classify.Goals as goal
 use Rattle.nbt_packet.proofs.classifying.try_classify.Goals.{else-opcode-eq-OPCODE_WACK-via-then-opcode-eq-OPCODE_WACK+else-not-is_request, else-opcode-eq-OPCODE_WACK-via-else-opcode-eq-OPCODE_WACK}

@@ -1,5 +1,4 @@
-use Rattle.std.proofs.lemmas.Result.{err_from_is_err_and}
-use Rattle.nbt_packet.specs.Inner.Decoding.{cut, great}
+use Rattle.nbt_packet.proofs.Common.{err_from_is_err_and, cut, great}
 use Rattle.nbt_packet.proofs.decoding.count.Goals as goal
 
 pub returns-in_err-count-clause-fault : goal.returns-in_err-count-clause-fault

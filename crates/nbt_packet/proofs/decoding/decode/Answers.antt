@@ -1,8 +1,5 @@
 use Rattle.std.proofs.Common.{ℕ, List, Result, Ok, Err}
-use Rattle.std.specs.Prelude.{IfOk, IfErr}
-use Rattle.nbt_packet.specs.declared.fault.Fault.{Fault}
-use Rattle.nbt_packet.specs.declared.packet.Packet.{Packet}
-use Rattle.nbt_packet.specs.Packet.{PacketIs, PacketFault, packet_of, decoded}
+use Rattle.nbt_packet.proofs.Common.{IfOk, IfErr, Fault, Packet, PacketIs, PacketFault, packet_of, decoded}
 use Rattle.nbt_name.proofs.Readers.{value_iff, fault_iff}
 use Rattle.nbt_packet.proofs.OnePacket.{reads_packet}
 use Rattle.nbt_packet.proofs.decoding.decode.Goals as goal

@@ -1,6 +1,5 @@
 use Rattle.std.proofs.Common.{arith}
-use Rattle.std.proofs.lemmas.Result.{err_from_is_err_and}
-use Rattle.nbt_packet.specs.Packet.{header_cut, questions, answers, authorities, additionals}
+use Rattle.nbt_packet.proofs.Common.{err_from_is_err_and, header_cut, questions, answers, authorities, additionals}
 use Rattle.nbt_packet.proofs.Header.{counts_fit, count_fault}
 use Rattle.nbt_packet.proofs.decoding.header_of.Goals as goal
 

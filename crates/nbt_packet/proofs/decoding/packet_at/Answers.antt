@@ -1,6 +1,5 @@
 use Rattle.std.proofs.Common.{sym, ◌∙◌}
-use Rattle.std.proofs.lemmas.Result.{err_from_is_err_and}
-use Rattle.nbt_packet.specs.Packet.{QuestionAt, RecordAt, question_bad, answer_bad, additional_bad, record_if}
+use Rattle.nbt_packet.proofs.Common.{err_from_is_err_and, QuestionAt, RecordAt, question_bad, answer_bad, additional_bad, record_if}
 use Rattle.nbt_packet.proofs.Header.{questions_most, answers_most, additionals_most, section_by}
 use Rattle.nbt_packet.proofs.decoding.packet_at.Goals as goal
 

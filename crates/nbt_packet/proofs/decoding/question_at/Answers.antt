@@ -1,6 +1,5 @@
 use Rattle.std.proofs.Common.{arith, refl}
-use Rattle.std.proofs.lemmas.Result.{err_from_is_err_and}
-use Rattle.nbt_packet.specs.Packet.{question_name, question_cut}
+use Rattle.nbt_packet.proofs.Common.{err_from_is_err_and, question_name, question_cut}
 use Rattle.nbt_packet.proofs.decoding.question_at.Goals as goal
 
 pub returns-in_err-name-clause-fault : goal.returns-in_err-name-clause-fault

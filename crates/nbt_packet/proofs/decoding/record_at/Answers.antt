@@ -1,8 +1,5 @@
 use Rattle.std.proofs.Common.{◌≡◌, ◌+◌, arith, refl, ap, ◌∙◌, ℕ}
-use Rattle.std.specs.Prelude.{slice_range}
-use Rattle.nbt_name.specs.Words.{word_at}
-use Rattle.std.proofs.lemmas.Result.{err_from_is_err_and}
-use Rattle.nbt_packet.specs.Packet.{record_name, record_cut, rdata_cut}
+use Rattle.nbt_packet.proofs.Common.{slice_range, word_at, err_from_is_err_and, record_name, record_cut, rdata_cut}
 use Rattle.nbt_packet.proofs.decoding.record_at.Goals as goal
 
 pub returns-in_err-name-clause-fault : goal.returns-in_err-name-clause-fault

@@ -1,5 +1,5 @@
 use Rattle.std.proofs.Common.{◌≡◌, ℕ, inl, inr}
-use Rattle.nbt_packet.specs.Packet.{PacketValue}
+use Rattle.nbt_packet.proofs.Common.{PacketValue}
 use Rattle.nbt_packet.proofs.OnePacket.{reads_packet}
 use Rattle.nbt_packet.proofs.laws.one_packet_or_fault.Goals as goal
 

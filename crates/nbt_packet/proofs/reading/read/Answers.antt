@@ -1,7 +1,5 @@
 use Rattle.std.proofs.Common.{◌≡◌, ℕ, refl, ap}
-use Rattle.std.specs.Prelude.{Result, Ok}
-use Rattle.nbt_packet.specs.declared.fault.Fault.{Fault}
-use Rattle.nbt_packet.specs.Packet.{PacketValue, packet_of}
+use Rattle.nbt_packet.proofs.Common.{Result, Ok, Fault, PacketValue, packet_of}
 use Rattle.nbt_packet.proofs.reading.read.Goals as goal
 
 one_read : {x y : PacketValue × ℕ} → ◌≡◌ {A = Result (PacketValue × ℕ) Fault} (Ok x) (Ok y) → x ≡ y

@@ -1,9 +1,5 @@
 use Rattle.std.proofs.Common.{rules, ◌≡◌, ℕ, ◌≤◌, ◌<◌, List, [], length, refl, subst, sym, ◌∙◌, arith, false}
-use Rattle.std.specs.Prelude.{Result, Ok, Err, is_ok, IsErr}
-use Rattle.std.proofs.lemmas.List.{append-nil}
-use Rattle.nbt_packet.specs.Message.{message_of}
-use Rattle.nbt_packet.specs.Text.{text}
-use Rattle.nbt_packet.specs.Spelling.{Spells}
+use Rattle.nbt_packet.proofs.Common.{Result, Ok, Err, is_ok, IsErr, append-nil, message_of, text, Spells}
 use Rattle.nbt_packet.proofs.writing.write.Goals as goal
 
 is_error : {A E : Type 0} (r : Result A E) → is_ok r ≡ false → IsErr r

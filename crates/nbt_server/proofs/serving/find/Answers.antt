@@ -1,8 +1,5 @@
 use Rattle.std.proofs.Common.{ap, refl, subst, arith}
-use Rattle.nbt_packet.specs.Text.{entries_most}
-use Rattle.nbt_lease.specs.Config.{ConfigValue}
-use Rattle.nbt_lease.specs.Lease.{leases_at, latest_end}
-use Rattle.nbt_lease.specs.Rules.{IsLeastEnd}
+use Rattle.nbt_server.proofs.Common.{entries_most, ConfigValue, leases_at, latest_end, IsLeastEnd}
 use Rattle.nbt_server.proofs.Rules.{entries_fit, entries_short, ends_in_time, does_find, does_find_none}
 use Rattle.nbt_server.proofs.serving.find.Goals as goal
 

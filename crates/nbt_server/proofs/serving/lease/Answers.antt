@@ -1,5 +1,5 @@
 use Rattle.std.proofs.Common.{◌≡◌}
-use Rattle.nbt_lease.specs.declared.fault.GrantFault.TheVariants.{OutOfMemory}
+use Rattle.nbt_server.proofs.Common.{OutOfMemory}
 use Rattle.nbt_server.proofs.Rules.{does_grant, does_refuse, does_refuse_other}
 use Rattle.nbt_server.proofs.serving.lease.Goals as goal
 

@@ -1,9 +1,5 @@
 use Rattle.std.proofs.Common.{◌≡◌, ◌++◌, ◌+◌, ◌∷◌, List, ℕ, length, length-append, take, ap, refl, sym, ◌∙◌, subst, arith}
-use Rattle.nbt_lease.specs.declared.lease.Lease.{Lease}
-use Rattle.nbt_lease.specs.Lease.{leases_at}
-use Rattle.nbt_lease.specs.Rules.{IsLeastEnd}
-use Rattle.nbt_packet.specs.Text.{entry, entries_most}
-use Rattle.nbt_server.specs.Serving.{entries, listed}
+use Rattle.nbt_server.proofs.Common.{Lease, leases_at, IsLeastEnd, entry, entries_most, entries, listed}
 use Rattle.nbt_server.proofs.Rules.{lists_next, lists_no_more, lists_all, is_longer, is_no_longer}
 use Rattle.nbt_server.proofs.serving.list.Goals as goal
 

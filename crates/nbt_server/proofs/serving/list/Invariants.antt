@@ -1,7 +1,5 @@
 use Rattle.std.proofs.Common.{◌≡◌, ◌++◌, ◌+◌, ◌*◌, length, take}
-use Rattle.nbt_packet.specs.Text.{entries_most}
-use Rattle.nbt_lease.specs.Lease.{leases_at}
-use Rattle.nbt_server.specs.Serving.{entries, listed}
+use Rattle.nbt_server.proofs.Common.{entries_most, leases_at, entries, listed}
 use Rattle.nbt_server.proofs.serving.list.Given as goal
 
 abbrev pub invariant-loop-lease : goal.invariant-loop-lease

@@ -1,9 +1,8 @@
 use Rattle.std.proofs.Common.{ℕ, ap, refl, ◌∙◌}
+use Rattle.nbt_server.proofs.Common.{Leases, holder}
 use Rattle.nbt_lease.specs.declared.lease.Released.TheVariants as outcomes
-use Rattle.nbt_lease.specs.Lease.{Leases}
 use Rattle.nbt_server.specs.declared.outcome.Outcome.TheVariants as o
 use Rattle.nbt_server.specs.declared.outcome.Refusal.TheVariants as why
-use Rattle.nbt_server.specs.Outcomes.{holder}
 use Rattle.nbt_server.proofs.Rules.{does_release, does_refuse_release}
 use Rattle.nbt_server.proofs.serving.release.Goals as goal
 

@@ -1,6 +1,5 @@
-use Rattle.std.proofs.Common.{None, refl, Some}
-use Rattle.nbt_server.specs.Serving.{by_registration, by_refresh, refuses_overwrite, passes_over}
-use Rattle.nbt_server.specs.Outcomes.{Does}
+use Rattle.std.proofs.Common.{None, refl}
+use Rattle.nbt_server.proofs.Common.{by_registration, by_refresh, refuses_overwrite, passes_over}
 use Rattle.nbt_server.proofs.Rules.{is_for_nodes, on_ok, on_err}
 use Rattle.nbt_server.proofs.serving.serve.Goals as goal
 

@@ -1,5 +1,5 @@
 use Rattle.std.proofs.Common.{refl}
-use Rattle.nbt_server.specs.Outcomes.{for_nodes, request}
+use Rattle.nbt_server.proofs.Common.{for_nodes, request}
 use Rattle.nbt_server.proofs.Rules.{is_for_nodes}
 use Rattle.nbt_server.proofs.serving.unanswered.Goals as goal
 

@@ -19,7 +19,8 @@ returns-in-Err-read_plain-clause-fault c =
 
 pub returns-then-end-body-clause-fault : goal.returns-then-end-body-clause-fault
 returns-then-end-body-clause-fault c =
-    not_filled c.in-Ok.read.0 c.in-Ok-read_plain.read.0 c.in-Ok.read.1 c.in-Ok-read_plain.read.1 ((c.read_plain.ensures.name _ _).0 c.in-Ok.is) ((c.read_plain-2.ensures.name _ _).0 c.in-Ok-read_plain.is) c.if-end-body.true
+    rw c.bad.ensures
+    (not_filled c.in-Ok.read.0 c.in-Ok-read_plain.read.0 c.in-Ok.read.1 c.in-Ok-read_plain.read.1 ((c.read_plain.ensures.name _ _).0 c.in-Ok.is) ((c.read_plain-2.ensures.name _ _).0 c.in-Ok-read_plain.is) c.if-end-body.true)
 
 pub returns-clause-body : goal.returns-clause-body
 returns-clause-body c =

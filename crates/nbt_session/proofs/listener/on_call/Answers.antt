@@ -1,25 +1,25 @@
 use Rattle.std.proofs.Common.{sym, ◌∙◌, arith}
 use Rattle.nbt_session.specs.Listener.{name_is_not_present, nobody_listens, nobody_listens_for_it, too_many_are_open, goes_elsewhere, is_taken}
-use Rattle.nbt_session.proofs.Answering.{call_to, kind_held, none_held}
+use Rattle.nbt_session.proofs.Calls.{kind_held, none_held}
 use Rattle.nbt_session.proofs.listener.on_call.Goals as goal
 
 pub returns-then-not-held : goal.returns-then-not-held
-returns-then-not-held c = λ holds told. call_to _ _ _ _ c.refused.ensures.slot c.refused.ensures.answer (name_is_not_present (none_held (holds c.args.called.now) (sym told ∙ c.if-not-held.true)))
+returns-then-not-held c = λ holds told. rw (c.refused.ensures.slot, c.refused.ensures.answer) (name_is_not_present (none_held (holds c.args.called.now) (sym told ∙ c.if-not-held.true)))
 
 pub returns-then-listens_on : goal.returns-then-listens_on
 returns-then-listens_on c = λ holds told.
     let held = kind_held (holds c.args.called.now) (sym told ∙ c.if-not-held.false) in
-    call_to _ _ _ _ c.refused-then-listens_on.ensures.slot c.refused-then-listens_on.ensures.answer (nobody_listens_for_it held.0 held.1 c.if-listens_on.ensures.called_entry c.in_default.ensures.none)
+    rw (c.refused-then-listens_on.ensures.slot, c.refused-then-listens_on.ensures.answer) (nobody_listens_for_it held.0 held.1 c.if-listens_on.ensures.called_entry c.in_default.ensures.none)
 
 pub returns-in_default : goal.returns-in_default
 returns-in_default c = λ holds told.
     let held = kind_held (holds c.args.called.now) (sym told ∙ c.if-not-held.false) in
-    call_to _ _ _ _ c.refused-in_default.ensures.slot c.refused-in_default.ensures.answer (nobody_listens held.0 held.1 c.if-listens_on.ensures.none)
+    rw (c.refused-in_default.ensures.slot, c.refused-in_default.ensures.answer) (nobody_listens held.0 held.1 c.if-listens_on.ensures.none)
 
 pub returns-then-opened-most : goal.returns-then-opened-most
 returns-then-opened-most c = λ holds told.
     let held = kind_held (holds c.args.called.now) (sym told ∙ c.if-not-held.false) in
-    call_to _ _ _ _ c.refused-then-opened-most.ensures.slot c.refused-then-opened-most.ensures.answer (too_many_are_open held.0 c.in-Some.entry.now held.1 c.in-Some.ensures.found (omega arith))
+    rw (c.refused-then-opened-most.ensures.slot, c.refused-then-opened-most.ensures.answer) (too_many_are_open held.0 c.in-Some.entry.now held.1 c.in-Some.ensures.found (omega arith))
 
 pub returns-in-Some-retarget : goal.returns-in-Some-retarget
 returns-in-Some-retarget c = λ holds told.

@@ -1,7 +1,7 @@
 use Rattle.std.proofs.Common.{◌≡◌, ◌++◌, refl, subst}
 use Rattle.std.proofs.lemmas.Result.{err_from_is_err_and}
 use Rattle.nbt_name.specs.Wire.{AreOctets}
-use Rattle.nbt_session.proofs.Gathering.{after_start, after_data, after_nothing, after_end, after_other, after_fault, after_refusal}
+use Rattle.nbt_session.proofs.Gathering.{after_start, after_data, after_nothing, after_end, after_other, after_fault}
 use Rattle.nbt_session.proofs.stream.gather.Goals as goal
 
 pub returns-in_err-count-clause-gathers : goal.returns-in_err-count-clause-gathers

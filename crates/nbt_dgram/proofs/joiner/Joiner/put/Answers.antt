@@ -1,14 +1,14 @@
 use Rattle.std.proofs.Common.{ap, arith}
 use Rattle.nbt_dgram.specs.Dgram.{fragment_of, body_of}
-use Rattle.nbt_dgram.specs.Joiner.{joined_of, clock_back, alone, joins}
-use Rattle.nbt_dgram.proofs.SlotLists.{all_kept_room}
+use Rattle.nbt_dgram.specs.Joiner.{joined_of, is_old, clock_back, alone, joins}
+use Rattle.nbt_dgram.proofs.SlotLists.{all_cleared_room}
 use Rattle.nbt_dgram.proofs.joiner.Joiner.put.Goals as goal
 
 pub returns-then-get-self : goal.returns-then-get-self
 returns-then-get-self g c = rw (← c.self.view_is) (clock_back (omega (arith, c.get.ensures.value, c.if-get-self.true)))
 
 pub invariant_of-self : goal.invariant_of-self
-invariant_of-self g c = rw c.give_up.ensures.kept (all_kept_room c.args.now c.self.inside.slots c.self.invariant)
+invariant_of-self g c = rw c.give_up.ensures.kept (all_cleared_room (is_old c.args.now) c.self.inside.slots c.self.invariant)
 
 pub returns : goal.returns
 returns g c =
@@ -17,7 +17,7 @@ returns g c =
     (rw c.give_up.ensures.kept at c.join.ensures.joins))
 
 pub join-requires : goal.join-requires
-join-requires g c = rw c.give_up.ensures.kept (all_kept_room c.args.now c.self.inside.slots c.self.invariant)
+join-requires g c = rw c.give_up.ensures.kept (all_cleared_room (is_old c.args.now) c.self.inside.slots c.self.invariant)
 
 pub returns-in-Some : goal.returns-in-Some
 returns-in-Some g c =

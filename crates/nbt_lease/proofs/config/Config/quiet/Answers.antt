@@ -1,5 +1,5 @@
 use Rattle.std.proofs.Common.{◌+◌, ◌*◌, ◌/◌, ap}
-use Rattle.nbt_lease.specs.Config.{ConfigValue}
+use Rattle.nbt_lease.proofs.Common.{ConfigValue}
 use Rattle.nbt_lease.specs.Drift.{quiet}
 use Rattle.nbt_lease.proofs.config.Config.quiet.Goals as goal
 

@@ -1,5 +1,5 @@
 use Rattle.std.proofs.Common.{◌≡◌, ◌+◌, true, false, cond, if◌then◌else◌, length, sym, ap, ◌∙◌}
-use Rattle.nbt_lease.specs.Inner.Index.{due, is_due, in_set}
+use Rattle.nbt_lease.proofs.Common.{due, is_due, in_set}
 use Rattle.nbt_lease.proofs.Dues.{set_is, set_changes, set_distinct}
 use Rattle.nbt_lease.proofs.ends.Ends.remove.Goals as goal
 

@@ -1,7 +1,5 @@
 use Rattle.std.proofs.Common.{false, cond, List, is_some, sym, ap, ◌∙◌, arith}
-use Rattle.std.proofs.lemmas.Bool.{false≢true}
-use Rattle.nbt_lease.specs.declared.ends.Due.{Due}
-use Rattle.nbt_lease.specs.Inner.Index.{is_due, in_set}
+use Rattle.nbt_lease.proofs.Common.{false≢true, Due, is_due, in_set}
 use Rattle.nbt_lease.proofs.Dues.{some_weaker, set_is, set_changes, set_distinct, none_in, no_earlier}
 use Rattle.nbt_lease.proofs.ends.Ends.take_due.Goals as goal
 use Rattle.nbt_lease.proofs.ends.Ends.take_due.Goals.{in_default-via-in-Some+else-due-now, in_default-via-in_default}

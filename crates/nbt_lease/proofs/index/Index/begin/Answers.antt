@@ -1,8 +1,6 @@
-use Rattle.std.proofs.Common.{◌≡◌, ◌++◌, ◌∷◌, [], Some, length, sym, ap, subst, ◌∙◌, arith}
-use Rattle.std.proofs.lemmas.Result.{on_ok_weaker}
-use Rattle.nbt_lease.specs.Lease.{HasNone, at_name}
-use Rattle.nbt_lease.specs.Inner.Index.{Entries, members_of, rows_of, Agrees}
-use Rattle.nbt_lease.proofs.Agreeing.{absent, begins, stays, members_at, members_stay, either_way, on_err_weaker}
+use Rattle.std.proofs.Common.{◌++◌, ◌∷◌, [], Some, length, sym, ap, subst, ◌∙◌, arith}
+use Rattle.nbt_lease.proofs.Common.{on_ok_weaker, on_err_weaker, HasNone, at_name, Entries, members_of, rows_of, Agrees}
+use Rattle.nbt_lease.proofs.Agreeing.{absent, begins, stays, members_at, members_stay, either_way}
 use Rattle.nbt_lease.proofs.Flat.{counted}
 use Rattle.nbt_lease.proofs.index.Index.begin.Goals as goal
 
@@ -31,7 +29,7 @@ returns-clause-begun c =
 
 pub returns-clause-unchanged : goal.returns-clause-unchanged
 returns-clause-unchanged c =
-    on_err_weaker c.begin_in.result _ _ (λ h. members_stay c.self.inside.members.entries c.begin_in.new.members.entries h ∙ ap members_of c.self.view_is) c.begin_in.ensures.members_left
+    on_err_weaker c.begin_in.result (λ h. members_stay c.self.inside.members.entries c.begin_in.new.members.entries h ∙ ap members_of c.self.view_is) c.begin_in.ensures.members_left
 
 pub returns-clause-count : goal.returns-clause-count
 returns-clause-count c =
@@ -41,6 +39,6 @@ returns-clause-count c =
 
 pub returns-clause-count_left : goal.returns-clause-count_left
 returns-clause-count_left c =
-    on_err_weaker c.begin_in.result _ _
+    on_err_weaker c.begin_in.result
     (λ n. omega (arith, n, counted c.begin_in.new.members.entries c.begin_in.new.ends (invariant_of-self c), counted c.self.inside.members.entries c.self.inside.ends c.self.invariant, ap (λ (es : Entries). length (rows_of es)) c.self.view_is))
     c.begin_in.ensures.count_left

@@ -1,5 +1,5 @@
 use Rattle.std.proofs.Common.{length, ap, ◌∙◌}
-use Rattle.nbt_lease.specs.Inner.Index.{Entries, rows_of}
+use Rattle.nbt_lease.proofs.Common.{Entries, rows_of}
 use Rattle.nbt_lease.proofs.Flat.{counted}
 use Rattle.nbt_lease.proofs.index.Index.count.Goals as goal
 

@@ -1,5 +1,5 @@
 use Rattle.std.proofs.Common.{sym, ◌∙◌}
-use Rattle.nbt_lease.specs.Inner.Index.{members_of}
+use Rattle.nbt_lease.proofs.Common.{members_of}
 use Rattle.nbt_lease.proofs.Flat.{all_live}
 use Rattle.nbt_lease.proofs.index.Index.drop_expired.Goals as goal
 

@@ -1,8 +1,5 @@
 use Rattle.std.proofs.Common.{◌≡◌, ◌+◌, ◌≤◌, length}
-use Rattle.std.specs.List.{filter}
-use Rattle.nbt_name.specs.Wire.{NameValue}
-use Rattle.nbt_lease.specs.Lease.{is_live}
-use Rattle.nbt_lease.specs.Inner.Index.{members_of, rows_of}
+use Rattle.nbt_lease.proofs.Common.{filter, NameValue, is_live, members_of, rows_of}
 use Rattle.nbt_lease.proofs.index.Index.drop_expired.Given as goal
 
 abbrev pub invariant-dues : goal.invariant-dues

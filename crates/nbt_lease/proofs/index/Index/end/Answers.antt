@@ -1,7 +1,5 @@
-use Rattle.std.proofs.Common.{◌≡◌, ◌++◌, ◌≤◌, ℕ, true, false, cond, length, refl, sym, ap, subst, ◌∙◌, arith}
-use Rattle.nbt_lease.specs.declared.ends.Due.{Due}
-use Rattle.nbt_lease.specs.Lease.{at_name, HasNone}
-use Rattle.nbt_lease.specs.Inner.Index.{Entries, members_of, rows_of, due, is_due, in_set, if_any, Agrees, IsMember}
+use Rattle.std.proofs.Common.{◌++◌, ℕ, false, cond, length, refl, sym, ap, subst, ◌∙◌, arith}
+use Rattle.nbt_lease.proofs.Common.{at_name, Entries, members_of, rows_of, due, is_due, in_set, if_any, IsMember}
 use Rattle.nbt_lease.proofs.Agreeing.{goes_taken, stays, members_at, if_any_is}
 use Rattle.nbt_lease.proofs.Flat.{counted}
 use Rattle.nbt_lease.proofs.index.Index.end.Goals as goal

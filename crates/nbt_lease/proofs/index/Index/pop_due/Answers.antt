@@ -1,8 +1,5 @@
 use Rattle.std.proofs.Common.{List, length, sym, ap, subst, ◌∙◌, arith}
-use Rattle.std.specs.List.{filter}
-use Rattle.nbt_lease.specs.declared.ends.Due.{Due}
-use Rattle.nbt_lease.specs.Lease.{is_live}
-use Rattle.nbt_lease.specs.Inner.Index.{Entries, members_of, rows_of, due, Agrees}
+use Rattle.nbt_lease.proofs.Common.{filter, Due, is_live, Entries, members_of, rows_of, due, Agrees}
 use Rattle.nbt_lease.proofs.Agreeing.{pops, pops_live}
 use Rattle.nbt_lease.proofs.Ending.{live_from}
 use Rattle.nbt_lease.proofs.Flat.{counted}

@@ -1,13 +1,6 @@
-use Rattle.std.proofs.Common.{◌≡◌, ◌≢◌, ◌==◌, ◌++◌, ◌∷◌, [], ◌<◌, ◌≤◌, ◌+◌, ℕ, List, true, false, cond, max, Some, Option, unwrap_or, is_some, length, refl, sym, ap, subst, ◌∙◌, arith}
-use Rattle.std.specs.List.{IsDistinct}
-use Rattle.std.specs.Map.{lookup, keys_of}
-use Rattle.std.proofs.lemmas.Bool.{ne_eqb}
-use Rattle.nbt_name.specs.Wire.{NameValue, same_name}
-use Rattle.nbt_lease.specs.declared.lease.Lease.{Lease}
-use Rattle.nbt_lease.specs.declared.ends.Due.{Due}
-use Rattle.nbt_lease.specs.Lease.{at_name}
-use Rattle.nbt_lease.specs.Inner.Index.{Entries, members_of, rows_of, due, is_due, in_set, Agrees, IsMember, Renewed}
-use Rattle.nbt_lease.proofs.Changes.{at_same}
+use Rattle.std.proofs.Common.{◌≡◌, ◌==◌, ◌++◌, ◌∷◌, ℕ, List, true, false, cond, Some, is_some, length, sym, ap, subst, ◌∙◌, arith}
+use Rattle.nbt_lease.proofs.Common.{lookup, ne_eqb, same_name, Lease, Due, at_name, Entries, members_of, rows_of, due, is_due, in_set, Agrees}
+use Rattle.nbt_lease.proofs.Rows.{at_same}
 use Rattle.nbt_lease.proofs.Agreeing.{other_end, renews, members_at, on_err, unwritten, named_is}
 use Rattle.nbt_lease.proofs.Flat.{counted}
 use Rattle.nbt_lease.proofs.index.Index.renew.Goals as goal

@@ -1,5 +1,5 @@
 use Rattle.std.proofs.Common.{subst}
-use Rattle.nbt_lease.specs.Rules.{IsLeastEnd}
+use Rattle.nbt_lease.proofs.Common.{IsLeastEnd}
 use Rattle.nbt_lease.proofs.Least.{least_of_live}
 use Rattle.nbt_lease.proofs.members.Members.new.Goals as goal
 use Rattle.nbt_lease.proofs.members.Members.new.Goals.{in-Some, in_default-2, in_default}

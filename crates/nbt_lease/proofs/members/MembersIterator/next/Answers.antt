@@ -1,8 +1,5 @@
 use Rattle.std.proofs.Common.{List, sym, ap, ◌∙◌, length, arith, rules}
-use Rattle.std.specs.List.{filter}
-use Rattle.std.proofs.lemmas.List.{nil_from_length}
-use Rattle.nbt_lease.specs.declared.lease.Lease.{Lease}
-use Rattle.nbt_lease.specs.Lease.{is_live}
+use Rattle.nbt_lease.proofs.Common.{filter, nil_from_length, Lease, is_live}
 use Rattle.nbt_lease.proofs.Flat.{live_first, over_first}
 use Rattle.nbt_lease.proofs.members.MembersIterator.next.Goals as goal
 

@@ -1,6 +1,5 @@
 use Rattle.std.proofs.Common.{◌≡◌, length, None}
-use Rattle.std.specs.List.{filter}
-use Rattle.nbt_lease.specs.Lease.{is_live}
+use Rattle.nbt_lease.proofs.Common.{filter, is_live}
 use Rattle.nbt_lease.proofs.members.MembersIterator.next.Given as goal
 
 abbrev pub invariant-loop-lease : goal.invariant-loop-lease

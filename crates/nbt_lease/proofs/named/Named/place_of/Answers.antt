@@ -1,6 +1,5 @@
-use Rattle.std.proofs.Common.{◌≡◌, ℕ, List, length, subst, ◌∙◌, arith}
-use Rattle.nbt_lease.specs.declared.lease.Lease.{Lease}
-use Rattle.nbt_lease.specs.Inner.Index.{IsMember}
+use Rattle.std.proofs.Common.{◌≡◌, List, length, subst, ◌∙◌, arith}
+use Rattle.nbt_lease.proofs.Common.{Lease, IsMember}
 use Rattle.nbt_lease.proofs.Ending.{found_at}
 use Rattle.nbt_lease.proofs.named.Named.place_of.Goals as goal
 

@@ -1,6 +1,5 @@
 use Rattle.std.proofs.Common.{ℕ, Some, List, [], ◌∷◌, ◌++◌, sym, subst}
-use Rattle.nbt_lease.specs.declared.lease.Lease.{Lease}
-use Rattle.nbt_lease.specs.Rules.{IsLeastEnd}
+use Rattle.nbt_lease.proofs.Common.{Lease, IsLeastEnd}
 use Rattle.nbt_lease.proofs.Least.{one_more}
 use Rattle.nbt_lease.proofs.named.Named.push.Goals as goal
 

@@ -1,7 +1,5 @@
 use Rattle.std.proofs.Common.{◌≡◌, ◌≢◌, ◌<◌, ℕ, length, arith, Some, List, ◌∷◌, ◌++◌, get_or, set, ap, sym, subst, ◌∙◌}
-use Rattle.std.proofs.Math.Seq.{set-append_seam, get_or-append_seam}
-use Rattle.nbt_lease.specs.declared.lease.Lease.{Lease}
-use Rattle.nbt_lease.specs.Rules.{IsLeastEnd}
+use Rattle.nbt_lease.proofs.Common.{set-append_seam, get_or-append_seam, Lease, IsLeastEnd}
 use Rattle.nbt_lease.proofs.Least.{one_set}
 use Rattle.nbt_lease.proofs.named.Named.set_end.Goals as goal
 

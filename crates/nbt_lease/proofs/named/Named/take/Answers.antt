@@ -1,6 +1,5 @@
 use Rattle.std.proofs.Common.{◌<◌, ◌∷◌, List, length, length-append, sym, ap, subst, ◌∙◌, arith}
-use Rattle.nbt_lease.specs.declared.lease.Lease.{Lease}
-use Rattle.nbt_lease.specs.Rules.{IsLeastEnd}
+use Rattle.nbt_lease.proofs.Common.{Lease, IsLeastEnd}
 use Rattle.nbt_lease.proofs.Least.{one_taken}
 use Rattle.nbt_lease.proofs.named.Named.take.Goals as goal
 

@@ -1,5 +1,5 @@
 use Rattle.std.proofs.Common.{sym, ◌∙◌}
-use Rattle.std.proofs.lemmas.Bool.{both_ways, not-true, ne_eqb}
+use Rattle.nbt_lease.proofs.Common.{both_ways, not-true, ne_eqb}
 use Rattle.nbt_lease.proofs.Finding.{owner_asks}
 use Rattle.nbt_lease.proofs.standing.Standing.allows.Goals as goal
 use Rattle.nbt_lease.proofs.standing.Standing.allows.Goals.{then-self-eq1, else-self-eq1}

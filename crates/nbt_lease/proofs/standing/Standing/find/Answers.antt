@@ -1,7 +1,5 @@
 use Rattle.std.proofs.Common.{◌≡◌, ◌<◌, List, length, take, subst, arith}
-use Rattle.std.proofs.lemmas.List.{take_all}
-use Rattle.nbt_lease.specs.declared.lease.Lease.{Lease}
-use Rattle.nbt_lease.specs.Inner.Standing.{StandsIn}
+use Rattle.nbt_lease.proofs.Common.{take_all, Lease, StandsIn}
 use Rattle.nbt_lease.proofs.Finding.{none_found, added}
 use Rattle.nbt_lease.proofs.standing.Standing.find.Goals as goal
 

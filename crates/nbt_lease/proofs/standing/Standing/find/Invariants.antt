@@ -1,5 +1,5 @@
 use Rattle.std.proofs.Common.{◌≤◌, take}
-use Rattle.nbt_lease.specs.Inner.Standing.{StandsIn}
+use Rattle.nbt_lease.proofs.Common.{StandsIn}
 use Rattle.nbt_lease.proofs.standing.Standing.find.Given as goal
 
 abbrev pub invariant-loop-index : goal.invariant-loop-index

@@ -1,16 +1,7 @@
-use Rattle.std.proofs.Common.{◌≡◌, ◌+◌, ◌*◌, ◌<◌, ℕ, Result, Ok, Err, MatchResult, OnErr, sym, ap, subst, ◌∙◌, arith, rules}
-use Rattle.std.specs.List.{filter}
-use Rattle.nbt_name.specs.Wire.{NameValue}
-use Rattle.nbt_lease.specs.declared.lease.Grant.{Grant}
-use Rattle.nbt_lease.specs.declared.fault.GrantFault.{GrantFault}
-use Rattle.nbt_lease.specs.declared.fault.GrantFault.TheVariants.{OutOfMemory}
-use Rattle.nbt_lease.specs.Config.{granted}
-use Rattle.nbt_lease.specs.Lease.{TableValue, Leases, is_live, leases_at, live_count, IsSound}
-use Rattle.nbt_lease.specs.Rules.{asked, end_of, Grants}
-use Rattle.nbt_lease.specs.Inner.Index.{members_of, rows_of, AreLive}
-use Rattle.nbt_lease.specs.Inner.Placing.{Places}
+use Rattle.std.proofs.Common.{◌≡◌, ◌+◌, ◌*◌, ℕ, OnErr, sym, ap, subst, ◌∙◌, arith}
+use Rattle.nbt_lease.proofs.Common.{filter, NameValue, granted, TableValue, Leases, is_live, leases_at, IsSound, asked, Grants, members_of, rows_of, AreLive, Places}
 use Rattle.nbt_lease.proofs.Sound.{sound_later}
-use Rattle.nbt_lease.proofs.Changes.{live_at_most}
+use Rattle.nbt_lease.proofs.Counts.{live_at_most}
 use Rattle.nbt_lease.proofs.Flat.{leases_members}
 use Rattle.nbt_lease.proofs.Placing.{Left, left_over, holds_live, sound_placed, live_placed}
 use Rattle.nbt_lease.proofs.table.Table.grant.Goals as goal

@@ -1,5 +1,5 @@
 use Rattle.std.proofs.Common.{subst}
-use Rattle.nbt_lease.specs.Lease.{TableValue, leases_at, IsSound}
+use Rattle.nbt_lease.proofs.Common.{TableValue, leases_at, IsSound}
 use Rattle.nbt_lease.proofs.table.Table.last.Goals as goal
 
 pub returns-clause-sound : goal.returns-clause-sound

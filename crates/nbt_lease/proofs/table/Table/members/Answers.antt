@@ -1,7 +1,5 @@
 use Rattle.std.proofs.Common.{ℕ, sym, ap, subst, ◌∙◌}
-use Rattle.std.specs.List.{filter}
-use Rattle.nbt_lease.specs.Lease.{TableValue, is_live, leases_at, IsSound}
-use Rattle.nbt_lease.specs.Inner.Index.{members_of}
+use Rattle.nbt_lease.proofs.Common.{filter, TableValue, is_live, leases_at, IsSound, members_of}
 use Rattle.nbt_lease.proofs.Sound.{sound_later}
 use Rattle.nbt_lease.proofs.Flat.{leases_are}
 use Rattle.nbt_lease.proofs.table.Table.members.Goals as goal

@@ -1,9 +1,5 @@
 use Rattle.std.proofs.Common.{◌≡◌, ℕ, sym, ap, subst, ◌∙◌, arith}
-use Rattle.std.specs.List.{filter}
-use Rattle.nbt_name.specs.Wire.{NameValue}
-use Rattle.nbt_lease.specs.Lease.{TableValue, Leases, is_live, leases_at, IsSound}
-use Rattle.nbt_lease.specs.Rules.{Releases}
-use Rattle.nbt_lease.specs.Inner.Index.{members_of, rows_of, AreLive}
+use Rattle.nbt_lease.proofs.Common.{filter, NameValue, TableValue, Leases, is_live, leases_at, IsSound, Releases, members_of, rows_of, AreLive}
 use Rattle.nbt_lease.proofs.Sound.{sound_later, sound_released}
 use Rattle.nbt_lease.proofs.Flat.{leases_members}
 use Rattle.nbt_lease.proofs.Placing.{Left, left_over, holds_live, live_after_release, nothing_released}

@@ -1,8 +1,5 @@
-use Rattle.std.proofs.Common.{◌≡◌, ◌+◌, ℕ, length, sym, ap, subst, ◌∙◌, arith}
-use Rattle.std.specs.List.{filter}
-use Rattle.nbt_name.specs.Wire.{NameValue}
-use Rattle.nbt_lease.specs.Lease.{TableValue, is_live, leases_at, IsSound}
-use Rattle.nbt_lease.specs.Inner.Index.{members_of, rows_of}
+use Rattle.std.proofs.Common.{◌≡◌, ℕ, length, sym, ap, subst, ◌∙◌, arith}
+use Rattle.nbt_lease.proofs.Common.{filter, NameValue, TableValue, is_live, leases_at, IsSound, members_of, rows_of}
 use Rattle.nbt_lease.proofs.Sound.{sound_later}
 use Rattle.nbt_lease.proofs.Placing.{left_over}
 use Rattle.nbt_lease.proofs.table.Table.sweep_counted.Goals as goal

@@ -1,6 +1,5 @@
 use Rattle.std.proofs.Common.{take, length, ap, subst, arith, ◌∷◌}
-use Rattle.std.proofs.lemmas.List.{length-take, length-append}
-use Rattle.nbt_name.specs.Wire.{NameValue, IsName, letters}
+use Rattle.nbt_name.proofs.Common.{length-take, length-append, NameValue, IsName, letters}
 use Rattle.nbt_name.proofs.Letters.{length-letters}
 use Rattle.nbt_name.proofs.Fits.{length-wire}
 use Rattle.nbt_name.proofs.name.Name.put_wire.Goals as goal

@@ -1,5 +1,5 @@
 use Rattle.std.proofs.Common.{◌≡◌, ◌∷◌, ◌++◌, take}
-use Rattle.nbt_name.specs.Wire.{letters}
+use Rattle.nbt_name.proofs.Common.{letters}
 use Rattle.nbt_name.proofs.name.Name.put_wire.Given as goal
 
 abbrev pub invariant-loop-octet : goal.invariant-loop-octet

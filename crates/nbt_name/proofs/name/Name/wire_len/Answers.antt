@@ -1,5 +1,5 @@
 use Rattle.std.proofs.Common.{length, ap, subst, arith}
-use Rattle.nbt_name.specs.Wire.{NameValue, IsName}
+use Rattle.nbt_name.proofs.Common.{NameValue, IsName}
 use Rattle.nbt_name.proofs.Fits.{length-wire}
 use Rattle.nbt_name.proofs.name.Name.wire_len.Goals as goal
 

@@ -1,5 +1,5 @@
 use Rattle.std.proofs.Common.{Some, arith, refl, ap, sym}
-use Rattle.nbt_name.specs.Reading.{pointer_leads, pointer_plain, pointer_cut, pointer_onward}
+use Rattle.nbt_name.proofs.Common.{pointer_leads, pointer_plain, pointer_cut, pointer_onward}
 use Rattle.nbt_name.proofs.Looks.{none_at, some_at}
 use Rattle.nbt_name.proofs.Passing.{Step-to}
 use Rattle.nbt_name.proofs.reader.Reader.follow.Goals as goal

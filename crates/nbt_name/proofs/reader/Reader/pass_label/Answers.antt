@@ -1,5 +1,5 @@
 use Rattle.std.proofs.Common.{arith, refl}
-use Rattle.nbt_name.specs.Reading.{label_passes, label_bad, label_long, label_cut}
+use Rattle.nbt_name.proofs.Common.{label_passes, label_bad, label_long, label_cut}
 use Rattle.nbt_name.proofs.Passing.{Step-to, later_passed, length-passed, label_passed}
 use Rattle.nbt_name.proofs.reader.Reader.pass_label.Goals as goal
 

@@ -1,6 +1,5 @@
 use Rattle.std.proofs.Common.{◌≡◌, arith, refl}
-use Rattle.std.proofs.lemmas.Result.{err_from_is_err_and}
-use Rattle.nbt_name.specs.Reading.{letters_pass, first_label_bad, letters_bad}
+use Rattle.nbt_name.proofs.Common.{err_from_is_err_and, letters_pass, first_label_bad, letters_bad}
 use Rattle.nbt_name.proofs.Passing.{Step-to, first_passed, letters_passed}
 use Rattle.nbt_name.proofs.reader.Reader.pass_letters.Goals as goal
 

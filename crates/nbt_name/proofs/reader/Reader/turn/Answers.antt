@@ -1,5 +1,5 @@
 use Rattle.std.proofs.Common.{refl}
-use Rattle.nbt_name.specs.Reading.{missing}
+use Rattle.nbt_name.proofs.Common.{missing}
 use Rattle.nbt_name.proofs.Looks.{none_at, some_at}
 use Rattle.nbt_name.proofs.reader.Reader.turn.Goals as goal
 

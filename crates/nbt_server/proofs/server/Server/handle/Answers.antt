@@ -1,13 +1,5 @@
 use Rattle.std.proofs.Common.{◌≡◌, ℕ, ◌≤◌, List, Option, Some, None, refl, subst, arith}
-use Rattle.std.specs.Prelude.{IfSome}
-use Rattle.nbt_packet.specs.Message.{MessageValue, message_of}
-use Rattle.nbt_packet.specs.Spelling.{Spells, AreWritten}
-use Rattle.nbt_packet.specs.Text.{text}
-use Rattle.nbt_lease.specs.Lease.{leases_at}
-use Rattle.nbt_server.specs.declared.outcome.Outcome.{Outcome}
-use Rattle.nbt_server.specs.Calls.{ServerHandles}
-use Rattle.nbt_server.specs.Outcomes.{Does}
-use Rattle.nbt_server.specs.Serving.{ServerValue, speaks_from, ServesOctets, is_silent, is_no_message, serves}
+use Rattle.nbt_server.proofs.Common.{IfSome, MessageValue, message_of, Spells, AreWritten, text, leases_at, Outcome, ServerHandles, Does, ServerValue, speaks_from, ServesOctets, is_silent, is_no_message, serves}
 use Rattle.nbt_server.proofs.Rules.{replies, unanswered_replies}
 use Rattle.nbt_server.proofs.server.Server.handle.Goals as goal
 use Rattle.nbt_server.proofs.server.Server.handle.Goals.{in-Ok, in-Err}
@@ -68,12 +60,10 @@ returns-clause-memory c = λ is.
       | in-Err w ↦
           rw (← c.self.view_is) (record {
             goes_on = omega arith;
-            needs = record {
-              message = message_of c.in-Some.message;
-              speaks = omega arith;
-              spelled = (c.in-Some.ensures (message_of c.in-Some.message)).0 refl;
-              needs = w.in-Err.ensures.memory;
-            };
+            message = message_of c.in-Some.message;
+            speaks = omega arith;
+            spelled = (c.in-Some.ensures (message_of c.in-Some.message)).0 refl;
+            needs = w.in-Err.ensures.memory;
             leases = w.in-Err.ensures.refused.0;
             start = refl;
             last = refl;

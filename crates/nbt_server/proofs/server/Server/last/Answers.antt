@@ -1,6 +1,5 @@
 use Rattle.std.proofs.Common.{subst}
-use Rattle.nbt_lease.specs.Lease.{leases_at, IsSound}
-use Rattle.nbt_server.specs.Serving.{ServerValue}
+use Rattle.nbt_server.proofs.Common.{leases_at, IsSound, ServerValue}
 use Rattle.nbt_server.proofs.server.Server.last.Goals as goal
 
 pub returns-clause-sound : goal.returns-clause-sound

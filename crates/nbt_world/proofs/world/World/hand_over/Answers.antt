@@ -1,5 +1,6 @@
 use Rattle.std.proofs.Common.{refl, sym}
 use Rattle.nbt_world.proofs.Worlds.{Took, took_kept, took_over}
+use Rattle.nbt_world.proofs.Keeping.{latest-up}
 use Rattle.nbt_world.proofs.Granting.{LeaseLaws}
 use Rattle.nbt_world.proofs.world.World.hand_over.Goals as goal
 
@@ -24,7 +25,7 @@ laws c = record {
 }
 
 pub take-taken-requires-clause-server : goal.take-taken-requires-clause-server
-take-taken-requires-clause-server c = λ server zero up. rw (c.reading-now.ensures, zero) ((c.self.invariant.server server up).past)
+take-taken-requires-clause-server c = λ server zero up. rw (c.reading-now.ensures, zero) ((c.self.invariant.server server (latest-up c.self.inside.ends server up)).past)
 
 pub invariant_of-self-2 : goal.invariant_of-self-2
 invariant_of-self-2 c = took_kept (record { one_message = c.one_message_spelled.ensures; rests = c.rest_outlasts_datagrams.ensures.between }) (laws c) c.self.invariant (took c)

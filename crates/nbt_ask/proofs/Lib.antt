@@ -1,1 +1,0 @@
--- The proof of a function is in the folder of its module and its name.

@@ -1,0 +1,55 @@
+-- A lookup as a command does it (our profile).
+use Rattle.std.specs.Prelude.{ℕ, ◌+◌, ◌-◌, ◌*◌, List}
+use Rattle.nbt_port.specs.PortCalls.{PortCall}
+use Rattle.nbt_port.specs.Udp.{UdpValue, UdpDoes, MachineTells}
+use Rattle.nbt_lease.specs.Config.{config_of}
+use Rattle.nbt_client.specs.Questions.{end_of}
+use Rattle.nbt_client.specs.Lookups.{Looks, Fails}
+use Rattle.nbt_client.specs.declared.lookup.Ending.{Ending}
+use Rattle.nbt_client.specs.declared.question.Question.{Question}
+use Rattle.nbt_name.specs.declared.addr.Addr.{Addr}
+use Rattle.nbt_node.specs.Calls.{started}
+use Rattle.nbt_node.specs.Node.{NodeValue}
+use Rattle.nbt_client.specs.Answers.{TellsEnding}
+use Rattle.nbt_client.specs.declared.answer.Answer.{Answer}
+use Rattle.nbt_client.specs.declared.asking.TheConstants.{TURNS_MOST}
+use Rattle.nbt_client.specs.declared.patience.TheConstants.{TRY}
+
+-- A lookup asks so often, one try after the other, and waits so long after the last of them.
+abbrev pub patience_of : (tries last : ℕ) → ℕ
+patience_of tries last = (tries - 1) * TRY + last
+
+-- The node that asks: it holds nothing, its server is the end that is asked, and its limits are of no use.
+abbrev pub started_node : Addr → Question → ℕ → NodeValue
+started_node own question now = started 1 own (end_of question) (config_of 1000 60 1) now
+
+-- The clock is read, a node starts at that moment and looks up, and this is told of how that ended.
+pub record Asks {P C : Type 0} (does : P → PortCall → P → Type 0) (tells : C → ℕ → C → Type 0) (own : Addr) (question : Question) (patience : ℕ)
+    (old_port : P) (old_clock : C) (answer : Answer) (text : List ℕ) (port : P) (clock : C) : Type 0 where
+  pub now : ℕ
+  pub read : C
+  pub ending : Ending
+  pub octets : List ℕ
+  pub node : NodeValue
+  pub clock_told : tells old_clock now read
+  pub looks : Looks does tells question patience TURNS_MOST old_port read (started_node own question now) ending octets port clock node
+  pub told : TellsEnding ending octets answer text
+
+-- The same, and a call of the port fails.
+pub record AskFails {P C : Type 0} (does : P → PortCall → P → Type 0) (tells : C → ℕ → C → Type 0) (own : Addr) (question : Question) (patience : ℕ)
+    (old_port : P) (old_clock : C) (port : P) (clock : C) : Type 0 where
+  pub now : ℕ
+  pub read : C
+  pub node : NodeValue
+  pub clock_told : tells old_clock now read
+  pub fails : Fails does tells question patience TURNS_MOST old_port read (started_node own question now) port clock node
+
+-- over a UDP port of this machine that was bound to this address, and a clock of its own that begins at 0
+abbrev pub AsksHere : Addr → Question → (patience : ℕ) → Answer → List ℕ → Type 0
+AsksHere own question patience answer text = (port : UdpValue) × (clock : ℕ)
+    × Asks UdpDoes MachineTells own question patience (record { addr = own; failures = 0 }) 0 answer text port clock
+
+-- the same, and a call of that port fails
+abbrev pub AskFailsHere : Addr → Question → (patience : ℕ) → Type 0
+AskFailsHere own question patience = (port : UdpValue) × (clock : ℕ)
+    × AskFails UdpDoes MachineTells own question patience (record { addr = own; failures = 0 }) 0 port clock

@@ -1,0 +1,48 @@
+//! A lookup over this machine's UDP and its clock.
+
+ghost use Rattle.std.specs.Prelude.{◌≡◌, ◌≢◌, ◌++◌, ℕ, List, Err, IfOk};
+ghost use Rattle.std.specs.String.{string_bytes};
+ghost use Rattle.nbt_client.specs.Asking.{AsksHere, AskFailsHere};
+
+use crate::answer::Answer;
+use crate::asking::ask;
+use crate::question::Question;
+use nbt_name::Addr;
+use nbt_port::{Cause, Fault, Port, bound_port, steady_clock};
+use std::io::Write;
+use std::net::Net;
+use std::time;
+
+/// Asks from the address `own` of this machine, as `ask` does; for 0.0.0.0:0 the machine chooses both. Refused: `NoPort` where the
+/// port can't be had; then `NoClock` where the clock can't be read; `Device` and `Memory` as `ask` is. Nothing is appended but where
+/// memory is refused. Of each but `Memory` a line in `errors` says which call of the machine failed, for which address, and why. What
+/// can't be written to `errors` is passed over.
+pub fn ask_here<M: Net + time::Clock, E: Write>(
+    machine: &M,
+    own: Addr,
+    question: &Question,
+    patience: u32,
+    out: &mut String,
+    errors: &mut E,
+) -> Result<Answer, Fault>
+    ensures ok { IfOk result (λ answer. (text : List ℕ) × AsksHere own question.now patience answer text × (string_bytes out.new ≡ string_bytes out.old ++ text)) }
+    ensures device { result ≡ Err Fault.Device → AskFailsHere own question.now patience × (string_bytes out.new ≡ string_bytes out.old) }
+    ensures port { result ≡ Err Fault.NoPort → string_bytes out.new ≡ string_bytes out.old }
+    ensures clock { result ≡ Err Fault.NoClock → string_bytes out.new ≡ string_bytes out.old }
+    ensures output { result ≢ Err Fault.Output }
+{
+    let mut port = bound_port(machine, own, errors).map_err(|_| Fault::NoPort)?;
+    let mut clock = steady_clock(machine, own, errors)?;
+    let asked = ask(&mut port, &mut clock, own, question, patience, out);
+    if asked == Err(Fault::Device) {
+        tell(port.cause(), errors);
+    }
+    asked
+}
+
+/// Says why a call failed, where the port knows it.
+fn tell<E: Write>(cause: Option<Cause>, errors: &mut E) {
+    if let Some(cause) = cause {
+        cause.tell("", errors);
+    }
+}

@@ -1,0 +1,174 @@
+//! An end node over a port and a clock.
+
+ghost use Rattle.std.specs.Prelude.{◌≡◌, ℕ, ◌<◌, ◌^◌, List, ◌∷◌, Some, IfSome, IsNone, IfOk, OnOk, OnErr};
+ghost use Rattle.nbt_node.specs.Moves.{told_of, replied};
+ghost use Rattle.nbt_node.specs.Calls.{Polls};
+ghost use Rattle.nbt_node.specs.Datagrams.{Handles};
+ghost use Rattle.nbt_port.specs.PortCalls.{PortCall, came, receive_failed, send_failed, Chain, CountsFailure};
+ghost use Rattle.nbt_client.specs.Turning.{AsksFor, Asks, PollsAll, EndsPolls, BreaksPolls, TurnHears, seen_of, TakesTurn, BreaksTurn};
+
+use arrayvec::ArrayVec;
+use nbt_lease::Moment;
+use nbt_name::{Addr, Kind, Name};
+use nbt_node::{Event, Node};
+use nbt_port::{Clock, Device, Port};
+
+/// The slots of a node: the most that it may have.
+pub const SLOTS: usize = 14;
+
+/// A name that is wanted, as which kind, and for how long.
+#[derive(Debug, Drop)]
+pub struct Want {
+    /// The name.
+    pub name: Name,
+    /// Who may hold it.
+    pub kind: Kind,
+    /// The seconds to ask for; 0 for as long as may be.
+    pub ttl: u32,
+}
+
+/// What a turn showed of the names of a node.
+#[derive(Clone, Copy, Debug, PartialEq, Eq)]
+pub enum Seen {
+    /// Nothing that a user of names waits for.
+    Nothing,
+    /// A name that was asked for is held, for these seconds from the first sending of the request.
+    Granted(u32),
+    /// A hold was renewed, for these seconds from the first sending of the refresh.
+    Renewed(u32),
+    /// A name that was asked for isn't granted, with this RCODE (RFC 1002 section 4.2.6).
+    Refused(u8),
+    /// A name isn't held any more.
+    Lost,
+}
+
+/// The node goes through one turn. The clock is read, and the name is asked for at that moment, the request going to
+/// `server`; a refused ask is passed over. The node is polled until it has nothing to send, each datagram going to its
+/// end. Then the port receives once, the clock is read again, and the node takes what came at that moment; the reply to
+/// a status request goes to its sender. Returns what was seen. What the node refuses since the clock went back
+/// is passed over. Refused with `Device` at the first call of the port that fails: nothing else of the turn is done, and
+/// the node is as it was before the receive, or as after the call that made the sending, which is lost.
+pub fn node_turn<P: Port, C: Clock, const N: usize>(
+    port: &mut P,
+    clock: &mut C,
+    node: &mut Node<N>,
+    server: Addr,
+    want: &Want,
+) -> Result<Seen, Device>
+    requires failure_count { P.failures port.old < 2 ^ 62 }
+    ensures ok { IfOk result (λ seen. (acts : List PortCall) × (moments : List ℕ) × TakesTurn server want.now node.old acts moments seen node.new
+        × Chain P.does port.old acts port.new × Chain C.tells clock.old moments clock.new) }
+    ensures err { OnErr result ((acts : List PortCall) × (moments : List ℕ) × BreaksTurn server want.now node.old acts moments node.new
+        × Chain P.does port.old acts port.new × Chain C.tells clock.old moments clock.new) }
+    // It is refused exactly where the port's count of failures grew.
+    ensures device { CountsFailure (P.failures port.old) (P.failures port.new) result }
+{
+    let mut out = ArrayVec::new();
+    let now = clock.now();
+    ask(port, node, server, now, want, &mut out)?;
+    poll_all(port, node, now, &mut out)?;
+    let mut octets = ArrayVec::new();
+    let from = port.receive(&mut octets)?;
+    let now = clock.now();
+    match from {
+        Some(from) => hear(port, node, now, from, octets.as_slice(), &mut out),
+        None => Ok(Seen::Nothing),
+    }
+}
+
+/// Asks for the name, where the node may.
+fn ask<P: Port, const N: usize>(
+    port: &mut P,
+    node: &mut Node<N>,
+    server: Addr,
+    now: Moment,
+    want: &Want,
+    out: &mut ArrayVec<u8, 576>,
+) -> Result<(), Device>
+    requires failure_count { P.failures port.old < 2 ^ 62 }
+    ensures ok { OnOk result ((acts : List PortCall) × Asks server now want.now node.old acts node.new × Chain P.does port.old acts port.new) }
+    ensures err { OnErr result ((octets : List ℕ) × AsksFor now want.now node.old octets node.new × P.does port.old (send_failed server octets) port.new) }
+    ensures device { CountsFailure (P.failures port.old) (P.failures port.new) result }
+{
+    match node.ask(now, &want.name, want.kind, want.ttl, out) {
+        Ok(()) => port.send(server, out.as_slice()),
+        Err(_) => Ok(()),
+    }
+}
+
+/// Sends all that is due at a moment: the node is polled until it has nothing to send, each datagram going to its end, by way
+/// of the buffer `out`. A poll that is refused since the clock went back ends that too, and is passed over. Refused with
+/// `Device` at the first send that fails: no poll follows, and the node is as after the poll that made that sending, which is
+/// lost.
+pub fn poll_all<P: Port, const N: usize>(
+    port: &mut P,
+    node: &mut Node<N>,
+    now: Moment,
+    out: &mut ArrayVec<u8, 576>,
+) -> Result<(), Device>
+    requires failure_count { P.failures port.old < 2 ^ 62 }
+    ensures ok { OnOk result ((acts : List PortCall) × PollsAll now node.old acts node.new × Chain P.does port.old acts port.new) }
+    ensures err { OnErr result ((acts : List PortCall) × BreaksPolls now node.old acts node.new × Chain P.does port.old acts port.new) }
+    // It is refused exactly where the port's count of failures grew.
+    ensures device { CountsFailure (P.failures port.old) (P.failures port.new) result }
+{
+    nbt_node::laws::settling_ends();
+    while let Some(to) = next_due(node, now, out) {
+        port.send(to, out.as_slice())?;
+    }
+    Ok(())
+}
+
+/// The end for which the node has something due at a moment, in `out`.
+fn next_due<const N: usize>(
+    node: &mut Node<N>,
+    now: Moment,
+    out: &mut ArrayVec<u8, 576>,
+) -> Option<Addr>
+    ensures due { IfSome result (λ to. Polls node.old now node.new (Some to) out.new.items) }
+    ensures none { IsNone result → EndsPolls now node.old node.new }
+{
+    match node.poll(now, out) {
+        Ok(to) => to,
+        Err(_) => None,
+    }
+}
+
+/// Takes a datagram, and sends the reply to a status request.
+fn hear<P: Port, const N: usize>(
+    port: &mut P,
+    node: &mut Node<N>,
+    now: Moment,
+    from: Addr,
+    octets: &[u8],
+    out: &mut ArrayVec<u8, 576>,
+) -> Result<Seen, Device>
+    requires failure_count { P.failures port.old < 2 ^ 62 }
+    ensures ok { IfOk result (λ seen. (acts : List PortCall) × TurnHears now node.old (came from octets.now ∷ acts) seen node.new × Chain P.does port.old acts port.new) }
+    ensures err { OnErr result ((reply : List ℕ) × Handles node.old now from octets.now node.new replied reply × P.does port.old (send_failed from reply) port.new) }
+    ensures device { CountsFailure (P.failures port.old) (P.failures port.new) result }
+{
+    let Ok(event) = node.on_datagram(now, from, octets, out) else {
+        return Ok(Seen::Nothing);
+    };
+    match event {
+        Event::Reply => {
+            port.send(from, out.as_slice())?;
+            Ok(Seen::Nothing)
+        }
+        _ => Ok(seen_of(event)),
+    }
+}
+
+/// What a user of names sees of an event.
+fn seen_of(event: Event<'_>) -> Seen
+    ensures { result ≡ seen_of (told_of event.entry) }
+{
+    match event {
+        Event::Granted(seconds) => Seen::Granted(seconds),
+        Event::Renewed(seconds) => Seen::Renewed(seconds),
+        Event::Refused(rcode) => Seen::Refused(rcode),
+        Event::Lost => Seen::Lost,
+        _ => Seen::Nothing,
+    }
+}

@@ -1,5 +1,0 @@
-use Rattle.nbt_engine.proofs.Dues.{few_polls}
-use Rattle.nbt_engine.proofs.laws.few_polls_send_at_one_moment.Goals as goal
-
-pub returns : goal.returns
-returns c = few_polls c.settling_ends.ensures

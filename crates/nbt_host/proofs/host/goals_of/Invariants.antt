@@ -1,0 +1,6 @@
+use Rattle.std.proofs.Common.{◌≡◌, map, take}
+use Rattle.nbt_host.specs.Goals.{fresh}
+use Rattle.nbt_host.proofs.host.goals_of.Given as goal
+
+abbrev pub invariant-loop-want : goal.invariant-loop-want
+invariant-loop-want l = l.goals.items ≡ map fresh (take l.want-index l.wants)

@@ -1,0 +1,47 @@
+use Rattle.std.proofs.Common.{◌≡◌, ap, sym, ◌∙◌}
+use Rattle.std.proofs.lemmas.Result.{IfErr-at_err}
+use Rattle.nbt_port.specs.declared.fault.Fault.TheVariants.{Device}
+use Rattle.nbt_host.specs.declared.sleeping.Reading.{Reading}
+use Rattle.nbt_host.specs.Host.{Running}
+use Rattle.nbt_host.specs.Running.{HostsOver, RunsHost, RunFails}
+use Rattle.nbt_port.specs.Until.{until_of}
+use Rattle.nbt_host.proofs.Beginning.{if_ok, begins}
+use Rattle.nbt_host.proofs.running.host_over.Goals as goal
+use Rattle.nbt_host.proofs.running.host_over.Goals.{in-Ok, in-Err}
+
+pub returns-clause-ok : goal.returns-clause-ok
+returns-clause-ok g c =
+    let a = c.args in
+    let does = g.P.Port.does in
+    let tells = g.C.Clock.tells in
+    let tells_day = g.D.Clock.tells in
+    let ran = c.run-ran in
+    let text = g.W.Write.contents ran.new.writer in
+    let begun : Running g.row.P.Denot g.row.C.Denot g.row.D.Denot = record { port = a.port.now; host = c.in_ok-host.host; text = g.W.Write.contents c.tell_begin.new.writer } in
+    let until = c.until_of-until.ensures ∙ ap (λ (r : Reading). until_of r.after a.arguments.now.time) c.last.ensures in
+    let same : c.match-ran.ran ≡ ran.result = elim c.match-ran.branch [
+      | in-Ok w ↦ w.ran-is
+      | in-Err w ↦ w.ran-is ∙ sym w.in-Err.is
+    ] in
+    rw same (if_ok (λ all. RunsHost does tells tells_day a.arguments.now c.until_of-until.result all begun (record { port = ran.new.port; host = ran.new.self; text = text }))
+    (λ all. HostsOver does tells tells_day a.at a.arguments.now all a.port.now a.clocks.steady a.clocks.day (g.W.Write.contents a.writer.now) ran.new.port text) ran.result ran.ensures.ok
+    (λ all run. begins tells tells_day a.at a.arguments.now (λ u old new. RunsHost does tells tells_day a.arguments.now u all old new) a.port.now ran.new.port a.clocks.steady a.clocks.day
+    (g.W.Write.contents a.writer.now) begun.text text begun.host ran.new.self c.until_of-until.result c.in_ok-host.ensures c.in_ok-tell_begin.ensures.ok until run))
+
+pub returns-clause-device : goal.returns-clause-device
+returns-clause-device g c =
+    let a = c.args in
+    let does = g.P.Port.does in
+    let tells = g.C.Clock.tells in
+    let tells_day = g.D.Clock.tells in
+    let ran = c.run-ran in
+    let text = g.W.Write.contents ran.new.writer in
+    let begun : Running g.row.P.Denot g.row.C.Denot g.row.D.Denot = record { port = a.port.now; host = c.in_ok-host.host; text = g.W.Write.contents c.tell_begin.new.writer } in
+    let until = c.until_of-until.ensures ∙ ap (λ (r : Reading). until_of r.after a.arguments.now.time) c.last.ensures in
+    let same : c.match-ran.ran ≡ ran.result = elim c.match-ran.branch [
+      | in-Ok w ↦ w.ran-is
+      | in-Err w ↦ w.ran-is ∙ sym w.in-Err.is
+    ] in
+    λ device. begins tells tells_day a.at a.arguments.now (λ u old new. RunFails does tells tells_day a.arguments.now u Device old new) a.port.now ran.new.port a.clocks.steady a.clocks.day
+    (g.W.Write.contents a.writer.now) begun.text text begun.host ran.new.self c.until_of-until.result c.in_ok-host.ensures c.in_ok-tell_begin.ensures.ok until
+    (IfErr-at_err (λ fault. RunFails does tells tells_day a.arguments.now c.until_of-until.result fault begun (record { port = ran.new.port; host = ran.new.self; text = text })) (sym same ∙ device) ran.ensures.err)

@@ -1,0 +1,71 @@
+-- What a host prints of a turn (our profile).
+use Rattle.std.specs.Prelude.{◌≡◌, ℕ, Bool, true, false, nat_eq, is_some, ◌||◌, List, [], ◌∷◌, ◌++◌, Option, Some, None, codes}
+use Rattle.std.specs.Bool.{then_some}
+use Rattle.std.specs.List.{list_any}
+use Rattle.nbt_name.specs.Wire.{NameValue}
+use Rattle.nbt_text.specs.Lines.{newline}
+use Rattle.nbt_host.specs.declared.goal.Goal.{Goal}
+use Rattle.nbt_host.specs.declared.goal.Refusal.{Refusal}
+use Rattle.nbt_host.specs.declared.news.News.{News}
+use Rattle.nbt_host.specs.declared.news.News.TheVariants as n
+use Rattle.nbt_log.specs.Dates.{IsTimeText}
+use Rattle.nbt_host.specs.Events.{IsLine}
+use Rattle.nbt_host.specs.declared.event.Event.{Event}
+use Rattle.nbt_host.specs.declared.event.Event.TheVariants as e
+
+-- that a hold lapsed
+abbrev pub lapse_of : Bool → Option Event
+lapse_of lapsed = then_some lapsed e.Lapsed
+
+-- What came; a renewal with a log alone. What the server says of a name that is given back is told at the end.
+abbrev pub news_of : (log : Bool) → Option News → Option Event
+news_of log None = None
+news_of log (Some (n.Granted seconds)) = Some (e.Granted seconds)
+news_of log (Some (n.Renewed seconds)) = then_some log (e.Renewed seconds)
+news_of log (Some (n.Refused rcode)) = Some (e.Refused rcode)
+news_of log (Some n.Lost) = Some e.Lost
+news_of log (Some (n.Freed rcode)) = None
+
+-- after the first refusal of a row, that the name is asked for again
+abbrev pub again_of : Option News → Option Refusal → Option Event
+again_of (Some (n.Refused rcode)) (Some last) = then_some (nat_eq last.times 1) e.AsksAgain
+again_of news refusal = None
+
+abbrev pub IsLineIf : (second : ℕ) → NameValue → Option Event → List ℕ → Type 0
+IsLineIf second name None line = line ≡ []
+IsLineIf second name (Some event) line = IsLine second name event line
+
+-- The lines of a name: that its hold lapsed, what came, and that it is asked for again.
+pub record TellsGoal (second : ℕ) (log : Bool) (goal : Goal) (text : List ℕ) : Type 0 where
+  pub lapse : List ℕ
+  pub news : List ℕ
+  pub again : List ℕ
+  pub lapse_is : IsLineIf second goal.want.name (lapse_of goal.lapsed) lapse
+  pub news_is : IsLineIf second goal.want.name (news_of log goal.news) news
+  pub again_is : IsLineIf second goal.want.name (again_of goal.news goal.refusal) again
+  pub text_is : text ≡ lapse ++ news ++ again
+
+-- The lines of each name, in the list's order.
+pub data TellsAll (tells : Goal → List ℕ → Type 0) : List Goal → List ℕ → Type 0 where
+  of_none : TellsAll tells [] []
+  of_next : (goals : List Goal) (goal : Goal) (text more : List ℕ) → TellsAll tells goals text → tells goal more → TellsAll tells (goals ++ goal ∷ []) (text ++ more)
+
+-- that the machine slept
+abbrev pub IsSleepLine : (second : ℕ) → (slept : Bool) → List ℕ → Type 0
+IsSleepLine second false line = line ≡ []
+IsSleepLine second true line = (time : List ℕ) × IsTimeText second time × (line ≡ time ++ codes " slept, asks anew" ++ newline)
+
+-- what is printed of a turn
+pub record TellsTurn (second : ℕ) (log slept : Bool) (goals : List Goal) (text : List ℕ) : Type 0 where
+  pub sleep : List ℕ
+  pub names : List ℕ
+  pub sleep_is : IsSleepLine second slept sleep
+  pub names_are : TellsAll (TellsGoal second log) goals names
+  pub text_is : text ≡ sleep ++ names
+
+-- something is printed of a name, and of a turn
+abbrev pub is_told : (log : Bool) → Goal → Bool
+is_told log goal = goal.lapsed || is_some (news_of log goal.news)
+
+abbrev pub has_lines : (log slept : Bool) → List Goal → Bool
+has_lines log slept goals = slept || list_any (is_told log) goals

@@ -1,0 +1,401 @@
+//! A host that holds names, turn by turn, and what it prints.
+
+ghost use Rattle.std.specs.Prelude.{◌≡◌, ◌+◌, ◌<◌, ◌≤◌, ◌^◌, ◌↔◌, ℕ, List, map, length, true, IsTrue, OnOk, IfOk, IfErr, MatchResult};
+ghost use Rattle.std.specs.List.{list_all};
+ghost use Rattle.std.specs.Io.KnownBytes.{Appends};
+ghost use Rattle.nbt_node.specs.Node.{NodeValue, slots_most};
+ghost use Rattle.nbt_port.specs.PortCalls.{CountsFailure};
+ghost use Rattle.nbt_log.specs.Dates.{second_at};
+ghost use Rattle.nbt_host.specs.Goals.{fresh, is_held};
+ghost use Rattle.nbt_host.specs.Sleeping.{HasSlept};
+ghost use Rattle.nbt_host.specs.Waking.{WakingTurn, WakingBreaks};
+ghost use Rattle.nbt_host.specs.Begin.{begin_text};
+ghost use Rattle.nbt_host.specs.Host.{dates_of, Starts, CantPrint};
+ghost use Rattle.nbt_host.specs.TurnLines.{has_lines};
+ghost use Rattle.nbt_host.specs.Turning.{Shows, PrintsTurn, TurnsWell, TurnsBadly, TurnIsCut};
+ghost use Rattle.nbt_port.specs.Staying.{StaysUntil};
+ghost use Rattle.nbt_host.specs.Staying.{TurnsOn, TurnsLast, HostingFails};
+ghost use Rattle.nbt_host.specs.ReleaseLines.{PrintsEnding, GivesBack, GivingBackFails};
+ghost use Rattle.nbt_host.specs.Running.{RunsHost, RunFails};
+
+use crate::arguments::HostArguments;
+use crate::begin::write_begin;
+use crate::goal::Goal;
+use crate::release_lines::write_endings;
+use crate::releasing::give_back;
+use crate::sleeping::{Clocks, Reading};
+use crate::turn_lines::{has_lines, write_turn};
+use crate::waking::waking_turn;
+use nbt_client::{SLOTS, Want};
+use nbt_lease::Moment;
+use nbt_log::Dates;
+use nbt_name::Addr;
+use nbt_node::Node;
+use nbt_port::{Clock, Device, FOREVER, Fault, Port, Turn, Turned, is_over, stay_up};
+use std::alloc::{AllocError, Global};
+use std::io::Write;
+use std::marker::Model;
+use std::{io, time};
+
+/// What a turn showed beside the names.
+#[derive(Clone, Copy, Debug, PartialEq, Eq)]
+pub struct Shown {
+    /// Whether the machine slept before it.
+    pub slept: bool,
+    /// The moment after it.
+    pub at: Moment,
+}
+
+/// A host: its names, its node, and the two clocks of its machine. A contract sees the clocks, what they told last, the names and the
+/// node.
+#[derive(Drop)]
+pub struct Host<C, D> {
+    alloc: Global,
+    clocks: Clocks<C, D>,
+    last: Reading,
+    goals: Vec<Goal>,
+    node: Node<SLOTS>,
+}
+
+impl<C, D> Model for Host<C, D> {
+    ghost use Rattle.nbt_host.specs.Host.{HostingValue};
+
+    ghost Value = { HostingValue C D };
+
+    ghost view = { λ h. record { steady = h.clocks.steady; day = h.clocks.day; last = h.last; host = record { goals = h.goals.items; node = h.node } } };
+}
+
+impl<C, D> Host<C, D> {
+    /// What both clocks told last: when it started, or at the beginning of its last turn.
+    pub(crate) fn last(&self) -> Reading
+        ensures { result ≡ self.now.last }
+    {
+        self.last
+    }
+
+    /// The second since 1970 in which a moment lies, by what both clocks told last.
+    fn second_at(&self, at: Moment) -> u64
+        ensures { result ≡ second_at (dates_of self.now.last) at }
+    {
+        let dates = Dates {
+            moment: self.last.after,
+            time: self.last.day,
+        };
+        dates.second_at(at.get())
+    }
+
+    /// Prints which host asks which server for how many names, at once. Refused: `Memory` where memory is refused, and `Output` where
+    /// the line can't be written.
+    pub(crate) fn tell_begin<W: Write>(
+        &self,
+        at: Addr,
+        server: Addr,
+        writer: &mut W,
+    ) -> Result<(), Fault>
+        ensures ok { OnOk result (Appends (W.contents writer.old) (W.contents writer.new) (begin_text at server (length self.now.host.goals))) }
+        ensures err { IfErr result (λ fault. CantPrint fault) }
+    {
+        let mut text = String::new(self.alloc);
+        write_begin(at, server, self.goals.len(), &mut text)?;
+        print(text.as_str(), writer).map_err(|_| Fault::Output)
+    }
+
+    /// Prints what a turn showed, if anything, at once. Where there is nothing it isn't refused.
+    fn tell_turn<W: Write>(&self, log: bool, shown: &Shown, writer: &mut W) -> Result<(), Fault>
+        ensures ok { OnOk result (PrintsTurn log shown.now self.now.last self.now.host.goals (W.contents writer.old) (W.contents writer.new)) }
+        ensures err { IfErr result (λ fault. CantPrint fault × (has_lines log shown.now.slept self.now.host.goals ≡ true)) }
+    {
+        let goals = self.goals.as_slice();
+        if !has_lines(log, shown.slept, goals) {
+            return Ok(());
+        }
+        let second = self.second_at(shown.at);
+        let mut text = String::new(self.alloc);
+        write_turn(second, log, shown.slept, goals, &mut text)?;
+        print(text.as_str(), writer).map_err(|_| Fault::Output)
+    }
+
+    /// Prints what came of giving the names back, at once.
+    fn tell_ending<W: Write>(&self, at: Moment, writer: &mut W) -> Result<(), Fault>
+        ensures ok { OnOk result (PrintsEnding at self.now.last self.now.host.goals (W.contents writer.old) (W.contents writer.new)) }
+        ensures err { IfErr result (λ fault. CantPrint fault) }
+    {
+        let second = self.second_at(at);
+        let mut text = String::new(self.alloc);
+        write_endings(second, self.goals.as_slice(), &mut text)?;
+        print(text.as_str(), writer).map_err(|_| Fault::Output)
+    }
+
+    /// Whether all names are held at a moment.
+    fn holds_all(&self, now: Moment) -> bool
+        ensures { result ≡ list_all (is_held self.now.host.node now) self.now.host.goals }
+    {
+        are_held(&self.node, now, self.goals.as_slice())
+    }
+}
+
+impl<C: Clock + Drop, D: Clock + Drop> Host<C, D> {
+    /// A host on a machine with these clocks, which knows nothing of its names. It starts at the moment that the steady clock tells,
+    /// and rests first. Refused where memory is.
+    pub fn start(
+        alloc: Global,
+        mut clocks: Clocks<C, D>,
+        arguments: &HostArguments,
+    ) -> Result<Host<C, D>, AllocError>
+        ensures { IfOk result (λ host. Starts C.tells D.tells arguments.now clocks.steady clocks.day host) }
+    {
+        let goals = goals_of(alloc, arguments.wants.as_slice())?;
+        let last = clocks.read();
+        let node = Node::start(
+            arguments.bind,
+            arguments.server,
+            arguments.config,
+            last.after,
+        );
+        Ok(Host {
+            alloc,
+            clocks,
+            last,
+            goals,
+            node,
+        })
+    }
+}
+
+impl<C: Clock, D: Clock> Host<C, D> {
+    /// One turn, as [`waking_turn`] does it.
+    fn turn<P: Port>(&mut self, port: &mut P, arguments: &HostArguments) -> Result<bool, Device>
+        requires failure_count { P.failures port.old < 2 ^ 62 }
+        ensures ok { IfOk result (λ slept. WakingTurn P.does C.tells D.tells slots_most arguments.now.server arguments.now.config self.old.last slept
+            port.old self.old.steady self.old.day self.old.host self.new.last port.new self.new.steady self.new.day self.new.host) }
+        ensures err { IfErr result (λ _. WakingBreaks P.does C.tells D.tells slots_most arguments.now.server arguments.now.config self.old.last
+            port.old self.old.steady self.old.day self.old.host self.new.last port.new self.new.steady self.new.day self.new.host) }
+        ensures device { CountsFailure (P.failures port.old) (P.failures port.new) result }
+    {
+        waking_turn(
+            port,
+            &mut self.clocks,
+            &mut self.node,
+            arguments.server,
+            arguments.config,
+            self.goals.as_mut_slice(),
+            &mut self.last,
+        )
+    }
+
+    /// What the turn showed that followed the reading `earlier`. The steady clock is read.
+    fn shown_since(&mut self, earlier: Reading) -> Shown
+        ensures { Shows C.tells earlier self.old result self.new }
+    {
+        Shown {
+            slept: self.last.slept_since(earlier),
+            at: self.clocks.steady.now(),
+        }
+    }
+
+    /// One turn, and what is printed of it, also where a call of the port fails. Returns what it showed, or `Device` where a call
+    /// failed. Refused: `Output` where the lines can't be written, and `Memory` where memory is refused for them.
+    fn go<P: Port, W: Write>(
+        &mut self,
+        port: &mut P,
+        arguments: &HostArguments,
+        writer: &mut W,
+    ) -> Result<Result<Shown, Device>, Fault>
+        requires failure_count { P.failures port.old < 2 ^ 62 }
+        ensures ok { IfOk result (λ turned. MatchResult turned
+            (λ shown. TurnsWell P.does C.tells D.tells arguments.now
+            (record { port = port.old; host = self.old; text = W.contents writer.old }) shown (record { port = port.new; host = self.new; text = W.contents writer.new }))
+            (λ _. TurnsBadly P.does C.tells D.tells arguments.now
+            (record { port = port.old; host = self.old; text = W.contents writer.old }) (record { port = port.new; host = self.new; text = W.contents writer.new }))) }
+        ensures err { IfErr result (λ fault. CantPrint fault × TurnIsCut P.does C.tells D.tells arguments.now
+            (record { port = port.old; host = self.old; text = W.contents writer.old }) (record { port = port.new; host = self.new; text = W.contents writer.new })) }
+        ensures count { P.failures port.new ≤ P.failures port.old + 1 }
+    {
+        let earlier = self.last;
+        let turned = self.turn(port, arguments);
+        let shown = self.shown_since(earlier);
+        self.tell_turn(arguments.log, &shown, writer)?;
+        match turned {
+            Ok(_) => Ok(Ok(shown)),
+            Err(failure) => Ok(Err(failure)),
+        }
+    }
+
+    /// Goes through turns until the moment `until`, if there is one, and through 2^61 of them at most, and stays up when the port
+    /// fails. What each turn shows is printed after it, at once. After a turn that failed it says so in `errors`, the first time of a
+    /// row, waits 100 ms by the machine's clock, and goes on from where the failure left it; when the row is over, it says how many
+    /// failed. Refused: `Device` at the hundredth failure in a row; `Output` where what a turn shows can't be written; `Memory` where
+    /// memory is refused for it; each at once. What can't be written to `errors` is passed over.
+    pub fn stay<P: Port, M: time::Clock, W: Write, E: Write>(
+        &mut self,
+        port: &mut P,
+        arguments: &HostArguments,
+        until: Option<Moment>,
+        machine: &M,
+        writer: &mut W,
+        errors: &mut E,
+    ) -> Result<(), Fault>
+        requires failure_count { P.failures port.old < 2 ^ 61 }
+        ensures ok { OnOk result (StaysUntil (TurnsOn P.does C.tells D.tells arguments.now until) (TurnsBadly P.does C.tells D.tells arguments.now) (TurnsLast P.does C.tells D.tells arguments.now until) FOREVER
+            (record { port = port.old; host = self.old; text = W.contents writer.old }) (record { port = port.new; host = self.new; text = W.contents writer.new })) }
+        ensures err { IfErr result (λ fault. HostingFails P.does C.tells D.tells arguments.now until fault
+            (record { port = port.old; host = self.old; text = W.contents writer.old }) (record { port = port.new; host = self.new; text = W.contents writer.new })) }
+        ensures failure_count { P.failures port.new < 2 ^ 62 }
+    {
+        let mut turn = HostTurn {
+            host: self,
+            port,
+            arguments,
+            until,
+            writer,
+        };
+        stay_up(&mut turn, FOREVER, machine, errors)
+    }
+
+    /// Gives all names back, as [`give_back`] does, and prints what came of each, at once, also where the port failed. Refused:
+    /// `Device` at the first call of the port that fails; `Output` and `Memory` where the lines can't be printed.
+    pub fn end<P: Port, W: Write>(
+        &mut self,
+        port: &mut P,
+        server: Addr,
+        writer: &mut W,
+    ) -> Result<(), Fault>
+        requires failure_count { P.failures port.old < 2 ^ 62 }
+        ensures ok { OnOk result (GivesBack P.does C.tells server
+            (record { port = port.old; host = self.old; text = W.contents writer.old }) (record { port = port.new; host = self.new; text = W.contents writer.new })) }
+        ensures err { IfErr result (λ fault. GivingBackFails P.does C.tells server fault
+            (record { port = port.old; host = self.old; text = W.contents writer.old }) (record { port = port.new; host = self.new; text = W.contents writer.new })) }
+    {
+        let given = give_back(
+            port,
+            &mut self.clocks.steady,
+            &mut self.node,
+            server,
+            self.goals.as_mut_slice(),
+            FOREVER,
+        );
+        let at = self.clocks.steady.now();
+        self.tell_ending(at, writer)?;
+        given?;
+        Ok(())
+    }
+
+    /// Stays up until the moment `until`, if there is one, and then gives all names back. Returns whether all were held when its time
+    /// ended, before that. Refused as [`Host::stay`] and [`Host::end`] are.
+    pub fn run<P: Port, M: time::Clock, W: Write, E: Write>(
+        &mut self,
+        port: &mut P,
+        arguments: &HostArguments,
+        until: Option<Moment>,
+        machine: &M,
+        writer: &mut W,
+        errors: &mut E,
+    ) -> Result<bool, Fault>
+        requires failure_count { P.failures port.old < 2 ^ 61 }
+        ensures ok { IfOk result (λ all. RunsHost P.does C.tells D.tells arguments.now until all
+            (record { port = port.old; host = self.old; text = W.contents writer.old }) (record { port = port.new; host = self.new; text = W.contents writer.new })) }
+        ensures err { IfErr result (λ fault. RunFails P.does C.tells D.tells arguments.now until fault
+            (record { port = port.old; host = self.old; text = W.contents writer.old }) (record { port = port.new; host = self.new; text = W.contents writer.new })) }
+    {
+        self.stay(port, arguments, until, machine, writer, errors)?;
+        let now = self.clocks.steady.now();
+        let all = self.holds_all(now);
+        self.end(port, arguments.server, writer)?;
+        Ok(all)
+    }
+}
+
+/// One turn of a host that stays up.
+#[derive(Drop)]
+struct HostTurn<'h, 'p, 'a, 'w, P, C, D, W> {
+    host: &'h mut Host<C, D>,
+    port: &'p mut P,
+    arguments: &'a HostArguments,
+    until: Option<Moment>,
+    writer: &'w mut W,
+}
+
+impl<P: Port, C: Clock, D: Clock, W: Write> Turn for HostTurn<'_, '_, '_, '_, P, C, D, W> {
+    ghost use Rattle.std.specs.Prelude.{[], ◌∷◌, Option};
+    ghost use Rattle.nbt_host.specs.Host.{Running};
+    ghost use Rattle.nbt_host.specs.Staying.{IsCutBy};
+    ghost use Rattle.nbt_host.specs.declared.arguments.HostArguments.{HostArguments};
+    ghost use Rattle.nbt_host.specs.declared.host.Shown.{Shown};
+
+    ghost State = { Running P C D };
+
+    ghost Shown = { Shown };
+
+    ghost Fixed = { HostArguments × Option ℕ × List ℕ };
+
+    ghost state = { λ t. record { port = t.port.now; host = t.host.now; text = W.contents t.writer.now } };
+
+    ghost fixed = { λ t. (t.arguments.now, t.until, t.host.ghost_name ∷ t.port.ghost_name ∷ t.writer.ghost_name ∷ []) };
+
+    ghost failures = { λ t. P.failures t.port.now };
+
+    ghost turns = { λ f. TurnsOn P.does C.tells D.tells f.0 f.1 };
+
+    ghost breaks = { λ f. TurnsBadly P.does C.tells D.tells f.0 };
+
+    ghost last = { λ f. TurnsLast P.does C.tells D.tells f.0 f.1 };
+
+    ghost cuts = { λ f. IsCutBy P.does C.tells D.tells f.0 };
+
+    fn take<E: Write>(&mut self, _errors: &mut E) -> Turned {
+        match self.host.go(self.port, self.arguments, self.writer) {
+            Ok(Ok(shown)) if is_over(&self.until, shown.at) => Turned::Last,
+            Ok(Ok(_)) => Turned::Well,
+            Ok(Err(_)) => Turned::Failed(self.port.cause()),
+            Err(fault) => Turned::CutOff(fault),
+        }
+    }
+}
+
+/// What a host keeps of its names when it starts.
+fn goals_of(alloc: Global, wants: &[Want]) -> Result<Vec<Goal>, AllocError>
+    ensures { IfOk result (λ goals. goals.items ≡ map fresh wants.now) }
+{
+    let mut goals = Vec::new(alloc);
+    for want in wants {
+        goals.push(Goal::new(copy_of(want)))?;
+    }
+    Ok(goals)
+}
+
+fn copy_of(want: &Want) -> Want
+    ensures { result ≡ want.now }
+{
+    Want {
+        name: want.name.copy(),
+        kind: want.kind,
+        ttl: want.ttl,
+    }
+}
+
+/// Whether all names are held at a moment.
+fn are_held<const N: usize>(node: &Node<N>, now: Moment, goals: &[Goal]) -> bool
+    ensures { result ≡ list_all (is_held node.now now) goals.now }
+{
+    for goal in goals {
+        if !is_held(node, now, goal) {
+            return false;
+        }
+    }
+    true
+}
+
+/// Whether a name is held at a moment.
+fn is_held<const N: usize>(node: &Node<N>, now: Moment, goal: &Goal) -> bool
+    ensures { result ≡ is_held node.now now goal.now }
+{
+    node.holds(now, &goal.want.name).is_some()
+}
+
+/// Writes a text, at once.
+fn print<W: Write>(text: &str, writer: &mut W) -> io::Result<()>
+    ensures { OnOk result (Appends (W.contents writer.old) (W.contents writer.new) text.now) }
+{
+    writer.write_all(text.as_bytes())?;
+    writer.flush()
+}

@@ -1,8 +1,0 @@
-use Rattle.std.proofs.Common.{take}
-use Rattle.std.specs.String.{string_bytes}
-use Rattle.nbt_hosting.proofs.Lines.{Told}
-use Rattle.nbt_hosting.specs.Telling.{TellsGoal}
-use Rattle.nbt_hosting.proofs.telling.write_goals.Given as goal
-
-abbrev pub invariant-loop-goal : goal.invariant-loop-goal
-invariant-loop-goal l = Told (TellsGoal l.second l.log) (take l.goal-index l.goals) (string_bytes l.fn.out) (string_bytes l.out)

@@ -1,0 +1,74 @@
+//! The list of the live leases.
+
+ghost use Rattle.std.specs.Prelude.{◌≡◌, ◌++◌, ℕ, List, OnOk};
+ghost use Rattle.std.specs.String.{string_bytes};
+ghost use Rattle.nbt_log.specs.Leases.{IsLeaseText, PrintsRow, PrintsLeases, machine};
+
+use crate::dates::Dates;
+use crate::time::write_time;
+use crate::word::{write_dotted, write_word};
+use nbt_lease::{Lease, Moment};
+use nbt_name::Name;
+use nbt_show::kind_word;
+use nbt_text::end_line;
+use std::alloc::AllocError;
+
+/// Appends a line for each of the rows whose lease lives at `now`, in their order: the name, its kind, the address, and when the
+/// lease ends, as `FILER#20 unique 192.0.2.7 2026-11-24T09:17:03Z`. A lease no longer lives at its end.
+pub fn write_leases(
+    dates: &Dates,
+    now: Moment,
+    rows: &[(Name, Lease)],
+    out: &mut String,
+) -> Result<(), AllocError>
+    ensures { OnOk result ((text : List ℕ) × PrintsLeases dates.now now rows.now text × (string_bytes out.new ≡ string_bytes out.old ++ text)) }
+{
+    let mut rest = rows;
+    'rows: while let Some((row, others)) = rest.split_first() {
+        write_row(dates, now, row, out)?;
+        rest = others;
+    }
+    Ok(())
+}
+
+/// Appends the line of a row whose lease lives.
+fn write_row(
+    dates: &Dates,
+    now: Moment,
+    row: &(Name, Lease),
+    out: &mut String,
+) -> Result<(), AllocError>
+    ensures { OnOk result ((text : List ℕ) × PrintsRow dates.now now row.now text × (string_bytes out.new ≡ string_bytes out.old ++ text)) }
+{
+    let (name, lease) = row;
+    if now.get() < lease.end {
+        write_lease(dates, name, lease, out)
+    } else {
+        Ok(())
+    }
+}
+
+/// Appends the line of a lease.
+fn write_lease(
+    dates: &Dates,
+    name: &Name,
+    lease: &Lease,
+    out: &mut String,
+) -> Result<(), AllocError>
+    ensures { OnOk result ((text : List ℕ) × IsLeaseText dates.now name.now lease.now text × (string_bytes out.new ≡ string_bytes out.old ++ text)) }
+{
+    write_word(name, out)?;
+    write_machine(lease, out)?;
+    write_time(dates.second_at(lease.end), out)?;
+    end_line(out)
+}
+
+/// Appends of which kind a lease is, and which machine has it.
+fn write_machine(lease: &Lease, out: &mut String) -> Result<(), AllocError>
+    ensures { OnOk result (string_bytes out.new ≡ string_bytes out.old ++ machine lease.now) }
+{
+    let kind = kind_word(lease.kind);
+    write!(out, " {kind} ")?;
+    write_dotted(lease.addr, out)?;
+    out.push_str(" ")
+}

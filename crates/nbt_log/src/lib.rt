@@ -1,0 +1,25 @@
+//! The lines of a name server's log and the list of its live leases, as text (our profile), with the words that a host's lines share.
+//! All of it is made of values: no port, clock or file is read.
+//!
+//! ```text
+//! 2026-11-24T09:12:03Z granted FILER#20 192.0.2.7 unique 300 s
+//! 2026-11-24T09:12:04Z refused FILER#20 192.0.2.8 unique: held by another (6)
+//! 2026-11-24T09:12:05Z malformed from 192.0.2.9:137: 12 octets
+//! ```
+#![tactic(auto)]
+
+mod dates;
+mod entry;
+mod leases;
+mod limiter;
+mod line;
+mod time;
+mod word;
+
+pub use dates::Dates;
+pub use entry::Entry;
+pub use leases::write_leases;
+pub use limiter::{LINES_MOST, Limiter};
+pub use line::{write_entry, write_reason, write_seconds};
+pub use time::write_time;
+pub use word::write_word;

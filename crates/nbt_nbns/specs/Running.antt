@@ -1,0 +1,70 @@
+-- What `nbns` does and prints over this machine (our profile).
+use Rattle.std.specs.Prelude.{◌≡◌, ℕ, ◌+◌, Bool, true, false, if◌then◌else◌, List, [], Option, Some, None, String}
+use Rattle.std.specs.String.{string_bytes}
+use Rattle.std.specs.Io.KnownBytes.{Appends}
+use Rattle.nbt_name.specs.declared.addr.Addr.{Addr}
+use Rattle.nbt_lease.specs.Config.{milliseconds}
+use Rattle.nbt_server.specs.Serving.{ServerValue}
+use Rattle.nbt_server.specs.Calls.{ServerStarts}
+use Rattle.nbt_port.specs.PortCalls.{PortCall}
+use Rattle.nbt_port.specs.Udp.{UdpValue, UdpDoes, MachineTells}
+use Rattle.nbt_log.specs.Dates.{second_at}
+use Rattle.nbt_log.specs.Limiting.{LimiterValue}
+use Rattle.nbt_log.specs.declared.dates.Dates.{Dates}
+use Rattle.nbt_port.specs.Until.{until_of}
+use Rattle.nbt_nbns.specs.SambaPort.{HandsOn}
+use Rattle.nbt_nbns.specs.Begin.{IsBegin}
+use Rattle.nbt_nbns.specs.Journaling.{Journals}
+use Rattle.nbt_nbns.specs.Keeping.{KeeperValue, new_keeper}
+use Rattle.nbt_nbns.specs.Places.{FileValue, file_of, Stays}
+use Rattle.nbt_nbns.specs.Watching.{Watching, WatchesUntil, WatchFails}
+use Rattle.nbt_nbns.specs.declared.running.NbnsArguments.{NbnsArguments}
+use Rattle.nbt_nbns.specs.declared.journal.Journal.{Journal}
+
+-- the port that the server has: over UDP, or over one on which Samba's registrations come as registrations
+abbrev pub PortDoes : (strict : Bool) → UdpValue → PortCall → UdpValue → Type 0
+PortDoes true = UdpDoes
+PortDoes false = HandsOn UdpDoes
+
+-- a log in which no line was printed yet, if there is to be one
+abbrev pub log_of : Bool → Option LimiterValue
+log_of log = if log then Some (record { told = []; left_out = 0 }) else None
+
+-- a list that was not kept yet in the file of this path, if there is to be one
+abbrev pub leases_of : {A : Type 0} → Option (String A) → Option (KeeperValue FileValue)
+leases_of None = None
+leases_of (Some path) = Some (new_keeper (file_of (string_bytes path)))
+
+-- what goes on: a port, a clock and a server of this machine, and the journal
+abbrev pub Nbns : Type 0
+Nbns = Watching UdpValue ℕ (Journal ℕ FileValue)
+
+-- Both clocks are read, the first line is printed, and a server starts, which is watched from then on.
+pub record Begins (a : NbnsArguments) (goes : (start : ℕ) → Nbns → Nbns → Type 0) (old_text text : Option (List ℕ)) : Type 0 where
+  pub at : Addr
+  pub start : ℕ
+  pub day : ℕ
+  pub time : ℕ
+  pub line : List ℕ
+  pub begun_text : Option (List ℕ)
+  pub first : ServerValue
+  pub port : UdpValue
+  pub clock : ℕ
+  pub last : ServerValue
+  pub journal : Journal ℕ FileValue
+  pub start_told : MachineTells 0 start start
+  pub time_told : MachineTells day time time
+  pub is_first : IsBegin at a.config.longest (second_at (record { moment = start; time = time }) (start + milliseconds a.config.longest)) line
+  pub printed : Appends old_text begun_text line
+  pub starts : ServerStarts a.config start first
+  pub goes_on : goes start
+      (record { port = record { addr = a.bind; failures = 0 }; clock = start; server = first; watcher = record { dates = record { moment = start; time = time }; day = time; log = log_of a.log; leases = leases_of a.leases }; text = begun_text })
+      (record { port = port; clock = clock; server = last; watcher = journal; text = text })
+
+-- it stays up, or its time is over
+abbrev pub RunsNbns : NbnsArguments → (old_text text : Option (List ℕ)) → Type 0
+RunsNbns a old_text text = Begins a (λ start. WatchesUntil (PortDoes a.strict) MachineTells (Journals MachineTells Stays) (until_of start a.time)) old_text text
+
+-- it gives up
+abbrev pub NbnsFails : NbnsArguments → (old_text text : Option (List ℕ)) → Type 0
+NbnsFails a old_text text = Begins a (λ start. WatchFails (PortDoes a.strict) MachineTells (Journals MachineTells Stays) (until_of start a.time)) old_text text

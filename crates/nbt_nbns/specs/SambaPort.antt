@@ -1,0 +1,21 @@
+-- What a port hands on of what the port beneath it receives (our profile).
+use Rattle.std.specs.Prelude.{◌≡◌, ℕ, List}
+use Rattle.nbt_name.specs.declared.addr.Addr.{Addr}
+use Rattle.nbt_packet.specs.declared.message.Registration.{Registration}
+use Rattle.nbt_port.specs.PortCalls.{PortCall, came}
+use Rattle.nbt_nbns.specs.Samba.{as_registration, IsTaken}
+
+-- the call is no datagram that is taken for a registration
+abbrev pub IsOther : PortCall → Type 0
+IsOther call = (from : Addr) (octets : List ℕ) (r : Registration) → call ≡ came from octets → ¬ IsTaken octets r
+
+-- A datagram that is taken comes as the registration from the same end; every other call is as it was.
+pub data Becomes : PortCall → PortCall → Type 0 where
+  taken : (from : Addr) (octets : List ℕ) (r : Registration) → IsTaken octets r → Becomes (came from octets) (came from (as_registration octets))
+  unchanged : (call : PortCall) → IsOther call → Becomes call call
+
+-- A call is one of the port beneath, which it became.
+pub record HandsOn {P : Type 0} (does : P → PortCall → P → Type 0) (old : P) (call : PortCall) (new : P) : Type 0 where
+  pub beneath : PortCall
+  pub did : does old beneath new
+  pub becomes : Becomes beneath call

@@ -1,0 +1,197 @@
+//! A name server over this machine's UDP, its clocks and its files.
+
+ghost use Rattle.std.specs.Prelude.{◌≡◌, ◌+◌, ◌≤◌, ◌^◌, ◌⊎◌, ℕ, List, Err, OnOk, IfOk, IfErr, OnErr};
+ghost use Rattle.std.specs.Io.KnownBytes.{Appends};
+ghost use Rattle.nbt_lease.specs.Config.{milliseconds};
+ghost use Rattle.nbt_port.specs.Udp.{UdpValue};
+ghost use Rattle.nbt_log.specs.Dates.{second_at};
+ghost use Rattle.nbt_nbns.specs.Begin.{IsBegin};
+ghost use Rattle.nbt_port.specs.Until.{until_of};
+ghost use Rattle.nbt_nbns.specs.Running.{PortDoes, log_of, leases_of, RunsNbns, NbnsFails};
+ghost use Rattle.nbt_nbns.specs.Watching.{WatchesUntil, WatchFails};
+
+use crate::begin::write_begin;
+use crate::complaint::complain;
+use crate::journal::Journal;
+use crate::keeper::Keeper;
+use crate::logger::Logger;
+use crate::place::FilePlace;
+use crate::samba_port::SambaPort;
+use crate::staying::{Watcher, watch_on};
+use nbt_lease::{Config, Moment};
+use nbt_log::Dates;
+use nbt_name::Addr;
+use nbt_port::{Clock, Fault, UdpPort, bound_port, readable_clock, steady_clock, until_of};
+use nbt_server::Server;
+use std::alloc::{AllocError, Global};
+use std::io::Write;
+use std::net::Net;
+use std::rt::Files;
+use std::{io, time};
+
+/// What a name server is to do.
+#[derive(Debug, Drop)]
+pub struct NbnsArguments {
+    /// Its own address and port.
+    pub bind: Addr,
+    /// The limits.
+    pub config: Config,
+    /// After how many milliseconds it ends; `None` where it has no end.
+    pub time: Option<u64>,
+    /// Whether it logs what it makes of each datagram.
+    pub log: bool,
+    /// The path of the file that has the list of its live leases, if there is to be one.
+    pub leases: Option<String>,
+    /// Whether registrations that Samba's programs send are left as they are.
+    pub strict: bool,
+}
+
+/// Runs a name server on a UDP port of this machine, over its clock that nobody sets. It first prints where it serves, for how long
+/// it is silent and until when, and then stays up for 2^61 turns or until its time is over, also where the port fails, as
+/// [`watch_on`] does. It logs to `writer`, and keeps the list of its leases in a file, where that is asked for. Refused: `NoPort`
+/// where the port can't be had; `NoClock` where a clock can't be read at first; `Memory` where memory is refused before the first
+/// line; `Output` where that line can't be written; `Device` at the hundredth turn in a row that fails. Of each but `Memory` a line
+/// in `errors` says what failed, and why. What can't be written to `errors` is passed over.
+pub fn run_nbns<M: Net + time::Clock + Files, W: Write, E: Write>(
+    machine: &M,
+    alloc: Global,
+    arguments: &NbnsArguments,
+    writer: &mut W,
+    errors: &mut E,
+) -> Result<(), Fault>
+    ensures ok { OnOk result (RunsNbns arguments.now (W.contents writer.old) (W.contents writer.new)) }
+    ensures device { result ≡ Err Fault.Device → NbnsFails arguments.now (W.contents writer.old) (W.contents writer.new) }
+    ensures port { result ≡ Err Fault.NoPort → W.contents writer.new ≡ W.contents writer.old }
+    ensures clock { result ≡ Err Fault.NoClock → W.contents writer.new ≡ W.contents writer.old }
+    ensures memory { result ≡ Err Fault.Memory → W.contents writer.new ≡ W.contents writer.old }
+{
+    let port = bound_port(machine, arguments.bind, errors)?;
+    let mut clock = steady_clock(machine, arguments.bind, errors)?;
+    let mut day = readable_clock(machine, arguments.bind, errors)?;
+    let start = clock.now();
+    let dates = Dates {
+        moment: start,
+        time: day.now(),
+    };
+    let mut journal = Journal {
+        dates,
+        day,
+        log: log_of(alloc, arguments.log),
+        leases: leases_of(machine, alloc, &arguments.leases)?,
+    };
+    let local = local_of(&port);
+    tell_begin(alloc, local, &dates, arguments.config, writer, errors)?;
+    let mut server = Server::start(alloc, arguments.config, start);
+    let until = until_of(start, arguments.time);
+    watch_over(
+        port,
+        arguments.strict,
+        &mut clock,
+        &mut server,
+        &mut journal,
+        until,
+        machine,
+        writer,
+        errors,
+    )
+}
+
+/// The address that a port really has, where the machine tells it; else the one that was asked for.
+fn local_of(port: &UdpPort) -> Addr {
+    port.local().unwrap_or(port.addr())
+}
+
+/// Prints where a server serves that starts now, for how long it is silent, and until when, at once. Refused: `Memory`, and then
+/// nothing is printed; `Output` where the line can't be written, and it says why in `errors`.
+fn tell_begin<W: Write, E: Write>(
+    alloc: Global,
+    at: Addr,
+    dates: &Dates,
+    config: Config,
+    writer: &mut W,
+    errors: &mut E,
+) -> Result<(), Fault>
+    ensures ok { OnOk result ((line : List ℕ) × IsBegin at config.longest (second_at dates.now (dates.now.moment + milliseconds config.longest)) line
+        × Appends (W.contents writer.old) (W.contents writer.new) line) }
+    ensures err { IfErr result (λ fault. (fault ≡ Fault.Output) ⊎ ((fault ≡ Fault.Memory) × (W.contents writer.new ≡ W.contents writer.old))) }
+{
+    let silent = config.longest();
+    let until = dates.second_at(dates.moment.get() + 1000 * u64::from(silent));
+    let mut line = String::new(alloc);
+    write_begin(at, silent, until, &mut line)?;
+    match print(line.as_str(), writer) {
+        Ok(()) => Ok(()),
+        Err(error) => {
+            complain("the first line", error, errors);
+            Err(Fault::Output)
+        }
+    }
+}
+
+fn print<W: Write>(text: &str, writer: &mut W) -> io::Result<()>
+    ensures { OnOk result (Appends (W.contents writer.old) (W.contents writer.new) text.now) }
+{
+    writer.write_all(text.as_bytes())?;
+    writer.flush()
+}
+
+/// The log, if there is to be one.
+fn log_of(alloc: Global, is_wanted: bool) -> Option<Logger>
+    ensures { result ≡ log_of is_wanted }
+{
+    if is_wanted {
+        Some(Logger::new(alloc))
+    } else {
+        None
+    }
+}
+
+/// The list of leases in the file of this path, if there is to be one.
+fn leases_of<'a, M: Files>(
+    machine: &'a M,
+    alloc: Global,
+    path: &Option<String>,
+) -> Result<Option<Keeper<FilePlace<'a, M>>>, AllocError>
+    ensures { IfOk result (λ leases. leases ≡ leases_of path.now) }
+{
+    let Some(path) = path else {
+        return Ok(None);
+    };
+    let place = FilePlace::new(machine, alloc, path.as_str())?;
+    Ok(Some(Keeper::new(alloc, place)))
+}
+
+/// Watches a server until it ends, over this port as it is where that is `strict`, else over one on which Samba's registrations
+/// come as registrations.
+fn watch_over<C: Clock, V: Watcher, M: time::Clock, W: Write, E: Write>(
+    port: UdpPort,
+    strict: bool,
+    clock: &mut C,
+    server: &mut Server,
+    watcher: &mut V,
+    until: Option<Moment>,
+    machine: &M,
+    writer: &mut W,
+    errors: &mut E,
+) -> Result<(), Fault>
+    requires failure_count { port.failures ≤ 2 ^ 61 }
+    ensures ok { OnOk result ((last : UdpValue) × WatchesUntil (PortDoes strict) C.tells V.sees until
+        (record { port = port; clock = clock.old; server = server.old; watcher = watcher.old; text = W.contents writer.old })
+        (record { port = last; clock = clock.new; server = server.new; watcher = watcher.new; text = W.contents writer.new })) }
+    ensures err { OnErr result ((last : UdpValue) × WatchFails (PortDoes strict) C.tells V.sees until
+        (record { port = port; clock = clock.old; server = server.old; watcher = watcher.old; text = W.contents writer.old })
+        (record { port = last; clock = clock.new; server = server.new; watcher = watcher.new; text = W.contents writer.new })) }
+    ensures fault { IfErr result (λ fault. fault ≡ Fault.Device) }
+{
+    if strict {
+        let mut port = port;
+        watch_on(
+            &mut port, clock, server, watcher, until, machine, writer, errors,
+        )
+    } else {
+        let mut port = SambaPort::new(port);
+        watch_on(
+            &mut port, clock, server, watcher, until, machine, writer, errors,
+        )
+    }
+}

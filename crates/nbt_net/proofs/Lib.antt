@@ -1,4 +1,0 @@
-pub mod Beginning
-pub mod Printing
-pub mod Outcomes
-pub mod Turning

@@ -1,0 +1,55 @@
+-- What a port makes of the answers of the machine's sockets (our profile).
+use Rattle.std.specs.Prelude.{◌≡◌, ℕ, List, [], Option, None, Some, Result, Ok, Err, take}
+use Rattle.std.specs.IoError.{error_kind}
+use Rattle.std.specs.Net.Addr.{ipv4_bits}
+use Rattle.std.specs.Net.Socket.{v4_ip, v4_port}
+use Rattle.std.specs.declared.io.Error.{Error}
+use Rattle.std.specs.declared.io.ErrorKind.{ErrorKind}
+use Rattle.std.specs.declared.io.ErrorKind.TheVariants as kind
+use Rattle.std.specs.declared.net.socket_addr.SocketAddr.{SocketAddr}
+use Rattle.std.specs.declared.net.socket_addr.SocketAddr.TheVariants.{V4, V6}
+use Rattle.nbt_name.specs.declared.addr.Addr.{Addr}
+use Rattle.nbt_port.specs.declared.port.Device.{Device}
+
+-- nothing came in time
+abbrev pub IsNothing : ErrorKind → Type 0
+IsNothing kind.WouldBlock = Unit {0}
+IsNothing kind.TimedOut = Unit {0}
+IsNothing kind.Interrupted = Unit {0}
+IsNothing _ = ⊥
+
+-- there is no way to where the datagram should go
+abbrev pub HasNoWay : ErrorKind → Type 0
+HasNoWay kind.InvalidInput = Unit {0}
+HasNoWay kind.PermissionDenied = Unit {0}
+HasNoWay kind.AddrNotAvailable = Unit {0}
+HasNoWay kind.HostUnreachable = Unit {0}
+HasNoWay kind.NetworkUnreachable = Unit {0}
+HasNoWay kind.ConnectionRefused = Unit {0}
+HasNoWay _ = ⊥
+
+-- the address of a sender
+abbrev pub IsSender : SocketAddr → Option Addr → Type 0
+IsSender (V4 from) (Some addr) = (addr.ip ≡ ipv4_bits (v4_ip from)) × (addr.port ≡ v4_port from)
+IsSender (V4 from) None = ⊥
+IsSender (V6 from) addr = addr ≡ None
+
+-- the octets of a datagram from a sender, or none
+abbrev pub octets_from : SocketAddr → List ℕ → List ℕ
+octets_from (V4 from) octets = octets
+octets_from (V6 from) octets = []
+
+-- What a receive hands out of an answer: its sender and as many octets of the buffer as it says; nothing; or it fails, at
+-- every other error.
+abbrev pub Received : Result (ℕ × SocketAddr) Error → (buffer : List ℕ) → Result (Option Addr) Device → (octets : List ℕ) → Type 0
+Received (Ok (count, from)) buffer (Ok sender) octets = IsSender from sender × (octets ≡ octets_from from (take count buffer))
+Received (Ok (count, from)) buffer (Err failure) octets = ⊥
+Received (Err error) buffer (Ok sender) octets = IsNothing (error_kind error) × (sender ≡ None) × (octets ≡ [])
+Received (Err error) buffer (Err failure) octets = (¬ IsNothing (error_kind error)) × (octets ≡ [])
+
+-- What a send comes to: it fails at every error but those of a datagram without a way, which is lost.
+abbrev pub Sent : {A : Type 0} → Result ℕ Error → Result A Device → Type 0
+Sent (Ok count) (Ok done) = Unit {0}
+Sent (Ok count) (Err failure) = ⊥
+Sent (Err error) (Ok done) = HasNoWay (error_kind error)
+Sent (Err error) (Err failure) = ¬ HasNoWay (error_kind error)

@@ -1,0 +1,7 @@
+pub mod Faults
+pub mod Inner
+pub mod Memory
+pub mod PortCalls
+pub mod Staying
+pub mod Udp
+pub mod Until

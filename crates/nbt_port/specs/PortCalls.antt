@@ -1,0 +1,34 @@
+-- What a port and a clock do, call by call (our profile).
+use Rattle.std.specs.Prelude.{◌≡◌, ℕ, ◌+◌, List, [], ◌∷◌, Option, Some, None, Result, Ok, Err}
+use Rattle.nbt_name.specs.declared.addr.Addr.{Addr}
+use Rattle.nbt_port.specs.declared.port.Device.{Device}
+
+-- One call of a port, with what came of it: nothing came, or a datagram from an end did, or the device failed; a
+-- datagram was sent to an end, or the device failed, and it was lost.
+pub data PortCall : Type 0 where
+  nothing_came : PortCall
+  came : (from : Addr) → (octets : List ℕ) → PortCall
+  receive_failed : PortCall
+  sent : (to : Addr) → (octets : List ℕ) → PortCall
+  send_failed : (to : Addr) → (octets : List ℕ) → PortCall
+
+-- what a receive was, by what it returned and by what it left in its buffer
+abbrev pub receiving : Result (Option Addr) Device → (octets : List ℕ) → PortCall
+receiving (Ok None) octets = nothing_came
+receiving (Ok (Some from)) octets = came from octets
+receiving (Err failure) octets = receive_failed
+
+-- what a send was, by what it returned
+abbrev pub sending : {A : Type 0} → Addr → (octets : List ℕ) → Result A Device → PortCall
+sending to octets (Ok done) = sent to octets
+sending to octets (Err failure) = send_failed to octets
+
+-- a count of failures grows by one exactly where a call fails
+abbrev pub CountsFailure : {A : Type 0} → (before after : ℕ) → Result A Device → Type 0
+CountsFailure before after (Ok value) = after ≡ before
+CountsFailure before after (Err failure) = after ≡ before + 1
+
+-- steps in order, each from where the one before it led
+abbrev pub Chain : {S X : Type 0} → (S → X → S → Type 0) → S → List X → S → Type 0
+Chain step old [] new = new ≡ old
+Chain {S = S} step old (x ∷ xs) new = (mid : S) × step old x mid × Chain step mid xs new

@@ -1,0 +1,24 @@
+-- A port over UDP, and the machine's clock: as much as can be said of them (our profile).
+use Rattle.std.specs.Prelude.{◌≡◌, ℕ, ◌≤◌, length}
+use Rattle.nbt_name.specs.declared.addr.Addr.{Addr}
+use Rattle.nbt_lease.specs.Config.{last_moment}
+use Rattle.nbt_port.specs.declared.port.TheConstants.{MOST}
+use Rattle.nbt_port.specs.PortCalls.{PortCall, came}
+
+-- the address that a port was bound to, as it was asked for, and how many of its calls have failed
+pub record UdpValue : Type 0 where
+  pub addr : Addr
+  pub failures : ℕ
+
+-- What comes has at most 2,048 octets.
+abbrev pub FitsReceive : PortCall → Type 0
+FitsReceive (came from octets) = length octets ≤ MOST
+FitsReceive _ = Unit {0}
+
+-- A call leaves the port where it is. Which octets a socket carries, no contract can say.
+abbrev pub UdpDoes : UdpValue → PortCall → UdpValue → Type 0
+UdpDoes old act new = (new.addr ≡ old.addr) × FitsReceive act
+
+-- The clock keeps the moment that it told. Which one it tells, no contract can say.
+abbrev pub MachineTells : (old moment new : ℕ) → Type 0
+MachineTells old moment new = (new ≡ moment) × (moment ≤ last_moment)

@@ -1,0 +1,33 @@
+//! Ports and clocks: UDP and the system's clocks, the same over memory, why a call of the system failed, and how a server or a
+//! host stays up when its port fails (our profile).
+//!
+//! A [`Port`] receives and sends datagrams, and a [`Clock`] tells the time. All above is the same over UDP and the system's
+//! clocks as over memory.
+#![tactic(auto)]
+
+mod binding;
+mod cause;
+mod clock;
+mod fault;
+pub mod laws;
+mod limits;
+mod memory;
+mod monotonic;
+mod port;
+mod staying;
+mod time_of_day;
+mod udp;
+mod until;
+
+pub use binding::{bound_port, not_bound};
+pub use cause::{Cause, MachineCall};
+pub use clock::Clock;
+pub use fault::Fault;
+pub use limits::{FOREVER, MOST_FAILURES};
+pub use memory::{Datagram, MemoryClock, MemoryPort};
+pub use monotonic::{SteadyClock, steady_clock};
+pub use port::{Device, Port};
+pub use staying::{Turn, Turned, stay_up, tell_end_of};
+pub use time_of_day::{MachineClock, readable_clock};
+pub use udp::{RECEIVE_WAIT, UdpPort};
+pub use until::{is_over, until_of};

@@ -1,0 +1,48 @@
+//! Where datagrams come from and go to.
+
+ghost use Rattle.std.specs.Prelude.{◌≡◌, ℕ, ◌<◌, ◌^◌};
+ghost use Rattle.nbt_port.specs.PortCalls.{PortCall, receiving, sending, CountsFailure};
+
+use crate::cause::Cause;
+use arrayvec::ArrayVec;
+use nbt_name::Addr;
+use thiserror::Error;
+
+/// The most octets of a datagram that a port hands out.
+pub const MOST: usize = 2048;
+
+/// A call of a port failed.
+#[derive(Clone, Copy, Debug, PartialEq, Eq, Error)]
+#[error("device")]
+pub struct Device;
+
+/// A port for datagrams, as UDP has (RFC 768).
+pub trait Port {
+    /// What a call of it is: the port before, what the call did, and the port afterwards.
+    ghost does: { Self → PortCall → Self → Type 0 };
+
+    /// How many calls have failed.
+    ghost failures: { Self → ℕ };
+
+    /// Waits for a datagram, as long as the port does. Returns its sender, or `None` where none came; `octets` then
+    /// holds its first 2,048 octets, or as many as it has, or none. Refused with `Device` where the device fails.
+    fn receive(&mut self, octets: &mut ArrayVec<u8, 2048>) -> Result<Option<Addr>, Device>
+        requires failure_count { failures self.old < 2 ^ 62 }
+        ensures does { does self.old (receiving result octets.new.items) self.new }
+        ensures count { CountsFailure (failures self.old) (failures self.new) result };
+
+    /// Sends these octets to an end. Refused with `Device` where the device fails: they are then lost.
+    fn send(&mut self, to: Addr, octets: &[u8]) -> Result<(), Device>
+        requires failure_count { failures self.old < 2 ^ 62 }
+        ensures does { does self.old (sending to octets.now result) self.new }
+        ensures count { CountsFailure (failures self.old) (failures self.new) result };
+
+    /// How many calls have failed.
+    fn failures(&self) -> u64
+        ensures { result ≡ failures self.now };
+
+    /// Why the last call failed that did, where the port knows it.
+    fn cause(&self) -> Option<Cause> {
+        None
+    }
+}

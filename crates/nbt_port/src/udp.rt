@@ -1,0 +1,191 @@
+//! A port over UDP.
+
+ghost use Rattle.std.specs.Prelude.{◌≡◌, ◌≤◌, ◌<◌, ◌^◌, ◌↔◌, [], None, Ok, IfOk, IsTrue};
+ghost use Rattle.std.specs.IoError.{error_kind};
+ghost use Rattle.nbt_port.specs.PortCalls.{receiving, CountsFailure};
+ghost use Rattle.nbt_port.specs.Inner.Sockets.{IsNothing, HasNoWay, Received, Sent};
+
+use crate::cause::{Cause, MachineCall};
+use crate::port::{Device, MOST, Port};
+use arrayvec::ArrayVec;
+use nbt_name::Addr;
+use std::io;
+use std::io::ErrorKind;
+use std::marker::Model;
+use std::net::{IpAddr, Ipv4Addr, Net, SocketAddr, UdpSocket};
+use std::time::Duration;
+
+/// How long a receive waits for a datagram, in milliseconds (our profile).
+pub const RECEIVE_WAIT: u64 = 100;
+
+/// A port over UDP (RFC 768). A receive waits 100 ms at most. A contract sees the address that it was bound to, as it was
+/// asked for, and how many calls have failed.
+#[derive(Drop)]
+pub struct UdpPort {
+    socket: UdpSocket,
+    addr: Addr,
+    failures: u64,
+    cause: Option<Cause>,
+}
+
+impl Model for UdpPort {
+    ghost use Rattle.nbt_port.specs.Udp.{UdpValue};
+
+    ghost Value = { UdpValue };
+
+    ghost view = { λ p. record { addr = p.addr; failures = p.failures } };
+}
+
+impl UdpPort {
+    /// The port at an address of this machine; for port 0 the machine chooses one. Refused where the machine refuses it, as
+    /// one in use, or one that isn't its.
+    pub fn bind<R: Net>(net: &R, addr: Addr) -> io::Result<UdpPort>
+        ensures { IfOk result (λ p. p ≡ record { addr = addr; failures = 0 }) }
+    {
+        let socket = UdpSocket::bind(net, socket_addr(addr))?;
+        socket.set_read_timeout(Some(Duration::from_millis(RECEIVE_WAIT)))?;
+        Ok(UdpPort {
+            socket,
+            addr,
+            failures: 0,
+            cause: None,
+        })
+    }
+
+    /// The address that it was bound to, as it was asked for.
+    pub fn addr(&self) -> Addr
+        ensures { result ≡ self.now.addr }
+    {
+        self.addr
+    }
+
+    /// The address that it really has: for port 0 the one that the machine chose.
+    pub fn local(&self) -> io::Result<Addr> {
+        match self.socket.local_addr()? {
+            SocketAddr::V4(here) => Ok(Addr {
+                ip: here.ip().to_bits(),
+                port: here.port(),
+            }),
+            SocketAddr::V6(_) => Ok(self.addr),
+        }
+    }
+
+    /// Why this call of it failed.
+    fn cause_of(&self, call: MachineCall, error: Option<io::Error>) -> Option<Cause> {
+        match error {
+            Some(error) => Some(Cause::new(call, self.addr, error)),
+            None => None,
+        }
+    }
+}
+
+impl Port for UdpPort {
+    ghost use Rattle.nbt_port.specs.Udp.{UdpDoes};
+
+    ghost does = { UdpDoes };
+
+    ghost failures = { λ p. p.failures };
+
+    fn receive(&mut self, octets: &mut ArrayVec<u8, 2048>) -> Result<Option<Addr>, Device>
+        requires failure_count { self.old.failures < 2 ^ 62 }
+        ensures does { UdpDoes self.old (receiving result octets.new.items) self.new }
+        ensures count { CountsFailure self.old.failures self.new.failures result }
+        // Where nothing came, nothing is left of an earlier datagram.
+        ensures empty { result ≡ Ok None → octets.new.items ≡ [] }
+    {
+        let mut buffer = [0; MOST];
+        let answer = self.socket.recv_from(&mut buffer);
+        let error = answer.err();
+        let received = received(answer, &buffer, octets);
+        if received.is_err() {
+            self.failures += 1;
+            self.cause = self.cause_of(MachineCall::Receive, error);
+        }
+        received
+    }
+
+    fn send(&mut self, to: Addr, octets: &[u8]) -> Result<(), Device> {
+        let answer = self.socket.send_to(octets, socket_addr(to));
+        let sent = sent(answer);
+        if sent.is_err() {
+            self.failures += 1;
+            self.cause = self.cause_of(MachineCall::Send, answer.err());
+        }
+        sent
+    }
+
+    fn failures(&self) -> u64 {
+        self.failures
+    }
+
+    fn cause(&self) -> Option<Cause> {
+        self.cause
+    }
+}
+
+/// What comes of the machine's answer to a receive: the sender, with the octets that it says; nothing, where none came in
+/// time, or it is from no address of 32 bits; or `Device` at any other error.
+fn received(
+    answer: io::Result<(usize, SocketAddr)>,
+    buffer: &[u8; MOST],
+    octets: &mut ArrayVec<u8, 2048>,
+) -> Result<Option<Addr>, Device>
+    requires within { IfOk answer (λ a. a.0 ≤ MOST) }
+    ensures { Received answer buffer.now result octets.new.items }
+{
+    octets.clear();
+    match answer {
+        Ok((len, SocketAddr::V4(from))) => {
+            let _ = octets.try_extend_from_slice(&buffer[..len]);
+            Ok(Some(Addr {
+                ip: from.ip().to_bits(),
+                port: from.port(),
+            }))
+        }
+        Ok((_, SocketAddr::V6(_))) => Ok(None),
+        Err(error) if is_nothing(&error) => Ok(None),
+        Err(_) => Err(Device),
+    }
+}
+
+/// What comes of the machine's answer to a send: `Device` at an error that doesn't say that the datagram has no way.
+fn sent(answer: io::Result<usize>) -> Result<(), Device>
+    ensures { Sent answer result }
+{
+    match answer {
+        Ok(_) => Ok(()),
+        Err(error) if has_no_way(&error) => Ok(()),
+        Err(_) => Err(Device),
+    }
+}
+
+/// Whether the error says that nothing came in time.
+fn is_nothing(error: &io::Error) -> bool
+    ensures { IsTrue result ↔ IsNothing (error_kind error.now) }
+{
+    matches!(
+        error.kind(),
+        ErrorKind::WouldBlock | ErrorKind::TimedOut | ErrorKind::Interrupted
+    )
+}
+
+/// Whether the error says that there is no way to where this one datagram should go, as to port 0, which a stranger can
+/// write into what it sends. The device is well, and the datagram is lost, as UDP may lose any.
+fn has_no_way(error: &io::Error) -> bool
+    ensures { IsTrue result ↔ HasNoWay (error_kind error.now) }
+{
+    matches!(
+        error.kind(),
+        ErrorKind::InvalidInput
+            | ErrorKind::PermissionDenied
+            | ErrorKind::AddrNotAvailable
+            | ErrorKind::HostUnreachable
+            | ErrorKind::NetworkUnreachable
+            | ErrorKind::ConnectionRefused
+    )
+}
+
+/// The address as sockets take it.
+fn socket_addr(addr: Addr) -> SocketAddr {
+    SocketAddr::new(IpAddr::V4(Ipv4Addr::from_bits(addr.ip)), addr.port)
+}

@@ -1,3 +1,0 @@
-pub mod Handing
-pub mod Inner
-pub mod Taking

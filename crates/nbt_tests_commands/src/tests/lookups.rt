@@ -1,0 +1,281 @@
+//! The commands `lookup` and `status`: what they ask and print over UDP and a clock that is set.
+
+use super::LimitedWriter;
+use super::expect::expect_eq_in;
+use super::serving::{FAILED, NO_CLOCK, Row, expect_row, machine_of};
+use nbt_client::{Answer, Question, ask_here};
+use nbt_name::{Addr, Name};
+use nbt_port::Fault;
+use std::net::{Net, TcpListener, TcpStream};
+use std::process::Abort;
+use std::rt::Files;
+use std::test::Fail;
+
+/// The first query for FRED, and for `fred` in the scope `lab`; and a status request by `*`, and by FRED.
+const QUERY: &str = "0001_0100_0001_0000_0000_0000_{FRED}_0020_0001";
+
+const QUERY_AS_IT_STANDS: &str =
+    "0001_0100_0001_0000_0000_0000_204747484347464745434143414341434143414341434143414341434143414341036c616200_0020_0001";
+
+const ASKS_FOR_ALL: &str = "0001_0000_0001_0000_0000_0000_{STAR}_0021_0001";
+
+const ASKS_BY_FRED: &str = "0001_0000_0001_0000_0000_0000_{FRED}_0021_0001";
+
+/// Replies to them: two ends hold FRED, as a group; another's id; nobody does; and what a host is called, with its unit id.
+const FOUND: &str =
+    "0001_8580_0000_0001_0000_0000_{FRED}_0020_0001_0000003c_000c_a000_7f2a1603_a000_7f2a1604";
+
+const FOUND_BY_ANOTHER_ID: &str =
+    "0002_8580_0000_0001_0000_0000_{FRED}_0020_0001_0000003c_0006_2000_7f2a1605";
+
+const FOUND_AS_IT_STANDS: &str =
+    "0001_8580_0000_0001_0000_0000_204747484347464745434143414341434143414341434143414341434143414341036c616200_0020_0001_0000003c_0006_2000_7f2a1603";
+
+const NOT_FOUND: &str = "0001_8583_0000_0001_0000_0000_{FRED}_000a_0001_00000000_0000";
+
+const NAMES: &str =
+    "0001_8400_0000_0001_0000_0000_{STAR}_0021_0001_00000000_0041_01_46524544202020202020202020202020_2400_005056c00008_00000000000000000000000000000000000000000000000000000000000000000000000000000000";
+
+const NOBODY_HAS_IT: Row = Row {
+    about: "a name that nobody has",
+    words: "nbt lookup FRED --server 127.42.22.3:20139 --bind 127.42.22.2:20138",
+    moments: &[1_000_000],
+    sends: &[(4, NOT_FOUND)],
+    breaks_at: 0,
+    status: 1,
+    readings: 5,
+    text: "not found: no such name (3)\n",
+    errors: "",
+    sent: &[QUERY],
+};
+
+const NO_REPLY: Row = Row {
+    about: "no reply to one try in 250 ms",
+    words: "nbt lookup FRED --server 127.42.22.3:20139 --bind 127.42.22.2:20138 --tries 1 --wait 250ms",
+    moments: &[
+        1_000_000, 1_000_000, 1_000_000, 1_000_000, 1_000_000, 1_000_249, 1_000_249, 1_000_250,
+    ],
+    sends: &[],
+    breaks_at: 0,
+    status: 5,
+    readings: 8,
+    text: "no reply\n",
+    errors: "",
+    sent: &[QUERY],
+};
+
+const LOOKUPS: [Row; 9] = [
+    Row {
+        about: "a name of two ends, where small letters are folded, and another id is passed over",
+        words: "nbt lookup fred<20> --server 127.42.22.3:20139 --bind 127.42.22.2:20138",
+        moments: &[1_000_000],
+        sends: &[(4, FOUND_BY_ANOTHER_ID), (6, FOUND)],
+        breaks_at: 0,
+        status: 0,
+        readings: 7,
+        text: "127.42.22.3 group\n127.42.22.4 group\n",
+        errors: "",
+        sent: &[QUERY],
+    },
+    Row {
+        about: "a name as it stands, with a scope",
+        words: "nbt lookup fred --exact --scope lab --server 127.42.22.3:20139 --bind 127.42.22.2:20138",
+        moments: &[1_000_000],
+        sends: &[(4, FOUND_AS_IT_STANDS)],
+        breaks_at: 0,
+        status: 0,
+        readings: 5,
+        text: "127.42.22.3 unique\n",
+        errors: "",
+        sent: &[QUERY_AS_IT_STANDS],
+    },
+    NOBODY_HAS_IT,
+    NO_REPLY,
+    Row {
+        about: "no reply to two tries",
+        words: "nbt lookup FRED --server 127.42.22.3:20139 --bind 127.42.22.2:20138 --tries 2 --wait 1ms",
+        moments: &[
+            1_000_000, 1_000_000, 1_000_000, 1_004_999, 1_004_999, 1_005_000, 1_005_000, 1_005_001,
+        ],
+        sends: &[],
+        breaks_at: 0,
+        status: 5,
+        readings: 8,
+        text: "no reply\n",
+        errors: "",
+        sent: &[QUERY, QUERY],
+    },
+    Row {
+        about: "no reply in three tries of 5 s",
+        words: "nbt lookup FRED --server 127.42.22.3:20139 --bind 127.42.22.2:20138",
+        moments: &[
+            1_000_000, 1_000_000, 1_000_000, 1_005_000, 1_005_000, 1_010_000, 1_010_000, 1_014_999,
+            1_014_999, 1_015_000,
+        ],
+        sends: &[],
+        breaks_at: 0,
+        status: 5,
+        readings: 10,
+        text: "no reply\n",
+        errors: "",
+        sent: &[QUERY, QUERY, QUERY],
+    },
+    PORT_FAILS,
+    CLOCK_FAILS,
+    Row {
+        about: "the longest wait, of one try",
+        words: "nbt lookup FRED --server 127.42.22.3:20139 --bind 127.42.22.2:20138 --tries 1",
+        moments: &[
+            1_000_000, 1_000_000, 1_000_000, 1_004_999, 1_004_999, 1_005_000,
+        ],
+        sends: &[],
+        breaks_at: 0,
+        status: 5,
+        readings: 6,
+        text: "no reply\n",
+        errors: "",
+        sent: &[QUERY],
+    },
+];
+
+const PORT_FAILS: Row = Row {
+    about: "a port that fails",
+    words: "nbt lookup FRED --server 127.42.22.3:20139 --bind 127.42.22.2:20138",
+    moments: &[1_000_000],
+    sends: &[],
+    breaks_at: 4,
+    status: 3,
+    readings: 4,
+    text: "device\n",
+    errors: FAILED,
+    sent: &[QUERY],
+};
+
+const CLOCK_FAILS: Row = Row {
+    about: "a clock that can't be read",
+    words: "nbt lookup FRED --server 127.42.22.3:20139 --bind 127.42.22.2:20138",
+    moments: &[],
+    sends: &[],
+    breaks_at: 0,
+    status: 3,
+    readings: 1,
+    text: "device\n",
+    errors: NO_CLOCK,
+    sent: &[],
+};
+
+const STATUSES: [Row; 3] = [
+    Row {
+        about: "the names of a host",
+        words: "nbt status 127.42.22.3:20139 --bind 127.42.22.2:20138",
+        moments: &[1_000_000],
+        sends: &[(4, NAMES)],
+        breaks_at: 0,
+        status: 0,
+        readings: 5,
+        text: "FRED#20 unique active  file server\nunit id 00:50:56:c0:00:08\n",
+        errors: "",
+        sent: &[ASKS_FOR_ALL],
+    },
+    Row {
+        about: "a host that doesn't hold the name by which it is asked",
+        words: "nbt status 127.42.22.3:20139 fred --bind 127.42.22.2:20138",
+        moments: &[1_000_000],
+        sends: &[(4, NOT_FOUND)],
+        breaks_at: 0,
+        status: 1,
+        readings: 5,
+        text: "not found: no such name (3)\n",
+        errors: "",
+        sent: &[ASKS_BY_FRED],
+    },
+    Row {
+        about: "no reply",
+        words: "nbt status 127.42.22.3:20139 --bind 127.42.22.2:20138 --tries 1 --wait 1ms",
+        moments: &[
+            1_000_000, 1_000_000, 1_000_000, 1_000_000, 1_000_000, 1_000_001,
+        ],
+        sends: &[],
+        breaks_at: 0,
+        status: 5,
+        readings: 6,
+        text: "no reply\n",
+        errors: "",
+        sent: &[ASKS_FOR_ALL],
+    },
+];
+
+#[test]
+fn lookups(rt: HostRuntime) -> Result<(), Fail> {
+    for row in &LOOKUPS {
+        expect_row(&rt, row)?;
+    }
+    Ok(())
+}
+
+#[test]
+fn statuses(rt: HostRuntime) -> Result<(), Fail> {
+    for row in &STATUSES {
+        expect_row(&rt, row)?;
+    }
+    Ok(())
+}
+
+/// Where the command of those rows is, where it asks, and an address that is for documents alone (RFC 5737).
+const OWN: Addr = Addr {
+    ip: 0x7F2A1602,
+    port: 20138,
+};
+
+const OTHER: Addr = Addr {
+    ip: 0x7F2A1603,
+    port: 20139,
+};
+
+const NOBODY: Addr = Addr {
+    ip: 0xC0000201,
+    port: 20138,
+};
+
+/// What `ask_here` returns at a row's machine, and what it appends and says.
+fn expect_answer<R>(
+    rt: &R,
+    row: &Row,
+    own: Addr,
+    answer: Result<Answer, Fault>,
+    text: &str,
+    said: &str,
+) -> Result<(), Fail>
+where
+    R: Abort + AllocGlobal + Net<Stream = TcpStream, Listener = TcpListener> + Files,
+{
+    let machine = machine_of(rt, row)?;
+    let question = Question::Holders(OTHER, Name::new(b"FRED            ", b"")?);
+    let mut out = String::from_str(rt.alloc(), "> ")?;
+    let mut errors = LimitedWriter::new();
+    let got = ask_here(&machine, own, &question, 250, &mut out, &mut errors);
+    let about = row.about;
+    expect_eq_in(rt, &about, &got, &answer);
+    expect_eq_in(rt, &about, &out.as_str().strip_prefix("> "), &Some(text));
+    expect_eq_in(rt, &about, &errors.text.as_slice(), &said.as_bytes());
+    Ok(())
+}
+
+/// A machine that has no such address.
+const NO_ADDRESS: &str = "nbt: 192.0.2.1:20138: Cannot assign requested address (os error 99)\n";
+
+#[test]
+fn questions_over_this_machine(rt: HostRuntime) -> Result<(), Fail> {
+    let nobody = "not found: no such name (3)\n";
+    let answers = [
+        (&NOBODY_HAS_IT, OWN, Ok(Answer::NotFound), nobody, ""),
+        (&NO_REPLY, OWN, Ok(Answer::NoReply), "no reply\n", ""),
+        (&PORT_FAILS, OWN, Err(Fault::Device), "", FAILED),
+        (&CLOCK_FAILS, OWN, Err(Fault::NoClock), "", NO_CLOCK),
+        (&PORT_FAILS, NOBODY, Err(Fault::NoPort), "", NO_ADDRESS),
+    ];
+    for (row, own, answer, text, said) in answers {
+        expect_answer(&rt, row, own, answer, text, said)?;
+    }
+    Ok(())
+}

@@ -1,0 +1,799 @@
+//! A node over moments: it asks for FRED, holds it, refreshes and gives it back; the octets are those of our profile over
+//! RFC 1002's layouts. A datagram lives 1,000 ms at most, the longest lease is 60 s, and the node is started at 0. It has
+//! room for one name.
+
+use super::expect::{expect_eq, expect_eq_in, expect_in};
+use super::{FRED, STAR, TEAM, at, fred, name_of};
+use arrayvec::ArrayVec;
+use nbt_lease::{Config, Moment};
+use nbt_name::{Addr, Kind, Name};
+use nbt_node::laws::{each_name, one_move, settling_ends, settling_in_steps};
+use nbt_node::{AskFault, ClockBack, Event, LookupFault, Node, ReleaseFault};
+use std::process::Abort;
+use std::test::Fail;
+
+const OWN: Addr = Addr {
+    ip: 0x7F000002,
+    port: 137,
+};
+
+const SERVER: Addr = Addr {
+    ip: 0x7F000001,
+    port: 137,
+};
+
+/// Other machines, and another port of the server's.
+const STRANGER: Addr = Addr {
+    ip: 0x7F000003,
+    port: 137,
+};
+
+const ANYBODY: Addr = Addr {
+    ip: 0x0A000001,
+    port: 9,
+};
+
+const OTHER_PORT: Addr = Addr {
+    ip: 0x7F000001,
+    port: 138,
+};
+
+/// The registration of FRED with id 1; the same with id 2, with id 3, and as a group's.
+const REGISTRATION: &[u8] =
+    b"\x00\x01\x29\x00\x00\x01\x00\x00\x00\x00\x00\x01 EGFCEFEECACACACACACACACACACACACA\x00\x00\x20\x00\x01\xC0\x0C\x00\x20\x00\x01\x00\x00\x00\x3C\x00\x06\x20\x00\x7F\x00\x00\x02";
+
+const SECOND_REGISTRATION: &[u8] =
+    b"\x00\x02\x29\x00\x00\x01\x00\x00\x00\x00\x00\x01 EGFCEFEECACACACACACACACACACACACA\x00\x00\x20\x00\x01\xC0\x0C\x00\x20\x00\x01\x00\x00\x00\x3C\x00\x06\x20\x00\x7F\x00\x00\x02";
+
+const THIRD_REGISTRATION: &[u8] =
+    b"\x00\x03\x29\x00\x00\x01\x00\x00\x00\x00\x00\x01 EGFCEFEECACACACACACACACACACACACA\x00\x00\x20\x00\x01\xC0\x0C\x00\x20\x00\x01\x00\x00\x00\x3C\x00\x06\x20\x00\x7F\x00\x00\x02";
+
+const GROUP_REGISTRATION: &[u8] =
+    b"\x00\x01\x29\x00\x00\x01\x00\x00\x00\x00\x00\x01 EGFCEFEECACACACACACACACACACACACA\x00\x00\x20\x00\x01\xC0\x0C\x00\x20\x00\x01\x00\x00\x00\x3C\x00\x06\xA0\x00\x7F\x00\x00\x02";
+
+/// A refresh of FRED and its release, with id 2.
+const REFRESH: &[u8] =
+    b"\x00\x02\x40\x00\x00\x01\x00\x00\x00\x00\x00\x01 EGFCEFEECACACACACACACACACACACACA\x00\x00\x20\x00\x01\xC0\x0C\x00\x20\x00\x01\x00\x00\x00\x3C\x00\x06\x20\x00\x7F\x00\x00\x02";
+
+const RELEASE: &[u8] =
+    b"\x00\x02\x30\x00\x00\x01\x00\x00\x00\x00\x00\x01 EGFCEFEECACACACACACACACACACACACA\x00\x00\x20\x00\x01\xC0\x0C\x00\x20\x00\x01\x00\x00\x00\x00\x00\x06\x20\x00\x7F\x00\x00\x02";
+
+/// A WACK of 90 s for id 1.
+const WACK: &[u8] =
+    b"\x00\x01\xBC\x00\x00\x00\x00\x01\x00\x00\x00\x00 EGFCEFEECACACACACACACACACACACACA\x00\x00\x20\x00\x01\x00\x00\x00\x5A\x00\x02\x29\x00";
+
+/// The query of FRED with id 1 and with id 2, and the negative response with id 1.
+const QUERY: &[u8] =
+    b"\x00\x01\x01\x00\x00\x01\x00\x00\x00\x00\x00\x00 EGFCEFEECACACACACACACACACACACACA\x00\x00\x20\x00\x01";
+
+const SECOND_QUERY: &[u8] =
+    b"\x00\x02\x01\x00\x00\x01\x00\x00\x00\x00\x00\x00 EGFCEFEECACACACACACACACACACACACA\x00\x00\x20\x00\x01";
+
+const NOT_FOUND: &[u8] =
+    b"\x00\x01\x85\x83\x00\x00\x00\x01\x00\x00\x00\x00 EGFCEFEECACACACACACACACACACACACA\x00\x00\x0A\x00\x01\x00\x00\x00\x00\x00\x00";
+
+/// A status request for `*` with id 9, the same sent to all ends, and the reply of a node that holds FRED alone.
+const STATUS_REQUEST: &[u8] =
+    b"\x00\x09\x00\x00\x00\x01\x00\x00\x00\x00\x00\x00 CKAAAAAAAAAAAAAAAAAAAAAAAAAAAAAA\x00\x00\x21\x00\x01";
+
+const STATUS_REQUEST_TO_ALL: &[u8] =
+    b"\x00\x09\x00\x10\x00\x01\x00\x00\x00\x00\x00\x00 CKAAAAAAAAAAAAAAAAAAAAAAAAAAAAAA\x00\x00\x21\x00\x01";
+
+const STATUS: &[u8] =
+    b"\x00\x09\x84\x00\x00\x00\x00\x01\x00\x00\x00\x00 CKAAAAAAAAAAAAAAAAAAAAAAAAAAAAAA\x00\x00\x21\x00\x01\x00\x00\x00\x00\x00\x41\x01FRED            \x24\x00\x00\x00\x00\x00\x00\x00\x00\x00\x00\x00\x00\x00\x00\x00\x00\x00\x00\x00\x00\x00\x00\x00\x00\x00\x00\x00\x00\x00\x00\x00\x00\x00\x00\x00\x00\x00\x00\x00\x00\x00\x00\x00\x00\x00\x00\x00";
+
+/// A status request for FRED with id 1, and the reply of a node that holds FRED alone.
+const NAMES_REQUEST: &[u8] =
+    b"\x00\x01\x00\x00\x00\x01\x00\x00\x00\x00\x00\x00 EGFCEFEECACACACACACACACACACACACA\x00\x00\x21\x00\x01";
+
+const NAMES: &[u8] =
+    b"\x00\x01\x84\x00\x00\x00\x00\x01\x00\x00\x00\x00 EGFCEFEECACACACACACACACACACACACA\x00\x00\x21\x00\x01\x00\x00\x00\x00\x00\x13\x01FRED            \x24\x00";
+
+/// The response to a registration of FRED with id 1, with the entry of 127.0.0.2.
+const RESPONSE: &[u8; 62] =
+    b"\x00\x01\xAD\x80\x00\x00\x00\x01\x00\x00\x00\x00 EGFCEFEECACACACACACACACACACACACA\x00\x00\x20\x00\x01\x00\x00\x00\x3C\x00\x06\x20\x00\x7F\x00\x00\x02";
+
+/// A response about FRED, with the entry of 127.0.0.2: its id, its flags, and its TTL in seconds.
+#[derive(Clone, Copy, Debug)]
+struct Response(u8, [u8; 2], u8);
+
+impl Response {
+    fn octets(self) -> [u8; 62] {
+        let mut octets = *RESPONSE;
+        octets[1] = self.0;
+        octets[2] = self.1[0];
+        octets[3] = self.1[1];
+        octets[53] = self.2;
+        octets
+    }
+}
+
+/// What is done at a moment, and what has to come of it.
+#[derive(Clone, Copy, Debug)]
+enum Step<'a> {
+    /// A name is asked for, for 60 s: what is for the server, or why not.
+    Ask(u64, &'a [u8; 16], Kind, Result<&'a [u8], AskFault>),
+    /// FRED is given back: what is for the server, or why not.
+    Release(u64, Result<&'a [u8], ReleaseFault>),
+    /// FRED is looked up: what is for the server, or why not.
+    Resolve(u64, Result<&'a [u8], LookupFault>),
+    /// The end at the node's own address is asked for the names of FRED's node: what is for it.
+    AskNames(u64, &'a [u8]),
+    /// What is due for the server.
+    Poll(u64, Option<&'a [u8]>),
+    /// A poll before the node's last moment.
+    PollBack(u64),
+    /// A response of an end, and what it tells.
+    Respond(u64, Addr, Response, Event<'a>),
+    /// A datagram of an end, and what it tells.
+    Hear(u64, Addr, &'a [u8], Event<'a>),
+    /// A datagram of an end that is cut to each shorter length, which is nothing each time.
+    Cut(u64, Addr, &'a [u8]),
+    /// So is a response of an end.
+    CutResponse(u64, Addr, Response),
+    /// A datagram of an end, and what is replied.
+    Reply(u64, Addr, &'a [u8], &'a [u8]),
+    /// Whether FRED is held.
+    Holds(u64, Option<Kind>),
+    /// Whether a lookup is open.
+    LookupOpen(u64, bool),
+}
+
+fn start() -> Result<Node<1>, Fail> {
+    Ok(Node::start(OWN, SERVER, Config::new(1000, 60, 4096)?, at(0)?))
+}
+
+/// The moment of a step.
+fn moment(step: &Step<'_>) -> Result<Moment, Fail> {
+    match *step {
+        Step::Ask(ms, _, _, _)
+        | Step::Release(ms, _)
+        | Step::Resolve(ms, _)
+        | Step::AskNames(ms, _)
+        | Step::Poll(ms, _)
+        | Step::PollBack(ms)
+        | Step::Respond(ms, _, _, _)
+        | Step::Hear(ms, _, _, _)
+        | Step::Cut(ms, _, _)
+        | Step::CutResponse(ms, _, _)
+        | Step::Reply(ms, _, _, _)
+        | Step::Holds(ms, _)
+        | Step::LookupOpen(ms, _) => at(ms),
+    }
+}
+
+/// A node goes through the steps, all with one buffer: each call leaves in it what it has to send, and no more.
+fn play(rt: &impl Abort, steps: &[Step<'_>]) -> Result<(), Fail> {
+    let mut node = start()?;
+    let mut out = ArrayVec::new();
+    let fred = fred(b"")?;
+    for step in steps {
+        go(rt, &mut node, moment(step)?, &fred, step, &mut out)?;
+    }
+    Ok(())
+}
+
+/// A step. Here are those of the node's own.
+fn go(
+    rt: &impl Abort,
+    node: &mut Node<1>,
+    now: Moment,
+    fred: &Name,
+    step: &Step<'_>,
+    out: &mut ArrayVec<u8, 576>,
+) -> Result<(), Fail> {
+    match *step {
+        Step::Ask(_, name, kind, expected) => {
+            let asked = node.ask(now, &name_of(name)?, kind, 60, out);
+            expect_eq_in(rt, step, &asked.err(), &expected.err());
+            expect_in(rt, step, out.as_slice() == expected.unwrap_or(b""));
+        }
+        Step::Release(_, expected) => {
+            let released = node.release(now, fred, out);
+            expect_eq_in(rt, step, &released.err(), &expected.err());
+            expect_in(rt, step, out.as_slice() == expected.unwrap_or(b""));
+        }
+        Step::Resolve(_, expected) => {
+            let resolved = node.resolve(now, fred, out);
+            expect_eq_in(rt, step, &resolved.err(), &expected.err());
+            expect_in(rt, step, out.as_slice() == expected.unwrap_or(b""));
+        }
+        Step::AskNames(_, expected) => {
+            node.name_status(now, OWN, fred, out)?;
+            expect_in(rt, step, out.as_slice() == expected);
+        }
+        _ => return watch(rt, node, now, fred, step, out),
+    }
+    Ok(())
+}
+
+/// The steps by which a node is told of time, or asked what it has.
+fn watch(
+    rt: &impl Abort,
+    node: &mut Node<1>,
+    now: Moment,
+    fred: &Name,
+    step: &Step<'_>,
+    out: &mut ArrayVec<u8, 576>,
+) -> Result<(), Fail> {
+    match *step {
+        Step::Poll(_, expected) => {
+            let to = node.poll(now, out);
+            expect_eq_in(rt, step, &to, &Ok(expected.map(|_| SERVER)));
+            expect_in(rt, step, out.as_slice() == expected.unwrap_or(b""));
+        }
+        Step::PollBack(_) => {
+            expect_eq_in(rt, step, &node.poll(now, out), &Err(ClockBack));
+        }
+        Step::Holds(_, expected) => {
+            expect_eq_in(rt, step, &node.holds(now, fred), &expected);
+        }
+        Step::LookupOpen(_, expected) => {
+            expect_eq_in(rt, step, &node.lookup_open(now), &expected);
+        }
+        _ => return hear(rt, node, now, step, out),
+    }
+    Ok(())
+}
+
+/// The steps by which a node is told of others.
+fn hear(
+    rt: &impl Abort,
+    node: &mut Node<1>,
+    now: Moment,
+    step: &Step<'_>,
+    out: &mut ArrayVec<u8, 576>,
+) -> Result<(), Fail> {
+    match *step {
+        Step::Respond(_, from, response, expected) => {
+            hear_one(
+                rt,
+                node,
+                now,
+                (from, &response.octets()),
+                (expected, b""),
+                out,
+            )
+        }
+        Step::Hear(_, from, octets, expected) => {
+            hear_one(rt, node, now, (from, octets), (expected, b""), out)
+        }
+        Step::Reply(_, from, octets, expected) => {
+            hear_one(rt, node, now, (from, octets), (Event::Reply, expected), out)
+        }
+        Step::Cut(_, from, octets) => hear_cut(rt, node, now, from, octets, out),
+        Step::CutResponse(_, from, response) => {
+            hear_cut(rt, node, now, from, &response.octets(), out)
+        }
+        _ => Err("a step of the node's own")?,
+    }
+}
+
+/// A datagram comes: what is told, and what is replied.
+fn hear_one(
+    rt: &impl Abort,
+    node: &mut Node<1>,
+    now: Moment,
+    came: (Addr, &[u8]),
+    expected: (Event<'_>, &[u8]),
+    out: &mut ArrayVec<u8, 576>,
+) -> Result<(), Fail> {
+    let event = node.on_datagram(now, came.0, came.1, out)?;
+    expect_in(rt, &came, event == expected.0);
+    expect_in(rt, &came, out.as_slice() == expected.1);
+    Ok(())
+}
+
+/// The octets come, cut to each shorter length: nothing is told, and nothing replied.
+fn hear_cut(
+    rt: &impl Abort,
+    node: &mut Node<1>,
+    now: Moment,
+    from: Addr,
+    octets: &[u8],
+    out: &mut ArrayVec<u8, 576>,
+) -> Result<(), Fail> {
+    for length in 0..octets.len() {
+        hear_one(
+            rt,
+            node,
+            now,
+            (from, &octets[..length]),
+            (Event::Nothing, b""),
+            out,
+        )?;
+    }
+    Ok(())
+}
+
+/// Two lives, and what its clock may be fast by.
+const A_NODE_IS_QUIET_FOR_2_004_MS_AFTER_ITS_START: &[Step<'static>] = &[
+    Step::Ask(2_004, FRED, Kind::Unique, Err(AskFault::Quiet)),
+    Step::Ask(2_005, FRED, Kind::Unique, Ok(REGISTRATION)),
+    Step::Ask(2_006, FRED, Kind::Unique, Err(AskFault::Busy)),
+    Step::Ask(2_003, FRED, Kind::Unique, Err(AskFault::ClockBack)),
+    Step::Poll(2_005, None),
+    Step::PollBack(2_004),
+    Step::Ask(2_006, STAR, Kind::Unique, Err(AskFault::BadName)),
+];
+
+#[test]
+fn a_node_is_quiet_for_2_004_ms_after_its_start(rt: HostRuntime) -> Result<(), Fail> {
+    play(&rt, A_NODE_IS_QUIET_FOR_2_004_MS_AFTER_ITS_START)
+}
+
+const A_LATE_REPLY_COUNTS_FROM_THE_FIRST_SENDING: &[Step<'static>] = &[
+    Step::Ask(60_000, FRED, Kind::Unique, Ok(REGISTRATION)),
+    Step::Respond(
+        60_900,
+        SERVER,
+        Response(1, [0xAD, 0x80], 60),
+        Event::Granted(60),
+    ),
+    Step::Holds(119_877, Some(Kind::Unique)),
+    Step::Holds(119_878, None),
+    Step::Holds(60_899, None),
+    Step::Poll(89_999, None),
+    Step::Poll(90_000, Some(REFRESH)),
+    Step::Respond(
+        91_000,
+        SERVER,
+        Response(2, [0xAD, 0x80], 60),
+        Event::Renewed(60),
+    ),
+    Step::Holds(149_877, Some(Kind::Unique)),
+    Step::Holds(149_878, None),
+];
+
+#[test]
+fn a_late_reply_counts_from_the_first_sending(rt: HostRuntime) -> Result<(), Fail> {
+    play(&rt, A_LATE_REPLY_COUNTS_FROM_THE_FIRST_SENDING)
+}
+
+const A_REPLY_AFTER_A_RETRY_COUNTS_FROM_THE_FIRST_SENDING: &[Step<'static>] = &[
+    Step::Ask(60_000, FRED, Kind::Unique, Ok(REGISTRATION)),
+    Step::Poll(65_000, Some(REGISTRATION)),
+    Step::Respond(
+        65_900,
+        SERVER,
+        Response(1, [0xAD, 0x80], 60),
+        Event::Granted(60),
+    ),
+    Step::Holds(119_877, Some(Kind::Unique)),
+    Step::Holds(119_878, None),
+];
+
+#[test]
+fn a_reply_after_a_retry_counts_from_the_first_sending(rt: HostRuntime) -> Result<(), Fail> {
+    play(&rt, A_REPLY_AFTER_A_RETRY_COUNTS_FROM_THE_FIRST_SENDING)
+}
+
+const A_REQUEST_IS_SENT_THREE_TIMES_AND_GIVEN_UP: &[Step<'static>] = &[
+    Step::Ask(60_000, FRED, Kind::Unique, Ok(REGISTRATION)),
+    Step::Poll(64_999, None),
+    Step::Poll(65_000, Some(REGISTRATION)),
+    Step::Poll(70_000, Some(REGISTRATION)),
+    Step::Poll(74_999, None),
+    Step::Ask(75_000, FRED, Kind::Unique, Ok(SECOND_REGISTRATION)),
+];
+
+#[test]
+fn a_request_is_sent_three_times_and_given_up(rt: HostRuntime) -> Result<(), Fail> {
+    play(&rt, A_REQUEST_IS_SENT_THREE_TIMES_AND_GIVEN_UP)
+}
+
+const A_WACK_PUTS_THE_NEXT_SENDING_OFF_BY_A_MINUTE_AT_MOST: &[Step<'static>] = &[
+    Step::Ask(60_000, FRED, Kind::Unique, Ok(REGISTRATION)),
+    Step::Hear(60_500, SERVER, WACK, Event::Wait),
+    Step::Poll(120_499, None),
+    Step::Poll(120_500, Some(REGISTRATION)),
+];
+
+#[test]
+fn a_wack_puts_the_next_sending_off_by_a_minute_at_most(rt: HostRuntime) -> Result<(), Fail> {
+    play(&rt, A_WACK_PUTS_THE_NEXT_SENDING_OFF_BY_A_MINUTE_AT_MOST)
+}
+
+const A_HOLD_FROM_69_999_AND_ONE_OF_A_SECOND: &[Step<'static>] = &[
+    Step::Ask(69_999, FRED, Kind::Unique, Ok(REGISTRATION)),
+    Step::Respond(
+        70_000,
+        SERVER,
+        Response(1, [0xAD, 0x80], 60),
+        Event::Granted(60),
+    ),
+    Step::Holds(129_876, Some(Kind::Unique)),
+    Step::Holds(129_877, None),
+    Step::Ask(140_000, FRED, Kind::Unique, Ok(SECOND_REGISTRATION)),
+    Step::Respond(
+        140_001,
+        SERVER,
+        Response(2, [0xAD, 0x80], 1),
+        Event::Granted(1),
+    ),
+    Step::Holds(140_995, Some(Kind::Unique)),
+    Step::Holds(140_996, None),
+];
+
+#[test]
+fn a_hold_from_69_999_and_one_of_a_second(rt: HostRuntime) -> Result<(), Fail> {
+    play(&rt, A_HOLD_FROM_69_999_AND_ONE_OF_A_SECOND)
+}
+
+const A_HOLD_THAT_IS_OVER_WHEN_ITS_REPLY_COMES: &[Step<'static>] = &[
+    Step::Ask(60_000, FRED, Kind::Unique, Ok(REGISTRATION)),
+    Step::Hear(60_500, SERVER, WACK, Event::Wait),
+    Step::Respond(
+        61_500,
+        SERVER,
+        Response(1, [0xAD, 0x80], 1),
+        Event::Granted(1),
+    ),
+    Step::Holds(61_500, None),
+    Step::Ask(62_004, FRED, Kind::Unique, Err(AskFault::Quiet)),
+    Step::Ask(62_005, FRED, Kind::Unique, Ok(SECOND_REGISTRATION)),
+];
+
+#[test]
+fn a_hold_that_is_over_when_its_reply_comes(rt: HostRuntime) -> Result<(), Fail> {
+    play(&rt, A_HOLD_THAT_IS_OVER_WHEN_ITS_REPLY_COMES)
+}
+
+const A_NAME_RESTS_AFTER_ITS_RELEASE: &[Step<'static>] = &[
+    Step::Ask(60_000, FRED, Kind::Unique, Ok(REGISTRATION)),
+    Step::Respond(
+        60_900,
+        SERVER,
+        Response(1, [0xAD, 0x80], 60),
+        Event::Granted(60),
+    ),
+    Step::Release(70_000, Ok(RELEASE)),
+    Step::Release(70_000, Err(ReleaseFault::NotHeld)),
+    Step::Respond(
+        70_400,
+        SERVER,
+        Response(2, [0xB4, 0x00], 0),
+        Event::Freed(0),
+    ),
+    Step::Ask(70_500, FRED, Kind::Unique, Err(AskFault::Quiet)),
+    Step::Ask(72_004, FRED, Kind::Unique, Err(AskFault::Quiet)),
+    Step::Ask(72_005, FRED, Kind::Unique, Ok(THIRD_REGISTRATION)),
+];
+
+#[test]
+fn a_name_rests_after_its_release(rt: HostRuntime) -> Result<(), Fail> {
+    play(&rt, A_NAME_RESTS_AFTER_ITS_RELEASE)
+}
+
+const A_FULL_NODE_KEEPS_ITS_NAME: &[Step<'static>] = &[
+    Step::Ask(60_000, FRED, Kind::Group, Ok(GROUP_REGISTRATION)),
+    Step::Respond(
+        60_900,
+        SERVER,
+        Response(1, [0xAD, 0x80], 60),
+        Event::Granted(60),
+    ),
+    Step::Ask(61_000, TEAM, Kind::Group, Err(AskFault::Full)),
+    Step::Holds(119_877, Some(Kind::Group)),
+];
+
+#[test]
+fn a_full_node_keeps_its_name(rt: HostRuntime) -> Result<(), Fail> {
+    play(&rt, A_FULL_NODE_KEEPS_ITS_NAME)
+}
+
+const A_CONFLICT_DEMAND_DROPS_A_NAME_AND_ONLY_THE_SERVER_MAKES_ONE: &[Step<'static>] = &[
+    Step::Ask(60_000, FRED, Kind::Unique, Ok(REGISTRATION)),
+    Step::Respond(
+        60_900,
+        SERVER,
+        Response(1, [0xAD, 0x80], 60),
+        Event::Granted(60),
+    ),
+    Step::Respond(
+        61_000,
+        STRANGER,
+        Response(5, [0xAD, 0x87], 0),
+        Event::Nothing,
+    ),
+    Step::Holds(61_000, Some(Kind::Unique)),
+    Step::Respond(
+        61_000,
+        OTHER_PORT,
+        Response(5, [0xAD, 0x87], 0),
+        Event::Nothing,
+    ),
+    Step::Holds(61_000, Some(Kind::Unique)),
+    Step::Respond(61_000, SERVER, Response(5, [0xAD, 0x87], 0), Event::Lost),
+    Step::Holds(61_000, None),
+];
+
+#[test]
+fn a_conflict_demand_drops_a_name_and_only_the_server_makes_one(
+    rt: HostRuntime,
+) -> Result<(), Fail> {
+    play(
+        &rt,
+        A_CONFLICT_DEMAND_DROPS_A_NAME_AND_ONLY_THE_SERVER_MAKES_ONE,
+    )
+}
+
+const A_REPLY_WITH_ANOTHER_ID_AND_A_CHALLENGE_ARE_NOTHING: &[Step<'static>] = &[
+    Step::Ask(60_000, FRED, Kind::Unique, Ok(REGISTRATION)),
+    Step::Respond(
+        60_900,
+        SERVER,
+        Response(2, [0xAD, 0x80], 60),
+        Event::Nothing,
+    ),
+    Step::Ask(60_900, FRED, Kind::Unique, Err(AskFault::Busy)),
+    Step::Respond(
+        60_900,
+        SERVER,
+        Response(1, [0xAD, 0x00], 60),
+        Event::Nothing,
+    ),
+    Step::Ask(60_900, FRED, Kind::Unique, Err(AskFault::Busy)),
+    Step::Respond(
+        60_900,
+        SERVER,
+        Response(1, [0xAD, 0x86], 0),
+        Event::Refused(6),
+    ),
+];
+
+#[test]
+fn a_reply_with_another_id_and_a_challenge_are_nothing(rt: HostRuntime) -> Result<(), Fail> {
+    play(&rt, A_REPLY_WITH_ANOTHER_ID_AND_A_CHALLENGE_ARE_NOTHING)
+}
+
+const A_REPLY_TO_A_REQUEST_THAT_WAS_GIVEN_UP_IS_NOTHING: &[Step<'static>] = &[
+    Step::Ask(60_000, FRED, Kind::Unique, Ok(REGISTRATION)),
+    Step::Poll(65_000, Some(REGISTRATION)),
+    Step::Poll(70_000, Some(REGISTRATION)),
+    Step::Ask(75_000, FRED, Kind::Unique, Ok(SECOND_REGISTRATION)),
+    Step::Respond(
+        75_100,
+        SERVER,
+        Response(1, [0xAD, 0x80], 60),
+        Event::Nothing,
+    ),
+    Step::Holds(75_100, None),
+    Step::Respond(
+        75_200,
+        SERVER,
+        Response(2, [0xAD, 0x80], 60),
+        Event::Granted(60),
+    ),
+    Step::Holds(134_877, Some(Kind::Unique)),
+    Step::Holds(134_878, None),
+];
+
+#[test]
+fn a_reply_to_a_request_that_was_given_up_is_nothing(rt: HostRuntime) -> Result<(), Fail> {
+    play(&rt, A_REPLY_TO_A_REQUEST_THAT_WAS_GIVEN_UP_IS_NOTHING)
+}
+
+const A_LOOKUP_DOES_NOT_END_BY_THE_ID_OF_A_REGISTRATION: &[Step<'static>] = &[
+    Step::Ask(60_000, FRED, Kind::Unique, Ok(REGISTRATION)),
+    Step::Resolve(60_000, Ok(SECOND_QUERY)),
+    Step::Respond(
+        60_001,
+        SERVER,
+        Response(1, [0x85, 0x80], 60),
+        Event::Nothing,
+    ),
+    Step::LookupOpen(60_001, true),
+    Step::Respond(
+        60_001,
+        SERVER,
+        Response(2, [0x85, 0x80], 60),
+        Event::Found {
+            entries: b"\x20\x00\x7F\x00\x00\x02",
+            cut: false,
+        },
+    ),
+];
+
+#[test]
+fn a_lookup_does_not_end_by_the_id_of_a_registration(rt: HostRuntime) -> Result<(), Fail> {
+    play(&rt, A_LOOKUP_DOES_NOT_END_BY_THE_ID_OF_A_REGISTRATION)
+}
+
+const A_LOOKUP_IS_SENT_THREE_TIMES: &[Step<'static>] = &[
+    Step::Resolve(60_000, Ok(QUERY)),
+    Step::Resolve(60_000, Err(LookupFault::Busy)),
+    Step::Poll(65_000, Some(QUERY)),
+    Step::Poll(70_000, Some(QUERY)),
+    Step::LookupOpen(74_999, true),
+    Step::LookupOpen(75_000, false),
+];
+
+#[test]
+fn a_lookup_is_sent_three_times(rt: HostRuntime) -> Result<(), Fail> {
+    play(&rt, A_LOOKUP_IS_SENT_THREE_TIMES)
+}
+
+const A_LOOKUP_ENDS_BY_THE_END_THAT_WAS_ASKED: &[Step<'static>] = &[
+    Step::Resolve(60_000, Ok(QUERY)),
+    Step::Respond(60_001, OWN, Response(1, [0x85, 0x80], 60), Event::Nothing),
+    Step::Respond(
+        60_001,
+        SERVER,
+        Response(1, [0x85, 0x80], 60),
+        Event::Found {
+            entries: b"\x20\x00\x7F\x00\x00\x02",
+            cut: false,
+        },
+    ),
+    Step::LookupOpen(60_001, false),
+];
+
+/// By TC the reply says that the name has more entries.
+const A_LOOKUP_TELLS_THAT_THE_REPLY_IS_CUT: &[Step<'static>] = &[
+    Step::Resolve(60_000, Ok(QUERY)),
+    Step::Respond(
+        60_001,
+        SERVER,
+        Response(1, [0x87, 0x80], 60),
+        Event::Found {
+            entries: b"\x20\x00\x7F\x00\x00\x02",
+            cut: true,
+        },
+    ),
+    Step::LookupOpen(60_001, false),
+];
+
+#[test]
+fn a_lookup_tells_that_the_reply_is_cut(rt: HostRuntime) -> Result<(), Fail> {
+    play(&rt, A_LOOKUP_TELLS_THAT_THE_REPLY_IS_CUT)
+}
+
+#[test]
+fn a_lookup_ends_by_the_end_that_was_asked(rt: HostRuntime) -> Result<(), Fail> {
+    play(&rt, A_LOOKUP_ENDS_BY_THE_END_THAT_WAS_ASKED)
+}
+
+const A_LOOKUP_OF_A_NAME_THAT_IS_NOT_THERE: &[Step<'static>] = &[
+    Step::Resolve(60_000, Ok(QUERY)),
+    Step::Hear(60_001, SERVER, NOT_FOUND, Event::NotFound),
+];
+
+#[test]
+fn a_lookup_of_a_name_that_is_not_there(rt: HostRuntime) -> Result<(), Fail> {
+    play(&rt, A_LOOKUP_OF_A_NAME_THAT_IS_NOT_THERE)
+}
+
+const A_STATUS_REPLY_LISTS_THE_HELD_NAMES: &[Step<'static>] = &[
+    Step::Ask(60_000, FRED, Kind::Unique, Ok(REGISTRATION)),
+    Step::Respond(
+        60_900,
+        SERVER,
+        Response(1, [0xAD, 0x80], 60),
+        Event::Granted(60),
+    ),
+    Step::Reply(61_000, ANYBODY, STATUS_REQUEST, STATUS),
+    Step::Reply(61_000, ANYBODY, STATUS_REQUEST_TO_ALL, STATUS),
+];
+
+#[test]
+fn a_status_reply_lists_the_held_names(rt: HostRuntime) -> Result<(), Fail> {
+    play(&rt, A_STATUS_REPLY_LISTS_THE_HELD_NAMES)
+}
+
+const THE_NAMES_OF_ANOTHER_END: &[Step<'static>] = &[
+    Step::AskNames(60_000, NAMES_REQUEST),
+    Step::Hear(
+        60_001,
+        OWN,
+        NAMES,
+        Event::Status(b"FRED            \x24\x00"),
+    ),
+];
+
+#[test]
+fn the_names_of_another_end(rt: HostRuntime) -> Result<(), Fail> {
+    play(&rt, THE_NAMES_OF_ANOTHER_END)
+}
+
+/// A node that asks, and one that holds a name. With the last octet each of these would tell something, or be replied to.
+const WHAT_IS_CUT_CHANGES_NO_NAME: &[Step<'static>] = &[
+    Step::Ask(60_000, FRED, Kind::Unique, Ok(REGISTRATION)),
+    Step::Cut(60_500, SERVER, WACK),
+    Step::CutResponse(60_500, SERVER, Response(1, [0xAD, 0x80], 60)),
+    Step::CutResponse(60_500, SERVER, Response(1, [0xAD, 0x86], 0)),
+    Step::Holds(60_500, None),
+    Step::Poll(65_000, Some(REGISTRATION)),
+    Step::Respond(
+        65_900,
+        SERVER,
+        Response(1, [0xAD, 0x80], 60),
+        Event::Granted(60),
+    ),
+    Step::CutResponse(66_000, SERVER, Response(5, [0xAD, 0x87], 0)),
+    Step::Cut(66_000, ANYBODY, STATUS_REQUEST),
+    Step::Cut(66_000, STRANGER, REGISTRATION),
+    Step::Cut(66_000, STRANGER, REFRESH),
+    Step::Cut(66_000, STRANGER, RELEASE),
+    Step::Cut(66_000, STRANGER, QUERY),
+    Step::Cut(66_000, STRANGER, STATUS),
+    Step::Holds(119_877, Some(Kind::Unique)),
+    Step::Poll(90_000, Some(REFRESH)),
+    Step::CutResponse(90_500, SERVER, Response(2, [0xAD, 0x80], 60)),
+    Step::Holds(119_878, None),
+];
+
+const WHAT_IS_CUT_ENDS_NO_LOOKUP: &[Step<'static>] = &[
+    Step::Resolve(60_000, Ok(QUERY)),
+    Step::CutResponse(60_001, SERVER, Response(1, [0x85, 0x80], 60)),
+    Step::Cut(60_001, SERVER, NOT_FOUND),
+    Step::LookupOpen(60_001, true),
+    Step::Hear(60_001, SERVER, NOT_FOUND, Event::NotFound),
+];
+
+const WHAT_IS_CUT_TELLS_NO_NAMES: &[Step<'static>] = &[
+    Step::AskNames(60_000, NAMES_REQUEST),
+    Step::Cut(60_001, OWN, NAMES),
+    Step::LookupOpen(60_001, true),
+];
+
+#[test]
+fn packets_cut_at_every_length_are_nothing_to_a_node(rt: HostRuntime) -> Result<(), Fail> {
+    for steps in [
+        WHAT_IS_CUT_CHANGES_NO_NAME,
+        WHAT_IS_CUT_ENDS_NO_LOOKUP,
+        WHAT_IS_CUT_TELLS_NO_NAMES,
+    ] {
+        play(&rt, steps)?;
+    }
+    Ok(())
+}
+
+const ASK_FAULTS: [(AskFault, u8, &str); 5] = [
+    (AskFault::Quiet, 1, "Quiet"),
+    (AskFault::Busy, 2, "Busy"),
+    (AskFault::Full, 3, "Full"),
+    (AskFault::ClockBack, 4, "ClockBack"),
+    (AskFault::BadName, 5, "BadName"),
+];
+
+const RELEASE_FAULTS: [(ReleaseFault, u8, &str); 2] = [
+    (ReleaseFault::NotHeld, 1, "NotHeld"),
+    (ReleaseFault::ClockBack, 4, "ClockBack"),
+];
+
+const LOOKUP_FAULTS: [(LookupFault, u8, &str); 3] = [
+    (LookupFault::Busy, 2, "Busy"),
+    (LookupFault::ClockBack, 4, "ClockBack"),
+    (LookupFault::BadName, 5, "BadName"),
+];
+
+#[test]
+fn refusals_have_their_numbers_and_words(rt: HostRuntime) -> Result<(), Fail> {
+    settling_ends();
+    settling_in_steps();
+    one_move();
+    each_name();
+    for (fault, number, word) in ASK_FAULTS {
+        expect_eq(&rt, &fault.number(), &number);
+        expect_eq(&rt, &fault.word(), &word);
+        expect_eq(&rt, &AskFault::of(number), &Some(fault));
+    }
+    for (fault, number, word) in RELEASE_FAULTS {
+        expect_eq(&rt, &fault.number(), &number);
+        expect_eq(&rt, &fault.word(), &word);
+        expect_eq(&rt, &ReleaseFault::of(number), &Some(fault));
+    }
+    for (fault, number, word) in LOOKUP_FAULTS {
+        expect_eq(&rt, &fault.number(), &number);
+        expect_eq(&rt, &fault.word(), &word);
+        expect_eq(&rt, &LookupFault::of(number), &Some(fault));
+    }
+    expect_eq(&rt, &AskFault::of(0), &None);
+    expect_eq(&rt, &AskFault::of(6), &None);
+    expect_eq(&rt, &ReleaseFault::of(2), &None);
+    expect_eq(&rt, &LookupFault::of(3), &None);
+    expect_eq(&rt, &ClockBack.number(), &4);
+    expect_eq(&rt, &start()?.addr(), &OWN);
+    Ok(())
+}

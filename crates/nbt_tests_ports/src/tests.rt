@@ -1,0 +1,11 @@
+//! One file for each subject.
+
+mod expect;
+mod host;
+mod hosting;
+mod log;
+mod lookups;
+mod nbns;
+mod ports;
+mod samba;
+mod turns;

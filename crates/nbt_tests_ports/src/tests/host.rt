@@ -1,0 +1,545 @@
+//! A host of several names over a port in memory: the life of a datagram 1,000 ms, so that a name rests for 2,004 ms, the longest
+//! lease 60 s, which is held for 59,878 ms, all started at 0.
+
+use super::expect::{expect, expect_eq, expect_eq_in, expect_in};
+use arrayvec::ArrayVec;
+use nbt_client::Want;
+use nbt_host::{Clocks, Goal, News, Reading, Stage, give_back, host_turn, waking_turn};
+use nbt_lease::Moment;
+use nbt_name::{Addr, Kind, Name};
+use nbt_node::Node;
+use nbt_port::{Datagram, Device, MemoryClock, MemoryPort, Port};
+use nbt_testing::{Row, clock, config, expect_sent, moment, octets, port, started};
+use nbt_server::Server;
+use std::collections::VecDeque;
+use std::process::Abort;
+use std::test::Fail;
+
+const SERVER: Addr = Addr {
+    ip: 0x7F000001,
+    port: 137,
+};
+
+const HOST: Addr = Addr {
+    ip: 0x7F000002,
+    port: 137,
+};
+
+const STRANGER: Addr = Addr {
+    ip: 0x7F000003,
+    port: 1024,
+};
+
+/// Nothing comes.
+const NOTHING: Row = (SERVER, "-");
+
+fn node() -> Result<Node<3>, Fail> {
+    Ok(Node::start(HOST, SERVER, config(4096)?, Moment::zero()))
+}
+
+fn goal(octets: &[u8; 16], kind: Kind) -> Result<Goal, Fail> {
+    Ok(Goal::new(Want {
+        name: Name::new(octets, b"")?,
+        kind,
+        ttl: 60,
+    }))
+}
+
+fn fred() -> Result<Goal, Fail> {
+    goal(b"FRED            ", Kind::Unique)
+}
+
+fn team() -> Result<Goal, Fail> {
+    goal(b"TEAM            ", Kind::Group)
+}
+
+fn node_b() -> Result<Goal, Fail> {
+    goal(b"NODEB           ", Kind::Unique)
+}
+
+/// `host_turn` at a port of which few calls have failed.
+fn turn<R: Abort>(
+    rt: &R,
+    port: &mut MemoryPort,
+    clock: &mut MemoryClock,
+    node: &mut Node<3>,
+    goals: &mut [Goal],
+) -> Result<(), Device> {
+    expect(rt, port.failures() < 1 << 62);
+    host_turn(port, clock, node, SERVER, goals)
+}
+
+/// A turn: its two moments, what comes, and what is told of FRED: whether its hold has lapsed, and what came of it.
+type Told = (u64, u64, Row, bool, Option<News>);
+
+/// Turns of a host that wants FRED, and all that is sent in them.
+struct Turns {
+    turns: &'static [Told],
+    sent: &'static [Row],
+}
+
+fn play_turns<R: Abort>(
+    rt: &R,
+    port: &mut MemoryPort,
+    clock: &mut MemoryClock,
+    node: &mut Node<3>,
+    goals: &mut [Goal],
+    turns: &[Told],
+) -> Result<(), Fail> {
+    for (first, _, _, lapsed, news) in turns {
+        turn(rt, port, clock, node, goals)?;
+        for goal in goals.iter() {
+            expect_eq_in(rt, &first, &goal.lapsed, &*lapsed);
+            expect_eq_in(rt, &first, &goal.news, &*news);
+        }
+    }
+    Ok(())
+}
+
+fn play<R: Abort + AllocGlobal>(rt: &R, turns: &Turns) -> Result<(), Fail> {
+    let mut given = Vec::new(rt.alloc());
+    let mut moments = Vec::new(rt.alloc());
+    for (first, second, row, _, _) in turns.turns {
+        given.push(*row)?;
+        moments.push(*first)?;
+        moments.push(*second)?;
+    }
+    let mut port = port(rt, given.as_slice())?;
+    let mut clock = clock(rt, moments.as_slice())?;
+    let mut goals = [fred()?];
+    play_turns(
+        rt,
+        &mut port,
+        &mut clock,
+        &mut node()?,
+        &mut goals,
+        turns.turns,
+    )?;
+    expect_sent(rt, &port, turns.sent)
+}
+
+const ASK: Row = (
+    SERVER,
+    "0001 2900 two-parts FRED NB again NB 60s unique 127.0.0.2",
+);
+
+const ASK_2: Row = (
+    SERVER,
+    "0002 2900 two-parts FRED NB again NB 60s unique 127.0.0.2",
+);
+
+const ASK_3: Row = (
+    SERVER,
+    "0003 2900 two-parts FRED NB again NB 60s unique 127.0.0.2",
+);
+
+const ASK_4: Row = (
+    SERVER,
+    "0004 2900 two-parts FRED NB again NB 60s unique 127.0.0.2",
+);
+
+const GRANTED: Row = (SERVER, "0001 ad80 reply FRED NB 60s unique 127.0.0.2");
+
+const REFRESH_2: Row = (
+    SERVER,
+    "0002 4000 two-parts FRED NB again NB 60s unique 127.0.0.2",
+);
+
+const IS_GRANTED: Option<News> = Some(News::Granted(60));
+
+/// It is refused with RCODE 6 twice, which is told once, and with 5, and asked for again after 5, 10 and 20 s.
+const REFUSED: Turns = Turns {
+    turns: &[
+        (2_004, 2_004, NOTHING, false, None),
+        (
+            2_005,
+            3_000,
+            (SERVER, "0001 ad86 reply FRED NB 0s unique 127.0.0.2"),
+            false,
+            Some(News::Refused(6)),
+        ),
+        (7_999, 7_999, NOTHING, false, None),
+        (
+            8_000,
+            9_000,
+            (SERVER, "0002 ad86 reply FRED NB 0s unique 127.0.0.2"),
+            false,
+            None,
+        ),
+        (18_999, 18_999, NOTHING, false, None),
+        (
+            19_000,
+            20_000,
+            (SERVER, "0003 ad85 reply FRED NB 0s unique 127.0.0.2"),
+            false,
+            Some(News::Refused(5)),
+        ),
+        (39_999, 39_999, NOTHING, false, None),
+        (
+            40_000,
+            40_010,
+            (SERVER, "0004 ad80 reply FRED NB 60s unique 127.0.0.2"),
+            false,
+            IS_GRANTED,
+        ),
+    ],
+    sent: &[ASK, ASK_2, ASK_3, ASK_4],
+};
+
+/// The hold ends 59,878 ms after the first sending, at 62,878: it has lapsed then, and is asked for again once it has rested since the
+/// refresh that no reply came to.
+const LAPSED: Turns = Turns {
+    turns: &[
+        (3_000, 3_010, GRANTED, false, IS_GRANTED),
+        (62_877, 62_877, NOTHING, false, None),
+        (62_878, 62_878, NOTHING, true, None),
+        (64_881, 64_881, NOTHING, false, None),
+        (
+            64_882,
+            64_882,
+            (SERVER, "0003 ad80 reply FRED NB 60s unique 127.0.0.2"),
+            false,
+            IS_GRANTED,
+        ),
+    ],
+    sent: &[ASK, REFRESH_2, ASK_3],
+};
+
+/// A hold that was over before its grant came is not told; one that had a millisecond is.
+const TOO_LATE: Turns = Turns {
+    turns: &[(3_000, 62_878, GRANTED, false, None)],
+    sent: &[ASK],
+};
+
+const JUST_IN_TIME: Turns = Turns {
+    turns: &[(3_000, 62_877, GRANTED, false, IS_GRANTED)],
+    sent: &[ASK],
+};
+
+/// Renewed, and lost by a conflict demand.
+const RENEWED: Turns = Turns {
+    turns: &[
+        (3_000, 3_010, GRANTED, false, IS_GRANTED),
+        (
+            33_000,
+            33_010,
+            (SERVER, "0002 ad80 reply FRED NB 60s unique 127.0.0.2"),
+            false,
+            Some(News::Renewed(60)),
+        ),
+        (
+            33_020,
+            33_020,
+            (SERVER, "0009 ad87 reply FRED NB 0s unique 127.0.0.3"),
+            false,
+            Some(News::Lost),
+        ),
+        (33_030, 33_030, NOTHING, false, None),
+    ],
+    sent: &[ASK, REFRESH_2],
+};
+
+const QUERY: Row = (STRANGER, "0008 0100 one-name FRED NB");
+
+/// R, AA and RD; one answer; FRED; NB, IN; TTL 0; six octets; a unique name of a P node at 127.0.0.2 (RFC 1002 section 4.2.13).
+const ANSWER: Row = (
+    STRANGER,
+    "0008 8500 0000 0001 0000 0000 20454746434546454543414341434143414341434143414341434143414341434100 0020 0001 00000000 0006 2000 7f000002",
+);
+
+/// A query before the grant isn't answered, nor one for another name, nor one at the end of the hold.
+const ANSWERED: Turns = Turns {
+    turns: &[
+        (3_000, 3_005, QUERY, false, None),
+        (3_010, 3_010, GRANTED, false, IS_GRANTED),
+        (3_020, 3_020, QUERY, false, None),
+        (
+            3_030,
+            3_030,
+            (STRANGER, "0008 0100 one-name TEAM NB"),
+            false,
+            None,
+        ),
+        (3_040, 62_877, QUERY, false, None),
+        (62_877, 62_878, QUERY, false, None),
+    ],
+    sent: &[ASK, ANSWER, ANSWER, REFRESH_2],
+};
+
+const ROWS: [Turns; 6] = [REFUSED, LAPSED, TOO_LATE, JUST_IN_TIME, RENEWED, ANSWERED];
+
+#[test]
+fn what_a_host_tells_and_sends(rt: HostRuntime) -> Result<(), Fail> {
+    for turns in &ROWS {
+        play(&rt, turns)?;
+    }
+    Ok(())
+}
+
+/// The server's replies at 60,000 to what a host sent, as what its port is to hand out.
+fn replies<R: Abort + AllocGlobal>(
+    rt: &R,
+    server: &mut Server,
+    sent: &[Datagram],
+) -> Result<MemoryPort, Fail> {
+    let mut incoming = VecDeque::new(rt.alloc());
+    for datagram in sent {
+        let mut out = ArrayVec::new();
+        server.on_datagram(moment(60_000)?, HOST, datagram.octets.as_slice(), &mut out)?;
+        let reply = Datagram {
+            addr: SERVER,
+            octets: Vec::from_slice(rt.alloc(), out.as_slice())?,
+        };
+        incoming.push_back(Some(reply))?;
+    }
+    Ok(MemoryPort::new(rt.alloc(), incoming))
+}
+
+/// Each turn tells of one name alone, in the list's order.
+fn three_are_granted<R: Abort>(
+    rt: &R,
+    port: &mut MemoryPort,
+    clock: &mut MemoryClock,
+    node: &mut Node<3>,
+    goals: &mut [Goal],
+) -> Result<(), Fail> {
+    for granted in 0..3 {
+        turn(rt, port, clock, node, goals)?;
+        for (place, goal) in goals.iter().enumerate() {
+            let news = if place == granted { IS_GRANTED } else { None };
+            expect_eq_in(rt, &place, &goal.news, &news);
+            expect_eq_in(rt, &place, &goal.held, &(place <= granted));
+        }
+    }
+    Ok(())
+}
+
+/// Two names and a group of a real server, all asked for in the first turn.
+const ASKS: [Row; 3] = [
+    ASK,
+    (
+        SERVER,
+        "0002 2900 two-parts TEAM NB again NB 60s group 127.0.0.2",
+    ),
+    (
+        SERVER,
+        "0003 2900 two-parts NODEB NB again NB 60s unique 127.0.0.2",
+    ),
+];
+
+#[test]
+fn a_server_grants_all_of_a_list(rt: HostRuntime) -> Result<(), Fail> {
+    let mut silent = port(&rt, &[])?;
+    let mut clock = clock(&rt, &[60_000])?;
+    let mut node = node()?;
+    let mut goals = [fred()?, team()?, node_b()?];
+    turn(&rt, &mut silent, &mut clock, &mut node, &mut goals)?;
+    expect_sent(&rt, &silent, &ASKS)?;
+    let mut server = started(&rt, 4096, 0)?;
+    let mut port = replies(&rt, &mut server, silent.sent())?;
+    three_are_granted(&rt, &mut port, &mut clock, &mut node, &mut goals)?;
+    expect_sent(&rt, &port, &[])
+}
+
+/// What comes to a host that holds FRED and the group TEAM and gives them back at 4,000, at which moments its clock is read from
+/// then on, the stages then, and what it sends.
+struct Ending {
+    given: &'static [Row],
+    moments: &'static [u64],
+    stages: [Stage; 3],
+    sent: &'static [Row],
+}
+
+const BOTH_ASKED: [Row; 2] = [
+    (SERVER, "0001 ad80 reply FRED NB 60s unique 127.0.0.2"),
+    (SERVER, "0002 ad80 reply TEAM NB 60s group 127.0.0.2"),
+];
+
+const RELEASE_FRED: Row = (
+    SERVER,
+    "0004 3000 two-parts FRED NB again NB 0s unique 127.0.0.2",
+);
+
+const RELEASE_TEAM: Row = (
+    SERVER,
+    "0005 3000 two-parts TEAM NB again NB 0s group 127.0.0.2",
+);
+
+const FREED_FRED: Row = (SERVER, "0004 b400 reply FRED NB 0s unique 127.0.0.2");
+
+/// Both are confirmed, or the second is denied with RCODE 6: it is over with the second reply. NODEB was asked for, and never held.
+const CONFIRMED: Ending = Ending {
+    given: &[
+        FREED_FRED,
+        (SERVER, "0005 b400 reply TEAM NB 0s group 127.0.0.2"),
+    ],
+    moments: &[4_000],
+    stages: [Stage::Left(0), Stage::Left(0), Stage::Leaving],
+    sent: &[RELEASE_FRED, RELEASE_TEAM],
+};
+
+const DENIED: Ending = Ending {
+    given: &[
+        FREED_FRED,
+        (SERVER, "0005 b406 reply TEAM NB 0s group 127.0.0.2"),
+    ],
+    moments: &[4_000],
+    stages: [Stage::Left(0), Stage::Left(6), Stage::Leaving],
+    sent: &[RELEASE_FRED, RELEASE_TEAM],
+};
+
+/// TEAM's is sent three times, 5 s apart, and it is over 15 s after the beginning. NODEB's registration is sent again too.
+const SILENT: Ending = Ending {
+    given: &[FREED_FRED],
+    moments: &[
+        4_000, 4_000, 4_010, 4_010, 9_000, 9_000, 9_000, 14_000, 14_000, 18_999, 18_999, 18_999,
+        19_000,
+    ],
+    stages: [Stage::Left(0), Stage::Released, Stage::Leaving],
+    sent: &[
+        RELEASE_FRED,
+        RELEASE_TEAM,
+        RELEASE_TEAM,
+        ASK_NODE_B,
+        RELEASE_TEAM,
+        ASK_NODE_B,
+    ],
+};
+
+const ASK_NODE_B: Row = (
+    SERVER,
+    "0003 2900 two-parts NODEB NB again NB 60s unique 127.0.0.2",
+);
+
+/// `give_back` at a port of which few calls have failed.
+fn end<R: Abort + AllocGlobal>(
+    rt: &R,
+    node: &mut Node<3>,
+    goals: &mut [Goal],
+    ending: &Ending,
+) -> Result<(), Fail> {
+    let mut port = port(rt, ending.given)?;
+    let mut clock = clock(rt, ending.moments)?;
+    expect(rt, port.failures() < 1 << 62);
+    give_back(&mut port, &mut clock, node, SERVER, goals, 1_000)?;
+    for (goal, stage) in goals.iter().zip(ending.stages) {
+        expect_eq(rt, &goal.stage, &stage);
+    }
+    expect_sent(rt, &port, ending.sent)
+}
+
+fn play_ending<R: Abort + AllocGlobal>(rt: &R, ending: &Ending) -> Result<(), Fail> {
+    let mut port = port(rt, &BOTH_ASKED)?;
+    let mut clock = clock(rt, &[4_000])?;
+    let mut node = node()?;
+    let mut goals = [fred()?, team()?, node_b()?];
+    turn(rt, &mut port, &mut clock, &mut node, &mut goals)?;
+    turn(rt, &mut port, &mut clock, &mut node, &mut goals)?;
+    end(rt, &mut node, &mut goals, ending)
+}
+
+#[test]
+fn names_are_given_back_and_which_were_confirmed_is_said(rt: HostRuntime) -> Result<(), Fail> {
+    play_ending(&rt, &CONFIRMED)?;
+    play_ending(&rt, &DENIED)?;
+    play_ending(&rt, &SILENT)
+}
+
+/// A steady clock before the time of day and after it.
+fn reading(before: u64, day: u64, after: u64) -> Result<Reading, Fail> {
+    Ok(Reading {
+        before: moment(before)?,
+        day: moment(day)?,
+        after: moment(after)?,
+    })
+}
+
+/// Readings after (1,000, 500,000, 1,010), and whether the machine slept: the steady clock went from 1,000 to the last number.
+const READINGS: [(u64, u64, u64, bool); 6] = [
+    (2_000, 501_000, 2_000, false),
+    (2_000, 501_200, 2_000, false),
+    (2_000, 501_201, 2_000, true),
+    (2_000, 504_201, 5_000, true),
+    (2_000, 504_200, 5_000, false),
+    (2_000, 1_000, 2_000, false),
+];
+
+/// Whether the machine slept between (1,000, 500,000, 1,010) and this reading.
+fn slept_until(before: u64, day: u64, after: u64) -> Result<bool, Fail> {
+    let earlier = reading(1_000, 500_000, 1_010)?;
+    Ok(reading(before, day, after)?.slept_since(earlier))
+}
+
+#[test]
+fn a_sleep_is_seen_from_201_ms_on(rt: HostRuntime) -> Result<(), Fail> {
+    for (before, day, after, slept) in &READINGS {
+        expect_eq_in(&rt, &day, &slept_until(*before, *day, *after)?, &*slept);
+    }
+    Ok(())
+}
+
+/// A turn on a machine that may sleep: what the steady clock tells in it, what the time of day is, what comes, and whether the
+/// machine slept.
+type Waking = ([u64; 4], u64, Row, bool);
+
+/// FRED is granted, and a query answered, the time of day having gone 200 ms beyond the steady clock. Then it goes 201 ms beyond: the
+/// host starts at 5,000, answers no query, and asks anew more than 2,004 ms later, with the first id.
+const WAKING: [Waking; 5] = [
+    ([2_990, 3_000, 3_000, 3_010], 1_002_995, GRANTED, false),
+    ([3_020, 3_030, 3_040, 3_050], 1_003_235, QUERY, false),
+    ([4_990, 5_000, 5_000, 5_010], 1_005_416, QUERY, true),
+    ([7_004, 7_004, 7_004, 7_004], 1_007_400, NOTHING, false),
+    ([7_005, 7_005, 7_005, 7_005], 1_007_401, NOTHING, false),
+];
+
+/// `waking_turn` at a port of which few calls have failed.
+fn waking<R: Abort>(
+    rt: &R,
+    port: &mut MemoryPort,
+    clocks: &mut Clocks<MemoryClock, MemoryClock>,
+    node: &mut Node<3>,
+    goals: &mut [Goal],
+    last: &mut Reading,
+) -> Result<bool, Fail> {
+    expect(rt, port.failures() < 1 << 62);
+    let config = config(4096)?;
+    Ok(waking_turn(port, clocks, node, SERVER, config, goals, last)?)
+}
+
+fn play_waking<R: Abort>(
+    rt: &R,
+    port: &mut MemoryPort,
+    clocks: &mut Clocks<MemoryClock, MemoryClock>,
+    goals: &mut [Goal],
+) -> Result<(), Fail> {
+    let mut node = node()?;
+    let mut last = reading(0, 1_000_000, 0)?;
+    for (moments, day, _, slept) in &WAKING {
+        let woke = waking(rt, port, clocks, &mut node, goals, &mut last)?;
+        expect_eq_in(rt, &day, &woke, &*slept);
+        expect_eq(rt, &last, &reading(moments[0], *day, moments[1])?);
+        for goal in goals.iter() {
+            expect_in(rt, &day, !goal.lapsed);
+        }
+    }
+    Ok(())
+}
+
+#[test]
+fn a_host_that_slept_rests_and_asks_anew(rt: HostRuntime) -> Result<(), Fail> {
+    let mut given = Vec::new(rt.alloc());
+    let mut steady = Vec::new(rt.alloc());
+    let mut days = Vec::new(rt.alloc());
+    for (moments, day, row, _) in &WAKING {
+        given.push(*row)?;
+        steady.extend_from_slice(moments)?;
+        days.push(*day)?;
+    }
+    let mut port = port(&rt, given.as_slice())?;
+    let mut clocks = Clocks {
+        steady: clock(&rt, steady.as_slice())?,
+        day: clock(&rt, days.as_slice())?,
+    };
+    play_waking(&rt, &mut port, &mut clocks, &mut [fred()?])?;
+    expect_sent(&rt, &port, &[ASK, ANSWER, ASK])
+}

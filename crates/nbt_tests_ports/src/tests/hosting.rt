@@ -1,0 +1,679 @@
+//! A host and what it prints, over a port in memory: the life of a datagram 1,000 ms, so that a name rests for 2,004 ms, the longest
+//! lease 60 s, which is held for 59,878 ms, all started at 0, when it was 2026-11-24T09:11:03Z.
+
+use super::expect::{expect, expect_eq, expect_eq_in};
+use nbt_client::Want;
+use nbt_host::{
+    Clocks, Event, Goal, HostArguments, News, Refusal, Stage, host_over, run_host, write_begin,
+    write_endings, write_event, write_turn,
+};
+use nbt_name::{Addr, Kind, Name};
+use nbt_port::{Fault, MemoryClock, MemoryPort, Port, UdpPort};
+use nbt_testing::{Row, clock, config, expect_sent, moment, port};
+use std::process::Abort;
+use std::test::Fail;
+use std::time;
+
+const SERVER: Addr = Addr {
+    ip: 0x7F000001,
+    port: 137,
+};
+
+const HOST: Addr = Addr {
+    ip: 0x7F000002,
+    port: 137,
+};
+
+/// The time of day at the moment 0, in milliseconds since 1970.
+const DAY: u64 = 1_795_511_463_000;
+
+/// Nothing comes.
+const NOTHING: Row = (SERVER, "-");
+
+/// A turn: its two moments, of which the second is also the one after it, by how much the time of day was set before it, and what
+/// comes.
+type Turn = (u64, u64, u64, Row);
+
+/// What a host is given, which call of its port fails, for how long it runs, what its clock tells when the names are given back, and
+/// what comes of it: whether all are held when its time ends, what is printed, what is said of errors, and what is sent.
+#[derive(Drop)]
+struct Hosted {
+    wants: &'static [(&'static [u8; 16], Kind)],
+    turns: &'static [Turn],
+    end: &'static [u64],
+    given: &'static [Row],
+    fails_after: Option<u64>,
+    time: u64,
+    log: bool,
+    all: Result<bool, Fault>,
+    printed: &'static str,
+    errors: &'static str,
+    sent: &'static [Row],
+}
+
+fn want(octets: &[u8; 16], kind: Kind) -> Result<Want, Fail> {
+    Ok(Want {
+        name: Name::new(octets, b"")?,
+        kind,
+        ttl: 60,
+    })
+}
+
+fn arguments<R: AllocGlobal>(
+    rt: &R,
+    wants: &[(&'static [u8; 16], Kind)],
+    time: u64,
+    log: bool,
+) -> Result<HostArguments, Fail> {
+    let mut wanted = Vec::new(rt.alloc());
+    for (octets, kind) in wants {
+        wanted.push(want(octets, *kind)?)?;
+    }
+    Ok(HostArguments {
+        bind: HOST,
+        server: SERVER,
+        config: config(4096)?,
+        wants: wanted,
+        time: Some(time),
+        log,
+    })
+}
+
+/// The clocks of the machine: both are read at first, at 0. The steady one is read twice at a turn's beginning, at both moments of the
+/// turn, and after it; the time of day once a turn.
+fn clocks<R: AllocGlobal>(
+    rt: &R,
+    turns: &[Turn],
+    end: &[u64],
+) -> Result<Clocks<MemoryClock, MemoryClock>, Fail> {
+    let mut steady = Vec::new(rt.alloc());
+    let mut days = Vec::new(rt.alloc());
+    steady.extend_from_slice(&[0, 0])?;
+    days.push(DAY)?;
+    for (first, second, set, _) in turns {
+        steady.extend_from_slice(&[*first, *first, *first, *second, *second])?;
+        days.push(DAY.saturating_add(*first).saturating_add(*set))?;
+    }
+    steady.extend_from_slice(end)?;
+    Ok(Clocks {
+        steady: clock(rt, steady.as_slice())?,
+        day: clock(rt, days.as_slice())?,
+    })
+}
+
+/// What comes in the turns, and while the names are given back.
+fn port_of<R: AllocGlobal>(rt: &R, row: &Hosted) -> Result<MemoryPort, Fail> {
+    let mut rows = Vec::new(rt.alloc());
+    for (_, _, _, came) in row.turns {
+        rows.push(*came)?;
+    }
+    rows.extend_from_slice(row.given)?;
+    let mut port = port(rt, rows.as_slice())?;
+    if let Some(calls) = row.fails_after {
+        port.fail_after(calls);
+    }
+    Ok(port)
+}
+
+/// `host_over` at a port of which few calls have failed.
+fn run<R: Abort + AllocGlobal + time::Clock>(
+    rt: &R,
+    port: &mut MemoryPort,
+    clocks: Clocks<MemoryClock, MemoryClock>,
+    arguments: &HostArguments,
+    row: &Hosted,
+) -> Result<(), Fail> {
+    let mut printed = Vec::new(rt.alloc());
+    let mut errors = Vec::new(rt.alloc());
+    expect(rt, port.failures() < 1 << 61);
+    let all = host_over(
+        port,
+        clocks,
+        rt.alloc(),
+        HOST,
+        arguments,
+        rt,
+        &mut printed,
+        &mut errors,
+    );
+    expect_eq(rt, &str::from_utf8(printed.as_slice())?, &row.printed);
+    expect_eq(rt, &str::from_utf8(errors.as_slice())?, &row.errors);
+    expect_eq_in(rt, &row.printed, &all, &row.all);
+    Ok(())
+}
+
+fn play<R: Abort + AllocGlobal + time::Clock>(rt: &R, row: &Hosted) -> Result<(), Fail> {
+    let arguments = arguments(rt, row.wants, row.time, row.log)?;
+    let mut port = port_of(rt, row)?;
+    let clocks = clocks(rt, row.turns, row.end)?;
+    run(rt, &mut port, clocks, &arguments, row)?;
+    expect_sent(rt, &port, row.sent)
+}
+
+const FRED: (&[u8; 16], Kind) = (b"FRED            ", Kind::Unique);
+
+const ASK: Row = (
+    SERVER,
+    "0001 2900 two-parts FRED NB again NB 60s unique 127.0.0.2",
+);
+
+const ASK_2: Row = (
+    SERVER,
+    "0002 2900 two-parts FRED NB again NB 60s unique 127.0.0.2",
+);
+
+const ASK_3: Row = (
+    SERVER,
+    "0003 2900 two-parts FRED NB again NB 60s unique 127.0.0.2",
+);
+
+const ASK_4: Row = (
+    SERVER,
+    "0004 2900 two-parts FRED NB again NB 60s unique 127.0.0.2",
+);
+
+const GRANTED: Row = (SERVER, "0001 ad80 reply FRED NB 60s unique 127.0.0.2");
+
+const REFRESH_2: Row = (
+    SERVER,
+    "0002 4000 two-parts FRED NB again NB 60s unique 127.0.0.2",
+);
+
+const RELEASE_2: Row = (
+    SERVER,
+    "0002 3000 two-parts FRED NB again NB 0s unique 127.0.0.2",
+);
+
+const FREED_2: Row = (SERVER, "0002 b400 reply FRED NB 0s unique 127.0.0.2");
+
+/// Three names and a group are granted, one a turn, and all are given back in the list's order.
+const ALL: Hosted = Hosted {
+    wants: &[
+        FRED,
+        (b"NODEB           ", Kind::Unique),
+        (b"WINSB          \x00", Kind::Unique),
+        (b"TEAM            ", Kind::Group),
+    ],
+    turns: &[
+        (3_000, 3_000, 0, GRANTED),
+        (
+            3_001,
+            3_001,
+            0,
+            (SERVER, "0002 ad80 reply NODEB NB 60s unique 127.0.0.2"),
+        ),
+        (
+            3_002,
+            3_002,
+            0,
+            (SERVER, "0003 ad80 reply WINSB NB 60s unique 127.0.0.2"),
+        ),
+        (
+            4_000,
+            4_000,
+            0,
+            (SERVER, "0004 ad80 reply TEAM NB 60s group 127.0.0.2"),
+        ),
+    ],
+    end: &[],
+    given: &[
+        (SERVER, "0006 b400 reply NODEB NB 0s unique 127.0.0.2"),
+        (SERVER, "0005 b400 reply FRED NB 0s unique 127.0.0.2"),
+        (SERVER, "0007 b400 reply WINSB NB 0s unique 127.0.0.2"),
+        (SERVER, "0008 b400 reply TEAM NB 0s group 127.0.0.2"),
+    ],
+    fails_after: None,
+    time: 4_000,
+    log: false,
+    all: Ok(true),
+    printed: "host 127.0.0.2:137 asks 127.0.0.1:137 for 4 names\n2026-11-24T09:11:06Z granted FRED#20 60 s\n2026-11-24T09:11:06Z granted NODEB#20 60 s\n2026-11-24T09:11:06Z granted WINSB#00 60 s\n2026-11-24T09:11:07Z granted TEAM#20 60 s\n2026-11-24T09:11:07Z given back FRED#20\n2026-11-24T09:11:07Z given back NODEB#20\n2026-11-24T09:11:07Z given back WINSB#00\n2026-11-24T09:11:07Z given back TEAM#20\n",
+    errors: "",
+    sent: &[
+        ASK,
+        (
+            SERVER,
+            "0002 2900 two-parts NODEB NB again NB 60s unique 127.0.0.2",
+        ),
+        (
+            SERVER,
+            "0003 2900 two-parts WINSB NB again NB 60s unique 127.0.0.2",
+        ),
+        (
+            SERVER,
+            "0004 2900 two-parts TEAM NB again NB 60s group 127.0.0.2",
+        ),
+        (
+            SERVER,
+            "0005 3000 two-parts FRED NB again NB 0s unique 127.0.0.2",
+        ),
+        (
+            SERVER,
+            "0006 3000 two-parts NODEB NB again NB 0s unique 127.0.0.2",
+        ),
+        (
+            SERVER,
+            "0007 3000 two-parts WINSB NB again NB 0s unique 127.0.0.2",
+        ),
+        (
+            SERVER,
+            "0008 3000 two-parts TEAM NB again NB 0s group 127.0.0.2",
+        ),
+    ],
+};
+
+/// Granted, renewed, and lost by a conflict demand. Nothing is held at the end.
+const LOST_TURNS: &[Turn] = &[
+    (3_000, 3_000, 0, GRANTED),
+    (
+        33_000,
+        33_000,
+        0,
+        (SERVER, "0002 ad80 reply FRED NB 60s unique 127.0.0.2"),
+    ),
+    (
+        33_020,
+        33_020,
+        0,
+        (SERVER, "0009 ad87 reply FRED NB 0s unique 127.0.0.3"),
+    ),
+];
+
+const LOGGED: Hosted = Hosted {
+    wants: &[FRED],
+    turns: LOST_TURNS,
+    end: &[],
+    given: &[],
+    fails_after: None,
+    time: 33_020,
+    log: true,
+    all: Ok(false),
+    printed: "host 127.0.0.2:137 asks 127.0.0.1:137 for 1 name\n2026-11-24T09:11:06Z granted FRED#20 60 s\n2026-11-24T09:11:36Z renewed FRED#20 60 s\n2026-11-24T09:11:36Z lost FRED#20\n2026-11-24T09:11:36Z not held FRED#20\n",
+    errors: "",
+    sent: &[ASK, REFRESH_2],
+};
+
+const UNLOGGED: Hosted = Hosted {
+    wants: &[FRED],
+    turns: LOST_TURNS,
+    end: &[],
+    given: &[],
+    fails_after: None,
+    time: 33_020,
+    log: false,
+    all: Ok(false),
+    printed: "host 127.0.0.2:137 asks 127.0.0.1:137 for 1 name\n2026-11-24T09:11:06Z granted FRED#20 60 s\n2026-11-24T09:11:36Z lost FRED#20\n2026-11-24T09:11:36Z not held FRED#20\n",
+    errors: "",
+    sent: &[ASK, REFRESH_2],
+};
+
+/// Refused with RCODE 6 twice and with 5, which is told twice in all, and granted. That it is given back is denied.
+const REFUSED: Hosted = Hosted {
+    wants: &[FRED],
+    turns: &[
+        (
+            3_000,
+            3_000,
+            0,
+            (SERVER, "0001 ad86 reply FRED NB 0s unique 127.0.0.2"),
+        ),
+        (
+            8_000,
+            8_000,
+            0,
+            (SERVER, "0002 ad86 reply FRED NB 0s unique 127.0.0.2"),
+        ),
+        (
+            18_000,
+            18_000,
+            0,
+            (SERVER, "0003 ad85 reply FRED NB 0s unique 127.0.0.2"),
+        ),
+        (
+            38_000,
+            38_000,
+            0,
+            (SERVER, "0004 ad80 reply FRED NB 60s unique 127.0.0.2"),
+        ),
+    ],
+    end: &[],
+    given: &[(SERVER, "0005 b406 reply FRED NB 0s unique 127.0.0.2")],
+    fails_after: None,
+    time: 38_000,
+    log: false,
+    all: Ok(true),
+    printed: "host 127.0.0.2:137 asks 127.0.0.1:137 for 1 name\n2026-11-24T09:11:06Z refused FRED#20: held by another (6)\n2026-11-24T09:11:06Z asks again for FRED#20 after 5 s, 10 s .. at most 5 min\n2026-11-24T09:11:21Z refused FRED#20: refused (5)\n2026-11-24T09:11:41Z granted FRED#20 60 s\n2026-11-24T09:11:41Z give-back denied FRED#20: held by another (6)\n",
+    errors: "",
+    sent: &[
+        ASK,
+        ASK_2,
+        ASK_3,
+        ASK_4,
+        (
+            SERVER,
+            "0005 3000 two-parts FRED NB again NB 0s unique 127.0.0.2",
+        ),
+    ],
+};
+
+/// No reply comes to the refresh, and the hold ends 59,878 ms after the first sending.
+const LAPSED: Hosted = Hosted {
+    wants: &[FRED],
+    turns: &[
+        (3_000, 3_000, 0, GRANTED),
+        (62_877, 62_877, 0, NOTHING),
+        (62_878, 62_878, 0, NOTHING),
+    ],
+    end: &[],
+    given: &[],
+    fails_after: None,
+    time: 62_878,
+    log: false,
+    all: Ok(false),
+    printed: "host 127.0.0.2:137 asks 127.0.0.1:137 for 1 name\n2026-11-24T09:11:06Z granted FRED#20 60 s\n2026-11-24T09:12:05Z lapsed FRED#20\n2026-11-24T09:12:05Z not held FRED#20\n",
+    errors: "",
+    sent: &[ASK, REFRESH_2],
+};
+
+/// The same where the port fails in the turn in which the hold is over: the lapse is told all the same.
+const LAPSED_IN_A_FAILURE: Hosted = Hosted {
+    wants: &[FRED],
+    turns: &[
+        (3_000, 3_000, 0, GRANTED),
+        (62_877, 62_877, 0, NOTHING),
+        (62_878, 62_878, 0, NOTHING),
+    ],
+    end: &[],
+    given: &[],
+    fails_after: Some(4),
+    time: 62_878,
+    log: false,
+    all: Ok(false),
+    printed: "host 127.0.0.2:137 asks 127.0.0.1:137 for 1 name\n2026-11-24T09:11:06Z granted FRED#20 60 s\n2026-11-24T09:12:05Z lapsed FRED#20\n2026-11-24T09:12:05Z not held FRED#20\n",
+    errors: "nbt: the port failed; going on\nnbt: the port is well again after 1 failures in a row\n",
+    sent: &[ASK, REFRESH_2],
+};
+
+/// A hold that was over before its grant came isn't told.
+const TOO_LATE: Hosted = Hosted {
+    wants: &[FRED],
+    turns: &[(3_000, 62_878, 0, GRANTED)],
+    end: &[],
+    given: &[],
+    fails_after: None,
+    time: 62_878,
+    log: false,
+    all: Ok(false),
+    printed: "host 127.0.0.2:137 asks 127.0.0.1:137 for 1 name\n2026-11-24T09:12:05Z not held FRED#20\n",
+    errors: "",
+    sent: &[ASK],
+};
+
+/// The time of day goes 201 ms beyond the steady clock: the host rests, and asks anew with the first id.
+const SLEPT: Hosted = Hosted {
+    wants: &[FRED],
+    turns: &[
+        (3_000, 3_000, 0, GRANTED),
+        (5_000, 5_000, 201, NOTHING),
+        (7_004, 7_004, 201, NOTHING),
+        (7_005, 7_005, 201, GRANTED),
+    ],
+    end: &[],
+    given: &[FREED_2],
+    fails_after: None,
+    time: 7_005,
+    log: false,
+    all: Ok(true),
+    printed: "host 127.0.0.2:137 asks 127.0.0.1:137 for 1 name\n2026-11-24T09:11:06Z granted FRED#20 60 s\n2026-11-24T09:11:08Z slept, asks anew\n2026-11-24T09:11:10Z granted FRED#20 60 s\n2026-11-24T09:11:10Z given back FRED#20\n",
+    errors: "",
+    sent: &[ASK, ASK, RELEASE_2],
+};
+
+/// What is given back is sent three times, 5 s apart, and no reply comes.
+const UNCONFIRMED: Hosted = Hosted {
+    wants: &[FRED],
+    turns: &[(4_000, 4_000, 0, GRANTED)],
+    end: &[
+        4_000, 4_000, 4_000, 4_000, 4_000, 9_000, 9_000, 9_000, 14_000, 14_000, 14_000, 18_999,
+        18_999, 19_000,
+    ],
+    given: &[],
+    fails_after: None,
+    time: 4_000,
+    log: false,
+    all: Ok(true),
+    printed: "host 127.0.0.2:137 asks 127.0.0.1:137 for 1 name\n2026-11-24T09:11:07Z granted FRED#20 60 s\n2026-11-24T09:11:22Z give-back unconfirmed FRED#20\n",
+    errors: "",
+    sent: &[ASK, RELEASE_2, RELEASE_2, RELEASE_2],
+};
+
+/// The first sending is lost, and the node sends no other before 5 s have passed: it is said once, and goes on.
+const FAILING: Hosted = Hosted {
+    wants: &[FRED],
+    turns: &[(3_000, 3_000, 0, GRANTED)],
+    end: &[],
+    given: &[FREED_2],
+    fails_after: Some(0),
+    time: 3_000,
+    log: false,
+    all: Ok(true),
+    printed: "host 127.0.0.2:137 asks 127.0.0.1:137 for 1 name\n2026-11-24T09:11:06Z granted FRED#20 60 s\n2026-11-24T09:11:06Z given back FRED#20\n",
+    errors: "nbt: the port failed; going on\nnbt: the port is well again after 1 failures in a row\n",
+    sent: &[RELEASE_2],
+};
+
+/// The port fails when the name is given back: what is known then is printed.
+const FAILING_AT_THE_END: Hosted = Hosted {
+    wants: &[FRED],
+    turns: &[(3_000, 3_000, 0, GRANTED)],
+    end: &[],
+    given: &[FREED_2],
+    fails_after: Some(2),
+    time: 3_000,
+    log: false,
+    all: Err(Fault::Device),
+    printed: "host 127.0.0.2:137 asks 127.0.0.1:137 for 1 name\n2026-11-24T09:11:06Z granted FRED#20 60 s\n2026-11-24T09:11:06Z give-back unconfirmed FRED#20\n",
+    errors: "",
+    sent: &[ASK],
+};
+
+const ROWS: &[Hosted] = &[
+    ALL,
+    LOGGED,
+    UNLOGGED,
+    REFUSED,
+    LAPSED,
+    LAPSED_IN_A_FAILURE,
+    TOO_LATE,
+    SLEPT,
+    UNCONFIRMED,
+    FAILING,
+    FAILING_AT_THE_END,
+];
+
+#[test]
+fn hosts_and_their_lines(rt: HostRuntime) -> Result<(), Fail> {
+    for row in ROWS {
+        play(&rt, row)?;
+    }
+    Ok(())
+}
+
+/// How many octets the output takes, and what stands in it when the next one is refused.
+const ROOMS: [(usize, &str); 2] = [
+    (8, "host 127"),
+    (
+        60,
+        "host 127.0.0.2:137 asks 127.0.0.1:137 for 1 name\n2026-11-24T",
+    ),
+];
+
+#[test]
+fn a_line_that_can_not_be_written_ends_a_host(rt: HostRuntime) -> Result<(), Fail> {
+    for (room, printed) in ROOMS {
+        let arguments = arguments(&rt, &[FRED], 4_000, false)?;
+        let mut port = port_of(&rt, &UNCONFIRMED)?;
+        let clocks = clocks(&rt, UNCONFIRMED.turns, &[])?;
+        let mut octets = [0; 60];
+        let mut short = &mut octets[..room];
+        let mut errors = Vec::new(rt.alloc());
+        expect(&rt, port.failures() < 1 << 61);
+        let ended = host_over(
+            &mut port,
+            clocks,
+            rt.alloc(),
+            HOST,
+            &arguments,
+            &rt,
+            &mut short,
+            &mut errors,
+        );
+        expect_eq(&rt, &ended, &Err(Fault::Output));
+        expect_eq(&rt, &octets.get(..room), &Some(printed.as_bytes()));
+        expect(&rt, errors.is_empty());
+    }
+    Ok(())
+}
+
+/// A host of this machine at a port that no other test has, which ends after its first turn.
+fn arguments_here<R: AllocGlobal>(rt: &R, port: u16) -> Result<HostArguments, Fail> {
+    let mut arguments = arguments(rt, &[FRED], 0, false)?;
+    arguments.bind = Addr {
+        ip: 0x7F2A1704,
+        port,
+    };
+    arguments.server = Addr {
+        ip: 0x7F2A1704,
+        port: 20_189,
+    };
+    Ok(arguments)
+}
+
+#[test]
+fn a_host_over_this_machine(rt: HostRuntime) -> Result<(), Fail> {
+    let mut printed = Vec::new(rt.alloc());
+    let mut errors = Vec::new(rt.alloc());
+    let arguments = arguments_here(&rt, 20_181)?;
+    let all = run_host(&rt, rt.alloc(), &arguments, &mut printed, &mut errors);
+    expect_eq(&rt, &all, &Ok(false));
+    let begin = b"host 127.42.23.4:20181 asks 127.42.23.4:20189 for 1 name\n".as_slice();
+    let rest = printed
+        .as_slice()
+        .strip_prefix(begin)
+        .ok_or("another line")?;
+    // The last line has a time of day, which no test can foresee.
+    expect(&rt, rest.ends_with(b"Z not held FRED#20\n"));
+    expect_eq(&rt, &rest.len(), &38);
+    expect(&rt, errors.is_empty());
+    Ok(())
+}
+
+#[test]
+fn a_host_tells_the_port_that_it_got(rt: HostRuntime) -> Result<(), Fail> {
+    let mut printed = Vec::new(rt.alloc());
+    let mut errors = Vec::new(rt.alloc());
+    let arguments = arguments_here(&rt, 0)?;
+    let all = run_host(&rt, rt.alloc(), &arguments, &mut printed, &mut errors);
+    expect_eq(&rt, &all, &Ok(false));
+    expect(&rt, printed.as_slice().starts_with(b"host 127.42.23.4:"));
+    expect(&rt, !printed.as_slice().starts_with(b"host 127.42.23.4:0 "));
+    Ok(())
+}
+
+#[test]
+fn a_host_whose_port_can_not_be_had(rt: HostRuntime) -> Result<(), Fail> {
+    let arguments = arguments_here(&rt, 20_182)?;
+    let _taken = UdpPort::bind(&rt, arguments.bind)?;
+    let mut printed = Vec::new(rt.alloc());
+    let mut errors = Vec::new(rt.alloc());
+    let all = run_host(&rt, rt.alloc(), &arguments, &mut printed, &mut errors);
+    expect_eq(&rt, &all, &Err(Fault::NoPort));
+    expect(&rt, printed.is_empty());
+    expect_eq(
+        &rt,
+        &str::from_utf8(errors.as_slice())?,
+        &"nbt: 127.42.23.4:20182: Address already in use (os error 98)\n",
+    );
+    Ok(())
+}
+
+/// Each event, at the second at which it was 2026-11-24T09:12:03Z, of a name, and of one in a scope.
+const EVENTS: [(Event, &str); 10] = [
+    (
+        Event::Granted(300),
+        "2026-11-24T09:12:03Z granted FRED#20 300 s\n",
+    ),
+    (
+        Event::Renewed(60),
+        "2026-11-24T09:12:03Z renewed FRED#20 60 s\n",
+    ),
+    (
+        Event::Refused(7),
+        "2026-11-24T09:12:03Z refused FRED#20: in conflict (7)\n",
+    ),
+    (
+        Event::AsksAgain,
+        "2026-11-24T09:12:03Z asks again for FRED#20 after 5 s, 10 s .. at most 5 min\n",
+    ),
+    (Event::Lost, "2026-11-24T09:12:03Z lost FRED#20\n"),
+    (Event::Lapsed, "2026-11-24T09:12:03Z lapsed FRED#20\n"),
+    (
+        Event::GivenBack,
+        "2026-11-24T09:12:03Z given back FRED#20\n",
+    ),
+    (
+        Event::Denied(2),
+        "2026-11-24T09:12:03Z give-back denied FRED#20: server failure (2)\n",
+    ),
+    (
+        Event::Unconfirmed,
+        "2026-11-24T09:12:03Z give-back unconfirmed FRED#20\n",
+    ),
+    (Event::NotHeld, "2026-11-24T09:12:03Z not held FRED#20\n"),
+];
+
+/// The second since 1970 at which it was 2026-11-24T09:12:03Z.
+const SECOND: u64 = 1_795_511_523;
+
+#[test]
+fn lines_of_events(rt: HostRuntime) -> Result<(), Fail> {
+    let name = Name::new(b"FRED            ", b"")?;
+    for (event, expected) in EVENTS {
+        let mut text = String::new(rt.alloc());
+        write_event(SECOND, event, &name, &mut text)?;
+        expect_eq(&rt, &text.as_str(), &expected);
+    }
+    Ok(())
+}
+
+fn goal(stage: Stage, lapsed: bool, news: Option<News>, times: u8) -> Result<Goal, Fail> {
+    let mut goal = Goal::new(want(FRED.0, FRED.1)?);
+    goal.stage = stage;
+    goal.lapsed = lapsed;
+    goal.news = news;
+    goal.refusal = Some(Refusal {
+        rcode: 6,
+        times,
+        at: moment(0)?,
+    });
+    Ok(goal)
+}
+
+#[test]
+fn lines_of_a_turn_and_of_the_end(rt: HostRuntime) -> Result<(), Fail> {
+    let goals = [
+        goal(Stage::Left(0), true, Some(News::Refused(6)), 1)?,
+        goal(Stage::Left(1), false, Some(News::Refused(6)), 2)?,
+        goal(Stage::Released, true, Some(News::Freed(0)), 1)?,
+        goal(Stage::Wanted, false, None, 1)?,
+    ];
+    let mut text = String::new(rt.alloc());
+    write_begin(HOST, SERVER, 0, &mut text)?;
+    write_turn(SECOND, false, true, &goals, &mut text)?;
+    write_endings(SECOND, &goals, &mut text)?;
+    expect_eq(
+        &rt,
+        &text.as_str(),
+        &"host 127.0.0.2:137 asks 127.0.0.1:137 for 0 names\n2026-11-24T09:12:03Z slept, asks anew\n2026-11-24T09:12:03Z lapsed FRED#20\n2026-11-24T09:12:03Z refused FRED#20: held by another (6)\n2026-11-24T09:12:03Z asks again for FRED#20 after 5 s, 10 s .. at most 5 min\n2026-11-24T09:12:03Z refused FRED#20: held by another (6)\n2026-11-24T09:12:03Z lapsed FRED#20\n2026-11-24T09:12:03Z given back FRED#20\n2026-11-24T09:12:03Z give-back denied FRED#20: malformed request (1)\n2026-11-24T09:12:03Z give-back unconfirmed FRED#20\n2026-11-24T09:12:03Z not held FRED#20\n",
+    );
+    Ok(())
+}

@@ -1,0 +1,467 @@
+//! What a name server's user reads of it. The expected lines are written by hand from the rules, and the times are those of a
+//! calendar.
+
+use super::expect::{expect_eq, expect_eq_in};
+use arrayvec::ArrayVec;
+use nbt_lease::{Lease, Moment};
+use nbt_log::{Dates, Entry, Limiter, write_entry, write_leases, write_time};
+use nbt_name::{Addr, Kind, Name};
+use nbt_testing::{GRANTED, QUERY, REFRESH, REGISTRATION, RELEASE, RIVAL, moment, octets, started};
+use nbt_server::{Claim, Outcome, Refusal};
+use nbt_text::parse_name;
+use std::process::Abort;
+use std::test::Fail;
+
+/// 2026-11-24T09:12:03Z.
+const THEN: u64 = 1_795_511_523;
+
+const FROM: Addr = Addr {
+    ip: 0xC0000209,
+    port: 137,
+};
+
+/// A second since 1970, and its text: across midnight, a leap day and the last second that has a text.
+const TIMES: [(u64, &str); 13] = [
+    (0, "1970-01-01T00:00:00Z"),
+    (951_825_600, "2000-02-29T12:00:00Z"),
+    (1_795_511_523, "2026-11-24T09:12:03Z"),
+    (1_795_564_799, "2026-11-24T23:59:59Z"),
+    (1_795_564_800, "2026-11-25T00:00:00Z"),
+    (1_803_859_199, "2027-02-28T23:59:59Z"),
+    (1_803_859_200, "2027-03-01T00:00:00Z"),
+    (1_835_395_200, "2028-02-29T00:00:00Z"),
+    (1_835_481_599, "2028-02-29T23:59:59Z"),
+    (1_835_481_600, "2028-03-01T00:00:00Z"),
+    (4_107_542_400, "2100-03-01T00:00:00Z"),
+    (253_402_207_200, "9999-12-30T22:00:00Z"),
+    (u64::MAX, "9999-12-30T22:00:00Z"),
+];
+
+#[test]
+fn times_of_day(rt: HostRuntime) -> Result<(), Fail> {
+    for (second, expected) in TIMES {
+        let mut text = String::from_str(rt.alloc(), "> ")?;
+        write_time(second, &mut text)?;
+        expect_eq_in(
+            &rt,
+            &second,
+            &text.as_str().strip_prefix("> "),
+            &Some(expected),
+        );
+    }
+    Ok(())
+}
+
+/// What a server did with a datagram, without whose claim it is.
+#[derive(Clone, Copy)]
+enum Done {
+    Granted(u32),
+    Renewed(u32),
+    Refused(Refusal),
+    Released,
+    NotLeased,
+    NotReleased(Refusal),
+    Found,
+    NotFound,
+    Silent,
+    ForNodes,
+    NoMessage,
+}
+
+fn outcome_of(done: Done, claim: Claim) -> Outcome {
+    match done {
+        Done::Granted(seconds) => Outcome::Granted(claim, seconds),
+        Done::Renewed(seconds) => Outcome::Renewed(claim, seconds),
+        Done::Refused(refusal) => Outcome::Refused(claim, refusal),
+        Done::Released => Outcome::Released(claim),
+        Done::NotLeased => Outcome::NotLeased(claim),
+        Done::NotReleased(refusal) => Outcome::NotReleased(claim, refusal),
+        Done::Found => Outcome::Found(claim.name),
+        Done::NotFound => Outcome::NotFound(claim.name),
+        Done::Silent => Outcome::Silent(claim.name),
+        Done::ForNodes => Outcome::ForNodes,
+        Done::NoMessage => Outcome::NoMessage,
+    }
+}
+
+/// What was done, whose claim it is, and the line.
+const CLAIMED: [(Done, &str, Kind, u32, &str); 15] = [
+    (
+        Done::Granted(60),
+        "FRED",
+        Kind::Unique,
+        0x7F000002,
+        "2026-11-24T09:12:03Z granted FRED#20 127.0.0.2 unique 60 s\n",
+    ),
+    (
+        Done::Renewed(60),
+        "FRED",
+        Kind::Unique,
+        0x7F000002,
+        "2026-11-24T09:12:03Z renewed FRED#20 127.0.0.2 unique 60 s\n",
+    ),
+    (
+        Done::Granted(30),
+        "TEAM",
+        Kind::Group,
+        0x7F000003,
+        "2026-11-24T09:12:03Z granted TEAM#20 127.0.0.3 group 30 s\n",
+    ),
+    (
+        Done::Refused(Refusal::Active(0x7F000002)),
+        "FRED",
+        Kind::Unique,
+        0x7F000003,
+        "2026-11-24T09:12:03Z refused FRED#20 127.0.0.3 unique: held by another (6)\n",
+    ),
+    (
+        Done::Refused(Refusal::NotOwn),
+        "TEAM",
+        Kind::Group,
+        0x7F000002,
+        "2026-11-24T09:12:03Z refused TEAM#20 127.0.0.2 group: refused (5)\n",
+    ),
+    (
+        Done::Refused(Refusal::Overwrite),
+        "TEAM",
+        Kind::Group,
+        0x7F000002,
+        "2026-11-24T09:12:03Z refused TEAM#20 127.0.0.2 group: refused (5)\n",
+    ),
+    (
+        Done::Refused(Refusal::TableFull),
+        "TEAM",
+        Kind::Group,
+        0x7F000002,
+        "2026-11-24T09:12:03Z refused TEAM#20 127.0.0.2 group: server failure (2)\n",
+    ),
+    (
+        Done::Refused(Refusal::GroupFull),
+        "TEAM",
+        Kind::Group,
+        0x7F000002,
+        "2026-11-24T09:12:03Z refused TEAM#20 127.0.0.2 group: server failure (2)\n",
+    ),
+    // Releases: of a lease, of none, and one that is refused.
+    (
+        Done::Released,
+        "FRED",
+        Kind::Unique,
+        0x7F000002,
+        "2026-11-24T09:12:03Z released FRED#20 127.0.0.2 unique\n",
+    ),
+    (Done::NotLeased, "FRED", Kind::Unique, 0x7F000002, ""),
+    (
+        Done::NotReleased(Refusal::Active(0x7F000002)),
+        "FRED",
+        Kind::Unique,
+        0x7F000003,
+        "2026-11-24T09:12:03Z release refused FRED#20 127.0.0.3 unique: held by another (6)\n",
+    ),
+    // In a scope, and with a suffix that is no space.
+    (
+        Done::Granted(20),
+        "NODEB.LAB.TEST",
+        Kind::Unique,
+        0xC6128902,
+        "2026-11-24T09:12:03Z granted NODEB.LAB.TEST 198.18.137.2 unique 20 s\n",
+    ),
+    // Queries, and a request to a server that is silent.
+    (Done::Found, "FRED", Kind::Unique, 0x7F000002, ""),
+    (Done::NotFound, "FRED", Kind::Unique, 0x7F000002, ""),
+    (Done::Silent, "FRED", Kind::Unique, 0x7F000002, ""),
+];
+
+fn claim_of(name: &str, kind: Kind, addr: u32) -> Result<Claim, Fail> {
+    Ok(Claim {
+        name: named(name)?,
+        kind,
+        addr,
+    })
+}
+
+fn entry_of(count: usize, outcome: Outcome) -> Entry {
+    Entry {
+        from: FROM,
+        count,
+        outcome,
+    }
+}
+
+fn expect_line<R: Abort + AllocGlobal>(
+    rt: &R,
+    entry: &Entry,
+    left_out: u64,
+    expected: &str,
+) -> Result<(), Fail> {
+    let mut text = String::from_str(rt.alloc(), "> ")?;
+    write_entry(THEN, entry, left_out, &mut text)?;
+    expect_eq(rt, &text.as_str().strip_prefix("> "), &Some(expected));
+    Ok(())
+}
+
+#[test]
+fn a_line_for_each_outcome(rt: HostRuntime) -> Result<(), Fail> {
+    for (done, name, kind, addr, expected) in CLAIMED {
+        let entry = entry_of(68, outcome_of(done, claim_of(name, kind, addr)?));
+        expect_line(&rt, &entry, 0, expected)?;
+    }
+    Ok(())
+}
+
+/// What was no request, how many octets it had, how many lines were left out, and the line.
+const STRANGERS: [(Done, usize, u64, &str); 4] = [
+    (
+        Done::NoMessage,
+        12,
+        0,
+        "2026-11-24T09:12:03Z malformed from 192.0.2.9:137: 12 octets\n",
+    ),
+    (
+        Done::NoMessage,
+        0,
+        3,
+        "2026-11-24T09:12:03Z malformed from 192.0.2.9:137: 0 octets, 3 left out before\n",
+    ),
+    (
+        Done::ForNodes,
+        62,
+        0,
+        "2026-11-24T09:12:03Z foreign from 192.0.2.9:137: 62 octets\n",
+    ),
+    (
+        Done::ForNodes,
+        50,
+        1,
+        "2026-11-24T09:12:03Z foreign from 192.0.2.9:137: 50 octets, 1 left out before\n",
+    ),
+];
+
+#[test]
+fn a_line_for_what_is_no_request(rt: HostRuntime) -> Result<(), Fail> {
+    for (done, count, left_out, expected) in STRANGERS {
+        let entry = entry_of(count, outcome_of(done, claim_of("FRED", Kind::Unique, 0)?));
+        expect_line(&rt, &entry, left_out, expected)?;
+    }
+    Ok(())
+}
+
+/// The addresses of FRED's owner, and of its rival.
+const OWNER: u32 = 0x7F000002;
+
+const OTHER: u32 = 0x7F000003;
+
+const RIVAL_RELEASE: &str = "0002 3000 two-parts FRED NB again NB 0s unique 127.0.0.3";
+
+const OVERWRITE: &str = "0001 2800 two-parts FRED NB again NB 60s unique 127.0.0.2";
+
+const STAR: &str = "0001 2900 two-parts STAR NB again NB 60s unique 127.0.0.2";
+
+/// `STAR`'s name.
+const STAR_NAME: &str = "hex:2a000000000000000000000000000000";
+
+const TEAM: &str = "0001 2900 two-parts TEAM NB again NB 60s unique 127.0.0.3";
+
+/// Datagrams to a server with room for one row that speaks from 60,000 on: when each comes, from which address, its octets as
+/// words, the name and the address that it is about, and what the server does.
+const HANDLED: [(u64, u32, &str, &str, u32, Done); 18] = [
+    (59_999, OWNER, REGISTRATION, "FRED", OWNER, Done::Silent),
+    (59_999, OWNER, QUERY, "FRED", OWNER, Done::Silent),
+    (59_999, OWNER, GRANTED, "FRED", OWNER, Done::ForNodes),
+    (59_999, OWNER, "00", "FRED", OWNER, Done::NoMessage),
+    (60_000, OWNER, GRANTED, "FRED", OWNER, Done::ForNodes),
+    (
+        60_000,
+        OWNER,
+        REGISTRATION,
+        "FRED",
+        OWNER,
+        Done::Granted(60),
+    ),
+    (60_000, OWNER, REFRESH, "FRED", OWNER, Done::Renewed(60)),
+    (
+        60_100,
+        OTHER,
+        REGISTRATION,
+        "FRED",
+        OWNER,
+        Done::Refused(Refusal::NotOwn),
+    ),
+    (
+        60_100,
+        OTHER,
+        RIVAL,
+        "FRED",
+        OTHER,
+        Done::Refused(Refusal::Active(OWNER)),
+    ),
+    (
+        60_100,
+        OTHER,
+        TEAM,
+        "TEAM",
+        OTHER,
+        Done::Refused(Refusal::TableFull),
+    ),
+    (
+        60_100,
+        OWNER,
+        OVERWRITE,
+        "FRED",
+        OWNER,
+        Done::Refused(Refusal::Overwrite),
+    ),
+    (
+        60_100,
+        OWNER,
+        STAR,
+        STAR_NAME,
+        OWNER,
+        Done::Refused(Refusal::Star),
+    ),
+    (60_200, OTHER, QUERY, "FRED", OWNER, Done::Found),
+    (
+        60_300,
+        OTHER,
+        RELEASE,
+        "FRED",
+        OWNER,
+        Done::NotReleased(Refusal::NotOwn),
+    ),
+    (
+        60_300,
+        OTHER,
+        RIVAL_RELEASE,
+        "FRED",
+        OTHER,
+        Done::NotReleased(Refusal::Active(OWNER)),
+    ),
+    (60_400, OWNER, RELEASE, "FRED", OWNER, Done::Released),
+    (60_400, OWNER, RELEASE, "FRED", OWNER, Done::NotLeased),
+    (60_500, OTHER, QUERY, "FRED", OWNER, Done::NotFound),
+];
+
+#[test]
+fn what_a_server_did(rt: HostRuntime) -> Result<(), Fail> {
+    let mut server = started(&rt, 1, 0)?;
+    let mut reply = ArrayVec::new();
+    for (at, ip, words, name, addr, done) in HANDLED {
+        let given = octets(&rt, words)?;
+        let from = Addr { ip, port: 137 };
+        let expected = outcome_of(done, claim_of(name, Kind::Unique, addr)?);
+        let outcome = server.handle(moment(at)?, from, given.as_slice(), &mut reply)?;
+        expect_eq_in(&rt, &words, &outcome, &expected);
+    }
+    Ok(())
+}
+
+fn named(text: &str) -> Result<Name, Fail> {
+    Ok(parse_name(text.as_bytes()).ok_or("no name")?)
+}
+
+/// When a line is asked for, in milliseconds, and how many were left out before it, where it may be printed.
+const LIMITED: [(u64, Option<u64>); 18] = [
+    (5_000, Some(0)),
+    (5_000, Some(0)),
+    (5_100, Some(0)),
+    (5_100, Some(0)),
+    (5_200, Some(0)),
+    (5_200, Some(0)),
+    (5_200, Some(0)),
+    (5_900, Some(0)),
+    (5_900, Some(0)),
+    (5_999, Some(0)),
+    // The eleventh in a second, and more of them.
+    (5_999, None),
+    (5_999, None),
+    // A second after the first and the second; the third is only 900 ms old.
+    (6_000, Some(2)),
+    (6_000, Some(0)),
+    (6_000, None),
+    (6_099, None),
+    (6_100, Some(2)),
+    (9_000, Some(0)),
+];
+
+#[test]
+fn ten_lines_in_a_second(rt: HostRuntime) -> Result<(), Fail> {
+    let mut limiter = Limiter::new();
+    for (at, expected) in LIMITED {
+        expect_eq_in(&rt, &at, &limiter.take(moment(at)?), &expected);
+    }
+    Ok(())
+}
+
+/// At the moment 10,000 ms it was 2026-11-24T23:59:58Z.
+fn dates() -> Result<Dates, Fail> {
+    Ok(Dates {
+        moment: moment(10_000)?,
+        time: moment(1_795_564_798_000)?,
+    })
+}
+
+fn lease(addr: u32, kind: Kind, end: u64) -> Lease {
+    Lease { addr, kind, end }
+}
+
+#[test]
+fn the_list_of_live_leases(rt: HostRuntime) -> Result<(), Fail> {
+    let mut rows: Vec<(Name, Lease)> = Vec::new(rt.alloc());
+    rows.push((named("FRED")?, lease(0x7F000002, Kind::Unique, 11_999)))?;
+    rows.push((named("TEAM")?, lease(0xC0000207, Kind::Group, 12_000)))?;
+    // Over: it ends now.
+    rows.push((named("TEAM")?, lease(0xC0000208, Kind::Group, 11_000)))?;
+    rows.push((named("NODEB.LAB.TEST")?, lease(0, Kind::Unique, 310_000)))?;
+    rows.push((
+        named("hex:46494c45522020202020202020202000")?,
+        lease(0x01020304, Kind::Unique, 11_001),
+    ))?;
+    let mut text = String::from_str(rt.alloc(), "> ")?;
+    write_leases(&dates()?, moment(11_000)?, rows.as_slice(), &mut text)?;
+    expect_eq(
+        &rt,
+        &text.as_str(),
+        &"> FRED#20 unique 127.0.0.2 2026-11-24T23:59:59Z\nTEAM#20 group 192.0.2.7 2026-11-25T00:00:00Z\nNODEB.LAB.TEST unique 0.0.0.0 2026-11-25T00:04:58Z\nFILER#00 unique 1.2.3.4 2026-11-24T23:59:59Z\n",
+    );
+    Ok(())
+}
+
+/// A moment and the time of day at it, and whether that dates moments anew: where it is more than two seconds from what was thought.
+const SEEN: [(u64, u64, bool); 6] = [
+    (20_000, 1_795_564_808_000, false),
+    (20_000, 1_795_564_810_000, false),
+    (20_000, 1_795_564_806_000, false),
+    (20_000, 1_795_564_810_001, true),
+    (20_000, 1_795_564_805_999, true),
+    (20_000, 0, true),
+];
+
+#[test]
+fn a_clock_that_is_set_dates_moments_anew(rt: HostRuntime) -> Result<(), Fail> {
+    for (at, time, anew) in SEEN {
+        let mut followed = dates()?;
+        followed.follow(moment(at)?, moment(time)?);
+        let expected = if anew {
+            Dates {
+                moment: moment(at)?,
+                time: moment(time)?,
+            }
+        } else {
+            dates()?
+        };
+        expect_eq_in(&rt, &time, &followed, &expected);
+    }
+    Ok(())
+}
+
+#[test]
+fn a_moment_before_1970_is_dated_to_it(rt: HostRuntime) -> Result<(), Fail> {
+    let late = Dates {
+        moment: moment(10_000)?,
+        time: Moment::zero(),
+    };
+    expect_eq(&rt, &late.second_at(9_000), &0);
+    expect_eq(&rt, &late.second_at(10_999), &0);
+    expect_eq(&rt, &late.second_at(11_000), &1);
+    Ok(())
+}

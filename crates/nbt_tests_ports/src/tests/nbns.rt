@@ -1,0 +1,724 @@
+//! A name server that is watched, over a port in memory: the life of a datagram is 1,000 ms, the longest lease 60 s, and it started
+//! at 0. At its moment 60,000 it was 2026-11-24T09:12:03Z.
+
+use super::expect::{expect, expect_eq, expect_eq_in};
+use nbt_lease::Config;
+use nbt_log::Dates;
+use nbt_name::Addr;
+use nbt_nbns::{
+    FilePlace, Journal, Judged, Keeper, Logger, MemoryPlace, NbnsArguments, Place, judge, run_nbns,
+    watch_on, write_begin, write_refusal, write_warning,
+};
+use nbt_port::{Fault, MemoryClock, MemoryPort, Port, UdpPort};
+use nbt_testing::{
+    GRANTED, QUERY, REFRESH, REFUSED, REGISTRATION, RELEASE, RIVAL, Row, clock, config,
+    expect_sent, moment, port, started,
+};
+use nbt_server::Server;
+use std::io::Write;
+use std::process::Abort;
+use std::test::Fail;
+use std::{env, fs, io, process, time};
+
+const FIRST: Addr = Addr {
+    ip: 0x7F000002,
+    port: 137,
+};
+
+const SECOND: Addr = Addr {
+    ip: 0x7F000003,
+    port: 1024,
+};
+
+/// The time of day at the moment 0, in milliseconds since 1970.
+const DAY: u64 = 1_795_511_463_000;
+
+/// A turn: its moment, which the clock tells once more after it, by how much the clock of the day was set by then, and what comes.
+type Turn = (u64, u64, Row);
+
+/// What a watched server is given, up to which moment it goes on, and what comes of it: what is printed, the lists that the place
+/// was given, and what is sent.
+struct Watched {
+    turns: &'static [Turn],
+    until: u64,
+    logs: bool,
+    printed: &'static str,
+    lists: &'static [&'static str],
+    sent: &'static [Row],
+}
+
+/// What a watched server is made of.
+#[derive(Drop)]
+struct Stage {
+    port: MemoryPort,
+    clock: MemoryClock,
+    server: Server,
+    journal: Journal<MemoryClock, MemoryPlace>,
+}
+
+/// The moments that the clock tells: two of a turn in which something comes, one of another.
+fn moments_of<R: AllocGlobal>(rt: &R, turns: &[Turn]) -> Result<Vec<u64>, Fail> {
+    let mut moments = Vec::new(rt.alloc());
+    for (at, _, (_, words)) in turns {
+        if *words != "" {
+            moments.push(*at)?;
+        }
+        moments.push(*at)?;
+    }
+    Ok(moments)
+}
+
+/// The times of day that its clock tells, one a turn.
+fn times_of<R: AllocGlobal>(rt: &R, turns: &[Turn]) -> Result<Vec<u64>, Fail> {
+    let mut times = Vec::new(rt.alloc());
+    for (at, set, _) in turns {
+        times.push(DAY.saturating_add(*at).saturating_add(*set))?;
+    }
+    Ok(times)
+}
+
+fn rows_of<R: AllocGlobal>(rt: &R, turns: &[Turn]) -> Result<Vec<Row>, Fail> {
+    let mut rows = Vec::new(rt.alloc());
+    for (_, _, row) in turns {
+        rows.push(*row)?;
+    }
+    Ok(rows)
+}
+
+fn journal_of<R: AllocGlobal>(
+    rt: &R,
+    turns: &[Turn],
+    logs: bool,
+    lists: bool,
+) -> Result<Journal<MemoryClock, MemoryPlace>, Fail> {
+    let dates = Dates {
+        moment: moment(0)?,
+        time: moment(DAY)?,
+    };
+    let day = clock(rt, times_of(rt, turns)?.as_slice())?;
+    let log = if logs {
+        Some(Logger::new(rt.alloc()))
+    } else {
+        None
+    };
+    let leases = if lists {
+        Some(Keeper::new(rt.alloc(), MemoryPlace::new(rt.alloc())))
+    } else {
+        None
+    };
+    Ok(Journal {
+        dates,
+        day,
+        log,
+        leases,
+    })
+}
+
+fn staged<R: AllocGlobal>(rt: &R, turns: &[Turn], logs: bool, lists: bool) -> Result<Stage, Fail> {
+    let clock = clock(rt, moments_of(rt, turns)?.as_slice())?;
+    let port = port(rt, rows_of(rt, turns)?.as_slice())?;
+    let journal = journal_of(rt, turns, logs, lists)?;
+    Ok(Stage {
+        port,
+        clock,
+        server: started(rt, 4096, 0)?,
+        journal,
+    })
+}
+
+/// Goes on up to a moment, and writes what it prints and what it says of errors.
+fn watch<R: Abort + time::Clock, W: Write>(
+    rt: &R,
+    stage: &mut Stage,
+    until: u64,
+    printed: &mut W,
+    errors: &mut Vec<u8>,
+) -> Result<(), Fail> {
+    expect(rt, stage.port.failures() <= 1 << 61);
+    Ok(watch_on(
+        &mut stage.port,
+        &mut stage.clock,
+        &mut stage.server,
+        &mut stage.journal,
+        Some(moment(until)?),
+        rt,
+        printed,
+        errors,
+    )?)
+}
+
+/// Goes on up to a moment. Returns what is printed, and what is said of errors.
+fn go_on<R: Abort + AllocGlobal + time::Clock>(
+    rt: &R,
+    stage: &mut Stage,
+    until: u64,
+) -> Result<(Vec<u8>, Vec<u8>), Fail> {
+    let mut printed = Vec::new(rt.alloc());
+    let mut errors = Vec::new(rt.alloc());
+    watch(rt, stage, until, &mut printed, &mut errors)?;
+    Ok((printed, errors))
+}
+
+/// The place was given these lists, in order.
+fn expect_lists<R: Abort>(
+    rt: &R,
+    journal: &Journal<MemoryClock, MemoryPlace>,
+    lists: &[&str],
+) -> Result<(), Fail> {
+    let keeper = journal.leases.as_ref().ok_or("no list")?;
+    expect_eq(rt, &keeper.place().texts().len(), &lists.len());
+    for (got, expected) in keeper.place().texts().iter().zip(lists) {
+        expect_eq(rt, &got.as_str(), &*expected);
+    }
+    Ok(())
+}
+
+fn expect_watched<R: Abort + AllocGlobal + time::Clock>(
+    rt: &R,
+    row: &Watched,
+    stage: &mut Stage,
+) -> Result<(), Fail> {
+    let (printed, errors) = go_on(rt, stage, row.until)?;
+    expect_eq_in(
+        rt,
+        &row.printed,
+        &printed.as_slice(),
+        &row.printed.as_bytes(),
+    );
+    expect(rt, errors.is_empty());
+    if !row.lists.is_empty() {
+        expect_lists(rt, &stage.journal, row.lists)?;
+    }
+    expect_sent(rt, &stage.port, row.sent)
+}
+
+fn play<R: Abort + AllocGlobal + time::Clock>(rt: &R, row: &Watched) -> Result<(), Fail> {
+    let mut stage = staged(rt, row.turns, row.logs, !row.lists.is_empty())?;
+    expect_watched(rt, row, &mut stage)
+}
+
+const RELEASED: &str = "0002 b400 reply FRED NB 0s unique 127.0.0.2";
+
+/// FRED is 127.0.0.2's, for 59 seconds more.
+const FOUND: &str = "0008 8580 reply FRED NB 0000003b unique 127.0.0.2";
+
+/// A grant, a refusal, a renewal, a query, two datagrams that aren't for a server, a release, and a turn in which nothing comes.
+const EACH: &[Turn] = &[
+    (60_000, 0, (FIRST, REGISTRATION)),
+    (60_500, 0, (SECOND, RIVAL)),
+    (61_000, 0, (FIRST, REFRESH)),
+    (62_000, 0, (SECOND, QUERY)),
+    (62_100, 0, (SECOND, "00")),
+    (62_200, 0, (FIRST, GRANTED)),
+    (63_000, 0, (FIRST, RELEASE)),
+    (63_500, 0, (FIRST, "")),
+    (64_000, 0, (FIRST, RELEASE)),
+];
+
+const ALL_SENT: &[Row] = &[
+    (FIRST, GRANTED),
+    (SECOND, REFUSED),
+    (FIRST, GRANTED),
+    (SECOND, FOUND),
+    (FIRST, RELEASED),
+    (FIRST, RELEASED),
+];
+
+const WATCHED: &[Watched] = &[
+    Watched {
+        turns: EACH,
+        until: 64_000,
+        logs: true,
+        printed: "2026-11-24T09:12:03Z granted FRED#20 127.0.0.2 unique 60 s\n2026-11-24T09:12:03Z refused FRED#20 127.0.0.3 unique: held by another (6)\n2026-11-24T09:12:04Z renewed FRED#20 127.0.0.2 unique 60 s\n2026-11-24T09:12:05Z malformed from 127.0.0.3:1024: 1 octets\n2026-11-24T09:12:05Z foreign from 127.0.0.2:137: 62 octets\n2026-11-24T09:12:06Z released FRED#20 127.0.0.2 unique\n",
+        lists: &[
+            "FRED#20 unique 127.0.0.2 2026-11-24T09:13:03Z\n",
+            "FRED#20 unique 127.0.0.2 2026-11-24T09:13:04Z\n",
+            "",
+        ],
+        sent: ALL_SENT,
+    },
+    // The server does the same where nothing is wanted of it, or one of both.
+    Watched {
+        turns: EACH,
+        until: 64_000,
+        logs: false,
+        printed: "",
+        lists: &[],
+        sent: ALL_SENT,
+    },
+    Watched {
+        turns: EACH,
+        until: 64_000,
+        logs: false,
+        printed: "",
+        lists: &[
+            "FRED#20 unique 127.0.0.2 2026-11-24T09:13:03Z\n",
+            "FRED#20 unique 127.0.0.2 2026-11-24T09:13:04Z\n",
+            "",
+        ],
+        sent: ALL_SENT,
+    },
+    // It ends after the first turn at that moment or later.
+    Watched {
+        turns: EACH,
+        until: 60_400,
+        logs: true,
+        printed: "2026-11-24T09:12:03Z granted FRED#20 127.0.0.2 unique 60 s\n2026-11-24T09:12:03Z refused FRED#20 127.0.0.3 unique: held by another (6)\n",
+        lists: &[],
+        sent: &[(FIRST, GRANTED), (SECOND, REFUSED)],
+    },
+    // Until 60,000 it is silent: nothing is told of a request. What is malformed is told of, and the list has no lease.
+    Watched {
+        turns: &[
+            (59_998, 0, (FIRST, REGISTRATION)),
+            (59_999, 0, (FIRST, "00")),
+        ],
+        until: 59_999,
+        logs: true,
+        printed: "2026-11-24T09:12:02Z malformed from 127.0.0.2:137: 1 octets\n",
+        lists: &[""],
+        sent: &[],
+    },
+    // A datagram whose moment goes back is lost; a lease that is over is granted anew, and leaves the list by time alone.
+    Watched {
+        turns: &[
+            (60_000, 0, (FIRST, REGISTRATION)),
+            (59_999, 0, (FIRST, REFRESH)),
+            (119_999, 0, (FIRST, "")),
+            (121_000, 0, (FIRST, "")),
+            (121_000, 0, (FIRST, REFRESH)),
+        ],
+        until: 121_000,
+        logs: true,
+        printed: "2026-11-24T09:12:03Z granted FRED#20 127.0.0.2 unique 60 s\n",
+        lists: &["FRED#20 unique 127.0.0.2 2026-11-24T09:13:03Z\n", ""],
+        sent: &[(FIRST, GRANTED)],
+    },
+    Watched {
+        turns: &[
+            (60_000, 0, (FIRST, REGISTRATION)),
+            (120_000, 0, (FIRST, REFRESH)),
+        ],
+        until: 120_000,
+        logs: true,
+        printed: "2026-11-24T09:12:03Z granted FRED#20 127.0.0.2 unique 60 s\n2026-11-24T09:13:03Z granted FRED#20 127.0.0.2 unique 60 s\n",
+        lists: &[
+            "FRED#20 unique 127.0.0.2 2026-11-24T09:13:03Z\n",
+            "FRED#20 unique 127.0.0.2 2026-11-24T09:14:03Z\n",
+        ],
+        sent: &[(FIRST, GRANTED), (FIRST, GRANTED)],
+    },
+    // The clock of the day is set by an hour: lines and list have the new time.
+    Watched {
+        turns: &[
+            (60_000, 0, (FIRST, REGISTRATION)),
+            (60_100, 3_600_000, (SECOND, RIVAL)),
+            (61_000, 3_600_000, (FIRST, "")),
+        ],
+        until: 61_000,
+        logs: true,
+        printed: "2026-11-24T09:12:03Z granted FRED#20 127.0.0.2 unique 60 s\n2026-11-24T10:12:03Z refused FRED#20 127.0.0.3 unique: held by another (6)\n",
+        lists: &[
+            "FRED#20 unique 127.0.0.2 2026-11-24T09:13:03Z\n",
+            "FRED#20 unique 127.0.0.2 2026-11-24T10:13:03Z\n",
+        ],
+        sent: &[(FIRST, GRANTED), (SECOND, REFUSED)],
+    },
+    // Eleven in a second, and one a second after the first.
+    Watched {
+        turns: &[
+            (60_000, 0, (FIRST, "01")),
+            (60_000, 0, (FIRST, "0102")),
+            (60_000, 0, (FIRST, "01")),
+            (60_000, 0, (FIRST, "01")),
+            (60_000, 0, (FIRST, "01")),
+            (60_000, 0, (FIRST, "01")),
+            (60_000, 0, (FIRST, "01")),
+            (60_000, 0, (FIRST, "01")),
+            (60_000, 0, (FIRST, "01")),
+            (60_999, 0, (FIRST, "010203")),
+            (60_999, 0, (FIRST, "01")),
+            (61_000, 0, (SECOND, "01")),
+        ],
+        until: 61_000,
+        logs: true,
+        printed: "2026-11-24T09:12:03Z malformed from 127.0.0.2:137: 1 octets\n2026-11-24T09:12:03Z malformed from 127.0.0.2:137: 2 octets\n2026-11-24T09:12:03Z malformed from 127.0.0.2:137: 1 octets\n2026-11-24T09:12:03Z malformed from 127.0.0.2:137: 1 octets\n2026-11-24T09:12:03Z malformed from 127.0.0.2:137: 1 octets\n2026-11-24T09:12:03Z malformed from 127.0.0.2:137: 1 octets\n2026-11-24T09:12:03Z malformed from 127.0.0.2:137: 1 octets\n2026-11-24T09:12:03Z malformed from 127.0.0.2:137: 1 octets\n2026-11-24T09:12:03Z malformed from 127.0.0.2:137: 1 octets\n2026-11-24T09:12:03Z malformed from 127.0.0.2:137: 3 octets\n2026-11-24T09:12:04Z malformed from 127.0.0.3:1024: 1 octets, 1 left out before\n",
+        lists: &[],
+        sent: &[],
+    },
+];
+
+#[test]
+fn watched_servers(rt: HostRuntime) -> Result<(), Fail> {
+    for row in WATCHED {
+        play(&rt, row)?;
+    }
+    Ok(())
+}
+
+/// Goes on up to a moment, and this is printed, and said of errors.
+fn expect_said<R: Abort + AllocGlobal + time::Clock>(
+    rt: &R,
+    stage: &mut Stage,
+    until: u64,
+    printed: &str,
+    errors: &str,
+) -> Result<(), Fail> {
+    let (got, said) = go_on(rt, stage, until)?;
+    expect_eq(rt, &got.as_slice(), &printed.as_bytes());
+    expect_eq(rt, &said.as_slice(), &errors.as_bytes());
+    Ok(())
+}
+
+fn see_failed_port<R: Abort + AllocGlobal + time::Clock>(
+    rt: &R,
+    stage: &mut Stage,
+) -> Result<(), Fail> {
+    stage.port.fail_after(0);
+    expect_said(
+        rt,
+        stage,
+        60_000,
+        "2026-11-24T09:12:03Z granted FRED#20 127.0.0.2 unique 60 s\n",
+        "nbt: the port failed; going on\nnbt: the port is well again after 1 failures in a row\n",
+    )?;
+    expect_sent(rt, &stage.port, &[(FIRST, GRANTED)])
+}
+
+#[test]
+fn a_port_that_fails_is_said_and_passed_over(rt: HostRuntime) -> Result<(), Fail> {
+    see_failed_port(&rt, &mut staged(&rt, EACH, true, true)?)
+}
+
+/// Turns of a server whose place refuses the first two lists.
+const FULL: &[Turn] = &[
+    (60_000, 0, (FIRST, REGISTRATION)),
+    (61_000, 0, (FIRST, "")),
+    (61_500, 0, (FIRST, "")),
+    (62_000, 0, (FIRST, "")),
+];
+
+/// The journal keeps its list in a place that refuses as many.
+fn keep_refused<R: AllocGlobal>(
+    rt: &R,
+    journal: &mut Journal<MemoryClock, MemoryPlace>,
+    count: u64,
+) {
+    let mut place = MemoryPlace::new(rt.alloc());
+    place.refuse(count);
+    journal.leases = Some(Keeper::new(rt.alloc(), place));
+}
+
+fn see_refused_lists<R: Abort + AllocGlobal + time::Clock>(
+    rt: &R,
+    stage: &mut Stage,
+) -> Result<(), Fail> {
+    keep_refused(rt, &mut stage.journal, 2);
+    let said = "nbt: the list of leases can't be written: the place is full\n";
+    expect_said(rt, stage, 61_500, "", said)?;
+    expect_lists(rt, &stage.journal, &[])?;
+    expect_said(rt, stage, 62_000, "", "")?;
+    let list = "FRED#20 unique 127.0.0.2 2026-11-24T09:13:03Z\n";
+    expect_lists(rt, &stage.journal, &[list])
+}
+
+#[test]
+fn a_list_that_can_not_be_written_is_said_once_and_tried_again(
+    rt: HostRuntime,
+) -> Result<(), Fail> {
+    see_refused_lists(&rt, &mut staged(&rt, FULL, false, false)?)
+}
+
+fn see_full_log<R: Abort + AllocGlobal + time::Clock>(
+    rt: &R,
+    stage: &mut Stage,
+) -> Result<(), Fail> {
+    let mut room = [0; 8];
+    let mut errors = Vec::new(rt.alloc());
+    watch(rt, stage, 64_000, &mut &mut room[..], &mut errors)?;
+    expect_eq(
+        rt,
+        &errors.as_slice(),
+        &b"nbt: the log can't be written: failed to write whole buffer\n".as_slice(),
+    );
+    expect_sent(rt, &stage.port, ALL_SENT)
+}
+
+#[test]
+fn a_log_that_can_not_be_written_is_said_once_a_row(rt: HostRuntime) -> Result<(), Fail> {
+    see_full_log(&rt, &mut staged(&rt, EACH, true, true)?)
+}
+
+/// A writer that counts what was written, and what of it was flushed.
+#[derive(Drop)]
+struct Paper {
+    written: usize,
+    flushed: usize,
+}
+
+impl Write for Paper {
+    fn write(&mut self, buf: &[u8]) -> io::Result<usize> {
+        self.written = self.written.saturating_add(buf.len());
+        Ok(buf.len())
+    }
+
+    fn flush(&mut self) -> io::Result<()> {
+        self.flushed = self.written;
+        Ok(())
+    }
+}
+
+/// Paper on which nothing was written.
+const BLANK: Paper = Paper {
+    written: 0,
+    flushed: 0,
+};
+
+#[test]
+fn the_first_line_is_flushed(rt: HostRuntime) -> Result<(), Fail> {
+    let arguments = arguments(0, false)?;
+    let mut paper = BLANK;
+    let mut errors = Vec::new(rt.alloc());
+    run_nbns(&rt, rt.alloc(), &arguments, &mut paper, &mut errors)?;
+    expect(&rt, paper.written > 0);
+    expect_eq(&rt, &paper.flushed, &paper.written);
+    Ok(())
+}
+
+fn see_flushed<R: Abort + AllocGlobal + time::Clock>(
+    rt: &R,
+    stage: &mut Stage,
+) -> Result<(), Fail> {
+    let mut paper = BLANK;
+    let mut errors = Vec::new(rt.alloc());
+    watch(rt, stage, 60_000, &mut paper, &mut errors)?;
+    expect_eq(rt, &paper.written, &59);
+    expect_eq(rt, &paper.flushed, &59);
+    Ok(())
+}
+
+#[test]
+fn all_that_is_printed_is_flushed(rt: HostRuntime) -> Result<(), Fail> {
+    see_flushed(&rt, &mut staged(&rt, EACH, true, false)?)
+}
+
+#[test]
+fn a_place_in_memory_keeps_each_text(rt: HostRuntime) -> Result<(), Fail> {
+    let mut place = MemoryPlace::new(rt.alloc());
+    place.replace("one")?;
+    place.refuse(1);
+    expect(&rt, place.replace("two").is_err());
+    place.replace("three")?;
+    expect(&rt, place.texts().len() == 2);
+    expect_eq(&rt, &place.texts()[0].as_str(), &"one");
+    expect_eq(&rt, &place.texts()[1].as_str(), &"three");
+    Ok(())
+}
+
+/// A path in the folder for temporary files that no other test has.
+fn path_for(rt: &HostRuntime, name: &str) -> Result<String, Fail> {
+    let folder = env::temp_dir(rt)?;
+    let folder = folder.as_path().to_str().ok_or("no text")?;
+    let id = process::id(rt.process());
+    Ok(format!(in rt.alloc(); "{folder}/nbt-{id}-{name}")?)
+}
+
+/// Replaces a file's text. Returns the one that it has then, and the one that is read by who had it open before.
+fn replaced(rt: &HostRuntime, path: &str) -> Result<(String, String), Fail> {
+    let mut place = FilePlace::new(rt, rt.alloc(), path)?;
+    place.replace("one\n")?;
+    let before = fs::open(rt, path)?;
+    place.replace("two\n")?;
+    let text = fs::read_to_string(rt, path)?;
+    Ok((text, io::read_to_string(rt.alloc(), before)?))
+}
+
+/// Whether there is a file of the path with this behind it.
+fn is_there(rt: &HostRuntime, path: &str, end: &str) -> Result<bool, Fail> {
+    let path = format!(in rt.alloc(); "{path}{end}")?;
+    Ok(fs::open(rt, path.as_str()).is_ok())
+}
+
+/// Whether a file of the path with this behind it can have a text.
+fn can_be_replaced(rt: &HostRuntime, path: &str, end: &str) -> Result<bool, Fail> {
+    let path = format!(in rt.alloc(); "{path}{end}")?;
+    let mut place = FilePlace::new(rt, rt.alloc(), path.as_str())?;
+    Ok(place.replace("one\n").is_ok())
+}
+
+#[test]
+fn a_file_has_one_list_or_the_other(rt: HostRuntime) -> Result<(), Fail> {
+    let path = path_for(&rt, "one-or-the-other")?;
+    let (text, before) = replaced(&rt, path.as_str())?;
+    expect_eq(&rt, &(text.as_str(), before.as_str()), &("two\n", "one\n"));
+    // The new file has become the old one.
+    expect(&rt, !is_there(&rt, path.as_str(), ".new")?);
+    fs::remove_file(&rt, path.as_str())?;
+    expect(&rt, !can_be_replaced(&rt, path.as_str(), "/nowhere")?);
+    Ok(())
+}
+
+/// A server over this machine, at a port that no other test has, which ends after its first turn.
+fn arguments(port: u16, strict: bool) -> Result<NbnsArguments, Fail> {
+    Ok(NbnsArguments {
+        bind: Addr {
+            ip: 0x7F2A1703,
+            port,
+        },
+        config: config(16)?,
+        time: Some(0),
+        log: true,
+        leases: None,
+        strict,
+    })
+}
+
+/// The same, with its list of leases in the file of this path.
+fn arguments_with_leases(
+    rt: &HostRuntime,
+    port: u16,
+    strict: bool,
+    path: &str,
+) -> Result<NbnsArguments, Fail> {
+    let mut arguments = arguments(port, strict)?;
+    arguments.leases = Some(String::from_str(rt.alloc(), path)?);
+    Ok(arguments)
+}
+
+/// Runs a server. Returns how it ended, what it printed, and what it said of errors.
+fn run(rt: &HostRuntime, arguments: &NbnsArguments) -> (Result<(), Fault>, Vec<u8>, Vec<u8>) {
+    let mut printed = Vec::new(rt.alloc());
+    let mut errors = Vec::new(rt.alloc());
+    let ended = run_nbns(rt, rt.alloc(), arguments, &mut printed, &mut errors);
+    (ended, printed, errors)
+}
+
+/// The first line has a time of day, which no test can foresee.
+fn expect_begin<R: Abort>(rt: &R, printed: &[u8], before: &[u8]) -> Result<(), Fail> {
+    expect_eq(
+        rt,
+        &printed.strip_prefix(before).ok_or("another line")?.len(),
+        &21,
+    );
+    Ok(())
+}
+
+#[test]
+fn a_server_over_this_machine(rt: HostRuntime) -> Result<(), Fail> {
+    let path = path_for(&rt, "leases")?;
+    for strict in [false, true] {
+        let arguments = arguments_with_leases(&rt, 20_171, strict, path.as_str())?;
+        let (ended, printed, errors) = run(&rt, &arguments);
+        expect(&rt, ended.is_ok() && errors.is_empty());
+        let before = b"serving 127.42.23.3:20171, silent for 60 s until ";
+        expect_begin(&rt, printed.as_slice(), before)?;
+        expect_eq(&rt, &fs::read_to_string(&rt, path.as_str())?.as_str(), &"");
+        fs::remove_file(&rt, path.as_str())?;
+    }
+    Ok(())
+}
+
+#[test]
+fn a_server_tells_the_port_that_it_got(rt: HostRuntime) -> Result<(), Fail> {
+    let (ended, printed, _) = run(&rt, &arguments(0, false)?);
+    expect(&rt, ended.is_ok());
+    expect(&rt, printed.as_slice().starts_with(b"serving 127.42.23.3:"));
+    expect(
+        &rt,
+        !printed.as_slice().starts_with(b"serving 127.42.23.3:0,"),
+    );
+    Ok(())
+}
+
+#[test]
+fn a_list_whose_file_can_not_be_had(rt: HostRuntime) -> Result<(), Fail> {
+    let path = path_for(&rt, "no-folder/leases")?;
+    let arguments = arguments_with_leases(&rt, 0, false, path.as_str())?;
+    let (ended, _, errors) = run(&rt, &arguments);
+    expect(&rt, ended.is_ok());
+    let expected = format!(in rt.alloc();
+        "nbt: {path} can't be written: No such file or directory (os error 2)\n"
+    )?;
+    expect_eq(&rt, &errors.as_slice(), &expected.as_bytes());
+    Ok(())
+}
+
+#[test]
+fn a_first_line_that_can_not_be_written(rt: HostRuntime) -> Result<(), Fail> {
+    let mut room = [0; 8];
+    let mut short = &mut room[..];
+    let mut errors = Vec::new(rt.alloc());
+    expect_eq(
+        &rt,
+        &run_nbns(
+            &rt,
+            rt.alloc(),
+            &arguments(0, false)?,
+            &mut short,
+            &mut errors,
+        ),
+        &Err(Fault::Output),
+    );
+    expect_eq(
+        &rt,
+        &errors.as_slice(),
+        &b"nbt: the first line can't be written: failed to write whole buffer\n".as_slice(),
+    );
+    Ok(())
+}
+
+#[test]
+fn a_port_that_can_not_be_had(rt: HostRuntime) -> Result<(), Fail> {
+    let arguments = arguments(20_172, false)?;
+    let _taken = UdpPort::bind(&rt, arguments.bind)?;
+    let (ended, printed, errors) = run(&rt, &arguments);
+    expect_eq(&rt, &ended, &Err(Fault::NoPort));
+    expect(&rt, printed.is_empty());
+    expect_eq(
+        &rt,
+        &errors.as_slice(),
+        &b"nbt: 127.42.23.3:20172: Address already in use (os error 98)\n".as_slice(),
+    );
+    Ok(())
+}
+
+/// The life of a datagram in milliseconds, the longest lease in seconds, and what is said of them.
+const JUDGED: [(u64, u32, Judged); 9] = [
+    (1_000, 300, Judged::Fits),
+    (1_000, 20, Judged::Fits),
+    (1_000, 19, Judged::Short),
+    (1, 10, Judged::Fits),
+    (1, 9, Judged::Short),
+    (999, 19, Judged::Short),
+    (950, 19, Judged::Fits),
+    (1_000, 3_600, Judged::Fits),
+    (1_000, 3_601, Judged::Long),
+];
+
+#[test]
+fn longest_leases_that_are_too_short_or_long(rt: HostRuntime) -> Result<(), Fail> {
+    for (life, longest, expected) in JUDGED {
+        expect_eq_in(
+            &rt,
+            &(life, longest),
+            &judge(Config::new(life, longest, 1)?),
+            &expected,
+        );
+    }
+    Ok(())
+}
+
+#[test]
+fn what_is_said_at_first(rt: HostRuntime) -> Result<(), Fail> {
+    let mut text = String::new(rt.alloc());
+    write_begin(FIRST, 300, 1_795_511_823, &mut text)?;
+    write_refusal(Config::new(1_500, 20, 1)?, &mut text)?;
+    text.push_str("\n")?;
+    write_warning(Config::new(1_000, 7_200, 1)?, &mut text)?;
+    expect_eq(
+        &rt,
+        &text.as_str(),
+        &"serving 127.0.0.2:137, silent for 300 s until 2026-11-24T09:17:03Z\nlongest lease 20 s, life of a datagram 1500 ms: it has to be 10 s and 20 lives at least, else a hold would lapse before it can be refreshed\nlongest lease 7200 s: after each start the server is silent for as long",
+    );
+    Ok(())
+}

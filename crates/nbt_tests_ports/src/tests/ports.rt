@@ -1,0 +1,204 @@
+//! Ports over UDP, and the machine's clock.
+
+use super::expect::{expect, expect_eq, expect_eq_in};
+use arrayvec::ArrayVec;
+use nbt_name::Addr;
+use nbt_port::{Clock, Device, MachineClock, Port, UdpPort};
+use nbt_testing::moment;
+use std::cell::Cell;
+use std::process::Abort;
+use std::test::Fail;
+use std::time::Duration;
+use std::{io, time};
+
+const HERE: Addr = Addr {
+    ip: 0x7F2A1701,
+    port: 20_137,
+};
+
+const THERE: Addr = Addr {
+    ip: 0x7F2A1702,
+    port: 20_137,
+};
+
+/// Two addresses of this machine, with a port that no other test has.
+fn pair(port: u16) -> [Addr; 2] {
+    [Addr { port, ..HERE }, Addr { port, ..THERE }]
+}
+
+/// These octets are sent.
+fn send<R: Abort>(rt: &R, port: &mut UdpPort, to: Addr, octets: &[u8]) -> Result<(), Device> {
+    expect(rt, port.failures() < 1 << 62);
+    port.send(to, octets)
+}
+
+/// What comes into the buffer.
+fn receive<R: Abort>(
+    rt: &R,
+    port: &mut UdpPort,
+    octets: &mut ArrayVec<u8, 2048>,
+) -> Result<Option<Addr>, Device> {
+    expect(rt, port.failures() < 1 << 62);
+    port.receive(octets)
+}
+
+#[test]
+fn datagrams_go_over_udp(rt: HostRuntime) -> Result<(), Fail> {
+    let mut near = UdpPort::bind(&rt, HERE)?;
+    let mut far = UdpPort::bind(&rt, THERE)?;
+    expect(&rt, UdpPort::bind(&rt, HERE).is_err());
+    expect_eq(&rt, &near.local()?, &HERE);
+    expect_eq(&rt, &near.addr(), &HERE);
+    // For port 0 the machine chooses one.
+    let chosen = UdpPort::bind(&rt, Addr { port: 0, ..HERE })?.local()?;
+    expect_eq(&rt, &chosen.ip, &HERE.ip);
+    expect(&rt, chosen.port > 0);
+    let mut octets = ArrayVec::new();
+    send(&rt, &mut near, THERE, b"hello")?;
+    expect_eq(&rt, &receive(&rt, &mut far, &mut octets)?, &Some(HERE));
+    expect_eq(&rt, &octets.as_slice(), &b"hello".as_slice());
+    expect_eq(&rt, &receive(&rt, &mut far, &mut octets)?, &None);
+    expect_eq(&rt, &far.failures(), &0);
+    // There is no way to port 0: what is sent there is lost, and the device is well.
+    let nowhere = Addr { port: 0, ..THERE };
+    expect_eq(&rt, &send(&rt, &mut near, nowhere, b"hello"), &Ok(()));
+    expect_eq(&rt, &near.failures(), &0);
+    // The year is past 2001.
+    expect(&rt, MachineClock::new(&rt).now().get() > 1_000_000_000_000);
+    Ok(())
+}
+
+#[test]
+fn a_datagram_stands_alone_in_the_buffer(rt: HostRuntime) -> Result<(), Fail> {
+    let [here, there] = pair(20_138);
+    let mut near = UdpPort::bind(&rt, here)?;
+    let mut far = UdpPort::bind(&rt, there)?;
+    let mut octets = ArrayVec::new();
+    for sent in [b"the first".as_slice(), b"second", b"", b"3"] {
+        send(&rt, &mut near, there, sent)?;
+        expect_eq(&rt, &receive(&rt, &mut far, &mut octets)?, &Some(here));
+        expect_eq(&rt, &octets.as_slice(), &sent);
+    }
+    // Nothing comes, and nothing stands there.
+    expect_eq(&rt, &receive(&rt, &mut far, &mut octets)?, &None);
+    expect(&rt, octets.is_empty());
+    Ok(())
+}
+
+/// The octets of a datagram, and how many of them are handed out.
+const LENGTHS: [(usize, usize); 7] = [
+    (576, 576),
+    (577, 577),
+    (1_472, 1_472),
+    (2_047, 2_047),
+    (2_048, 2_048),
+    (2_049, 2_048),
+    (4_000, 2_048),
+];
+
+/// So many octets, each of which tells its place.
+fn counted<R: AllocGlobal>(rt: &R, count: usize) -> Result<Vec<u8>, Fail> {
+    let mut octets = Vec::new(rt.alloc());
+    for place in 0..count {
+        octets.push((place % 251) as u8)?;
+    }
+    Ok(octets)
+}
+
+#[test]
+fn a_datagram_is_cut_at_2048_octets_alone(rt: HostRuntime) -> Result<(), Fail> {
+    let [here, there] = pair(20_139);
+    let mut near = UdpPort::bind(&rt, here)?;
+    let mut far = UdpPort::bind(&rt, there)?;
+    let mut octets = ArrayVec::new();
+    for (sent, taken) in LENGTHS {
+        send(&rt, &mut near, there, counted(&rt, sent)?.as_slice())?;
+        expect_eq_in(
+            &rt,
+            &sent,
+            &receive(&rt, &mut far, &mut octets)?,
+            &Some(here),
+        );
+        expect_eq_in(
+            &rt,
+            &sent,
+            &octets.as_slice(),
+            &counted(&rt, taken)?.as_slice(),
+        );
+    }
+    Ok(())
+}
+
+#[test]
+fn a_datagram_that_udp_can_not_carry_is_a_failure(rt: HostRuntime) -> Result<(), Fail> {
+    let [here, there] = pair(20_140);
+    let mut near = UdpPort::bind(&rt, here)?;
+    let mut far = UdpPort::bind(&rt, there)?;
+    // A datagram of IPv4 has 65,535 octets at most, of which 28 are headers (RFC 791, RFC 768).
+    let long = counted(&rt, 65_508)?;
+    expect_eq(
+        &rt,
+        &send(&rt, &mut near, there, long.as_slice()),
+        &Err(Device),
+    );
+    expect_eq(&rt, &near.failures(), &1);
+    expect_eq(
+        &rt,
+        &send(&rt, &mut near, there, long.as_slice()),
+        &Err(Device),
+    );
+    expect_eq(&rt, &near.failures(), &2);
+    // What is sent after it comes.
+    let mut octets = ArrayVec::new();
+    send(&rt, &mut near, there, b"hello")?;
+    expect_eq(&rt, &receive(&rt, &mut far, &mut octets)?, &Some(here));
+    expect_eq(&rt, &octets.as_slice(), &b"hello".as_slice());
+    expect_eq(&rt, &far.failures(), &0);
+    Ok(())
+}
+
+/// A machine whose clock shows these milliseconds, or can't be read.
+#[derive(Drop)]
+struct Machine {
+    shows: Cell<Option<u64>>,
+}
+
+impl time::Clock for Machine {
+    fn monotonic(&self) -> io::Result<Duration> {
+        self.since_1970()
+    }
+
+    fn since_1970(&self) -> io::Result<Duration> {
+        match self.shows.get() {
+            Some(ms) => Ok(Duration::from_millis(ms)),
+            None => Err(io::Error::from(io::ErrorKind::Unsupported)),
+        }
+    }
+}
+
+/// The last moment that there is.
+const END: u64 = 1 << 60;
+
+/// What the machine's clock shows, and the moment that is told.
+const TIMES: [(Option<u64>, u64); 6] = [
+    (None, 0),
+    (Some(60_000), 60_000),
+    (None, 60_000),
+    (Some(END + 1), 60_000),
+    (Some(END), END),
+    (Some(59_999), 59_999),
+];
+
+#[test]
+fn a_clock_without_a_moment_tells_the_last_one_again(rt: HostRuntime) -> Result<(), Fail> {
+    let machine = Machine {
+        shows: Cell::new(None),
+    };
+    let mut clock = MachineClock::new(&machine);
+    for (shows, told) in TIMES {
+        machine.shows.set(shows);
+        expect_eq_in(&rt, &told, &clock.now(), &moment(told)?);
+        expect_eq_in(&rt, &told, &clock.last(), &moment(told)?);
+    }
+    Ok(())
+}

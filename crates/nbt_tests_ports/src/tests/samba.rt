@@ -1,0 +1,335 @@
+//! Registrations as Samba's programs send them, taken at a port: the packets of real programs stand in `nbt_vectors` too. The
+//! life of a datagram is 1,000 ms, the longest lease 60 s, and the server started at 0.
+
+use super::expect::{expect, expect_eq, expect_eq_in, expect_in};
+use arrayvec::ArrayVec;
+use nbt_name::Addr;
+use nbt_nbns::{Counts, SambaPort, serve_turns, take_registration};
+use nbt_port::{Device, MemoryClock, Port, UdpPort};
+use nbt_testing::{EVERY_KIND, clock, expect_sent, octets, port, started};
+use nbt_server::Server;
+use std::process::Abort;
+use std::test::Fail;
+
+/// What follows the flags in nmbd's registration of NODEB#20, and in the scope LAB.TEST.
+const NODEB: &str = "two-parts NODEB NB again NB 20s H-unique 198.18.137.2";
+
+const NODEB_IN_LAB: &str = "two-parts NODEB-in-LAB.TEST NB again NB 0003f480 H-unique 198.18.137.2";
+
+/// The same of WINSB#00 and of the group LAB4#1C by the server of a domain controller.
+const WINSB: &str = "two-parts WINSB NB again NB 000493e0 0006 4000 198.18.137.2";
+
+const LAB4: &str = "two-parts LAB4 NB again NB 000493e0 0006 c000 198.18.137.2";
+
+/// What follows the flags in the claim of a unique name, and of a group, in words.
+const FRED: &str = "two-parts FRED NB again NB 60s unique 127.0.0.2";
+
+const TEAM: &str = "two-parts TEAM NB again NB 60s group 127.0.0.2";
+
+/// What is taken: the id, the flags before and afterwards, and what follows them.
+const TAKEN: [(&str, &str, &str, &str); 13] = [
+    // OPCODE 15 by nmbd, with a scope too; by a domain controller, with RD clear; and of a group.
+    ("60f4", "7900", "2900", NODEB),
+    ("61db", "7900", "2900", NODEB_IN_LAB),
+    ("2221", "7800", "2900", WINSB),
+    ("0001", "7900", "2900", TEAM),
+    // Groups by a domain controller, which are overwrites.
+    ("15e9", "2800", "2900", LAB4),
+    ("0001", "2800", "2900", TEAM),
+    // AA, TC, RA, the two zero bits and RCODE stay.
+    ("0001", "7e00", "2f00", FRED),
+    ("0001", "7cef", "2def", FRED),
+    ("0001", "2aef", "2bef", TEAM),
+    ("0001", "2c00", "2d00", TEAM),
+    // In the longest scope; with octets after it; with a name that isn't a pointer.
+    (
+        "0001",
+        "7900",
+        "2900",
+        "two-parts TEAM-in-the-longest-scope NB again NB 60s group 127.0.0.2",
+    ),
+    (
+        "0001",
+        "7900",
+        "2900",
+        "two-parts FRED NB again NB 60s unique 127.0.0.2 ffff",
+    ),
+    (
+        "0001",
+        "2800",
+        "2900",
+        "two-parts TEAM NB TEAM NB 60s group 127.0.0.2",
+    ),
+];
+
+/// What isn't taken.
+const LEFT: [&str; 27] = [
+    // OPCODE 15 of two entries, of none, and of a part of one.
+    "0001 7900 two-parts FRED NB again NB 60s 000c 6000 127.0.0.2 6000 127.0.0.3",
+    "0001 7900 two-parts TEAM NB again NB 60s 000c e000 127.0.0.2 e000 127.0.0.3",
+    "0001 7900 two-parts FRED NB again NB 60s 0000",
+    "0001 7900 two-parts FRED NB again NB 60s 0005 6000 7f0000",
+    // An overwrite of a group with two entries.
+    "0001 2800 two-parts TEAM NB again NB 60s 000c e000 127.0.0.2 e000 127.0.0.3",
+    // Overwrites of unique names, the first two by real programs.
+    "a56c 2800 two-parts SPY01 NB again NB 00000258 0006 0001 c6128906",
+    "24fe 2800 two-parts WINSB NB again NB 000493e0 0006 4000 198.18.137.2",
+    "0001 2800 two-parts FRED NB again NB 60s unique 127.0.0.2",
+    "0001 2800 two-parts FRED NB again NB 60s 0006 7fff 127.0.0.2",
+    // To all ends of a network, and as a response.
+    "0001 7910 two-parts FRED NB again NB 60s unique 127.0.0.2",
+    "0001 2810 two-parts TEAM NB again NB 60s group 127.0.0.2",
+    "0001 f900 two-parts FRED NB again NB 60s unique 127.0.0.2",
+    "0001 a800 two-parts TEAM NB again NB 60s group 127.0.0.2",
+    // By every other OPCODE that is near.
+    "0001 7100 two-parts TEAM NB again NB 60s group 127.0.0.2",
+    "0001 3800 two-parts TEAM NB again NB 60s group 127.0.0.2",
+    "0001 3000 two-parts TEAM NB again NB 60s group 127.0.0.2",
+    "0001 4000 two-parts TEAM NB again NB 60s group 127.0.0.2",
+    "0001 2000 two-parts TEAM NB again NB 60s group 127.0.0.2",
+    // A registration as it is.
+    "0001 2900 two-parts TEAM NB again NB 60s group 127.0.0.2",
+    // Of two names, of another type, of another class; the question alone, and no question.
+    "0001 7900 two-parts FRED NB TEAM NB 60s unique 127.0.0.2",
+    "0001 7900 two-parts FRED NBSTAT again NB 60s unique 127.0.0.2",
+    "0001 7900 two-parts FRED NB again 00200002 60s unique 127.0.0.2",
+    "0001 7900 one-name FRED NB",
+    "0001 7900 0000000000000001 FRED NB 60s unique 127.0.0.2",
+    // Names whose scope is the flags themselves, to which a pointer leads: it would be another name.
+    "0001 7900 two-parts 20464745464545434143414341434143414341434143414341434143414341434143c001 NB 20464745464545434143414341434143414341434143414341434143414341434143017900 NB 60s unique 127.0.0.2",
+    "0001 2800 two-parts 20464545464542454e43414341434143414341434143414341434143414341434143c001 NB again NB 60s group 127.0.0.2",
+    // The head of a datagram of port 138.
+    "110a627cc6128901008a00cf0000204648454a454f46444542434143414341434143414341434143414341434141410020",
+];
+
+/// The octets of an id, flags and what follows them.
+fn claim<R: AllocGlobal>(rt: &R, id: &str, flags: &str, tail: &str) -> Result<Vec<u8>, Fail> {
+    let mut claim = octets(rt, id)?;
+    claim.extend_from_slice(octets(rt, flags)?.as_slice())?;
+    claim.extend_from_slice(octets(rt, tail)?.as_slice())?;
+    Ok(claim)
+}
+
+/// These octets are left as they are.
+fn expect_left<R: Abort + AllocGlobal>(rt: &R, given: &[u8], words: &str) -> Result<(), Fail> {
+    let mut taken = Vec::from_slice(rt.alloc(), given)?;
+    expect_in(rt, &words, !take_registration(taken.as_mut_slice()));
+    expect_eq_in(rt, &words, &taken.as_slice(), &given);
+    Ok(())
+}
+
+#[test]
+fn registrations_of_other_forms_are_taken_by_one_octet(rt: HostRuntime) -> Result<(), Fail> {
+    for (id, before, afterwards, tail) in TAKEN {
+        let mut taken = claim(&rt, id, before, tail)?;
+        expect_in(
+            &rt,
+            &(before, tail),
+            take_registration(taken.as_mut_slice()),
+        );
+        expect_eq_in(
+            &rt,
+            &(before, tail),
+            &taken.as_slice(),
+            &claim(&rt, id, afterwards, tail)?.as_slice(),
+        );
+    }
+    Ok(())
+}
+
+#[test]
+fn all_else_is_left_as_it_is(rt: HostRuntime) -> Result<(), Fail> {
+    for words in LEFT {
+        expect_left(&rt, octets(&rt, words)?.as_slice(), words)?;
+    }
+    for words in EVERY_KIND {
+        expect_left(&rt, octets(&rt, words)?.as_slice(), words)?;
+    }
+    Ok(())
+}
+
+#[test]
+fn a_packet_that_is_cut_is_left_as_it_is(rt: HostRuntime) -> Result<(), Fail> {
+    for (flags, tail) in [("7900", NODEB), ("2800", LAB4)] {
+        let whole = claim(&rt, "0001", flags, tail)?;
+        for count in 0..whole.len() {
+            expect_left(&rt, &whole[..count], flags)?;
+        }
+    }
+    Ok(())
+}
+
+/// nmbd's machine, and another one.
+const NMBD: Addr = Addr {
+    ip: 0xC6128902,
+    port: 137,
+};
+
+const OTHER: Addr = Addr {
+    ip: 0xC6128903,
+    port: 137,
+};
+
+/// A datagram as words, with the end that it is from or for.
+type Row = (Addr, &'static str);
+
+/// What comes: nmbd's NODEB#20 by OPCODE 15, the same by another machine for itself and for nmbd's, and with two entries; a
+/// domain controller's group, and its overwrite of a unique name; the group by another machine as a registration; and a
+/// query for NODEB#20.
+const COMES: [Row; 8] = [
+    (
+        NMBD,
+        "60f4 7900 two-parts NODEB NB again NB 20s H-unique 198.18.137.2",
+    ),
+    (
+        OTHER,
+        "0002 7900 two-parts NODEB NB again NB 20s H-unique 198.18.137.3",
+    ),
+    (
+        OTHER,
+        "0003 7900 two-parts NODEB NB again NB 20s H-unique 198.18.137.2",
+    ),
+    (
+        OTHER,
+        "0004 7900 two-parts NODEB NB again NB 20s 000c 6000 198.18.137.3 6000 198.18.137.2",
+    ),
+    (
+        NMBD,
+        "15e9 2800 two-parts LAB4 NB again NB 000493e0 0006 c000 198.18.137.2",
+    ),
+    (
+        NMBD,
+        "24fe 2800 two-parts WINSB NB again NB 000493e0 0006 4000 198.18.137.2",
+    ),
+    (
+        OTHER,
+        "0007 2900 two-parts LAB4 NB again NB 000493e0 0006 c000 198.18.137.3",
+    ),
+    (OTHER, "0008 0100 one-name NODEB NB"),
+];
+
+/// What a server replies over that port: granted for 20 s, active, not its own, nothing, granted for 60 s, refused, granted,
+/// found.
+const REPLIES: [Row; 7] = [
+    (NMBD, "60f4 ad80 reply NODEB NB 20s unique 198.18.137.2"),
+    (OTHER, "0002 ad86 reply NODEB NB 0s unique 198.18.137.3"),
+    (OTHER, "0003 ad85 reply NODEB NB 0s unique 198.18.137.2"),
+    (NMBD, "15e9 ad80 reply LAB4 NB 60s group 198.18.137.2"),
+    (NMBD, "24fe ad85 reply WINSB NB 0s unique 198.18.137.2"),
+    (OTHER, "0007 ad80 reply LAB4 NB 60s group 198.18.137.3"),
+    (OTHER, "0008 8580 reply NODEB NB 20s unique 198.18.137.2"),
+];
+
+/// What it replies over the port beneath: nothing to OPCODE 15, and no to the overwrites.
+const REPLIES_BENEATH: [Row; 4] = [
+    (NMBD, "15e9 ad85 reply LAB4 NB 0s group 198.18.137.2"),
+    (NMBD, "24fe ad85 reply WINSB NB 0s unique 198.18.137.2"),
+    (OTHER, "0007 ad80 reply LAB4 NB 60s group 198.18.137.3"),
+    (OTHER, "0008 8583 reply NODEB NULL 0s 0000"),
+];
+
+/// `serve_turns` at a port of which few calls have failed: a turn for each datagram that comes, and one more.
+fn serve<R: Abort, P: Port>(
+    rt: &R,
+    port: &mut P,
+    clock: &mut MemoryClock,
+    server: &mut Server,
+) -> Result<Counts, Device> {
+    expect(rt, port.failures() < 1 << 62);
+    serve_turns(port, clock, server, 9)
+}
+
+#[test]
+fn a_server_over_the_port_grants_what_samba_registers(rt: HostRuntime) -> Result<(), Fail> {
+    let mut over = SambaPort::new(port(&rt, &COMES)?);
+    let mut clock = clock(&rt, &[60_000])?;
+    let counts = serve(&rt, &mut over, &mut clock, &mut started(&rt, 4096, 0)?)?;
+    expect_eq(&rt, &counts.receives, &9);
+    expect_eq(&rt, &counts.replies, &7);
+    expect_sent(&rt, over.beneath(), &REPLIES)
+}
+
+#[test]
+fn a_server_over_the_port_beneath_does_not(rt: HostRuntime) -> Result<(), Fail> {
+    let mut beneath = port(&rt, &COMES)?;
+    let mut clock = clock(&rt, &[60_000])?;
+    let counts = serve(&rt, &mut beneath, &mut clock, &mut started(&rt, 4096, 0)?)?;
+    expect_eq(&rt, &counts.replies, &4);
+    expect_sent(&rt, &beneath, &REPLIES_BENEATH)
+}
+
+/// The calls that fail, one at a time: the receive of the first datagram, and the send of the reply to it.
+#[test]
+fn a_failure_beneath_is_a_failure(rt: HostRuntime) -> Result<(), Fail> {
+    for call in 0..2 {
+        let mut beneath = port(&rt, &COMES)?;
+        beneath.fail_after(call);
+        let mut over = SambaPort::new(beneath);
+        let mut clock = clock(&rt, &[60_000])?;
+        let mut server = started(&rt, 4096, 0)?;
+        expect_eq_in(
+            &rt,
+            &call,
+            &serve(&rt, &mut over, &mut clock, &mut server),
+            &Err(Device),
+        );
+        expect_eq_in(&rt, &call, &over.failures(), &1);
+        expect_eq_in(&rt, &call, &over.beneath().failures(), &1);
+        expect_in(&rt, &call, over.beneath().sent().is_empty());
+    }
+    Ok(())
+}
+
+/// Two ends of this machine, with a port that no other test has.
+const HERE: Addr = Addr {
+    ip: 0x7F2A1701,
+    port: 20_141,
+};
+
+const THERE: Addr = Addr {
+    ip: 0x7F2A1702,
+    port: 20_141,
+};
+
+/// `receive` and `send` at such a port.
+fn receive<R: Abort, P: Port>(
+    rt: &R,
+    port: &mut P,
+    octets: &mut ArrayVec<u8, 2048>,
+) -> Result<Option<Addr>, Device> {
+    expect(rt, port.failures() < 1 << 62);
+    port.receive(octets)
+}
+
+fn send<R: Abort, P: Port>(rt: &R, port: &mut P, octets: &[u8]) -> Result<(), Device> {
+    expect(rt, port.failures() < 1 << 62);
+    port.send(THERE, octets)
+}
+
+#[test]
+fn over_udp_too_and_the_cause_of_a_failure_is_known(rt: HostRuntime) -> Result<(), Fail> {
+    let mut near = SambaPort::new(UdpPort::bind(&rt, HERE)?);
+    let mut far = SambaPort::new(UdpPort::bind(&rt, THERE)?);
+    let mut came = ArrayVec::new();
+    // What is sent is sent as it is, and taken where it comes.
+    send(
+        &rt,
+        &mut near,
+        claim(&rt, "60f4", "7900", NODEB)?.as_slice(),
+    )?;
+    expect_eq(&rt, &receive(&rt, &mut far, &mut came)?, &Some(HERE));
+    expect_eq(
+        &rt,
+        &came.as_slice(),
+        &claim(&rt, "60f4", "2900", NODEB)?.as_slice(),
+    );
+    expect_eq(&rt, &receive(&rt, &mut far, &mut came)?, &None);
+    expect(&rt, near.cause().is_none());
+    // A datagram of IPv4 has 65,535 octets at most (RFC 791).
+    let mut long = Vec::new(rt.alloc());
+    long.resize(65_508, 0)?;
+    expect_eq(&rt, &send(&rt, &mut near, long.as_slice()), &Err(Device));
+    expect_eq(&rt, &near.failures(), &1);
+    expect(&rt, near.cause().is_some());
+    Ok(())
+}

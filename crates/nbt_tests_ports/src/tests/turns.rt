@@ -1,0 +1,478 @@
+//! A server and a node over a port in memory: the life of a datagram 1,000 ms, the longest lease 60 s, all started at 0.
+
+use super::expect::{expect, expect_eq, expect_eq_in};
+use arrayvec::ArrayVec;
+use nbt_client::{Seen, Want, node_turn};
+use nbt_lease::Moment;
+use nbt_name::{Addr, Kind, Name};
+use nbt_nbns::{Counts, serve_turns};
+use nbt_node::{AskFault, Node};
+use nbt_port::{Datagram, Device, MemoryClock, MemoryPort, Port};
+use nbt_testing::{
+    FOUND, GRANTED, NOT_FOUND, QUERY, REFRESH, REFUSED, REGISTRATION, RIVAL, Row, clock, config,
+    expect_sent, moment, octets, port, registration_of_many, started,
+};
+use nbt_server::Server;
+use std::collections::VecDeque;
+use std::process::Abort;
+use std::test::Fail;
+
+const SERVER: Addr = Addr {
+    ip: 0x7F000001,
+    port: 137,
+};
+
+const FIRST: Addr = Addr {
+    ip: 0x7F000002,
+    port: 137,
+};
+
+const SECOND: Addr = Addr {
+    ip: 0x7F000003,
+    port: 1024,
+};
+
+/// A status request for the name `*`.
+const STATUS_REQUEST: &str = "0009 0000 one-name STAR NBSTAT";
+
+const GRANTED_AGAIN: &str = "0002 ad80 reply FRED NB 60s unique 127.0.0.2";
+
+/// `serve_turns` at a port of which few calls have failed.
+fn serve<R: Abort>(
+    rt: &R,
+    port: &mut MemoryPort,
+    clock: &mut MemoryClock,
+    server: &mut Server,
+    turns: u64,
+) -> Result<Counts, Device> {
+    expect(rt, port.failures() < 1 << 62);
+    serve_turns(port, clock, server, turns)
+}
+
+/// `node_turn` of a node that wants FRED, at such a port.
+fn turn<R: Abort>(
+    rt: &R,
+    port: &mut MemoryPort,
+    clock: &mut MemoryClock,
+    node: &mut Node<2>,
+    want: &Want,
+) -> Result<Seen, Device> {
+    expect(rt, port.failures() < 1 << 62);
+    node_turn(port, clock, node, SERVER, want)
+}
+
+/// Turns of a server: what comes, at which moments, the receives, replies and lost, and what is sent.
+struct Turns {
+    given: &'static [Row],
+    moments: &'static [u64],
+    counts: (u64, u64, u64),
+    sent: &'static [Row],
+}
+
+const RIVALS: &[Row] = &[(FIRST, REGISTRATION), (SECOND, RIVAL)];
+
+fn play<R: Abort + AllocGlobal>(rt: &R, turns: &Turns) -> Result<(), Fail> {
+    let mut port = port(rt, turns.given)?;
+    let mut clock = clock(rt, turns.moments)?;
+    let (receives, replies, lost) = turns.counts;
+    let counts = serve(
+        rt,
+        &mut port,
+        &mut clock,
+        &mut started(rt, 4096, 0)?,
+        receives,
+    )?;
+    expect_eq(rt, &counts.receives, &receives);
+    expect_eq(rt, &counts.replies, &replies);
+    expect_eq(rt, &counts.lost, &lost);
+    expect_sent(rt, &port, turns.sent)
+}
+
+const THREE_TURNS: Turns = Turns {
+    given: RIVALS,
+    moments: &[60_000],
+    counts: (3, 2, 0),
+    sent: &[(FIRST, GRANTED), (SECOND, REFUSED)],
+};
+
+#[test]
+fn replies_go_to_their_senders(rt: HostRuntime) -> Result<(), Fail> {
+    play(&rt, &THREE_TURNS)
+}
+
+const BACK: Turns = Turns {
+    given: RIVALS,
+    moments: &[60_000, 59_999],
+    counts: (2, 1, 1),
+    sent: &[(FIRST, GRANTED)],
+};
+
+#[test]
+fn a_datagram_whose_moment_goes_back_is_lost(rt: HostRuntime) -> Result<(), Fail> {
+    play(&rt, &BACK)
+}
+
+const RENEWAL: Turns = Turns {
+    given: &[
+        (FIRST, REGISTRATION),
+        (FIRST, REFRESH),
+        (SECOND, QUERY),
+        (SECOND, QUERY),
+    ],
+    moments: &[60_000, 90_000, 149_999, 150_000],
+    counts: (4, 4, 0),
+    sent: &[
+        (FIRST, GRANTED),
+        (FIRST, GRANTED),
+        (SECOND, FOUND),
+        (SECOND, NOT_FOUND),
+    ],
+};
+
+#[test]
+fn a_refresh_over_a_port_extends_its_senders_own_lease(rt: HostRuntime) -> Result<(), Fail> {
+    play(&rt, &RENEWAL)
+}
+
+/// The server's reply to these words at 60,000.
+fn expect_reply<R: Abort + AllocGlobal>(
+    rt: &R,
+    server: &mut Server,
+    asks: &str,
+    gives: &str,
+) -> Result<(), Fail> {
+    let mut out = ArrayVec::new();
+    server.on_datagram(
+        moment(60_000)?,
+        FIRST,
+        octets(rt, asks)?.as_slice(),
+        &mut out,
+    )?;
+    expect_eq(rt, &out.as_slice(), &octets(rt, gives)?.as_slice());
+    Ok(())
+}
+
+/// The reply to a query at 60,000, where FRED was leased then.
+const FOUND_FOR_60S: &str = "0008 8580 reply FRED NB 60s unique 127.0.0.2";
+
+/// A call of a server's port that fails, in two turns; the server's last moment after it, and its reply to a query; some
+/// turns more, and their replies; and all that is sent.
+#[derive(Clone, Copy)]
+struct Failure {
+    call: u64,
+    last: u64,
+    query: &'static str,
+    turns: u64,
+    replies: u64,
+    sent: &'static [Row],
+}
+
+/// Nothing has changed.
+const FAILED_RECEIVE: Failure = Failure {
+    call: 0,
+    last: 0,
+    query: NOT_FOUND,
+    turns: 2,
+    replies: 2,
+    sent: &[(FIRST, GRANTED), (SECOND, REFUSED)],
+};
+
+/// The lease is there.
+const FAILED_SEND: Failure = Failure {
+    call: 1,
+    last: 60_000,
+    query: FOUND_FOR_60S,
+    turns: 1,
+    replies: 1,
+    sent: &[(SECOND, REFUSED)],
+};
+
+/// A reply that was not sent is lost, and what has come is not handed out again: it was handled, and its lease stays.
+const FAILURES: [Failure; 5] = [
+    FAILED_RECEIVE,
+    FAILED_SEND,
+    Failure {
+        turns: 2,
+        ..FAILED_SEND
+    },
+    Failure {
+        call: 2,
+        last: 60_000,
+        query: FOUND_FOR_60S,
+        turns: 2,
+        replies: 1,
+        sent: &[(FIRST, GRANTED), (SECOND, REFUSED)],
+    },
+    Failure {
+        call: 3,
+        last: 60_000,
+        query: FOUND_FOR_60S,
+        turns: 2,
+        replies: 0,
+        sent: &[(FIRST, GRANTED)],
+    },
+];
+
+/// Turns of a server, of which one fails, and turns after it.
+fn go_on<R: Abort + AllocGlobal>(
+    rt: &R,
+    port: &mut MemoryPort,
+    clock: &mut MemoryClock,
+    server: &mut Server,
+    failure: &Failure,
+) -> Result<(), Fail> {
+    let call = failure.call;
+    expect_eq_in(rt, &call, &serve(rt, port, clock, server, 2), &Err(Device));
+    expect_eq_in(rt, &call, &port.failures(), &1);
+    expect_eq_in(rt, &call, &server.last(), &moment(failure.last)?);
+    expect_reply(rt, server, QUERY, failure.query)?;
+    let wanted = Counts {
+        receives: failure.turns,
+        replies: failure.replies,
+        lost: 0,
+    };
+    expect_eq_in(
+        rt,
+        &call,
+        &serve(rt, port, clock, server, failure.turns)?,
+        &wanted,
+    );
+    expect_eq_in(rt, &call, &port.failures(), &1);
+    expect_sent(rt, port, failure.sent)
+}
+
+fn play_failure<R: Abort + AllocGlobal>(rt: &R, failure: &Failure) -> Result<(), Fail> {
+    let mut port = port(rt, RIVALS)?;
+    port.fail_after(failure.call);
+    let mut clock = clock(rt, &[60_000])?;
+    go_on(
+        rt,
+        &mut port,
+        &mut clock,
+        &mut started(rt, 4096, 0)?,
+        failure,
+    )
+}
+
+#[test]
+fn a_failure_at_any_call_is_told_once(rt: HostRuntime) -> Result<(), Fail> {
+    for failure in &FAILURES {
+        play_failure(&rt, failure)?;
+    }
+    Ok(())
+}
+
+/// A port that hands out the registrations of 4,096 names.
+fn port_of_many<R: AllocGlobal>(rt: &R) -> Result<MemoryPort, Fail> {
+    let mut incoming = VecDeque::new(rt.alloc());
+    for number in 0..4096 {
+        let octets = registration_of_many(rt, number)?;
+        let datagram = Datagram {
+            addr: FIRST,
+            octets,
+        };
+        incoming.push_back(Some(datagram))?;
+    }
+    Ok(MemoryPort::new(rt.alloc(), incoming))
+}
+
+#[test]
+fn nothing_lost(rt: HostRuntime) -> Result<(), Fail> {
+    let mut port = port_of_many(&rt)?;
+    let mut clock = clock(&rt, &[60_000])?;
+    let mut server = started(&rt, 4096, 0)?;
+    let wanted = Counts {
+        receives: 4096,
+        replies: 4096,
+        lost: 0,
+    };
+    expect_eq(
+        &rt,
+        &serve(&rt, &mut port, &mut clock, &mut server, 4096),
+        &Ok(wanted),
+    );
+    expect_eq(&rt, &port.sent().len(), &4096);
+    for datagram in port.sent() {
+        expect(
+            &rt,
+            matches!(datagram.octets.as_slice(), [_, _, 0xAD, 0x80, ..]),
+        );
+    }
+    Ok(())
+}
+
+fn node() -> Result<Node<2>, Fail> {
+    Ok(Node::start(FIRST, SERVER, config(4096)?, Moment::zero()))
+}
+
+fn fred() -> Result<Want, Fail> {
+    Ok(Want {
+        name: Name::new(b"FRED            ", b"")?,
+        kind: Kind::Unique,
+        ttl: 60,
+    })
+}
+
+/// Nothing comes; then the grant; a status request; and the reply to the refresh.
+const TO_A_NODE: [Row; 4] = [
+    (FIRST, "-"),
+    (SERVER, GRANTED),
+    (SECOND, STATUS_REQUEST),
+    (SERVER, GRANTED_AGAIN),
+];
+
+/// The request for FRED, the reply to the status request, and the refresh.
+const REQUEST: Row = (SERVER, REGISTRATION);
+
+const STATUS_REPLY: Row = (
+    SECOND,
+    "0009 8400 reply STAR NBSTAT 0s 0041 01 46524544202020202020202020202020 2400 statistics",
+);
+
+const REFRESHING: Row = (
+    SERVER,
+    "0002 4000 two-parts FRED NB again NB 60s unique 127.0.0.2",
+);
+
+const SEEN: [Seen; 4] = [
+    Seen::Nothing,
+    Seen::Granted(60),
+    Seen::Nothing,
+    Seen::Renewed(60),
+];
+
+#[test]
+fn a_name_is_asked_for_granted_and_renewed(rt: HostRuntime) -> Result<(), Fail> {
+    let mut port = port(&rt, &TO_A_NODE)?;
+    let moments = [2_000, 2_000, 60_000, 60_010, 61_000, 61_000, 90_000, 90_010];
+    let mut clock = clock(&rt, &moments)?;
+    let mut node = node()?;
+    let want = fred()?;
+    for seen in SEEN {
+        let got = turn(&rt, &mut port, &mut clock, &mut node, &want)?;
+        expect_eq(&rt, &got, &seen);
+        if seen == Seen::Granted(60) {
+            expect_sent(&rt, &port, &[(SERVER, REGISTRATION)])?;
+        }
+    }
+    expect_sent(&rt, &port, &[REQUEST, STATUS_REPLY, REFRESHING])?;
+    expect_eq(
+        &rt,
+        &node.holds(moment(149_877)?, &want.name),
+        &Some(Kind::Unique),
+    );
+    Ok(())
+}
+
+#[test]
+fn a_request_that_was_not_sent_is_sent_again(rt: HostRuntime) -> Result<(), Fail> {
+    let mut port = port(&rt, &[])?;
+    port.fail_after(0);
+    let mut clock = clock(&rt, &[60_000, 65_000])?;
+    let mut node = node()?;
+    let want = fred()?;
+    expect_eq(
+        &rt,
+        &turn(&rt, &mut port, &mut clock, &mut node, &want),
+        &Err(Device),
+    );
+    expect_eq(&rt, &port.failures(), &1);
+    // It is asking: it doesn't hold the name, and asks for it again at 65,000 alone.
+    let mut out = ArrayVec::new();
+    expect_eq(&rt, &node.holds(moment(60_000)?, &want.name), &None);
+    expect_eq(
+        &rt,
+        &node.ask(moment(60_000)?, &want.name, want.kind, 60, &mut out),
+        &Err(AskFault::Busy),
+    );
+    expect_eq(&rt, &node.poll(moment(64_999)?, &mut out), &Ok(None));
+    expect_eq(
+        &rt,
+        &turn(&rt, &mut port, &mut clock, &mut node, &want)?,
+        &Seen::Nothing,
+    );
+    expect_sent(&rt, &port, &[(SERVER, REGISTRATION)])
+}
+
+/// The grant; a status request; nothing; and the reply to the refresh.
+const WITH_A_FAILURE: [Row; 4] = [
+    (SERVER, GRANTED),
+    (SECOND, STATUS_REQUEST),
+    (FIRST, "-"),
+    (SERVER, GRANTED_AGAIN),
+];
+
+/// What a node sends in its turns, by the call of its port that fails, from the first on: the ask and the receive of the
+/// grant; that of the status request and the reply to it; a receive of nothing; the refresh and the receive of the reply to
+/// it. A request that was lost, or whose reply was, is sent again 5,000 ms after it with the same octets; the lost reply to
+/// a status request is not.
+const SENT_WITH_A_FAILURE: [&[Row]; 7] = [
+    &[REQUEST, STATUS_REPLY, REFRESHING],
+    &[REQUEST, REQUEST, STATUS_REPLY, REFRESHING],
+    &[REQUEST, STATUS_REPLY, REFRESHING],
+    &[REQUEST, REFRESHING],
+    &[REQUEST, STATUS_REPLY, REFRESHING],
+    &[REQUEST, STATUS_REPLY, REFRESHING],
+    &[REQUEST, STATUS_REPLY, REFRESHING, REFRESHING],
+];
+
+/// Four turns of a node.
+fn four_turns<R: Abort>(
+    rt: &R,
+    port: &mut MemoryPort,
+    clock: &mut MemoryClock,
+    node: &mut Node<2>,
+    want: &Want,
+) -> Result<(), Device> {
+    for _ in 0..4 {
+        turn(rt, port, clock, node, want)?;
+    }
+    Ok(())
+}
+
+/// Turns of a node, of which one fails at this call, and turns after it; and all that is sent.
+fn node_goes_on<R: Abort + AllocGlobal>(
+    rt: &R,
+    port: &mut MemoryPort,
+    clock: &mut MemoryClock,
+    call: u64,
+    sent: &[Row],
+) -> Result<(), Fail> {
+    let mut node = node()?;
+    let want = fred()?;
+    expect_eq_in(
+        rt,
+        &call,
+        &four_turns(rt, port, clock, &mut node, &want),
+        &Err(Device),
+    );
+    expect_eq_in(rt, &call, &port.failures(), &1);
+    // Before the grant has come it doesn't hold the name, and after it no failure loses it.
+    let holds = node.holds(moment(100_000)?, &want.name);
+    expect_eq_in(rt, &call, &holds.is_some(), &(call >= 2));
+    expect_eq_in(
+        rt,
+        &call,
+        &four_turns(rt, port, clock, &mut node, &want),
+        &Ok(()),
+    );
+    expect_eq_in(rt, &call, &port.failures(), &1);
+    let held = node.holds(moment(149_877)?, &want.name);
+    expect_eq_in(rt, &call, &held, &Some(Kind::Unique));
+    expect_sent(rt, port, sent)
+}
+
+const MOMENTS_WITH_A_FAILURE: [u64; 9] = [
+    60_000, 65_000, 70_000, 75_000, 80_000, 85_000, 90_000, 95_000, 100_000,
+];
+
+#[test]
+fn a_node_goes_on_after_a_failure_at_any_call(rt: HostRuntime) -> Result<(), Fail> {
+    for (call, sent) in (0..).zip(SENT_WITH_A_FAILURE) {
+        let mut port = port(&rt, &WITH_A_FAILURE)?;
+        port.fail_after(call);
+        let mut clock = clock(&rt, &MOMENTS_WITH_A_FAILURE)?;
+        node_goes_on(&rt, &mut port, &mut clock, call, sent)?;
+    }
+    Ok(())
+}
