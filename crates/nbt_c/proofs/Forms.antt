@@ -1,14 +1,15 @@
--- Forms of a name that are put where the caller has room, and the dot before a scope's labels.
-use Rattle.std.proofs.Common.{◌≡◌, ℕ, ◌<◌, ◌≤◌, List, [], ◌∷◌, ◌++◌, length, drop, refl, ap, subst, inl, inr, arith}
+-- Forms of a name that are put into the caller's buffer, the word of its characters, and the dot before a scope's labels.
+use Rattle.std.proofs.Common.{◌≡◌, ℕ, ◌/◌, ◌%◌, ◌<◌, ◌≤◌, List, [], ◌∷◌, ◌++◌, length, drop, refl, ap, subst, ◌∙◌, inl, inr, arith, append_assoc}
+use Rattle.std.specs.Prelude.{slice_index}
 use Rattle.std.proofs.lemmas.Bool.{cases_lt}
 use Rattle.std.proofs.lemmas.List.{length-append}
-use Rattle.hex.specs.Hex.{encode_lower}
+use Rattle.hex.specs.Hex.{encode_lower, encode_upper, encode_with, upper_digits}
 use Rattle.nbt_name.specs.Wire.{NameValue}
 use Rattle.nbt_text.specs.NameText.{PrintsComponent, PrintsLabels, label_printed, none_printed, dot, prefix}
 use Rattle.nbt_text.specs.ScopedNames.{dotted}
 use Rattle.nbt_c.specs.declared.name.CName.{CName}
-use Rattle.nbt_c.specs.Names.{HoldsName, name_in}
-use Rattle.nbt_c.specs.Writing.{Writes, written, has_no_room, no_room}
+use Rattle.nbt_c.specs.Names.{HoldsName, name_in, Writes, written, has_no_room}
+use Rattle.nbt_c.specs.Results.{no_room}
 use Rattle.nbt_c.proofs.Calls.{given}
 
 pub form_written : (IsForm : NameValue → List ℕ → Type 0) (held : CName) (room : List ℕ) (size : ℕ) (form : List ℕ) → HoldsName held → IsForm (name_in held) form → (r : ℕ) (after : List ℕ) (n : ℕ)
@@ -18,6 +19,17 @@ form_written IsForm held room size form holds is r after n fits full =
       | inl short ↦ let f = full short in given (λ r n after. Writes IsForm held room size r after n) f.0 f.2 f.1 (has_no_room form holds is short)
       | inr le ↦ let f = fits le in given (λ r n after. Writes IsForm held room size r after n) f.0 f.2 f.1 (written form holds is le)
     ]
+
+-- ---- the characters before a suffix, and its two digits
+
+pub word_pushed : (front first second third : List ℕ) (suffix high low : ℕ) → first ≡ front ++ 0x23 ∷ [] → high ≡ suffix / 16 → low ≡ suffix % 16 → second ≡ first ++ slice_index upper_digits high ∷ [] → third ≡ second ++ slice_index upper_digits low ∷ []
+    → third ≡ front ++ 0x23 ∷ encode_upper (suffix ∷ [])
+unfolding encode_with
+word_pushed front first second third suffix high low is h l a b =
+    let x = slice_index upper_digits (suffix / 16) in let y = slice_index upper_digits (suffix % 16) in
+    let up : second ≡ (front ++ 0x23 ∷ []) ++ x ∷ [] = a ∙ ap (λ (xs : List ℕ). xs ++ slice_index upper_digits high ∷ []) is ∙ ap (λ (n : ℕ). (front ++ 0x23 ∷ []) ++ slice_index upper_digits n ∷ []) h in
+    b ∙ ap (λ (xs : List ℕ). xs ++ slice_index upper_digits low ∷ []) up ∙ ap (λ (n : ℕ). ((front ++ 0x23 ∷ []) ++ x ∷ []) ++ slice_index upper_digits n ∷ []) l
+    ∙ append_assoc (front ++ 0x23 ∷ []) (x ∷ []) (y ∷ []) ∙ append_assoc front (0x23 ∷ []) (x ∷ y ∷ [])
 
 -- ---- the dot before a scope's labels
 

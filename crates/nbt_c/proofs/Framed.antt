@@ -1,7 +1,10 @@
--- Session packets in octets: a header, and what it counts.
-use Rattle.std.proofs.Common.{◌≡◌, ℕ, ◌/◌, ◌%◌, List, ◌∷◌, ◌++◌, length, sym, subst, ap, ◌∙◌}
+-- Session packets in octets: a header, and what it counts; and which packets are no messages.
+use Rattle.std.proofs.Common.{◌≡◌, ◌≢◌, ℕ, ◌/◌, ◌%◌, List, ◌∷◌, ◌++◌, length, sym, subst, ap, ◌∙◌}
 use Rattle.nbt_name.specs.Wire.{NameValue, wire}
-use Rattle.nbt_session.specs.Packet.{request, text}
+use Rattle.nbt_session.specs.declared.packet.PacketType.TheVariants.{Message}
+use Rattle.nbt_session.specs.Packet.{PacketValue, request, octet_of, text, type_of}
+use Rattle.nbt_c.specs.declared.packet.CPacket.{CPacket}
+use Rattle.nbt_c.specs.Sessions.{IsPacketIn, is_message}
 
 -- a header of a kind, and the octets
 abbrev pub framed_by : ℕ → List ℕ → List ℕ
@@ -13,3 +16,8 @@ request_is called calling body octets is names = is ∙ ap (framed_by 0x81) name
 -- an answer and octets may be given by equal ones
 pub given_by : (P : ℕ → List ℕ → Type 0) {n n' : ℕ} {xs ys : List ℕ} → n ≡ n' → xs ≡ ys → P n' ys → P n xs
 given_by P at same = subst (λ (w : ℕ × List ℕ). P w.0 w.1) (λ i. (sym at i, sym same i))
+
+-- what C passes as another kind is no message
+pub no_message : {held : CPacket} {packet : PacketValue} → IsPacketIn held packet → held.kind ≢ octet_of Message → type_of packet ≢ Message
+no_message (is_message is) differs = absurd (differs is)
+no_message other differs = λ e. absurd cc

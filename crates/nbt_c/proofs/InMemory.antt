@@ -42,6 +42,7 @@ use borrow.Table.OneValue.{part_in}
 use Rattle.std.specs.Borrow.{Lends}
 use Rattle.std.specs.Prelude.{IsSome, IsNone}
 use Rattle.nbt_c.specs.Memory.{rests_at}
+use Rattle.nbt_c.proofs.Calls.{none_of}
 
 pub record Held : Type 2 where
   pub value : RattleType
@@ -102,13 +103,9 @@ module _ (E : Held) where
   word_is : (h : E.D) (us : List Val) → Is R h us → us ≡ word (E.at h)
   word_is h us is = Tells-lowered the_type (RawPtr-laws, tt) h us is
 
-some_of : {X : Type 0} (m : Option X) → IsSome m → (x : X) × (m ≡ Some x)
+pub some_of : {X : Type 0} (m : Option X) → IsSome m → (x : X) × (m ≡ Some x)
 some_of None is = absurd (true≢false (sym is))
 some_of (Some x) is = (x, refl)
-
-none_of : {X : Type 0} (m : Option X) → IsNone m → m ≡ None
-none_of None is = refl
-none_of (Some x) is = absurd (true≢false is)
 
 one_of : {X : Type 1} (τ : Ty) (vs : List Val) → Typed (τ ∷ []) vs → ((v : Val) → vs ≡ v ∷ [] → X) → X
 one_of τ [] t k = absurd t

@@ -4,7 +4,7 @@ mod Calls
 mod Calling
 -- What crosses to C lies there as the header declares it.
 mod Crossing
--- Forms of a name, and the dot before a scope's labels.
+-- Forms of a name, its word, and the dot before a scope's labels.
 mod Forms
 -- Session packets in octets.
 mod Framed
@@ -16,5 +16,3 @@ mod InMemory
 mod Listened
 -- The packets that data are split into have room.
 mod Packets
--- The word of sixteen octets.
-mod Spelled

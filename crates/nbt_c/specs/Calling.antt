@@ -3,35 +3,19 @@ use Rattle.std.specs.Prelude.{◌≡◌, ◌≢◌, ℕ, List, [], Option, Some,
 use Rattle.nbt_name.specs.declared.addr.Addr.{Addr}
 use Rattle.nbt_session.specs.declared.caller.CallerState.TheVariants.{Connecting}
 use Rattle.nbt_session.specs.declared.caller.Failure.{Failure}
-use Rattle.nbt_session.specs.declared.caller.Failure.TheVariants.{NoConnection, Refused, Protocol, TooManyTries}
-use Rattle.nbt_session.specs.declared.packet.PacketType.TheVariants.{Message, Request, Positive, Negative, Retarget, KeepAlive}
+use Rattle.nbt_session.specs.declared.caller.Failure.TheVariants.{Refused}
 use Rattle.nbt_session.specs.Caller.{AnswerValue, CallerMoves, CallerValue, nothing, connect, send, opened, up, closed, fail}
 use Rattle.nbt_session.specs.Event.{EventValue, connected, lost}
 use Rattle.nbt_session.specs.Event.{packet as comes}
 use Rattle.nbt_session.specs.Numbers.{failure_number}
-use Rattle.nbt_session.specs.Packet.{PacketValue, message, request, positive, negative, retarget, keep_alive, octet_of, text}
+use Rattle.nbt_session.specs.Packet.{PacketValue, text}
 use Rattle.nbt_c.specs.declared.caller.CAnswer.{CAnswer}
 use Rattle.nbt_c.specs.declared.name.CName.{CName}
 use Rattle.nbt_c.specs.declared.packet.CPacket.{CPacket}
-use Rattle.nbt_c.specs.Ends.{addr_of, addr_for}
+use Rattle.nbt_c.specs.Ends.{addr_for}
 use Rattle.nbt_c.specs.Names.{HoldsName, name_in}
-use Rattle.nbt_c.specs.Sending.{no_kind}
-use Rattle.nbt_c.specs.Writing.{no_name}
-
--- a packet that C passes; of a message that it is one, and its octets stay with the program
-pub data IsPacketIn (held : CPacket) : PacketValue → Type 0 where
-  is_message : held.kind ≡ octet_of Message → IsPacketIn held (message [])
-  is_request : held.kind ≡ octet_of Request → HoldsName held.called → HoldsName held.calling → IsPacketIn held (request (name_in held.called) (name_in held.calling))
-  is_positive : held.kind ≡ octet_of Positive → IsPacketIn held positive
-  is_negative : held.kind ≡ octet_of Negative → IsPacketIn held (negative held.code)
-  is_retarget : held.kind ≡ octet_of Retarget → IsPacketIn held (retarget (addr_of held.to))
-  is_keep_alive : held.kind ≡ octet_of KeepAlive → IsPacketIn held keep_alive
-
-pub data PacketFault (held : CPacket) : ℕ → Type 0 where
-  has_no_kind : held.kind ≢ octet_of Message → held.kind ≢ octet_of Request → held.kind ≢ octet_of Positive → held.kind ≢ octet_of Negative → held.kind ≢ octet_of Retarget → held.kind ≢ octet_of KeepAlive
-      → PacketFault held no_kind
-  has_no_called : held.kind ≡ octet_of Request → ¬ HoldsName held.called → PacketFault held no_name
-  has_no_calling : held.kind ≡ octet_of Request → HoldsName held.called → ¬ HoldsName held.calling → PacketFault held no_name
+use Rattle.nbt_c.specs.Results.{no_kind, no_name}
+use Rattle.nbt_c.specs.Sessions.{IsPacketIn, PacketFault}
 
 -- what happened to the connection: 0 it stands, 1 a packet came, 2 it is gone
 pub data IsEvent (happened : ℕ) (held : CPacket) : EventValue → Type 0 where
@@ -45,10 +29,8 @@ pub data EventFault (happened : ℕ) (held : CPacket) : ℕ → Type 0 where
 
 -- what an answer is reported as: its kind, and what that names; all else stays
 abbrev pub with_failure : CAnswer → Failure → CAnswer
-with_failure before NoConnection = before
 with_failure before (Refused code) = record before { code = code }
-with_failure before Protocol = before
-with_failure before TooManyTries = before
+with_failure before failure = before
 
 abbrev pub answer_after : CAnswer → AnswerValue → CAnswer
 answer_after before nothing = record before { kind = 0 }

@@ -1,6 +1,8 @@
--- What the calls that read a datagram, and that split data into packets, answer.
-use Rattle.std.specs.Prelude.{◌≡◌, ◌≢◌, ℕ, ◌+◌, ◌<◌, true, false, List, [], length, slice_get, Option, Some, None}
+-- What the calls answer that read a datagram, that split data into packets, and by which a datagram comes to a node in C's memory.
+use Rattle.std.specs.Prelude.{◌≡◌, ◌≢◌, ℕ, ◌+◌, ◌<◌, true, false, List, [], length, slice_get, Option, Some, None, ◌≤◌}
 use Rattle.nbt_name.specs.declared.addr.Addr.{Addr}
+use Rattle.nbt_lease.specs.Config.{last_moment}
+use Rattle.nbt_node.specs.Node.{NodeValue}
 use Rattle.nbt_dgram.specs.declared.dgram.Part.{Part}
 use Rattle.nbt_dgram.specs.declared.dgram.Part.TheVariants.{First, Later}
 use Rattle.nbt_dgram.specs.declared.msg_type.Delivery.{Delivery}
@@ -9,12 +11,14 @@ use Rattle.nbt_dgram.specs.Dgram.{BodyValue, fragment, error, lookup, DgramValue
 use Rattle.nbt_dgram.specs.Fragments.{IsSplit}
 use Rattle.nbt_dgram.specs.Numbers.{type_number}
 use Rattle.nbt_dgram.specs.Text.{names_text, text}
+use Rattle.nbt_dgram.specs.Accepting.{AcceptValue, up, reply, told, waits, nothing, Accepts}
+use Rattle.nbt_dgram.specs.Joiner.{JoinerValue}
 use Rattle.nbt_c.specs.declared.datagram.CDgram.{CDgram}
 use Rattle.nbt_c.specs.declared.name.CName.{CName}
 use Rattle.nbt_c.specs.Ends.{addr_for}
 use Rattle.nbt_c.specs.Names.{HoldsName, name_in, stored}
-use Rattle.nbt_c.specs.Sending.{no_kind}
-use Rattle.nbt_c.specs.Writing.{no_name}
+use Rattle.nbt_c.specs.Results.{no_kind, no_name, no_moment}
+use Rattle.nbt_c.specs.declared.accepting.CAccept.{CAccept}
 
 -- What a datagram is reported as: what its kind names; all else stays. The data begin behind the 14 octets of a head with DGM_LENGTH
 -- and PACKET_OFFSET, and behind the names.
@@ -49,3 +53,20 @@ pub data SplitsFor (kind id : ℕ) (own : Addr) (source destination : CName) (pa
       → SplitsFor kind id own source destination payload no_kind [] []
   has_no_destination : HoldsName source → ¬ HoldsName destination → SplitsFor kind id own source destination payload no_name [] []
   has_no_source : ¬ HoldsName source → SplitsFor kind id own source destination payload no_name [] []
+
+pub data AcceptsFor (old : JoinerValue) (now : ℕ) (node : NodeValue) (own : Addr) (octets : List ℕ) : ℕ → AcceptValue → List ℕ → JoinerValue → Type 0 where
+  accepts : (outcome : AcceptValue) (sent : List ℕ) (new : JoinerValue) → now ≤ last_moment → Accepts old now node own octets outcome sent new → AcceptsFor old now node own octets 0 outcome sent new
+  has_no_moment : last_moment < now → AcceptsFor old now node own octets no_moment nothing [] old
+
+-- what an outcome is reported as: its kind, and what that names; all else stays
+abbrev pub accept_after : CAccept → AcceptValue → CAccept
+accept_after before nothing = record before { kind = 0 }
+accept_after before (up names payload) = record before { kind = 1; source = stored names.source; destination = stored names.destination; size = length payload }
+accept_after before (reply to) = record before { kind = 2; to = addr_for to }
+accept_after before (told id code) = record before { kind = 3; id = id; code = code }
+accept_after before waits = record before { kind = 4 }
+
+-- the data of one
+abbrev pub data_of : AcceptValue → List ℕ
+data_of (up names payload) = payload
+data_of outcome = []

@@ -14,8 +14,7 @@ use Rattle.nbt_c.specs.declared.packet.CPacket.{CPacket}
 use Rattle.nbt_c.specs.Calling.{IsEvent, EventFault}
 use Rattle.nbt_c.specs.Ends.{addr_of}
 use Rattle.nbt_c.specs.Names.{HoldsName, name_in}
-use Rattle.nbt_c.specs.Sending.{no_moment}
-use Rattle.nbt_c.specs.Writing.{no_name, no_place, no_room}
+use Rattle.nbt_c.specs.Results.{no_moment, no_name, no_place, no_room}
 
 -- the entries and the connections that there is room for
 abbrev pub entries_most : ℕ

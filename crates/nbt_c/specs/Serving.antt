@@ -4,34 +4,22 @@ use Rattle.nbt_name.specs.declared.addr.Addr.{Addr}
 use Rattle.nbt_name.specs.Wire.{NameValue}
 use Rattle.nbt_packet.specs.Message.{MessageValue}
 use Rattle.nbt_packet.specs.Spelling.{AreWritten}
-use Rattle.nbt_lease.specs.declared.fault.ConfigFault.TheVariants.{Life, Longest, Rows}
 use Rattle.nbt_lease.specs.declared.lease.Lease.{Lease}
-use Rattle.nbt_lease.specs.Config.{IsLife, IsLongest, IsRows, config_of, last_moment}
+use Rattle.nbt_lease.specs.Config.{last_moment}
 use Rattle.nbt_lease.specs.Lease.{leases_at}
-use Rattle.nbt_lease.specs.Numbers.{config_fault_number}
 use Rattle.nbt_server.specs.declared.fault.ServerFault.TheVariants.{ClockBack, OutOfMemory}
 use Rattle.nbt_server.specs.Serving.{ServerValue}
 use Rattle.nbt_server.specs.Calls.{ServerStarts, ServerTakes, ServerForgets}
 use Rattle.nbt_server.specs.Numbers.{server_fault_number}
 use Rattle.nbt_c.specs.declared.ends.CConfig.{CConfig}
-use Rattle.nbt_c.specs.declared.lease.CLease.{CLease}
+use Rattle.nbt_c.specs.declared.serving.CLease.{CLease}
 use Rattle.nbt_c.specs.declared.name.CName.{CName}
-use Rattle.nbt_c.specs.Ends.{kind_number}
+use Rattle.nbt_c.specs.Ends.{kind_number, StartsWith}
 use Rattle.nbt_c.specs.Names.{HoldsName, name_in, stored}
-use Rattle.nbt_c.specs.Sending.{no_moment}
-use Rattle.nbt_c.specs.Writing.{no_name}
+use Rattle.nbt_c.specs.Results.{no_name, no_moment, no_lease}
 
--- what a call returns where no more leases live (our profile)
-abbrev pub no_lease : ℕ
-no_lease = 250
-
-pub data StartsServer (config : CConfig) (now : ℕ) : ℕ → Option ServerValue → Type 0 where
-  starts : (server : ServerValue) → IsLife config.life → IsLongest config.longest → IsRows config.rows → now ≤ last_moment
-      → ServerStarts (config_of config.life config.longest config.rows) now server → StartsServer config now 0 (Some server)
-  bad_life : ¬ IsLife config.life → StartsServer config now (config_fault_number Life) None
-  bad_longest : IsLife config.life → ¬ IsLongest config.longest → StartsServer config now (config_fault_number Longest) None
-  bad_rows : IsLife config.life → IsLongest config.longest → ¬ IsRows config.rows → StartsServer config now (config_fault_number Rows) None
-  has_no_moment : IsLife config.life → IsLongest config.longest → IsRows config.rows → last_moment < now → StartsServer config now no_moment None
+abbrev pub StartsServer : (config : CConfig) (now : ℕ) → ℕ → Option ServerValue → Type 0
+StartsServer config now = StartsWith (λ limits server. ServerStarts limits now server) config now
 
 pub data ServesFor (old : ServerValue) (now : ℕ) (from : Addr) (octets : List ℕ) : ℕ → ServerValue → List ℕ → Type 0 where
   serves : (reply : Option MessageValue) (new : ServerValue) (out : List ℕ) → now ≤ last_moment → ServerTakes old now from.ip octets reply new → AreWritten reply out

@@ -4,17 +4,16 @@ ghost use Rattle.std.specs.Prelude.{◌≡◌, ℕ, List, Some, None, IsSome, Is
 ghost use Rattle.nbt_dgram.specs.Accepting.{AcceptValue, accept_of};
 ghost use Rattle.nbt_dgram.specs.Joiner.{JoinerValue, joiner_of};
 ghost use Rattle.nbt_node.specs.Node.{NodeValue};
-ghost use Rattle.nbt_c.specs.Accepting.{AcceptsFor, accept_after, data_of};
+ghost use Rattle.nbt_c.specs.Datagrams.{AcceptsFor, accept_after, data_of};
 ghost use Rattle.nbt_c.specs.Ends.{addr_of};
-ghost use Rattle.nbt_c.specs.Sending.{Puts, PutsMost};
+ghost use Rattle.nbt_c.specs.Results.{Puts, PutsMost};
 ghost use Rattle.nbt_c.specs.Sizes.{joiner_size, object_align};
 
+use crate::buffer::{Octets, put_most, put_packet};
 use crate::ends::CAddr;
 use crate::held::{CJoiner, CNode};
 use crate::name::CName;
 use crate::results::NO_MOMENT;
-use crate::room::{put_most, put_packet};
-use arrayvec::ArrayVec;
 use nbt_dgram::{Accept, Joiner, accept};
 use nbt_lease::Moment;
 use nbt_name::Addr;
@@ -42,7 +41,7 @@ pub struct CAccept {
 
 impl CAccept {
     /// Reports it.
-    fn tell(&mut self, outcome: &Accept<'_>)
+    fn report(&mut self, outcome: &Accept<'_>)
         ensures { self.new ≡ accept_after self.old (accept_of outcome.now) }
     {
         match outcome {
@@ -111,19 +110,19 @@ fn hand(
     octets: &[u8],
     told: &mut CAccept,
     data: &mut [u8],
-    out: &mut ArrayVec<u8, 576>,
+    out: &mut Octets,
 ) -> u8
     ensures { (outcome : AcceptValue) × AcceptsFor joiner.old now node.now own octets.now result outcome out.new.items joiner.new
         × (told.new ≡ accept_after told.old outcome) × PutsMost (data_of outcome) data.old data.new }
 {
     out.clear();
     let Some(now) = Moment::new(now) else {
-        told.tell(&Accept::Nothing);
+        told.report(&Accept::Nothing);
         put_data(&Accept::Nothing, data);
         return NO_MOMENT;
     };
     let outcome = accept(joiner, now, node, own, octets, out);
-    told.tell(&outcome);
+    told.report(&outcome);
     put_data(&outcome, data);
     0
 }
@@ -151,7 +150,7 @@ pub extern "C" fn nbt_datagram_accept(
         × AcceptsFor old now n (addr_of own) octets.now result outcome sent new × (told.new ≡ accept_after told.old outcome)
         × PutsMost (data_of outcome) data.old data.new × Puts sent out.old out.new size.new }
 {
-    let mut sent = ArrayVec::new();
+    let mut sent = Octets::new();
     let result = hand(
         joiner.get(),
         now,

@@ -7,17 +7,16 @@ ghost use Rattle.nbt_session.specs.Event.{event_of as event_value};
 ghost use Rattle.nbt_session.specs.Packet.{PacketValue, packet_of, text, type_of};
 ghost use Rattle.nbt_c.specs.Calling.{Begins, CallsFor, IsEvent, EventFault, answer_after, sent_by};
 ghost use Rattle.nbt_c.specs.Ends.{addr_of};
-ghost use Rattle.nbt_c.specs.Sending.{Puts};
+ghost use Rattle.nbt_c.specs.Results.{Puts};
 ghost use Rattle.nbt_c.specs.Sizes.{caller_size, object_align};
 
+use crate::buffer::{Octets, put_packet};
 use crate::ends::CAddr;
-use crate::framing::write_names;
+use crate::framing::put_names;
 use crate::held::CCaller;
 use crate::name::CName;
 use crate::packet::CPacket;
 use crate::results::{NO_KIND, NO_NAME};
-use crate::room::put_packet;
-use arrayvec::ArrayVec;
 use nbt_session::{Caller, CallerAnswer, Event, Failure, Packet};
 use std::alloc::Global;
 
@@ -39,7 +38,7 @@ impl CAnswer {
     ghost use Rattle.nbt_c.specs.Calling.{with_failure};
 
     /// Reports it.
-    fn tell(&mut self, answer: &CallerAnswer)
+    fn report(&mut self, answer: &CallerAnswer)
         ensures { self.new ≡ answer_after self.old (answer_of answer.now) }
     {
         match answer {
@@ -53,7 +52,7 @@ impl CAnswer {
             CallerAnswer::Up(_) => self.kind = 4,
             CallerAnswer::Closed => self.kind = 5,
             CallerAnswer::Fail(failure) => {
-                self.tell_failure(*failure);
+                self.report_failure(*failure);
                 self.kind = 6;
                 self.failure = failure.number();
             }
@@ -61,14 +60,12 @@ impl CAnswer {
     }
 
     /// Reports the code with which a call was refused.
-    fn tell_failure(&mut self, failure: Failure)
+    fn report_failure(&mut self, failure: Failure)
         ensures { self.new ≡ with_failure self.old failure }
     {
         match failure {
-            Failure::NoConnection => {}
             Failure::Refused(code) => self.code = code,
-            Failure::Protocol => {}
-            Failure::TooManyTries => {}
+            _ => {}
         }
     }
 }
@@ -129,7 +126,7 @@ pub(crate) fn event_of(alloc: Global, happened: u8, packet: &CPacket) -> Result<
 }
 
 /// Leaves in `out` the packet that is to be sent, if there is one.
-fn put_sent(answer: &CallerAnswer, out: &mut ArrayVec<u8, 576>)
+fn put_sent(answer: &CallerAnswer, out: &mut Octets)
     requires { (packet : PacketValue) → answer_of answer.now ≡ send packet → type_of packet ≡ Request }
     ensures { out.new.items ≡ sent_by (answer_of answer.now) }
 {
@@ -140,12 +137,12 @@ fn put_sent(answer: &CallerAnswer, out: &mut ArrayVec<u8, 576>)
 }
 
 /// Leaves in `out` the text of a request.
-fn put_request(packet: &Packet, out: &mut ArrayVec<u8, 576>)
+fn put_request(packet: &Packet, out: &mut Octets)
     requires { type_of (packet_of packet.now) ≡ Request }
     ensures { out.new.items ≡ text (packet_of packet.now) }
 {
     if let Packet::Request { called, calling } = packet {
-        write_names(called, calling, out);
+        put_names(called, calling, out);
     }
 }
 
@@ -156,7 +153,7 @@ fn call(
     happened: u8,
     packet: &CPacket,
     told: &mut CAnswer,
-    out: &mut ArrayVec<u8, 576>,
+    out: &mut Octets,
 ) -> u8
     ensures { (answer : AnswerValue) × CallsFor caller.old happened packet.now result answer caller.new
         × (told.new ≡ answer_after told.old answer) × (out.new.items ≡ sent_by answer) }
@@ -164,12 +161,12 @@ fn call(
     match event_of(alloc, happened, packet) {
         Ok(event) => {
             let answer = caller.on(event);
-            told.tell(&answer);
+            told.report(&answer);
             put_sent(&answer, out);
             0
         }
         Err(number) => {
-            told.tell(&CallerAnswer::Nothing);
+            told.report(&CallerAnswer::Nothing);
             out.clear();
             number
         }
@@ -196,7 +193,7 @@ pub extern "C" fn nbt_caller_on(
         × CallsFor old happened packet.now result answer new × (told.new ≡ answer_after told.old answer)
         × Puts (sent_by answer) out.old out.new size.new }
 {
-    let mut sent = ArrayVec::new();
+    let mut sent = Octets::new();
     let result = call(alloc, caller.get(), happened, packet, told, &mut sent);
     *size = put_packet(sent.as_slice(), out);
     result

@@ -47,22 +47,22 @@ impl CDgram {
     ghost use Rattle.nbt_c.specs.Datagrams.{with_part, with_body, dgram_after};
 
     /// Reports it.
-    fn tell(&mut self, dgram: &Dgram<'_>)
+    fn report(&mut self, dgram: &Dgram<'_>)
         ensures { self.new ≡ dgram_after self.old (dgram_of dgram.now) }
     {
-        self.tell_body(&dgram.body);
+        self.report_body(&dgram.body);
         self.kind = dgram.msg_type().number();
         self.id = dgram.id;
         self.from = CAddr::of(dgram.source);
     }
 
     /// Reports what stands after the ten octets that each datagram begins with.
-    fn tell_body(&mut self, body: &Body<'_>)
+    fn report_body(&mut self, body: &Body<'_>)
         ensures { self.new ≡ with_body self.old (body_of body.now) }
     {
         match body {
             Body::Fragment(fragment) => {
-                self.tell_part(&fragment.part);
+                self.report_part(&fragment.part);
                 self.more = fragment.more;
                 self.place = FRAGMENT_HEAD + names_size(&fragment.part);
                 self.size = fragment.payload.len();
@@ -73,7 +73,7 @@ impl CDgram {
     }
 
     /// Reports where a fragment stands, and its names.
-    fn tell_part(&mut self, part: &Part)
+    fn report_part(&mut self, part: &Part)
         ensures { self.new ≡ with_part self.old part.now }
     {
         match part {
@@ -112,11 +112,11 @@ pub extern "C" fn nbt_datagram_read(octets: &[u8], told: &mut CDgram, next: &mut
     ensures fault { (fault : Fault) → FaultIs octets.now fault
         → (result ≡ fault_number fault.kind) × (told.new ≡ told.old) × (next.new ≡ fault.place) }
 {
-    tell(&decode(octets), told, next)
+    report(&decode(octets), told, next)
 }
 
 /// Reports what was read: 0, the datagram and how many octets it has, or the fault's number and its place.
-fn tell(read: &Result<(Dgram<'_>, usize), DgramFault>, told: &mut CDgram, next: &mut usize) -> u8
+fn report(read: &Result<(Dgram<'_>, usize), DgramFault>, told: &mut CDgram, next: &mut usize) -> u8
     ensures dgram { (d : DgramValue) (count : ℕ) → decoded read.now ≡ Ok (d, count)
         → (result ≡ 0) × (told.new ≡ dgram_after told.old d) × (next.new ≡ count) }
     ensures fault { (fault : Fault) → decoded read.now ≡ Err fault
@@ -124,7 +124,7 @@ fn tell(read: &Result<(Dgram<'_>, usize), DgramFault>, told: &mut CDgram, next: 
 {
     match read {
         Ok((dgram, count)) => {
-            told.tell(dgram);
+            told.report(dgram);
             *next = *count;
             0
         }

@@ -1,21 +1,19 @@
-//! Session packets that a program in C writes, without memory (RFC 1002 section 4.3).
+//! Session packets that a program in C writes, without allocating (RFC 1002 section 4.3).
 
 ghost use Rattle.std.specs.Prelude.{◌≡◌, ◌≢◌, ℕ, ◌<◌, ◌≤◌, ◌/◌, ◌%◌, List, ◌∷◌, length};
 ghost use Rattle.nbt_session.specs.declared.fault.EncodeFault.TheVariants.{TooLong};
 ghost use Rattle.nbt_session.specs.declared.packet.PacketType.TheVariants.{Message};
 ghost use Rattle.nbt_session.specs.Numbers.{encode_fault_number};
 ghost use Rattle.nbt_session.specs.Packet.{header, packet_of, request, retarget, text, type_of};
-ghost use Rattle.nbt_c.specs.Ends.{addr_of};
-ghost use Rattle.nbt_c.specs.Framing.{WritesPacket, WritesRequest};
-ghost use Rattle.nbt_c.specs.Sending.{Puts};
+ghost use Rattle.nbt_c.specs.Sessions.{WritesPacket};
+ghost use Rattle.nbt_c.specs.Results.{Puts};
 
-use crate::ends::CAddr;
-use crate::packet::{CPacket, KEEP_ALIVE, NEGATIVE, POSITIVE, REQUEST, RETARGET};
-use crate::results::{NO_KIND, NO_NAME};
-use crate::room::put_packet;
+use crate::buffer::{Octets, put_packet};
+use crate::packet::{CPacket, KEEP_ALIVE, MESSAGE, NEGATIVE, POSITIVE, REQUEST, RETARGET};
+use crate::results::NO_KIND;
 use arrayvec::ArrayVec;
 use byteorder::{BigEndian, ByteOrder};
-use nbt_name::{Name, put_long, put_word};
+use nbt_name::{Addr, Name, put_long, put_word};
 use nbt_session::{EncodeFault, Packet};
 
 /// The most octets of a message: what 17 bits of length can say (RFC 1002 section 4.3.1).
@@ -42,70 +40,68 @@ pub extern "C" fn nbt_session_message(count: usize, out: &mut [u8; 4]) -> u8
 pub extern "C" fn nbt_session_packet(packet: &CPacket, out: &mut [u8; 576], size: &mut usize) -> u8
     ensures { (octets : List ℕ) × WritesPacket packet.now result octets × Puts octets out.old out.new size.new }
 {
-    let mut octets = ArrayVec::new();
+    let mut octets = Octets::new();
     let result = write(packet, &mut octets);
     *size = put_packet(octets.as_slice(), out);
     result
 }
 
-/// The text of a packet, of what C passes.
-fn write(packet: &CPacket, out: &mut ArrayVec<u8, 576>) -> u8
+/// Leaves in `out` the text of a packet, of what C passes.
+fn write(packet: &CPacket, out: &mut Octets) -> u8
     ensures { WritesPacket packet.now result out.new.items }
 {
-    match packet.kind {
-        REQUEST => write_request(packet, out),
-        POSITIVE => frame(POSITIVE, &[], out),
-        NEGATIVE => frame(NEGATIVE, &[packet.code], out),
-        RETARGET => write_retarget(packet.to, out),
-        KEEP_ALIVE => frame(KEEP_ALIVE, &[], out),
-        _ => {
-            out.clear();
-            NO_KIND
+    out.clear();
+    if packet.kind == MESSAGE {
+        return NO_KIND;
+    }
+    match packet.read_other() {
+        Ok(read) => {
+            put_text(&read, out);
+            0
         }
+        Err(number) => number,
     }
 }
 
-/// The text of a request, where both its names are held.
-fn write_request(packet: &CPacket, out: &mut ArrayVec<u8, 576>) -> u8
-    ensures { WritesRequest packet.now result out.new.items }
+/// Leaves in `out` the text of a packet that is no message.
+pub(crate) fn put_text(packet: &Packet, out: &mut Octets)
+    requires { type_of (packet_of packet.now) ≢ Message }
+    ensures { out.new.items ≡ text (packet_of packet.now) }
 {
-    out.clear();
-    let Some(called) = packet.called.read() else {
-        return NO_NAME;
-    };
-    let Some(calling) = packet.calling.read() else {
-        return NO_NAME;
-    };
-    write_names(&called, &calling, out)
+    match packet {
+        Packet::Message(_) => {}
+        Packet::Request { called, calling } => put_names(called, calling, out),
+        Packet::Positive => frame(POSITIVE, &[], out),
+        Packet::Negative(code) => frame(NEGATIVE, &[*code], out),
+        Packet::Retarget(to) => put_endpoint(*to, out),
+        Packet::KeepAlive => frame(KEEP_ALIVE, &[], out),
+    }
 }
 
-/// Leaves in `out` the text of a request: its two names (RFC 1002 section 4.3.2). Returns 0.
-pub(crate) fn write_names(called: &Name, calling: &Name, out: &mut ArrayVec<u8, 576>) -> u8
-    ensures result { result ≡ 0 }
-    ensures form { out.new.items ≡ text (request called.now calling.now) }
+/// Leaves in `out` the text of a request: its two names (RFC 1002 section 4.3.2).
+pub(crate) fn put_names(called: &Name, calling: &Name, out: &mut Octets)
+    ensures { out.new.items ≡ text (request called.now calling.now) }
 {
     let mut body: ArrayVec<u8, 510> = ArrayVec::new();
     called.put_wire(&mut body);
     calling.put_wire(&mut body);
-    frame(REQUEST, body.as_slice(), out)
+    frame(REQUEST, body.as_slice(), out);
 }
 
-/// Leaves in `out` the text of a retarget (RFC 1002 section 4.3.5). Returns 0.
-fn write_retarget(to: CAddr, out: &mut ArrayVec<u8, 576>) -> u8
-    ensures result { result ≡ 0 }
-    ensures form { out.new.items ≡ text (retarget (addr_of to)) }
+/// Leaves in `out` the text of a retarget (RFC 1002 section 4.3.5).
+fn put_endpoint(to: Addr, out: &mut Octets)
+    ensures { out.new.items ≡ text (retarget to) }
 {
     let mut body: ArrayVec<u8, 6> = ArrayVec::new();
     put_long(&mut body, to.ip);
     put_word(&mut body, to.port);
-    frame(RETARGET, body.as_slice(), out)
+    frame(RETARGET, body.as_slice(), out);
 }
 
-/// Leaves in `out` a header and the octets that it counts. Returns 0.
-fn frame(kind: u8, body: &[u8], out: &mut ArrayVec<u8, 576>) -> u8
+/// Leaves in `out` a header and the octets that it counts.
+fn frame(kind: u8, body: &[u8], out: &mut Octets)
     requires { length body.now ≤ 510 }
-    ensures result { result ≡ 0 }
-    ensures form { out.new.items
+    ensures { out.new.items
         ≡ kind ∷ length body.now / 65536 ∷ length body.now / 256 % 256 ∷ length body.now % 256 ∷ body.now }
 {
     let mut header = [0; 4];
@@ -114,20 +110,4 @@ fn frame(kind: u8, body: &[u8], out: &mut ArrayVec<u8, 576>) -> u8
     out.clear();
     out.try_extend_from_slice(&header).unwrap();
     out.try_extend_from_slice(body).unwrap();
-    0
-}
-
-/// Leaves in `out` the text of a packet that is no message.
-pub(crate) fn put_text(packet: &Packet, out: &mut ArrayVec<u8, 576>)
-    requires { type_of (packet_of packet.now) ≢ Message }
-    ensures { out.new.items ≡ text (packet_of packet.now) }
-{
-    let _ = match packet {
-        Packet::Message(_) => 0,
-        Packet::Request { called, calling } => write_names(called, calling, out),
-        Packet::Positive => frame(POSITIVE, &[], out),
-        Packet::Negative(code) => frame(NEGATIVE, &[*code], out),
-        Packet::Retarget(to) => write_retarget(CAddr::of(*to), out),
-        Packet::KeepAlive => frame(KEEP_ALIVE, &[], out),
-    };
 }

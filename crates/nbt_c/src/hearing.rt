@@ -1,25 +1,84 @@
-//! What a node in C's memory hears, polls and holds.
+//! A node in C's memory: it handles datagrams, polls, and says which names it holds.
 
 ghost use Rattle.std.specs.Prelude.{◌≡◌, ℕ, List, Option, Some, IsSome};
 ghost use Rattle.nbt_name.specs.declared.addr.Addr.{Addr as End};
 ghost use Rattle.nbt_name.specs.declared.addr.Kind.{Kind as HeldKind};
-ghost use Rattle.nbt_node.specs.Moves.{Told};
+ghost use Rattle.nbt_node.specs.Moves.{told_of, Told};
 ghost use Rattle.nbt_node.specs.Node.{NodeValue};
-ghost use Rattle.nbt_c.specs.Ends.{addr_of, addr_for};
-ghost use Rattle.nbt_c.specs.Events.{event_for, lent_by};
-ghost use Rattle.nbt_c.specs.Hearing.{Hears, PollsNode, Holds, end_after, held_number};
-ghost use Rattle.nbt_c.specs.Sending.{Puts, PutsMost};
+ghost use Rattle.nbt_c.specs.Events.{event_with, event_for, lent_by};
+ghost use Rattle.nbt_c.specs.Ends.{addr_of};
+ghost use Rattle.nbt_c.specs.Nodes.{Hears, PollsNode, Holds, end_after, held_number};
+ghost use Rattle.nbt_c.specs.Results.{Puts, PutsMost};
 
+use crate::buffer::{Octets, put_most, put_packet};
 use crate::ends::{CAddr, kind_number};
-use crate::event::{CEvent, lent_by};
 use crate::held::CNode;
 use crate::name::CName;
 use crate::results::{NO_MOMENT, NO_NAME};
-use crate::room::{put_most, put_packet};
-use arrayvec::ArrayVec;
 use nbt_lease::Moment;
 use nbt_name::{Addr, Kind};
 use nbt_node::{Event, Node};
+
+/// What a datagram was to a node, as C sees it. A field that its kind doesn't name is 0.
+#[repr(C)]
+#[derive(Drop)]
+pub struct CEvent {
+    /// 0 nothing, 1 reply, 2 granted, 3 renewed, 4 refused, 5 lost, 6 freed, 7 wait, 8 found, 9 not found, 10 status.
+    pub kind: u8,
+    /// Of refused and freed: the RCODE (RFC 1002 sections 4.2.6, 4.2.10 and 4.2.11).
+    pub rcode: u8,
+    /// Of found: the name has more entries than these.
+    pub cut: bool,
+    /// Of granted and renewed: for how many seconds.
+    pub seconds: u32,
+    /// Of found: how many octets the entries have, six each; of status: the names, eighteen each.
+    pub size: usize,
+}
+
+impl CEvent {
+    /// An event of a kind, with what its kind names.
+    fn new(kind: u8, rcode: u8, cut: bool, seconds: u32, size: usize) -> CEvent
+        ensures { result ≡ event_with kind rcode cut seconds size }
+    {
+        CEvent {
+            kind,
+            rcode,
+            cut,
+            seconds,
+            size,
+        }
+    }
+
+    /// What the node reports.
+    fn of(told: &Event<'_>) -> CEvent
+        ensures { result ≡ event_for (told_of told.now) }
+    {
+        match told {
+            Event::Nothing => CEvent::new(0, 0, false, 0, 0),
+            Event::Reply => CEvent::new(1, 0, false, 0, 0),
+            Event::Granted(seconds) => CEvent::new(2, 0, false, *seconds, 0),
+            Event::Renewed(seconds) => CEvent::new(3, 0, false, *seconds, 0),
+            Event::Refused(rcode) => CEvent::new(4, *rcode, false, 0, 0),
+            Event::Lost => CEvent::new(5, 0, false, 0, 0),
+            Event::Freed(rcode) => CEvent::new(6, *rcode, false, 0, 0),
+            Event::Wait => CEvent::new(7, 0, false, 0, 0),
+            Event::Found { entries, cut } => CEvent::new(8, 0, *cut, 0, entries.len()),
+            Event::NotFound => CEvent::new(9, 0, false, 0, 0),
+            Event::Status(names) => CEvent::new(10, 0, false, 0, names.len()),
+        }
+    }
+}
+
+/// The octets that an event borrows, if any.
+fn lent_by<'a>(event: &Event<'a>) -> &'a [u8]
+    ensures { result.now ≡ lent_by (told_of event.now) }
+{
+    match event {
+        Event::Found { entries, .. } => entries,
+        Event::Status(names) => names,
+        _ => &[],
+    }
+}
 
 /// Calls `nbt_node::Node::on_datagram` with what C passes.
 fn hear(
@@ -29,7 +88,7 @@ fn hear(
     octets: &[u8],
     told: &mut CEvent,
     lent: &mut [u8],
-    out: &mut ArrayVec<u8, 576>,
+    out: &mut Octets,
 ) -> u8
     ensures { (heard : Told) × Hears node.old now from octets.now result node.new heard out.new.items
         × (told.new ≡ event_for heard) × PutsMost (lent_by heard) lent.old lent.new }
@@ -70,7 +129,7 @@ pub extern "C" fn nbt_node_on_datagram(
         × Hears old now (addr_of from) octets.now result new told reply × (event.new ≡ event_for told)
         × PutsMost (lent_by told) lent.old lent.new × Puts reply out.old out.new size.new }
 {
-    let mut reply = ArrayVec::new();
+    let mut reply = Octets::new();
     let result = hear(
         node.get(),
         now,
@@ -85,7 +144,7 @@ pub extern "C" fn nbt_node_on_datagram(
 }
 
 /// Calls `nbt_node::Node::poll` with what C passes.
-fn poll(node: &mut Node<14>, now: u64, to: &mut CAddr, out: &mut ArrayVec<u8, 576>) -> u8
+fn poll(node: &mut Node<14>, now: u64, to: &mut CAddr, out: &mut Octets) -> u8
     ensures { (end : Option End) × PollsNode node.old now result node.new end out.new.items × (to.new ≡ end_after to.old end) }
 {
     out.clear();
@@ -117,7 +176,7 @@ pub extern "C" fn nbt_node_poll(
     ensures { (old : NodeValue) → node.old.node ≡ Some old → (new : NodeValue) × (end : Option End) × (octets : List ℕ) × (node.new.node ≡ Some new)
         × PollsNode old now result new end octets × (to.new ≡ end_after to.old end) × Puts octets out.old out.new size.new }
 {
-    let mut octets = ArrayVec::new();
+    let mut octets = Octets::new();
     let result = poll(node.get(), now, to, &mut octets);
     *size = put_packet(octets.as_slice(), out);
     result

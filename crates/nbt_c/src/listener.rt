@@ -6,9 +6,10 @@ ghost use Rattle.nbt_session.specs.declared.packet.PacketType.TheVariants.{Messa
 ghost use Rattle.nbt_session.specs.Listener.{ListenerValue, ListenerAnswerValue, answer_of, send, send_and_close};
 ghost use Rattle.nbt_session.specs.Packet.{PacketValue, type_of};
 ghost use Rattle.nbt_c.specs.Listening.{StartsListener, ListensTo, StopsListening, ListensFor, kind_of, sent_for};
-ghost use Rattle.nbt_c.specs.Sending.{Puts};
+ghost use Rattle.nbt_c.specs.Results.{Puts};
 ghost use Rattle.nbt_c.specs.Sizes.{listener_size, object_align};
 
+use crate::buffer::{Octets, put_packet};
 use crate::caller::event_of;
 use crate::ends::CAddr;
 use crate::framing::put_text;
@@ -16,8 +17,6 @@ use crate::held::{CListener, CNode};
 use crate::name::CName;
 use crate::packet::CPacket;
 use crate::results::{NO_MOMENT, NO_NAME, NO_PLACE, NO_ROOM};
-use crate::room::put_packet;
-use arrayvec::ArrayVec;
 use nbt_lease::Moment;
 use nbt_name::Addr;
 use nbt_node::Node;
@@ -170,7 +169,7 @@ fn kind_of(answer: &ListenerAnswer) -> u8
 }
 
 /// Leaves in `out` the packet that is to be sent, if there is one.
-fn put_sent(answer: &ListenerAnswer, out: &mut ArrayVec<u8, 576>)
+fn put_sent(answer: &ListenerAnswer, out: &mut Octets)
     requires sent { (packet : PacketValue) → answer_of answer.now ≡ send packet → type_of packet ≢ Message }
     requires last { (packet : PacketValue) → answer_of answer.now ≡ send_and_close packet → type_of packet ≢ Message }
     ensures { out.new.items ≡ sent_for (answer_of answer.now) }
@@ -192,7 +191,7 @@ fn hand(
     happened: u8,
     packet: &CPacket,
     kind: &mut u8,
-    out: &mut ArrayVec<u8, 576>,
+    out: &mut Octets,
 ) -> u8
     ensures { (answer : ListenerAnswerValue) × ListensFor listener.old now node.now slot happened packet.now result answer listener.new
         × (kind.new ≡ kind_of answer) × (out.new.items ≡ sent_for answer) }
@@ -241,7 +240,7 @@ pub extern "C" fn nbt_listener_on(
         × ListensFor old now n slot happened packet.now result answer new × (kind.new ≡ kind_of answer)
         × Puts (sent_for answer) out.old out.new size.new }
 {
-    let mut sent = ArrayVec::new();
+    let mut sent = Octets::new();
     let result = hand(
         alloc,
         listener.get(),

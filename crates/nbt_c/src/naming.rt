@@ -5,8 +5,7 @@ ghost use Rattle.nbt_name.specs.Wire.{NameValue};
 ghost use Rattle.nbt_text.specs.declared.fault.Fault.{Fault as Wrong};
 ghost use Rattle.nbt_text.specs.ScopedNames.{SpellsName, MisspellsName};
 ghost use Rattle.nbt_text.specs.Faults.{fault_number};
-ghost use Rattle.nbt_c.specs.Names.{stored};
-ghost use Rattle.nbt_c.specs.Naming.{Makes, MakesAny, case_of, place_in};
+ghost use Rattle.nbt_c.specs.Names.{stored, Makes, MakesAny, case_of, place_in};
 
 use crate::name::CName;
 use nbt_name::Name;

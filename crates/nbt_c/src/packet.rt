@@ -1,6 +1,6 @@
 //! A session packet as C sees it.
 
-ghost use Rattle.std.specs.Prelude.{◌≡◌, IfOk, IfErr};
+ghost use Rattle.std.specs.Prelude.{◌≡◌, ◌≢◌, IfOk, IfErr};
 
 use crate::ends::CAddr;
 use crate::name::CName;
@@ -9,7 +9,7 @@ use nbt_session::Packet;
 use std::alloc::Global;
 
 /// TYPE of a SESSION MESSAGE (RFC 1002 section 4.3.1).
-const MESSAGE: u8 = 0x00;
+pub(crate) const MESSAGE: u8 = 0x00;
 /// TYPE of a SESSION REQUEST.
 pub(crate) const REQUEST: u8 = 0x81;
 /// TYPE of a POSITIVE SESSION RESPONSE.
@@ -39,11 +39,10 @@ pub struct CPacket {
 
 impl CPacket {
     ghost use Rattle.nbt_session.specs.Packet.{packet_of};
-    ghost use Rattle.nbt_c.specs.Calling.{IsPacketIn, PacketFault};
-    ghost use Rattle.nbt_c.specs.Sessions.{packet_after};
+    ghost use Rattle.nbt_c.specs.Sessions.{IsPacketIn, PacketFault, packet_after};
 
     /// Reports it.
-    pub(crate) fn tell(&mut self, packet: &Packet)
+    pub(crate) fn report(&mut self, packet: &Packet)
         ensures { self.new ≡ packet_after self.old (packet_of packet.now) }
     {
         match packet {
@@ -72,8 +71,19 @@ impl CPacket {
         ensures packet { IfOk result (λ packet. IsPacketIn self.now (packet_of packet)) }
         ensures fault { IfErr result (PacketFault self.now) }
     {
+        if self.kind == MESSAGE {
+            return Ok(Packet::Message(Vec::new(alloc)));
+        }
+        self.read_other()
+    }
+
+    /// The same of a packet that is no message.
+    pub(crate) fn read_other(&self) -> Result<Packet, u8>
+        requires { self.now.kind ≢ 0 }
+        ensures packet { IfOk result (λ packet. IsPacketIn self.now (packet_of packet)) }
+        ensures fault { IfErr result (PacketFault self.now) }
+    {
         match self.kind {
-            MESSAGE => Ok(Packet::Message(Vec::new(alloc))),
             REQUEST => self.read_request(),
             POSITIVE => Ok(Packet::Positive),
             NEGATIVE => Ok(Packet::Negative(self.code)),

@@ -1,4 +1,4 @@
-//! A session's stream in C's memory: its octets come in pieces, and parts of them are told (RFC 1002 section 4.3).
+//! A session's stream in C's memory: its octets come in pieces, and its parts are reported (RFC 1002 section 4.3).
 
 ghost use Rattle.std.specs.Prelude.{◌≡◌, [], Some, IsSome, IsNone};
 ghost use Rattle.nbt_session.specs.Parts.{PiecesState, between, part_if};
@@ -23,7 +23,7 @@ pub struct CPart {
 
 impl CPart {
     /// Reports it.
-    fn tell(&mut self, part: &Option<Part<'_>>)
+    fn report(&mut self, part: &Option<Part<'_>>)
         ensures { self.new ≡ part_after self.old (part_if part.now) }
     {
         match part {
@@ -39,7 +39,7 @@ impl CPart {
             Some(Part::MessageEnd) => self.kind = 3,
             Some(Part::Other(packet)) => {
                 self.kind = 4;
-                self.packet.tell(packet);
+                self.packet.report(packet);
             }
         }
     }
@@ -76,7 +76,7 @@ fn take(pieces: &mut Pieces, piece: &[u8], part: &mut CPart, taken: &mut usize) 
 {
     match pieces.take(piece) {
         Ok((count, found)) => {
-            part.tell(&found);
+            part.report(&found);
             *taken = count;
             0
         }

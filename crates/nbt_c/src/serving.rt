@@ -1,26 +1,49 @@
 //! A name server in C's memory: it starts, handles datagrams, lists its live leases, and ends.
 
 ghost use Rattle.std.specs.Prelude.{◌≡◌, ℕ, List, Option, Some, None, IsSome, IsNone, slice_get};
-ghost use Rattle.nbt_name.specs.declared.addr.Addr.{Addr as End};
 ghost use Rattle.nbt_name.specs.Wire.{NameValue};
 ghost use Rattle.nbt_lease.specs.declared.lease.Lease.{Lease as HeldLease};
 ghost use Rattle.nbt_server.specs.Serving.{ServerValue};
 ghost use Rattle.nbt_c.specs.Ends.{addr_of};
-ghost use Rattle.nbt_c.specs.Sending.{Puts};
+ghost use Rattle.nbt_c.specs.Results.{Puts};
 ghost use Rattle.nbt_c.specs.Serving.{StartsServer, ServesFor, TellsLease, TellsRow, lease_after, name_of_row, lease_of_row};
 ghost use Rattle.nbt_c.specs.Sizes.{server_size, object_align};
 
-use crate::ends::{CAddr, CConfig};
+use crate::buffer::{Octets, put_packet};
+use crate::ends::{CAddr, CConfig, kind_number};
 use crate::held::CServer;
-use crate::lease::CLease;
 use crate::name::CName;
 use crate::results::{NO_LEASE, NO_MOMENT, NO_NAME};
-use crate::room::put_packet;
-use arrayvec::ArrayVec;
 use nbt_lease::{Config, Lease, Members, Moment};
 use nbt_name::{Addr, Name};
 use nbt_server::{Server, ServerFault};
 use std::alloc::Global;
+
+/// A lease of a name.
+#[repr(C)]
+#[derive(Drop)]
+pub struct CLease {
+    /// The 32-bit address of the machine that holds the name.
+    pub ip: u32,
+    /// 1 as one machine's, 2 as a group's.
+    pub kind: u8,
+    /// When the lease expires, in milliseconds: it lives before that.
+    pub end: u64,
+}
+
+impl CLease {
+    ghost use Rattle.nbt_c.specs.Serving.{lease_for};
+
+    fn of(lease: Lease) -> CLease
+        ensures { result ≡ lease_for lease }
+    {
+        CLease {
+            ip: lease.addr,
+            kind: kind_number(lease.kind),
+            end: lease.end,
+        }
+    }
+}
 
 /// The size of a server's memory in octets, beside what it asks `malloc` for.
 #[unsafe(no_mangle)]
@@ -71,13 +94,7 @@ pub extern "C" fn nbt_server_end(server: &mut CServer)
 }
 
 /// Calls `nbt_server::Server::on_datagram` with what C passes.
-fn serve(
-    server: &mut Server,
-    now: u64,
-    from: Addr,
-    octets: &[u8],
-    out: &mut ArrayVec<u8, 576>,
-) -> u8
+fn serve(server: &mut Server, now: u64, from: Addr, octets: &[u8], out: &mut Octets) -> u8
     ensures { ServesFor server.old now from octets.now result server.new out.new.items }
 {
     out.clear();
@@ -106,7 +123,7 @@ pub extern "C" fn nbt_server_on_datagram(
     ensures { (old : ServerValue) → server.old.server ≡ Some old → (new : ServerValue) × (reply : List ℕ) × (server.new.server ≡ Some new)
         × ServesFor old now (addr_of from) octets.now result new reply × Puts reply out.old out.new size.new }
 {
-    let mut reply = ArrayVec::new();
+    let mut reply = Octets::new();
     let result = serve(server.get(), now, from.addr(), octets, &mut reply);
     *size = put_packet(reply.as_slice(), out);
     result
@@ -120,7 +137,7 @@ fn nth_of(mut members: Members<'_>, which: usize) -> Option<Lease>
 }
 
 /// One of the live leases of a name, of what C passes.
-fn tell_lease(server: &Server, now: u64, name: &CName, which: usize, lease: &mut CLease) -> u8
+fn report_lease(server: &Server, now: u64, name: &CName, which: usize, lease: &mut CLease) -> u8
     ensures { (found : Option HeldLease) × TellsLease server.now now name.now which result found × (lease.new ≡ lease_after lease.old found) }
 {
     let Some(now) = Moment::new(now) else {
@@ -157,11 +174,11 @@ pub extern "C" fn nbt_server_lease(
     ensures { (old : ServerValue) → server.old.server ≡ Some old → (found : Option HeldLease) × (server.new.server ≡ Some old)
         × TellsLease old now name.now which result found × (lease.new ≡ lease_after lease.old found) }
 {
-    tell_lease(server.get(), now, name, which, lease)
+    report_lease(server.get(), now, name, which, lease)
 }
 
 /// One of the rows of the server's table, of what C passes.
-fn tell_row(
+fn report_row(
     alloc: Global,
     server: &Server,
     which: usize,
@@ -201,5 +218,5 @@ pub extern "C" fn nbt_server_row(
     ensures { (old : ServerValue) → server.old.server ≡ Some old → (found : Option (NameValue × HeldLease)) × (server.new.server ≡ Some old)
         × TellsRow old which result found × (name.new ≡ name_of_row name.old found) × (lease.new ≡ lease_of_row lease.old found) }
 {
-    tell_row(alloc, server.get(), which, name, lease)
+    report_row(alloc, server.get(), which, name, lease)
 }

@@ -8,13 +8,12 @@ ghost use Rattle.nbt_dgram.specs.Numbers.{type_number};
 ghost use Rattle.nbt_dgram.specs.Text.{Fits, text};
 ghost use Rattle.nbt_c.specs.Datagrams.{SplitsFor, octets_of};
 ghost use Rattle.nbt_c.specs.Ends.{addr_of};
-ghost use Rattle.nbt_c.specs.Sending.{Puts};
+ghost use Rattle.nbt_c.specs.Results.{Puts};
 
+use crate::buffer::{Octets, put_packet};
 use crate::ends::CAddr;
 use crate::name::CName;
 use crate::results::{NO_KIND, NO_NAME};
-use crate::room::put_packet;
-use arrayvec::ArrayVec;
 use nbt_dgram::{Delivery, Dgram, encode, split};
 use nbt_name::Addr;
 
@@ -38,7 +37,7 @@ fn delivery_of(kind: u8) -> Option<Delivery>
 }
 
 /// Writes the packet with this number, if there is one.
-fn write(packets: &[Dgram<'_>], which: usize, out: &mut ArrayVec<u8, 576>)
+fn write(packets: &[Dgram<'_>], which: usize, out: &mut Octets)
     requires fits { (d : DgramValue) → slice_get (map dgram_of packets.now) which ≡ Some d → Fits d × (length (text d) ≤ 576) }
     requires empty { out.old.items ≡ [] }
     ensures { out.new.items ≡ octets_of (slice_get (map dgram_of packets.now) which) }
@@ -56,8 +55,8 @@ fn cut(
     source: &CName,
     destination: &CName,
     data: &[u8],
-    first: &mut ArrayVec<u8, 576>,
-    second: &mut ArrayVec<u8, 576>,
+    first: &mut Octets,
+    second: &mut Octets,
 ) -> u8
     ensures { SplitsFor kind id own source.now destination.now data.now result first.new.items second.new.items }
 {
@@ -103,8 +102,8 @@ pub extern "C" fn nbt_datagram_split(
     ensures { (a b : List ℕ) × SplitsFor kind id (addr_of own) source.now destination.now data.now result a b
         × Puts a first.old first.new first_size.new × Puts b second.old second.new second_size.new }
 {
-    let mut front = ArrayVec::new();
-    let mut back = ArrayVec::new();
+    let mut front = Octets::new();
+    let mut back = Octets::new();
     let result = cut(
         kind,
         id,

@@ -5,12 +5,12 @@ ghost use Rattle.nbt_name.specs.declared.fault.NameFault.{NameFault};
 ghost use Rattle.nbt_name.specs.Numbers.{fault_number};
 ghost use Rattle.nbt_name.specs.Reading.{NameAt, PlainNameAt, FaultAt, PlainFaultAt};
 ghost use Rattle.nbt_name.specs.Wire.{NameValue};
-ghost use Rattle.nbt_c.specs.Names.{stored};
-ghost use Rattle.nbt_c.specs.Writing.{IsWire, Writes, no_place};
+ghost use Rattle.nbt_c.specs.Names.{stored, IsWire, Writes};
+ghost use Rattle.nbt_c.specs.Results.{no_place};
 
+use crate::buffer::put_form;
 use crate::name::CName;
 use crate::results::{NO_NAME, NO_PLACE};
-use crate::room::put_form;
 use arrayvec::ArrayVec;
 use nbt_name::{Name, NameFault, read_in, read_plain};
 
@@ -48,7 +48,7 @@ pub extern "C" fn nbt_name_from_wire(
     if place > octets.len() {
         return NO_PLACE;
     }
-    tell(read_plain(octets, place), out, next)
+    report(read_plain(octets, place), out, next)
 }
 
 /// `nbt_name::read_in`: what `nbt_name_from_wire` does, for a name in a packet: pointers to smaller places are followed, and
@@ -69,11 +69,11 @@ pub extern "C" fn nbt_name_in_packet(
     if place > octets.len() {
         return NO_PLACE;
     }
-    tell(read_in(octets, place), out, next)
+    report(read_in(octets, place), out, next)
 }
 
 /// Reports what was read: 0, the name and the place after it, or the fault's number and its place.
-fn tell(read: Result<(Name, usize), NameFault>, out: &mut CName, next: &mut usize) -> u8
+fn report(read: Result<(Name, usize), NameFault>, out: &mut CName, next: &mut usize) -> u8
     ensures name { (name : NameValue) (end : ℕ) → read ≡ Ok (name, end)
         → (result ≡ 0) × (out.new ≡ stored name) × (next.new ≡ end) }
     ensures fault { (fault : NameFault) → read ≡ Err fault

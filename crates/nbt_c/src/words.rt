@@ -1,20 +1,18 @@
-//! Names as text, as tools spell them, without memory.
+//! Names as text, as tools spell them, without allocating.
 
-ghost use Rattle.std.specs.Prelude.{◌≡◌, ℕ, ◌+◌, ◌*◌, ◌≤◌, List, [], ◌∷◌, ◌++◌, ◌↔◌, IsTrue, length};
+ghost use Rattle.std.specs.Prelude.{◌≡◌, ℕ, ◌+◌, ◌*◌, ◌≤◌, List, [], ◌∷◌, ◌++◌, length};
 ghost use Rattle.hex.specs.Hex.{encode_lower, encode_upper};
-ghost use Rattle.nbt_text.specs.NameText.{IsPlain, PrintsComponent, PrintsLabels, StandsAsItIs, prefix};
-ghost use Rattle.nbt_text.specs.declared.casing.Case.TheVariants.{Exact, Folded};
-ghost use Rattle.nbt_text.specs.SuffixedNames.{IsCutAt, PrintsOctets, SpellsOctets};
-ghost use Rattle.nbt_text.specs.Inner.Blanks.{IsBlank};
+ghost use Rattle.nbt_text.specs.NameText.{PrintsComponent, PrintsLabels, prefix};
+ghost use Rattle.nbt_text.specs.SuffixedNames.{PrintsOctets};
 ghost use Rattle.nbt_text.specs.ScopedNames.{dotted};
-ghost use Rattle.nbt_c.specs.Writing.{IsScopeText, IsWord, Writes};
+ghost use Rattle.nbt_c.specs.Names.{IsScopeText, IsWord, Writes};
 
+use crate::buffer::put_form;
 use crate::name::CName;
 use crate::results::NO_NAME;
-use crate::room::put_form;
 use arrayvec::ArrayVec;
 use nbt_name::Name;
-use nbt_text::{Case, digits_of, read_octets};
+use nbt_text::{front_of, stands_as_it_is};
 
 /// How many of the octets stand before the suffix (RFC 1001 section 14, our profile).
 const FRONT_MOST: usize = 15;
@@ -66,13 +64,14 @@ fn undotted(labels: &[u8]) -> &[u8]
 fn word_of(octets: &[u8; 16]) -> Text
     ensures { PrintsOctets octets.now result.items }
 {
-    let word = with_suffix(before_blank(&octets[..FRONT_MOST]), octets[FRONT_MOST]);
-    if is_read_as(word.as_slice(), octets) {
-        return word;
+    match front_of(octets) {
+        Some(front) => with_suffix(front, octets[FRONT_MOST]),
+        None => {
+            let mut digits = Text::new();
+            put_hexadecimal(octets, &mut digits);
+            digits
+        }
     }
-    let mut digits = Text::new();
-    put_hexadecimal(octets, &mut digits);
-    digits
 }
 
 /// The characters, `#` and the suffix.
@@ -86,41 +85,6 @@ fn with_suffix(front: &[u8], suffix: u8) -> Text
     word.push(CAPITAL_DIGITS[usize::from(suffix / 16)]);
     word.push(CAPITAL_DIGITS[usize::from(suffix % 16)]);
     word
-}
-
-/// Whether the word spells the octets, whether its letters are folded or not.
-fn is_read_as(word: &[u8], octets: &[u8; 16]) -> bool
-    ensures { IsTrue result ↔ (SpellsOctets Exact word.now octets.now × SpellsOctets Folded word.now octets.now) }
-{
-    spells(Case::Exact, word, octets) && spells(Case::Folded, word, octets)
-}
-
-/// Whether the word spells the octets.
-fn spells(case: Case, word: &[u8], octets: &[u8; 16]) -> bool
-    ensures { IsTrue result ↔ SpellsOctets case word.now octets.now }
-{
-    match read_octets(case, word) {
-        Ok(read) => read == *octets,
-        Err(_) => false,
-    }
-}
-
-/// The octets before the first that can fill up a name.
-fn before_blank(octets: &[u8]) -> &[u8]
-    ensures { (rest : List ℕ) × IsCutAt IsBlank octets.now result.now rest }
-{
-    let mut count = 0;
-    'octets: while count < octets.len() && !is_blank(octets[count]) {
-        count += 1;
-    }
-    &octets[..count]
-}
-
-/// Whether an octet can fill up a name.
-fn is_blank(octet: u8) -> bool
-    ensures { IsTrue result ↔ IsBlank octet }
-{
-    octet == b' ' || octet == 0
 }
 
 /// The text of a scope, each label after a dot, as `nbt_text::write_name` has it.
@@ -163,18 +127,4 @@ fn put_hexadecimal(octets: &[u8], out: &mut Text)
     hex::encode_to_slice(octets, &mut digits[..count]).unwrap();
     out.try_extend_from_slice(b"hex:").unwrap();
     out.try_extend_from_slice(&digits[..count]).unwrap();
-}
-
-/// Whether these octets can be printed as they are, and read back.
-fn stands_as_it_is(octets: &[u8]) -> bool
-    ensures { IsTrue result ↔ StandsAsItIs octets.now }
-{
-    !octets.is_empty() && octets.iter().all(|octet| is_plain(*octet)) && digits_of(octets).is_none()
-}
-
-/// Whether an octet can be printed as it is: 0x21 to 0x7E, and no dot.
-fn is_plain(octet: u8) -> bool
-    ensures { IsTrue result ↔ IsPlain octet }
-{
-    0x21 <= octet && octet <= 0x7E && octet != b'.'
 }

@@ -1,11 +1,7 @@
 -- A datagram in words (RFC 1002 section 4.4; the texts are our profile's).
-use Rattle.std.specs.Prelude.{◌≡◌, ℕ, ◌-◌, ◌/◌, ◌%◌, nat_eq, if◌then◌else◌, List, [], ◌∷◌, ◌++◌, length, codes}
+use Rattle.std.specs.Prelude.{ℕ, ◌-◌, ◌/◌, ◌%◌, nat_eq, if◌then◌else◌, List, [], ◌++◌, length, codes}
 use Rattle.std.specs.Fmt.{decimal}
 use Rattle.nbt_name.specs.Wire.{NameValue}
-use Rattle.nbt_name.specs.declared.addr.Addr.{Addr}
-use Rattle.nbt_dgram.specs.declared.dgram.Names.{Names}
-use Rattle.nbt_dgram.specs.declared.dgram.Part.{Part}
-use Rattle.nbt_dgram.specs.declared.dgram.Part.TheVariants.{First, Later}
 use Rattle.nbt_dgram.specs.declared.fault.DgramFault.{DgramFault}
 use Rattle.nbt_dgram.specs.declared.msg_type.Delivery.TheVariants.{DirectUnique, DirectGroup, Broadcast}
 use Rattle.nbt_dgram.specs.declared.msg_type.Lookup.{Lookup}
@@ -16,10 +12,11 @@ use Rattle.nbt_dgram.specs.Dgram.{FragmentValue, BodyValue, fragment, error, loo
 use Rattle.nbt_dgram.specs.Fields.{octet_at}
 use Rattle.nbt_dgram.specs.Numbers.{type_number}
 use Rattle.nbt_dgram.specs.Text.{offset_of}
+use Rattle.nbt_show.specs.DgramText.{PrintsPart, name_line}
+use Rattle.nbt_show.specs.PacketText.{four_digits}
 use Rattle.nbt_text.specs.Address.{address_text}
 use Rattle.nbt_text.specs.Lines.{newline}
-use Rattle.nbt_explain.specs.Parts.{PrintsNamed}
-use Rattle.nbt_explain.specs.Words.{code_line, flag_line, in_four_digits, node_word, with_number}
+use Rattle.nbt_explain.specs.Words.{PrintsNamed, code_line, flag_line, node_word, with_number}
 
 -- ---- the octets that each datagram begins with (RFC 1002 section 4.4.1)
 
@@ -46,25 +43,11 @@ node_line bits = codes "Node type: " ++ sender_word bits ++ newline
 abbrev pub flag_lines : (flags : ℕ) → List ℕ
 flag_lines flags = flag_line (codes "First fragment") flags 2 ++ flag_line (codes "More fragments") flags 1 ++ node_line (flags / 4 % 4)
 
-abbrev pub id_line : (id : ℕ) → List ℕ
-id_line id = codes "Datagram ID: " ++ in_four_digits id ++ newline
-
-abbrev pub source_line : Addr → List ℕ
-source_line source = codes "Source: " ++ address_text source ++ newline
-
 abbrev pub head_lines : (flags : ℕ) → DgramValue → List ℕ
-head_lines flags d = type_line (type_of d.body) ++ flag_lines flags ++ id_line d.id ++ source_line d.source
+head_lines flags d = type_line (type_of d.body) ++ flag_lines flags ++ codes "Datagram ID: 0x" ++ four_digits d.id ++ codes "\nSource: "
+    ++ address_text d.source ++ newline
 
 -- ---- what follows them
-
-abbrev pub name_line : (label name : List ℕ) → List ℕ
-name_line label name = label ++ name ++ newline
-
--- The names of a first fragment have a line each.
-pub data PrintsPart : Part → List ℕ → Type 0 where
-  with_names : (names : Names) (source destination : List ℕ) → PrintsNamed names.source source → PrintsNamed names.destination destination
-      → PrintsPart (First names) (name_line (codes "Source name: ") source ++ name_line (codes "Destination name: ") destination)
-  without_names : (offset : ℕ) → PrintsPart (Later offset) []
 
 abbrev pub offset_line : (counted : ℕ) → FragmentValue → List ℕ
 offset_line counted f = codes "Datagram length: " ++ decimal counted ++ codes ", packet offset: " ++ decimal (offset_of f.part) ++ newline
@@ -82,7 +65,7 @@ error_words code =
 -- A fragment has its length, which the octets after PACKET_OFFSET are, its offset, its names and its data; an error its code; a
 -- lookup its name.
 pub data PrintsBody (counted : ℕ) : BodyValue → List ℕ → Type 0 where
-  of_fragment : (f : FragmentValue) (names : List ℕ) → PrintsPart f.part names → PrintsBody counted (fragment f) (offset_line counted f ++ names ++ data_line f)
+  of_fragment : (f : FragmentValue) (names : List ℕ) → PrintsPart PrintsNamed (codes "Source name: ") (codes "Destination name: ") f.part names → PrintsBody counted (fragment f) (offset_line counted f ++ names ++ data_line f)
   of_error : (code : ℕ) → PrintsBody counted (error code) (code_line (error_words code) code)
   of_lookup : (l : Lookup) (n : NameValue) (name : List ℕ) → PrintsNamed n name → PrintsBody counted (lookup l n) (name_line (codes "Destination name: ") name)
 

@@ -1,7 +1,6 @@
 pub mod Dgrams
 pub mod Digits
 pub mod Packets
-pub mod Parts
 pub mod Rows
 pub mod Sentences
 pub mod Sessions

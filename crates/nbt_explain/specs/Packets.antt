@@ -5,12 +5,12 @@ use Rattle.nbt_packet.specs.declared.fault.Fault.{Fault}
 use Rattle.nbt_packet.specs.declared.packet.Question.{Question}
 use Rattle.nbt_packet.specs.Message.{opcode_of, rcode_of}
 use Rattle.nbt_packet.specs.Packet.{PacketValue, RecordValue, PacketIs, PacketFault}
+use Rattle.nbt_show.specs.PacketText.{four_digits}
 use Rattle.nbt_show.specs.Rcodes.{rcode_words}
 use Rattle.nbt_text.specs.Lines.{newline}
-use Rattle.nbt_explain.specs.Parts.{PrintsNamed, type_and_class}
+use Rattle.nbt_explain.specs.Words.{PrintsNamed, type_and_class, duration, flag_line, with_number}
 use Rattle.nbt_explain.specs.Rows.{PrintsData}
 use Rattle.nbt_explain.specs.Sentences.{PrintsReason}
-use Rattle.nbt_explain.specs.Words.{duration, flag_line, in_four_digits, with_number}
 
 -- ---- the header (RFC 1002 section 4.2.1.1)
 
@@ -51,7 +51,7 @@ abbrev pub counts_line : PacketValue → List ℕ
 counts_line p = codes "Questions: " ++ decimal (count_of p.question) ++ codes ", answer RRs: " ++ decimal (count_of p.answer) ++ codes ", authority RRs: 0, additional RRs: " ++ decimal (count_of p.additional) ++ newline
 
 abbrev pub header_lines : PacketValue → List ℕ
-header_lines p = codes "Transaction ID: " ++ in_four_digits p.id ++ newline ++ flag_lines p.flags ++ counts_line p
+header_lines p = codes "Transaction ID: 0x" ++ four_digits p.id ++ newline ++ flag_lines p.flags ++ counts_line p
 
 -- ---- the sections
 

@@ -8,7 +8,7 @@ use Rattle.nbt_show.specs.Holders.{dotted, kind_word}
 use Rattle.nbt_show.specs.NodeStatus.{flag_words, unit_text}
 use Rattle.nbt_show.specs.Rows.{PrintsRows}
 use Rattle.nbt_text.specs.Lines.{newline}
-use Rattle.nbt_explain.specs.Words.{node_word}
+use Rattle.nbt_explain.specs.Words.{in_brackets, node_word}
 
 -- the type of node in the first octet of NB_FLAGS and of NAME_FLAGS
 abbrev pub node_in : (flags : ℕ) → List ℕ
@@ -20,11 +20,6 @@ entry_line entry = codes "Address: " ++ dotted entry ++ codes ", " ++ node_in (s
 
 abbrev pub IsEntryLine : List ℕ → List ℕ → Type 0
 IsEntryLine entry line = line ≡ entry_line entry
-
--- words in brackets, where there are some
-abbrev pub in_brackets : List ℕ → List ℕ
-in_brackets [] = []
-in_brackets (letter ∷ letters) = codes " (" ++ letter ∷ letters ++ codes ")"
 
 -- what stands after the word in the line of a name of eighteen octets
 abbrev pub after_word : List ℕ → List ℕ

@@ -8,8 +8,7 @@ use Rattle.nbt_session.specs.Stream.{StreamIs}
 use Rattle.nbt_text.specs.Address.{address_text}
 use Rattle.nbt_show.specs.SessionText.{PrintsEach}
 use Rattle.nbt_text.specs.Lines.{newline}
-use Rattle.nbt_explain.specs.Parts.{PrintsNamed}
-use Rattle.nbt_explain.specs.Words.{code_line}
+use Rattle.nbt_explain.specs.Words.{PrintsNamed, code_line}
 
 -- ---- a packet's lines
 
@@ -18,9 +17,6 @@ message_lines octets = codes "Message type: Session message (0x00)" ++ newline +
 
 abbrev pub request_lines : (called calling : List ℕ) → List ℕ
 request_lines called calling = codes "Message type: Session request (0x81)" ++ newline ++ codes "Called name: " ++ called ++ newline ++ codes "Calling name: " ++ calling ++ newline
-
-abbrev pub positive_line : List ℕ
-positive_line = codes "Message type: Positive session response (0x82)" ++ newline
 
 -- the code of a negative response (RFC 1002 section 4.3.4)
 abbrev pub error_words : (code : ℕ) → List ℕ
@@ -37,16 +33,13 @@ negative_lines code = codes "Message type: Negative session response (0x83)" ++ 
 abbrev pub retarget_lines : Addr → List ℕ
 retarget_lines to = codes "Message type: Retarget session response (0x84)" ++ newline ++ codes "Retarget address: " ++ address_text to ++ newline
 
-abbrev pub keep_alive_line : List ℕ
-keep_alive_line = codes "Message type: Session keep-alive (0x85)" ++ newline
-
 pub data PrintsOne : PacketValue → List ℕ → Type 0 where
   of_message : (octets : List ℕ) → PrintsOne (message octets) (message_lines octets)
   of_request : (called calling : NameValue) (one other : List ℕ) → PrintsNamed called one → PrintsNamed calling other → PrintsOne (request called calling) (request_lines one other)
-  of_positive : PrintsOne positive positive_line
+  of_positive : PrintsOne positive (codes "Message type: Positive session response (0x82)\n")
   of_negative : (code : ℕ) → PrintsOne (negative code) (negative_lines code)
   of_retarget : (to : Addr) → PrintsOne (retarget to) (retarget_lines to)
-  of_keep_alive : PrintsOne keep_alive keep_alive_line
+  of_keep_alive : PrintsOne keep_alive (codes "Message type: Session keep-alive (0x85)\n")
 
 -- ---- a stream's
 

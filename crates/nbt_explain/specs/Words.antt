@@ -1,19 +1,14 @@
 -- Words for what packets hold: where Wireshark has some, those (the texts are our profile's).
-use Rattle.std.specs.Prelude.{ℕ, ◌/◌, ◌%◌, nat_eq, if◌then◌else◌, List, [], ◌∷◌, ◌++◌, codes}
+use Rattle.std.specs.Prelude.{ℕ, ◌/◌, ◌%◌, nat_eq, if◌then◌else◌, List, [], ◌++◌, codes, ◌≡◌, ◌≢◌, ◌∷◌, slice_index}
 use Rattle.std.specs.Fmt.{decimal}
-use Rattle.std.specs.Int.{to_be_bytes, w16}
-use Rattle.hex.specs.Hex.{encode_lower}
+use Rattle.nbt_show.specs.DgramText.{two_digits}
 use Rattle.nbt_text.specs.Lines.{newline}
+use Rattle.nbt_name.specs.Wire.{NameValue}
+use Rattle.nbt_text.specs.SuffixedNames.{PrintsOctets}
+use Rattle.nbt_text.specs.Suffixes.{unique_words, group_words}
+use Rattle.nbt_text.specs.NameText.{PrintsName}
 
 -- ---- numbers and flags
-
--- a number of 16 bits, as `0x0001`
-abbrev pub in_four_digits : ℕ → List ℕ
-in_four_digits number = codes "0x" ++ encode_lower (to_be_bytes w16 number)
-
--- an octet, as `0x82`
-abbrev pub in_two_digits : ℕ → List ℕ
-in_two_digits octet = codes "0x" ++ encode_lower (octet ∷ [])
 
 -- words for a number, and the number, as `NB (32)`
 abbrev pub with_number : (words : List ℕ) (number : ℕ) → List ℕ
@@ -28,7 +23,7 @@ flag_line label flags place = label ++ codes ": " ++ state (flags / place % 2) +
 
 -- the line of an error's code, as `Error code: Unspecified error (0x8f)`
 abbrev pub code_line : (words : List ℕ) (code : ℕ) → List ℕ
-code_line words code = codes "Error code: " ++ words ++ codes " (" ++ in_two_digits code ++ codes ")" ++ newline
+code_line words code = codes "Error code: " ++ words ++ codes " (0x" ++ two_digits code ++ codes ")" ++ newline
 
 -- the two bits of a node type: 11 is reserved in RFC 1002 section 4.2.1.3, and an H node's since
 abbrev pub node_word : (bits : ℕ) → List ℕ
@@ -48,3 +43,47 @@ abbrev pub duration : (seconds : ℕ) → List ℕ
 duration seconds =
     if nat_eq seconds 0 then codes " 0 s"
     else (part (seconds / 86400) (codes " d") ++ part (seconds / 3600 % 24) (codes " h") ++ part (seconds / 60 % 60) (codes " min") ++ part (seconds % 60) (codes " s"))
+
+-- ---- names, types and classes
+
+-- words in brackets, where there are some
+abbrev pub in_brackets : List ℕ → List ℕ
+in_brackets [] = []
+in_brackets (letter ∷ letters) = codes " (" ++ letter ∷ letters ++ codes ")"
+
+-- what a suffix means where it isn't known whose the name is: of a machine's names, or else of a group's
+abbrev pub or_else : List ℕ → List ℕ → List ℕ
+or_else [] other = other
+or_else (letter ∷ letters) other = letter ∷ letters
+
+abbrev pub meaning : (suffix : ℕ) → List ℕ
+meaning suffix = or_else (unique_words suffix) (group_words suffix)
+
+-- A name that has a scope is printed once more, with it.
+pub data PrintsScope (name : NameValue) : List ℕ → Type 0 where
+  no_scope : name.scope ≡ [] → PrintsScope name []
+  in_full : (full : List ℕ) → name.scope ≢ [] → PrintsName name full → PrintsScope name (codes ", in full " ++ full)
+
+-- As `FILER#20 (file server)`.
+pub record PrintsNamed (name : NameValue) (text : List ℕ) : Type 0 where
+  pub word : List ℕ
+  pub scope : List ℕ
+  pub word_is : PrintsOctets name.octets word
+  pub scope_is : PrintsScope name scope
+  pub text_is : text ≡ word ++ (in_brackets (meaning (slice_index name.octets 15)) ++ scope)
+
+-- types and classes (RFC 1002 section 4.2.1.3)
+abbrev pub type_words : ℕ → List ℕ
+type_words rtype =
+    if nat_eq rtype 0x20 then codes "NB"
+    else (if nat_eq rtype 0x21 then codes "NBSTAT"
+    else (if nat_eq rtype 0x0A then codes "NULL"
+    else (if nat_eq rtype 0x01 then codes "A"
+    else (if nat_eq rtype 0x02 then codes "NS" else codes "unknown"))))
+
+abbrev pub class_words : ℕ → List ℕ
+class_words class = if nat_eq class 1 then codes "IN" else codes "unknown"
+
+-- as `, type NB (32), class IN (1)`
+abbrev pub type_and_class : (rtype class : ℕ) → List ℕ
+type_and_class rtype class = codes ", type " ++ with_number (type_words rtype) rtype ++ codes ", class " ++ with_number (class_words class) class

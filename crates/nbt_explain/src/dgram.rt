@@ -1,15 +1,17 @@
 //! A datagram in words.
 
-ghost use Rattle.std.specs.Prelude.{◌≡◌, ◌/◌, ◌%◌, ℕ, List, ◌++◌, OnOk};
+ghost use Rattle.std.specs.Prelude.{◌≡◌, ◌/◌, ◌%◌, ℕ, List, ◌++◌, OnOk, codes};
 ghost use Rattle.std.specs.String.{string_bytes};
 ghost use Rattle.nbt_dgram.specs.Dgram.{body_of, dgram_of, fragment_of};
-ghost use Rattle.nbt_explain.specs.Dgrams.{ExplainsDgram, PrintsBody, PrintsPart, data_line, error_words, flag_lines, head_lines, id_line, name_line, node_line, offset_line, sender_word, source_line, type_line, type_words};
-ghost use Rattle.nbt_explain.specs.Parts.{PrintsNamed};
+ghost use Rattle.nbt_show.specs.DgramText.{PrintsPart, name_line};
+ghost use Rattle.nbt_explain.specs.Dgrams.{ExplainsDgram, PrintsBody, data_line, error_words, flag_lines, head_lines, node_line, offset_line, sender_word, type_line, type_words};
+ghost use Rattle.nbt_explain.specs.Words.{PrintsNamed};
 
 use crate::naming::write_named;
-use crate::words::{node_word, write_code_line, write_flag, write_four_digits, write_numbered};
+use crate::words::{node_word, write_code_line, write_flag};
 use nbt_dgram::{Body, Delivery, Dgram, Fragment, Lookup, MsgType, Part, decode};
-use nbt_name::{Addr, Name};
+use nbt_name::Name;
+use nbt_show::write_word;
 use nbt_text::{end_line, write_address};
 use std::alloc::AllocError;
 
@@ -40,17 +42,20 @@ fn write_head(flags: u8, dgram: &Dgram<'_>, out: &mut String) -> Result<(), Allo
 {
     write_type(dgram.msg_type(), out)?;
     write_flags(flags, out)?;
-    write_id(dgram.id, out)?;
-    write_source(dgram.source, out)
+    out.push_str("Datagram ID: 0x")?;
+    write_word(dgram.id, out)?;
+    out.push_str("\nSource: ")?;
+    write_address(dgram.source, out)?;
+    end_line(out)
 }
 
 /// Appends the line of the type.
 fn write_type(msg_type: MsgType, out: &mut String) -> Result<(), AllocError>
     ensures { OnOk result (string_bytes out.new ≡ string_bytes out.old ++ type_line msg_type) }
 {
-    out.push_str("Message type: ")?;
-    write_numbered(type_words(msg_type), u16::from(msg_type.number()), out)?;
-    end_line(out)
+    let words = type_words(msg_type);
+    let number = msg_type.number();
+    writeln!(out, "Message type: {words} ({number})")
 }
 
 /// Appends the lines of the flags: F, M and SNT.
@@ -75,24 +80,6 @@ fn sender_word(bits: u8) -> &'static str
     ensures { result.now ≡ sender_word bits }
 {
     if bits == 3 { "NBDD" } else { node_word(bits) }
-}
-
-/// Appends the line of the id.
-fn write_id(id: u16, out: &mut String) -> Result<(), AllocError>
-    ensures { OnOk result (string_bytes out.new ≡ string_bytes out.old ++ id_line id) }
-{
-    out.push_str("Datagram ID: ")?;
-    write_four_digits(id, out)?;
-    end_line(out)
-}
-
-/// Appends the line of the source.
-fn write_source(source: Addr, out: &mut String) -> Result<(), AllocError>
-    ensures { OnOk result (string_bytes out.new ≡ string_bytes out.old ++ source_line source) }
-{
-    out.push_str("Source: ")?;
-    write_address(source, out)?;
-    end_line(out)
 }
 
 /// The type in words (RFC 1002 section 4.4.1).
@@ -128,7 +115,7 @@ fn write_fragment(
     counted: usize,
     out: &mut String,
 ) -> Result<(), AllocError>
-    ensures { OnOk result ((names : List ℕ) × PrintsPart fragment.now.part names
+    ensures { OnOk result ((names : List ℕ) × PrintsPart PrintsNamed (codes "Source name: ") (codes "Destination name: ") fragment.now.part names
         × (string_bytes out.new ≡ string_bytes out.old
         ++ (offset_line counted (fragment_of fragment.now) ++ names ++ data_line (fragment_of fragment.now)))) }
 {
@@ -159,7 +146,7 @@ fn write_data(fragment: &Fragment<'_>, out: &mut String) -> Result<(), AllocErro
 
 /// Appends the lines of the names, where there are names.
 fn write_part(part: &Part, out: &mut String) -> Result<(), AllocError>
-    ensures { OnOk result ((text : List ℕ) × PrintsPart part.now text
+    ensures { OnOk result ((text : List ℕ) × PrintsPart PrintsNamed (codes "Source name: ") (codes "Destination name: ") part.now text
         × (string_bytes out.new ≡ string_bytes out.old ++ text)) }
 {
     let Part::First(names) = part else {

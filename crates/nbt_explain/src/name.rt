@@ -8,9 +8,9 @@ ghost use Rattle.nbt_explain.specs.Packets.{ExplainsPacket, PrintsPacket, Prints
 use crate::naming::{write_named, write_type_and_class};
 use crate::rows::write_rdata;
 use crate::sentence::write_reason;
-use crate::words::{write_duration, write_flag, write_four_digits, write_numbered};
+use crate::words::{write_duration, write_flag};
 use nbt_packet::{Packet, Question, Record, decode, flags};
-use nbt_show::rcode_words;
+use nbt_show::{rcode_words, write_word};
 use nbt_text::end_line;
 use std::alloc::AllocError;
 
@@ -42,8 +42,8 @@ fn write_packet(packet: &Packet<'_>, out: &mut String) -> Result<(), AllocError>
 fn write_header(packet: &Packet<'_>, out: &mut String) -> Result<(), AllocError>
     ensures { OnOk result (string_bytes out.new ≡ string_bytes out.old ++ header_lines (packet_of packet.now)) }
 {
-    out.push_str("Transaction ID: ")?;
-    write_four_digits(packet.id, out)?;
+    out.push_str("Transaction ID: 0x")?;
+    write_word(packet.id, out)?;
     out.push_str("\n")?;
     write_flags(packet.flags, out)?;
     write_counts(packet, out)
@@ -67,9 +67,8 @@ fn write_flags(flags: u16, out: &mut String) -> Result<(), AllocError>
 fn write_opcode(opcode: u16, out: &mut String) -> Result<(), AllocError>
     ensures { OnOk result (string_bytes out.new ≡ string_bytes out.old ++ opcode_line opcode) }
 {
-    out.push_str("Opcode: ")?;
-    write_numbered(opcode_words(opcode), opcode, out)?;
-    out.push_str("\n")
+    let words = opcode_words(opcode);
+    writeln!(out, "Opcode: {words} ({opcode})")
 }
 
 /// OPCODE in words (RFC 1002 section 4.2.1.1; 15 is in no RFC).
@@ -102,9 +101,8 @@ fn write_reply(flags: u16, out: &mut String) -> Result<(), AllocError>
 fn write_rcode(rcode: u8, out: &mut String) -> Result<(), AllocError>
     ensures { OnOk result (string_bytes out.new ≡ string_bytes out.old ++ rcode_line rcode) }
 {
-    out.push_str("Reply code: ")?;
-    write_numbered(reply_words(rcode), u16::from(rcode), out)?;
-    end_line(out)
+    let words = reply_words(rcode);
+    writeln!(out, "Reply code: {words} ({rcode})")
 }
 
 /// RCODE in words.

@@ -2,10 +2,8 @@
 
 ghost use Rattle.std.specs.Prelude.{◌≡◌, ℕ, List, ◌++◌, slice_index, OnOk};
 ghost use Rattle.std.specs.String.{string_bytes};
-ghost use Rattle.nbt_explain.specs.Parts.{PrintsNamed, PrintsScope, class_words, meaning, type_and_class, type_words};
-ghost use Rattle.nbt_explain.specs.Rows.{in_brackets};
+ghost use Rattle.nbt_explain.specs.Words.{PrintsNamed, PrintsScope, class_words, meaning, type_and_class, type_words, in_brackets};
 
-use crate::words::write_numbered;
 use nbt_name::{Kind, Name};
 use nbt_text::{suffix_words, write_name, write_octets};
 use std::alloc::AllocError;
@@ -63,10 +61,9 @@ pub(crate) fn write_type_and_class(
 ) -> Result<(), AllocError>
     ensures { OnOk result (string_bytes out.new ≡ string_bytes out.old ++ type_and_class rtype class) }
 {
-    out.push_str(", type ")?;
-    write_numbered(type_words(rtype), rtype, out)?;
-    out.push_str(", class ")?;
-    write_numbered(class_words(class), class, out)
+    let kind = type_words(rtype);
+    let family = class_words(class);
+    write!(out, ", type {kind} ({rtype}), class {family} ({class})")
 }
 
 /// The type in words (RFC 1002 section 4.2.1.3).

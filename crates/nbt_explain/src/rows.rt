@@ -1,4 +1,4 @@
-//! What the RDATA of a record holds: entries, or the names of an end.
+//! What the RDATA of a record holds: entries, or the names of a node.
 
 ghost use Rattle.std.specs.Prelude.{◌≡◌, ℕ, List, ◌++◌, OnOk};
 ghost use Rattle.std.specs.String.{string_bytes};

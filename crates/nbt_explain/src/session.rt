@@ -3,8 +3,8 @@
 ghost use Rattle.std.specs.Prelude.{◌≡◌, ◌≤◌, [], ℕ, List, ◌++◌, length, drop, OnOk, Err, IfOk, IfSome, IfNone};
 ghost use Rattle.std.specs.String.{string_bytes};
 ghost use Rattle.nbt_session.specs.Packet.{packet_of};
-ghost use Rattle.nbt_show.specs.Whole.{whole_of};
-ghost use Rattle.nbt_explain.specs.Parts.{PrintsNamed};
+ghost use Rattle.nbt_show.specs.SessionText.{whole_of};
+ghost use Rattle.nbt_explain.specs.Words.{PrintsNamed};
 ghost use Rattle.nbt_explain.specs.Sessions.{ExplainsSession, PrintsOne, error_words, message_lines, negative_lines, request_lines, retarget_lines};
 
 use crate::naming::write_named;

@@ -2,9 +2,9 @@
 
 ghost use Rattle.std.specs.Prelude.{◌≡◌, ◌<◌, ◌/◌, ◌%◌, ◌++◌, OnOk};
 ghost use Rattle.std.specs.String.{string_bytes};
-ghost use Rattle.nbt_explain.specs.Words.{code_line, duration, flag_line, in_four_digits, in_two_digits, node_word, part, state, with_number};
+ghost use Rattle.nbt_explain.specs.Words.{code_line, duration, flag_line, node_word, part, state};
 
-use nbt_text::{end_line, write_hexadecimal};
+use nbt_show::write_octet;
 use std::alloc::AllocError;
 
 /// The seconds of a minute, an hour and a day.
@@ -13,29 +13,6 @@ const MINUTE: u32 = 60;
 const HOUR: u32 = 3_600;
 
 const DAY: u32 = 86_400;
-
-/// Appends `0x` and four digits.
-pub(crate) fn write_four_digits(number: u16, out: &mut String) -> Result<(), AllocError>
-    ensures { OnOk result (string_bytes out.new ≡ string_bytes out.old ++ in_four_digits number) }
-{
-    out.push_str("0x")?;
-    write_hexadecimal(&number.to_be_bytes(), out)
-}
-
-/// Appends `0x` and two digits.
-fn write_two_digits(octet: u8, out: &mut String) -> Result<(), AllocError>
-    ensures { OnOk result (string_bytes out.new ≡ string_bytes out.old ++ in_two_digits octet) }
-{
-    out.push_str("0x")?;
-    write_hexadecimal(&[octet], out)
-}
-
-/// Appends words for a number, and the number.
-pub(crate) fn write_numbered(words: &str, number: u16, out: &mut String) -> Result<(), AllocError>
-    ensures { OnOk result (string_bytes out.new ≡ string_bytes out.old ++ with_number words.now number) }
-{
-    write!(out, "{words} ({number})")
-}
 
 /// Appends the line of a flag, whose place is the number with its bit alone.
 pub(crate) fn write_flag(
@@ -55,12 +32,9 @@ pub(crate) fn write_flag(
 pub(crate) fn write_code_line(words: &str, code: u8, out: &mut String) -> Result<(), AllocError>
     ensures { OnOk result (string_bytes out.new ≡ string_bytes out.old ++ code_line words.now code) }
 {
-    out.push_str("Error code: ")?;
-    out.push_str(words)?;
-    out.push_str(" (")?;
-    write_two_digits(code, out)?;
-    out.push_str(")")?;
-    end_line(out)
+    write!(out, "Error code: {words} (0x")?;
+    write_octet(code, out)?;
+    writeln!(out, ")")
 }
 
 /// What a bit is.

@@ -1,7 +1,7 @@
 -- What several proofs share; the proof of a function is in the folder of its module and its name.
 
 -- turns of a server, and one of them by what its port, its clock and its server returned
-pub mod Running
+pub mod ServerTurns
 pub mod Taking
 pub mod OneServerTurn
 mod OneTurn

@@ -14,7 +14,7 @@ use Rattle.nbt_server.specs.declared.outcome.Outcome.{Outcome}
 use Rattle.nbt_port.specs.PortCalls.{PortCall, nothing_came, came, sent, send_failed, receiving}
 use Rattle.nbt_nbns.specs.Serving.{is_empty, is_taken, is_lost, of_send, Turns, passes, takes, goes_back, has_no_memory, Breaks}
 use Rattle.nbt_port.proofs.Chains.{chain_one}
-use Rattle.nbt_nbns.proofs.Running.{breaks_one}
+use Rattle.nbt_nbns.proofs.ServerTurns.{breaks_one}
 use Rattle.nbt_log.specs.declared.entry.Entry.{Entry}
 use Rattle.nbt_nbns.specs.Turning.{IsLogged, WatchesTurn}
 

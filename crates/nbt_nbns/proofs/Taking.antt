@@ -13,7 +13,7 @@ use Rattle.nbt_nbns.specs.declared.serving.Counts.{Counts}
 use Rattle.nbt_port.specs.PortCalls.{PortCall, nothing_came, came, sent, send_failed, receiving}
 use Rattle.nbt_nbns.specs.Serving.{is_empty, is_taken, is_lost, Turns, passes, takes, goes_back, has_no_memory, of_send, Runs, Breaks}
 use Rattle.nbt_port.proofs.Chains.{chain_one}
-use Rattle.nbt_nbns.proofs.Running.{runs_one, breaks_one}
+use Rattle.nbt_nbns.proofs.ServerTurns.{runs_one, breaks_one}
 
 abbrev pub Zero : Counts → Type 0
 Zero counts = counts ≡ record { receives = 0; replies = 0; lost = 0 }

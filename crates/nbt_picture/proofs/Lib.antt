@@ -2,3 +2,5 @@
 
 -- shapes that are put one after the other
 pub mod Putting
+-- what is written of a text is read as that text
+pub mod Reading

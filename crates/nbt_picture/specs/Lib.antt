@@ -1,2 +1,4 @@
 pub mod Drawing
+pub mod Escaping
 pub mod Inner
+pub mod Shapes

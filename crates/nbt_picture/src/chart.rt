@@ -1,4 +1,4 @@
-//! What a reader of a run looks at, as values: rows, datagrams, and what lasts.
+//! What a picture shows, as values: rows, datagrams, and what lasts.
 
 ghost use Rattle.std.specs.Prelude.{◌≡◌, ◌-◌, ◌≤◌, ◌⊎◌, ℕ, [], ◌∷◌, ◌++◌, Some, IfOk, OnOk, MatchOption, slice_get, vec_len};
 ghost use Rattle.nbt_picture.specs.Inner.Standing.{IsAbsent};
@@ -13,7 +13,7 @@ pub const ENDS_MOST: usize = 9;
 pub const NAMES_MOST: usize = 100;
 
 /// What becomes of a datagram at an endpoint.
-#[derive(Clone, Copy, Debug, PartialEq, Eq)]
+#[derive(Clone, Copy)]
 pub enum Fate {
     /// The endpoint accepts it.
     Accepted,
@@ -24,7 +24,7 @@ pub enum Fate {
 }
 
 /// What stands in a row.
-#[derive(Clone, Copy, Debug, PartialEq, Eq)]
+#[derive(Clone, Copy)]
 pub enum Sign {
     /// Words alone.
     Note,
@@ -37,7 +37,7 @@ pub enum Sign {
 }
 
 /// One thing that happened, or words.
-#[derive(Debug, Drop)]
+#[derive(Drop)]
 pub struct Row {
     /// The true clock, in milliseconds.
     pub clock: u64,
@@ -54,7 +54,7 @@ pub struct Row {
 }
 
 /// A datagram that an endpoint sent.
-#[derive(Debug, Drop)]
+#[derive(Drop)]
 pub struct Flight {
     /// The row in which it was sent.
     pub row: usize,
@@ -69,7 +69,7 @@ pub struct Flight {
 }
 
 /// Where something begins or ends beside a column.
-#[derive(Clone, Copy, Debug, PartialEq, Eq)]
+#[derive(Clone, Copy)]
 pub enum Spot {
     /// At a row.
     Row(usize),
@@ -78,7 +78,7 @@ pub enum Spot {
 }
 
 /// What lasts beside a column.
-#[derive(Clone, Copy, Debug, PartialEq, Eq)]
+#[derive(Clone, Copy, PartialEq, Eq)]
 pub enum Sort {
     /// The endpoint is up.
     Up,
@@ -91,7 +91,7 @@ pub enum Sort {
 }
 
 /// Something that lasts beside a column.
-#[derive(Clone, Copy, Debug)]
+#[derive(Clone, Copy)]
 pub struct Span {
     /// The endpoint, 0 for the server.
     pub column: usize,

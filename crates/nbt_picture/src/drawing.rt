@@ -2,8 +2,8 @@
 
 ghost use Rattle.std.specs.Prelude.{◌≡◌, ◌++◌, ℕ, List, IfOk, OnOk};
 ghost use Rattle.std.specs.String.{string_bytes};
-ghost use Rattle.nbt_svg.specs.declared.shape.Shape.{Shape};
-ghost use Rattle.nbt_svg.specs.Shapes.{document_text};
+ghost use Rattle.nbt_picture.specs.declared.shape.Shape.{Shape};
+ghost use Rattle.nbt_picture.specs.Shapes.{document_text};
 ghost use Rattle.nbt_text.specs.Lines.{lines};
 ghost use Rattle.nbt_picture.specs.Drawing.{EndsAt};
 

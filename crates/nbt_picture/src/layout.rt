@@ -3,6 +3,7 @@
 ghost use Rattle.std.specs.Prelude.{◌≤◌};
 
 use crate::chart::{Chart, Flight, Row, Spot};
+use crate::shape::Point;
 use std::alloc::{AllocError, Global};
 
 /// Where the server's column is.
@@ -35,7 +36,7 @@ pub const NAMES_IN_LINE: usize = 6;
 const HEADINGS: u64 = 52;
 
 /// Where a row stands.
-#[derive(Clone, Copy, Debug)]
+#[derive(Clone, Copy)]
 pub struct Place {
     /// Where the band above it begins, if time passes there.
     pub band: Option<u64>,
@@ -44,7 +45,7 @@ pub struct Place {
 }
 
 /// Where rows stand, and where the columns begin and end.
-#[derive(Debug, Drop)]
+#[derive(Drop)]
 pub struct Layout {
     pub places: Vec<Place>,
     /// How far two columns are from each other.
@@ -153,9 +154,15 @@ impl Layout {
         }
     }
 
+    /// Where a column and the middle of a row meet.
+    pub fn point(&self, column: usize, row: usize) -> Point {
+        Point::new(self.x(column), self.y(row))
+    }
+
     /// Where a datagram leaves its row.
-    pub fn departure(&self, flight: &Flight) -> u64 {
-        self.y(flight.row).saturating_add(departure_of(flight))
+    pub fn departure(&self, flight: &Flight) -> Point {
+        self.point(flight.from, flight.row)
+            .down(departure_of(flight))
     }
 
     /// Where something beside a column begins or ends.

@@ -2,16 +2,16 @@
 
 ghost use Rattle.std.specs.Prelude.{◌≡◌, ◌++◌, ℕ, List, Contains, OnOk};
 ghost use Rattle.std.specs.String.{string_bytes};
-ghost use Rattle.nbt_svg.specs.Shapes.{document_text};
+ghost use Rattle.nbt_picture.specs.Shapes.{document_text};
 ghost use Rattle.nbt_picture.specs.Inner.Picture.{Says};
 
 use crate::chart::{Chart, Row};
+use crate::document::{WIDTH, write_document};
 use crate::layout::{BAND, Layout, ROW, lay_out};
 use crate::rows::{draw_rows, draw_ways};
-use crate::shapes::{draw_block, draw_text};
+use crate::shape::{Class, Point, Shape, put};
 use crate::spans::draw_span;
 use crate::top::draw_top;
-use nbt_svg::{Class, Shape, WIDTH, write_document};
 use std::alloc::AllocError;
 
 /// Appends the picture of a chart: a head, whole shapes, each text of them escaped, and a tail, whatever the chart's words are.
@@ -39,7 +39,8 @@ fn draw_chart(
 ) -> Result<(), AllocError>
     ensures { OnOk result ((row : Row) → Contains chart.now.rows.items row → Says shapes.new.items (string_bytes row.words)) }
 {
-    draw_block(Class::Page, 0, 0, WIDTH, height, shapes)?;
+    let page = Shape::Block(Class::Page, Point::new(0, 0), WIDTH, height);
+    put(page, shapes)?;
     draw_bands(chart, layout, shapes)?;
     for span in chart.spans.iter() {
         draw_span(chart, layout, span, shapes)?;
@@ -69,22 +70,22 @@ fn draw_band(
     band: u64,
     shapes: &mut Vec<Shape>,
 ) -> Result<(), AllocError> {
-    draw_block(Class::Band, 0, band, WIDTH, BAND, shapes)?;
+    let block = Shape::Block(Class::Band, Point::new(0, band), WIDTH, BAND);
+    put(block, shapes)?;
     let y = band.saturating_add(15);
-    draw_time(row.clock, 10, y, shapes)?;
+    draw_time(row.clock, Point::new(10, y), shapes)?;
     for (number, reading) in row.readings.iter().enumerate() {
         if number < chart.addrs.len() && *reading != row.clock {
-            let x = layout.x(number).saturating_add(6);
-            draw_time(*reading, x, y, shapes)?;
+            draw_time(*reading, Point::new(layout.x(number), y).right(6), shapes)?;
         }
     }
     Ok(())
 }
 
 /// Draws a time in seconds, with its milliseconds.
-fn draw_time(ms: u64, x: u64, y: u64, shapes: &mut Vec<Shape>) -> Result<(), AllocError> {
+fn draw_time(ms: u64, at: Point, shapes: &mut Vec<Shape>) -> Result<(), AllocError> {
     let seconds = ms / 1000;
     let rest = ms % 1000;
     let words = format!(in *shapes.allocator(); "{seconds}.{rest:03} s")?;
-    draw_text(Class::Time, x, y, words, shapes)
+    put(Shape::Text(Class::Time, at, words), shapes)
 }

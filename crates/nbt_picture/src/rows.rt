@@ -6,9 +6,9 @@ ghost use Rattle.nbt_picture.specs.Inner.Picture.{Says};
 ghost use Rattle.nbt_picture.specs.Inner.Putting.{Keeps};
 
 use crate::chart::{Chart, ENDS_MOST, Fate, Flight, Row, Sign};
+use crate::document::WIDTH;
 use crate::layout::{Layout, ROW, flight_of, goes_right};
-use crate::shapes::{draw_cross, draw_dot, draw_line, draw_text};
-use nbt_svg::{Class, Shape, WIDTH};
+use crate::shape::{Class, Point, Shape, put, put_cross};
 use std::alloc::AllocError;
 
 /// Draws the ways of a row: that of the datagram that comes there, and of one that leaves there and never comes.
@@ -19,16 +19,16 @@ pub fn draw_ways(
     row: &Row,
     shapes: &mut Vec<Shape>,
 ) -> Result<(), AllocError> {
-    let x = layout.x(row.column);
-    let y = layout.y(number);
+    let to = layout.point(row.column, number);
+    let edge = Point::new(WIDTH, to.y);
     match row.sign {
         Sign::Comes(Some(flight), fate) => {
             if let Some(flight) = chart.flights.as_slice().get(flight) {
-                draw_way(layout, flight, fate, x, y, shapes)?;
+                draw_way(layout, flight, fate, to, shapes)?;
             }
         }
-        Sign::Comes(None, Fate::Accepted) => draw_line(Class::Arrow, WIDTH, y, x, y, shapes)?,
-        Sign::Comes(None, _) => draw_stray(WIDTH, y, x, y, shapes)?,
+        Sign::Comes(None, Fate::Accepted) => put(Shape::Line(Class::Arrow, edge, to), shapes)?,
+        Sign::Comes(None, _) => draw_stray(edge, to, shapes)?,
         _ => {}
     }
     match flight_of(row, chart.flights.as_slice()) {
@@ -45,39 +45,29 @@ fn draw_way(
     layout: &Layout,
     flight: &Flight,
     fate: Fate,
-    x: u64,
-    y: u64,
+    to: Point,
     shapes: &mut Vec<Shape>,
 ) -> Result<(), AllocError> {
-    let from_x = layout.x(flight.from);
-    let from_y = layout.departure(flight);
+    let from = layout.departure(flight);
     match fate {
-        Fate::Accepted if from_x == x => {
-            let out_x = x.saturating_add(LOOP);
-            let out_y = y.saturating_sub(ROW / 2);
-            draw_line(Class::Stray, x, from_y, out_x, out_y, shapes)?;
-            draw_line(Class::Arrow, out_x, out_y, x, y, shapes)
+        Fate::Accepted if from.x == to.x => {
+            let beside = to.right(LOOP).up(ROW / 2);
+            put(Shape::Line(Class::Stray, from, beside), shapes)?;
+            put(Shape::Line(Class::Arrow, beside, to), shapes)
         }
-        Fate::Accepted => draw_line(Class::Arrow, from_x, from_y, x, y, shapes),
+        Fate::Accepted => put(Shape::Line(Class::Arrow, from, to), shapes),
         Fate::Lost => {
-            let to_x = most_of_the_way(from_x, x);
-            let to_y = most_of_the_way(from_y, y);
-            draw_stray(from_x, from_y, to_x, to_y, shapes)
+            let end = Point::new(most_of_the_way(from.x, to.x), most_of_the_way(from.y, to.y));
+            draw_stray(from, end, shapes)
         }
-        Fate::Missed => draw_stray(from_x, from_y, x, y, shapes),
+        Fate::Missed => draw_stray(from, to, shapes),
     }
 }
 
 /// Draws a dashed line, with a cross where it ends.
-fn draw_stray(
-    x: u64,
-    y: u64,
-    to_x: u64,
-    to_y: u64,
-    shapes: &mut Vec<Shape>,
-) -> Result<(), AllocError> {
-    draw_line(Class::Stray, x, y, to_x, to_y, shapes)?;
-    draw_cross(to_x, to_y, shapes)
+fn draw_stray(from: Point, to: Point, shapes: &mut Vec<Shape>) -> Result<(), AllocError> {
+    put(Shape::Line(Class::Stray, from, to), shapes)?;
+    put_cross(to, shapes)
 }
 
 /// Seven eighths of the way from one number to another.
@@ -95,23 +85,24 @@ const STUB: u64 = 60;
 /// Draws the way of a datagram that is never delivered, with its words; one for an address that is no endpoint's leads to the
 /// edge.
 fn draw_stub(layout: &Layout, flight: &Flight, shapes: &mut Vec<Shape>) -> Result<(), AllocError> {
-    let x = layout.x(flight.from);
-    let y = layout.departure(flight);
-    let to_y = y.saturating_add(ROW - 6);
+    let from = layout.departure(flight);
+    let below = from.down(ROW - 6);
     let words = flight.words.clone()?;
     if flight.to.is_none() {
-        draw_line(Class::Arrow, x, y, WIDTH, to_y, shapes)?;
-        return draw_text(Class::Words, x.saturating_add(10), to_y, words, shapes);
+        let edge = Point::new(WIDTH, below.y);
+        put(Shape::Line(Class::Arrow, from, edge), shapes)?;
+        return put(Shape::Text(Class::Words, below.right(10), words), shapes);
     }
     let is_right = goes_right(flight);
-    let to_x = if is_right {
-        x.saturating_add(STUB)
+    let to = if is_right {
+        below.right(STUB)
     } else {
-        x.saturating_sub(STUB)
+        below.left(STUB)
     };
-    draw_stray(x, y, to_x, to_y, shapes)?;
-    let words_x = if is_right { to_x } else { x }.saturating_add(10);
-    draw_text(Class::Words, words_x, to_y.saturating_add(4), words, shapes)
+    draw_stray(from, to, shapes)?;
+    let beside = if is_right { to } else { below };
+    let start = beside.right(10).down(4);
+    put(Shape::Text(Class::Words, start, words), shapes)
 }
 
 /// Draws the signs and the words of all rows.
@@ -134,33 +125,31 @@ fn draw_row(
 ) -> Result<(), AllocError>
     ensures { OnOk result (Keeps shapes.old.items shapes.new.items × Says shapes.new.items (string_bytes row.now.words)) }
 {
-    let x = layout.x(row.column);
-    let y = layout.y(number);
-    draw_sign(row.sign, x, y, shapes)?;
-    let (right, down) = words_beside(chart, row);
-    let words_x = x.saturating_add(right);
-    let words_y = y.saturating_add(down);
-    draw_text(Class::Words, words_x, words_y, row.words.clone()?, shapes)
+    let at = layout.point(row.column, number);
+    draw_sign(row.sign, at, shapes)?;
+    let beside = words_beside(chart, row, at);
+    let words = row.words.clone()?;
+    put(Shape::Text(Class::Words, beside, words), shapes)
 }
 
 /// Draws what stands for a sign at its column; that of a datagram is its way.
-fn draw_sign(sign: Sign, x: u64, y: u64, shapes: &mut Vec<Shape>) -> Result<(), AllocError>
+fn draw_sign(sign: Sign, at: Point, shapes: &mut Vec<Shape>) -> Result<(), AllocError>
     ensures { OnOk result (Keeps shapes.old.items shapes.new.items) }
 {
     match sign {
-        Sign::Mark => draw_dot(x, y, shapes),
-        Sign::Crash => draw_cross(x, y, shapes),
+        Sign::Mark => put(Shape::Dot(at), shapes),
+        Sign::Crash => put_cross(at, shapes),
         _ => Ok(()),
     }
 }
 
-/// How far to the right of a row's column, and below the row's middle, its words stand: beside the way of a datagram that comes
-/// from the endpoint itself, and below the line of one that comes from the right.
-fn words_beside(chart: &Chart, row: &Row) -> (u64, u64) {
+/// Where a row's words begin, of which this is the place at its column: beside the way of a datagram that comes from the
+/// endpoint itself, and below the line of one that comes from the right.
+fn words_beside(chart: &Chart, row: &Row, at: Point) -> Point {
     match sender_of(chart, row) {
-        Some(from) if from == row.column => (LOOP + 10, 4),
-        Some(from) if from > row.column => (10, 15),
-        _ => (10, 4),
+        Some(from) if from == row.column => at.right(LOOP + 10).down(4),
+        Some(from) if from > row.column => at.right(10).down(15),
+        _ => at.right(10).down(4),
     }
 }
 

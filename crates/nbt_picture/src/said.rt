@@ -6,8 +6,8 @@ use nbt_show::{kind_word, rcode_words};
 use nbt_text::write_name;
 use std::alloc::AllocError;
 
-/// The name that a datagram is about, and the 32-bit address of the machine that requests it or has it, 0 where it says none;
-/// `None` of octets that spell no message with a name.
+/// The name that a datagram is about, and the 32-bit address of the machine that requests or holds it, 0 where it names none.
+/// `None` where the octets spell no message with a name.
 pub fn claimed_in(octets: &[u8]) -> Option<(Name, u32)> {
     match read(octets)? {
         Message::Registration(asked) | Message::Overwrite(asked) | Message::Refresh(asked) => {

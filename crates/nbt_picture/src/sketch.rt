@@ -54,7 +54,7 @@ impl Sketch {
     }
 
     /// The clocks went on: what is over by now ended when it was over.
-    pub fn pass(&mut self, world: &World) -> Result<(), AllocError> {
+    pub fn pass(&mut self, world: &World) {
         let names = self.chart.names.as_slice();
         for place in self.open.iter() {
             if let Some(span) = self.chart.spans.as_mut_slice().get_mut(*place) {
@@ -64,12 +64,12 @@ impl Sketch {
             }
         }
         self.seen = readings_of(world);
-        self.forget_ended()
+        self.forget_ended();
     }
 
     /// An endpoint starts at the last row: all that lasted beside it ends there.
     pub fn start(&mut self, column: usize, world: &World) -> Result<(), AllocError> {
-        self.stop(column)?;
+        self.stop(column);
         if column == 0 {
             let over = world.reading(0).get().saturating_add(self.silence);
             self.open_span(nameless(0, Sort::Silence, over))?;
@@ -78,7 +78,7 @@ impl Sketch {
     }
 
     /// All that lasts beside a column ends at the last row.
-    pub fn stop(&mut self, column: usize) -> Result<(), AllocError> {
+    pub fn stop(&mut self, column: usize) {
         let last = self.chart.last_row();
         for place in self.open.iter() {
             if let Some(span) = self.chart.spans.as_mut_slice().get_mut(*place) {
@@ -87,7 +87,7 @@ impl Sketch {
                 }
             }
         }
-        self.forget_ended()
+        self.forget_ended();
     }
 
     /// Looks at a name beside a column, as it is after the last row: what is held or leased of it no more ends there, and
@@ -99,7 +99,7 @@ impl Sketch {
         name: &Name,
         addr: u32,
     ) -> Result<(), AllocError> {
-        self.end_lapsed(world, column, name)?;
+        self.end_lapsed(world, column, name);
         match claim_of(world, column, name, addr) {
             Some(claim) => self.go_on(name, claim),
             None => Ok(()),
@@ -107,9 +107,9 @@ impl Sketch {
     }
 
     /// What is held or leased of a name beside a column no more ends at the last row.
-    fn end_lapsed(&mut self, world: &World, column: usize, name: &Name) -> Result<(), AllocError> {
+    fn end_lapsed(&mut self, world: &World, column: usize, name: &Name) {
         let Some(number) = find(self.chart.names.as_slice(), name) else {
-            return Ok(());
+            return;
         };
         let last = self.chart.last_row();
         for place in self.open.iter() {
@@ -119,7 +119,7 @@ impl Sketch {
                 }
             }
         }
-        self.forget_ended()
+        self.forget_ended();
     }
 
     /// A name is held or leased: this begins at the last row, or goes on.
@@ -168,19 +168,9 @@ impl Sketch {
     }
 
     /// What ended is open no more.
-    fn forget_ended(&mut self) -> Result<(), AllocError> {
+    fn forget_ended(&mut self) {
         let spans = self.chart.spans.as_slice();
-        if self.open.iter().all(|place| lasts(spans, *place)) {
-            return Ok(());
-        }
-        let mut open = Vec::new(*self.open.allocator());
-        for place in self.open.iter() {
-            if lasts(spans, *place) {
-                open.push(*place)?;
-            }
-        }
-        self.open = open;
-        Ok(())
+        self.open.retain(|place| lasts(spans, *place));
     }
 }
 

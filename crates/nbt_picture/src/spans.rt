@@ -2,10 +2,9 @@
 
 use crate::chart::{Chart, Sort, Span};
 use crate::layout::Layout;
-use crate::shapes::{draw_block, draw_line, draw_upright};
+use crate::shape::{Class, Point, Shape, put};
 use crate::top::colour_of;
 use nbt_name::Kind;
-use nbt_svg::{Class, Shape};
 use nbt_text::write_name;
 use std::alloc::AllocError;
 
@@ -17,12 +16,9 @@ const LANE_STEP: u64 = 18;
 /// How many lanes stand beside one another; all others are drawn in the last.
 const LANES_APART: usize = 5;
 
-/// Where a lane is, to the left of its column.
-fn lane_x(layout: &Layout, span: &Span) -> u64 {
-    let lane = span.lane.min(LANES_APART) as u64;
-    layout
-        .x(span.column)
-        .saturating_sub(LANE_FIRST + LANE_STEP * lane)
+/// How far to the left of its column the lane of something is.
+fn lane_of(span: &Span) -> u64 {
+    LANE_FIRST + LANE_STEP * span.lane.min(LANES_APART) as u64
 }
 
 /// Draws what lasts beside a column.
@@ -38,19 +34,20 @@ pub fn draw_span(
         None => layout.foot,
     };
     let height = to_y.saturating_sub(y);
-    let x = layout.x(span.column);
+    let at = Point::new(layout.x(span.column), y);
+    let end = Point::new(at.x, to_y);
+    let lane = at.left(lane_of(span));
     match span.sort {
-        Sort::Up => draw_line(Class::Column, x, y, x, to_y, shapes),
-        Sort::Silence => draw_block(Class::Silence, x.saturating_sub(5), y, 10, height, shapes),
+        Sort::Up => put(Shape::Line(Class::Column, at, end), shapes),
+        Sort::Silence => put(Shape::Block(Class::Silence, at.left(5), 10, height), shapes),
         Sort::Hold => {
-            let left = lane_x(layout, span);
-            draw_block(class_of(span), left, y, 8, height, shapes)?;
-            draw_side(chart, span, left, y, shapes)
+            put(Shape::Block(class_of(span), lane, 8, height), shapes)?;
+            draw_side(chart, span, lane, shapes)
         }
         Sort::Lease => {
-            let left = lane_x(layout, span);
-            draw_line(class_of(span), left, y, left, to_y, shapes)?;
-            draw_side(chart, span, left, y, shapes)
+            let lane_end = end.left(lane_of(span));
+            put(Shape::Line(class_of(span), lane, lane_end), shapes)?;
+            draw_side(chart, span, lane, shapes)
         }
     }
 }
@@ -70,19 +67,12 @@ fn class_of(span: &Span) -> Class {
 fn draw_side(
     chart: &Chart,
     span: &Span,
-    x: u64,
-    y: u64,
+    lane: Point,
     shapes: &mut Vec<Shape>,
 ) -> Result<(), AllocError> {
     let mut words = String::new(*shapes.allocator());
     write_side(chart, span, &mut words)?;
-    draw_upright(
-        Class::Side,
-        x.saturating_sub(11),
-        y.saturating_add(4),
-        words,
-        shapes,
-    )
+    put(Shape::Upright(lane.left(11).down(4), words), shapes)
 }
 
 /// Appends the name that is held or leased, and of a lease the machine that has it.

@@ -5,9 +5,9 @@ ghost use Rattle.nbt_picture.specs.Inner.Putting.{Keeps};
 
 use crate::chart::Chart;
 use crate::layout::{Layout, NAMES_IN_LINE, NAMES_LINE, NAMES_TOP};
-use crate::shapes::{draw_block, draw_text};
+use crate::looks::COLOURS;
+use crate::shape::{Class, Point, Shape, put};
 use nbt_name::{Addr, Name};
-use nbt_svg::{COLOURS, Class, Shape};
 use nbt_text::{write_address, write_name};
 use std::alloc::{AllocError, Global};
 
@@ -21,9 +21,10 @@ pub fn draw_top(chart: &Chart, layout: &Layout, shapes: &mut Vec<Shape>) -> Resu
 {
     let alloc = *shapes.allocator();
     let heading = String::from_str(alloc, "A run of nbt sim")?;
-    draw_text(Class::Heading, 10, 22, heading, shapes)?;
+    let at = Point::new(10, 22);
+    put(Shape::Text(Class::Heading, at, heading), shapes)?;
     let key = String::from_str(alloc, KEY)?;
-    draw_text(Class::Time, 10, 42, key, shapes)?;
+    put(Shape::Text(Class::Time, at.down(20), key), shapes)?;
     'names: for (place, name) in chart.names.iter().enumerate() {
         draw_name(alloc, place, name, shapes)?;
     }
@@ -45,17 +46,14 @@ fn draw_name(
 ) -> Result<(), AllocError>
     ensures { OnOk result (Keeps shapes.old.items shapes.new.items) }
 {
-    let x = ((place % NAMES_IN_LINE) as u64)
-        .saturating_mul(NAMES_STEP)
-        .saturating_add(10);
-    let y = ((place / NAMES_IN_LINE) as u64)
-        .saturating_mul(NAMES_LINE)
-        .saturating_add(NAMES_TOP);
+    let across = ((place % NAMES_IN_LINE) as u64).saturating_mul(NAMES_STEP);
+    let down = ((place / NAMES_IN_LINE) as u64).saturating_mul(NAMES_LINE);
+    let at = Point::new(10, NAMES_TOP).right(across).down(down);
     let class = Class::Hold(colour_of(place));
-    draw_block(class, x, y.saturating_sub(10), 14, 10, shapes)?;
+    put(Shape::Block(class, at.up(10), 14, 10), shapes)?;
     let mut words = String::new(alloc);
     write_name(name, &mut words)?;
-    draw_text(Class::Words, x.saturating_add(20), y, words, shapes)
+    put(Shape::Text(Class::Words, at.right(20), words), shapes)
 }
 
 /// The colour of the name at this place.
@@ -73,14 +71,12 @@ fn draw_end(
 ) -> Result<(), AllocError>
     ensures { OnOk result (Keeps shapes.old.items shapes.new.items) }
 {
-    let x = layout.x(number).saturating_sub(30);
-    let heading_y = layout.head.saturating_sub(24);
-    let address_y = layout.head.saturating_sub(9);
+    let at = Point::new(layout.x(number), layout.head).left(30);
     let heading = heading_of(alloc, number)?;
-    draw_text(Class::Heading, x, heading_y, heading, shapes)?;
+    put(Shape::Text(Class::Heading, at.up(24), heading), shapes)?;
     let mut address = String::new(alloc);
     write_address(addr, &mut address)?;
-    draw_text(Class::Time, x, address_y, address, shapes)
+    put(Shape::Text(Class::Time, at.up(9), address), shapes)
 }
 
 /// What an endpoint is called.

@@ -21,7 +21,10 @@ impl Sketch {
     ) -> Result<(), AllocError> {
         match instruction {
             Instruction::Config(config, _) => self.begin(*config, world),
-            Instruction::At(_) | Instruction::Advance { .. } => self.pass(world),
+            Instruction::At(_) | Instruction::Advance { .. } => {
+                self.pass(world);
+                Ok(())
+            }
             Instruction::Happens(event) => match report {
                 Report::Event(outcome) => self.watch_event(event, *outcome, world, line),
                 _ => Ok(()),
@@ -116,7 +119,10 @@ impl Sketch {
     ) -> Result<(), AllocError> {
         match event {
             Event::Start(number) if outcome == Outcome::Done => self.start(*number, world),
-            Event::Crash(number) if outcome == Outcome::Done => self.stop(*number),
+            Event::Crash(number) if outcome == Outcome::Done => {
+                self.stop(*number);
+                Ok(())
+            }
             Event::Release { node, name } => self.look(world, *node, name, 0),
             Event::Deliver(number) if outcome != Outcome::Nobody => {
                 if let Some(flight) = self.chart.flights.as_mut_slice().get_mut(*number) {

@@ -1,8 +1,8 @@
 -- What `sim --draw` prints (our profile).
 use Rattle.std.specs.Prelude.{◌≡◌, ℕ, Bool, List, Option, is_none}
 use Rattle.nbt_picture.specs.Drawing.{EndsAt}
-use Rattle.nbt_svg.specs.Shapes.{document_text}
-use Rattle.nbt_svg.specs.declared.shape.Shape.{Shape}
+use Rattle.nbt_picture.specs.Shapes.{document_text}
+use Rattle.nbt_picture.specs.declared.shape.Shape.{Shape}
 use Rattle.nbt_text.specs.Lines.{lines}
 
 -- a picture, which ends at the first line of the script that can't be read, if there is one

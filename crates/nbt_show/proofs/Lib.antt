@@ -1,8 +1,8 @@
 -- What several proofs share; the proof of a function is in the folder of its module and its name.
 
--- the reader of packets returns one packet, or one fault
-pub mod Packets
--- the same of datagrams
+-- a reader returns one value, or one fault
+mod Readings
+-- where FLAGS stands in a datagram, and where it has no names
 pub mod Datagrams
 -- what the parts of a session's octets make, up to the end of one packet
 pub mod NextPacket

@@ -10,12 +10,9 @@ use Rattle.nbt_show.specs.declared.vector.Expected.{Expected}
 use Rattle.nbt_show.specs.declared.vector.Line.{Line}
 use Rattle.nbt_show.specs.declared.vector.Line.TheVariants as line
 use Rattle.nbt_show.specs.declared.vector.Vector.{Vector}
-use Rattle.nbt_text.specs.Lines.{HasNo}
+use Rattle.nbt_text.specs.Lines.{HasNo, IsPassedOver, words, lines}
 use Rattle.nbt_show.specs.Inner.Line.{LineIs, passed_over, vector_stands, unreadable}
-use Rattle.nbt_show.specs.Vector.{SpellsVector}
-use Rattle.nbt_text.specs.Lines.{IsPassedOver, words}
-use Rattle.nbt_show.specs.Verdicts.{PrintsVerdict, PrintsVerdicts, one_line, no_lines, passed_in, failed_in}
-use Rattle.nbt_text.specs.Lines.{lines}
+use Rattle.nbt_show.specs.Verdicts.{SpellsVector, PrintsVerdict, PrintsVerdicts, one_line, no_lines, passed_in, failed_in}
 
 pub blank_in : (text : List ℕ) (said : Line) → LineIs text said → said ≡ line.Blank → IsPassedOver text
 blank_in text _ (passed_over blank) e = blank

@@ -1,13 +1,16 @@
 -- The lines of a session's packets so far, whichever line a packet has.
-use Rattle.std.proofs.Common.{◌≡◌, ℕ, List, [], ◌∷◌, ◌++◌, ◌-◌, length, take, drop, refl, sym, ◌∙◌, ap, subst, append_assoc}
+use Rattle.std.proofs.Common.{◌≡◌, ℕ, List, [], ◌∷◌, ◌++◌, ◌-◌, length, take, drop, Option, Some, refl, sym, ◌∙◌, ap, subst, append_assoc}
+use Rattle.std.specs.Prelude.{IfSome}
 use Rattle.std.specs.List.{flat_map}
 use Rattle.std.proofs.lemmas.List.{append-nil}
 use Rattle.nbt_session.specs.declared.fault.Fault.{Fault}
 use Rattle.nbt_session.specs.Packet.{PacketValue, IsPacket, text}
+use Rattle.nbt_session.specs.Parts.{PiecesState, between}
 use Rattle.nbt_session.specs.Stream.{Begins, IsPartial, StreamIs, HasFault}
 use Rattle.nbt_text.proofs.Joining.{two_parts}
 use Rattle.nbt_show.proofs.NextPacket.{left_is}
-use Rattle.nbt_show.specs.SessionText.{PrintsEach, no_packets, one_packet}
+use Rattle.nbt_show.specs.declared.session_packet.Whole.{Whole}
+use Rattle.nbt_show.specs.SessionText.{PrintsEach, no_packets, one_packet, whole_of}
 
 -- each packet takes octets, and what is left stands after it
 behind : (n : ℕ) (octets : List ℕ) (packet : PacketValue) → Begins octets packet (drop n octets) → octets ≡ text packet ++ take (length octets - n) (drop n octets)
@@ -52,3 +55,16 @@ next_round PrintsOne octets rest before now after n packet so_far begins line = 
   two_parts before now after so_far.0 line.0 so_far.1 line.1,
   one_more PrintsOne octets rest (take (length rest - n) (drop n rest)) so_far.0 line.0 packet (behind n rest packet begins) begins.0 line.2 so_far.2,
 )
+
+-- so it is between two packets, whose reader then holds nothing
+pub record Between (PrintsOne : PacketValue → List ℕ → Type 0) (octets rest before now : List ℕ) (pieces : PiecesState) : Type 0 where
+  pub anew : pieces ≡ between []
+  pub printed : Printed PrintsOne octets rest before now
+
+pub one_printed : (PrintsOne : PacketValue → List ℕ → Type 0) (octets rest before now after : List ℕ) (pieces : PiecesState) (found : Option (ℕ × Whole)) (one : ℕ × Whole) → found ≡ Some one
+    → IfSome found (λ t. Begins rest (whole_of t.1) (drop t.0 rest)) → IfSome found (λ t. pieces ≡ between []) → Printed PrintsOne octets rest before now
+    → (line : List ℕ) × (after ≡ now ++ line) × PrintsOne (whole_of one.1) line → Between PrintsOne octets (take (length rest - one.0) (drop one.0 rest)) before after pieces
+one_printed PrintsOne octets rest before now after pieces found one is begins anew so_far line = record {
+  anew = rw is at anew;
+  printed = next_round PrintsOne octets rest before now after one.0 (whole_of one.1) so_far (rw is at begins) line;
+}

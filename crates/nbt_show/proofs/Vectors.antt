@@ -11,7 +11,7 @@ use Rattle.nbt_show.specs.declared.vector.Service.{Service}
 use Rattle.nbt_show.specs.declared.vector.Service.TheVariants as services
 use Rattle.nbt_text.specs.Number.{SpellsNumber}
 use Rattle.nbt_text.specs.Texts.{texts}
-use Rattle.nbt_show.specs.Vector.{SpellsExpected, SpellsVector, dgram_refused, dgram_taken, name_refused, name_taken, service_word, vector}
+use Rattle.nbt_show.specs.Verdicts.{SpellsExpected, SpellsVector, dgram_refused, dgram_taken, name_refused, name_taken, service_word, vector}
 use Rattle.nbt_dgram.specs.Numbers.{fault_word as dgram_fault_word}
 use Rattle.nbt_packet.specs.Numbers.{fault_word}
 

@@ -24,11 +24,11 @@ two_digits octet = encode_lower (octet ∷ [])
 abbrev pub name_line : (label name : List ℕ) → List ℕ
 name_line label name = label ++ name ++ newline
 
--- The names of a first fragment have a line each.
-pub data PrintsPart : Part → List ℕ → Type 0 where
-  with_names : (names : Names) (source destination : List ℕ) → PrintsName names.source source → PrintsName names.destination destination
-      → PrintsPart (First names) (name_line (codes "source ") source ++ name_line (codes "destination ") destination)
-  without_names : (offset : ℕ) → PrintsPart (Later offset) []
+-- The names of a first fragment have a line each, with these labels, as this relation prints them.
+pub data PrintsPart (PrintsOne : NameValue → List ℕ → Type 0) (from to : List ℕ) : Part → List ℕ → Type 0 where
+  with_names : (names : Names) (source destination : List ℕ) → PrintsOne names.source source → PrintsOne names.destination destination
+      → PrintsPart PrintsOne from to (First names) (name_line from source ++ name_line to destination)
+  without_names : (offset : ℕ) → PrintsPart PrintsOne from to (Later offset) []
 
 -- the line of a fragment's data
 abbrev pub data_line : FragmentValue → List ℕ
@@ -36,7 +36,7 @@ data_line f = codes "offset " ++ decimal (offset_of f.part) ++ codes " data " ++
 
 -- A fragment has its names, and how many octets stand before its data; an error its code; a lookup its name.
 pub data PrintsBody : BodyValue → List ℕ → Type 0 where
-  of_fragment : (f : FragmentValue) (names : List ℕ) → PrintsPart f.part names
+  of_fragment : (f : FragmentValue) (names : List ℕ) → PrintsPart PrintsName (codes "source ") (codes "destination ") f.part names
       → PrintsBody (fragment f) (names ++ data_line f)
   of_error : (code : ℕ) → PrintsBody (error code) (codes "error " ++ two_digits code ++ newline)
   of_lookup : (l : Lookup) (n : NameValue) (name : List ℕ) → PrintsName n name → PrintsBody (lookup l n) (name_line (codes "destination ") name)
@@ -46,14 +46,10 @@ abbrev pub head_line : (flags : ℕ) → DgramValue → List ℕ
 head_line flags d = codes "type " ++ two_digits (type_number (type_of d.body)) ++ codes " flags " ++ two_digits flags
     ++ codes " id " ++ four_digits d.id ++ codes " from " ++ address_text d.source ++ newline
 
--- the line of how many octets it takes
-abbrev pub length_line : ℕ → List ℕ
-length_line taken = codes "length " ++ decimal taken ++ newline
-
 -- What is printed of octets, and whether a datagram stands there: its parts, with its second octet as the flags, and
 -- how many octets it takes, or its fault.
 pub data PrintsDgram (octets : List ℕ) : Bool → List ℕ → Type 0 where
   dgram_stands : (d : DgramValue) (taken : ℕ) (body : List ℕ) → DgramIs octets d taken → PrintsBody d.body body
-      → PrintsDgram octets true (head_line (octet_at octets 1) d ++ body ++ length_line taken)
+      → PrintsDgram octets true (head_line (octet_at octets 1) d ++ body ++ (codes "length " ++ decimal taken ++ newline))
   fault_stands : (fault : DgramFault) → FaultIs octets fault
       → PrintsDgram octets false (codes "fault " ++ fault_word fault.kind ++ codes " at " ++ decimal fault.place ++ newline)

@@ -7,7 +7,4 @@ pub mod Rcodes
 pub mod Replies
 pub mod Rows
 pub mod SessionText
-pub mod Vector
 pub mod Verdicts
-pub mod Whole
-pub mod Words

@@ -5,12 +5,11 @@ use Rattle.std.specs.Int.{to_be_bytes, w16}
 use Rattle.hex.specs.Hex.{encode_lower}
 use Rattle.nbt_packet.specs.declared.fault.Fault.{Fault}
 use Rattle.nbt_packet.specs.declared.packet.Question.{Question}
-use Rattle.nbt_packet.specs.Message.{MessageValue, MessageIs}
+use Rattle.nbt_packet.specs.Message.{MessageValue, MessageIs, registration, overwrite, refresh, release, query, status_request, registered, released, found, not_found, status, wait}
 use Rattle.nbt_packet.specs.Packet.{PacketValue, RecordValue, PacketIs, PacketFault}
 use Rattle.nbt_text.specs.Lines.{newline}
 use Rattle.nbt_text.specs.NameText.{PrintsName}
 use Rattle.nbt_packet.specs.Numbers.{fault_word}
-use Rattle.nbt_show.specs.Words.{message_word}
 
 -- a number of 16 bits, in four hexadecimal digits
 abbrev pub four_digits : ℕ → List ℕ
@@ -35,6 +34,21 @@ pub data PrintsRecord (label : List ℕ) : Option RecordValue → List ℕ → T
   one_record : (r : RecordValue) (name : List ℕ) → PrintsName r.name name
       → PrintsRecord label (Some r) (label ++ codes " " ++ name ++ type_and_class r.rtype r.class
       ++ codes " ttl " ++ decimal r.ttl ++ codes " data " ++ data_text r.rdata ++ newline)
+
+-- the word for a message
+abbrev pub message_word : MessageValue → List ℕ
+message_word (registration r) = codes "registration"
+message_word (overwrite r) = codes "overwrite"
+message_word (refresh r) = codes "refresh"
+message_word (release id name kind addr) = codes "release"
+message_word (query id name) = codes "query"
+message_word (status_request id name) = codes "status-request"
+message_word (registered rcode r) = codes "registered"
+message_word (released id rcode name kind addr) = codes "released"
+message_word (found id name ttl entries cut) = codes "found"
+message_word (not_found id rcode name) = codes "not-found"
+message_word (status id name names) = codes "status"
+message_word (wait id name ttl) = codes "wait"
 
 -- The word of the message that the packet spells, or `none`.
 pub data PrintsMessage (packet : PacketValue) : List ℕ → Type 0 where

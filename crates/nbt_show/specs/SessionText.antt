@@ -5,13 +5,20 @@ use Rattle.nbt_name.specs.declared.addr.Addr.{Addr}
 use Rattle.nbt_name.specs.Wire.{NameValue}
 use Rattle.nbt_session.specs.declared.fault.Fault.{Fault}
 use Rattle.nbt_session.specs.Numbers.{kind_word}
-use Rattle.nbt_session.specs.Packet.{PacketValue, message, request, positive, negative, retarget, keep_alive}
+use Rattle.nbt_session.specs.Packet.{PacketValue, message, request, positive, negative, retarget, keep_alive, packet_of}
 use Rattle.nbt_session.specs.Stream.{StreamIs, HasFault}
 use Rattle.nbt_text.specs.Address.{address_text}
 use Rattle.nbt_show.specs.DgramText.{two_digits}
 use Rattle.nbt_text.specs.NameText.{PrintsName}
 use Rattle.nbt_show.specs.PacketText.{data_text}
 use Rattle.nbt_text.specs.Lines.{newline}
+use Rattle.nbt_show.specs.declared.session_packet.Whole.{Whole}
+use Rattle.nbt_show.specs.declared.session_packet.Whole.TheVariants as wholes
+
+-- a whole packet of a stream, as a value
+abbrev pub whole_of : Whole → PacketValue
+whole_of (wholes.Message octets) = message octets.now
+whole_of (wholes.Other packet) = packet_of packet
 
 -- the line of a message: how many octets of data it has, and which
 abbrev pub message_line : List ℕ → List ℕ

@@ -1,6 +1,6 @@
 //! What the octets of one datagram say, part by part, as text (our profile).
 
-ghost use Rattle.std.specs.Prelude.{◌≡◌, ℕ, ◌++◌, List, OnOk, IfOk};
+ghost use Rattle.std.specs.Prelude.{◌≡◌, ℕ, ◌++◌, List, OnOk, IfOk, codes};
 ghost use Rattle.std.specs.String.{string_bytes};
 ghost use Rattle.nbt_dgram.specs.Dgram.{body_of, dgram_of, fragment_of};
 ghost use Rattle.nbt_show.specs.DgramText.{PrintsBody, PrintsDgram, PrintsPart, data_line, head_line, name_line, two_digits};
@@ -75,7 +75,7 @@ fn write_body(body: &Body<'_>, out: &mut String) -> Result<(), AllocError>
 /// Appends the lines of the names, where there are names.
 fn write_part(part: &Part, out: &mut String) -> Result<(), AllocError>
     ensures { OnOk result ((text : List ℕ) × (string_bytes out.new ≡ string_bytes out.old ++ text)
-        × PrintsPart part.now text) }
+        × PrintsPart PrintsName (codes "source ") (codes "destination ") part.now text) }
 {
     let Part::First(names) = part else {
         return Ok(());

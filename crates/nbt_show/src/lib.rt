@@ -17,10 +17,10 @@ mod session_text;
 mod vector;
 mod verdicts;
 
-pub use dgram_text::write_dgram;
+pub use dgram_text::{write_dgram, write_octet};
 pub use holders::{kind_of, kind_word, write_dotted};
 pub use node_status::{write_name_flags, write_unit_id};
-pub use packet_text::write_packet;
+pub use packet_text::{write_packet, write_word};
 pub use rcode::rcode_words;
 pub use reply::{Reply, write_reply};
 pub use session_packet::{Whole, next_packet};

@@ -1,4 +1,4 @@
-//! The names of an end, and its unit id.
+//! The names of a node, and its unit id.
 
 ghost use Rattle.std.specs.Prelude.{◌≡◌, ℕ, List, [], ◌∷◌, ◌++◌, OnOk, if◌then◌else◌};
 ghost use Rattle.std.specs.String.{string_bytes};

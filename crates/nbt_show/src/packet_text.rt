@@ -5,9 +5,8 @@ ghost use Rattle.std.specs.Int.{to_be_bytes, w16};
 ghost use Rattle.std.specs.String.{string_bytes};
 ghost use Rattle.nbt_packet.specs.Message.{message_of};
 ghost use Rattle.nbt_packet.specs.Packet.{packet_of, record_if};
-ghost use Rattle.nbt_show.specs.PacketText.{PrintsMessage, PrintsOctets, PrintsPacket, PrintsQuestion, PrintsRecord, data_text, four_digits, type_and_class};
+ghost use Rattle.nbt_show.specs.PacketText.{PrintsMessage, PrintsOctets, PrintsPacket, PrintsQuestion, PrintsRecord, data_text, four_digits, type_and_class, message_word};
 ghost use Rattle.nbt_text.specs.Lines.{newline};
-ghost use Rattle.nbt_show.specs.Words.{message_word};
 
 use nbt_packet::{Message, Packet, Question, Record, classify, decode};
 use nbt_text::{end_line, write_hexadecimal, write_name};

@@ -16,7 +16,7 @@ use std::alloc::AllocError;
 pub enum Reply {
     /// It has entries, or names.
     Found,
-    /// The name that was asked for isn't there.
+    /// There is no such name.
     NotFound,
     /// It is no reply to a lookup, and nothing is printed of it.
     Other,

@@ -5,7 +5,7 @@ ghost use Rattle.nbt_session.specs.declared.fault.Fault.{Fault};
 ghost use Rattle.nbt_session.specs.declared.fault.StreamFault.TheVariants.{Malformed};
 ghost use Rattle.nbt_session.specs.Parts.{between};
 ghost use Rattle.nbt_session.specs.Stream.{Begins, IsPartial, HasFault};
-ghost use Rattle.nbt_show.specs.Whole.{whole_of};
+ghost use Rattle.nbt_show.specs.SessionText.{whole_of};
 
 use nbt_session::{Packet, Part, Pieces, StreamFault};
 

@@ -4,8 +4,7 @@ ghost use Rattle.std.specs.Prelude.{◌≡◌, ℕ, ◌++◌, List, OnOk, IfOk, 
 ghost use Rattle.std.specs.String.{string_bytes};
 ghost use Rattle.nbt_session.specs.Packet.{packet_of};
 ghost use Rattle.nbt_text.specs.NameText.{PrintsName};
-ghost use Rattle.nbt_show.specs.Whole.{whole_of};
-ghost use Rattle.nbt_show.specs.SessionText.{PrintsPacketLine, PrintsSession, message_line, request_line, rest_line, session_fault_line};
+ghost use Rattle.nbt_show.specs.SessionText.{whole_of, PrintsPacketLine, PrintsSession, message_line, request_line, rest_line, session_fault_line};
 
 use crate::dgram_text::write_octet;
 use crate::packet_text::write_data;

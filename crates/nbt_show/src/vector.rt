@@ -7,7 +7,7 @@ ghost use Rattle.nbt_show.specs.declared.vector.Service.{Service};
 ghost use Rattle.nbt_text.specs.Number.{SpellsNumber};
 ghost use Rattle.nbt_text.specs.Texts.{texts};
 ghost use Rattle.nbt_show.specs.Inner.Line.{LineIs};
-ghost use Rattle.nbt_show.specs.Vector.{Says, SpellsExpected, SpellsVector, service_word};
+ghost use Rattle.nbt_show.specs.Verdicts.{Says, SpellsExpected, SpellsVector, service_word};
 
 use nbt_dgram::{DgramFault, DgramFaultKind};
 use nbt_packet::{Fault, FaultKind};
@@ -34,7 +34,7 @@ pub struct Vector {
     pub expected: Expected,
 }
 
-/// The service whose reader is asked.
+/// The service whose reader is tried.
 #[derive(Clone, Copy, Debug, PartialEq, Eq)]
 pub enum Service {
     /// The name service.
@@ -43,7 +43,7 @@ pub enum Service {
     Dgram,
 }
 
-/// How many octets are taken with which the octets begin, or their fault.
+/// How many octets the packet or datagram has with which the octets begin, or their fault.
 #[derive(Debug, Drop)]
 pub enum Expected {
     /// By the reader of packets of the name service.

@@ -1,8 +1,8 @@
 //! Verdicts on lines of vectors, as text (our profile).
 
-ghost use Rattle.std.specs.Prelude.{◌≡◌, ℕ, ◌++◌, List, IfOk};
+ghost use Rattle.std.specs.Prelude.{◌≡◌, ◌≤◌, ℕ, ◌++◌, List, IfOk};
 ghost use Rattle.std.specs.String.{string_bytes};
-ghost use Rattle.nbt_show.specs.Verdicts.{PrintsChecked, PrintsVerdict};
+ghost use Rattle.nbt_show.specs.Verdicts.{PrintsChecked, PrintsVerdict, failed_in, passed_in};
 
 use crate::vector::{Line, parse_line};
 use nbt_text::{NEWLINE, split_at_first};
@@ -21,15 +21,35 @@ pub fn write_verdicts(input: &[u8], out: &mut String) -> Result<bool, AllocError
     'lines: while let Some(lines) = rest {
         let (line, others) = split_at_first(NEWLINE, lines);
         number += 1;
-        match write_verdict(number, line, out)? {
-            Some(true) => passed += 1,
-            Some(false) => failed += 1,
-            None => {}
-        }
+        let verdict = write_verdict(number, line, out)?;
+        passed += passed_in(verdict);
+        failed += failed_in(verdict);
         rest = others;
     }
     writeln!(out, "{passed} passed, {failed} failed")?;
     Ok(failed == 0)
+}
+
+/// How many a verdict counts as passed: 1 or none.
+fn passed_in(verdict: Option<bool>) -> usize
+    ensures count { result ≡ passed_in verdict }
+    ensures most { result ≤ 1 }
+{
+    match verdict {
+        Some(true) => 1,
+        _ => 0,
+    }
+}
+
+/// How many a verdict counts as failed: 1 or none.
+fn failed_in(verdict: Option<bool>) -> usize
+    ensures count { result ≡ failed_in verdict }
+    ensures most { result ≤ 1 }
+{
+    match verdict {
+        Some(false) => 1,
+        _ => 0,
+    }
 }
 
 /// Appends the verdict on the line with this number, and returns whether it passes; nothing where it is blank.

@@ -160,8 +160,9 @@ pub fn digits_of(component: &[u8]) -> Option<&[u8]>
     }
 }
 
-/// Whether these octets, of which there is one at least, can be printed as they are, and read back.
-fn stands_as_it_is(octets: &[u8]) -> bool
+/// Whether `write_name` prints a label of these octets as it is: one at least, each from 0x21 to 0x7E and no dot, and no `hex:`
+/// at the front (our profile).
+pub fn stands_as_it_is(octets: &[u8]) -> bool
     ensures { IsTrue result ↔ StandsAsItIs octets.now }
 {
     !octets.is_empty() && octets.iter().all(|octet| is_plain(*octet)) && digits_of(octets).is_none()

@@ -42,8 +42,8 @@ fn write_front(front: &[u8], suffix: u8, out: &mut String) -> Result<(), AllocEr
     out.push_str(digits.as_str())
 }
 
-/// The characters of which the octets are made, if they are.
-fn front_of(octets: &[u8; 16]) -> Option<&[u8]>
+/// The characters before the suffix, where `write_octets` prints the octets as characters; `None` where it prints digits.
+pub fn front_of(octets: &[u8; 16]) -> Option<&[u8]>
     ensures front { IfSome result (λ front. IsSeen front.now × (octets.now ≡ fifteen front.now ++ slice_index octets.now 15 ∷ [])) }
     ensures none { IfNone result ((front : List ℕ) (suffix : ℕ) → IsSeen front → octets.now ≢ fifteen front ++ suffix ∷ []) }
 {

@@ -30,7 +30,7 @@ const LIFE: u64 = 1000;
 /// The longest lease, in seconds.
 const LONGEST: u32 = 60;
 
-/// The reply of a new name server to the packet that HEX spells, from the sender that FROM spells, at this moment: in hexadecimal, or `none`,
+/// The reply of a new name server to the packet that HEX spells, from the sender that FROM spells, at this time: in hexadecimal, or `none`,
 /// on one line. Refused: `Unreadable` where FROM is no address or HEX no octets, in this order, and a line in `errors` says which; then out of
 /// memory, which may be at any step.
 pub fn answer<E: Write>(

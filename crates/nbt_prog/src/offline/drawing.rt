@@ -3,8 +3,8 @@
 ghost use Rattle.std.specs.Prelude.{◌≡◌, ℕ, List, IfOk, is_none};
 ghost use Rattle.std.specs.String.{string_bytes};
 ghost use Rattle.nbt_text.specs.Lines.{lines};
-ghost use Rattle.nbt_svg.specs.declared.shape.Shape.{Shape};
-ghost use Rattle.nbt_svg.specs.Shapes.{document_text};
+ghost use Rattle.nbt_picture.specs.declared.shape.Shape.{Shape};
+ghost use Rattle.nbt_picture.specs.Shapes.{document_text};
 ghost use Rattle.nbt_picture.specs.Drawing.{EndsAt};
 ghost use Rattle.nbt_prog.specs.Drawing.{Draws};
 ghost use Rattle.nbt_prog.specs.Input.{IsInput};

@@ -1,4 +1,4 @@
-//! Why a command that opens no socket did not do its work.
+//! Why a command that opens no socket failed.
 
 ghost use Rattle.std.specs.Prelude.{◌≡◌};
 
@@ -7,12 +7,12 @@ use nbt_port::Fault;
 use std::alloc::AllocError;
 use std::io;
 
-/// Why a command that opens no socket did not do its work.
+/// Why a command that opens no socket failed.
 #[derive(Clone, Copy)]
 pub enum Failure {
     /// An argument or the input can't be read.
     Unreadable,
-    /// The input failed, or memory is out.
+    /// The input failed, or out of memory.
     Fault(Fault),
 }
 

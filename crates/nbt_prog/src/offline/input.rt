@@ -1,4 +1,4 @@
-//! Standard input, read whole.
+//! Standard input, read to its end.
 
 ghost use Rattle.std.specs.Prelude.{◌≤◌, IfOk, vec_len};
 ghost use Rattle.nbt_prog.specs.Input.{IsInput};
@@ -8,7 +8,7 @@ use crate::offline::reason::reporting;
 use std::alloc::Global;
 use std::io::{Read, Write};
 
-/// The most octets that a command takes from its input.
+/// The most octets that a command reads.
 const MOST: usize = 1_048_576;
 
 /// Reads the input to its end. Refused: more than 1,048,576 octets are `Unreadable` (our profile), and `line` says so in `errors`; a reader

@@ -1,19 +1,19 @@
-//! What a command that did its work prints, and how it ends.
+//! What a command prints that succeeds, and how it ends.
 
 ghost use Rattle.std.specs.Prelude.{◌≡◌};
 ghost use Rattle.nbt_prog.specs.Printed.{ending_status, is_done};
 
-/// How a command ends that did its work.
+/// How a command that succeeds ends.
 #[derive(Clone, Copy)]
 pub enum Ending {
     /// Nothing is wrong.
     Done,
-    /// The output tells of octets that are refused.
+    /// The output reports octets that are refused.
     Refused,
 }
 
 impl Ending {
-    /// That of a command whose input is well, or not.
+    /// The ending for an input without a fault, or with one.
     pub(crate) fn of(is_well: bool) -> Ending
         ensures { is_done result ≡ is_well }
     {
@@ -35,7 +35,7 @@ impl Ending {
     }
 }
 
-/// The whole output of a command that did its work.
+/// The whole output of a command that succeeds.
 #[derive(Drop)]
 pub struct Printed {
     pub text: String,

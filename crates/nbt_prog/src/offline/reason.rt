@@ -1,9 +1,8 @@
-//! Why a command printed `unreadable`, as standard error says it (our profile). What can't be written there is passed over.
+//! Lines on standard error that say why a command printed `unreadable` (our profile). A failed write is ignored.
 
 ghost use Rattle.std.specs.Prelude.{◌≡◌};
 
 use crate::offline::failure::Failure;
-use std::io;
 use std::io::Write;
 
 /// HEX can't be read.
@@ -18,12 +17,8 @@ pub const HEX_INPUT: &str =
 
 /// Writes a line, at once.
 pub fn report<E: Write>(line: &str, errors: &mut E) {
-    let _ = write_line(line, errors);
-}
-
-fn write_line<E: Write>(line: &str, errors: &mut E) -> io::Result<()> {
-    errors.write_all(line.as_bytes())?;
-    errors.flush()
+    let _ = errors.write_all(line.as_bytes());
+    let _ = errors.flush();
 }
 
 /// Hands the outcome on, and writes the line where something can't be read.
@@ -42,20 +37,12 @@ pub fn reporting<T, E: Write>(
 
 /// Says that a text is no address.
 pub fn report_address<E: Write>(text: &str, errors: &mut E) {
-    let _ = write_address(text, errors);
-}
-
-fn write_address<E: Write>(text: &str, errors: &mut E) -> io::Result<()> {
-    writeln!(errors, "nbt: address '{text}': no A.B.C.D:PORT in decimal")?;
-    errors.flush()
+    let _ = writeln!(errors, "nbt: address '{text}': no A.B.C.D:PORT in decimal");
+    let _ = errors.flush();
 }
 
 /// Says which line of a script can't be read, or asks for what can't be done.
 pub fn report_line<E: Write>(number: usize, errors: &mut E) {
-    let _ = write_number(number, errors);
-}
-
-fn write_number<E: Write>(number: usize, errors: &mut E) -> io::Result<()> {
-    writeln!(errors, "nbt: line {number}: unreadable")?;
-    errors.flush()
+    let _ = writeln!(errors, "nbt: line {number}: unreadable");
+    let _ = errors.flush();
 }

@@ -4,7 +4,7 @@ use Rattle.nbt_show.specs.declared.vector.Expected.{Expected}
 use Rattle.nbt_show.specs.declared.vector.Vector.{Vector}
 use Rattle.nbt_show.specs.declared.vector.Line.{Line}
 use Rattle.nbt_show.specs.declared.vector.Line.TheVariants as line
-use Rattle.nbt_show.specs.Vector.{SpellsVector}
+use Rattle.nbt_show.specs.Verdicts.{SpellsVector}
 use Rattle.nbt_text.specs.Lines.{IsPassedOver, words}
 
 -- What stands in a line.

@@ -3,8 +3,8 @@
 
 use super::expect::{expect, expect_eq, expect_eq_in, expect_in};
 use nbt_name::Addr;
-use nbt_testing::{EVERY_KIND, octets};
 use nbt_show::{write_dgram, write_packet, write_session, write_verdicts};
+use nbt_testing::{EVERY_KIND, octets};
 use nbt_text::{octets_of, parse_address, parse_number, words_of, write_hexadecimal};
 use std::process::Abort;
 use std::test::Fail;

@@ -1,8 +1,8 @@
 //! What is told of replies to lookups. The expected lines are those of RFC 1002 sections 4.2.13, 4.2.14 and 4.2.18, read by hand.
 
 use super::expect::{expect_eq, expect_eq_in};
-use nbt_testing::octets;
 use nbt_show::{Reply, rcode_words, write_reply};
+use nbt_testing::octets;
 use std::process::Abort;
 use std::test::Fail;
 

@@ -3,11 +3,11 @@
 use super::expect::{expect, expect_eq, expect_eq_in, expect_in};
 use arrayvec::ArrayVec;
 use nbt_name::Addr;
+use nbt_server::{Server, ServerFault};
 use nbt_testing::{
     EVERY_KIND, FIRST, FOUND, GRANTED, NOT_FOUND, QUERY, REFRESH, REFUSED, REGISTRATION, RELEASE,
     RIVAL, SECOND, moment, octets, one_of_many, registration_of_many, started,
 };
-use nbt_server::{Server, ServerFault};
 use std::process::Abort;
 use std::test::Fail;
 

@@ -10,11 +10,11 @@ use nbt_nbns::{
     watch_on, write_begin, write_refusal, write_warning,
 };
 use nbt_port::{Fault, MemoryClock, MemoryPort, Port, UdpPort};
+use nbt_server::Server;
 use nbt_testing::{
     GRANTED, QUERY, REFRESH, REFUSED, REGISTRATION, RELEASE, RIVAL, Row, clock, config,
     expect_sent, moment, port, started,
 };
-use nbt_server::Server;
 use std::io::Write;
 use std::process::Abort;
 use std::test::Fail;

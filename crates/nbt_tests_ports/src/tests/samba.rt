@@ -6,8 +6,8 @@ use arrayvec::ArrayVec;
 use nbt_name::Addr;
 use nbt_nbns::{Counts, SambaPort, serve_turns, take_registration};
 use nbt_port::{Device, MemoryClock, Port, UdpPort};
-use nbt_testing::{EVERY_KIND, clock, expect_sent, octets, port, started};
 use nbt_server::Server;
+use nbt_testing::{EVERY_KIND, clock, expect_sent, octets, port, started};
 use std::process::Abort;
 use std::test::Fail;
 

@@ -8,11 +8,11 @@ use nbt_name::{Addr, Kind, Name};
 use nbt_nbns::{Counts, serve_turns};
 use nbt_node::{AskFault, Node};
 use nbt_port::{Datagram, Device, MemoryClock, MemoryPort, Port};
+use nbt_server::Server;
 use nbt_testing::{
     FOUND, GRANTED, NOT_FOUND, QUERY, REFRESH, REFUSED, REGISTRATION, RIVAL, Row, clock, config,
     expect_sent, moment, octets, port, registration_of_many, started,
 };
-use nbt_server::Server;
 use std::collections::VecDeque;
 use std::process::Abort;
 use std::test::Fail;

@@ -11,9 +11,9 @@ pub returns-in-Ok : goal.returns-in-Ok
 returns-in-Ok c = (
   answer_of c.on-answer.result,
   is.CallsFor.calls (event_of c.in-Ok.event) (answer_of c.on-answer.result) c.on-answer.new.self c.in-Ok.ensures.event c.on-answer.ensures.moves c.on-answer.ensures.called c.on-answer.ensures.calling,
-  c.tell.ensures,
+  c.report.ensures,
   c.put_sent.ensures,
 )
 
 pub returns-in-Err : goal.returns-in-Err
-returns-in-Err c = (nothing, is.CallsFor.is_refused c.in-Err.number c.in-Err.ensures.fault, c.tell-in-Err.ensures, c.clear.ensures)
+returns-in-Err c = (nothing, is.CallsFor.is_refused c.in-Err.number c.in-Err.ensures.fault, c.report-in-Err.ensures, c.clear.ensures)

@@ -1,9 +1,9 @@
 use Rattle.std.proofs.Common.{◌<◌, ◌≤◌, ℕ, List, [], ◌∷◌, refl, subst}
 use Rattle.nbt_node.specs.Moves.{nothing, told_of}
 use Rattle.nbt_node.specs.Datagrams.{Handles}
-use Rattle.nbt_c.specs.Hearing as is
-use Rattle.nbt_c.specs.Hearing.{Hears}
-use Rattle.nbt_c.specs.Sending.{PutsMost}
+use Rattle.nbt_c.specs.Nodes as is
+use Rattle.nbt_c.specs.Nodes.{Hears}
+use Rattle.nbt_c.specs.Results.{PutsMost}
 use Rattle.nbt_c.proofs.Calls.{above, at_least, given}
 use Rattle.nbt_c.proofs.hearing.hear.Goals as goal
 

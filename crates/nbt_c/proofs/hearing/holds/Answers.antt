@@ -1,8 +1,8 @@
 use Rattle.std.proofs.Common.{◌≡◌, None, refl, ap, ◌∙◌}
 use Rattle.nbt_node.specs.Node.{holds}
 use Rattle.nbt_c.specs.Names.{name_in}
-use Rattle.nbt_c.specs.Hearing as is
-use Rattle.nbt_c.specs.Hearing.{held_number}
+use Rattle.nbt_c.specs.Nodes as is
+use Rattle.nbt_c.specs.Nodes.{held_number}
 use Rattle.nbt_c.proofs.Calls.{above, moved}
 use Rattle.nbt_c.proofs.hearing.holds.Goals as goal
 

@@ -4,8 +4,7 @@ use Rattle.nbt_name.specs.declared.fault.NameRefusal.TheVariants.{Star, ScopeLon
 use Rattle.nbt_name.specs.Numbers.{refusal_number}
 use Rattle.nbt_name.specs.Scope.{IsScope}
 use Rattle.nbt_c.specs.declared.name.CName.{CName}
-use Rattle.nbt_c.specs.Names.{stored}
-use Rattle.nbt_c.specs.Naming.{Makes, made, star, long, bad}
+use Rattle.nbt_c.specs.Names.{stored, Makes, made, star, long, bad}
 use Rattle.nbt_c.proofs.naming.nbt_name_make.Goals as goal
 
 module _ (octets scope : List ℕ) (before : CName) where

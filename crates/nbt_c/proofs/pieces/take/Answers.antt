@@ -8,7 +8,7 @@ use Rattle.nbt_c.proofs.pieces.take.Goals as goal
 
 pub returns-in-Ok : goal.returns-in-Ok
 returns-in-Ok c =
-    subst (λ (part : CPart). TakesFor c.args.piece.now c.args.pieces.now c.args.part.now 0 part c.in-Ok.count c.take.new.self) (sym c.tell.ensures)
+    subst (λ (part : CPart). TakesFor c.args.piece.now c.args.pieces.now c.args.part.now 0 part c.in-Ok.count c.take.new.self) (sym c.report.ensures)
     (is.TakesFor.takes c.in-Ok.count (part_if c.in-Ok.found) c.take.new.self c.in-Ok.ensures.takes)
 
 pub returns-in-Err-Malformed : goal.returns-in-Err-Malformed

@@ -1,5 +1,5 @@
 use Rattle.std.proofs.Common.{rules, ◌≡◌, [], ◌∷◌, ◌++◌}
-use Rattle.nbt_c.proofs.Spelled.{word_pushed}
+use Rattle.nbt_c.proofs.Forms.{word_pushed}
 use Rattle.nbt_c.proofs.words.with_suffix.Goals as goal
 
 pub returns : goal.returns

@@ -1,32 +1,23 @@
-use Rattle.std.proofs.Common.{rules, ◌≡◌, ℕ, List, ◌++◌, length, true≢false, refl, sym, ap, subst, ◌∙◌}
-use Rattle.hex.specs.Hex.{encode_lower}
-use Rattle.nbt_name.specs.Wire.{AreOctets}
+use Rattle.std.proofs.Common.{◌≡◌, [], ◌∷◌, ◌++◌, List, ℕ, sym, ap, subst, ◌∙◌}
+use Rattle.std.specs.Prelude.{slice_index}
+use Rattle.hex.specs.Hex.{encode_lower, encode_upper}
 use Rattle.nbt_text.specs.NameText.{prefix}
-use Rattle.nbt_text.specs.declared.casing.Case.TheVariants.{Exact, Folded}
-use Rattle.nbt_text.specs.SuffixedNames.{SpellsOctets, PrintsOctets, in_hexadecimal}
-use Rattle.nbt_c.proofs.Spelled.{front_few, spelled_prints, printed_is_spelled}
+use Rattle.nbt_text.specs.SuffixedNames.{PrintsOctets, in_capitals, in_hexadecimal}
 use Rattle.nbt_c.proofs.words.word_of.Goals as goal
 
-pub returns-then-is_read_as : goal.returns-then-is_read_as
-returns-then-is_read_as c =
-    let octets = c.args.octets.now in
-    let cut = c.before_blank.ensures in
-    let both = c.if-is_read_as.ensures.0 refl in
-    let at = c.as_slice.ensures.value ∙ c.with_suffix-word.ensures in
-    let exact = subst (λ (word : List ℕ). SpellsOctets Exact word octets) at both.0 in
-    let folded = subst (λ (word : List ℕ). SpellsOctets Folded word octets) at both.1 in
-    subst (PrintsOctets octets) (sym c.with_suffix-word.ensures) (spelled_prints octets c.before_blank.result.now cut.0 (front_few octets c.before_blank.result.now cut.0 cut.1) cut.1 exact folded)
+pub with_suffix-requires : goal.with_suffix-requires
+with_suffix-requires c = c.in-Some.ensures.front.0.is_front.few
 
-pub returns : goal.returns
-returns c =
+pub returns-in-Some : goal.returns-in-Some
+returns-in-Some c =
+    let front = c.in-Some.front.now in
+    let suffix = slice_index c.args.octets.now 15 in
+    let is = c.in-Some.ensures.front in
+    subst (PrintsOctets c.args.octets.now) (sym c.with_suffix.ensures)
+    (subst (λ (octets : List ℕ). PrintsOctets octets (front ++ 0x23 ∷ encode_upper (suffix ∷ []))) (sym is.1) (in_capitals front suffix is.0))
+
+pub returns-in-None : goal.returns-in-None
+returns-in-None c =
     let octets = c.args.octets.now in
-    let cut = c.before_blank.ensures in
-    let at = c.as_slice.ensures.value ∙ c.with_suffix-word.ensures in
-    let len : length octets ≡ 16 = search rules in
-    let fits : AreOctets octets = search rules in
     let digits : c.put_hexadecimal.new.out.items ≡ prefix ++ encode_lower octets = c.put_hexadecimal.ensures ∙ ap (λ (xs : List ℕ). xs ++ (prefix ++ encode_lower octets)) c.new-digits.ensures in
-    subst (PrintsOctets octets) (sym digits) (in_hexadecimal octets (λ front suffix seen e.
-    let spelled = printed_is_spelled octets c.before_blank.result.now cut.0 front suffix len fits cut.1 seen e in
-    let exact = subst (λ (word : List ℕ). SpellsOctets Exact word octets) (sym at) (spelled Exact) in
-    let folded = subst (λ (word : List ℕ). SpellsOctets Folded word octets) (sym at) (spelled Folded) in
-    true≢false (sym (c.if-is_read_as.ensures.1 (exact, folded)))))
+    subst (PrintsOctets octets) (sym digits) (in_hexadecimal octets c.in-None.ensures.none)

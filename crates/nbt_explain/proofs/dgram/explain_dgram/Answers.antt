@@ -1,23 +1,12 @@
-use Rattle.std.proofs.Common.{◌≡◌, ℕ, ◌≤◌, ◌<◌, List, [], ◌++◌, length, refl, sym, subst, arith}
+use Rattle.std.proofs.Common.{ℕ, [], ◌++◌, refl, sym, subst}
 use Rattle.std.proofs.lemmas.List.{append-nil}
 use Rattle.std.specs.String.{string_bytes}
-use Rattle.nbt_dgram.specs.declared.msg_type.MsgType.{MsgType}
-use Rattle.nbt_dgram.specs.declared.msg_type.MsgType.TheVariants as types
-use Rattle.nbt_dgram.specs.Dgram.{DgramValue, DgramIs, dgram_of, type_of}
+use Rattle.nbt_dgram.specs.Dgram.{dgram_of}
 use Rattle.nbt_dgram.specs.Fields.{octet_at}
-use Rattle.nbt_dgram.specs.Numbers.{head_size}
 use Rattle.nbt_explain.specs.Dgrams.{PrintsBody, a_dgram, no_dgram, head_lines}
+use Rattle.nbt_show.proofs.Datagrams.{flags_there}
 use Rattle.nbt_text.proofs.Joining.{OnOk-map, two_parts}
 use Rattle.nbt_explain.proofs.dgram.explain_dgram.Goals as goal
-
-ten_at_least : (t : MsgType) → 10 ≤ head_size t
-ten_at_least (types.Data delivery) = omega arith
-ten_at_least types.Error = omega arith
-ten_at_least (types.Lookup l) = omega arith
-
--- FLAGS is among the octets of a datagram
-flags_there : (octets : List ℕ) (d : DgramValue) (n : ℕ) → DgramIs octets d n → 1 < length octets
-flags_there octets d n is = let least = ten_at_least (type_of d.body) in let head = is.head in omega (arith, least, head)
 
 pub bounds-octets-1 : goal.bounds-octets-1
 bounds-octets-1 c = flags_there c.args.octets.now (dgram_of c.in-Ok.dgram) c.in-Ok.length ((c.in-Ok.ensures.dgram (dgram_of c.in-Ok.dgram) c.in-Ok.length).0 refl)

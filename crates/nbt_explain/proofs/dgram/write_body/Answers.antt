@@ -1,7 +1,8 @@
 use Rattle.std.proofs.Common.{◌++◌, codes}
 use Rattle.nbt_dgram.specs.Dgram.{fragment_of}
-use Rattle.nbt_explain.specs.Dgrams.{of_fragment, of_error, of_lookup, data_line, error_words, name_line, offset_line}
+use Rattle.nbt_explain.specs.Dgrams.{of_fragment, of_error, of_lookup, data_line, error_words, offset_line}
 use Rattle.nbt_explain.specs.Words.{code_line}
+use Rattle.nbt_show.specs.DgramText.{name_line}
 use Rattle.nbt_text.proofs.Joining.{OnOk-map}
 use Rattle.nbt_explain.proofs.dgram.write_body.Goals as goal
 

@@ -1,19 +1,13 @@
-use Rattle.std.proofs.Common.{◌≡◌, [], ◌++◌, codes, sym, refl}
+use Rattle.std.proofs.Common.{[], ◌++◌, codes, sym}
 use Rattle.std.proofs.lemmas.List.{append-nil}
 use Rattle.std.specs.String.{string_bytes}
-use Rattle.nbt_dgram.specs.declared.dgram.Names.{Names}
-use Rattle.nbt_dgram.specs.declared.dgram.Part.{Part}
-use Rattle.nbt_dgram.specs.declared.dgram.Part.TheVariants.{First, Later}
-use Rattle.nbt_explain.specs.Dgrams.{PrintsPart, with_names, without_names, name_line}
+use Rattle.nbt_show.specs.DgramText.{with_names, name_line}
+use Rattle.nbt_show.proofs.Datagrams.{no_names}
 use Rattle.nbt_text.proofs.Joining.{OnOk-map, two_parts}
 use Rattle.nbt_explain.proofs.dgram.write_part.Goals as goal
 
-no_names : (part : Part) → ((names : Names) → part ≡ First names → ⊥) → PrintsPart part []
-no_names (First names) none = absurd (none names refl)
-no_names (Later offset) none = without_names offset
-
 pub returns-in_default : goal.returns-in_default
-returns-in_default c = ([], no_names c.args.part.now c.in_default.not-First, sym (append-nil _))
+returns-in_default c = ([], no_names _ _ _ c.args.part.now c.in_default.not-First, sym (append-nil _))
 
 pub returns : goal.returns
 returns c =

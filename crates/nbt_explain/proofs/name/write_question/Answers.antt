@@ -4,7 +4,7 @@ use Rattle.std.specs.String.{string_bytes}
 use Rattle.nbt_text.specs.Lines.{newline}
 use Rattle.nbt_text.proofs.Joining.{OnOk-map, four_parts}
 use Rattle.nbt_explain.specs.Packets.{no_question, one_question}
-use Rattle.nbt_explain.specs.Parts.{type_and_class}
+use Rattle.nbt_explain.specs.Words.{type_and_class}
 use Rattle.nbt_explain.proofs.name.write_question.Goals as goal
 
 pub returns-in_default : goal.returns-in_default

@@ -1,7 +1,6 @@
 use Rattle.std.proofs.Common.{◌++◌, append_assoc, refl, slice_index}
 use Rattle.nbt_text.proofs.Joining.{OnOk-map}
-use Rattle.nbt_explain.specs.Parts.{meaning}
-use Rattle.nbt_explain.specs.Rows.{in_brackets}
+use Rattle.nbt_explain.specs.Words.{meaning, in_brackets}
 use Rattle.nbt_explain.proofs.naming.write_named.Goals as goal
 
 pub returns : goal.returns

@@ -2,7 +2,7 @@ use Rattle.std.proofs.Common.{◌≡◌, [], ◌++◌, length, codes, sym, ap, �
 use Rattle.std.proofs.lemmas.Bool.{eqb-true, eq-eqb, true≢false}
 use Rattle.std.proofs.lemmas.List.{append-nil, nil_from_length}
 use Rattle.nbt_text.proofs.Joining.{OnOk-map}
-use Rattle.nbt_explain.specs.Parts.{no_scope, in_full}
+use Rattle.nbt_explain.specs.Words.{no_scope, in_full}
 use Rattle.nbt_explain.proofs.naming.write_scope.Goals as goal
 
 pub returns-then-is_empty : goal.returns-then-is_empty

@@ -1,6 +1,5 @@
 use Rattle.std.proofs.Common.{◌++◌, subst, refl, append_assoc, take, List, ℕ, codes}
-use Rattle.std.specs.String.{string_bytes}
-use Rattle.nbt_text.proofs.Joining.{OnOk-map, three_parts}
+use Rattle.nbt_text.proofs.Joining.{OnOk-map}
 use Rattle.nbt_text.specs.SuffixedNames.{PrintsOctets}
 use Rattle.nbt_explain.specs.Rows.{after_word}
 use Rattle.nbt_explain.proofs.rows.write_name_line.Goals as goal

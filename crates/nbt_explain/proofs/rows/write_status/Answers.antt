@@ -1,4 +1,4 @@
-use Rattle.std.proofs.Common.{◌≡◌, ◌++◌, append_assoc, subst, List, ℕ}
+use Rattle.std.proofs.Common.{append_assoc}
 use Rattle.nbt_text.proofs.Joining.{OnOk-map}
 use Rattle.nbt_explain.proofs.rows.write_status.Goals as goal
 

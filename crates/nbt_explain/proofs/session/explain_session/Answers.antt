@@ -1,38 +1,19 @@
-use Rattle.std.proofs.Common.{◌≡◌}
 use Rattle.std.specs.String.{string_bytes}
-use Rattle.nbt_show.proofs.Sessions.{all_printed, next_round, partial_fault}
+use Rattle.nbt_show.proofs.Sessions.{all_printed, one_printed, partial_fault}
 use Rattle.nbt_explain.specs.Sessions.{PrintsOne}
 use Rattle.nbt_explain.proofs.session.explain_session.Goals as goal
 
 pub packets-preserved-in_ok-write_packet-in-Ok-Some : goal.packets-preserved-in_ok-write_packet-in-Ok-Some
 packets-preserved-in_ok-write_packet-in-Ok-Some c =
-    let begins = rw c.in-Ok-Some.field-0-is at c.in-Ok-Some.ensures.whole in
-    let anew = rw c.in-Ok-Some.field-0-is at c.in-Ok-Some.ensures.anew in
-    let lines = c.in_ok-write_packet-in-Ok-Some.ensures in
-    record {
-      anew = anew;
-      printed = next_round PrintsOne c.args.octets.now c.packets.rest.now (string_bytes c.args.out.now) (string_bytes c.packets.out) (string_bytes c.write_packet.new.out) _ _ c.packets.invariant.printed begins (lines.0, lines.2, lines.1);
-    }
+    one_printed PrintsOne c.args.octets.now c.packets.rest.now (string_bytes c.args.out.now) (string_bytes c.packets.out) (string_bytes c.write_packet.new.out) c.next_packet.new.pieces _ _ c.in-Ok-Some.field-0-is c.in-Ok-Some.ensures.whole c.in-Ok-Some.ensures.anew c.packets.invariant.printed (let lines = c.in_ok-write_packet-in-Ok-Some.ensures in (lines.0, lines.2, lines.1))
 
 pub packets-preserved-in_ok-write_packet-in-Ok-Some-2 : goal.packets-preserved-in_ok-write_packet-in-Ok-Some-2
 packets-preserved-in_ok-write_packet-in-Ok-Some-2 c =
-    let begins = rw c.in-Ok-Some.field-0-is at c.in-Ok-Some.ensures.whole in
-    let anew = rw c.in-Ok-Some.field-0-is at c.in-Ok-Some.ensures.anew in
-    let lines = c.in_ok-write_packet-in-Ok-Some.ensures in
-    record {
-      anew = anew;
-      printed = next_round PrintsOne c.args.octets.now c.packets.rest.now (string_bytes c.args.out.now) (string_bytes c.packets.out) (string_bytes c.write_packet.new.out) _ _ c.packets.invariant.printed begins (lines.0, lines.2, lines.1);
-    }
+    one_printed PrintsOne c.args.octets.now c.packets.rest.now (string_bytes c.args.out.now) (string_bytes c.packets.out) (string_bytes c.write_packet.new.out) c.next_packet.new.pieces _ _ c.in-Ok-Some.field-0-is c.in-Ok-Some.ensures.whole c.in-Ok-Some.ensures.anew c.packets.invariant.printed (let lines = c.in_ok-write_packet-in-Ok-Some.ensures in (lines.0, lines.2, lines.1))
 
 pub packets-preserved : goal.packets-preserved
 packets-preserved c =
-    let begins = rw c.in-Ok-Some.field-0-is at c.in-Ok-Some.ensures.whole in
-    let anew = rw c.in-Ok-Some.field-0-is at c.in-Ok-Some.ensures.anew in
-    let lines = c.in_ok-write_packet-in-Ok-Some.ensures in
-    record {
-      anew = anew;
-      printed = next_round PrintsOne c.args.octets.now c.packets.rest.now (string_bytes c.args.out.now) (string_bytes c.packets.out) (string_bytes c.write_packet.new.out) _ _ c.packets.invariant.printed begins (lines.0, lines.2, lines.1);
-    }
+    one_printed PrintsOne c.args.octets.now c.packets.rest.now (string_bytes c.args.out.now) (string_bytes c.packets.out) (string_bytes c.write_packet.new.out) c.next_packet.new.pieces _ _ c.in-Ok-Some.field-0-is c.in-Ok-Some.ensures.whole c.in-Ok-Some.ensures.anew c.packets.invariant.printed (let lines = c.in_ok-write_packet-in-Ok-Some.ensures in (lines.0, lines.2, lines.1))
 
 pub returns-in-Ok-None : goal.returns-in-Ok-None
 returns-in-Ok-None c =

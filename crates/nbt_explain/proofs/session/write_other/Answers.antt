@@ -1,6 +1,6 @@
-use Rattle.std.proofs.Common.{refl}
+use Rattle.std.proofs.Common.{codes, refl}
 use Rattle.std.specs.String.{string_bytes}
-use Rattle.nbt_explain.specs.Sessions.{message_lines, request_lines, positive_line, negative_lines, retarget_lines, keep_alive_line, of_message, of_request, of_positive, of_negative, of_retarget, of_keep_alive}
+use Rattle.nbt_explain.specs.Sessions.{message_lines, request_lines, negative_lines, retarget_lines, of_message, of_request, of_positive, of_negative, of_retarget, of_keep_alive}
 use Rattle.nbt_text.proofs.Joining.{OnOk-map}
 use Rattle.nbt_explain.proofs.Written.{when_ok}
 use Rattle.nbt_explain.proofs.session.write_other.Goals as goal
@@ -21,7 +21,7 @@ returns-in-Request c = OnOk-map c.write_request.result c.write_request.ensures (
 
 pub returns-in-Positive : goal.returns-in-Positive
 returns-in-Positive c =
-    OnOk-map c.push_str.result (when_ok (string_bytes c.args.out.now) (string_bytes c.push_str.new.self) positive_line c.push_str.result c.push_str.ensures.bytes) (λ e. (positive_line, rw c.in-Positive.is of_positive, e))
+    OnOk-map c.push_str.result (when_ok (string_bytes c.args.out.now) (string_bytes c.push_str.new.self) (codes "Message type: Positive session response (0x82)\n") c.push_str.result c.push_str.ensures.bytes) (λ e. ((codes "Message type: Positive session response (0x82)\n"), rw c.in-Positive.is of_positive, e))
 
 pub returns-in-Negative : goal.returns-in-Negative
 returns-in-Negative c = OnOk-map c.write_negative.result c.write_negative.ensures (λ e. (negative_lines c.in-Negative.code, rw c.in-Negative.is (of_negative c.in-Negative.code), e))
@@ -31,8 +31,8 @@ returns-in-Retarget c = OnOk-map c.write_retarget.result c.write_retarget.ensure
 
 pub returns-in-KeepAlive : goal.returns-in-KeepAlive
 returns-in-KeepAlive c =
-    OnOk-map c.push_str-in-KeepAlive.result (when_ok (string_bytes c.args.out.now) (string_bytes c.push_str-in-KeepAlive.new.self) keep_alive_line c.push_str-in-KeepAlive.result c.push_str-in-KeepAlive.ensures.bytes) (λ e. (
-      keep_alive_line,
+    OnOk-map c.push_str-in-KeepAlive.result (when_ok (string_bytes c.args.out.now) (string_bytes c.push_str-in-KeepAlive.new.self) (codes "Message type: Session keep-alive (0x85)\n") c.push_str-in-KeepAlive.result c.push_str-in-KeepAlive.ensures.bytes) (λ e. (
+      (codes "Message type: Session keep-alive (0x85)\n"),
       rw c.in-KeepAlive.is of_keep_alive,
       e,
     ))

@@ -1,4 +1,3 @@
-use Rattle.std.proofs.Common.{refl}
 use Rattle.nbt_explain.specs.Sessions.{message_lines, of_message}
 use Rattle.nbt_text.proofs.Joining.{OnOk-map}
 use Rattle.nbt_explain.proofs.session.write_packet.Goals as goal

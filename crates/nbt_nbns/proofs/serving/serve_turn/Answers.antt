@@ -3,7 +3,7 @@ use Rattle.std.proofs.lemmas.Result.{err_from_is_err_and}
 use Rattle.nbt_port.specs.PortCalls.{receive_failed, sent, send_failed}
 use Rattle.nbt_nbns.specs.Serving.{of_receive}
 use Rattle.nbt_port.proofs.Chains.{chain_one}
-use Rattle.nbt_nbns.proofs.Running.{breaks_one}
+use Rattle.nbt_nbns.proofs.ServerTurns.{breaks_one}
 use Rattle.nbt_nbns.proofs.Taking.{Served, turn_empty, turn_silent, turn_replied, turn_unsent, turn_lost, refused}
 use Rattle.nbt_nbns.proofs.serving.serve_turn.Goals as goal
 

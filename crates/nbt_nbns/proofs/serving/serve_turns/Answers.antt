@@ -1,6 +1,6 @@
 use Rattle.std.proofs.Common.{arith, ◌∙◌}
 use Rattle.std.proofs.lemmas.Result.{err_from_is_err_and}
-use Rattle.nbt_nbns.proofs.Running.{runs_on, breaks_on, counts_few}
+use Rattle.nbt_nbns.proofs.ServerTurns.{runs_on, breaks_on, counts_few}
 use Rattle.nbt_nbns.proofs.serving.serve_turns.Goals as goal
 
 pub returns-in_err-one-clause-err : goal.returns-in_err-one-clause-err

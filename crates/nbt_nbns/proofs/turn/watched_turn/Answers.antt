@@ -3,7 +3,7 @@ use Rattle.std.proofs.lemmas.Result.{err_from_is_err_and}
 use Rattle.nbt_port.specs.PortCalls.{receive_failed, sent, send_failed}
 use Rattle.nbt_nbns.specs.Serving.{of_receive}
 use Rattle.nbt_port.proofs.Chains.{chain_one}
-use Rattle.nbt_nbns.proofs.Running.{breaks_one}
+use Rattle.nbt_nbns.proofs.ServerTurns.{breaks_one}
 use Rattle.nbt_server.specs.Calls.{ServerHandles}
 use Rattle.nbt_nbns.proofs.OneTurn.{watched_empty, watched_silent, watched_replied, watched_unsent, watched_lost, lost_to}
 use Rattle.nbt_nbns.proofs.turn.watched_turn.Goals as goal

@@ -1,4 +1,4 @@
-use Rattle.nbt_svg.proofs.Joining.{OnOk-map}
+use Rattle.nbt_text.proofs.Joining.{OnOk-map}
 use Rattle.nbt_picture.proofs.Putting.{says_still}
 use Rattle.nbt_picture.proofs.picture.draw_chart.Goals as goal
 

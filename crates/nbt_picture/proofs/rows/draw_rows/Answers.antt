@@ -1,7 +1,7 @@
 use Rattle.std.proofs.Common.{◌≡◌, ◌∙◌, ℕ, ◌+◌, ◌<◌, List, length, get_or, sym, refl, below_more}
 use Rattle.std.proofs.lemmas.Option.{slice_get_read, get_or_from_slice_get}
 use Rattle.std.specs.String.{string_bytes}
-use Rattle.nbt_svg.specs.declared.shape.Shape.{Shape}
+use Rattle.nbt_picture.specs.declared.shape.Shape.{Shape}
 use Rattle.nbt_picture.specs.declared.chart.Row.{Row}
 use Rattle.nbt_picture.specs.Inner.Picture.{Says}
 use Rattle.nbt_picture.specs.Inner.Putting.{Keeps}

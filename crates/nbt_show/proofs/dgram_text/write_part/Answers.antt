@@ -7,7 +7,7 @@ use Rattle.nbt_show.proofs.Datagrams.{no_names}
 use Rattle.nbt_show.proofs.dgram_text.write_part.Goals as goal
 
 pub returns-in_default : goal.returns-in_default
-returns-in_default c = ([], sym (append-nil _), no_names c.args.part.now c.in_default.not-First)
+returns-in_default c = ([], sym (append-nil _), no_names _ _ _ c.args.part.now c.in_default.not-First)
 
 pub returns : goal.returns
 returns c =

@@ -4,14 +4,13 @@ use Rattle.nbt_packet.specs.Packet.{packet_of, decoded}
 use Rattle.nbt_show.specs.PacketText.{packet_stands, fault_stands}
 use Rattle.nbt_text.specs.Lines.{newline}
 use Rattle.nbt_packet.specs.Numbers.{fault_word}
-use Rattle.nbt_show.proofs.Packets as packets
 use Rattle.nbt_show.proofs.packet_text.write_packet.Goals as goal
 
 pub returns-in_ok-writeln-in-Ok : goal.returns-in_ok-writeln-in-Ok
 returns-in_ok-writeln-in-Ok c =
     let parts = c.in_ok-write_parts-in-Ok.ensures in
     let line = c.in_ok-writeln-in-Ok.ensures.bytes in
-    let stands = packets.packet_stands c.args.octets.now c.in-Ok.packet c.in-Ok.length c.decode.result c.decode.ensures.packet c.in-Ok.is in (
+    let stands = (c.decode.ensures.packet (packet_of c.in-Ok.packet) c.in-Ok.length).0 (ap decoded c.in-Ok.is) in (
       parts.0 ++ codes "length " ++ decimal c.in-Ok.length ++ newline,
       rw (line, parts.1) (simp append_assoc),
       packet_stands (packet_of c.in-Ok.packet) c.in-Ok.length parts.0 stands parts.2,

@@ -3,35 +3,20 @@ use Rattle.std.specs.String.{string_bytes}
 use Rattle.nbt_session.specs.declared.fault.Fault.{Fault}
 use Rattle.nbt_show.specs.SessionText.{PrintsPacketLine, rest_follows, fault_follows, rest_line, session_fault_line}
 use Rattle.nbt_text.proofs.Joining.{two_parts}
-use Rattle.nbt_show.proofs.Sessions.{all_printed, next_round, partial_fault}
+use Rattle.nbt_show.proofs.Sessions.{all_printed, one_printed, partial_fault}
 use Rattle.nbt_show.proofs.session_text.write_session.Goals as goal
 
 pub packets-preserved-in_ok-write_packet_line-in-Ok-Some : goal.packets-preserved-in_ok-write_packet_line-in-Ok-Some
 packets-preserved-in_ok-write_packet_line-in-Ok-Some c =
-    let begins = rw c.in-Ok-Some.field-0-is at c.in-Ok-Some.ensures.whole in
-    let anew = rw c.in-Ok-Some.field-0-is at c.in-Ok-Some.ensures.anew in
-    record {
-      anew = anew;
-      printed = next_round PrintsPacketLine c.args.octets.now c.packets.rest.now (string_bytes c.args.out.now) (string_bytes c.packets.out) (string_bytes c.write_packet_line.new.out) _ _ c.packets.invariant.printed begins c.in_ok-write_packet_line-in-Ok-Some.ensures;
-    }
+    one_printed PrintsPacketLine c.args.octets.now c.packets.rest.now (string_bytes c.args.out.now) (string_bytes c.packets.out) (string_bytes c.write_packet_line.new.out) c.next_packet.new.pieces _ _ c.in-Ok-Some.field-0-is c.in-Ok-Some.ensures.whole c.in-Ok-Some.ensures.anew c.packets.invariant.printed c.in_ok-write_packet_line-in-Ok-Some.ensures
 
 pub packets-preserved-in_ok-write_packet_line-in-Ok-Some-2 : goal.packets-preserved-in_ok-write_packet_line-in-Ok-Some-2
 packets-preserved-in_ok-write_packet_line-in-Ok-Some-2 c =
-    let begins = rw c.in-Ok-Some.field-0-is at c.in-Ok-Some.ensures.whole in
-    let anew = rw c.in-Ok-Some.field-0-is at c.in-Ok-Some.ensures.anew in
-    record {
-      anew = anew;
-      printed = next_round PrintsPacketLine c.args.octets.now c.packets.rest.now (string_bytes c.args.out.now) (string_bytes c.packets.out) (string_bytes c.write_packet_line.new.out) _ _ c.packets.invariant.printed begins c.in_ok-write_packet_line-in-Ok-Some.ensures;
-    }
+    one_printed PrintsPacketLine c.args.octets.now c.packets.rest.now (string_bytes c.args.out.now) (string_bytes c.packets.out) (string_bytes c.write_packet_line.new.out) c.next_packet.new.pieces _ _ c.in-Ok-Some.field-0-is c.in-Ok-Some.ensures.whole c.in-Ok-Some.ensures.anew c.packets.invariant.printed c.in_ok-write_packet_line-in-Ok-Some.ensures
 
 pub packets-preserved : goal.packets-preserved
 packets-preserved c =
-    let begins = rw c.in-Ok-Some.field-0-is at c.in-Ok-Some.ensures.whole in
-    let anew = rw c.in-Ok-Some.field-0-is at c.in-Ok-Some.ensures.anew in
-    record {
-      anew = anew;
-      printed = next_round PrintsPacketLine c.args.octets.now c.packets.rest.now (string_bytes c.args.out.now) (string_bytes c.packets.out) (string_bytes c.write_packet_line.new.out) _ _ c.packets.invariant.printed begins c.in_ok-write_packet_line-in-Ok-Some.ensures;
-    }
+    one_printed PrintsPacketLine c.args.octets.now c.packets.rest.now (string_bytes c.args.out.now) (string_bytes c.packets.out) (string_bytes c.write_packet_line.new.out) c.next_packet.new.pieces _ _ c.in-Ok-Some.field-0-is c.in-Ok-Some.ensures.whole c.in-Ok-Some.ensures.anew c.packets.invariant.printed c.in_ok-write_packet_line-in-Ok-Some.ensures
 
 pub returns-in-Ok-None : goal.returns-in-Ok-None
 returns-in-Ok-None c =

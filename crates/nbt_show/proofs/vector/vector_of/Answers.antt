@@ -1,4 +1,4 @@
-use Rattle.nbt_show.specs.Vector.{vector}
+use Rattle.nbt_show.specs.Verdicts.{vector}
 use Rattle.nbt_show.proofs.Vectors.{no_vector, nothing_spelled, two_and_more}
 use Rattle.nbt_show.proofs.vector.vector_of.Goals as goal
 

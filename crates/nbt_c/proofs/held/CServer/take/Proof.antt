@@ -1,5 +1,5 @@
 -- `take` meets its contract: a walk of its MIR by hand. The value is read, and leaves room.
-use Rattle.std.proofs.Common.{◌≡◌, true≢false, List, [], ◌∷◌, refl, sym, ap, ◌∙◌, Some, None, Option}
+use Rattle.std.proofs.Common.{List, [], ◌∷◌, refl, sym, ap, ◌∙◌, None, Option}
 use Rattle.std.proofs.raw_atomic.Walks.{proved}
 use Rattle.std.proofs.VecSteps.Shapes.{after}
 use base.Fraction.{full_share}
@@ -26,16 +26,13 @@ use Rattle.nbt_c.specs.Memory.{rests_at, server_row as N}
 use Rattle.nbt_server.proofs.server.Server.TheLaws.{the_row_laws as server_laws}
 use Rattle.nbt_c.specs.contracts.held.CServer.{the_row as R}
 use Rattle.nbt_c.specs.contracts.held.CServer.take as f
+use Rattle.nbt_c.proofs.InMemory.{some_of}
 use Rattle.nbt_c.proofs.held.CServer.take.Statement.{statement}
 use Rattle.nbt_c.proofs.held.CServer.take.Code as code
 use Rattle.nbt_c.proofs.held.CServer.TheLaws.{lowers}
 
 abbrev stayed : Stays f.ended.signature.params f.ended.kept
 stayed = (stay_ref (0 ∷ []) tt (plain (λ _. R)), tt)
-
-some_of : {X : Type 0} (m : Option X) → IsSome m → (x : X) × (m ≡ Some x)
-some_of None is = absurd (true≢false (sym is))
-some_of (Some x) is = (x, refl)
 
 pub take_spec : {M : Type 1} → statement M
 take_spec 𝓤 𝓛 𝓜 𝓡 wired =

@@ -1,25 +1,7 @@
-use Rattle.std.proofs.Common.{ℕ, List, sym, subst, arith}
-use Rattle.nbt_name.specs.declared.addr.Addr.{Addr}
-use Rattle.nbt_session.specs.Packet.{message, retarget}
-use Rattle.nbt_c.specs.Calling as is
-use Rattle.nbt_c.specs.Calling.{IsPacketIn}
+use Rattle.std.proofs.Common.{ℕ, List, sym, subst}
+use Rattle.nbt_session.specs.Packet.{message}
+use Rattle.nbt_c.specs.Sessions.{IsPacketIn, is_message}
 use Rattle.nbt_c.proofs.packet.CPacket.read.Goals as goal
 
-pub returns-in-0-clause-packet : goal.returns-in-0-clause-packet
-returns-in-0-clause-packet c = subst (λ (octets : List ℕ). IsPacketIn c.args.self.now (message octets)) (sym c.new.ensures.items) (is.IsPacketIn.is_message c.in-0.is)
-
-pub returns-in-130-clause-packet : goal.returns-in-130-clause-packet
-returns-in-130-clause-packet c = is.IsPacketIn.is_positive c.in-130.is
-
-pub returns-in-131-clause-packet : goal.returns-in-131-clause-packet
-returns-in-131-clause-packet c = is.IsPacketIn.is_negative c.in-131.is
-
-pub returns-in-132-clause-packet : goal.returns-in-132-clause-packet
-returns-in-132-clause-packet c = subst (λ (to : Addr). IsPacketIn c.args.self.now (retarget to)) (sym c.addr.ensures) (is.IsPacketIn.is_retarget c.in-132.is)
-
-pub returns-in-133-clause-packet : goal.returns-in-133-clause-packet
-returns-in-133-clause-packet c = is.IsPacketIn.is_keep_alive c.in-133.is
-
-pub returns-in_default-clause-fault : goal.returns-in_default-clause-fault
-returns-in_default-clause-fault c =
-    is.PacketFault.has_no_kind (λ e. omega (arith, e)) (λ e. omega (arith, e)) (λ e. omega (arith, e)) (λ e. omega (arith, e)) (λ e. omega (arith, e)) (λ e. omega (arith, e))
+pub returns-then-self-eq-MESSAGE-clause-packet : goal.returns-then-self-eq-MESSAGE-clause-packet
+returns-then-self-eq-MESSAGE-clause-packet c = subst (λ (octets : List ℕ). IsPacketIn c.args.self.now (message octets)) (sym c.new.ensures.items) (is_message c.if-self-eq-MESSAGE.true)

@@ -1,0 +1,227 @@
+//! A node in C's memory: it starts, registers, releases and looks up names.
+
+ghost use Rattle.std.specs.Prelude.{◌≡◌, IsNone, ℕ, List, Some, IsSome};
+ghost use Rattle.nbt_node.specs.Node.{NodeValue};
+ghost use Rattle.nbt_c.specs.Ends.{addr_of, kind_of};
+ghost use Rattle.nbt_c.specs.Sizes.{node_size, object_align};
+ghost use Rattle.nbt_c.specs.Nodes.{Starts, Asks, GivesBack, Resolves, AsksStatus};
+ghost use Rattle.nbt_c.specs.Results.{Puts};
+
+use crate::buffer::{Octets, put_packet};
+use crate::ends::{CAddr, CConfig};
+use crate::held::CNode;
+use crate::name::CName;
+use crate::results::{NO_KIND, NO_MOMENT, NO_NAME};
+use nbt_lease::{Config, Moment};
+use nbt_name::{Addr, Kind};
+use nbt_node::Node;
+
+/// The size of a node's memory in octets.
+#[unsafe(no_mangle)]
+pub extern "C" fn nbt_node_size() -> usize
+    ensures { result ≡ node_size }
+{
+    size_of::<Node<14>>()
+}
+
+/// The alignment of that memory in octets.
+#[unsafe(no_mangle)]
+pub extern "C" fn nbt_node_align() -> usize
+    ensures { result ≡ object_align }
+{
+    align_of::<Node<14>>()
+}
+
+/// `nbt_node::Node::start`: a node of 14 slots at `own`, whose name server is at `server`, stands in the memory. 0; else none does:
+/// the number of the first limit that isn't kept, `Life` (1), `Longest` (2), `Rows` (3), or 253 where `now` is above 2^60 ms.
+#[unsafe(no_mangle)]
+pub extern "C" fn nbt_node_start(
+    node: &mut CNode,
+    own: CAddr,
+    server: CAddr,
+    config: CConfig,
+    now: u64,
+) -> u8
+    requires { IsNone node.old.node }
+    ensures { Starts (addr_of own) (addr_of server) config now result node.new.node }
+{
+    let limits = match Config::new(config.life, config.longest, config.rows as usize) {
+        Ok(limits) => limits,
+        Err(fault) => return fault.number(),
+    };
+    let Some(now) = Moment::new(now) else {
+        return NO_MOMENT;
+    };
+    node.put(Node::start(own.addr(), server.addr(), limits, now));
+    0
+}
+
+/// 0 is a name of one machine, 1 one of a group.
+fn kind_of(number: u8) -> Option<Kind>
+    ensures { result ≡ kind_of number }
+{
+    match number {
+        0 => Some(Kind::Unique),
+        1 => Some(Kind::Group),
+        _ => None,
+    }
+}
+
+/// Calls `nbt_node::Node::ask` with what C passes.
+fn ask(node: &mut Node<14>, now: u64, name: &CName, kind: u8, ttl: u32, out: &mut Octets) -> u8
+    ensures { Asks node.old now name.now kind ttl result node.new out.new.items }
+{
+    out.clear();
+    let Some(now) = Moment::new(now) else {
+        return NO_MOMENT;
+    };
+    let Some(name) = name.read() else {
+        return NO_NAME;
+    };
+    let Some(kind) = kind_of(kind) else {
+        return NO_KIND;
+    };
+    match node.ask(now, &name, kind, ttl, out) {
+        Ok(()) => 0,
+        Err(fault) => fault.number(),
+    }
+}
+
+/// `nbt_node::Node::ask`: registers the name at the server, for `ttl` seconds or, where that is 0, as long as may be. 0, and the
+/// NAME REGISTRATION REQUEST for the server stands at the front of `out`, `size` being how many octets it has. Else the node stays
+/// as it was, and `size` is 0: 253 where `now` is above 2^60 ms, 255 where `name` holds no name, 252 where `kind` is neither 0 nor
+/// 1, or the number of the node's refusal, 1 to 5.
+#[unsafe(no_mangle)]
+pub extern "C" fn nbt_node_ask(
+    node: &mut CNode,
+    now: u64,
+    name: &CName,
+    kind: u8,
+    ttl: u32,
+    out: &mut [u8; 576],
+    size: &mut usize,
+) -> u8
+    requires { IsSome node.old.node }
+    ensures { (old : NodeValue) → node.old.node ≡ Some old → (new : NodeValue) × (octets : List ℕ) × (node.new.node ≡ Some new)
+        × Asks old now name.now kind ttl result new octets × Puts octets out.old out.new size.new }
+{
+    let mut octets = Octets::new();
+    let result = ask(node.get(), now, name, kind, ttl, &mut octets);
+    *size = put_packet(octets.as_slice(), out);
+    result
+}
+
+/// Calls `nbt_node::Node::release` with what C passes.
+fn release(node: &mut Node<14>, now: u64, name: &CName, out: &mut Octets) -> u8
+    ensures { GivesBack node.old now name.now result node.new out.new.items }
+{
+    out.clear();
+    let Some(now) = Moment::new(now) else {
+        return NO_MOMENT;
+    };
+    let Some(name) = name.read() else {
+        return NO_NAME;
+    };
+    match node.release(now, &name, out) {
+        Ok(()) => 0,
+        Err(fault) => fault.number(),
+    }
+}
+
+/// `nbt_node::Node::release`: releases the name. 0, and the NAME RELEASE REQUEST for the server stands at the front of `out`,
+/// `size` being how many octets it has. Else the node stays as it was, and `size` is 0: 253, 255 as by `nbt_node_ask`, or the
+/// number of the node's refusal, 1 or 4.
+#[unsafe(no_mangle)]
+pub extern "C" fn nbt_node_release(
+    node: &mut CNode,
+    now: u64,
+    name: &CName,
+    out: &mut [u8; 576],
+    size: &mut usize,
+) -> u8
+    requires { IsSome node.old.node }
+    ensures { (old : NodeValue) → node.old.node ≡ Some old → (new : NodeValue) × (octets : List ℕ) × (node.new.node ≡ Some new)
+        × GivesBack old now name.now result new octets × Puts octets out.old out.new size.new }
+{
+    let mut octets = Octets::new();
+    let result = release(node.get(), now, name, &mut octets);
+    *size = put_packet(octets.as_slice(), out);
+    result
+}
+
+/// Calls `nbt_node::Node::resolve` with what C passes.
+fn resolve(node: &mut Node<14>, now: u64, name: &CName, out: &mut Octets) -> u8
+    ensures { Resolves node.old now name.now result node.new out.new.items }
+{
+    out.clear();
+    let Some(now) = Moment::new(now) else {
+        return NO_MOMENT;
+    };
+    let Some(name) = name.read() else {
+        return NO_NAME;
+    };
+    match node.resolve(now, &name, out) {
+        Ok(()) => 0,
+        Err(fault) => fault.number(),
+    }
+}
+
+/// `nbt_node::Node::resolve`: looks up at the server who holds the name. 0, and the NAME QUERY REQUEST for the server stands at the
+/// front of `out`, `size` being how many octets it has. Else the node stays as it was, and `size` is 0: 253, 255 as by
+/// `nbt_node_ask`, or the number of the node's refusal, 2, 4 or 5.
+#[unsafe(no_mangle)]
+pub extern "C" fn nbt_node_resolve(
+    node: &mut CNode,
+    now: u64,
+    name: &CName,
+    out: &mut [u8; 576],
+    size: &mut usize,
+) -> u8
+    requires { IsSome node.old.node }
+    ensures { (old : NodeValue) → node.old.node ≡ Some old → (new : NodeValue) × (octets : List ℕ) × (node.new.node ≡ Some new)
+        × Resolves old now name.now result new octets × Puts octets out.old out.new size.new }
+{
+    let mut octets = Octets::new();
+    let result = resolve(node.get(), now, name, &mut octets);
+    *size = put_packet(octets.as_slice(), out);
+    result
+}
+
+/// Calls `nbt_node::Node::name_status` with what C passes.
+fn ask_status(node: &mut Node<14>, now: u64, to: Addr, name: &CName, out: &mut Octets) -> u8
+    ensures { AsksStatus node.old now to name.now result node.new out.new.items }
+{
+    out.clear();
+    let Some(now) = Moment::new(now) else {
+        return NO_MOMENT;
+    };
+    let Some(name) = name.read() else {
+        return NO_NAME;
+    };
+    match node.name_status(now, to, &name, out) {
+        Ok(()) => 0,
+        Err(fault) => fault.number(),
+    }
+}
+
+/// `nbt_node::Node::name_status`: asks the endpoint at `to` for the names that it holds. 0, and the NODE STATUS REQUEST for it
+/// stands at the front of `out`, `size` being how many octets it has. Else the node stays as it was, and `size` is 0: 253, 255 as
+/// by `nbt_node_ask`, or the number of the node's refusal, 2 or 4.
+#[unsafe(no_mangle)]
+pub extern "C" fn nbt_node_name_status(
+    node: &mut CNode,
+    now: u64,
+    to: CAddr,
+    name: &CName,
+    out: &mut [u8; 576],
+    size: &mut usize,
+) -> u8
+    requires { IsSome node.old.node }
+    ensures { (old : NodeValue) → node.old.node ≡ Some old → (new : NodeValue) × (octets : List ℕ) × (node.new.node ≡ Some new)
+        × AsksStatus old now (addr_of to) name.now result new octets × Puts octets out.old out.new size.new }
+{
+    let mut octets = Octets::new();
+    let result = ask_status(node.get(), now, to.addr(), name, &mut octets);
+    *size = put_packet(octets.as_slice(), out);
+    result
+}
