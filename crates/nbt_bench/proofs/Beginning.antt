@@ -1,5 +1,5 @@
--- An end begins: a node, a server, and either of them over this machine. And an error that is passed on.
-use Rattle.std.proofs.Common.{◌≡◌, ◌≢◌, ℕ, List, Option, Result, Ok, Err, refl, sym, ap, subst, ◌∙◌}
+-- An end begins: a node, a server, and either of them over this machine.
+use Rattle.std.proofs.Common.{◌≡◌, ◌≢◌, ℕ, List, Option, refl, ap, subst}
 use Rattle.nbt_name.specs.declared.addr.Addr.{Addr}
 use Rattle.nbt_node.specs.Calls.{started}
 use Rattle.nbt_node.specs.Node.{NodeValue, slots_most}
@@ -10,18 +10,7 @@ use Rattle.nbt_port.specs.Udp.{UdpValue, MachineTells}
 use Rattle.nbt_bench.specs.Here.{Here}
 use Rattle.nbt_bench.specs.Node.{Running, NodeBegins}
 use Rattle.nbt_bench.specs.Serve.{Serving, Begins}
-use Rattle.nbt_port.specs.declared.fault.Fault.{Fault}
 use Rattle.nbt_bench.specs.declared.node.NodeArguments.{NodeArguments}
-
-fault_in : {A : Type 0} → Fault → Result A Fault → Fault
-fault_in other (Ok value) = other
-fault_in other (Err fault) = fault
-
--- what is returned for a call's error is that error
-pub passed_on : {A B : Type 0} (returned : Result A Fault) (called : Result B Fault) (passed found fault : Fault) → returned ≡ Err passed → passed ≡ found → called ≡ Err found → returned ≡ Err fault
-    → called ≡ Err fault
-unfolding fault_in
-passed_on {A = A} returned called passed found fault back same was is = subst (λ (f : Fault). called ≡ Err f) (sym same ∙ ap (λ (r : Result A Fault). fault_in fault r) (sym back ∙ is)) was
 
 pub node_begins : {P : Type 0} (a : NodeArguments) (goes : Running P ℕ → Running P ℕ → Type 0) (old_port port : P) (old_clock mid_clock clock : ℕ) (old_text text : Option (List ℕ)) (first node : NodeValue)
     → ((now : ℕ) × MachineTells old_clock now mid_clock × (first ≡ started slots_most a.bind a.server a.config now))

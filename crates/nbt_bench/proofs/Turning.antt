@@ -2,9 +2,9 @@
 use Rattle.std.proofs.Common.{ℕ, ◌+◌, ◌<◌, [], ◌∷◌, ◌++◌, refl, sym, ap, subst, ◌∙◌, length-append}
 use Rattle.nbt_name.specs.declared.addr.Addr.{Addr}
 use Rattle.nbt_port.specs.PortCalls.{PortCall}
+use Rattle.nbt_port.proofs.Chains.{chain-append}
 use Rattle.nbt_client.specs.declared.turning.Seen.{Seen}
 use Rattle.nbt_client.specs.declared.turning.Want.{Want}
-use Rattle.nbt_port.proofs.Chains.{chain_on}
 use Rattle.nbt_bench.specs.Node.{Running, Turns, TakesTurns, EndsTurns}
 
 pub no_turns : {P C : Type 0} (does : P → PortCall → P → Type 0) (tells : C → ℕ → C → Type 0) (server : Addr) (want : Want) (here : Running P C) → TakesTurns does tells server want 0 here here
@@ -14,7 +14,7 @@ pub turns_on : {P C : Type 0} (does : P → PortCall → P → Type 0) (tells : 
     → TakesTurns does tells server want count old mid → Turns does tells server want mid one new → TakesTurns does tells server want (count + 1) old new
 turns_on does tells server want count old mid new one before turn = record {
   seen = before.seen ++ one ∷ [];
-  turns = chain_on (Turns does tells server want) old mid new before.seen one before.turns turn;
+  turns = chain-append (Turns does tells server want) old mid new before.seen (one ∷ []) before.turns (new, turn, refl);
   count_is = length-append before.seen (one ∷ []) ∙ ap (λ (n : ℕ). n + 1) before.count_is;
 }
 

@@ -12,9 +12,11 @@ use Rattle.nbt_client.specs.declared.turning.Seen.{Seen}
 use Rattle.nbt_client.specs.declared.turning.Seen.TheVariants as s
 use Rattle.nbt_client.specs.declared.turning.Want.{Want}
 use Rattle.nbt_port.specs.Udp.{UdpDoes, MachineTells}
+use Rattle.nbt_port.specs.declared.fault.Fault.{Fault}
+use Rattle.nbt_port.specs.declared.fault.Fault.TheVariants as f
 use Rattle.nbt_bench.specs.Here.{Here}
 use Rattle.nbt_text.specs.Lines.{one_line}
-use Rattle.nbt_port.specs.Staying.{StaysUp, GivesUp, IsCutOff}
+use Rattle.nbt_port.specs.Staying.{StaysUp, EndsEarly}
 use Rattle.nbt_port.specs.declared.limits.TheConstants.{FOREVER}
 use Rattle.nbt_bench.specs.declared.node.NodeArguments.{NodeArguments}
 
@@ -53,6 +55,12 @@ abbrev pub CutsTurn : {P C : Type 0} → (P → PortCall → P → Type 0) → (
 CutsTurn does tells server want old new = (seen : Seen) × (seen ≢ s.Nothing) × (acts : List PortCall) × (moments : List ℕ) × TakesTurn server want old.node acts moments seen new.node
     × Chain does old.port acts new.port × Chain tells old.clock moments new.clock
 
+-- how a turn fails: in no other way than by the device, or by its line
+abbrev pub FailsTurn : {P C : Type 0} → (P → PortCall → P → Type 0) → (C → ℕ → C → Type 0) → Addr → Want → Fault → Running P C → Running P C → Type 0
+FailsTurn does tells server want f.Device old new = BreaksTurns does tells server want old new
+FailsTurn does tells server want f.Output old new = CutsTurn does tells server want old new
+FailsTurn does tells server want fault old new = ⊥
+
 -- a number of turns, one after the other
 pub record TakesTurns {P C : Type 0} (does : P → PortCall → P → Type 0) (tells : C → ℕ → C → Type 0) (server : Addr) (want : Want) (count : ℕ) (old new : Running P C) : Type 0 where
   pub seen : List Seen
@@ -72,15 +80,10 @@ abbrev pub RunsFor : {P C : Type 0} → (P → PortCall → P → Type 0) → (C
 RunsFor does tells (Some turns) server want old new = TakesTurns does tells server want turns old new
 RunsFor does tells None server want old new = StaysUp (Turns does tells server want) (BreaksTurns does tells server want) FOREVER old new
 
--- The device fails: with a number of turns in the first turn in which it does. With no end the node gives up.
-abbrev pub NodeFailsFor : {P C : Type 0} → (P → PortCall → P → Type 0) → (C → ℕ → C → Type 0) → (turns : Option ℕ) → Addr → Want → Running P C → Running P C → Type 0
-NodeFailsFor does tells (Some turns) server want old new = EndsTurns does tells server want (BreaksTurns does tells server want) turns old new
-NodeFailsFor does tells None server want old new = GivesUp (Turns does tells server want) (BreaksTurns does tells server want) FOREVER old new
-
--- The line of an event can't be written, and no turn is taken after it. With no end the turns before it stayed up.
-abbrev pub NodeIsCutFor : {P C : Type 0} → (P → PortCall → P → Type 0) → (C → ℕ → C → Type 0) → (turns : Option ℕ) → Addr → Want → Running P C → Running P C → Type 0
-NodeIsCutFor does tells (Some turns) server want old new = EndsTurns does tells server want (CutsTurn does tells server want) turns old new
-NodeIsCutFor does tells None server want old new = IsCutOff (Turns does tells server want) (BreaksTurns does tells server want) (CutsTurn does tells server want) FOREVER old new
+-- It ends early for a fault, at once in the turn that fails so; with no end it gives up only as often as the device fails in a row.
+abbrev pub NodeEndsFor : {P C : Type 0} → (P → PortCall → P → Type 0) → (C → ℕ → C → Type 0) → (turns : Option ℕ) → Addr → Want → Fault → Running P C → Running P C → Type 0
+NodeEndsFor does tells (Some turns) server want fault old new = EndsTurns does tells server want (FailsTurn does tells server want fault) turns old new
+NodeEndsFor does tells None server want fault old new = EndsEarly (Turns does tells server want) (BreaksTurns does tells server want) (FailsTurn does tells server want) FOREVER fault old new
 
 -- The turns, and after them a line that says whether it then holds the name, at the moment that the clock told last.
 abbrev pub RunsToItsEnd : {P : Type 0} → (P → PortCall → P → Type 0) → NodeArguments → Running P ℕ → Running P ℕ → Type 0
@@ -89,7 +92,7 @@ RunsToItsEnd does a old new = (turns_text : Option (List ℕ)) × RunsFor does M
 
 -- A line can't be written: that of an event; or, after all turns, the last one.
 abbrev pub IsCutToItsEnd : {P : Type 0} → (P → PortCall → P → Type 0) → NodeArguments → Running P ℕ → Running P ℕ → Type 0
-IsCutToItsEnd does a old new = NodeIsCutFor does MachineTells a.turns a.server a.want old new
+IsCutToItsEnd does a old new = NodeEndsFor does MachineTells a.turns a.server a.want f.Output old new
     ⊎ ((turns_text : Option (List ℕ)) × RunsFor does MachineTells a.turns a.server a.want old (record new { text = turns_text }))
 
 -- The machine's clock is read, a node starts at that moment, and the three go on from there.
@@ -104,7 +107,7 @@ abbrev pub RunsNode : {P : Type 0} → (P → PortCall → P → Type 0) → Nod
 RunsNode does a old_port old_clock old_text port clock text = NodeBegins a (RunsToItsEnd does a) old_port old_clock old_text port clock text
 
 abbrev pub NodeFails : {P : Type 0} → (P → PortCall → P → Type 0) → NodeArguments → P → (old_clock : ℕ) → (old_text : Option (List ℕ)) → P → (clock : ℕ) → (text : Option (List ℕ)) → Type 0
-NodeFails does a old_port old_clock old_text port clock text = NodeBegins a (NodeFailsFor does MachineTells a.turns a.server a.want) old_port old_clock old_text port clock text
+NodeFails does a old_port old_clock old_text port clock text = NodeBegins a (NodeEndsFor does MachineTells a.turns a.server a.want f.Device) old_port old_clock old_text port clock text
 
 abbrev pub NodeIsCut : {P : Type 0} → (P → PortCall → P → Type 0) → NodeArguments → P → (old_clock : ℕ) → (old_text : Option (List ℕ)) → P → (clock : ℕ) → (text : Option (List ℕ)) → Type 0
 NodeIsCut does a old_port old_clock old_text port clock text = NodeBegins a (IsCutToItsEnd does a) old_port old_clock old_text port clock text

@@ -19,7 +19,6 @@ mod port;
 mod ports;
 mod serve;
 mod sessions;
-mod staying;
 
 pub use demo::run_loop;
 pub use node::{NodeArguments, run_node};

@@ -1,18 +1,20 @@
 //! An end node over UDP and the machine's clock.
 
-ghost use Rattle.std.specs.Prelude.{◌≡◌, ◌≢◌, ℕ, ◌+◌, ◌<◌, ◌≤◌, ◌^◌, OnOk, IfOk, IsOk};
+ghost use Rattle.std.specs.Prelude.{◌≡◌, ◌≢◌, ℕ, ◌+◌, ◌<◌, ◌≤◌, ◌^◌, OnOk, IfOk, IfErr, IsOk};
 ghost use Rattle.std.specs.Io.KnownBytes.{Appends};
 ghost use Rattle.nbt_node.specs.Calls.{started};
 ghost use Rattle.nbt_node.specs.Node.{holds};
-ghost use Rattle.nbt_bench.specs.Node.{Turns, BreaksTurns, CutsTurn, TakesTurns, EndsTurns, RunsFor, NodeFailsFor, NodeIsCutFor, RunsNode, NodeFails, NodeIsCut, RunsNodeHere, NodeFailsHere, NodeIsCutHere, seen_text, held_text};
+ghost use Rattle.nbt_port.specs.Staying.{StaysUntil, EndsEarly};
+ghost use Rattle.nbt_bench.specs.Node.{Turns, BreaksTurns, FailsTurn, TakesTurns, EndsTurns, RunsFor, NodeEndsFor, RunsNode, NodeFails, NodeIsCut, RunsNodeHere, NodeFailsHere, NodeIsCutHere, seen_text, held_text};
 
 use crate::port::bound_port;
-use crate::staying::node_on;
 use nbt_client::{SLOTS, Seen, Want, node_turn};
 use nbt_lease::{Config, Moment};
 use nbt_name::Addr;
 use nbt_node::Node;
-use nbt_port::{Clock, FOREVER, Fault, MachineClock, Port, readable_clock, tell_end_of};
+use nbt_port::{
+    Clock, FOREVER, Fault, MachineClock, Port, Turn, Turned, readable_clock, stay_up, tell_end_of,
+};
 use std::io::Write;
 use std::net::Net;
 use std::{io, time};
@@ -103,11 +105,8 @@ fn run_for<P: Port, C: Clock, W: Write, M: time::Clock, E: Write>(
     requires failure_count { P.failures port.old ≤ 2 ^ 61 }
     ensures ok { OnOk result (RunsFor P.does C.tells arguments.now.turns arguments.now.server arguments.now.want (record { port = port.old; clock = clock.old; node = node.old; text = W.contents writer.old })
         (record { port = port.new; clock = clock.new; node = node.new; text = W.contents writer.new })) }
-    ensures device { result ≡ Err Fault.Device → NodeFailsFor P.does C.tells arguments.now.turns arguments.now.server arguments.now.want (record { port = port.old; clock = clock.old; node = node.old; text = W.contents writer.old })
-        (record { port = port.new; clock = clock.new; node = node.new; text = W.contents writer.new }) }
-    ensures output { result ≡ Err Fault.Output → NodeIsCutFor P.does C.tells arguments.now.turns arguments.now.server arguments.now.want (record { port = port.old; clock = clock.old; node = node.old; text = W.contents writer.old })
-        (record { port = port.new; clock = clock.new; node = node.new; text = W.contents writer.new }) }
-    ensures memory { result ≢ Err Fault.Memory }
+    ensures err { IfErr result (λ fault. NodeEndsFor P.does C.tells arguments.now.turns arguments.now.server arguments.now.want fault (record { port = port.old; clock = clock.old; node = node.old; text = W.contents writer.old })
+        (record { port = port.new; clock = clock.new; node = node.new; text = W.contents writer.new })) }
 {
     match arguments.turns {
         Some(turns) => take_turns(port, clock, node, arguments, turns, writer),
@@ -129,11 +128,8 @@ fn take_turns<P: Port, C: Clock, W: Write>(
     requires failure_count { P.failures port.old < 2 ^ 62 }
     ensures ok { OnOk result (TakesTurns P.does C.tells arguments.now.server arguments.now.want turns
         (record { port = port.old; clock = clock.old; node = node.old; text = W.contents writer.old }) (record { port = port.new; clock = clock.new; node = node.new; text = W.contents writer.new })) }
-    ensures device { result ≡ Err Fault.Device → EndsTurns P.does C.tells arguments.now.server arguments.now.want (BreaksTurns P.does C.tells arguments.now.server arguments.now.want) turns
-        (record { port = port.old; clock = clock.old; node = node.old; text = W.contents writer.old }) (record { port = port.new; clock = clock.new; node = node.new; text = W.contents writer.new }) }
-    ensures output { result ≡ Err Fault.Output → EndsTurns P.does C.tells arguments.now.server arguments.now.want (CutsTurn P.does C.tells arguments.now.server arguments.now.want) turns
-        (record { port = port.old; clock = clock.old; node = node.old; text = W.contents writer.old }) (record { port = port.new; clock = clock.new; node = node.new; text = W.contents writer.new }) }
-    ensures memory { result ≢ Err Fault.Memory }
+    ensures err { IfErr result (λ fault. EndsTurns P.does C.tells arguments.now.server arguments.now.want (FailsTurn P.does C.tells arguments.now.server arguments.now.want fault) turns
+        (record { port = port.old; clock = clock.old; node = node.old; text = W.contents writer.old }) (record { port = port.new; clock = clock.new; node = node.new; text = W.contents writer.new })) }
 {
     for _ in 0..turns {
         take_turn(port, clock, node, arguments, writer)?;
@@ -141,8 +137,87 @@ fn take_turns<P: Port, C: Clock, W: Write>(
     Ok(())
 }
 
+/// The node takes `turns` turns, and stays up as [`stay_up`] says.
+fn node_on<P: Port, C: Clock, W: Write, M: time::Clock, E: Write>(
+    port: &mut P,
+    clock: &mut C,
+    node: &mut Node<SLOTS>,
+    arguments: &NodeArguments,
+    turns: u64,
+    writer: &mut W,
+    machine: &M,
+    errors: &mut E,
+) -> Result<(), Fault>
+    requires failure_count { P.failures port.old + turns ≤ 2 ^ 62 }
+    ensures ok { OnOk result (StaysUntil (Turns P.does C.tells arguments.now.server arguments.now.want) (BreaksTurns P.does C.tells arguments.now.server arguments.now.want) (λ _ _. ⊥) turns
+        (record { port = port.old; clock = clock.old; node = node.old; text = W.contents writer.old }) (record { port = port.new; clock = clock.new; node = node.new; text = W.contents writer.new })) }
+    ensures err { IfErr result (λ fault. EndsEarly (Turns P.does C.tells arguments.now.server arguments.now.want) (BreaksTurns P.does C.tells arguments.now.server arguments.now.want)
+        (FailsTurn P.does C.tells arguments.now.server arguments.now.want) turns fault
+        (record { port = port.old; clock = clock.old; node = node.old; text = W.contents writer.old }) (record { port = port.new; clock = clock.new; node = node.new; text = W.contents writer.new })) }
+{
+    let mut turn = NodeTurn {
+        port,
+        clock,
+        node,
+        arguments,
+        writer,
+    };
+    stay_up(&mut turn, turns, machine, errors)
+}
+
+/// One turn of a node that stays up.
+#[derive(Drop)]
+struct NodeTurn<'p, 'c, 'n, 'a, 'w, P, C, W> {
+    port: &'p mut P,
+    clock: &'c mut C,
+    node: &'n mut Node<SLOTS>,
+    arguments: &'a NodeArguments,
+    writer: &'w mut W,
+}
+
+impl<P: Port, C: Clock, W: Write> Turn for NodeTurn<'_, '_, '_, '_, '_, P, C, W> {
+    ghost use Rattle.std.specs.Prelude.{List, [], ◌∷◌};
+    ghost use Rattle.nbt_client.specs.declared.turning.Seen.{Seen};
+    ghost use Rattle.nbt_bench.specs.Node.{Running};
+    ghost use Rattle.nbt_bench.specs.declared.node.NodeArguments.{NodeArguments};
+
+    ghost State = { Running P C };
+
+    ghost Shown = { Seen };
+
+    ghost Fixed = { NodeArguments × List ℕ };
+
+    ghost state = { λ t. record { port = t.port.now; clock = t.clock.now; node = t.node.now; text = W.contents t.writer.now } };
+
+    ghost fixed = { λ t. (t.arguments.now, t.port.ghost_name ∷ t.clock.ghost_name ∷ t.node.ghost_name ∷ t.writer.ghost_name ∷ []) };
+
+    ghost failures = { λ t. P.failures t.port.now };
+
+    ghost turns = { λ a. Turns P.does C.tells a.0.server a.0.want };
+
+    ghost breaks = { λ a. BreaksTurns P.does C.tells a.0.server a.0.want };
+
+    ghost last = { λ _ _ _. ⊥ };
+
+    ghost cuts = { λ a. FailsTurn P.does C.tells a.0.server a.0.want };
+
+    fn take<E: Write>(&mut self, _errors: &mut E) -> Turned {
+        match take_turn(
+            self.port,
+            self.clock,
+            self.node,
+            self.arguments,
+            self.writer,
+        ) {
+            Ok(_) => Turned::Well,
+            Err(Fault::Device) => Turned::Failed(self.port.cause()),
+            Err(fault) => Turned::CutOff(fault),
+        }
+    }
+}
+
 /// Takes a turn, and prints what is seen in it.
-pub fn take_turn<P: Port, C: Clock, W: Write>(
+fn take_turn<P: Port, C: Clock, W: Write>(
     port: &mut P,
     clock: &mut C,
     node: &mut Node<SLOTS>,
@@ -152,11 +227,8 @@ pub fn take_turn<P: Port, C: Clock, W: Write>(
     requires failure_count { P.failures port.old < 2 ^ 62 }
     ensures ok { IfOk result (λ seen. Turns P.does C.tells arguments.now.server arguments.now.want
         (record { port = port.old; clock = clock.old; node = node.old; text = W.contents writer.old }) seen (record { port = port.new; clock = clock.new; node = node.new; text = W.contents writer.new })) }
-    ensures device { result ≡ Err Fault.Device → BreaksTurns P.does C.tells arguments.now.server arguments.now.want
-        (record { port = port.old; clock = clock.old; node = node.old; text = W.contents writer.old }) (record { port = port.new; clock = clock.new; node = node.new; text = W.contents writer.new }) }
-    ensures output { result ≡ Err Fault.Output → CutsTurn P.does C.tells arguments.now.server arguments.now.want
-        (record { port = port.old; clock = clock.old; node = node.old; text = W.contents writer.old }) (record { port = port.new; clock = clock.new; node = node.new; text = W.contents writer.new }) }
-    ensures memory { result ≢ Err Fault.Memory }
+    ensures err { IfErr result (λ fault. FailsTurn P.does C.tells arguments.now.server arguments.now.want fault
+        (record { port = port.old; clock = clock.old; node = node.old; text = W.contents writer.old }) (record { port = port.new; clock = clock.new; node = node.new; text = W.contents writer.new })) }
     ensures same { OnOk result (P.failures port.new ≡ P.failures port.old) }
     ensures count { P.failures port.new ≤ P.failures port.old + 1 }
 {

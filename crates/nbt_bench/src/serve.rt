@@ -1,15 +1,15 @@
 //! A name server over UDP and the machine's clock.
 
-ghost use Rattle.std.specs.Prelude.{◌≡◌, ◌≢◌, ◌≤◌, ◌^◌, OnOk};
+ghost use Rattle.std.specs.Prelude.{◌≡◌, ◌≢◌, ℕ, ◌+◌, ◌≤◌, ◌^◌, OnOk, IfErr};
 ghost use Rattle.std.specs.Io.KnownBytes.{Appends};
-ghost use Rattle.nbt_bench.specs.Serve.{RunsServer, ServerFails, ServerIsCut, RunsServerHere, ServerFailsHere, ServerIsCutHere, ServesFor, FailsFor, IsCutFor, counts_text};
+ghost use Rattle.nbt_port.specs.Staying.{StaysUntil, EndsEarly};
+ghost use Rattle.nbt_bench.specs.Serve.{ServesTurn, BreaksServing, RunsServer, ServerFails, ServerIsCut, RunsServerHere, ServerFailsHere, ServerIsCutHere, ServesFor, FailsFor, IsCutFor, counts_text};
 
 use crate::port::bound_port;
-use crate::staying::serve_on;
 use nbt_lease::Config;
 use nbt_name::Addr;
 use nbt_nbns::{Counts, serve_turns};
-use nbt_port::{Clock, FOREVER, Fault, Port, readable_clock, tell_end_of};
+use nbt_port::{Clock, FOREVER, Fault, Port, Turn, Turned, readable_clock, stay_up, tell_end_of};
 use nbt_server::Server;
 use std::alloc::Global;
 use std::io::Write;
@@ -107,8 +107,71 @@ fn serve_for<P: Port, C: Clock, W: Write, M: time::Clock, E: Write>(
         }
         None => {
             print_begin(arguments, writer).map_err(|_| Fault::Output)?;
-            serve_on(port, clock, server, FOREVER, machine, errors)?;
-            Ok(())
+            serve_on(port, clock, server, FOREVER, machine, errors)
+        }
+    }
+}
+
+/// The server goes through `turns` turns, and stays up as [`stay_up`] says.
+fn serve_on<P: Port, C: Clock, M: time::Clock, E: Write>(
+    port: &mut P,
+    clock: &mut C,
+    server: &mut Server,
+    turns: u64,
+    machine: &M,
+    errors: &mut E,
+) -> Result<(), Fault>
+    requires failure_count { P.failures port.old + turns ≤ 2 ^ 62 }
+    ensures ok { OnOk result (StaysUntil (ServesTurn P.does C.tells) (BreaksServing P.does C.tells) (λ _ _. ⊥) turns
+        (record { port = port.old; clock = clock.old; server = server.old }) (record { port = port.new; clock = clock.new; server = server.new })) }
+    ensures err { IfErr result (λ fault. EndsEarly (ServesTurn P.does C.tells) (BreaksServing P.does C.tells) (λ _ _ _. ⊥) turns fault
+        (record { port = port.old; clock = clock.old; server = server.old }) (record { port = port.new; clock = clock.new; server = server.new })) }
+{
+    let mut turn = ServerTurn {
+        port,
+        clock,
+        server,
+    };
+    stay_up(&mut turn, turns, machine, errors)
+}
+
+/// One turn of a server that stays up.
+#[derive(Drop)]
+struct ServerTurn<'a, P, C> {
+    port: &'a mut P,
+    clock: &'a mut C,
+    server: &'a mut Server,
+}
+
+impl<P: Port, C: Clock> Turn for ServerTurn<'_, P, C> {
+    ghost use Rattle.std.specs.Prelude.{List, [], ◌∷◌};
+    ghost use Rattle.nbt_nbns.specs.declared.serving.Counts.{Counts};
+    ghost use Rattle.nbt_bench.specs.Serve.{Serving};
+
+    ghost State = { Serving P C };
+
+    ghost Shown = { Counts };
+
+    ghost Fixed = { List ℕ };
+
+    ghost state = { λ t. record { port = t.port.now; clock = t.clock.now; server = t.server.now } };
+
+    ghost fixed = { λ t. t.port.ghost_name ∷ t.clock.ghost_name ∷ t.server.ghost_name ∷ [] };
+
+    ghost failures = { λ t. P.failures t.port.now };
+
+    ghost turns = { λ _. ServesTurn P.does C.tells };
+
+    ghost breaks = { λ _. BreaksServing P.does C.tells };
+
+    ghost last = { λ _ _ _. ⊥ };
+
+    ghost cuts = { λ _ _ _ _. ⊥ };
+
+    fn take<E: Write>(&mut self, _errors: &mut E) -> Turned {
+        match serve_turns(self.port, self.clock, self.server, 1) {
+            Ok(_) => Turned::Well,
+            Err(_) => Turned::Failed(self.port.cause()),
         }
     }
 }

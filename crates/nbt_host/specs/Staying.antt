@@ -1,9 +1,8 @@
 -- A host that stays up until its time is over (our profile).
-use Rattle.std.specs.Prelude.{◌⊎◌, ℕ, Option}
+use Rattle.std.specs.Prelude.{ℕ, Option}
 use Rattle.nbt_port.specs.PortCalls.{PortCall}
 use Rattle.nbt_port.specs.declared.fault.Fault.{Fault}
-use Rattle.nbt_port.specs.declared.fault.Fault.TheVariants.{Device}
-use Rattle.nbt_port.specs.Staying.{StaysUp, GivesUp, IsCutOff}
+use Rattle.nbt_port.specs.Staying.{StaysUntil, EndsEarly}
 use Rattle.nbt_port.specs.declared.limits.TheConstants.{FOREVER}
 use Rattle.nbt_host.specs.Host.{Running, CantPrint}
 use Rattle.nbt_host.specs.Turning.{TurnsWell, TurnsBadly, TurnIsCut}
@@ -20,11 +19,12 @@ TurnsLast does tells tells_day a until old new = (shown : Shown) × TurnsWell do
 
 -- It stays up for good, or until its time is over.
 abbrev pub HostsUntil : {P C D : Type 0} → (P → PortCall → P → Type 0) → (C → ℕ → C → Type 0) → (D → ℕ → D → Type 0) → HostArguments → (until : Option ℕ) → Running P C D → Running P C D → Type 0
-HostsUntil does tells tells_day a until old new = StaysUp (TurnsOn does tells tells_day a until) (TurnsBadly does tells tells_day a) FOREVER old new
-    ⊎ IsCutOff (TurnsOn does tells tells_day a until) (TurnsBadly does tells tells_day a) (TurnsLast does tells tells_day a until) FOREVER old new
+HostsUntil does tells tells_day a until old new = StaysUntil (TurnsOn does tells tells_day a until) (TurnsBadly does tells tells_day a) (TurnsLast does tells tells_day a until) FOREVER old new
+
+-- a turn of which something can't be printed
+abbrev pub IsCutBy : {P C D : Type 0} → (P → PortCall → P → Type 0) → (C → ℕ → C → Type 0) → (D → ℕ → D → Type 0) → HostArguments → Fault → Running P C D → Running P C D → Type 0
+IsCutBy does tells tells_day a fault old new = CantPrint fault × TurnIsCut does tells tells_day a old new
 
 -- It ends before that: it gives up, or what a turn shows can't be printed.
-pub data HostingFails {P C D : Type 0} (does : P → PortCall → P → Type 0) (tells : C → ℕ → C → Type 0) (tells_day : D → ℕ → D → Type 0) (a : HostArguments) (until : Option ℕ) : Fault → Running P C D → Running P C D → Type 0 where
-  gives_up : (old new : Running P C D) → GivesUp (TurnsOn does tells tells_day a until) (TurnsBadly does tells tells_day a) FOREVER old new → HostingFails does tells tells_day a until Device old new
-  is_cut : (fault : Fault) (old new : Running P C D) → CantPrint fault
-      → IsCutOff (TurnsOn does tells tells_day a until) (TurnsBadly does tells tells_day a) (TurnIsCut does tells tells_day a) FOREVER old new → HostingFails does tells tells_day a until fault old new
+abbrev pub HostingFails : {P C D : Type 0} → (P → PortCall → P → Type 0) → (C → ℕ → C → Type 0) → (D → ℕ → D → Type 0) → HostArguments → (until : Option ℕ) → Fault → Running P C D → Running P C D → Type 0
+HostingFails does tells tells_day a until fault old new = EndsEarly (TurnsOn does tells tells_day a until) (TurnsBadly does tells tells_day a) (IsCutBy does tells tells_day a) FOREVER fault old new

@@ -13,7 +13,8 @@ ghost use Rattle.nbt_host.specs.Begin.{begin_text};
 ghost use Rattle.nbt_host.specs.Host.{dates_of, Starts, CantPrint};
 ghost use Rattle.nbt_host.specs.TurnLines.{has_lines};
 ghost use Rattle.nbt_host.specs.Turning.{Shows, PrintsTurn, TurnsWell, TurnsBadly, TurnIsCut};
-ghost use Rattle.nbt_host.specs.Staying.{HostsUntil, HostingFails};
+ghost use Rattle.nbt_port.specs.Staying.{StaysUntil};
+ghost use Rattle.nbt_host.specs.Staying.{TurnsOn, TurnsLast, HostingFails};
 ghost use Rattle.nbt_host.specs.ReleaseLines.{PrintsEnding, GivesBack, GivingBackFails};
 ghost use Rattle.nbt_host.specs.Running.{RunsHost, RunFails};
 
@@ -30,7 +31,7 @@ use nbt_lease::Moment;
 use nbt_log::Dates;
 use nbt_name::Addr;
 use nbt_node::Node;
-use nbt_port::{Clock, Device, FOREVER, Fault, Port, Row, is_over, print};
+use nbt_port::{Clock, Device, FOREVER, Fault, Port, Turn, Turned, is_over, print, stay_up};
 use std::alloc::{AllocError, Global};
 use std::io::Write;
 use std::marker::Model;
@@ -235,27 +236,20 @@ impl<C: Clock, D: Clock> Host<C, D> {
         errors: &mut E,
     ) -> Result<(), Fault>
         requires failure_count { P.failures port.old < 2 ^ 61 }
-        ensures ok { OnOk result (HostsUntil P.does C.tells D.tells arguments.now until
+        ensures ok { OnOk result (StaysUntil (TurnsOn P.does C.tells D.tells arguments.now until) (TurnsBadly P.does C.tells D.tells arguments.now) (TurnsLast P.does C.tells D.tells arguments.now until) FOREVER
             (record { port = port.old; host = self.old; text = W.contents writer.old }) (record { port = port.new; host = self.new; text = W.contents writer.new })) }
         ensures err { IfErr result (λ fault. HostingFails P.does C.tells D.tells arguments.now until fault
             (record { port = port.old; host = self.old; text = W.contents writer.old }) (record { port = port.new; host = self.new; text = W.contents writer.new })) }
         ensures failure_count { P.failures port.new < 2 ^ 62 }
     {
-        let until = &until;
-        let mut row = Row::new();
-        for _ in 0..FOREVER {
-            let turned = self.go(port, arguments, writer)?;
-            match turned {
-                Ok(shown) => {
-                    row.ends(errors);
-                    if is_over(until, shown.at) {
-                        return Ok(());
-                    }
-                }
-                Err(_) => row.goes_on(port.cause(), machine, errors)?,
-            }
-        }
-        Ok(())
+        let mut turn = HostTurn {
+            host: self,
+            port,
+            arguments,
+            until,
+            writer,
+        };
+        stay_up(&mut turn, FOREVER, machine, errors)
     }
 
     /// Gives all names back, as [`give_back`] does, and prints what came of each, at once, also where the port failed. Refused:
@@ -308,6 +302,53 @@ impl<C: Clock, D: Clock> Host<C, D> {
         let all = self.holds_all(now);
         self.end(port, arguments.server, writer)?;
         Ok(all)
+    }
+}
+
+/// One turn of a host that stays up.
+#[derive(Drop)]
+struct HostTurn<'h, 'p, 'a, 'w, P, C, D, W> {
+    host: &'h mut Host<C, D>,
+    port: &'p mut P,
+    arguments: &'a HostArguments,
+    until: Option<Moment>,
+    writer: &'w mut W,
+}
+
+impl<P: Port, C: Clock, D: Clock, W: Write> Turn for HostTurn<'_, '_, '_, '_, P, C, D, W> {
+    ghost use Rattle.std.specs.Prelude.{[], ◌∷◌, Option};
+    ghost use Rattle.nbt_host.specs.Host.{Running};
+    ghost use Rattle.nbt_host.specs.Staying.{IsCutBy};
+    ghost use Rattle.nbt_host.specs.declared.arguments.HostArguments.{HostArguments};
+    ghost use Rattle.nbt_host.specs.declared.host.Shown.{Shown};
+
+    ghost State = { Running P C D };
+
+    ghost Shown = { Shown };
+
+    ghost Fixed = { HostArguments × Option ℕ × List ℕ };
+
+    ghost state = { λ t. record { port = t.port.now; host = t.host.now; text = W.contents t.writer.now } };
+
+    ghost fixed = { λ t. (t.arguments.now, t.until, t.host.ghost_name ∷ t.port.ghost_name ∷ t.writer.ghost_name ∷ []) };
+
+    ghost failures = { λ t. P.failures t.port.now };
+
+    ghost turns = { λ f. TurnsOn P.does C.tells D.tells f.0 f.1 };
+
+    ghost breaks = { λ f. TurnsBadly P.does C.tells D.tells f.0 };
+
+    ghost last = { λ f. TurnsLast P.does C.tells D.tells f.0 f.1 };
+
+    ghost cuts = { λ f. IsCutBy P.does C.tells D.tells f.0 };
+
+    fn take<E: Write>(&mut self, _errors: &mut E) -> Turned {
+        match self.host.go(self.port, self.arguments, self.writer) {
+            Ok(Ok(shown)) if is_over(&self.until, shown.at) => Turned::Last,
+            Ok(Ok(_)) => Turned::Well,
+            Ok(Err(_)) => Turned::Failed(self.port.cause()),
+            Err(fault) => Turned::CutOff(fault),
+        }
     }
 }
 

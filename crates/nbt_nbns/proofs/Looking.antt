@@ -1,7 +1,5 @@
 -- What became of a look at the leases, by the parts of who keeps their list.
-use Rattle.std.proofs.Common.{◌≡◌, ◌≢◌, ℕ, List, Option, Some, Result, Ok, Err, OnErr, sym, ap, subst, ◌∙◌}
-use Rattle.std.specs.Prelude.{is_ok}
-use Rattle.std.proofs.lemmas.Bool.{false≢true}
+use Rattle.std.proofs.Common.{◌≡◌, ◌≢◌, ℕ, List, Option, Some, sym, ap, subst, ◌∙◌}
 use Rattle.nbt_lease.specs.Lease.{Rows}
 use Rattle.nbt_log.specs.Leases.{PrintsLeases}
 use Rattle.nbt_log.specs.declared.dates.Dates.{Dates}
@@ -23,10 +21,3 @@ module _ {L : Type 0} (puts : L → List ℕ → L → Type 0) (dates : Dates) (
 
     pub failed_look : (to : L) → Keeps puts dates now rows old k.Failed (record { looked = Some now; text = had; place = to })
     failed_look to = subst (λ (t : Option (List ℕ)). Keeps puts dates now rows old k.Failed (record { looked = Some now; text = t; place = to })) (ap (λ (o : KeeperValue L). o.text) is) (failed to due)
-
--- what follows from what was proved of an end with an error
-pub on_err : {A B D E P Q : Type 0} (r : Result A D) (s : Result B E) → is_ok s ≡ is_ok r → OnErr r P → (P → Q) → OnErr s Q
-on_err (Ok x) (Ok y) alike was make = tt
-on_err (Ok x) (Err e) alike was make = absurd (false≢true alike)
-on_err (Err e) (Ok y) alike was make = tt
-on_err (Err e) (Err d) alike was make = make was

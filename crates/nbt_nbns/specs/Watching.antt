@@ -1,9 +1,9 @@
 -- A name server that stays up, and is watched (our profile).
-use Rattle.std.specs.Prelude.{◌≡◌, ℕ, ◌⊎◌, List, Option}
+use Rattle.std.specs.Prelude.{◌≡◌, ℕ, List, Option}
 use Rattle.nbt_server.specs.Serving.{ServerValue}
 use Rattle.nbt_port.specs.PortCalls.{PortCall}
 use Rattle.nbt_nbns.specs.Serving.{Breaks}
-use Rattle.nbt_port.specs.Staying.{StaysUp, GivesUp, IsCutOff}
+use Rattle.nbt_port.specs.Staying.{StaysUntil, GivesUp}
 use Rattle.nbt_port.specs.Until.{IsOver}
 use Rattle.nbt_port.specs.declared.limits.TheConstants.{FOREVER}
 use Rattle.nbt_nbns.specs.Serving.{WatchesTurn}
@@ -49,8 +49,7 @@ WatchesLast does tells sees until old new = (shown : Shown) × Watches does tell
 
 -- It stays up for good, or until its time is over.
 abbrev pub WatchesUntil : {P C V : Type 0} → (P → PortCall → P → Type 0) → (C → ℕ → C → Type 0) → Sight V → (until : Option ℕ) → Watching P C V → Watching P C V → Type 0
-WatchesUntil does tells sees until old new = StaysUp (WatchesOn does tells sees until) (BreaksWatching does tells) FOREVER old new
-    ⊎ IsCutOff (WatchesOn does tells sees until) (BreaksWatching does tells) (WatchesLast does tells sees until) FOREVER old new
+WatchesUntil does tells sees until old new = StaysUntil (WatchesOn does tells sees until) (BreaksWatching does tells) (WatchesLast does tells sees until) FOREVER old new
 
 -- It gives up before that.
 abbrev pub WatchFails : {P C V : Type 0} → (P → PortCall → P → Type 0) → (C → ℕ → C → Type 0) → Sight V → (until : Option ℕ) → Watching P C V → Watching P C V → Type 0

@@ -19,7 +19,7 @@ use std::marker::Model;
 /// may be printed.
 #[derive(Drop)]
 pub struct Logger {
-    alloc: Global,
+    line: String,
     limiter: Limiter,
     complaint: Complaint,
 }
@@ -38,7 +38,7 @@ impl Logger {
         ensures { result ≡ record { told = []; left_out = 0 } }
     {
         Logger {
-            alloc,
+            line: String::new(alloc),
             limiter: Limiter::new(),
             complaint: Complaint::new(),
         }
@@ -78,9 +78,9 @@ impl Logger {
     ) -> io::Result<bool>
         ensures { OnOk result ((line : List ℕ) × Logs self.old dates.now shown.now.at shown.now.entry line self.new × Appends (W.contents writer.old) (W.contents writer.new) line) }
     {
-        let mut line = String::new(self.alloc);
-        write_limited(&mut self.limiter, dates, shown, &mut line)?;
-        print_any(line.as_str(), writer)
+        self.line.clear();
+        write_limited(&mut self.limiter, dates, shown, &mut self.line)?;
+        print_any(self.line.as_str(), writer)
     }
 }
 

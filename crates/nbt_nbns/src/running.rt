@@ -207,10 +207,6 @@ fn watch_to_its_end<P: Port, C: Clock, V: Watcher, M: time::Clock, W: Write, E: 
     ensures fault { IfErr result (λ fault. fault ≡ Fault.Device) }
 {
     let watched = watch_on(port, clock, server, watcher, until, machine, writer, errors);
-    let ended = match watched {
-        Ok(()) => Ok(()),
-        Err(failure) => Err(Fault::from(failure)),
-    };
-    tell_end_of(ended.err(), port.cause(), errors);
-    ended
+    tell_end_of(watched.err(), port.cause(), errors);
+    watched
 }

@@ -1,17 +1,18 @@
 //! A name server that stays up, and is watched.
 
-ghost use Rattle.std.specs.Prelude.{ℕ, List, Option, ◌<◌, ◌≤◌, ◌^◌, IfOk, OnOk, OnErr};
+ghost use Rattle.std.specs.Prelude.{ℕ, List, Option, ◌<◌, ◌≤◌, ◌^◌, IfOk, IfErr, OnOk, OnErr};
 ghost use Rattle.nbt_server.specs.Serving.{ServerValue};
 ghost use Rattle.nbt_port.specs.PortCalls.{CountsFailure};
 ghost use Rattle.nbt_nbns.specs.Serving.{Breaks};
 ghost use Rattle.nbt_nbns.specs.declared.staying.Shown.{Shown};
-ghost use Rattle.nbt_nbns.specs.Watching.{ShowsTurn, WatchesUntil, WatchFails};
+ghost use Rattle.nbt_port.specs.Staying.{StaysUntil, EndsEarly};
+ghost use Rattle.nbt_nbns.specs.Watching.{ShowsTurn, WatchesOn, WatchesLast, BreaksWatching};
 
 use crate::serving::serve_turn;
 use arrayvec::ArrayVec;
 use nbt_lease::Moment;
 use nbt_log::Entry;
-use nbt_port::{Clock, Device, FOREVER, Port, Row, is_over};
+use nbt_port::{Clock, Device, FOREVER, Fault, Port, Turn, Turned, is_over, stay_up};
 use nbt_server::Server;
 use std::io::Write;
 use std::time;
@@ -42,11 +43,10 @@ pub trait Watcher {
         ensures { sees self.old server.now shown.now (W.contents writer.old) self.new (W.contents writer.new) };
 }
 
-/// The server goes through turns until the moment `until`, if there is one, and through 2^61 of them at most, and stays up when the port fails.
-/// After each turn that went well the clock is read, and the watcher is shown what the turn was. After a turn that failed it says so
-/// in `errors`, the first time of a row, waits 100 ms by the machine's clock, and goes on from where the failure left it; when the
-/// row is over, it says how many failed. Refused with `Device` at the hundredth failure in a row, at once. What can't be written to
-/// `errors` is passed over.
+/// The server goes through turns until the moment `until`, if there is one, and through 2^61 of them at most, and stays up when the
+/// port fails, as [`stay_up`] says. After each turn that went well the clock is read, and the watcher is shown what the turn was.
+/// Refused with `Device` at the hundredth failure in a row, at once; it then says in `errors` why the port failed, where the port
+/// knows it. What can't be written to `errors` is passed over.
 pub fn watch_on<P: Port, C: Clock, V: Watcher, M: time::Clock, W: Write, E: Write>(
     port: &mut P,
     clock: &mut C,
@@ -56,32 +56,82 @@ pub fn watch_on<P: Port, C: Clock, V: Watcher, M: time::Clock, W: Write, E: Writ
     machine: &M,
     writer: &mut W,
     errors: &mut E,
-) -> Result<(), Device>
+) -> Result<(), Fault>
     requires failure_count { P.failures port.old ≤ 2 ^ 61 }
-    ensures ok { OnOk result (WatchesUntil P.does C.tells V.sees until
+    ensures ok { OnOk result (StaysUntil (WatchesOn P.does C.tells V.sees until) (BreaksWatching P.does C.tells) (WatchesLast P.does C.tells V.sees until) FOREVER
         (record { port = port.old; clock = clock.old; server = server.old; watcher = watcher.old; text = W.contents writer.old })
         (record { port = port.new; clock = clock.new; server = server.new; watcher = watcher.new; text = W.contents writer.new })) }
-    ensures err { OnErr result (WatchFails P.does C.tells V.sees until
+    ensures err { IfErr result (λ fault. EndsEarly (WatchesOn P.does C.tells V.sees until) (BreaksWatching P.does C.tells) (λ _ _ _. ⊥) FOREVER fault
         (record { port = port.old; clock = clock.old; server = server.old; watcher = watcher.old; text = W.contents writer.old })
         (record { port = port.new; clock = clock.new; server = server.new; watcher = watcher.new; text = W.contents writer.new })) }
 {
-    let until = &until;
-    let mut row = Row::new();
-    let mut octets = ArrayVec::new();
-    let mut reply = ArrayVec::new();
-    for _ in 0..FOREVER {
-        match turn_and_moment(port, clock, server, &mut octets, &mut reply) {
-            Ok(shown) => {
-                row.ends(errors);
-                watcher.see(server, &shown, writer, errors);
-                if is_over(until, shown.at) {
-                    return Ok(());
-                }
-            }
-            Err(_) => row.goes_on(port.cause(), machine, errors)?,
+    let mut turn = WatchedTurn {
+        port,
+        clock,
+        server,
+        watcher,
+        until,
+        writer,
+        octets: ArrayVec::new(),
+        reply: ArrayVec::new(),
+    };
+    stay_up(&mut turn, FOREVER, machine, errors)
+}
+
+/// One turn of a server that is watched.
+#[derive(Drop)]
+struct WatchedTurn<'p, 'c, 's, 'v, 'w, P, C, V, W> {
+    port: &'p mut P,
+    clock: &'c mut C,
+    server: &'s mut Server,
+    watcher: &'v mut V,
+    until: Option<Moment>,
+    writer: &'w mut W,
+    octets: ArrayVec<u8, 2048>,
+    reply: ArrayVec<u8, 576>,
+}
+
+impl<P: Port, C: Clock, V: Watcher, W: Write> Turn for WatchedTurn<'_, '_, '_, '_, '_, P, C, V, W> {
+    ghost use Rattle.std.specs.Prelude.{[], ◌∷◌};
+    ghost use Rattle.nbt_nbns.specs.Watching.{Watching};
+
+    ghost State = { Watching P C V };
+
+    ghost Shown = { Shown };
+
+    ghost Fixed = { Option ℕ × List ℕ };
+
+    ghost state = { λ t. record { port = t.port.now; clock = t.clock.now; server = t.server.now; watcher = t.watcher.now; text = W.contents t.writer.now } };
+
+    ghost fixed = { λ t. (t.until, t.port.ghost_name ∷ t.clock.ghost_name ∷ t.server.ghost_name ∷ t.watcher.ghost_name ∷ t.writer.ghost_name ∷ []) };
+
+    ghost failures = { λ t. P.failures t.port.now };
+
+    ghost turns = { λ f. WatchesOn P.does C.tells V.sees f.0 };
+
+    ghost breaks = { λ _. BreaksWatching P.does C.tells };
+
+    ghost last = { λ f. WatchesLast P.does C.tells V.sees f.0 };
+
+    ghost cuts = { λ _ _ _ _. ⊥ };
+
+    fn take<E: Write>(&mut self, errors: &mut E) -> Turned {
+        let shown = match turn_and_moment(
+            self.port,
+            self.clock,
+            self.server,
+            &mut self.octets,
+            &mut self.reply,
+        ) {
+            Ok(shown) => shown,
+            Err(_) => return Turned::Failed(self.port.cause()),
+        };
+        self.watcher.see(self.server, &shown, self.writer, errors);
+        if is_over(&self.until, shown.at) {
+            return Turned::Last;
         }
+        Turned::Well
     }
-    Ok(())
 }
 
 /// One turn, and the moment after it.

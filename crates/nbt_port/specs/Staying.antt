@@ -1,6 +1,10 @@
 -- How an end that is meant to stay up goes on after turns that failed (our profile).
-use Rattle.std.specs.Prelude.{◌≡◌, ℕ, ◌+◌, ◌<◌, ◌≤◌, List, length, Option, Some, None}
+use Rattle.std.specs.Prelude.{◌≡◌, ◌≢◌, ◌⊎◌, ℕ, ◌+◌, ◌<◌, ◌≤◌, List, length, Option, Some, None}
 use Rattle.nbt_port.specs.PortCalls.{Chain}
+use Rattle.nbt_port.specs.declared.fault.Fault.{Fault}
+use Rattle.nbt_port.specs.declared.fault.Fault.TheVariants.{Device}
+use Rattle.nbt_port.specs.declared.staying.Turned.{Turned}
+use Rattle.nbt_port.specs.declared.staying.Turned.TheVariants as t
 use Rattle.nbt_port.specs.declared.limits.TheConstants.{MOST_FAILURES}
 
 -- an end, with how many of its turns have failed in a row
@@ -31,3 +35,19 @@ GivesUp turns breaks most old new = (count : ℕ) × (count ≤ most) × Goes tu
 -- It is cut off by another turn, after fewer than `most` through which it stayed up.
 abbrev pub IsCutOff : {S X : Type 0} → (S → X → S → Type 0) → (S → S → Type 0) → (S → S → Type 0) → (most : ℕ) → S → S → Type 0
 IsCutOff {S = S} turns breaks cuts most old new = (count : ℕ) × (mid : S) × (count < most) × StaysUp turns breaks count old mid × cuts mid new
+
+-- It takes all turns, or as many as it takes until a turn is the last.
+abbrev pub StaysUntil : {S X : Type 0} → (S → X → S → Type 0) → (S → S → Type 0) → (last : S → S → Type 0) → (most : ℕ) → S → S → Type 0
+StaysUntil turns breaks last most old new = StaysUp turns breaks most old new ⊎ IsCutOff turns breaks last most old new
+
+-- It ends before that: for the device it gives up, and for any other fault a turn cuts it off.
+abbrev pub EndsEarly : {S X : Type 0} → (S → X → S → Type 0) → (S → S → Type 0) → (cuts : Fault → S → S → Type 0) → (most : ℕ) → Fault → S → S → Type 0
+EndsEarly turns breaks cuts most Device old new = GivesUp turns breaks most old new
+EndsEarly turns breaks cuts most fault old new = IsCutOff turns breaks (cuts fault) most old new
+
+-- what came of one turn
+abbrev pub Takes : {S X : Type 0} → (S → X → S → Type 0) → (S → S → Type 0) → (last : S → S → Type 0) → (cuts : Fault → S → S → Type 0) → Turned → S → S → Type 0
+Takes {X = X} turns breaks last cuts t.Well old new = (x : X) × turns old x new
+Takes turns breaks last cuts t.Last old new = last old new
+Takes turns breaks last cuts (t.Failed cause) old new = breaks old new
+Takes turns breaks last cuts (t.CutOff fault) old new = (fault ≢ Device) × cuts fault old new

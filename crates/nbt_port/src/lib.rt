@@ -29,7 +29,7 @@ pub use memory::{Datagram, MemoryClock, MemoryPort};
 pub use monotonic::{SteadyClock, steady_clock};
 pub use port::{Device, Port};
 pub use printing::print;
-pub use staying::{Row, tell_end_of};
+pub use staying::{Turn, Turned, stay_up, tell_end_of};
 pub use time_of_day::{MachineClock, readable_clock};
 pub use udp::{RECEIVE_WAIT, UdpPort};
 pub use until::{is_over, until_of};

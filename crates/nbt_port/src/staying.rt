@@ -1,6 +1,8 @@
 //! How a server or a host stays up when its port fails.
 
-ghost use Rattle.std.specs.Prelude.{◌≡◌, ◌+◌, ◌<◌, OnOk, OnErr};
+ghost use Rattle.std.specs.Prelude.{◌≡◌, ℕ, ◌+◌, ◌<◌, ◌≤◌, ◌^◌, OnOk, OnErr, IfErr};
+ghost use Rattle.nbt_port.specs.declared.fault.Fault.{Fault};
+ghost use Rattle.nbt_port.specs.Staying.{StaysUntil, EndsEarly, Takes};
 
 use crate::cause::Cause;
 use crate::fault::Fault;
@@ -59,6 +61,88 @@ impl Row {
         thread::sleep(machine, Duration::from_millis(RECEIVE_WAIT));
         Ok(())
     }
+}
+
+/// What came of a turn.
+#[derive(Clone, Copy, Debug)]
+pub enum Turned {
+    /// It went well.
+    Well,
+    /// It went well, and was the last: the time is over.
+    Last,
+    /// The port failed, for this cause, where it knows it.
+    Failed(Option<Cause>),
+    /// It can't go on, for this fault; it is none of the port's.
+    CutOff(Fault),
+}
+
+/// What goes on turn by turn, and is to stay up when its port fails.
+pub trait Turn {
+    /// What a turn changes.
+    ghost State: { Type 0 };
+
+    /// What a turn shows.
+    ghost Shown: { Type 0 };
+
+    /// What stays as it is: its arguments, and which values it borrows.
+    ghost Fixed: { Type 0 };
+
+    ghost state: { Self → State };
+
+    ghost fixed: { Self → Fixed };
+
+    /// How many calls of its port have failed.
+    ghost failures: { Self → ℕ };
+
+    /// A turn that goes well.
+    ghost turns: { Fixed → State → Shown → State → Type 0 };
+
+    /// A turn in which the port fails.
+    ghost breaks: { Fixed → State → State → Type 0 };
+
+    /// The last turn, after which the time is over.
+    ghost last: { Fixed → State → State → Type 0 };
+
+    /// A turn that cuts it off for a fault that isn't the port's.
+    ghost cuts: { Fixed → Fault → State → State → Type 0 };
+
+    /// Takes a turn. What can't be done about it is said in `errors`.
+    fn take<E: Write>(&mut self, errors: &mut E) -> Turned
+        requires failure_count { failures self.old < 2 ^ 62 }
+        ensures takes { Takes (turns (fixed self.old)) (breaks (fixed self.old)) (last (fixed self.old)) (cuts (fixed self.old)) result (state self.old) (state self.new) }
+        ensures fixed { fixed self.new ≡ fixed self.old }
+        ensures count { failures self.new ≤ failures self.old + 1 };
+}
+
+/// Takes `turns` turns, or as many as it takes until one is the last, and stays up when the port fails. After a turn that failed it
+/// says so in `errors`, the first time of a row, waits 100 ms by the machine's clock, and goes on from where the failure left it;
+/// when the row is over, it says how many failed. Refused: `Device` at the hundredth failure in a row; the fault of a turn that
+/// is cut off; each at once. What can't be written to `errors` is passed over.
+pub fn stay_up<T: Turn, M: time::Clock, E: Write>(
+    turn: &mut T,
+    turns: u64,
+    machine: &M,
+    errors: &mut E,
+) -> Result<(), Fault>
+    requires failure_count { T.failures turn.old + turns ≤ 2 ^ 62 }
+    ensures ok { OnOk result (StaysUntil (T.turns (T.fixed turn.old)) (T.breaks (T.fixed turn.old)) (T.last (T.fixed turn.old)) turns (T.state turn.old) (T.state turn.new)) }
+    ensures err { IfErr result (λ fault. EndsEarly (T.turns (T.fixed turn.old)) (T.breaks (T.fixed turn.old)) (T.cuts (T.fixed turn.old)) turns fault (T.state turn.old) (T.state turn.new)) }
+    ensures fixed { T.fixed turn.new ≡ T.fixed turn.old }
+    ensures count { T.failures turn.new ≤ T.failures turn.old + turns }
+{
+    let mut row = Row::new();
+    for _ in 0..turns {
+        match turn.take(errors) {
+            Turned::Well => row.ends(errors),
+            Turned::Last => {
+                row.ends(errors);
+                return Ok(());
+            }
+            Turned::Failed(cause) => row.goes_on(cause, machine, errors)?,
+            Turned::CutOff(fault) => return Err(fault),
+        }
+    }
+    Ok(())
 }
 
 /// Prints to `errors` why a port failed for good, where it did and the reason is known.

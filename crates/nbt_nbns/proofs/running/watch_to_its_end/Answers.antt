@@ -1,0 +1,14 @@
+use Rattle.nbt_port.specs.declared.limits.TheConstants.{FOREVER}
+use Rattle.nbt_port.proofs.Outcomes.{gives_up}
+use Rattle.nbt_nbns.specs.Watching.{WatchesOn, BreaksWatching}
+use Rattle.nbt_nbns.proofs.running.watch_to_its_end.Goals as goal
+
+pub returns-clause-err : goal.returns-clause-err
+returns-clause-err g c =
+    let w = c.watch_on in
+    (gives_up (WatchesOn g.P.Port.does g.C.Clock.tells g.V.Watcher.sees c.args.until) (BreaksWatching g.P.Port.does g.C.Clock.tells) FOREVER _ _ w.result w.ensures.err).0
+
+pub returns-clause-fault : goal.returns-clause-fault
+returns-clause-fault g c =
+    let w = c.watch_on in
+    (gives_up (WatchesOn g.P.Port.does g.C.Clock.tells g.V.Watcher.sees c.args.until) (BreaksWatching g.P.Port.does g.C.Clock.tells) FOREVER _ _ w.result w.ensures.err).1
