@@ -1,10 +1,10 @@
 -- Turns of an end that is meant to stay up: none, one that goes well, and one that fails.
-use Rattle.std.proofs.Common.{◌≡◌, ◌≢◌, ℕ, ◌+◌, ◌<◌, [], ◌∷◌, ◌++◌, Some, None, Result, Ok, Err, OnErr, inl, inr, refl, ap, ◌∙◌, length-append}
+use Rattle.std.proofs.Common.{◌≡◌, ◌≢◌, ℕ, ◌+◌, ◌<◌, [], ◌∷◌, ◌++◌, Some, None, Result, Ok, Err, OnErr, refl, ap, ◌∙◌, length-append}
 use Rattle.std.specs.Prelude.{IfErr}
 use Rattle.nbt_port.proofs.Chains.{chain-append}
 use Rattle.nbt_port.specs.declared.fault.Fault.{Fault}
 use Rattle.nbt_port.specs.declared.fault.Fault.TheVariants as f
-use Rattle.nbt_port.specs.Staying.{GoesOn, goes_well, fails, Goes, StaysUp, GivesUp, IsCutOff, StaysUntil, EndsEarly}
+use Rattle.nbt_port.specs.Staying.{GoesOn, goes_well, fails, Goes, StaysUp, GivesUp, IsCutOff, StaysUntil, takes_all, takes_the_last, EndsEarly}
 use Rattle.nbt_port.specs.declared.limits.TheConstants.{MOST_FAILURES}
 
 pub goes_none : {S X : Type 0} (turns : S → X → S → Type 0) (breaks : S → S → Type 0) (here : S) → Goes turns breaks 0 0 here here
@@ -31,8 +31,8 @@ row_longer turns breaks count failed row old mid new is few before broken = rw i
 
 -- without a last turn it takes all turns
 pub stays_up : {S X : Type 0} (turns : S → X → S → Type 0) (breaks : S → S → Type 0) (most : ℕ) (old new : S) → StaysUntil turns breaks (λ _ _. ⊥) most old new → StaysUp turns breaks most old new
-stays_up turns breaks most old new (inl all) = all
-stays_up turns breaks most old new (inr cut) = absurd cut.4
+stays_up turns breaks most old new (takes_all all) = all
+stays_up turns breaks most old new (takes_the_last cut) = absurd cut.4
 
 -- a turn cuts it off for a fault that isn't the device's
 pub cut_off : {S X : Type 0} (turns : S → X → S → Type 0) (breaks : S → S → Type 0) (cuts : Fault → S → S → Type 0) (most : ℕ) (fault : Fault) (old new : S)

@@ -1,5 +1,5 @@
 -- How an end that is meant to stay up goes on after turns that failed (our profile).
-use Rattle.std.specs.Prelude.{◌≡◌, ◌≢◌, ◌⊎◌, ℕ, ◌+◌, ◌<◌, ◌≤◌, List, length, Option, Some, None}
+use Rattle.std.specs.Prelude.{◌≡◌, ◌≢◌, ℕ, ◌+◌, ◌<◌, ◌≤◌, List, length, Option, Some, None}
 use Rattle.nbt_port.specs.PortCalls.{Chain}
 use Rattle.nbt_port.specs.declared.fault.Fault.{Fault}
 use Rattle.nbt_port.specs.declared.fault.Fault.TheVariants.{Device}
@@ -37,8 +37,9 @@ abbrev pub IsCutOff : {S X : Type 0} → (S → X → S → Type 0) → (S → S
 IsCutOff {S = S} turns breaks cuts most old new = (count : ℕ) × (mid : S) × (count < most) × StaysUp turns breaks count old mid × cuts mid new
 
 -- It takes all turns, or as many as it takes until a turn is the last.
-abbrev pub StaysUntil : {S X : Type 0} → (S → X → S → Type 0) → (S → S → Type 0) → (last : S → S → Type 0) → (most : ℕ) → S → S → Type 0
-StaysUntil turns breaks last most old new = StaysUp turns breaks most old new ⊎ IsCutOff turns breaks last most old new
+pub data StaysUntil {S X : Type 0} (turns : S → X → S → Type 0) (breaks : S → S → Type 0) (last : S → S → Type 0) (most : ℕ) (old new : S) : Type 0 where
+  takes_all : StaysUp turns breaks most old new → StaysUntil turns breaks last most old new
+  takes_the_last : IsCutOff turns breaks last most old new → StaysUntil turns breaks last most old new
 
 -- It ends before that: for the device it gives up, and for any other fault a turn cuts it off.
 abbrev pub EndsEarly : {S X : Type 0} → (S → X → S → Type 0) → (S → S → Type 0) → (cuts : Fault → S → S → Type 0) → (most : ℕ) → Fault → S → S → Type 0

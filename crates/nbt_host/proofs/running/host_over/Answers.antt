@@ -5,7 +5,7 @@ use Rattle.nbt_host.specs.declared.sleeping.Reading.{Reading}
 use Rattle.nbt_host.specs.Host.{Running}
 use Rattle.nbt_host.specs.Running.{HostsOver, RunsHost, RunFails}
 use Rattle.nbt_port.specs.Until.{until_of}
-use Rattle.nbt_host.proofs.Beginning.{if_ok, begins}
+use Rattle.nbt_host.proofs.Beginning.{begins}
 use Rattle.nbt_host.proofs.running.host_over.Goals as goal
 
 pub returns-clause-ok : goal.returns-clause-ok

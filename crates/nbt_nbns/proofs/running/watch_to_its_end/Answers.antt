@@ -5,10 +5,10 @@ use Rattle.nbt_nbns.proofs.running.watch_to_its_end.Goals as goal
 
 pub returns-clause-err : goal.returns-clause-err
 returns-clause-err g c =
-    let w = c.watch_on in
+    let w = c.watch_on-watched in
     (gives_up (WatchesOn g.P.Port.does g.C.Clock.tells g.V.Watcher.sees c.args.until) (BreaksWatching g.P.Port.does g.C.Clock.tells) FOREVER _ _ w.result w.ensures.err).0
 
 pub returns-clause-fault : goal.returns-clause-fault
 returns-clause-fault g c =
-    let w = c.watch_on in
+    let w = c.watch_on-watched in
     (gives_up (WatchesOn g.P.Port.does g.C.Clock.tells g.V.Watcher.sees c.args.until) (BreaksWatching g.P.Port.does g.C.Clock.tells) FOREVER _ _ w.result w.ensures.err).1

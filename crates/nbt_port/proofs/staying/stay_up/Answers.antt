@@ -1,6 +1,7 @@
-use Rattle.std.proofs.Common.{arith, ◌+◌, ◌≤◌, refl, sym, ◌∙◌, inr}
+use Rattle.std.proofs.Common.{arith, ◌+◌, ◌≤◌, refl, sym, ◌∙◌}
 use Rattle.std.proofs.lemmas.Result.{err_from_is_err_and}
 use Rattle.nbt_port.proofs.Outcomes.{goes_none, row_over, row_longer, cut_off}
+use Rattle.nbt_port.specs.Staying.{takes_the_last}
 use Rattle.nbt_port.proofs.staying.stay_up.Goals as goal
 use Rattle.nbt_port.proofs.staying.stay_up.Goals.{in-Well, in-Failed+in_ok-goes_on-in-Failed}
 
@@ -17,7 +18,7 @@ loop-init g c =
 pub returns-in-Last-clause-ok : goal.returns-in-Last-clause-ok
 returns-in-Last-clause-ok g c =
     let turn = rw (c.loop.invariant.fixed, c.in-Last.is) at c.take.ensures.takes in
-    inr (c.loop.counter, g.T.Turn.state c.loop.turn, c.loop-test.true, (c.loop.row.failed, c.loop.invariant.few, c.loop.invariant.run), turn)
+    takes_the_last (c.loop.counter, g.T.Turn.state c.loop.turn, c.loop-test.true, (c.loop.row.failed, c.loop.invariant.few, c.loop.invariant.run), turn)
 
 pub returns-in_err-goes_on-in-Failed-clause-err : goal.returns-in_err-goes_on-in-Failed-clause-err
 returns-in_err-goes_on-in-Failed-clause-err g c =
