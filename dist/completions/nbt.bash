@@ -1,7 +1,16 @@
 # Completion of nbt for bash.
 
 _nbt() {
-    local word=${COMP_WORDS[COMP_CWORD]} before=${COMP_WORDS[COMP_CWORD - 1]} words='' reply
+    local word=${COMP_WORDS[COMP_CWORD]} before=${COMP_WORDS[COMP_CWORD - 1]} given words='' reply
+    local commands='lookup status nbns host answer show check sim serve node loop help' arguments=0
+    COMPREPLY=()
+
+    # bash has `--leases=file` as three words.
+    if [[ $before == = ]]; then
+        before=${COMP_WORDS[COMP_CWORD - 2]}
+    elif [[ $word == = ]]; then
+        word=''
+    fi
     case $before in
     --at | --server | --bind | --scope | --wait | --life | --longest | --for | --group) return ;;
     --leases)
@@ -10,12 +19,19 @@ _nbt() {
         return
         ;;
     --tries)
-        COMPREPLY=($(compgen -W '1 2 3' -- "$word"))
+        mapfile -t COMPREPLY < <(compgen -W '1 2 3' -- "$word")
         return
         ;;
     esac
+
+    # Behind -- there are no options.
+    for given in "${COMP_WORDS[@]:1:COMP_CWORD-1}"; do
+        [[ $given != -- ]] || return
+        [[ $given == -* ]] || ((++arguments))
+    done
+
     if ((COMP_CWORD == 1)); then
-        words='lookup status nbns host answer show check sim serve node loop help --help --version'
+        words="$commands --help --version"
     else
         case ${COMP_WORDS[1]} in
         lookup) words='--server --scope --exact --tries --wait --bind --help' ;;
@@ -23,17 +39,21 @@ _nbt() {
         nbns) words='--bind --life --longest --for --log --leases --strict --help' ;;
         host) words='--server --bind --group --scope --exact --life --longest --for --log --help' ;;
         answer) words='--at --help' ;;
-        show) words='name dgram session --explain --help' ;;
-        serve) words='--forever --help' ;;
-        node) words='unique group --forever --help' ;;
+        show) words='--explain --help' ;;
+        serve | node) words='--forever --help' ;;
         sim) words='--draw --help' ;;
         check | loop) words='--help' ;;
-        help) words='lookup status nbns host answer show check sim serve node loop' ;;
+        esac
+        case ${COMP_WORDS[1]}:$arguments in
+        help:1) words=$commands ;;
+        show:1) words+=' name dgram session' ;;
+        node:6) words+=' unique group' ;;
         esac
     fi
-    COMPREPLY=()
+
+    # An option that is given isn't offered again, except --group.
     while IFS= read -r reply; do
-        COMPREPLY+=("$reply")
+        [[ $reply == --?* && $reply != --group && " ${COMP_WORDS[*]:1:COMP_CWORD-1} " == *" $reply "* ]] || COMPREPLY+=("$reply")
     done < <(compgen -W "$words" -- "$word")
 }
 
