@@ -9,7 +9,11 @@ end
 # Whether the command is one of these, and the option isn't given yet: __nbt_takes OPTION COMMAND..
 function __nbt_takes
     __nbt_is $argv[2..]; or return
-    not string match -qr -- "^--$argv[1](=|\$)" (commandline -opc)
+    set -l words (commandline -opc)
+    set -l word (commandline -ct)
+    # Right behind the option the word at the cursor is its value.
+    test "$words[-1]" = --$argv[1]; and not string match -q -- '-*' "$word"; and return
+    not string match -qr -- "^--$argv[1](=|\$)" $words
 end
 
 # Whether so many words stand before the one at the cursor, without options: __nbt_has NUMBER

@@ -12,10 +12,10 @@ fpath=(${(q)FOLDER} $fpath)
 autoload -Uz compinit && compinit -u -D
 setopt no_auto_list no_list_beep no_beep
 bindkey "^I" complete-word
-begin() { print -r -- "<<" }
-end() { print -r -- ">>" }
-compprefuncs=(begin)
-comppostfuncs=(end)
+before_offers() { print -r -- "<<" }
+after_offers() { print -r -- ">>" }
+compprefuncs=(before_offers)
+comppostfuncs=(after_offers)
 compadd() {
     local -a hits
     if [[ ${@[1,(i)(-|--)]} == *-(O|A|D)\ * ]]; then
