@@ -1,0 +1,60 @@
+# Completion of nbt for bash.
+
+_nbt() {
+    local word=${COMP_WORDS[COMP_CWORD]} before=${COMP_WORDS[COMP_CWORD - 1]} given words='' reply
+    local commands='lookup status nbns host answer show check sim serve node loop help' arguments=0
+    COMPREPLY=()
+
+    # bash has `--leases=file` as three words.
+    if [[ $before == = ]]; then
+        before=${COMP_WORDS[COMP_CWORD - 2]}
+    elif [[ $word == = ]]; then
+        word=''
+    fi
+    case $before in
+    --at | --server | --bind | --scope | --wait | --life | --longest | --for | --group) return ;;
+    --leases)
+        compopt -o filenames 2>/dev/null
+        mapfile -t COMPREPLY < <(compgen -f -- "$word")
+        return
+        ;;
+    --tries)
+        mapfile -t COMPREPLY < <(compgen -W '1 2 3' -- "$word")
+        return
+        ;;
+    esac
+
+    # Behind -- there are no options.
+    for given in "${COMP_WORDS[@]:1:COMP_CWORD-1}"; do
+        [[ $given != -- ]] || return
+        [[ $given == -* ]] || ((++arguments))
+    done
+
+    if ((COMP_CWORD == 1)); then
+        words="$commands --help --version"
+    else
+        case ${COMP_WORDS[1]} in
+        lookup) words='--server --scope --exact --tries --wait --bind --help' ;;
+        status) words='--scope --exact --tries --wait --bind --help' ;;
+        nbns) words='--bind --life --longest --for --log --leases --strict --help' ;;
+        host) words='--server --bind --group --scope --exact --life --longest --for --log --help' ;;
+        answer) words='--at --help' ;;
+        show) words='--explain --help' ;;
+        serve | node) words='--forever --help' ;;
+        sim) words='--draw --help' ;;
+        check | loop) words='--help' ;;
+        esac
+        case ${COMP_WORDS[1]}:$arguments in
+        help:1) words=$commands ;;
+        show:1) words+=' name dgram session' ;;
+        node:6) words+=' unique group' ;;
+        esac
+    fi
+
+    # An option that is given isn't offered again, except --group.
+    while IFS= read -r reply; do
+        [[ $reply == --?* && $reply != --group && " ${COMP_WORDS[*]:1:COMP_CWORD-1} " == *" $reply "* ]] || COMPREPLY+=("$reply")
+    done < <(compgen -W "$words" -- "$word")
+}
+
+complete -F _nbt nbt

@@ -1,0 +1,66 @@
+# Completion of nbt for fish.
+
+# Whether the command is one of these: __nbt_is COMMAND..
+function __nbt_is
+    set -l words (commandline -opc)
+    contains -- "$words[2]" $argv
+end
+
+# Whether the command is one of these, and the option isn't given yet: __nbt_takes OPTION COMMAND..
+function __nbt_takes
+    __nbt_is $argv[2..]; or return
+    set -l words (commandline -opc)
+    set -l word (commandline -ct)
+    # Right behind the option the word at the cursor is its value.
+    test "$words[-1]" = --$argv[1]; and not string match -q -- '-*' "$word"; and return
+    not string match -qr -- "^--$argv[1](=|\$)" $words
+end
+
+# Whether so many words stand before the one at the cursor, without options: __nbt_has NUMBER
+function __nbt_has
+    set -l found 0
+    for word in (commandline -opc)
+        string match -q -- '-*' $word; or set found (math $found + 1)
+    end
+    test $found -eq $argv[1]
+end
+
+complete -c nbt -f
+complete -c nbt -n '__nbt_has 1' -s h -l help -d 'Print help'
+complete -c nbt -n '__nbt_has 1' -s V -l version -d 'Print version'
+for condition in '__nbt_has 1' '__nbt_is help; and __nbt_has 2'
+    complete -c nbt -n $condition -a lookup -d 'Ask a name server who holds a name'
+    complete -c nbt -n $condition -a status -d 'Ask a host which names it holds'
+    complete -c nbt -n $condition -a nbns -d 'Run a name server'
+    complete -c nbt -n $condition -a host -d 'Hold names for this machine at a name server'
+    complete -c nbt -n $condition -a answer -d 'Print the reply of a new name server to one packet'
+    complete -c nbt -n $condition -a show -d 'Print what the octets of a packet say'
+    complete -c nbt -n $condition -a check -d 'Check packets against what is expected of each'
+    complete -c nbt -n $condition -a sim -d 'Play a script in a network'
+    complete -c nbt -n $condition -a serve -d 'Run a name server, to try the protocol'
+    complete -c nbt -n $condition -a node -d 'Run a node, to try the protocol'
+    complete -c nbt -n $condition -a loop -d 'Run a name server and two nodes on this machine'
+end
+complete -c nbt -n '__nbt_has 1' -a help -d 'Print the help of a command'
+
+complete -c nbt -n 'not __nbt_has 1; and not __nbt_is help' -s h -l help -d 'Print help'
+complete -c nbt -n '__nbt_takes server lookup host' -l server -x -d 'The name server'
+complete -c nbt -n '__nbt_takes bind lookup status nbns host' -l bind -x -d 'The own address'
+complete -c nbt -n '__nbt_takes scope lookup status host' -l scope -x -d 'The scope of the names'
+complete -c nbt -n '__nbt_takes exact lookup status host' -l exact -d 'Keep lower-case letters'
+complete -c nbt -n '__nbt_takes tries lookup status' -l tries -x -a '1 2 3' -d 'How many requests to send at most'
+complete -c nbt -n '__nbt_takes wait lookup status' -l wait -x -d 'How long to wait after the last request'
+complete -c nbt -n '__nbt_takes life nbns host' -l life -x -d 'The greatest life of a datagram'
+complete -c nbt -n '__nbt_takes longest nbns host' -l longest -x -d 'The longest lease'
+complete -c nbt -n '__nbt_takes for nbns host' -l for -x -d 'End after this time'
+complete -c nbt -n '__nbt_takes log nbns' -l log -d 'Print a line per grant, renewal, refusal and release'
+complete -c nbt -n '__nbt_takes leases nbns' -l leases -r -F -d 'Keep the list of live leases in a file'
+complete -c nbt -n '__nbt_takes strict nbns' -l strict -d 'Refuse the registrations of Samba'
+complete -c nbt -n '__nbt_is host' -l group -x -d 'Hold a name as a group'
+complete -c nbt -n '__nbt_takes log host' -l log -d 'Print renewals too'
+complete -c nbt -n '__nbt_takes at answer' -l at -x -d 'The time since the start of the server, in milliseconds'
+complete -c nbt -n '__nbt_takes explain show' -l explain -d 'Say the same in the words of Wireshark'
+complete -c nbt -n '__nbt_is show; and __nbt_has 2' -a 'name dgram session'
+complete -c nbt -n '__nbt_takes draw sim' -l draw -d 'Print a picture in SVG'
+complete -c nbt -n '__nbt_takes forever serve node' -l forever -d 'Go on until a signal'
+complete -c nbt -n '__nbt_is node; and __nbt_has 7' -a 'unique group'
