@@ -7,7 +7,9 @@
  * of the library meets another, and there is no lock. What follows it is for lwIP's port to Unix, over a TAP device that is there:
  *
  *     cc -Iinclude $(pkg-config --cflags lwip) -o lwip_node examples/c/lwip_node.c libnbt.a $(pkg-config --libs lwip)
- *     PRECONFIGURED_TAPIF=tap0 ./lwip_node 'FILER#20' 10.0.0.5 255.255.255.0 10.0.0.1
+ *     PRECONFIGURED_TAPIF=tap0 ./lwip_node 'FILER#20' 10.0.0.5 255.255.255.0 10.0.0.1 [LONGEST]
+ *
+ * LONGEST is the server's longest lease in seconds, 3600 if it isn't given.
  */
 #define _POSIX_C_SOURCE 200809L
 #include <lwip/init.h>
@@ -23,6 +25,7 @@
 #include <netif/tapif.h>
 #include <signal.h>
 #include <stdio.h>
+#include <stdlib.h>
 #include <string.h>
 
 #define NAME_PORT 137
@@ -32,7 +35,7 @@
 #define SOON 1000     /* to the next look, where no other time is known: while a name rests, or the server asked to wait */
 #define REFUSED 10000 /* from a refusal to the next request */
 
-static const struct nbt_config limits = {1000, 3600, 4096};
+static struct nbt_config limits = {1000, 3600, 4096};
 static union nbt_node_memory memory;
 static struct nbt_node node = {&memory};
 static struct nbt_addr own, server;
@@ -255,7 +258,11 @@ static void run(void) {
 static int read_words(int count, char **words) {
     ip4_addr_t own_ip, server_ip;
     size_t place;
-    if (count != 5 || nbt_name_read(false, words[1], strlen(words[1]), "", 0, &name, &place) != NBT_DONE
+    int longest = count == 6 ? atoi(words[5]) : 3600;
+    if (count < 5 || count > 6 || longest < 1 || longest > 1000000)
+        return 0;
+    limits.longest = (uint32_t)longest;
+    if (nbt_name_read(false, words[1], strlen(words[1]), "", 0, &name, &place) != NBT_DONE
         || !ip4addr_aton(words[2], &own_ip) || !ip4addr_aton(words[3], &mask) || !ip4addr_aton(words[4], &server_ip))
         return 0;
     own.ip = lwip_ntohl(ip4_addr_get_u32(&own_ip));
@@ -266,7 +273,7 @@ static int read_words(int count, char **words) {
 
 int main(int count, char **words) {
     if (!read_words(count, words)) {
-        fprintf(stderr, "usage: lwip_node NAME OWN NETMASK SERVER\n");
+        fprintf(stderr, "usage: lwip_node NAME OWN NETMASK SERVER [LONGEST]\n");
         return 2;
     }
     setvbuf(stdout, 0, _IOLBF, 0);

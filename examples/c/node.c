@@ -1,11 +1,12 @@
 /*
  * A node: registers a name at a name server, holds it, answers status requests, and releases the name at SIGINT or SIGTERM.
  *
- *     node NAME OWN SERVER [PORT]        node 'FILER#20' 10.0.0.5 10.0.0.1
+ *     node NAME OWN SERVER [PORT [LONGEST]]        node 'FILER#20' 10.0.0.5 10.0.0.1
  *
- * Port 137 needs privileges. With PORT, node and server both use that port. A name that was refused is requested again after
- * 10 seconds, and one that was lost, or got no reply, as soon as the node allows it. A program that uses the name asks
- * nbt_node_holds each time: a name that gets no reply to its refreshes is held until its lease expires, and no longer.
+ * Port 137 needs privileges. With PORT, node and server both use that port. LONGEST is the server's longest lease in seconds, 3600 if
+ * it isn't given. A name that was refused is requested again after 10 seconds, and one that was lost, or got no reply, as soon as the
+ * node allows it. A program that uses the name asks nbt_node_holds each time: a name that gets no reply to its refreshes is held until
+ * its lease expires, and no longer.
  */
 #define _POSIX_C_SOURCE 200809L
 #include <arpa/inet.h>
@@ -23,7 +24,7 @@
 #define SOON 1000     /* to the next look, where no other time is known: while a name rests, or the server asked to wait */
 #define REFUSED 10000 /* from a refusal to the next request */
 
-static const struct nbt_config limits = {1000, 3600, 4096};
+static struct nbt_config limits = {1000, 3600, 4096};
 static union nbt_node_memory memory;
 static struct nbt_node node = {&memory};
 static struct nbt_addr own, server;
@@ -201,9 +202,10 @@ static void release(void) {
 static int read_words(int count, char **words) {
     struct in_addr own_ip, server_ip;
     size_t place;
-    int number = count == 5 ? atoi(words[4]) : 137;
-    if (count < 4 || count > 5 || number < 1 || number > 65535)
+    int number = count > 4 ? atoi(words[4]) : 137, longest = count > 5 ? atoi(words[5]) : 3600;
+    if (count < 4 || count > 6 || number < 1 || number > 65535 || longest < 1 || longest > 1000000)
         return 0;
+    limits.longest = (uint32_t)longest;
     if (nbt_name_read(false, words[1], strlen(words[1]), "", 0, &name, &place) != NBT_DONE
         || inet_pton(AF_INET, words[2], &own_ip) != 1 || inet_pton(AF_INET, words[3], &server_ip) != 1)
         return 0;
@@ -216,7 +218,7 @@ static int read_words(int count, char **words) {
 int main(int count, char **words) {
     struct sockaddr_in end;
     if (!read_words(count, words)) {
-        fprintf(stderr, "usage: node NAME OWN SERVER [PORT]\n");
+        fprintf(stderr, "usage: node NAME OWN SERVER [PORT [LONGEST]]\n");
         return 2;
     }
     end = to_system(own);
