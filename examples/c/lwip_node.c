@@ -167,11 +167,13 @@ static void hear(void *unused, struct udp_pcb *unused_port, struct pbuf *packet,
 /* Begins, once the network is up. After another address was given to it, or a sleep in which sys_now stood, a device begins anew. */
 static void begin(void) {
     port = udp_new();
-    if (port == 0 || udp_bind(port, IP_ADDR_ANY, NAME_PORT) != ERR_OK)
+    if (port == 0 || udp_bind(port, IP_ADDR_ANY, NAME_PORT) != ERR_OK
+        || nbt_node_start(&node, own, server, limits, milliseconds()) != NBT_DONE) {
+        printf("port %d can't be had\n", NAME_PORT);
         return;
+    }
     udp_recv(port, hear, 0);
-    if (nbt_node_start(&node, own, server, limits, milliseconds()) == NBT_DONE)
-        look(0);
+    look(0);
 }
 
 static void give_up(void *unused) {
