@@ -41,12 +41,12 @@ static void play_numbers(void) {
 }
 
 static void play_alignments(void) {
-    is_number("node, aligned", _Alignof(union nbt_node_memory) % NBT_NODE_ALIGN, 0);
-    is_number("joiner, aligned", _Alignof(union nbt_joiner_memory) % NBT_JOINER_ALIGN, 0);
-    is_number("stream, aligned", _Alignof(union nbt_pieces_memory) % NBT_PIECES_ALIGN, 0);
-    is_number("call, aligned", _Alignof(union nbt_caller_memory) % NBT_CALLER_ALIGN, 0);
-    is_number("listener, aligned", _Alignof(union nbt_listener_memory) % NBT_LISTENER_ALIGN, 0);
-    is_number("server, aligned", _Alignof(union nbt_server_memory) % NBT_SERVER_ALIGN, 0);
+    is_number("node, aligned", ALIGN_OF(union nbt_node_memory) % NBT_NODE_ALIGN, 0);
+    is_number("joiner, aligned", ALIGN_OF(union nbt_joiner_memory) % NBT_JOINER_ALIGN, 0);
+    is_number("stream, aligned", ALIGN_OF(union nbt_pieces_memory) % NBT_PIECES_ALIGN, 0);
+    is_number("call, aligned", ALIGN_OF(union nbt_caller_memory) % NBT_CALLER_ALIGN, 0);
+    is_number("listener, aligned", ALIGN_OF(union nbt_listener_memory) % NBT_LISTENER_ALIGN, 0);
+    is_number("server, aligned", ALIGN_OF(union nbt_server_memory) % NBT_SERVER_ALIGN, 0);
 }
 
 static void play_static(const struct nbt_name *name) {

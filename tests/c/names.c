@@ -7,7 +7,7 @@
 
 #include "rows.h"
 
-static const uint8_t FRED[16] = "FRED            ";
+static const uint8_t FRED[] = "FRED            ";
 
 #define LETTERS "EGFCEFEECACACACACACACACACACACACA"
 

@@ -6,6 +6,12 @@
 #include <stdio.h>
 #include <string.h>
 
+#ifdef __cplusplus
+#define ALIGN_OF(type) alignof(type)
+#else
+#define ALIGN_OF(type) _Alignof(type)
+#endif
+
 static unsigned passed, failed;
 
 static void is_number(const char *what, size_t found, size_t wanted) {

@@ -7,7 +7,7 @@
 #define LETTERS "EGFCEFEECACACACACACACACACACACACA"
 
 static const struct nbt_config LIMITS = {.life = 1000, .longest = 3600, .rows = 4};
-static const uint8_t FRED[16] = "FRED            ";
+static const uint8_t FRED[] = "FRED            ";
 
 /* Two machines, and the moment from which the server speaks. */
 static const uint32_t FIRST = 0x0A000005, SECOND = 0x0A000006;
@@ -17,7 +17,7 @@ static const uint64_t SPEAKS = 1000 + 3600000;
 static size_t request(uint8_t opcode, bool group, uint32_t ip, uint32_t ttl, uint8_t *out) {
     const uint8_t head[12] = {0x12, 0x34, (uint8_t)(opcode << 3 | (opcode == 5)), 0, 0, 1, 0, 0, 0, 0, 0, 1};
     const uint8_t rest[22] = {0, 0x20, 0, 1, 0xC0, 0x0C, 0, 0x20, 0, 1, (uint8_t)(ttl >> 24), (uint8_t)(ttl >> 16), (uint8_t)(ttl >> 8), (uint8_t)ttl, 0, 6,
-                              group ? 0xE0 : 0x60, 0, (uint8_t)(ip >> 24), (uint8_t)(ip >> 16), (uint8_t)(ip >> 8), (uint8_t)ip};
+                              (uint8_t)(group ? 0xE0 : 0x60), 0, (uint8_t)(ip >> 24), (uint8_t)(ip >> 16), (uint8_t)(ip >> 8), (uint8_t)ip};
     memcpy(out, head, 12);
     memcpy(out + 12, "\x20" LETTERS, 34);
     memcpy(out + 46, rest, 22);

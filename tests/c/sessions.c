@@ -16,7 +16,7 @@ static void *memory;
 
 /* A stream of which nothing came, where the last one was. */
 static void start(struct nbt_pieces *pieces) {
-    *pieces = (struct nbt_pieces){memory};
+    pieces->memory = memory;
     nbt_pieces_start(pieces);
 }
 
