@@ -3,7 +3,6 @@ use Rattle.std.proofs.Common.{◌≡◌, ℕ, zero, suc, ◌+◌, ◌<◌, ◌�
 use Rattle.std.specs.Prelude.{IsTrue, ◌↔◌, slice_index, replicate}
 use Rattle.std.proofs.lemmas.Bool.{and_parts}
 use Rattle.std.proofs.lemmas.List.{get_or-replicate}
-use Rattle.std.proofs.lemmas.Option.{none-some}
 use Rattle.nbt_name.specs.declared.addr.Addr.{Addr}
 use Rattle.nbt_world.specs.declared.clocks.Clocks.{Clocks}
 use Rattle.nbt_world.specs.declared.clocks.Least.{Least}
@@ -12,11 +11,7 @@ use Rattle.nbt_world.specs.declared.ends.Ends.{Ends}
 use Rattle.nbt_world.specs.Drift.{reading, later, least_of, numbers_of, lesser, IsAllowed}
 use Rattle.nbt_world.specs.World.{WorldValue, addr_at, IsEnd}
 use Rattle.nbt_world.specs.Step.{Advances}
-
-in_place : (nodes : List NodeEnd) (i : ℕ) (a : Addr) → addr_at nodes i ≡ Some a → i < length nodes
-in_place [] i a e = absurd (none-some a e)
-in_place (x ∷ xs) zero a e = omega arith
-in_place (x ∷ xs) (suc i) a e = let lt = in_place xs i a e in omega arith
+use Rattle.nbt_world.proofs.Finding.{in_place}
 
 stands : (nodes : List NodeEnd) (i : ℕ) → i < length nodes → (a : Addr) × (addr_at nodes i ≡ Some a)
 stands [] i lt = absurd (omega arith)

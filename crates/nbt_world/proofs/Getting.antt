@@ -284,28 +284,49 @@ taken_held law w {i} {node} {from} {to} {kind} {ttl} {last} {p} {r} {octets} at 
 
 -- ---- the three steps
 
+-- the request is handed to the server, which grants the name
+got_granted : OneMessage → {a b c : WorldValue} {i : ℕ} {name : NameValue} {kind : Kind} {ttl : ℕ} {y : Outcome} → Invariant a → CanGet a (suc i) name → (h : HasAsked a i name kind ttl b) → Step b (Deliver (length a.sent)) y c → y ≢ o.Lost
+    → HasGranted (asked_world a i h.new h.addr h.octets) h.addr h.id name kind ttl c
+got_granted law {a} {b} {c} {i} {name} {kind} {ttl} {y} kept can h second memory =
+    by_hand (handed {d = datagram h.addr a.ends.server_addr a.now h.octets} (new_at a.sent _) refl refl (λ n e. kept.ends.apart n 0 a.ends.server_addr a.ends.server_addr (sym (addr_with a.ends i (Some h.new) n) ∙ e) refl refl)
+    (subst (λ (u : WorldValue). Step u (Deliver (length a.sent)) y c) {x = b} {y = asked_world a i h.new h.addr h.octets} h.world_is second))
+  where
+    by_hand : HandsOver (asked_world a i h.new h.addr h.octets) 0 h.addr a.ends.server_addr h.octets y c → HasGranted (asked_world a i h.new h.addr h.octets) h.addr h.id name kind ttl c
+    by_hand hand =
+        subst (λ (u : WorldValue). HasGranted (asked_world a i h.new h.addr h.octets) h.addr h.id name kind ttl u) {x = after_taking (asked_world a i h.new h.addr h.octets) hand.ends a.ends.server_addr h.addr hand.taken} {y = c} (sym hand.new_is)
+        (taken_granted law h.spells can.no_star can.server_up (kept.server can.server (latest-up a.ends can.server can.server_up)).config_is can.speaks can.free can.row
+        (λ e. memory (hand.outcome_is ∙ ap (outcome_of_taking (asked_world a i h.new h.addr h.octets)) e)) hand.takes)
+
+-- the reply is handed to the node, which holds the name then
+got_held : OneMessage → {a b c d : WorldValue} {i : ℕ} {name : NameValue} {kind : Kind} {ttl : ℕ} {z : Outcome} → Invariant a → CanGet a (suc i) name → (h : HasAsked a i name kind ttl b)
+    → HasGranted (asked_world a i h.new h.addr h.octets) h.addr h.id name kind ttl c → Step c (Deliver (length a.sent + 1)) z d → holding d (suc i) name ≡ Some kind
+got_held law {a} {b} {c} {d} {i} {name} {kind} {ttl} {z} kept can h g third =
+    let v = asked_world a i h.new h.addr h.octets in
+    let r = wish h.id name kind (h.addr).ip (granted a.config.longest ttl) in
+    let place : length v.sent ≡ length a.sent + 1 = length-append a.sent _ in
+    let at : addr_of (granted_world v g.server h.addr (registered 0 r)).ends (suc i) ≡ Some h.addr = server_addr_with v.ends (Some g.server) v.ends.crashed (suc i) ∙ addr_with a.ends i (Some h.new) (suc i) ∙ h.at in
+    by_hand at
+    (handed {d = datagram a.ends.server_addr h.addr a.now (text (registered 0 r))} (new_at v.sent _) at refl
+    (λ n e. kept.ends.apart n (suc i) h.addr h.addr (sym (server_addr_with v.ends (Some g.server) v.ends.crashed n ∙ addr_with a.ends i (Some h.new) n) ∙ e) h.at refl)
+    (subst (λ (x : WorldValue). Step x (Deliver (length v.sent)) z d) {x = c} {y = granted_world v g.server h.addr (registered 0 r)} g.world_is (subst (λ (k : ℕ). Step c (Deliver k) z d) {x = length a.sent + 1} {y = length v.sent} (sym place) third)))
+  where
+    by_hand : addr_of (granted_world (asked_world a i h.new h.addr h.octets) g.server h.addr (registered 0 (wish h.id name kind (h.addr).ip (granted a.config.longest ttl)))).ends (suc i) ≡ Some h.addr
+        → HandsOver (granted_world (asked_world a i h.new h.addr h.octets) g.server h.addr (registered 0 (wish h.id name kind (h.addr).ip (granted a.config.longest ttl)))) (suc i) a.ends.server_addr h.addr
+        (text (registered 0 (wish h.id name kind (h.addr).ip (granted a.config.longest ttl)))) z d
+        → holding d (suc i) name ≡ Some kind
+    by_hand at hand =
+        let v = asked_world a i h.new h.addr h.octets in
+        let r = wish h.id name kind (h.addr).ip (granted a.config.longest ttl) in
+        let u = granted_world v g.server h.addr (registered 0 r) in
+        subst (λ (x : WorldValue). holding x (suc i) name ≡ Some kind) {x = after_taking u hand.ends h.addr a.ends.server_addr hand.taken} {y = d} (sym hand.new_is)
+        (taken_held law u {i = i} {node = h.new} {from = a.ends.server_addr} {to = h.addr} {kind = kind} {r = r} at (server_node_with v.ends (Some g.server) v.ends.crashed (suc i) ∙ node_with_here a.ends i (Some h.new) h.addr h.at)
+        (record { distinct = h.is.distinct; from_is = sym h.is.server_is; was = ap (settled (h.new).config.life (reading a.now (suc i))) h.asking; id = refl }) refl
+        (let least = can.limits.longest.0 in rw h.is.config_is least) g.spells hand.takes)
+
 pub name_got : OneMessage → (a b c d : WorldValue) (number : ℕ) (name : NameValue) (kind : Kind) (ttl : ℕ) (x y z : Outcome) → Invariant a → CanGet a number name → Step a (Ask number name kind ttl) x b
     → Step b (Deliver (length a.sent)) y c → y ≢ o.Lost → Step c (Deliver (length a.sent + 1)) z d → holding d number name ≡ Some kind
 name_got law a b c d zero name kind ttl x y z kept can first second memory third = absurd (none-some can.node can.node_up)
-name_got law a b c d (suc i) name kind ttl x y z kept can first second memory third =
-    let h = has_asked kept can first in
-    let v = asked_world a i h.new h.addr h.octets in
-    let hand : HandsOver v 0 h.addr a.ends.server_addr h.octets y c =
-    handed {d = datagram h.addr a.ends.server_addr a.now h.octets} (new_at a.sent _) refl refl (λ n e. kept.ends.apart n 0 a.ends.server_addr a.ends.server_addr (sym (addr_with a.ends i (Some h.new) n) ∙ e) refl refl)
-    (subst (λ (u : WorldValue). Step u (Deliver (length a.sent)) y c) h.world_is second) in
-    let server = kept.server can.server (latest-up a.ends can.server can.server_up) in
-    let g : HasGranted v h.addr h.id name kind ttl c =
-    subst (λ (u : WorldValue). HasGranted v h.addr h.id name kind ttl u) (sym hand.new_is)
-    (taken_granted law h.spells can.no_star can.server_up server.config_is can.speaks can.free can.row (λ e. memory (hand.outcome_is ∙ ap (outcome_of_taking v) e)) hand.takes) in
-    let r = wish h.id name kind (h.addr).ip (granted a.config.longest ttl) in
-    let u = granted_world v g.server h.addr (registered 0 r) in
-    let place : length v.sent ≡ length a.sent + 1 = length-append a.sent _ in
-    let at : addr_of u.ends (suc i) ≡ Some h.addr = server_addr_with v.ends (Some g.server) v.ends.crashed (suc i) ∙ addr_with a.ends i (Some h.new) (suc i) ∙ h.at in
-    let hand_back : HandsOver u (suc i) a.ends.server_addr h.addr (text (registered 0 r)) z d =
-    handed {d = datagram a.ends.server_addr h.addr a.now (text (registered 0 r))} (new_at v.sent _) at refl
-    (λ n e. kept.ends.apart n (suc i) h.addr h.addr (sym (server_addr_with v.ends (Some g.server) v.ends.crashed n ∙ addr_with a.ends i (Some h.new) n) ∙ e) h.at refl)
-    (subst (λ (x : WorldValue). Step x (Deliver (length v.sent)) z d) g.world_is (subst (λ (k : ℕ). Step c (Deliver k) z d) (sym place) third)) in
-    subst (λ (x : WorldValue). holding x (suc i) name ≡ Some kind) (sym hand_back.new_is)
-    (taken_held law u at (server_node_with v.ends (Some g.server) v.ends.crashed (suc i) ∙ node_with_here a.ends i (Some h.new) h.addr h.at)
-    (record { distinct = h.is.distinct; from_is = sym h.is.server_is; was = ap (settled (h.new).config.life (reading a.now (suc i))) h.asking; id = refl }) refl
-    (let least = can.limits.longest.0 in rw h.is.config_is least) g.spells hand_back.takes)
+name_got law a b c d (suc i) name kind ttl x y z kept can first second memory third = by_asked (has_asked kept can first)
+  where
+    by_asked : HasAsked a i name kind ttl b → holding d (suc i) name ≡ Some kind
+    by_asked h = got_held law kept can h (got_granted law kept can h second memory) third

@@ -7,6 +7,7 @@ pub mod Keeping
 pub mod Covering
 pub mod Watching
 pub mod Clock
+pub mod Finding
 pub mod Advancing
 pub mod Exact
 pub mod Naming

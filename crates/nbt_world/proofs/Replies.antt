@@ -1,7 +1,7 @@
 -- What an end's call left in the buffer, as a reply or none.
-use Rattle.std.proofs.Common.{◌≡◌, ℕ, true, false, List, [], length, eqb, Option, Some, None, refl, sym, ap, ◌∙◌}
+use Rattle.std.proofs.Common.{◌≡◌, ℕ, Bool, true, false, List, [], ◌∷◌, length, eqb, Option, Some, None, refl, sym, ap, ◌∙◌}
 use Rattle.std.specs.Prelude.{is_some, is_err, IfOk, Result, Ok, Err}
-use Rattle.std.proofs.lemmas.Bool.{eqb-true, eqb-false}
+use Rattle.std.proofs.lemmas.Bool.{eqb-true, eqb-false, false≢true}
 use Rattle.std.proofs.lemmas.List.{nil_from_length}
 use Rattle.nbt_packet.specs.Message.{MessageValue, registration, overwrite, refresh, release, query, status_request, registered, released, found, not_found, status, wait}
 use Rattle.nbt_packet.specs.Text.{text}
@@ -21,20 +21,27 @@ is_silent (Some m) is = absurd cc
 
 -- ---- a node's buffer
 
+abbrev starts : List ℕ → Bool
+starts [] = false
+starts (x ∷ xs) = true
+
+text_starts : (m : MessageValue) → starts (text m) ≡ true
+text_starts (registration r) = refl
+text_starts (overwrite r) = refl
+text_starts (refresh r) = refl
+text_starts (release id name kind addr) = refl
+text_starts (query id name) = refl
+text_starts (status_request id name) = refl
+text_starts (registered rcode r) = refl
+text_starts (released id rcode name kind addr) = refl
+text_starts (found id name ttl entries cut) = refl
+text_starts (not_found id rcode None) = refl
+text_starts (not_found id rcode (Some name)) = refl
+text_starts (status id name names) = refl
+text_starts (wait id name ttl) = refl
+
 text_some : (m : MessageValue) → text m ≡ [] → ⊥
-text_some (registration r) e = cc
-text_some (overwrite r) e = cc
-text_some (refresh r) e = cc
-text_some (release id name kind addr) e = cc
-text_some (query id name) e = cc
-text_some (status_request id name) e = cc
-text_some (registered rcode r) e = cc
-text_some (released id rcode name kind addr) e = cc
-text_some (found id name ttl entries cut) e = cc
-text_some (not_found id rcode None) e = cc
-text_some (not_found id rcode (Some name)) e = cc
-text_some (status id name names) e = cc
-text_some (wait id name ttl) e = cc
+text_some m e = false≢true (sym (ap starts e) ∙ text_starts m)
 
 pub heard_silent : (sent : Option MessageValue) (octets : List ℕ) → AreWritten sent octets → eqb (length octets) 0 ≡ true → sent ≡ None
 heard_silent None octets w e = refl

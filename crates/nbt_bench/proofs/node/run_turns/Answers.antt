@@ -49,4 +49,6 @@ returns-in_err-run_for-clause-memory g c =
     let p = err_from_is_err_and c.from_residual.result c.from_residual.ensures.1 in
     let a = c.args.arguments.now in
     λ same. let is : c.in_err-run_for.field-0.0 ≡ f.Memory = cc (p.1, p.2, same) in
-    no_memory g.P.Port.does MachineTells a.turns a.server a.want _ _ (rw is at c.in_err-run_for.ensures.err)
+    no_memory g.P.Port.does MachineTells a.turns a.server a.want
+    (record { port = c.args.port.now; clock = c.start_node-node.new.clock; node = c.start_node-node.result; text = g.W.Write.contents c.args.writer.now })
+    (record { port = c.run_for.new.port; clock = c.run_for.new.clock; node = c.run_for.new.node; text = g.W.Write.contents c.run_for.new.writer }) (rw is at c.in_err-run_for.ensures.err)

@@ -1,21 +1,23 @@
-use Rattle.std.proofs.Common.{◌≡◌, ◌++◌, ◌+◌, ℕ, List, refl, ap, subst, ◌∙◌}
+use Rattle.std.proofs.Common.{◌≡◌, ◌++◌, ◌+◌, ℕ, List, [], Option, refl, ap, subst, ◌∙◌}
 use Rattle.std.specs.Io.KnownBytes.{Appends}
+use Rattle.std.specs.String.{string_bytes}
+use Rattle.nbt_name.specs.declared.addr.Addr.{Addr}
 use Rattle.nbt_lease.specs.Config.{milliseconds}
 use Rattle.nbt_log.specs.Dates.{second_at}
 use Rattle.nbt_nbns.specs.Begin.{IsBegin}
 use Rattle.nbt_nbns.proofs.running.tell_begin.Goals as goal
 
+-- the line that was printed is the first one
+told_begin : (at : Addr) (longest silent until second : ℕ) (before after shown : List ℕ) (old new : Option (List ℕ)) → silent ≡ longest → until ≡ second → before ≡ [] → shown ≡ after
+    → ((line : List ℕ) × IsBegin at silent until line × (after ≡ before ++ line)) → Appends old new shown → (line : List ℕ) × IsBegin at longest second line × Appends old new line
+told_begin at longest silent until second before after shown old new same_longest same_second none is_shown written told = (
+  written.0,
+  subst (λ (n : ℕ). IsBegin at n second written.0) same_longest (subst (λ (n : ℕ). IsBegin at silent n written.0) same_second written.1),
+  subst (λ (xs : List ℕ). Appends old new xs) (is_shown ∙ (written.2 ∙ ap (λ (xs : List ℕ). xs ++ written.0) none)) told,
+)
+
 pub returns-in-Ok-clause-ok : goal.returns-in-Ok-clause-ok
 returns-in-Ok-clause-ok g c =
-    let a = c.args in
-    let line = c.in_ok-write_begin.ensures in
-    let text : c.as_str.result.now ≡ line.0 = c.as_str.ensures.value ∙ (line.2 ∙ ap (λ (before : List ℕ). before ++ line.0) c.new-line.ensures.bytes) in
-    let end : c.second_at-until.result ≡ second_at a.dates.now (a.dates.now.moment + milliseconds a.config.longest) =
-    c.second_at-until.ensures ∙ ap (second_at a.dates.now) (rw (c.get.ensures.value, c.from.ensures, c.longest-silent.ensures.value) refl) in
-    let first : IsBegin a.at a.config.longest (second_at a.dates.now (a.dates.now.moment + milliseconds a.config.longest)) line.0 =
-    subst (λ (n : ℕ). IsBegin a.at n (second_at a.dates.now (a.dates.now.moment + milliseconds a.config.longest)) line.0) c.longest-silent.ensures.value
-    (subst (λ (n : ℕ). IsBegin a.at c.longest-silent.result n line.0) end line.1) in (
-      line.0,
-      first,
-      subst (λ (xs : List ℕ). Appends (g.W.Write.contents a.writer.now) (g.W.Write.contents c.print.new.writer) xs) text c.in-Ok.ensures,
-    )
+    told_begin c.args.at c.args.config.longest c.longest-silent.result c.second_at-until.result (second_at c.args.dates.now (c.args.dates.now.moment + milliseconds c.args.config.longest)) (string_bytes c.new-line.result)
+    (string_bytes c.write_begin.new.out) c.as_str.result.now (g.W.Write.contents c.args.writer.now) (g.W.Write.contents c.print.new.writer) c.longest-silent.ensures.value
+    (c.second_at-until.ensures ∙ ap (second_at c.args.dates.now) (rw (c.get.ensures.value, c.from.ensures, c.longest-silent.ensures.value) refl)) c.new-line.ensures.bytes c.as_str.ensures.value c.in_ok-write_begin.ensures c.in-Ok.ensures
