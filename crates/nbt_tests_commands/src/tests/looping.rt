@@ -164,6 +164,29 @@ where
     expect_eq(rt, &row, &street.connections.get(), &connections);
 }
 
+/// Plays `loop` where the first connection has the luck of this row at its two ends, and TEAM at this port sends to nobody. The
+/// stranger is at a port of its own.
+fn expect_luck<R>(rt: &R, row: usize, lucks: &(Luck, Luck, usize), teller: u16)
+where
+    R: Abort + AllocGlobal + Net<Stream = TcpStream, Listener = TcpListener> + Files,
+{
+    let (caller, listener, connections) = *lucks;
+    let server = UdpSocket::bind(rt, end(1, 21137)).expect(rt, "the server's port");
+    let stranger = UdpSocket::bind(rt, end(1, 0)).expect(rt, "the stranger's port");
+    let street = street_of(caller, listener, teller);
+    expect_told(rt, row, &server, &stranger, &street, connections);
+}
+
+/// What comes of TEAM's datagram.
+fn expect_not_present<R: Abort>(rt: &R, row: usize, teller: &UdpSocket) {
+    let mut buffer = [0; 600];
+    let (count, from) = teller
+        .recv_from(&mut buffer)
+        .expect(rt, "what TEAM is told");
+    expect_eq(rt, &row, &&buffer[..count], &NOT_PRESENT);
+    expect_eq(rt, &row, &from, &end(2, 21138));
+}
+
 /// A row is printed as its number, from 0.
 #[test]
 fn strangers_and_a_connection_that_fails_change_nothing(rt: HostRuntime) {
@@ -174,17 +197,8 @@ fn strangers_and_a_connection_that_fails_change_nothing(rt: HostRuntime) {
         .set_read_timeout(wait)
         .expect(&rt, "how long it waits");
     for (row, lucks) in LUCKS.iter().enumerate() {
-        let (caller, listener, connections) = *lucks;
-        let server = UdpSocket::bind(&rt, end(1, 21137)).expect(&rt, "the server's port");
-        let stranger = UdpSocket::bind(&rt, end(1, 0)).expect(&rt, "the stranger's port");
-        let street = street_of(caller, listener, port);
-        expect_told(&rt, row, &server, &stranger, &street, connections);
-        let mut buffer = [0; 600];
-        let (count, from) = teller
-            .recv_from(&mut buffer)
-            .expect(&rt, "what TEAM is told");
-        expect_eq(&rt, &row, &&buffer[..count], &NOT_PRESENT);
-        expect_eq(&rt, &row, &from, &end(2, 21138));
+        expect_luck(&rt, row, lucks, port);
+        expect_not_present(&rt, row, &teller);
     }
 }
 

@@ -9,8 +9,10 @@ use super::street::Street;
 use super::terminal::words_of;
 use nbt_prog::command;
 use std::io;
-use std::net::{TcpListener, UdpSocket};
+use std::net::{Net, TcpListener, TcpStream, UdpSocket};
 use std::process::Abort;
+use std::rt::Files;
+use std::time::Clock;
 
 /// All that `loop` tells.
 const TOLD: &str = "\
@@ -156,27 +158,39 @@ static BINDING: [(&str, &str, u8, &[u8]); 3] = [
     ),
 ];
 
-#[test]
-fn ports_that_can_not_be_had(rt: HostRuntime) {
-    let taken = UdpSocket::bind(&rt, "127.42.24.1:22337").expect(&rt, "a port");
-    let served = UdpSocket::bind(&rt, "127.42.22.4:20138").expect(&rt, "a port");
-    let _datagrams = UdpSocket::bind(&rt, end(2, 22238)).expect(&rt, "a port");
-    let _sessions = TcpListener::bind(&rt, end(2, 22439)).expect(&rt, "a port");
+fn expect_not_bound<R: Abort + AllocGlobal + Net + Clock + Files>(rt: &R) {
     for row in &NOT_BOUND {
         let (line, said) = *row;
-        expect_ending(&rt, &rt, "", line, "", 3, "device\n", said);
+        expect_ending(rt, rt, "", line, "", 3, "device\n", said);
     }
+}
+
+/// None of its sockets is at that port, since it has no memory for one.
+fn expect_no_memory<R>(rt: &R, port: &UdpSocket)
+where
+    R: Abort + AllocGlobal + Net<Stream = TcpStream, Listener = TcpListener> + Files,
+{
     let street = Street::new();
     let machine = Machine {
         has_memory: false,
-        ..Machine::new(&rt, &taken, &served, &street)
+        ..Machine::new(rt, port, port, &street)
     };
     for row in &BINDING {
         let (line, text, status, said) = *row;
         let mut paper = LimitedWriter::new();
         let mut errors = LimitedWriter::new();
-        let got = status_of(&rt, &machine, line, "", &mut paper, &mut errors);
-        expect_printed(&rt, &line, got, &paper, status, text.as_bytes());
-        expect(&rt, &line, errors.text.as_slice().ends_with(said));
+        let got = status_of(rt, &machine, line, "", &mut paper, &mut errors);
+        expect_printed(rt, &line, got, &paper, status, text.as_bytes());
+        expect(rt, &line, errors.text.as_slice().ends_with(said));
     }
+}
+
+#[test]
+fn ports_that_can_not_be_had(rt: HostRuntime) {
+    let taken = UdpSocket::bind(&rt, "127.42.24.1:22337").expect(&rt, "a port");
+    let _served = UdpSocket::bind(&rt, "127.42.22.4:20138").expect(&rt, "a port");
+    let _datagrams = UdpSocket::bind(&rt, end(2, 22238)).expect(&rt, "a port");
+    let _sessions = TcpListener::bind(&rt, end(2, 22439)).expect(&rt, "a port");
+    expect_not_bound(&rt);
+    expect_no_memory(&rt, &taken);
 }

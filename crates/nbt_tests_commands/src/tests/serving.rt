@@ -408,14 +408,23 @@ fn expect_sent<R: Abort>(rt: &R, row: &Row, other: &UdpSocket) {
     expect(rt, &about, other.recv_from(&mut buffer).is_err());
 }
 
+fn expect_rows<R>(rt: &R, rows: &[Row])
+where
+    R: Abort + AllocGlobal + Net<Stream = TcpStream, Listener = TcpListener> + Files,
+{
+    for row in rows {
+        expect_row(rt, row, "", 0);
+    }
+}
+
 #[test]
 fn commands_with_another_end(rt: HostRuntime) {
-    let tables: [&[Row]; 6] = [&SERVERS, &NODES, &LOOKUPS, &STATUSES, &HOSTS, &NAME_SERVERS];
-    for rows in tables {
-        for row in rows {
-            expect_row(&rt, row, "", 0);
-        }
-    }
+    expect_rows(&rt, &SERVERS);
+    expect_rows(&rt, &NODES);
+    expect_rows(&rt, &LOOKUPS);
+    expect_rows(&rt, &STATUSES);
+    expect_rows(&rt, &HOSTS);
+    expect_rows(&rt, &NAME_SERVERS);
     for (row, breaks_again_at) in &OUTLASTING {
         expect_row(&rt, row, "", *breaks_again_at);
     }
