@@ -392,7 +392,7 @@ where
     expect_sent(rt, row, &other);
 }
 
-/// Its other end came to these, each from the command's own port, and to nothing else.
+/// What came to the other end: these, each from the command's own port, and nothing else.
 fn expect_sent<R: Abort>(rt: &R, row: &Row, other: &UdpSocket) {
     let about = (row.about, row.words);
     let mut buffer = [0; 600];
