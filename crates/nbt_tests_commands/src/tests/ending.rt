@@ -1,49 +1,66 @@
 //! Runs a command on a machine, and holds what comes of it to what is wanted.
 
 use super::LimitedWriter;
-use super::expect::{expect_eq_in, expect_in};
+use super::expect::{expect, expect_eq};
+use super::terminal::words_of;
 use nbt_prog::command_telling;
-use std::convert::AsStr;
+use std::fmt::Debug;
 use std::io;
 use std::net::Net;
 use std::process::Abort;
 use std::rt::Files;
 use std::time::Clock;
 
-/// How a command ends: its status, what it printed, and what it said on standard error.
-#[derive(Clone, Copy)]
-pub struct Ending<'a> {
-    pub status: u8,
-    pub text: &'a str,
-    pub errors: &'a str,
-}
-
-/// The command, without input, ends so, and each line that it prints is flushed before the next. `about` is printed where it doesn't.
-pub fn expect_ending<R: Abort + AllocGlobal, M: Net + Clock + Files, S: AsStr>(
+/// The status of a command of these words, and of one more if it isn't empty.
+pub fn status_of<R: Abort + AllocGlobal, M: Net + Clock + Files>(
     rt: &R,
-    about: &str,
     machine: &M,
-    words: &[S],
-    ending: &Ending<'_>,
-) {
-    let mut paper = LimitedWriter::new();
-    let mut errors = LimitedWriter::new();
-    let status = command_telling(
+    line: &str,
+    last: &str,
+    paper: &mut LimitedWriter,
+    errors: &mut LimitedWriter,
+) -> u8 {
+    let words = words_of(rt, line, last);
+    command_telling(
         machine,
         rt.alloc(),
-        words,
+        words.as_slice(),
         &mut io::empty(),
-        &mut paper,
-        &mut errors,
-    );
-    expect_eq_in(rt, &about, &paper.text.as_slice(), &ending.text.as_bytes());
-    expect_eq_in(
-        rt,
-        &about,
-        &errors.text.as_slice(),
-        &ending.errors.as_bytes(),
-    );
-    expect_eq_in(rt, &about, &status, &ending.status);
-    expect_in(rt, &about, paper.is_line_by_line());
-    expect_in(rt, &about, errors.is_flushed());
+        paper,
+        errors,
+    )
+}
+
+/// The command ended with this status, and printed this.
+pub fn expect_printed<R: Abort>(
+    rt: &R,
+    row: &impl Debug,
+    got: u8,
+    paper: &LimitedWriter,
+    status: u8,
+    text: &[u8],
+) {
+    expect_eq(rt, row, &paper.text.as_slice(), &text);
+    expect_eq(rt, row, &got, &status);
+}
+
+/// The command, without input, ends with this status, and prints and says this. Each line that it prints is flushed before the next.
+pub fn expect_ending<R: Abort + AllocGlobal, M: Net + Clock + Files>(
+    rt: &R,
+    machine: &M,
+    about: &str,
+    line: &str,
+    last: &str,
+    status: u8,
+    text: &str,
+    said: &str,
+) {
+    let row = (about, line);
+    let mut paper = LimitedWriter::new();
+    let mut errors = LimitedWriter::new();
+    let got = status_of(rt, machine, line, last, &mut paper, &mut errors);
+    expect_printed(rt, &row, got, &paper, status, text.as_bytes());
+    expect_eq(rt, &row, &errors.text.as_slice(), &said.as_bytes());
+    expect(rt, &row, paper.is_line_by_line());
+    expect(rt, &row, errors.is_flushed());
 }

@@ -1,50 +1,97 @@
-//! Writers and readers that fail, and memory that is refused.
+//! Writers and readers that fail.
 
 use super::LimitedWriter;
-use super::expect::{expect, expect_eq, expect_eq_in, expect_in};
-use super::terminal::words_of;
+use super::ending::{expect_printed, status_of};
 use nbt_prog::command;
 use std::io;
 use std::io::Read;
+use std::net::Net;
 use std::process::Abort;
+use std::rt::Files;
+use std::time::Clock;
 
 /// Commands and what they print.
-const PRINTED: [(&str, &[u8]); 5] = [
-    ("nbt answer 127.0.0.2:137 8094", b"none\n"),
+static PRINTED: [(&[&str], &[u8]); 5] = [
+    (&["nbt", "answer", "127.0.0.2:137", "8094"], b"none\n"),
     (
-        "nbt answer 127.0.0.2:137 0001_2900_0001_0000_0000_0001_{FRED}_0020_0001_c00c_0020_0001_0000003c_0006_2000_7f000002",
+        &[
+            "nbt",
+            "answer",
+            "127.0.0.2:137",
+            "0001290000010000000000012045474643454645454341434143414341434143414341434143414341434143410000200001c00c002000010000003c000620007f000002",
+        ],
         b"0001ad80000000010000000020454746434546454543414341434143414341434143414341434143414341434100002000010000003c000620007f000002\n",
     ),
-    ("nbt answer x ''", b"unreadable\n"),
-    ("nbt show name ''", b"fault Short at 0\n"),
-    ("nbt --version", b"nbt 0.1.0\n"),
+    (&["nbt", "answer", "x", ""], b"unreadable\n"),
+    (&["nbt", "show", "name", ""], b"fault Short at 0\n"),
+    (&["nbt", "--version"], b"nbt 0.1.0\n"),
 ];
 
 /// Each write that fails ends the program, and what was written before stays. So does a flush that fails.
+fn expect_cut<R: Abort + AllocGlobal>(rt: &R, words: &[&str], text: &[u8]) {
+    for calls in 0..text.len() {
+        let mut paper = LimitedWriter::short(calls);
+        let status = command(rt.alloc(), words, &mut io::empty(), &mut paper);
+        expect_printed(rt, &(words, calls), status, &paper, 3, &text[..calls]);
+    }
+    let mut paper = LimitedWriter::stuck();
+    let status = command(rt.alloc(), words, &mut io::empty(), &mut paper);
+    expect_printed(rt, &words, status, &paper, 3, text);
+}
+
+/// The first line that is printed of each.
+static LINES: [(&str, &[u8]); 5] = [
+    (
+        "nbt status 127.42.22.1:20138 --bind 127.42.22.2:20138 --tries 1 --wait 1ms",
+        b"no reply\n",
+    ),
+    (
+        "nbt serve 127.42.22.1:20138 1000 60 1",
+        b"turns 1 replies 0 lost 0\n",
+    ),
+    (
+        "nbt node 127.42.22.2:20138 127.42.22.1:20138 1000 60 FRED unique 60 1",
+        b"not held\n",
+    ),
+    (
+        "nbt serve 127.42.22.1:20138 1000 60 --forever",
+        b"serving 127.42.22.1:20138, silent for 60 s\n",
+    ),
+    ("nbt loop 21737", b"server up\n"),
+];
+
+/// A flush that fails, and a write, end the command, and what was written before stays: no `device` comes after it.
+fn expect_nothing_more<R>(rt: &R, line: &str, text: &[u8])
+where
+    R: Abort + AllocGlobal + Net + Clock + Files,
+{
+    let mut errors = LimitedWriter::new();
+    let mut paper = LimitedWriter::stuck();
+    let status = status_of(rt, rt, line, "", &mut paper, &mut errors);
+    expect_printed(rt, &line, status, &paper, 3, text);
+    let mut paper = LimitedWriter::short(3);
+    let status = status_of(rt, rt, line, "", &mut paper, &mut errors);
+    expect_printed(rt, &line, status, &paper, 3, &text[..text.len().min(3)]);
+}
+
 #[test]
-fn a_writer_that_fails(rt: HostRuntime) {
-    for (line, text) in PRINTED {
-        let words = words_of(&rt, line);
-        for calls in 0..text.len() {
-            let mut paper = LimitedWriter::short(calls);
-            let status = command(rt.alloc(), words.as_slice(), &mut io::empty(), &mut paper);
-            expect_eq_in(&rt, &(&line, &calls), &status, &3);
-            expect_eq_in(
-                &rt,
-                &(&line, &calls),
-                &paper.text.as_slice(),
-                &&text[..calls],
-            );
-        }
-        let mut paper = LimitedWriter::stuck();
-        let status = command(rt.alloc(), words.as_slice(), &mut io::empty(), &mut paper);
-        expect_eq_in(&rt, &line, &status, &3);
-        expect_eq_in(&rt, &line, &paper.text.as_slice(), &text);
+fn writers_that_fail(rt: HostRuntime) {
+    for row in &PRINTED {
+        let (words, text) = *row;
+        expect_cut(&rt, words, text);
     }
     let mut paper = LimitedWriter::short(0);
     let status = command(rt.alloc(), &["nbt", "--help"], &mut io::empty(), &mut paper);
-    expect_eq(&rt, &status, &3);
-    expect(&rt, paper.text.is_empty());
+    expect_printed(&rt, &"help", status, &paper, 3, b"");
+    for row in &LINES {
+        let (line, text) = *row;
+        expect_nothing_more(&rt, line, text);
+    }
+    // Where standard error can't be written, that is passed over.
+    let mut paper = LimitedWriter::new();
+    let mut errors = LimitedWriter::short(0);
+    let status = status_of(&rt, &rt, "nbt answer x 0", "", &mut paper, &mut errors);
+    expect_printed(&rt, &"errors", status, &paper, 1, b"unreadable\n");
 }
 
 /// So many spaces, and then an error.
@@ -70,93 +117,5 @@ fn a_reader_that_fails(rt: HostRuntime) {
     let mut reader = Spaces { left: 5 };
     let mut paper = LimitedWriter::new();
     let status = command(rt.alloc(), &["nbt", "check"], &mut reader, &mut paper);
-    expect_eq(&rt, &paper.text.as_slice(), &b"device\n".as_slice());
-    expect_eq(&rt, &status, &3);
-}
-
-/// Commands that take memory, their inputs, the statuses that they end with where there is memory, and how what they
-/// print may begin then. The server of the last loses the datagram where memory is refused to its table.
-const WITH_MEMORY: [(&[&str], &[u8], u8, &[&[u8]]); 11] = [
-    (
-        &["nbt", "lookup", "FRED#2", "--server", "192.0.2.1"],
-        b"",
-        2,
-        &[b""],
-    ),
-    (&["nbt", "status", "192.0.2.1"], b"", 3, &[b"device\n"]),
-    (
-        &["nbt", "answer", "127.0.0.2:137", "8094"],
-        b"",
-        0,
-        &[b"none\n"],
-    ),
-    (
-        &["nbt", "answer", "--help"],
-        b"",
-        0,
-        &[b"Answers one packet"],
-    ),
-    (
-        &["nbt", "answer", "1.2.3.4:5", "", "--at", "x"],
-        b"",
-        2,
-        &[b"error: invalid value"],
-    ),
-    (
-        &["nbt", "answer", "--at", "1", "--at", "2"],
-        b"",
-        2,
-        &[b"error: "],
-    ),
-    (
-        &["nbt", "answer", "1.2.3.4:5", "0"],
-        b"",
-        1,
-        &[b"unreadable\n"],
-    ),
-    (
-        &["nbt", "show", "name", "00018583000000000000"],
-        b"",
-        1,
-        &[b"fault Short at 10\n"],
-    ),
-    (&[], b"", 2, &[b"NetBIOS over TCP"]),
-    (
-        &["nbt", "check"],
-        b"name 00 ok 1",
-        1,
-        &[b"line 1: fail\n0 passed, 1 failed\n"],
-    ),
-    (
-        &["nbt", "sim"],
-        b"config 1000 60 4096 1\nstart s\nstart n1\nat 60000\nask n1 FRED unique 60\ndeliver 0\n",
-        0,
-        &[b"ok\nok\nsent 0\nsent 1\n", b"ok\nok\nsent 0\nlost\n"],
-    ),
-];
-
-/// Where an allocation is refused, as under `rt try --test --fail-alloc N`, nothing but that is told. With all the
-/// memory there is, the answer is the right one.
-#[test]
-fn memory_that_is_refused(rt: HostRuntime) {
-    for (words, input, status, starts) in WITH_MEMORY {
-        let mut paper = LimitedWriter::new();
-        let mut reader = input;
-        let got = command(rt.alloc(), words, &mut reader, &mut paper);
-        let text = paper.text.as_slice();
-        if got == 4 {
-            expect_eq_in(&rt, &words, &text, &b"memory\n".as_slice());
-        } else {
-            expect_eq_in(&rt, &words, &got, &status);
-            // A text that ends with a line's end is all that is printed.
-            expect_in(
-                &rt,
-                &words,
-                starts.iter().any(|start| text == *start
-                    || (!start.ends_with(b"\n")
-                        && text.starts_with(start)
-                        && text.ends_with(b"\n"))),
-            );
-        }
-    }
+    expect_printed(&rt, &"spaces", status, &paper, 3, b"device\n");
 }

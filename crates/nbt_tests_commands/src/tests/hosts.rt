@@ -1,7 +1,6 @@
-//! The command `host`: what it holds and tells over UDP and clocks that are set.
+//! The rows of the command `host`: what it holds and tells over UDP and clocks that are set.
 
-use super::serving::{NO_CLOCK, Row, expect_row};
-use std::test::Fail;
+use super::serving::{NO_CLOCK, Row};
 
 /// The requests of the host, each for as long as may be: for FRED alone, for TEAM as a group; and its releases.
 const ASKS: &str =
@@ -49,7 +48,7 @@ const ASK: u64 = START + 2_005;
 
 const LATER: u64 = ASK + 1;
 
-const HOSTS: [Row; 6] = [
+pub static HOSTS: [Row; 6] = [
     Row {
         about: "a name and a group, which are granted, held at the end and given back",
         words: "nbt host fred --group TEAM --server 127.42.22.3:20139 --bind 127.42.22.2:20138 --longest 60s --for 2006ms",
@@ -166,11 +165,3 @@ host 127.42.22.2:20138 asks 127.42.22.3:20139 for 1 name
         sent: &[],
     },
 ];
-
-#[test]
-fn hosts(rt: HostRuntime) -> Result<(), Fail> {
-    for row in &HOSTS {
-        expect_row(&rt, row)?;
-    }
-    Ok(())
-}

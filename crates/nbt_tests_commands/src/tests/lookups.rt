@@ -1,15 +1,15 @@
 //! The commands `lookup` and `status`: what they ask and print over UDP and a clock that is set.
 
 use super::LimitedWriter;
-use super::expect::expect_eq_in;
-use super::serving::{FAILED, NO_CLOCK, Row, expect_row, machine_of};
+use super::expect::{expect, expect_eq};
+use super::machine::Machine;
+use super::serving::{self, FAILED, NO_CLOCK, Row, machine_of};
+use super::street::Street;
 use nbt_client::{Answer, Question, ask_here};
 use nbt_name::{Addr, Name};
 use nbt_port::Fault;
-use std::net::{Net, TcpListener, TcpStream};
+use std::net::{Net, TcpListener, TcpStream, UdpSocket};
 use std::process::Abort;
-use std::rt::Files;
-use std::test::Fail;
 
 /// The first query for FRED, and for `fred` in the scope `lab`; and a status request by `*`, and by FRED.
 const QUERY: &str = "0001_0100_0001_0000_0000_0000_{FRED}_0020_0001";
@@ -64,7 +64,7 @@ const NO_REPLY: Row = Row {
     sent: &[QUERY],
 };
 
-const LOOKUPS: [Row; 9] = [
+pub static LOOKUPS: [Row; 9] = [
     Row {
         about: "a name of two ends, where small letters are folded, and another id is passed over",
         words: "nbt lookup fred<20> --server 127.42.22.3:20139 --bind 127.42.22.2:20138",
@@ -164,7 +164,7 @@ const CLOCK_FAILS: Row = Row {
     sent: &[],
 };
 
-const STATUSES: [Row; 3] = [
+pub static STATUSES: [Row; 3] = [
     Row {
         about: "the names of a host",
         words: "nbt status 127.42.22.3:20139 --bind 127.42.22.2:20138",
@@ -205,22 +205,6 @@ const STATUSES: [Row; 3] = [
     },
 ];
 
-#[test]
-fn lookups(rt: HostRuntime) -> Result<(), Fail> {
-    for row in &LOOKUPS {
-        expect_row(&rt, row)?;
-    }
-    Ok(())
-}
-
-#[test]
-fn statuses(rt: HostRuntime) -> Result<(), Fail> {
-    for row in &STATUSES {
-        expect_row(&rt, row)?;
-    }
-    Ok(())
-}
-
 /// Where the command of those rows is, where it asks, and an address that is for documents alone (RFC 5737).
 const OWN: Addr = Addr {
     ip: 0x7F2A1602,
@@ -240,42 +224,51 @@ const NOBODY: Addr = Addr {
 /// What `ask_here` returns at a row's machine, and what it appends and says.
 fn expect_answer<R>(
     rt: &R,
-    row: &Row,
+    machine: &Machine<'_, R>,
+    about: &str,
     own: Addr,
     answer: Result<Answer, Fault>,
     text: &str,
     said: &str,
-) -> Result<(), Fail>
+)
 where
-    R: Abort + AllocGlobal + Net<Stream = TcpStream, Listener = TcpListener> + Files,
+    R: Abort + AllocGlobal + Net<Stream = TcpStream, Listener = TcpListener>,
 {
-    let machine = machine_of(rt, row)?;
-    let question = Question::Holders(OTHER, Name::new(b"FRED            ", b"")?);
-    let mut out = String::from_str(rt.alloc(), "> ")?;
+    let name = Name::new(b"FRED            ", b"").expect(rt, "a name");
+    let question = Question::Holders(OTHER, name);
+    let mut out = String::from_str(rt.alloc(), "> ").expect(rt, "memory");
     let mut errors = LimitedWriter::new();
-    let got = ask_here(&machine, own, &question, 250, &mut out, &mut errors);
-    let about = row.about;
-    expect_eq_in(rt, &about, &got, &answer);
-    expect_eq_in(rt, &about, &out.as_str().strip_prefix("> "), &Some(text));
-    expect_eq_in(rt, &about, &errors.text.as_slice(), &said.as_bytes());
-    Ok(())
+    let got = ask_here(machine, own, &question, 250, &mut out, &mut errors);
+    expect(rt, &about, got == answer);
+    expect_eq(rt, &about, &out.as_str().strip_prefix("> "), &Some(text));
+    expect_eq(rt, &about, &errors.text.as_slice(), &said.as_bytes());
 }
 
 /// A machine that has no such address.
 const NO_ADDRESS: &str = "nbt: 192.0.2.1:20138: Cannot assign requested address (os error 99)\n";
 
+/// Rows, whose machines are asked from an address; what is returned, what is appended, and what is said.
+static QUESTIONS: [(Row, Addr, Result<Answer, Fault>, &str, &str); 5] = [
+    (
+        NOBODY_HAS_IT,
+        OWN,
+        Ok(Answer::NotFound),
+        "not found: no such name (3)\n",
+        "",
+    ),
+    (NO_REPLY, OWN, Ok(Answer::NoReply), "no reply\n", ""),
+    (PORT_FAILS, OWN, Err(Fault::Device), "", FAILED),
+    (CLOCK_FAILS, OWN, Err(Fault::NoClock), "", NO_CLOCK),
+    (PORT_FAILS, NOBODY, Err(Fault::NoPort), "", NO_ADDRESS),
+];
+
 #[test]
-fn questions_over_this_machine(rt: HostRuntime) -> Result<(), Fail> {
-    let nobody = "not found: no such name (3)\n";
-    let answers = [
-        (&NOBODY_HAS_IT, OWN, Ok(Answer::NotFound), nobody, ""),
-        (&NO_REPLY, OWN, Ok(Answer::NoReply), "no reply\n", ""),
-        (&PORT_FAILS, OWN, Err(Fault::Device), "", FAILED),
-        (&CLOCK_FAILS, OWN, Err(Fault::NoClock), "", NO_CLOCK),
-        (&PORT_FAILS, NOBODY, Err(Fault::NoPort), "", NO_ADDRESS),
-    ];
-    for (row, own, answer, text, said) in answers {
-        expect_answer(&rt, row, own, answer, text, said)?;
+fn questions_over_this_machine(rt: HostRuntime) {
+    for (row, own, answer, text, said) in &QUESTIONS {
+        let port = UdpSocket::bind(&rt, serving::OWN).expect(&rt, "its port");
+        let other = UdpSocket::bind(&rt, serving::OTHER).expect(&rt, "the other end's port");
+        let street = Street::new();
+        let machine = machine_of(&rt, &port, &other, &street, row);
+        expect_answer(&rt, &machine, row.about, *own, *answer, text, said);
     }
-    Ok(())
 }

@@ -1,167 +1,28 @@
-//! The command `loop`, over the sockets of this machine.
+//! The command `loop` with strangers on its network, and with connections that fail.
 
 use super::LimitedWriter;
-use super::ending::{Ending, expect_ending};
-use super::expect::{expect, expect_eq, expect_eq_in};
-use super::machine::{WithFiles, WithoutMemory};
+use super::ending::{expect_ending, expect_printed};
+use super::expect::expect_eq;
+use super::machine::Machine;
 use super::street::{Luck, Street};
-use super::terminal::words_of;
 use arrayvec::ArrayVec;
-use nbt_prog::{command, command_telling};
-use std::alloc::AllocError;
+use nbt_prog::command_telling;
 use std::cell::Cell;
 use std::io;
 use std::io::Write;
 use std::net::{IpAddr, Ipv4Addr, Net, SocketAddr, TcpListener, TcpStream, UdpSocket};
 use std::process::Abort;
-use std::rc::Rc;
 use std::rt::Files;
-use std::test::Fail;
 use std::time::Duration;
 
-/// All that is told.
-const TOLD: &str = "\
-server up
-n1 asks FRED: granted 60
-n2 asks FRED: refused 6
-n1 asks TEAM: granted 60
-n2 asks TEAM: granted 60
-n2 finds FRED: 127.0.0.2
-n2 finds TEAM: 127.0.0.2 127.0.0.3
-datagram to FRED: 5 octets
-call to FRED: open
-message: 5 octets
-n1 releases FRED: 0
-call to FRED: refused 82
-done
-";
-
-#[test]
-fn a_server_and_two_nodes_twice_in_a_row(rt: HostRuntime) {
-    for _ in 0..2 {
-        let mut paper = LimitedWriter::new();
-        let words = ["nbt", "loop", "21037"];
-        let status = command_telling(
-            &rt,
-            rt.alloc(),
-            &words,
-            &mut io::empty(),
-            &mut paper,
-            &mut io::sink(),
-        );
-        expect_eq(&rt, &paper.text.as_slice(), &TOLD.as_bytes());
-        expect_eq(&rt, &status, &0);
-        expect(&rt, paper.is_line_by_line());
-    }
-}
-
-#[test]
-fn without_a_network(rt: HostRuntime) {
-    let mut paper = LimitedWriter::new();
-    let words = ["nbt", "loop", "22237"];
-    let status = command(rt.alloc(), &words, &mut io::empty(), &mut paper);
-    expect_eq(&rt, &paper.text.as_slice(), &b"device\n".as_slice());
-    expect_eq(&rt, &status, &3);
-}
-
-/// Commands whose port can't be bound, since another program has it or since its address is no address of this machine, and what is
-/// said of it.
-const NOT_BOUND: [(&str, &str); 8] = [
-    (
-        "nbt lookup FRED --server 127.42.24.2:22337 --bind 127.42.24.1:22337",
-        "nbt: 127.42.24.1:22337: Address already in use (os error 98)\n",
-    ),
-    (
-        "nbt status 127.42.24.2:22337 --bind 192.0.2.1:22337",
-        "nbt: 192.0.2.1:22337: Cannot assign requested address (os error 99)\n",
-    ),
-    (
-        "nbt serve 127.42.24.1:22337 1000 60 1",
-        "nbt: 127.42.24.1:22337: Address already in use (os error 98)\n",
-    ),
-    (
-        "nbt serve 192.0.2.1:22337 1000 60 --forever",
-        "nbt: 192.0.2.1:22337: Cannot assign requested address (os error 99)\n",
-    ),
-    (
-        "nbt node 127.42.24.1:22337 127.42.24.2:22337 1000 60 FRED unique 60 --forever",
-        "nbt: 127.42.24.1:22337: Address already in use (os error 98)\n",
-    ),
-    (
-        "nbt node 192.0.2.1:22337 127.42.24.2:22337 1000 60 FRED unique 60 1",
-        "nbt: 192.0.2.1:22337: Cannot assign requested address (os error 99)\n",
-    ),
-    (
-        "nbt loop 22237",
-        "nbt: 127.0.0.2:22238: Address already in use (os error 98)\n",
-    ),
-    (
-        "nbt loop 22437",
-        "nbt: 127.0.0.2:22439: Address already in use (os error 98)\n",
-    ),
-];
-
-#[test]
-fn ports_that_can_not_be_had(rt: HostRuntime) -> Result<(), Fail> {
-    let _taken = UdpSocket::bind(&rt, "127.42.24.1:22337")?;
-    let _datagrams = UdpSocket::bind(&rt, end(2, 22238))?;
-    let _sessions = TcpListener::bind(&rt, end(2, 22439))?;
-    for (line, said) in NOT_BOUND {
-        let ending = Ending {
-            status: 3,
-            text: "device\n",
-            errors: said,
-        };
-        expect_ending(&rt, line, &rt, words_of(&rt, line).as_slice(), &ending);
-    }
-    Ok(())
-}
-
-/// Commands that bind a port first, and what they print and end with where the machine has no memory for it.
-const BINDING: [(&str, &str, u8); 3] = [
-    (
-        "nbt serve 127.42.24.1:22337 1000 60 --forever",
-        "device\n",
-        3,
-    ),
-    (
-        "nbt node 127.42.24.1:22337 127.42.24.2:22337 1000 60 FRED unique 60 1",
-        "device\n",
-        3,
-    ),
-    ("nbt loop 22237", "memory\n", 4),
-];
-
-#[test]
-fn ports_for_which_there_is_no_memory(rt: HostRuntime) {
-    let machine = WithFiles {
-        rest: &WithoutMemory { host: &rt },
-        files: &rt,
-    };
-    for (line, printed, expected) in BINDING {
-        let words = words_of(&rt, line);
-        let mut paper = LimitedWriter::new();
-        let status = command_telling(
-            &machine,
-            rt.alloc(),
-            words.as_slice(),
-            &mut io::empty(),
-            &mut paper,
-            &mut io::sink(),
-        );
-        expect_eq_in(&rt, &line, &paper.text.as_slice(), &printed.as_bytes());
-        expect_eq_in(&rt, &line, &status, &expected);
-    }
-}
-
-/// A UDP port of this machine.
-fn end(last: u8, port: u16) -> SocketAddr {
+/// An address of this machine.
+pub fn end(last: u8, port: u16) -> SocketAddr {
     SocketAddr::new(IpAddr::V4(Ipv4Addr::new(127, 0, 0, last)), port)
 }
 
 /// The luck of the first connection at the end that calls and at the end that listens, and how many connections both
 /// calls are made with.
-const LUCKS: [(Luck, Luck, usize); 17] = [
+static LUCKS: [(Luck, Luck, usize); 17] = [
     (Luck::Well, Luck::Well, 2),
     (Luck::Refused, Luck::Well, 3),
     (Luck::Mute, Luck::Well, 3),
@@ -182,22 +43,22 @@ const LUCKS: [(Luck, Luck, usize); 17] = [
 ];
 
 /// A datagram from TEAM at 127.0.0.4:21340 to NONE, which is nobody's name.
-const TO_NOBODY: &[u8] =
+static TO_NOBODY: &[u8] =
     b"\x10\x06\x00\x07\x7F\x00\x00\x04\x53\x5C\x00\x49\x00\x00 FEEFEBENCACACACACACACACACACACACA\x00 EOEPEOEFCACACACACACACACACACACACA\x00hello";
 
 /// The same from 127.0.0.4:101, a port below those of this protocol.
-const TO_NOBODY_FROM_BELOW: &[u8] =
+static TO_NOBODY_FROM_BELOW: &[u8] =
     b"\x10\x06\x00\x07\x7F\x00\x00\x04\x00\x65\x00\x49\x00\x00 FEEFEBENCACACACACACACACACACACACA\x00 EOEPEOEFCACACACACACACACACACACACA\x00hello";
 
 /// What comes of it: an error from n1's own port, 127.0.0.2:21138 (RFC 1002 section 4.4.3).
-const NOT_PRESENT: &[u8] = b"\x13\x06\x00\x07\x7F\x00\x00\x02\x52\x92\x82";
+static NOT_PRESENT: &[u8] = b"\x13\x06\x00\x07\x7F\x00\x00\x02\x52\x92\x82";
 
 /// A reply to the lookup of FRED that `n2` makes as its third request: FRED is at 127.0.0.2, and at 127.0.0.9 too.
-const FOUND_TWICE: &[u8] =
+static FOUND_TWICE: &[u8] =
     b"\x00\x03\x85\x80\x00\x00\x00\x01\x00\x00\x00\x00 EGFCEFEECACACACACACACACACACACACA\x00\x00\x20\x00\x01\x00\x00\x00\x3C\x00\x0C\x20\x00\x7F\x00\x00\x02\x20\x00\x7F\x00\x00\x09";
 
 /// All that is told where that one came to `n2` before the server's own.
-const TOLD_TWICE: &str = "\
+static TOLD_TWICE: &str = "\
 server up
 n1 asks FRED: granted 60
 n2 asks FRED: refused 6
@@ -215,75 +76,53 @@ done
 
 /// How many ends of connections are open as each of these lines is told: both of the call from when it is open to when it
 /// is hung up, and none of a call that is refused.
-const OPEN: [usize; 13] = [0, 0, 0, 0, 0, 0, 0, 0, 2, 2, 0, 0, 0];
+static OPEN: [usize; 13] = [0, 0, 0, 0, 0, 0, 0, 0, 2, 2, 0, 0, 0];
 
 /// A port below those of this protocol, and one above.
 const BELOW: u16 = 101;
 
 const ABOVE: u16 = 21340;
 
-/// This machine's network, where the first connection has this luck at its two ends, and TEAM at this port sends to nobody.
-fn street_of<'a, R: AllocGlobal>(
-    rt: &'a R,
-    caller: Luck,
-    listener: Luck,
-    teller: u16,
-) -> Result<Street<'a, R>, AllocError> {
+/// A network where the first connection has this luck at its two ends, and TEAM at this port sends to nobody.
+fn street_of(caller: Luck, listener: Luck, teller: u16) -> Street {
     let octets = if teller == BELOW {
         TO_NOBODY_FROM_BELOW
     } else {
         TO_NOBODY
     };
-    Ok(Street {
-        machine: rt,
+    Street {
+        strangers: Some((end(3, 21138), octets, end(2, 21138))),
         caller: Cell::new(caller),
         listener,
-        connections: Cell::new(0),
-        open: Rc::new(rt.alloc(), Cell::new(0))?,
-        last: (end(3, 21138), octets, end(2, 21138)),
-        lent: end(1, 21137),
-        sender: Rc::new(rt.alloc(), Cell::new(None))?,
-    })
+        ..Street::new()
+    }
 }
 
 /// The port at which TEAM is told that its datagram was for nobody: the one below where this program may have it.
-fn teller_of(rt: &HostRuntime) -> io::Result<(UdpSocket, u16)> {
+fn teller_of(rt: &HostRuntime) -> io::Result<UdpSocket> {
     match UdpSocket::bind(rt, end(4, BELOW)) {
         Err(error) if error.kind() == io::ErrorKind::PermissionDenied => {
-            Ok((UdpSocket::bind(rt, end(4, ABOVE))?, ABOVE))
+            UdpSocket::bind(rt, end(4, ABOVE))
         }
-        bound => Ok((bound?, BELOW)),
+        bound => bound,
     }
 }
 
 /// What is told, with how many ends of connections were open as each line was. Before the first lookup the server's socket
 /// sends `n2` a reply to it.
 #[derive(Drop)]
-struct Watcher {
+struct Watcher<'a> {
     paper: LimitedWriter,
     open: ArrayVec<usize, 16>,
-    open_now: Rc<Cell<usize>>,
-    server: Rc<Cell<Option<UdpSocket>>>,
+    street: &'a Street,
+    server: &'a UdpSocket,
 }
 
-impl Watcher {
-    fn of<N>(street: &Street<'_, N>) -> Result<Watcher, AllocError> {
-        Ok(Watcher {
-            paper: LimitedWriter::new(),
-            open: ArrayVec::new(),
-            open_now: Rc::clone(&street.open)?,
-            server: Rc::clone(&street.sender)?,
-        })
-    }
-}
-
-impl Write for Watcher {
+impl<'a> Write for Watcher<'a> {
     fn write(&mut self, buf: &[u8]) -> io::Result<usize> {
-        let _ = self.open.try_push(self.open_now.get());
+        let _ = self.open.try_push(self.street.open.get());
         if buf.starts_with(b"n2 asks TEAM") {
-            if let Some(server) = self.server.replace(None) {
-                server.send_to(FOUND_TWICE, end(3, 21137))?;
-            }
+            self.server.send_to(FOUND_TWICE, end(3, 21137))?;
         }
         self.paper.write(buf)
     }
@@ -293,55 +132,78 @@ impl Write for Watcher {
     }
 }
 
-/// Plays `loop` where the first connection has this luck at its two ends, and TEAM at this port sends to nobody. Both calls
-/// are made with as many connections.
-fn expect_all_told<
+/// Plays `loop` on this network. Both calls are made with as many connections.
+fn expect_told<'a, R>(
+    rt: &'a R,
+    row: usize,
+    server: &'a UdpSocket,
+    stranger: &'a UdpSocket,
+    street: &'a Street,
+    connections: usize,
+)
+where
     R: Abort + AllocGlobal + Net<Stream = TcpStream, Listener = TcpListener> + Files,
->(rt: &R, caller: Luck, listener: Luck, teller: u16, connections: usize) -> Result<(), Fail> {
-    let street = street_of(rt, caller, listener, teller)?;
-    let mut told = Watcher::of(&street)?;
-    let machine = WithFiles {
-        rest: &street,
-        files: rt,
+{
+    let machine = Machine::new(rt, server, stranger, street);
+    let mut told = Watcher {
+        paper: LimitedWriter::new(),
+        open: ArrayVec::new(),
+        street,
+        server,
     };
-    let words = ["nbt", "loop", "21137"];
     let status = command_telling(
         &machine,
         rt.alloc(),
-        &words,
+        &["nbt", "loop", "21137"],
         &mut io::empty(),
         &mut told,
         &mut io::sink(),
     );
-    let row = (caller, listener);
-    expect_eq_in(
-        rt,
-        &row,
-        &told.paper.text.as_slice(),
-        &TOLD_TWICE.as_bytes(),
-    );
-    expect_eq_in(rt, &row, &status, &0);
-    expect_eq_in(rt, &row, &told.open.as_slice(), &OPEN.as_slice());
-    expect_eq_in(rt, &row, &street.connections.get(), &connections);
-    Ok(())
+    expect_printed(rt, &row, status, &told.paper, 0, TOLD_TWICE.as_bytes());
+    expect_eq(rt, &row, &told.open.as_slice(), &OPEN.as_slice());
+    expect_eq(rt, &row, &street.connections.get(), &connections);
 }
 
+/// Plays `loop` where the first connection has the luck of this row at its two ends, and TEAM at this port sends to nobody. The
+/// stranger is at a port of its own.
+fn expect_luck<R>(rt: &R, row: usize, lucks: &(Luck, Luck, usize), teller: u16)
+where
+    R: Abort + AllocGlobal + Net<Stream = TcpStream, Listener = TcpListener> + Files,
+{
+    let (caller, listener, connections) = *lucks;
+    let server = UdpSocket::bind(rt, end(1, 21137)).expect(rt, "the server's port");
+    let stranger = UdpSocket::bind(rt, end(1, 0)).expect(rt, "the stranger's port");
+    let street = street_of(caller, listener, teller);
+    expect_told(rt, row, &server, &stranger, &street, connections);
+}
+
+/// What comes of TEAM's datagram.
+fn expect_not_present<R: Abort>(rt: &R, row: usize, teller: &UdpSocket) {
+    let mut buffer = [0; 600];
+    let (count, from) = teller
+        .recv_from(&mut buffer)
+        .expect(rt, "what TEAM is told");
+    expect_eq(rt, &row, &&buffer[..count], &NOT_PRESENT);
+    expect_eq(rt, &row, &from, &end(2, 21138));
+}
+
+/// A row is printed as its number, from 0.
 #[test]
-fn strangers_and_a_connection_that_fails_change_nothing(rt: HostRuntime) -> Result<(), Fail> {
-    let (teller, port) = teller_of(&rt)?;
-    teller.set_read_timeout(Some(Duration::from_millis(1)))?;
-    for (caller, listener, connections) in LUCKS {
-        expect_all_told(&rt, caller, listener, port, connections)?;
-        let mut buffer = [0; 600];
-        let (count, from) = teller.recv_from(&mut buffer)?;
-        expect_eq_in(&rt, &(&caller, &listener), &&buffer[..count], &NOT_PRESENT);
-        expect_eq_in(&rt, &(&caller, &listener), &from, &end(2, 21138));
+fn strangers_and_a_connection_that_fails_change_nothing(rt: HostRuntime) {
+    let teller = teller_of(&rt).expect(&rt, "the teller's port");
+    let port = teller.local_addr().expect(&rt, "its address").port();
+    let wait = Some(Duration::from_millis(1));
+    teller
+        .set_read_timeout(wait)
+        .expect(&rt, "how long it waits");
+    for (row, lucks) in LUCKS.iter().enumerate() {
+        expect_luck(&rt, row, lucks, port);
+        expect_not_present(&rt, row, &teller);
     }
-    Ok(())
 }
 
 /// What is told where the socket that listens fails: it is a device's fault at the first call.
-const TOLD_WITHOUT_CALLS: &str = "\
+static TOLD_WITHOUT_CALLS: &str = "\
 server up
 n1 asks FRED: granted 60
 n2 asks FRED: refused 6
@@ -354,20 +216,21 @@ device
 ";
 
 /// What is said of it.
-const WHY_WITHOUT_CALLS: &str = "nbt: 127.0.0.2:21139: accept: invalid input parameter\n";
+static WHY_WITHOUT_CALLS: &str = "nbt: 127.0.0.2:21139: accept: invalid input parameter\n";
 
 #[test]
-fn a_socket_that_listens_and_fails_ends_all(rt: HostRuntime) -> Result<(), Fail> {
-    let street = street_of(&rt, Luck::Well, Luck::Refused, ABOVE)?;
-    let machine = WithFiles {
-        rest: &street,
-        files: &rt,
-    };
-    let ending = Ending {
-        status: 3,
-        text: TOLD_WITHOUT_CALLS,
-        errors: WHY_WITHOUT_CALLS,
-    };
-    expect_ending(&rt, "loop", &machine, &["nbt", "loop", "21137"], &ending);
-    Ok(())
+fn a_socket_that_listens_and_fails_ends_all(rt: HostRuntime) {
+    let server = UdpSocket::bind(&rt, end(1, 21137)).expect(&rt, "the server's port");
+    let stranger = UdpSocket::bind(&rt, end(1, 0)).expect(&rt, "the stranger's port");
+    let street = street_of(Luck::Well, Luck::Refused, ABOVE);
+    expect_ending(
+        &rt,
+        &Machine::new(&rt, &server, &stranger, &street),
+        "a socket that listens and fails",
+        "nbt loop 21137",
+        "",
+        3,
+        TOLD_WITHOUT_CALLS,
+        WHY_WITHOUT_CALLS,
+    );
 }

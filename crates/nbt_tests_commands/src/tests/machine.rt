@@ -1,5 +1,7 @@
-//! This machine with a clock that a test sets, and another end on its network.
+//! This machine with a clock that a test sets, another end on its network, and strangers there.
 
+use super::street::{Door, Line, Luck, Street};
+use super::terminal::octets_of;
 use std::alloc::Allocator;
 use std::cell::Cell;
 use std::fs::{Metadata, OpenOptions};
@@ -17,14 +19,18 @@ pub const WELL: usize = usize::MAX;
 /// Its clock tells these moments, in milliseconds, one a reading, and then the last again; where there are none, it can't
 /// be read. At its `n`th reading the other end sends to `port` what is to be sent then. At the reading `breaks_at` the port
 /// breaks: its next call fails, and the first one after each sleep. After `well_after` sleeps it is well again, for the other
-/// end alone, which sends then what is to be sent at [`WELL`]; and it breaks again at the reading `breaks_again_at`. Where `port` is, whoever binds a UDP port is given that one.
+/// end alone, which sends then what is to be sent at [`WELL`]; and it breaks again at the reading `breaks_again_at`. Where `port` is,
+/// whoever binds a UDP port is given that one. TCP, and strangers, are as `street` says. Where it has no memory, none of its sockets
+/// is bound or connected. Its files are the host's.
 #[derive(Drop)]
 pub struct Machine<'a, N> {
     pub host: &'a N,
-    pub port: UdpSocket,
-    pub other: UdpSocket,
+    pub port: &'a UdpSocket,
+    pub other: &'a UdpSocket,
+    pub street: &'a Street,
+    pub has_memory: bool,
     pub moments: &'static [u64],
-    pub sends: Vec<(usize, Vec<u8>)>,
+    pub sends: &'static [(usize, &'static str)],
     pub breaks_at: usize,
     pub readings: Cell<usize>,
     pub sleeps: Cell<usize>,
@@ -33,10 +39,34 @@ pub struct Machine<'a, N> {
 }
 
 impl<'a, N: Net<Stream = TcpStream, Listener = TcpListener>> Machine<'a, N> {
+    /// A machine with a clock that can't be read, where all is well.
+    pub fn new(
+        host: &'a N,
+        port: &'a UdpSocket,
+        other: &'a UdpSocket,
+        street: &'a Street,
+    ) -> Machine<'a, N> {
+        Machine {
+            host,
+            port,
+            other,
+            street,
+            has_memory: true,
+            moments: &[],
+            sends: &[],
+            breaks_at: 0,
+            readings: Cell::new(0),
+            sleeps: Cell::new(0),
+            well_after: 0,
+            breaks_again_at: 0,
+        }
+    }
+
     /// What happens at a reading of the clock.
     fn happens(&self, reading: usize) -> io::Result<()> {
-        for (when, octets) in self.sends.as_slice() {
+        for (when, text) in self.sends {
             if *when == reading {
+                let octets = octets_of(text)?;
                 self.other
                     .send_to(octets.as_slice(), self.port.local_addr()?)?;
             }
@@ -58,6 +88,25 @@ impl<'a, N: Net<Stream = TcpStream, Listener = TcpListener>> Machine<'a, N> {
         self.port.connect(NOBODY)?;
         self.port.send(b"x")?;
         Ok(())
+    }
+
+    /// Fails where there is no memory.
+    fn memory(&self) -> io::Result<()> {
+        if self.has_memory {
+            Ok(())
+        } else {
+            Err(io::Error::from(io::ErrorKind::OutOfMemory))
+        }
+    }
+
+    /// A UDP socket at this address.
+    fn socket(&self, addr: SocketAddr) -> io::Result<UdpSocket> {
+        self.memory()?;
+        if addr == self.port.local_addr()? {
+            self.port.try_clone()
+        } else {
+            self.host.bind_udp(addr)
+        }
     }
 }
 
@@ -90,146 +139,74 @@ impl<'a, N: Net<Stream = TcpStream, Listener = TcpListener>> Clock for Machine<'
 }
 
 impl<'a, N: Net<Stream = TcpStream, Listener = TcpListener>> Net for Machine<'a, N> {
-    type Stream = TcpStream;
+    type Stream = Line<'a>;
 
-    type Listener = TcpListener;
+    type Listener = Door<'a>;
 
-    fn bind(&self, addr: SocketAddr) -> io::Result<TcpListener> {
-        self.host.bind(addr)
+    fn bind(&self, addr: SocketAddr) -> io::Result<Door<'a>> {
+        self.memory()?;
+        let socket = self.host.bind(addr)?;
+        self.host.connect(addr)?;
+        Ok(Door::new(socket, self.street))
     }
 
     fn bind_udp(&self, addr: SocketAddr) -> io::Result<UdpSocket> {
-        if addr == self.port.local_addr()? {
-            self.port.try_clone()
-        } else {
-            self.host.bind_udp(addr)
+        let socket = self.socket(addr)?;
+        self.street.meets(self.other, &socket, addr)?;
+        Ok(socket)
+    }
+
+    fn connect(&self, addr: SocketAddr) -> io::Result<Line<'a>> {
+        self.memory()?;
+        match self.street.next_luck() {
+            Luck::Refused => Err(io::Error::from(io::ErrorKind::ConnectionRefused)),
+            luck => Ok(Line::new(self.host.connect(addr)?, luck, self.street)),
         }
     }
-
-    fn connect(&self, addr: SocketAddr) -> io::Result<TcpStream> {
-        self.host.connect(addr)
-    }
 }
 
-/// This machine without memory for a socket.
-#[derive(Drop)]
-pub struct WithoutMemory<'a, N> {
-    pub host: &'a N,
-}
+impl<'a, N: Files> Files for Machine<'a, N> {
+    type File = N::File;
 
-impl<'a, N: Clock> Clock for WithoutMemory<'a, N> {
-    fn monotonic(&self) -> io::Result<Duration> {
-        self.host.monotonic()
+    type Dir = N::Dir;
+
+    fn open_file(&self, how: &OpenOptions, path: &str) -> io::Result<N::File> {
+        self.host.open_file(how, path)
     }
 
-    fn since_1970(&self) -> io::Result<Duration> {
-        self.host.since_1970()
-    }
-
-    fn sleep(&self, duration: Duration) {
-        self.host.sleep(duration)
-    }
-}
-
-impl<'a, N> Net for WithoutMemory<'a, N> {
-    type Stream = TcpStream;
-
-    type Listener = TcpListener;
-
-    fn bind(&self, _addr: SocketAddr) -> io::Result<TcpListener> {
-        Err(io::Error::from(io::ErrorKind::OutOfMemory))
-    }
-
-    fn bind_udp(&self, _addr: SocketAddr) -> io::Result<UdpSocket> {
-        Err(io::Error::from(io::ErrorKind::OutOfMemory))
-    }
-
-    fn connect(&self, _addr: SocketAddr) -> io::Result<TcpStream> {
-        Err(io::Error::from(io::ErrorKind::OutOfMemory))
-    }
-}
-
-/// The clock and the network of `rest`, and the files of `files`.
-#[derive(Clone, Copy)]
-pub struct WithFiles<'a, N, F> {
-    pub rest: &'a N,
-    pub files: &'a F,
-}
-
-impl<'a, N: Clock, F> Clock for WithFiles<'a, N, F> {
-    fn monotonic(&self) -> io::Result<Duration> {
-        self.rest.monotonic()
-    }
-
-    fn since_1970(&self) -> io::Result<Duration> {
-        self.rest.since_1970()
-    }
-
-    fn sleep(&self, duration: Duration) {
-        self.rest.sleep(duration)
-    }
-}
-
-impl<'a, N: Net, F> Net for WithFiles<'a, N, F> {
-    type Stream = N::Stream;
-
-    type Listener = N::Listener;
-
-    fn bind(&self, addr: SocketAddr) -> io::Result<N::Listener> {
-        self.rest.bind(addr)
-    }
-
-    fn bind_udp(&self, addr: SocketAddr) -> io::Result<UdpSocket> {
-        self.rest.bind_udp(addr)
-    }
-
-    fn connect(&self, addr: SocketAddr) -> io::Result<N::Stream> {
-        self.rest.connect(addr)
-    }
-}
-
-impl<'a, N, F: Files> Files for WithFiles<'a, N, F> {
-    type File = F::File;
-
-    type Dir = F::Dir;
-
-    fn open_file(&self, how: &OpenOptions, path: &str) -> io::Result<F::File> {
-        self.files.open_file(how, path)
-    }
-
-    fn open_dir(&self, path: &str) -> io::Result<F::Dir> {
-        self.files.open_dir(path)
+    fn open_dir(&self, path: &str) -> io::Result<N::Dir> {
+        self.host.open_dir(path)
     }
 
     fn metadata(&self, path: &str) -> io::Result<Metadata> {
-        self.files.metadata(path)
+        self.host.metadata(path)
     }
 
     fn symlink_metadata(&self, path: &str) -> io::Result<Metadata> {
-        self.files.symlink_metadata(path)
+        self.host.symlink_metadata(path)
     }
 
     fn copy(&self, from: &str, to: &str) -> io::Result<u64> {
-        self.files.copy(from, to)
+        self.host.copy(from, to)
     }
 
     fn rename(&self, from: &str, to: &str) -> io::Result<()> {
-        self.files.rename(from, to)
+        self.host.rename(from, to)
     }
 
     fn remove_file(&self, path: &str) -> io::Result<()> {
-        self.files.remove_file(path)
+        self.host.remove_file(path)
     }
 
     fn create_dir(&self, path: &str) -> io::Result<()> {
-        self.files.create_dir(path)
+        self.host.create_dir(path)
     }
 
     fn remove_dir(&self, path: &str) -> io::Result<()> {
-        self.files.remove_dir(path)
+        self.host.remove_dir(path)
     }
 
     fn remove_dir_all<B: Allocator>(&self, alloc: B, path: &str) -> io::Result<()> {
-        self.files.remove_dir_all(alloc, path)
+        self.host.remove_dir_all(alloc, path)
     }
 }

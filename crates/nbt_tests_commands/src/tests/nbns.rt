@@ -1,12 +1,7 @@
 //! The command `nbns`: what it serves, logs and keeps over UDP and clocks that are set.
 
-use super::ending::{Ending, expect_ending};
 use super::expect::expect_eq;
-use super::machine::WithFiles;
-use super::serving::{NO_CLOCK, NO_TIME, Row, expect_row, machine_of};
-use super::terminal::words_of;
-use std::net::UdpSocket;
-use std::test::Fail;
+use super::serving::{NO_CLOCK, NO_TIME, Row, expect_row};
 use std::{env, fs, process};
 
 /// The other end's requests: for FRED, unique; its refresh, its release, and a query for it.
@@ -63,7 +58,7 @@ const END: u64 = OPEN + 1;
 /// What is said of the longest lease that is not long, and of one that is.
 const LONG: &str = "nbt: longest lease 3601 s: after each start the server is silent for as long\n";
 
-const SERVERS: [Row; 9] = [
+pub static NAME_SERVERS: [Row; 9] = [
     Row {
         about: "silent for the longest lease, and then it serves, until its time is over",
         words: "nbt nbns --bind 127.42.22.2:20138 --longest 60s --for 60001ms",
@@ -199,29 +194,10 @@ serving 127.42.22.2:20138, silent for 60 s until 2026-11-24T09:12:03Z
     },
 ];
 
-#[test]
-fn name_servers(rt: HostRuntime) -> Result<(), Fail> {
-    for row in &SERVERS {
-        expect_row(&rt, row)?;
-    }
-    Ok(())
-}
-
-/// A path in the folder for temporary files that no other run of the tests has.
-fn path_for(rt: &HostRuntime, name: &str) -> Result<String, Fail> {
-    let folder = env::temp_dir(rt)?;
-    let folder = folder.as_path().to_str().ok_or("no text")?;
-    let id = process::id(rt.process());
-    Ok(format!(in rt.alloc(); "{folder}/nbt-tests-{id}-{name}")?)
-}
-
-/// A server that keeps its leases.
-const KEEPS: &str = "nbt nbns --bind 127.42.22.2:20138 --longest 60s --for 60001ms --leases";
-
-/// One is granted, and then another: a second isn't over yet, so the list has the first alone.
-const KEPT: Row = Row {
+/// A server that keeps its leases, at a path that is its last word. One is granted, and then another: a second isn't over yet, so the list has the first alone.
+static KEPT: Row = Row {
     about: "the list of leases",
-    words: "",
+    words: "nbt nbns --bind 127.42.22.2:20138 --longest 60s --for 60001ms --leases",
     moments: &[START, START, START, START, OPEN, OPEN, OPEN, OPEN, END],
     sends: &[(1, ASKS), (1, JOINS)],
     breaks_at: 0,
@@ -232,40 +208,20 @@ const KEPT: Row = Row {
     sent: &[GRANTED, JOINED],
 };
 
+/// The list is in the folder for temporary files, where no other run of the tests has one.
 #[test]
-fn a_list_of_leases(rt: HostRuntime) -> Result<(), Fail> {
-    let path = path_for(&rt, "leases")?;
-    let machine = machine_of(&rt, &KEPT)?;
-    let mut words = words_of(&rt, KEEPS);
-    words.push(String::from_str(rt.alloc(), path.as_str())?)?;
-    let machine = WithFiles {
-        rest: &machine,
-        files: &rt,
-    };
-    let ending = Ending {
-        status: 0,
-        text: KEPT.text,
-        errors: "",
-    };
-    expect_ending(&rt, KEPT.about, &machine, words.as_slice(), &ending);
+fn a_list_of_leases(rt: HostRuntime) {
+    let folder = env::temp_dir(&rt).expect(&rt, "a folder for temporary files");
+    let folder = folder.as_path().to_str().expect(&rt, "a folder as text");
+    let id = process::id(rt.process());
+    let path = format!(in rt.alloc(); "{folder}/nbt-tests-{id}-leases").expect(&rt, "memory");
+    expect_row(&rt, &KEPT, path.as_str(), 0);
+    let list = fs::read_to_string(&rt, path.as_str()).expect(&rt, "the list of leases");
     expect_eq(
         &rt,
-        &fs::read_to_string(&rt, path.as_str())?.as_str(),
+        &KEPT.about,
+        &list.as_str(),
         &"FRED#20 unique 127.42.22.3 2026-11-24T09:13:03Z\n",
     );
-    fs::remove_file(&rt, path.as_str())?;
-    Ok(())
-}
-
-#[test]
-fn a_port_that_can_not_be_had(rt: HostRuntime) -> Result<(), Fail> {
-    let _taken = UdpSocket::bind(&rt, "127.42.22.4:20138")?;
-    let words = words_of(&rt, "nbt nbns --bind 127.42.22.4:20138");
-    let ending = Ending {
-        status: 3,
-        text: "device\n",
-        errors: "nbt: 127.42.22.4:20138: Address already in use (os error 98)\n",
-    };
-    expect_ending(&rt, "nbns", &rt, words.as_slice(), &ending);
-    Ok(())
+    fs::remove_file(&rt, path.as_str()).expect(&rt, "the list of leases");
 }

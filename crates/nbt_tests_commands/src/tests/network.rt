@@ -1,107 +1,196 @@
-//! The commands that open sockets: what they do on this machine with nobody else.
+//! The commands that open sockets: what they do on this machine with nobody else, and what without a machine.
 
 use super::LimitedWriter;
-use super::expect::{expect_eq_in, expect_in};
+use super::ending::{expect_ending, expect_printed, status_of};
+use super::expect::{expect, expect_eq};
+use super::looping::end;
+use super::machine::Machine;
+use super::street::Street;
 use super::terminal::words_of;
-use nbt_prog::{command, command_telling};
+use nbt_prog::command;
 use std::io;
+use std::net::{Net, TcpListener, TcpStream, UdpSocket};
+use std::process::Abort;
+use std::rt::Files;
+use std::time::Clock;
 
-/// What is done on this machine, and what by `command`, which has none. The address 192.0.2.1 is for documents alone (RFC
-/// 5737).
-const DONE: [(&str, u8, &[u8]); 4] = [
+/// All that `loop` tells.
+const TOLD: &str = "\
+server up
+n1 asks FRED: granted 60
+n2 asks FRED: refused 6
+n1 asks TEAM: granted 60
+n2 asks TEAM: granted 60
+n2 finds FRED: 127.0.0.2
+n2 finds TEAM: 127.0.0.2 127.0.0.3
+datagram to FRED: 5 octets
+call to FRED: open
+message: 5 octets
+n1 releases FRED: 0
+call to FRED: refused 82
+done
+";
+
+/// What is done on this machine. The last ones, a server and two nodes, play twice in a row.
+static DONE: [(&str, &str, u8); 5] = [
     (
         "nbt lookup FRED --server 127.42.22.1:20138 --bind 127.42.22.2:20138 --tries 1 --wait 1ms",
+        "no reply\n",
         5,
-        b"no reply\n",
     ),
     (
         "nbt serve 127.42.22.1:20138 1000 60 1",
+        "turns 1 replies 0 lost 0\n",
         0,
-        b"turns 1 replies 0 lost 0\n",
     ),
     (
         "nbt node 127.42.22.2:20138 127.42.22.1:20138 1000 60 FRED group 0 1",
+        "not held\n",
         0,
-        b"not held\n",
     ),
-    ("nbt serve 192.0.2.1:20138 1000 60 1", 3, b"device\n"),
+    ("nbt loop 21037", TOLD, 0),
+    ("nbt loop 21037", TOLD, 0),
+];
+
+/// What `command` doesn't do, which has no machine. The address 192.0.2.1 is for documents alone (RFC 5737).
+static NOT_DONE: [&str; 6] = [
+    "nbt lookup FRED --server 127.42.22.1:20138 --bind 127.42.22.2:20138 --tries 1 --wait 1ms",
+    "nbt status 192.0.2.1",
+    "nbt serve 127.42.22.1:20138 1000 60 1",
+    "nbt serve 192.0.2.1:20138 1000 60 1",
+    "nbt node 127.42.22.2:20138 127.42.22.1:20138 1000 60 FRED group 0 1",
+    "nbt loop 22237",
 ];
 
 #[test]
 fn with_nobody_else(rt: HostRuntime) {
-    for (line, status, text) in DONE {
-        let words = words_of(&rt, line);
+    for row in &DONE {
+        let (line, text, status) = *row;
+        expect_ending(&rt, &rt, "", line, "", status, text, "");
+    }
+    for line in &NOT_DONE {
+        let words = words_of(&rt, line, "");
         let mut paper = LimitedWriter::new();
-        let got = command_telling(
-            &rt,
-            rt.alloc(),
-            words.as_slice(),
-            &mut io::empty(),
-            &mut paper,
-            &mut io::sink(),
-        );
-        expect_eq_in(&rt, &line, &paper.text.as_slice(), &text);
-        expect_eq_in(&rt, &line, &got, &status);
-        expect_in(&rt, &line, paper.is_line_by_line());
-        let mut paper = LimitedWriter::new();
-        let got = command(rt.alloc(), words.as_slice(), &mut io::empty(), &mut paper);
-        expect_eq_in(&rt, &line, &paper.text.as_slice(), &b"device\n".as_slice());
-        expect_eq_in(&rt, &line, &got, &3);
+        let status = command(rt.alloc(), words.as_slice(), &mut io::empty(), &mut paper);
+        expect_printed(&rt, &line, status, &paper, 3, b"device\n");
+    }
+    expect_usage(&rt);
+}
+
+/// No word at all, not even the program's own name, is wrong usage.
+fn expect_usage<R: Abort + AllocGlobal>(rt: &R) {
+    let words: [&str; 0] = [];
+    let mut paper = LimitedWriter::new();
+    let status = command(rt.alloc(), &words, &mut io::empty(), &mut paper);
+    expect_eq(rt, &"no word", &status, &2);
+    let text = paper.text.as_slice();
+    expect(
+        rt,
+        &text,
+        text.starts_with(b"NetBIOS over TCP") && text.ends_with(b"\n"),
+    );
+}
+
+/// Commands whose port can't be bound, since another program has it or since its address is no address of this machine, and what is
+/// said of it.
+static NOT_BOUND: [(&str, &str); 10] = [
+    (
+        "nbt lookup FRED --server 127.42.24.2:22337 --bind 127.42.24.1:22337",
+        "nbt: 127.42.24.1:22337: Address already in use (os error 98)\n",
+    ),
+    (
+        "nbt status 127.42.24.2:22337 --bind 192.0.2.1:22337",
+        "nbt: 192.0.2.1:22337: Cannot assign requested address (os error 99)\n",
+    ),
+    (
+        "nbt serve 127.42.24.1:22337 1000 60 1",
+        "nbt: 127.42.24.1:22337: Address already in use (os error 98)\n",
+    ),
+    (
+        "nbt serve 192.0.2.1:22337 1000 60 --forever",
+        "nbt: 192.0.2.1:22337: Cannot assign requested address (os error 99)\n",
+    ),
+    (
+        "nbt node 127.42.24.1:22337 127.42.24.2:22337 1000 60 FRED unique 60 --forever",
+        "nbt: 127.42.24.1:22337: Address already in use (os error 98)\n",
+    ),
+    (
+        "nbt node 192.0.2.1:22337 127.42.24.2:22337 1000 60 FRED unique 60 1",
+        "nbt: 192.0.2.1:22337: Cannot assign requested address (os error 99)\n",
+    ),
+    (
+        "nbt loop 22237",
+        "nbt: 127.0.0.2:22238: Address already in use (os error 98)\n",
+    ),
+    (
+        "nbt loop 22437",
+        "nbt: 127.0.0.2:22439: Address already in use (os error 98)\n",
+    ),
+    (
+        "nbt serve 192.0.2.1:20138 1000 60 1",
+        "nbt: 192.0.2.1:20138: Cannot assign requested address (os error 99)\n",
+    ),
+    (
+        "nbt nbns --bind 127.42.22.4:20138",
+        "nbt: 127.42.22.4:20138: Address already in use (os error 98)\n",
+    ),
+];
+
+/// Commands that bind a port first, what they print and end with where the machine has no memory for it, and what is said at last.
+static BINDING: [(&str, &str, u8, &[u8]); 3] = [
+    (
+        "nbt serve 127.42.24.1:22337 1000 60 --forever",
+        "device\n",
+        3,
+        b"nbt: 127.42.24.1:22337: out of memory\n",
+    ),
+    (
+        "nbt node 127.42.24.1:22337 127.42.24.2:22337 1000 60 FRED unique 60 1",
+        "device\n",
+        3,
+        b"nbt: 127.42.24.1:22337: out of memory\n",
+    ),
+    (
+        "nbt loop 22237",
+        "memory\n",
+        4,
+        b"nbt: memory was refused\n",
+    ),
+];
+
+fn expect_not_bound<R: Abort + AllocGlobal + Net + Clock + Files>(rt: &R) {
+    for row in &NOT_BOUND {
+        let (line, said) = *row;
+        expect_ending(rt, rt, "", line, "", 3, "device\n", said);
     }
 }
 
-/// The first line that is printed of each.
-const LINES: [(&str, &[u8]); 5] = [
-    (
-        "nbt status 127.42.22.1:20138 --bind 127.42.22.2:20138 --tries 1 --wait 1ms",
-        b"no reply\n",
-    ),
-    (
-        "nbt serve 127.42.22.1:20138 1000 60 1",
-        b"turns 1 replies 0 lost 0\n",
-    ),
-    (
-        "nbt node 127.42.22.2:20138 127.42.22.1:20138 1000 60 FRED unique 60 1",
-        b"not held\n",
-    ),
-    (
-        "nbt serve 127.42.22.1:20138 1000 60 --forever",
-        b"serving 127.42.22.1:20138, silent for 60 s\n",
-    ),
-    ("nbt loop 21737", b"server up\n"),
-];
-
-/// A flush that fails, and a write, end the command, and what was written before stays: no `device` comes after it.
-#[test]
-fn a_writer_that_failed_is_told_nothing_more(rt: HostRuntime) {
-    for (line, text) in LINES {
-        let words = words_of(&rt, line);
-        let mut paper = LimitedWriter::stuck();
-        let status = command_telling(
-            &rt,
-            rt.alloc(),
-            words.as_slice(),
-            &mut io::empty(),
-            &mut paper,
-            &mut io::sink(),
-        );
-        expect_eq_in(&rt, &line, &status, &3);
-        expect_eq_in(&rt, &line, &paper.text.as_slice(), &text);
-        let mut paper = LimitedWriter::short(3);
-        let status = command_telling(
-            &rt,
-            rt.alloc(),
-            words.as_slice(),
-            &mut io::empty(),
-            &mut paper,
-            &mut io::sink(),
-        );
-        expect_eq_in(&rt, &line, &status, &3);
-        expect_eq_in(
-            &rt,
-            &line,
-            &paper.text.as_slice(),
-            &&text[..text.len().min(3)],
-        );
+/// None of its sockets is at that port, since it has no memory for one.
+fn expect_no_memory<R>(rt: &R, port: &UdpSocket)
+where
+    R: Abort + AllocGlobal + Net<Stream = TcpStream, Listener = TcpListener> + Files,
+{
+    let street = Street::new();
+    let machine = Machine {
+        has_memory: false,
+        ..Machine::new(rt, port, port, &street)
+    };
+    for row in &BINDING {
+        let (line, text, status, said) = *row;
+        let mut paper = LimitedWriter::new();
+        let mut errors = LimitedWriter::new();
+        let got = status_of(rt, &machine, line, "", &mut paper, &mut errors);
+        expect_printed(rt, &line, got, &paper, status, text.as_bytes());
+        expect(rt, &line, errors.text.as_slice().ends_with(said));
     }
+}
+
+#[test]
+fn ports_that_can_not_be_had(rt: HostRuntime) {
+    let taken = UdpSocket::bind(&rt, "127.42.24.1:22337").expect(&rt, "a port");
+    let _served = UdpSocket::bind(&rt, "127.42.22.4:20138").expect(&rt, "a port");
+    let _datagrams = UdpSocket::bind(&rt, end(2, 22238)).expect(&rt, "a port");
+    let _sessions = TcpListener::bind(&rt, end(2, 22439)).expect(&rt, "a port");
+    expect_not_bound(&rt);
+    expect_no_memory(&rt, &taken);
 }

@@ -1,14 +1,13 @@
 //! One name server and two nodes, over moments in milliseconds. A datagram lives 1,000 ms at most, the longest lease is
 //! 60 s, and all three are started at 0.
 
-use super::expect::{expect, expect_eq, expect_in};
+use super::expect::{expect, expect_eq};
 use arrayvec::ArrayVec;
 use nbt_lease::{Config, Moment};
 use nbt_name::{Addr, Kind, Name};
 use nbt_node::{AskFault, Event, Node};
 use nbt_server::Server;
 use std::process::Abort;
-use std::test::Fail;
 
 const SERVER: Addr = Addr {
     ip: 0x7F000001,
@@ -34,53 +33,12 @@ const FREED: &[u8] = b"\xB4\x00";
 
 type Datagram = ArrayVec<u8, 576>;
 
-fn at(ms: u64) -> Result<Moment, Fail> {
-    Ok(Moment::new(ms).ok_or("past the last moment")?)
+fn at<R: Abort>(rt: &R, ms: u64) -> Moment {
+    Moment::new(ms).expect(rt, "a moment")
 }
 
-fn fred() -> Result<Name, Fail> {
-    Ok(Name::new(b"FRED            ", b"")?)
-}
-
-fn start(addr: Addr) -> Result<Node<2>, Fail> {
-    let config = Config::new(1000, 60, 4096)?;
-    Ok(Node::start(addr, SERVER, config, at(0)?))
-}
-
-/// What the node sends to ask for FRED, for 60 s.
-fn asks(node: &mut Node<2>, ms: u64) -> Result<Datagram, Fail> {
-    let mut request = ArrayVec::new();
-    node.ask(at(ms)?, &fred()?, Kind::Unique, 60, &mut request)?;
-    Ok(request)
-}
-
-/// Why the node doesn't ask for FRED.
-fn refusal(node: &mut Node<2>, ms: u64) -> Result<Option<AskFault>, Fail> {
-    let mut request: Datagram = ArrayVec::new();
-    let asked = node.ask(at(ms)?, &fred()?, Kind::Unique, 60, &mut request);
-    Ok(asked.err())
-}
-
-/// What the server replies to a node's request, where the reply has these flags.
-fn reply<R: Abort>(
-    rt: &R,
-    server: &mut Server,
-    ms: u64,
-    from: Addr,
-    request: &Datagram,
-    flags: &[u8],
-) -> Result<Datagram, Fail> {
-    let mut reply = ArrayVec::new();
-    let is_reply = server.on_datagram(at(ms)?, from, request.as_slice(), &mut reply)?;
-    expect(rt, is_reply);
-    expect_in(rt, &ms, reply.as_slice().get(2..4) == Some(flags));
-    Ok(reply)
-}
-
-/// What the server's reply is to a node.
-fn hears<'a>(node: &mut Node<2>, ms: u64, reply: &'a Datagram) -> Result<Event<'a>, Fail> {
-    let mut out = ArrayVec::new();
-    Ok(node.on_datagram(at(ms)?, SERVER, reply.as_slice(), &mut out)?)
+fn fred<R: Abort>(rt: &R) -> Name {
+    Name::new(b"FRED            ", b"").expect(rt, "a name")
 }
 
 /// The node's datagram comes to the server, which replies with these flags; by the reply the node is told this.
@@ -93,13 +51,18 @@ fn tells<R: Abort>(
     request: &Datagram,
     flags: &[u8],
     told: Event<'_>,
-) -> Result<(), Fail> {
-    let reply = reply(rt, server, ms, from, request, flags)?;
-    expect_in(rt, &ms, hears(node, ms, &reply)? == told);
-    Ok(())
+) {
+    let now = at(rt, ms);
+    let mut reply: Datagram = ArrayVec::new();
+    let is_reply = server.on_datagram(now, from, request.as_slice(), &mut reply);
+    expect(rt, &ms, is_reply == Ok(true));
+    expect(rt, &ms, reply.as_slice().get(2..4) == Some(flags));
+    let mut out: Datagram = ArrayVec::new();
+    let heard = node.on_datagram(now, SERVER, reply.as_slice(), &mut out);
+    expect(rt, &ms, heard == Ok(told));
 }
 
-/// The node asks for FRED, and is told this.
+/// The node asks for FRED, for 60 s, and is told this.
 fn ask<R: Abort>(
     rt: &R,
     server: &mut Server,
@@ -108,46 +71,50 @@ fn ask<R: Abort>(
     from: Addr,
     flags: &[u8],
     told: Event<'_>,
-) -> Result<(), Fail> {
-    let request = asks(node, ms)?;
-    tells(rt, server, node, ms, from, &request, flags, told)
+) {
+    let mut request: Datagram = ArrayVec::new();
+    let asked = node.ask(at(rt, ms), &fred(rt), Kind::Unique, 60, &mut request);
+    expect(rt, &ms, asked.is_ok());
+    tells(rt, server, node, ms, from, &request, flags, told);
+}
+
+/// It is too early for the node to ask for FRED.
+fn expect_quiet<R: Abort>(rt: &R, node: &mut Node<2>, ms: u64) {
+    let mut request: Datagram = ArrayVec::new();
+    let asked = node.ask(at(rt, ms), &fred(rt), Kind::Unique, 60, &mut request);
+    expect(rt, &ms, asked.err() == Some(AskFault::Quiet));
 }
 
 /// The first node releases FRED at 70,000, and asks too early; the release comes to the server at 71,000.
-fn release<R: Abort>(rt: &R, server: &mut Server, first: &mut Node<2>) -> Result<(), Fail> {
-    let mut request = ArrayVec::new();
-    first.release(at(70_000)?, &fred()?, &mut request)?;
-    expect_eq(rt, &refusal(first, 70_500)?, &Some(AskFault::Quiet));
-    let told = Event::Freed(0);
-    tells(rt, server, first, 71_000, FIRST, &request, FREED, told)
-}
-
-fn play<R: Abort>(
-    rt: &R,
-    server: &mut Server,
-    first: &mut Node<2>,
-    second: &mut Node<2>,
-) -> Result<(), Fail> {
+fn play<R: Abort>(rt: &R, server: &mut Server, first: &mut Node<2>, second: &mut Node<2>) {
     let granted = Event::Granted(60);
-    ask(rt, server, first, 60_000, FIRST, GRANTED, granted)?;
-    release(rt, server, first)?;
-    ask(rt, server, second, 71_000, SECOND, GRANTED, granted)?;
-    expect_eq(rt, &refusal(first, 72_004)?, &Some(AskFault::Quiet));
+    ask(rt, server, first, 60_000, FIRST, GRANTED, granted);
+    let mut release: Datagram = ArrayVec::new();
+    let released = first.release(at(rt, 70_000), &fred(rt), &mut release);
+    expect(rt, &70_000, released.is_ok());
+    expect_quiet(rt, first, 70_500);
+    let freed = Event::Freed(0);
+    tells(rt, server, first, 71_000, FIRST, &release, FREED, freed);
+    ask(rt, server, second, 71_000, SECOND, GRANTED, granted);
+    expect_quiet(rt, first, 72_004);
     let refused = Event::Refused(6);
-    ask(rt, server, first, 72_005, FIRST, REFUSED, refused)?;
-    let now = at(72_005)?;
-    expect_eq(rt, &first.holds(now, &fred()?), &None);
-    expect_eq(rt, &second.holds(now, &fred()?), &Some(Kind::Unique));
-    Ok(())
+    ask(rt, server, first, 72_005, FIRST, REFUSED, refused);
+    let now = at(rt, 72_005);
+    expect_eq(rt, &FIRST, &first.holds(now, &fred(rt)), &None);
+    expect_eq(
+        rt,
+        &SECOND,
+        &second.holds(now, &fred(rt)),
+        &Some(Kind::Unique),
+    );
 }
 
 #[test]
-fn an_early_ask_after_a_release_is_refused(rt: HostRuntime) -> Result<(), Fail> {
-    let config = Config::new(1000, 60, 4096)?;
-    play(
-        &rt,
-        &mut Server::start(rt.alloc(), config, at(0)?),
-        &mut start(FIRST)?,
-        &mut start(SECOND)?,
-    )
+fn an_early_ask_after_a_release_is_refused(rt: HostRuntime) {
+    let config = Config::new(1000, 60, 4096).expect(&rt, "limits");
+    let start = at(&rt, 0);
+    let mut server = Server::start(rt.alloc(), config, start);
+    let mut first: Node<2> = Node::start(FIRST, SERVER, config, start);
+    let mut second: Node<2> = Node::start(SECOND, SERVER, config, start);
+    play(&rt, &mut server, &mut first, &mut second);
 }

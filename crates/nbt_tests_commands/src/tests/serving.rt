@@ -1,24 +1,24 @@
-//! The commands `serve` and `node` with another end, over UDP and a clock that is set: what they print and send.
+//! The commands over UDP with another end and a clock that is set: what they print and send. The rows here are those of `serve` and `node`.
 
 use super::LimitedWriter;
-use super::ending::{Ending, expect_ending};
-use super::expect::{expect_eq_in, expect_in};
-use super::machine::{Machine, WELL, WithFiles};
-use super::terminal::{word_of, words_of};
-use nbt_prog::command_telling;
-use std::cell::Cell;
-use std::io;
+use super::ending::{expect_ending, expect_printed, status_of};
+use super::expect::{expect, expect_eq};
+use super::hosts::HOSTS;
+use super::lookups::{LOOKUPS, STATUSES};
+use super::machine::{Machine, WELL};
+use super::nbns::NAME_SERVERS;
+use super::street::Street;
+use super::terminal::octets_of;
 use std::net::{Net, TcpListener, TcpStream, UdpSocket};
 use std::process::Abort;
 use std::rt::Files;
-use std::test::Fail;
 use std::time::Duration;
 
 /// Where the command is, as its BIND says.
-const OWN: &str = "127.42.22.2:20138";
+pub const OWN: &str = "127.42.22.2:20138";
 
 /// Where the other end is.
-const OTHER: &str = "127.42.22.3:20139";
+pub const OTHER: &str = "127.42.22.3:20139";
 
 /// A command, the moments that its clock tells, and what the other end sends at which reading of it; at which reading the
 /// port breaks, or 0; and how it ends, after how many readings, what is printed, what is said of errors, and what the other end
@@ -90,7 +90,7 @@ pub const NO_CLOCK: &str = "nbt: 127.42.22.2:20138: clock: unsupported\n";
 
 pub const NO_TIME: &str = "nbt: 127.42.22.2:20138: clock: the time is 1970\n";
 
-const SERVERS: [Row; 9] = [
+static SERVERS: [Row; 9] = [
     Row {
         about: "BIND, LONGEST and TURNS: silent for 70 s, and then leases of 70 s at most, of two names and more",
         words: "nbt serve 127.42.22.2:20138 1000 70 5",
@@ -204,7 +204,7 @@ const SERVERS: [Row; 9] = [
     },
 ];
 
-const NODES: [Row; 5] = [
+static NODES: [Row; 5] = [
     Row {
         about: "each argument: it asks for 300 s as a group, once more than 1,403 ms have passed, and is granted 70 s at most",
         words: "nbt node 127.42.22.2:20138 127.42.22.3:20139 700 70 FRED group 300 4",
@@ -289,98 +289,6 @@ const NODES: [Row; 5] = [
     },
 ];
 
-fn octets<R: Abort + AllocGlobal>(rt: &R, text: &str) -> Result<Vec<u8>, Fail> {
-    Ok(hex::decode(rt.alloc(), word_of(rt, text).as_str())?)
-}
-
-/// The machine of a row, and its other end.
-pub fn machine_of<'a, R>(rt: &'a R, row: &Row) -> Result<Machine<'a, R>, Fail>
-where
-    R: Abort + AllocGlobal + Net<Stream = TcpStream, Listener = TcpListener>,
-{
-    let mut sends = Vec::new(rt.alloc());
-    for (reading, text) in row.sends {
-        sends.push((*reading, octets(rt, text)?))?;
-    }
-    Ok(Machine {
-        host: rt,
-        port: UdpSocket::bind(rt, OWN)?,
-        other: UdpSocket::bind(rt, OTHER)?,
-        moments: row.moments,
-        sends,
-        breaks_at: row.breaks_at,
-        readings: Cell::new(0),
-        sleeps: Cell::new(0),
-        well_after: 0,
-        breaks_again_at: 0,
-    })
-}
-
-/// Runs a row's command, while the other end sends.
-pub fn expect_row<R>(rt: &R, row: &Row) -> Result<(), Fail>
-where
-    R: Abort + AllocGlobal + Net<Stream = TcpStream, Listener = TcpListener> + Files,
-{
-    let sleeps = if row.words.ends_with("--forever") {
-        99
-    } else {
-        0
-    };
-    expect_row_on(rt, row, &machine_of(rt, row)?, sleeps)
-}
-
-/// Runs a row's command on this machine, which sleeps so often.
-fn expect_row_on<R>(rt: &R, row: &Row, machine: &Machine<'_, R>, sleeps: usize) -> Result<(), Fail>
-where
-    R: Abort + AllocGlobal + Net<Stream = TcpStream, Listener = TcpListener> + Files,
-{
-    let about = row.about;
-    let on = WithFiles {
-        rest: machine,
-        files: rt,
-    };
-    let ending = Ending {
-        status: row.status,
-        text: row.text,
-        errors: row.errors,
-    };
-    expect_ending(rt, about, &on, words_of(rt, row.words).as_slice(), &ending);
-    expect_eq_in(rt, &about, &machine.readings.get(), &row.readings);
-    expect_eq_in(rt, &about, &machine.sleeps.get(), &sleeps);
-    expect_sent(rt, row, &machine.other)
-}
-
-/// What came to the other end: these, each from the command's own port, and nothing else.
-fn expect_sent<R: Abort + AllocGlobal>(rt: &R, row: &Row, other: &UdpSocket) -> Result<(), Fail> {
-    let about = row.about;
-    let own = OWN.parse()?;
-    let mut buffer = [0; 600];
-    other.set_read_timeout(Some(Duration::from_millis(1)))?;
-    for text in row.sent {
-        let (count, from) = other.recv_from(&mut buffer)?;
-        expect_eq_in(rt, &about, &&buffer[..count], &octets(rt, text)?.as_slice());
-        expect_eq_in(rt, &about, &from, &own);
-    }
-    expect_in(rt, &about, other.recv_from(&mut buffer).is_err());
-    Ok(())
-}
-
-#[test]
-fn servers(rt: HostRuntime) -> Result<(), Fail> {
-    for row in &SERVERS {
-        expect_row(&rt, row)?;
-    }
-    Ok(())
-}
-
-#[test]
-fn nodes(rt: HostRuntime) -> Result<(), Fail> {
-    for row in &NODES {
-        expect_row(&rt, row)?;
-    }
-    Ok(())
-}
-
 /// A query for FRED of the other end, and the reply to it.
 const ASKS_FOR_FRED: &str = "0004_0100_0001_0000_0000_0000_{FRED}_0020_0001";
 
@@ -394,7 +302,9 @@ nbt: 127.42.22.2:20138: receive: Connection refused (os error 111); going on
 nbt: 127.42.22.2:20138: receive: Connection refused (os error 111)
 ";
 
-/// A server whose port does so.
+/// A server and a node whose ports do so, and the reading at which each breaks again.
+static OUTLASTING: [(Row, usize); 2] = [(SERVER_OUTLASTS, 6), (NODE_OUTLASTS, 9)];
+
 const SERVER_OUTLASTS: Row = Row {
     about: "after three failures it goes on with the leases that it has",
     words: "nbt serve 127.42.22.2:20138 1000 60 --forever",
@@ -408,7 +318,6 @@ const SERVER_OUTLASTS: Row = Row {
     sent: &[FIRST_GRANTED, HAS_FRED],
 };
 
-/// A node whose port does so.
 const NODE_OUTLASTS: Row = Row {
     about: "after three failures it renews the name that it holds",
     words: "nbt node 127.42.22.2:20138 127.42.22.3:20139 1000 60 FRED unique 60 --forever",
@@ -424,30 +333,8 @@ const NODE_OUTLASTS: Row = Row {
     sent: &[ASKS, REFRESHES],
 };
 
-/// Runs the row's command, whose port is well after three failures and breaks again at that reading. It waits after each failure but
-/// the last: three times, and 99.
-fn expect_outlasting<R>(rt: &R, row: &Row, breaks_again_at: usize) -> Result<(), Fail>
-where
-    R: Abort + AllocGlobal + Net<Stream = TcpStream, Listener = TcpListener> + Files,
-{
-    let mut machine = machine_of(rt, row)?;
-    machine.well_after = 3;
-    machine.breaks_again_at = breaks_again_at;
-    expect_row_on(rt, row, &machine, 102)
-}
-
-#[test]
-fn a_server_stays_up(rt: HostRuntime) -> Result<(), Fail> {
-    expect_outlasting(&rt, &SERVER_OUTLASTS, 6)
-}
-
-#[test]
-fn a_node_stays_up(rt: HostRuntime) -> Result<(), Fail> {
-    expect_outlasting(&rt, &NODE_OUTLASTS, 9)
-}
-
 /// The first line of each row of a node.
-const FIRST_LINES: [&str; 5] = [
+static FIRST_LINES: [&str; 5] = [
     "granted 70\n",
     "granted 60\n",
     "refused 6\n",
@@ -455,34 +342,113 @@ const FIRST_LINES: [&str; 5] = [
     "device\n",
 ];
 
-/// Runs a row's command, of which no line can be flushed: the first ends it.
-fn expect_untold<R>(rt: &R, row: &Row, machine: &Machine<'_, R>, line: &str)
+/// The machine of a row.
+pub fn machine_of<'a, R>(
+    rt: &'a R,
+    port: &'a UdpSocket,
+    other: &'a UdpSocket,
+    street: &'a Street,
+    row: &Row,
+) -> Machine<'a, R>
+where
+    R: Net<Stream = TcpStream, Listener = TcpListener>,
+{
+    Machine {
+        moments: row.moments,
+        sends: row.sends,
+        breaks_at: row.breaks_at,
+        ..Machine::new(rt, port, other, street)
+    }
+}
+
+/// Runs a row's command, with this last word if it isn't empty, while the other end sends. Where its port breaks again at a reading,
+/// it is well after three failures before. With no end the command waits after each failure but the last: 99 times, and those three.
+pub fn expect_row<R>(rt: &R, row: &Row, last: &str, breaks_again_at: usize)
 where
     R: Abort + AllocGlobal + Net<Stream = TcpStream, Listener = TcpListener> + Files,
 {
-    let on = WithFiles {
-        rest: machine,
-        files: rt,
+    let well_after = if breaks_again_at == 0 { 0 } else { 3 };
+    let waits = if row.words.ends_with("--forever") {
+        99
+    } else {
+        0
     };
-    let words = words_of(rt, row.words);
-    let mut paper = LimitedWriter::stuck();
-    let status = command_telling(
-        &on,
-        rt.alloc(),
-        words.as_slice(),
-        &mut io::empty(),
-        &mut paper,
-        &mut io::sink(),
+    let port = UdpSocket::bind(rt, OWN).expect(rt, "its port");
+    let other = UdpSocket::bind(rt, OTHER).expect(rt, "the other end's port");
+    let street = Street::new();
+    let machine = Machine {
+        well_after,
+        breaks_again_at,
+        ..machine_of(rt, &port, &other, &street, row)
+    };
+    expect_ending(
+        rt, &machine, row.about, row.words, last, row.status, row.text, row.errors,
     );
-    expect_eq_in(rt, &line, &status, &3);
-    expect_eq_in(rt, &line, &paper.text.as_slice(), &line.as_bytes());
+    let about = (row.about, row.words);
+    expect_eq(rt, &about, &machine.readings.get(), &row.readings);
+    expect_eq(rt, &about, &machine.sleeps.get(), &(well_after + waits));
+    let wait = Some(Duration::from_millis(1));
+    expect(rt, &about, other.set_read_timeout(wait).is_ok());
+    expect_sent(rt, row, &other);
+}
+
+/// What came to the other end: these, each from the command's own port, and nothing else.
+fn expect_sent<R: Abort>(rt: &R, row: &Row, other: &UdpSocket) {
+    let about = (row.about, row.words);
+    let mut buffer = [0; 600];
+    for text in row.sent {
+        match (other.recv_from(&mut buffer), octets_of(text)) {
+            (Ok((count, from)), Ok(octets)) => {
+                expect_eq(rt, &about, &&buffer[..count], &octets.as_slice());
+                expect(rt, &about, OWN.parse() == Ok(from));
+            }
+            _ => expect(rt, &about, false),
+        }
+    }
+    expect(rt, &about, other.recv_from(&mut buffer).is_err());
+}
+
+fn expect_rows<R>(rt: &R, rows: &[Row])
+where
+    R: Abort + AllocGlobal + Net<Stream = TcpStream, Listener = TcpListener> + Files,
+{
+    for row in rows {
+        expect_row(rt, row, "", 0);
+    }
+}
+
+#[test]
+fn commands_with_another_end(rt: HostRuntime) {
+    expect_rows(&rt, &SERVERS);
+    expect_rows(&rt, &NODES);
+    expect_rows(&rt, &LOOKUPS);
+    expect_rows(&rt, &STATUSES);
+    expect_rows(&rt, &HOSTS);
+    expect_rows(&rt, &NAME_SERVERS);
+    for (row, breaks_again_at) in &OUTLASTING {
+        expect_row(&rt, row, "", *breaks_again_at);
+    }
+}
+
+/// Runs a row's command, of which no line can be flushed: the first ends it.
+fn expect_untold<R>(rt: &R, row: &Row, line: &str)
+where
+    R: Abort + AllocGlobal + Net<Stream = TcpStream, Listener = TcpListener> + Files,
+{
+    let port = UdpSocket::bind(rt, OWN).expect(rt, "its port");
+    let other = UdpSocket::bind(rt, OTHER).expect(rt, "the other end's port");
+    let street = Street::new();
+    let machine = machine_of(rt, &port, &other, &street, row);
+    let mut paper = LimitedWriter::stuck();
+    let mut errors = LimitedWriter::new();
+    let status = status_of(rt, &machine, row.words, "", &mut paper, &mut errors);
+    expect_printed(rt, &row.about, status, &paper, 3, line.as_bytes());
 }
 
 /// An event's line that can't be flushed ends the node, and nothing is printed after it.
 #[test]
-fn an_event_that_can_not_be_told(rt: HostRuntime) -> Result<(), Fail> {
-    for (row, line) in NODES.iter().zip(FIRST_LINES) {
-        expect_untold(&rt, row, &machine_of(&rt, row)?, line);
+fn an_event_that_can_not_be_told(rt: HostRuntime) {
+    for (row, line) in NODES.iter().zip(FIRST_LINES.iter()) {
+        expect_untold(&rt, row, line);
     }
-    Ok(())
 }

@@ -1,25 +1,72 @@
-//! This machine's network with strangers on it, and with connections that fail.
+//! A network with strangers on it, and with connections that fail.
 
 use std::cell::Cell;
 use std::io;
 use std::io::{Read, Write};
-use std::net::{
-    IpAddr, Ipv4Addr, Net, OpenListener, OpenStream, SocketAddr, TcpListener, TcpStream, UdpSocket,
-};
+use std::net::{OpenListener, OpenStream, SocketAddr, TcpListener, TcpStream, UdpSocket};
 use std::os::fd::{AsRawFd, RawFd};
-use std::rc::Rc;
-use std::time::{Clock, Duration};
+use std::time::Duration;
 
 /// A status request for the name `*`, which a node replies to.
-const STATUS_REQUEST: &[u8] =
+static STATUS_REQUEST: &[u8] =
     b"\x00\x09\x00\x00\x00\x01\x00\x00\x00\x00\x00\x00 CKAAAAAAAAAAAAAAAAAAAAAAAAAAAAAA\x00\x00\x21\x00\x01";
 
 /// A reply to a node's first request: FRED is refused to n1, since it is active. The server sends none such.
-const REFUSAL: &[u8] =
+static REFUSAL: &[u8] =
     b"\x00\x01\xAD\x86\x00\x00\x00\x01\x00\x00\x00\x00 EGFCEFEECACACACACACACACACACACACA\x00\x00\x20\x00\x01\x00\x00\x00\x00\x00\x06\x20\x00\x7F\x00\x00\x02";
 
+/// What strangers do, and what becomes of connections. Where there are strangers, they send to each UDP socket as soon as it is bound;
+/// and once the UDP port of the first address is bound, it sends these octets to the second one. A stranger connects to each TCP
+/// socket as soon as it listens. The first other connection that is made has its luck at each end, and all others are well; how many
+/// are made is counted, and how many ends of them are open.
+#[derive(Drop)]
+pub struct Street {
+    pub strangers: Option<(SocketAddr, &'static [u8], SocketAddr)>,
+    pub caller: Cell<Luck>,
+    pub listener: Luck,
+    pub connections: Cell<usize>,
+    pub open: Cell<usize>,
+}
+
+impl Street {
+    /// Without strangers, where all connections are well.
+    pub fn new() -> Street {
+        Street {
+            strangers: None,
+            caller: Cell::new(Luck::Well),
+            listener: Luck::Well,
+            connections: Cell::new(0),
+            open: Cell::new(0),
+        }
+    }
+
+    /// What comes to a UDP socket that is bound to this address, and from it.
+    pub fn meets(
+        &self,
+        stranger: &UdpSocket,
+        socket: &UdpSocket,
+        addr: SocketAddr,
+    ) -> io::Result<()> {
+        if let Some((from, octets, to)) = self.strangers {
+            stranger.send_to(STATUS_REQUEST, addr)?;
+            stranger.send_to(REFUSAL, addr)?;
+            if addr == from {
+                socket.send_to(octets, to)?;
+            }
+        }
+        Ok(())
+    }
+
+    /// The luck of the connection that is made next.
+    pub fn next_luck(&self) -> Luck {
+        self.connections
+            .set(self.connections.get().saturating_add(1));
+        self.caller.replace(Luck::Well)
+    }
+}
+
 /// What becomes of a connection.
-#[derive(Clone, Copy, Debug, PartialEq, Eq)]
+#[derive(Clone, Copy)]
 pub enum Luck {
     /// It can't be made, or not be accepted.
     Refused,
@@ -50,38 +97,38 @@ const WAIT: u64 = 1000;
 
 /// One end of a TCP connection, with its luck, and how long its reads wait. One that would wait otherwise fails. It counts among
 /// the open ones until it is closed.
-pub struct Line {
+pub struct Line<'a> {
     socket: TcpStream,
     luck: Cell<Luck>,
     waits: Cell<Option<Duration>>,
-    open: Rc<Cell<usize>>,
+    street: &'a Street,
 }
 
-impl Line {
-    fn new(socket: TcpStream, luck: Luck, open: Rc<Cell<usize>>) -> Line {
-        open.set(open.get().saturating_add(1));
+impl<'a> Line<'a> {
+    pub fn new(socket: TcpStream, luck: Luck, street: &'a Street) -> Line<'a> {
+        street.open.set(street.open.get().saturating_add(1));
         Line {
             socket,
             luck: Cell::new(luck),
             waits: Cell::new(None),
-            open,
+            street,
         }
     }
 }
 
-impl Drop for Line {
+impl<'a> Drop for Line<'a> {
     fn drop(self) {
         let Line {
             socket: _,
             luck: _,
             waits: _,
-            open,
+            street,
         } = self;
-        open.set(open.get().saturating_sub(1));
+        street.open.set(street.open.get().saturating_sub(1));
     }
 }
 
-impl Read for Line {
+impl<'a> Read for Line<'a> {
     fn read(&mut self, buf: &mut [u8]) -> io::Result<usize> {
         if self.waits.get() != Some(Duration::from_millis(WAIT)) {
             return Err(io::Error::from(io::ErrorKind::Unsupported));
@@ -105,7 +152,7 @@ impl Read for Line {
     }
 }
 
-impl Write for Line {
+impl<'a> Write for Line<'a> {
     fn write(&mut self, buf: &[u8]) -> io::Result<usize> {
         match self.luck.get() {
             Luck::Mute => Err(io::Error::from(io::ErrorKind::BrokenPipe)),
@@ -119,7 +166,7 @@ impl Write for Line {
     }
 }
 
-impl OpenStream for Line {
+impl<'a> OpenStream for Line<'a> {
     fn local_addr(&self) -> io::Result<SocketAddr> {
         match self.luck.get() {
             Luck::Nameless => Err(io::Error::from(io::ErrorKind::AddrNotAvailable)),
@@ -128,31 +175,43 @@ impl OpenStream for Line {
     }
 
     fn set_read_timeout(&self, dur: Option<Duration>) -> io::Result<()> {
-        if self.luck.get() == Luck::Untimed {
-            return Err(io::Error::from(io::ErrorKind::InvalidInput));
+        match self.luck.get() {
+            Luck::Untimed => Err(io::Error::from(io::ErrorKind::InvalidInput)),
+            _ => {
+                self.waits.set(dur);
+                self.socket.set_read_timeout(dur)
+            }
         }
-        self.waits.set(dur);
-        self.socket.set_read_timeout(dur)
     }
 }
 
-impl AsRawFd for Line {
+impl<'a> AsRawFd for Line<'a> {
     fn as_raw_fd(&self) -> RawFd {
         self.socket.as_raw_fd()
     }
 }
 
-/// A TCP socket that listens. The first connection that it accepts after those of the strangers has its luck; all others
+/// A TCP socket that listens. The first connection that it accepts after that of the stranger has its luck; all others
 /// are well.
 #[derive(Drop)]
-pub struct Door {
+pub struct Door<'a> {
     socket: TcpListener,
     strangers: Cell<usize>,
     next: Cell<Luck>,
-    open: Rc<Cell<usize>>,
+    street: &'a Street,
 }
 
-impl Door {
+impl<'a> Door<'a> {
+    /// One that a stranger has connected to.
+    pub fn new(socket: TcpListener, street: &'a Street) -> Door<'a> {
+        Door {
+            socket,
+            strangers: Cell::new(1),
+            next: Cell::new(street.listener),
+            street,
+        }
+    }
+
     /// The luck of the connection that is accepted next.
     fn next_luck(&self) -> Luck {
         let strangers = self.strangers.get();
@@ -165,95 +224,25 @@ impl Door {
     }
 }
 
-impl OpenListener for Door {
-    type Stream = Line;
+impl<'a> OpenListener for Door<'a> {
+    type Stream = Line<'a>;
 
-    fn accept(&self) -> io::Result<(Line, SocketAddr)> {
-        let luck = self.next_luck();
-        if luck == Luck::Signalled {
-            return Err(io::Error::from(io::ErrorKind::Interrupted));
+    fn accept(&self) -> io::Result<(Line<'a>, SocketAddr)> {
+        match self.next_luck() {
+            Luck::Signalled => Err(io::Error::from(io::ErrorKind::Interrupted)),
+            luck => {
+                let (socket, from) = self.socket.accept()?;
+                match luck {
+                    Luck::Refused => Err(io::Error::from(io::ErrorKind::InvalidInput)),
+                    _ => Ok((Line::new(socket, luck, self.street), from)),
+                }
+            }
         }
-        let (socket, from) = self.socket.accept()?;
-        if luck == Luck::Refused {
-            return Err(io::Error::from(io::ErrorKind::InvalidInput));
-        }
-        Ok((Line::new(socket, luck, Rc::clone(&self.open)?), from))
     }
 }
 
-impl AsRawFd for Door {
+impl<'a> AsRawFd for Door<'a> {
     fn as_raw_fd(&self) -> RawFd {
         self.socket.as_raw_fd()
-    }
-}
-
-/// The network of `machine`. Strangers send to each socket as soon as it is bound. The first connection that is made has
-/// its luck at each end, and all others are well; how many are made is counted, and how many ends of them are open. Once
-/// the UDP port `last.0` is bound, it sends the octets `last.1` to `last.2`. The socket of the UDP port `lent` is in `sender`
-/// too, once it is bound.
-#[derive(Drop)]
-pub struct Street<'a, N> {
-    pub machine: &'a N,
-    pub caller: Cell<Luck>,
-    pub listener: Luck,
-    pub connections: Cell<usize>,
-    pub open: Rc<Cell<usize>>,
-    pub last: (SocketAddr, &'static [u8], SocketAddr),
-    pub lent: SocketAddr,
-    pub sender: Rc<Cell<Option<UdpSocket>>>,
-}
-
-impl<'a, N: Net<Stream = TcpStream, Listener = TcpListener>> Net for Street<'a, N> {
-    type Stream = Line;
-
-    type Listener = Door;
-
-    fn bind(&self, addr: SocketAddr) -> io::Result<Door> {
-        let socket = self.machine.bind(addr)?;
-        self.machine.connect(addr)?;
-        Ok(Door {
-            socket,
-            strangers: Cell::new(1),
-            next: Cell::new(self.listener),
-            open: Rc::clone(&self.open)?,
-        })
-    }
-
-    fn bind_udp(&self, addr: SocketAddr) -> io::Result<UdpSocket> {
-        let socket = self.machine.bind_udp(addr)?;
-        let free = SocketAddr::new(IpAddr::V4(Ipv4Addr::LOCALHOST), 0);
-        let stranger = self.machine.bind_udp(free)?;
-        stranger.send_to(STATUS_REQUEST, addr)?;
-        stranger.send_to(REFUSAL, addr)?;
-        let (from, octets, to) = self.last;
-        if addr == from {
-            socket.send_to(octets, to)?;
-        }
-        if addr == self.lent {
-            self.sender.set(Some(socket.try_clone()?));
-        }
-        Ok(socket)
-    }
-
-    fn connect(&self, addr: SocketAddr) -> io::Result<Line> {
-        let made = self.connections.get();
-        self.connections.set(made.saturating_add(1));
-        let luck = self.caller.replace(Luck::Well);
-        if luck == Luck::Refused {
-            return Err(io::Error::from(io::ErrorKind::ConnectionRefused));
-        }
-        let socket = self.machine.connect(addr)?;
-        Ok(Line::new(socket, luck, Rc::clone(&self.open)?))
-    }
-}
-
-/// Nobody reads its clock.
-impl<'a, N> Clock for Street<'a, N> {
-    fn monotonic(&self) -> io::Result<Duration> {
-        Err(io::Error::from(io::ErrorKind::Unsupported))
-    }
-
-    fn since_1970(&self) -> io::Result<Duration> {
-        Err(io::Error::from(io::ErrorKind::Unsupported))
     }
 }
