@@ -192,11 +192,6 @@ fn expect_watched<R: Abort + AllocGlobal + time::Clock>(
     expect_sent(rt, &stage.port, row.sent)
 }
 
-fn play<R: Abort + AllocGlobal + time::Clock>(rt: &R, row: &Watched) -> Result<(), Fail> {
-    let mut stage = staged(rt, row.turns, row.logs, !row.lists.is_empty())?;
-    expect_watched(rt, row, &mut stage)
-}
-
 const RELEASED: &str = "0002 b400 reply FRED NB 0s unique 127.0.0.2";
 
 /// FRED is 127.0.0.2's, for 59 seconds more.
@@ -348,14 +343,6 @@ const WATCHED: &[Watched] = &[
     },
 ];
 
-#[test]
-fn watched_servers(rt: HostRuntime) -> Result<(), Fail> {
-    for row in WATCHED {
-        play(&rt, row)?;
-    }
-    Ok(())
-}
-
 /// Goes on up to a moment, and this is printed, and said of errors.
 fn expect_said<R: Abort + AllocGlobal + time::Clock>(
     rt: &R,
@@ -383,11 +370,6 @@ fn see_failed_port<R: Abort + AllocGlobal + time::Clock>(
         "nbt: the port failed; going on\nnbt: the port is well again after 1 failures in a row\n",
     )?;
     expect_sent(rt, &stage.port, &[(FIRST, GRANTED)])
-}
-
-#[test]
-fn a_port_that_fails_is_said_and_passed_over(rt: HostRuntime) -> Result<(), Fail> {
-    see_failed_port(&rt, &mut staged(&rt, EACH, true, true)?)
 }
 
 /// Turns of a server whose place refuses the first two lists.
@@ -422,13 +404,6 @@ fn see_refused_lists<R: Abort + AllocGlobal + time::Clock>(
     expect_lists(rt, &stage.journal, &[list])
 }
 
-#[test]
-fn a_list_that_can_not_be_written_is_said_once_and_tried_again(
-    rt: HostRuntime,
-) -> Result<(), Fail> {
-    see_refused_lists(&rt, &mut staged(&rt, FULL, false, false)?)
-}
-
 fn see_full_log<R: Abort + AllocGlobal + time::Clock>(
     rt: &R,
     stage: &mut Stage,
@@ -442,11 +417,6 @@ fn see_full_log<R: Abort + AllocGlobal + time::Clock>(
         &b"nbt: the log can't be written: failed to write whole buffer\n".as_slice(),
     );
     expect_sent(rt, &stage.port, ALL_SENT)
-}
-
-#[test]
-fn a_log_that_can_not_be_written_is_said_once_a_row(rt: HostRuntime) -> Result<(), Fail> {
-    see_full_log(&rt, &mut staged(&rt, EACH, true, true)?)
 }
 
 /// A writer that counts what was written, and what of it was flushed.
@@ -497,9 +467,66 @@ fn see_flushed<R: Abort + AllocGlobal + time::Clock>(
     Ok(())
 }
 
+/// What is seen of a watched server.
+#[derive(Drop)]
+enum Seen {
+    Row(&'static Watched),
+    /// A port that fails is said and passed over.
+    FailedPort,
+    /// A list that can't be written is said once, and tried again.
+    RefusedLists,
+    /// A log that can't be written is said once a row.
+    FullLog,
+    /// All that is printed is flushed.
+    Flushed,
+}
+
+fn see<R: Abort + AllocGlobal + time::Clock>(
+    rt: &R,
+    stage: &mut Stage,
+    seen: &Seen,
+) -> Result<(), Fail> {
+    match seen {
+        Seen::Row(row) => expect_watched(rt, *row, stage),
+        Seen::FailedPort => see_failed_port(rt, stage),
+        Seen::RefusedLists => see_refused_lists(rt, stage),
+        Seen::FullLog => see_full_log(rt, stage),
+        Seen::Flushed => see_flushed(rt, stage),
+    }
+}
+
+/// Watches a server over these turns, with a log, and with a list of leases in memory, where they are wanted.
+fn play<R: Abort + AllocGlobal + time::Clock>(
+    rt: &R,
+    turns: &[Turn],
+    logs: bool,
+    lists: bool,
+    seen: &Seen,
+) -> Result<(), Fail> {
+    let mut stage = staged(rt, turns, logs, lists)?;
+    see(rt, &mut stage, seen)
+}
+
 #[test]
-fn all_that_is_printed_is_flushed(rt: HostRuntime) -> Result<(), Fail> {
-    see_flushed(&rt, &mut staged(&rt, EACH, true, false)?)
+fn watched_servers(rt: HostRuntime) -> Result<(), Fail> {
+    for row in WATCHED {
+        play(
+            &rt,
+            row.turns,
+            row.logs,
+            !row.lists.is_empty(),
+            &Seen::Row(row),
+        )?;
+    }
+    Ok(())
+}
+
+#[test]
+fn what_a_watched_server_can_not_have(rt: HostRuntime) -> Result<(), Fail> {
+    play(&rt, EACH, true, true, &Seen::FailedPort)?;
+    play(&rt, FULL, false, false, &Seen::RefusedLists)?;
+    play(&rt, EACH, true, true, &Seen::FullLog)?;
+    play(&rt, EACH, true, false, &Seen::Flushed)
 }
 
 #[test]
