@@ -582,24 +582,42 @@ impl Scene for Plays {
     }
 }
 
-#[test]
-fn what_a_host_tells_and_sends(rt: HostRuntime) -> Result<(), Fail> {
-    for turns in ROWS {
-        let given = given_in(&rt, turns.turns)?;
-        let moments = moments_in(&rt, turns.turns)?;
+fn play_each<R: Abort + AllocGlobal + time::Clock>(
+    rt: &R,
+    rows: &'static [Turns],
+) -> Result<(), Fail> {
+    for turns in rows {
+        let given = given_in(rt, turns.turns)?;
+        let moments = moments_in(rt, turns.turns)?;
         let plays = Plays::Turns(turns);
-        play_on(&rt, given.as_slice(), moments.as_slice(), &plays)?;
+        play_on(rt, given.as_slice(), moments.as_slice(), &plays)?;
     }
     Ok(())
 }
 
 #[test]
-fn names_are_granted_and_given_back(rt: HostRuntime) -> Result<(), Fail> {
-    play_on(&rt, &[], &[60_000], &Plays::Grants)?;
-    for ending in ENDINGS {
-        play_on(&rt, &BOTH_ASKED, &[4_000], &Plays::Ending(ending))?;
+fn what_a_host_tells_and_sends(rt: HostRuntime) -> Result<(), Fail> {
+    play_each(&rt, ROWS)
+}
+
+#[test]
+fn a_server_grants_all_of_a_list(rt: HostRuntime) -> Result<(), Fail> {
+    play_on(&rt, &[], &[60_000], &Plays::Grants)
+}
+
+fn play_endings<R: Abort + AllocGlobal + time::Clock>(
+    rt: &R,
+    endings: &'static [Ending],
+) -> Result<(), Fail> {
+    for ending in endings {
+        play_on(rt, &BOTH_ASKED, &[4_000], &Plays::Ending(ending))?;
     }
     Ok(())
+}
+
+#[test]
+fn names_are_given_back_and_which_were_confirmed_is_said(rt: HostRuntime) -> Result<(), Fail> {
+    play_endings(&rt, ENDINGS)
 }
 
 #[test]

@@ -512,13 +512,14 @@ const ROWS: &[Hosted] = &[
     FAILING_AT_THE_END,
 ];
 
-/// A line that can't be written ends a host: how many octets the output takes, and what stands in it when the next one is refused.
+/// How many octets the output takes, and what stands in it when the next one is refused. The host is the one whose give-back is not
+/// confirmed.
 struct Short {
     room: usize,
     printed: &'static str,
 }
 
-const ROOMS: [Short; 2] = [
+const ROOMS: &[Short] = &[
     Short {
         room: 8,
         printed: "host 127",
@@ -573,17 +574,29 @@ impl Scene for Short {
     }
 }
 
-#[test]
-fn hosts_and_their_lines(rt: HostRuntime) -> Result<(), Fail> {
-    for row in ROWS {
-        let given = given_in(&rt, row.turns, row.given)?;
-        play_on(&rt, given.as_slice(), &[], row)?;
-    }
-    for short in &ROOMS {
-        let given = given_in(&rt, UNCONFIRMED.turns, UNCONFIRMED.given)?;
-        play_on(&rt, given.as_slice(), &[], short)?;
+fn play_hosted<R: Abort + AllocGlobal + time::Clock>(rt: &R, rows: &[Hosted]) -> Result<(), Fail> {
+    for row in rows {
+        let given = given_in(rt, row.turns, row.given)?;
+        play_on(rt, given.as_slice(), &[], row)?;
     }
     Ok(())
+}
+
+#[test]
+fn hosts_and_their_lines(rt: HostRuntime) -> Result<(), Fail> {
+    play_hosted(&rt, ROWS)
+}
+
+fn play_short<R: Abort + AllocGlobal + time::Clock>(rt: &R, rows: &[Short]) -> Result<(), Fail> {
+    for short in rows {
+        play_on(rt, &[GRANTED], &[], short)?;
+    }
+    Ok(())
+}
+
+#[test]
+fn a_line_that_can_not_be_written_ends_a_host(rt: HostRuntime) -> Result<(), Fail> {
+    play_short(&rt, ROOMS)
 }
 
 /// A host of this machine at a port that no other test has, which ends after its first turn.

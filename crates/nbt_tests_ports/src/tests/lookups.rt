@@ -195,14 +195,17 @@ const UNTOLD: &[Lookup] = &[
     },
 ];
 
-#[test]
-fn lookups(rt: HostRuntime) -> Result<(), Fail> {
-    for lookups in [TOLD, UNTOLD] {
-        for lookup in lookups {
-            play_on(&rt, lookup.given, lookup.moments, lookup)?;
-        }
+fn play_lookups<R: Abort + AllocGlobal + time::Clock>(rt: &R, rows: &[Lookup]) -> Result<(), Fail> {
+    for lookup in rows {
+        play_on(rt, lookup.given, lookup.moments, lookup)?;
     }
     Ok(())
+}
+
+#[test]
+fn lookups(rt: HostRuntime) -> Result<(), Fail> {
+    play_lookups(&rt, TOLD)?;
+    play_lookups(&rt, UNTOLD)
 }
 
 /// One question as a command asks it: the moments that the clock tells, what the port hands out, the call of the port that fails, for
@@ -338,13 +341,18 @@ const STATUSES: [(Answer, u8); 3] = [
     (Answer::NoReply, 5),
 ];
 
+fn play_asked<R: Abort + AllocGlobal + time::Clock>(rt: &R, rows: &[Asked]) -> Result<(), Fail> {
+    for asked in rows {
+        play_on(rt, asked.given, asked.moments, asked)?;
+    }
+    Ok(())
+}
+
 #[test]
 fn questions_as_commands_ask_them(rt: HostRuntime) -> Result<(), Fail> {
-    for asked in ASKED {
-        play_on(&rt, asked.given, asked.moments, asked)?;
-    }
-    for (answer, status) in STATUSES {
-        expect_eq(&rt, &answer.status(), &status);
+    play_asked(&rt, ASKED)?;
+    for (answer, status) in &STATUSES {
+        expect_eq(&rt, &answer.status(), &*status);
     }
     Ok(())
 }

@@ -507,26 +507,24 @@ fn play<R: Abort + AllocGlobal + time::Clock>(
     see(rt, &mut stage, seen)
 }
 
-#[test]
-fn watched_servers(rt: HostRuntime) -> Result<(), Fail> {
-    for row in WATCHED {
-        play(
-            &rt,
-            row.turns,
-            row.logs,
-            !row.lists.is_empty(),
-            &Seen::Row(row),
-        )?;
+fn play_watched<R: Abort + AllocGlobal + time::Clock>(
+    rt: &R,
+    rows: &'static [Watched],
+) -> Result<(), Fail> {
+    for row in rows {
+        let lists = !row.lists.is_empty();
+        play(rt, row.turns, row.logs, lists, &Seen::Row(row))?;
     }
     Ok(())
 }
 
 #[test]
-fn what_a_watched_server_can_not_have(rt: HostRuntime) -> Result<(), Fail> {
+fn watched_servers(rt: HostRuntime) -> Result<(), Fail> {
     play(&rt, EACH, true, true, &Seen::FailedPort)?;
     play(&rt, FULL, false, false, &Seen::RefusedLists)?;
     play(&rt, EACH, true, true, &Seen::FullLog)?;
-    play(&rt, EACH, true, false, &Seen::Flushed)
+    play(&rt, EACH, true, false, &Seen::Flushed)?;
+    play_watched(&rt, WATCHED)
 }
 
 #[test]

@@ -109,10 +109,10 @@ fn expect_cut<R: Abort + AllocGlobal>(
     far: &mut UdpPort,
     octets: &mut ArrayVec<u8, 2048>,
 ) -> Result<(), Fail> {
-    for (sent, taken) in LENGTHS {
-        send(rt, near, THERE, counted(rt, sent)?.as_slice())?;
+    for (sent, taken) in &LENGTHS {
+        send(rt, near, THERE, counted(rt, *sent)?.as_slice())?;
         expect_eq_in(rt, &sent, &receive(rt, far, octets)?, &Some(HERE));
-        let wanted = counted(rt, taken)?;
+        let wanted = counted(rt, *taken)?;
         expect_eq_in(rt, &sent, &octets.as_slice(), &wanted.as_slice());
     }
     Ok(())

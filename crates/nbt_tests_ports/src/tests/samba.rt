@@ -29,7 +29,7 @@ const FRED: &str = "two-parts FRED NB again NB 60s unique 127.0.0.2";
 const TEAM: &str = "two-parts TEAM NB again NB 60s group 127.0.0.2";
 
 /// What is taken: the id, the flags before and afterwards, and what follows them.
-const TAKEN: [(&str, &str, &str, &str); 13] = [
+const TAKEN: &[(&str, &str, &str, &str)] = &[
     // OPCODE 15 by nmbd, with a scope too; by a domain controller, with RD clear; and of a group.
     ("60f4", "7900", "2900", NODEB),
     ("61db", "7900", "2900", NODEB_IN_LAB),
@@ -65,7 +65,7 @@ const TAKEN: [(&str, &str, &str, &str); 13] = [
 ];
 
 /// What isn't taken.
-const LEFT: [&str; 27] = [
+const LEFT: &[&str] = &[
     // OPCODE 15 of two entries, of none, and of a part of one.
     "0001 7900 two-parts FRED NB again NB 60s 000c 6000 127.0.0.2 6000 127.0.0.3",
     "0001 7900 two-parts TEAM NB again NB 60s 000c e000 127.0.0.2 e000 127.0.0.3",
@@ -120,34 +120,45 @@ fn expect_left<R: Abort + AllocGlobal>(rt: &R, given: &[u8], words: &str) -> Res
     Ok(())
 }
 
+/// These octets are taken by one octet.
+fn expect_taken_as<R: Abort + AllocGlobal>(
+    rt: &R,
+    (id, before, afterwards, tail): &(&str, &str, &str, &str),
+) -> Result<(), Fail> {
+    let mut taken = claim(rt, id, before, tail)?;
+    expect_in(rt, &tail, take_registration(taken.as_mut_slice()));
+    let wanted = claim(rt, id, afterwards, tail)?;
+    expect_eq_in(rt, &tail, &taken.as_slice(), &wanted.as_slice());
+    Ok(())
+}
+
+fn expect_all_taken<R: Abort + AllocGlobal>(
+    rt: &R,
+    rows: &[(&str, &str, &str, &str)],
+) -> Result<(), Fail> {
+    for row in rows {
+        expect_taken_as(rt, row)?;
+    }
+    Ok(())
+}
+
 #[test]
 fn registrations_of_other_forms_are_taken_by_one_octet(rt: HostRuntime) -> Result<(), Fail> {
-    for (id, before, afterwards, tail) in TAKEN {
-        let mut taken = claim(&rt, id, before, tail)?;
-        expect_in(
-            &rt,
-            &(before, tail),
-            take_registration(taken.as_mut_slice()),
-        );
-        expect_eq_in(
-            &rt,
-            &(before, tail),
-            &taken.as_slice(),
-            &claim(&rt, id, afterwards, tail)?.as_slice(),
-        );
+    expect_all_taken(&rt, TAKEN)
+}
+
+fn expect_all_left<R: Abort + AllocGlobal>(rt: &R, list: &[&str]) -> Result<(), Fail> {
+    for words in list {
+        let given = octets(rt, words)?;
+        expect_left(rt, given.as_slice(), words)?;
     }
     Ok(())
 }
 
 #[test]
 fn all_else_is_left_as_it_is(rt: HostRuntime) -> Result<(), Fail> {
-    for words in LEFT {
-        expect_left(&rt, octets(&rt, words)?.as_slice(), words)?;
-    }
-    for words in EVERY_KIND {
-        expect_left(&rt, octets(&rt, words)?.as_slice(), words)?;
-    }
-    Ok(())
+    expect_all_left(&rt, LEFT)?;
+    expect_all_left(&rt, &EVERY_KIND)
 }
 
 #[test]

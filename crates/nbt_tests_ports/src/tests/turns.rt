@@ -178,7 +178,7 @@ const FAILED_SEND: Failure = Failure {
 };
 
 /// A reply that was not sent is lost, and what has come is not handed out again: it was handled, and its lease stays.
-const FAILURES: [Failure; 5] = [
+const FAILURES: &[Failure] = &[
     FAILED_RECEIVE,
     FAILED_SEND,
     Failure {
@@ -277,14 +277,27 @@ impl Scene for Many {
     }
 }
 
+fn play_turns<R: Abort + AllocGlobal + time::Clock>(rt: &R, rows: &[Turns]) -> Result<(), Fail> {
+    for turns in rows {
+        play_on(rt, turns.given, turns.moments, turns)?;
+    }
+    Ok(())
+}
+
+fn play_failures<R: Abort + AllocGlobal + time::Clock>(
+    rt: &R,
+    rows: &[Failure],
+) -> Result<(), Fail> {
+    for failure in rows {
+        play_on(rt, RIVALS, &[60_000], failure)?;
+    }
+    Ok(())
+}
+
 #[test]
 fn turns_of_a_server(rt: HostRuntime) -> Result<(), Fail> {
-    for turns in TURNS {
-        play_on(&rt, turns.given, turns.moments, turns)?;
-    }
-    for failure in &FAILURES {
-        play_on(&rt, RIVALS, &[60_000], failure)?;
-    }
+    play_turns(&rt, TURNS)?;
+    play_failures(&rt, FAILURES)?;
     play_on(&rt, &[], &[60_000], &Many)
 }
 
@@ -395,7 +408,7 @@ const WITH_A_FAILURE: [Row; 4] = [
 /// grant; that of the status request and the reply to it; a receive of nothing; the refresh and the receive of the reply to
 /// it. A request that was lost, or whose reply was, is sent again 5,000 ms after it with the same octets; the lost reply to
 /// a status request is not.
-const SENT_WITH_A_FAILURE: [&[Row]; 7] = [
+const SENT_WITH_A_FAILURE: &[&[Row]] = &[
     &[REQUEST, STATUS_REPLY, REFRESHING],
     &[REQUEST, REQUEST, STATUS_REPLY, REFRESHING],
     &[REQUEST, STATUS_REPLY, REFRESHING],
@@ -477,17 +490,20 @@ const MOMENTS_WITH_A_FAILURE: [u64; 9] = [
     60_000, 65_000, 70_000, 75_000, 80_000, 85_000, 90_000, 95_000, 100_000,
 ];
 
+fn play_each_call<R: Abort + AllocGlobal + time::Clock>(
+    rt: &R,
+    rows: &'static [&'static [Row]],
+) -> Result<(), Fail> {
+    for (call, sent) in (0..).zip(rows) {
+        let does = Does::GoesOn(call, *sent);
+        play_on(rt, &WITH_A_FAILURE, &MOMENTS_WITH_A_FAILURE, &does)?;
+    }
+    Ok(())
+}
+
 #[test]
 fn turns_of_a_node(rt: HostRuntime) -> Result<(), Fail> {
     play_on(&rt, &TO_A_NODE, &MOMENTS, &Does::AsksAndRenews)?;
     play_on(&rt, &[], &[60_000, 65_000], &Does::SendsAgain)?;
-    for (call, sent) in (0..).zip(SENT_WITH_A_FAILURE) {
-        play_on(
-            &rt,
-            &WITH_A_FAILURE,
-            &MOMENTS_WITH_A_FAILURE,
-            &Does::GoesOn(call, sent),
-        )?;
-    }
-    Ok(())
+    play_each_call(&rt, SENT_WITH_A_FAILURE)
 }
