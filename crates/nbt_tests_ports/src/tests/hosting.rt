@@ -723,6 +723,14 @@ fn goal(stage: Stage, lapsed: bool, news: Option<News>, times: u8) -> Result<Goa
     Ok(goal)
 }
 
+/// The first line, the lines of a turn on a machine that slept, and those of the end.
+fn write_lines(goals: &[Goal], text: &mut String) -> Result<(), Fail> {
+    write_begin(HOST, SERVER, 0, text)?;
+    write_turn(SECOND, false, true, goals, text)?;
+    write_endings(SECOND, goals, text)?;
+    Ok(())
+}
+
 #[test]
 fn lines_of_a_turn_and_of_the_end(rt: HostRuntime) -> Result<(), Fail> {
     let goals = [
@@ -732,9 +740,7 @@ fn lines_of_a_turn_and_of_the_end(rt: HostRuntime) -> Result<(), Fail> {
         goal(Stage::Wanted, false, None, 1)?,
     ];
     let mut text = String::new(rt.alloc());
-    write_begin(HOST, SERVER, 0, &mut text)?;
-    write_turn(SECOND, false, true, &goals, &mut text)?;
-    write_endings(SECOND, &goals, &mut text)?;
+    write_lines(&goals, &mut text)?;
     expect_eq(
         &rt,
         &text.as_str(),
