@@ -613,31 +613,35 @@ fn arguments_here<R: AllocGlobal>(rt: &R, port: u16) -> Result<HostArguments, Fa
     Ok(arguments)
 }
 
-#[test]
-fn a_host_over_this_machine(rt: HostRuntime) -> Result<(), Fail> {
+/// Runs it. Returns how it ended, what it printed, and what it said of errors.
+fn run_here(rt: &HostRuntime, port: u16) -> Result<(Result<bool, Fault>, Vec<u8>, Vec<u8>), Fail> {
+    let arguments = arguments_here(rt, port)?;
     let mut printed = Vec::new(rt.alloc());
     let mut errors = Vec::new(rt.alloc());
-    let arguments = arguments_here(&rt, 20_181)?;
-    let all = run_host(&rt, rt.alloc(), &arguments, &mut printed, &mut errors);
-    expect_eq(&rt, &all, &Ok(false));
+    let all = run_host(rt, rt.alloc(), &arguments, &mut printed, &mut errors);
+    Ok((all, printed, errors))
+}
+
+/// The last line has a time of day, which no test can foresee.
+fn expect_not_held<R: Abort>(rt: &R, printed: &[u8]) -> Result<(), Fail> {
     let begin = b"host 127.42.23.4:20181 asks 127.42.23.4:20189 for 1 name\n".as_slice();
-    let rest = printed
-        .as_slice()
-        .strip_prefix(begin)
-        .ok_or("another line")?;
-    // The last line has a time of day, which no test can foresee.
-    expect(&rt, rest.ends_with(b"Z not held FRED#20\n"));
-    expect_eq(&rt, &rest.len(), &38);
-    expect(&rt, errors.is_empty());
+    let rest = printed.strip_prefix(begin).ok_or("another line")?;
+    expect(rt, rest.ends_with(b"Z not held FRED#20\n"));
+    expect_eq(rt, &rest.len(), &38);
     Ok(())
 }
 
 #[test]
+fn a_host_over_this_machine(rt: HostRuntime) -> Result<(), Fail> {
+    let (all, printed, errors) = run_here(&rt, 20_181)?;
+    expect_eq(&rt, &all, &Ok(false));
+    expect(&rt, errors.is_empty());
+    expect_not_held(&rt, printed.as_slice())
+}
+
+#[test]
 fn a_host_tells_the_port_that_it_got(rt: HostRuntime) -> Result<(), Fail> {
-    let mut printed = Vec::new(rt.alloc());
-    let mut errors = Vec::new(rt.alloc());
-    let arguments = arguments_here(&rt, 0)?;
-    let all = run_host(&rt, rt.alloc(), &arguments, &mut printed, &mut errors);
+    let (all, printed, _) = run_here(&rt, 0)?;
     expect_eq(&rt, &all, &Ok(false));
     expect(&rt, printed.as_slice().starts_with(b"host 127.42.23.4:"));
     expect(&rt, !printed.as_slice().starts_with(b"host 127.42.23.4:0 "));
@@ -646,17 +650,18 @@ fn a_host_tells_the_port_that_it_got(rt: HostRuntime) -> Result<(), Fail> {
 
 #[test]
 fn a_host_whose_port_can_not_be_had(rt: HostRuntime) -> Result<(), Fail> {
-    let arguments = arguments_here(&rt, 20_182)?;
-    let _taken = UdpPort::bind(&rt, arguments.bind)?;
-    let mut printed = Vec::new(rt.alloc());
-    let mut errors = Vec::new(rt.alloc());
-    let all = run_host(&rt, rt.alloc(), &arguments, &mut printed, &mut errors);
+    let taken = Addr {
+        ip: 0x7F2A1704,
+        port: 20_182,
+    };
+    let _taken = UdpPort::bind(&rt, taken)?;
+    let (all, printed, errors) = run_here(&rt, 20_182)?;
     expect_eq(&rt, &all, &Err(Fault::NoPort));
     expect(&rt, printed.is_empty());
     expect_eq(
         &rt,
-        &str::from_utf8(errors.as_slice())?,
-        &"nbt: 127.42.23.4:20182: Address already in use (os error 98)\n",
+        &errors.as_slice(),
+        &b"nbt: 127.42.23.4:20182: Address already in use (os error 98)\n".as_slice(),
     );
     Ok(())
 }

@@ -43,25 +43,38 @@ fn chosen<R: Net>(net: &R) -> Result<Addr, Fail> {
     Ok(UdpPort::bind(net, Addr { port: 0, ..HERE })?.local()?)
 }
 
-/// Datagrams go over UDP.
-fn expect_way<R: Abort>(
+/// What is sent comes, as these octets alone.
+fn expect_comes<R: Abort>(
     rt: &R,
     near: &mut UdpPort,
     far: &mut UdpPort,
     octets: &mut ArrayVec<u8, 2048>,
+    sent: &[u8],
+    taken: &[u8],
 ) -> Result<(), Fail> {
-    expect_eq(rt, &near.local()?, &HERE);
-    expect_eq(rt, &near.addr(), &HERE);
-    send(rt, near, THERE, b"hello")?;
+    send(rt, near, THERE, sent)?;
     expect_eq(rt, &receive(rt, far, octets)?, &Some(HERE));
-    expect_eq(rt, &octets.as_slice(), &b"hello".as_slice());
+    expect_eq_in(rt, &sent.len(), &octets.as_slice(), &taken);
+    Ok(())
+}
+
+/// Nothing comes, and nothing stands in the buffer.
+fn expect_nothing<R: Abort>(
+    rt: &R,
+    far: &mut UdpPort,
+    octets: &mut ArrayVec<u8, 2048>,
+) -> Result<(), Fail> {
     expect_eq(rt, &receive(rt, far, octets)?, &None);
+    expect(rt, octets.is_empty());
     expect_eq(rt, &far.failures(), &0);
-    // There is no way to port 0: what is sent there is lost, and the device is well.
+    Ok(())
+}
+
+/// There is no way to port 0: what is sent there is lost, and the device is well.
+fn expect_no_way<R: Abort>(rt: &R, near: &mut UdpPort) {
     let nowhere = Addr { port: 0, ..THERE };
     expect_eq(rt, &send(rt, near, nowhere, b"hello"), &Ok(()));
     expect_eq(rt, &near.failures(), &0);
-    Ok(())
 }
 
 /// A datagram stands alone in the buffer.
@@ -71,14 +84,9 @@ fn expect_alone<R: Abort>(
     far: &mut UdpPort,
     octets: &mut ArrayVec<u8, 2048>,
 ) -> Result<(), Fail> {
-    for sent in [b"the first".as_slice(), b"second", b"", b"3"] {
-        send(rt, near, THERE, sent)?;
-        expect_eq(rt, &receive(rt, far, octets)?, &Some(HERE));
-        expect_eq(rt, &octets.as_slice(), &sent);
+    for sent in [b"hello".as_slice(), b"the first", b"second", b"", b"3"] {
+        expect_comes(rt, near, far, octets, sent, sent)?;
     }
-    // Nothing comes, and nothing stands there.
-    expect_eq(rt, &receive(rt, far, octets)?, &None);
-    expect(rt, octets.is_empty());
     Ok(())
 }
 
@@ -110,10 +118,9 @@ fn expect_cut<R: Abort + AllocGlobal>(
     octets: &mut ArrayVec<u8, 2048>,
 ) -> Result<(), Fail> {
     for (sent, taken) in &LENGTHS {
-        send(rt, near, THERE, counted(rt, *sent)?.as_slice())?;
-        expect_eq_in(rt, &sent, &receive(rt, far, octets)?, &Some(HERE));
+        let given = counted(rt, *sent)?;
         let wanted = counted(rt, *taken)?;
-        expect_eq_in(rt, &sent, &octets.as_slice(), &wanted.as_slice());
+        expect_comes(rt, near, far, octets, given.as_slice(), wanted.as_slice())?;
     }
     Ok(())
 }
@@ -127,32 +134,23 @@ fn expect_failure<R: Abort>(rt: &R, near: &mut UdpPort, long: &[u8]) {
     expect_eq(rt, &near.failures(), &2);
 }
 
-/// What is sent after it comes.
-fn expect_well<R: Abort>(
-    rt: &R,
-    near: &mut UdpPort,
-    far: &mut UdpPort,
-    octets: &mut ArrayVec<u8, 2048>,
-) -> Result<(), Fail> {
-    send(rt, near, THERE, b"hello")?;
-    expect_eq(rt, &receive(rt, far, octets)?, &Some(HERE));
-    expect_eq(rt, &octets.as_slice(), &b"hello".as_slice());
-    expect_eq(rt, &far.failures(), &0);
-    Ok(())
-}
-
 fn over_udp<R: Abort + AllocGlobal>(
     rt: &R,
     near: &mut UdpPort,
     far: &mut UdpPort,
     octets: &mut ArrayVec<u8, 2048>,
 ) -> Result<(), Fail> {
-    expect_way(rt, near, far, octets)?;
+    expect_eq(rt, &near.local()?, &HERE);
+    expect_eq(rt, &near.addr(), &HERE);
     expect_alone(rt, near, far, octets)?;
+    expect_nothing(rt, far, octets)?;
+    expect_no_way(rt, near);
     expect_cut(rt, near, far, octets)?;
     // A datagram of IPv4 has 65,535 octets at most, of which 28 are headers (RFC 791, RFC 768).
     expect_failure(rt, near, counted(rt, 65_508)?.as_slice());
-    expect_well(rt, near, far, octets)
+    // What is sent after it comes.
+    expect_comes(rt, near, far, octets, b"hello", b"hello")?;
+    expect_nothing(rt, far, octets)
 }
 
 #[test]
