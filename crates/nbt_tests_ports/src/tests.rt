@@ -8,4 +8,5 @@ mod lookups;
 mod nbns;
 mod ports;
 mod samba;
+mod stage;
 mod turns;

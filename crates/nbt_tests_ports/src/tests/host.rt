@@ -2,6 +2,7 @@
 //! lease 60 s, which is held for 59,878 ms, all started at 0.
 
 use super::expect::{expect, expect_eq, expect_eq_in, expect_in};
+use super::stage::{Scene, play_on};
 use arrayvec::ArrayVec;
 use nbt_client::Want;
 use nbt_host::{Clocks, Goal, News, Reading, Stage, give_back, host_turn, waking_turn};
@@ -10,10 +11,11 @@ use nbt_name::{Addr, Kind, Name};
 use nbt_node::Node;
 use nbt_port::{Datagram, Device, MemoryClock, MemoryPort, Port};
 use nbt_server::Server;
-use nbt_testing::{Row, clock, config, expect_sent, moment, octets, port, started};
+use nbt_testing::{Row, clock as clock_of, config, expect_sent, moment, port as port_of};
 use std::collections::VecDeque;
 use std::process::Abort;
 use std::test::Fail;
+use std::time;
 
 const SERVER: Addr = Addr {
     ip: 0x7F000001,
@@ -78,44 +80,41 @@ struct Turns {
     sent: &'static [Row],
 }
 
-fn play_turns<R: Abort>(
+fn play_turns<R: Abort + AllocGlobal>(
     rt: &R,
     port: &mut MemoryPort,
     clock: &mut MemoryClock,
     node: &mut Node<3>,
     goals: &mut [Goal],
-    turns: &[Told],
+    turns: &Turns,
 ) -> Result<(), Fail> {
-    for (first, _, _, lapsed, news) in turns {
+    for (first, _, _, lapsed, news) in turns.turns {
         turn(rt, port, clock, node, goals)?;
         for goal in goals.iter() {
             expect_eq_in(rt, &first, &goal.lapsed, &*lapsed);
             expect_eq_in(rt, &first, &goal.news, &*news);
         }
     }
-    Ok(())
+    expect_sent(rt, port, turns.sent)
 }
 
-fn play<R: Abort + AllocGlobal>(rt: &R, turns: &Turns) -> Result<(), Fail> {
+/// What comes in the turns.
+fn given_in<R: AllocGlobal>(rt: &R, turns: &[Told]) -> Result<Vec<Row>, Fail> {
     let mut given = Vec::new(rt.alloc());
-    let mut moments = Vec::new(rt.alloc());
-    for (first, second, row, _, _) in turns.turns {
+    for (_, _, row, _, _) in turns {
         given.push(*row)?;
+    }
+    Ok(given)
+}
+
+/// The moments that the clock tells in the turns.
+fn moments_in<R: AllocGlobal>(rt: &R, turns: &[Told]) -> Result<Vec<u64>, Fail> {
+    let mut moments = Vec::new(rt.alloc());
+    for (first, second, _, _, _) in turns {
         moments.push(*first)?;
         moments.push(*second)?;
     }
-    let mut port = port(rt, given.as_slice())?;
-    let mut clock = clock(rt, moments.as_slice())?;
-    let mut goals = [fred()?];
-    play_turns(
-        rt,
-        &mut port,
-        &mut clock,
-        &mut node()?,
-        &mut goals,
-        turns.turns,
-    )?;
-    expect_sent(rt, &port, turns.sent)
+    Ok(moments)
 }
 
 const ASK: Row = (
@@ -266,15 +265,7 @@ const ANSWERED: Turns = Turns {
     sent: &[ASK, ANSWER, ANSWER, REFRESH_2],
 };
 
-const ROWS: [Turns; 6] = [REFUSED, LAPSED, TOO_LATE, JUST_IN_TIME, RENEWED, ANSWERED];
-
-#[test]
-fn what_a_host_tells_and_sends(rt: HostRuntime) -> Result<(), Fail> {
-    for turns in &ROWS {
-        play(&rt, turns)?;
-    }
-    Ok(())
-}
+const ROWS: &[Turns] = &[REFUSED, LAPSED, TOO_LATE, JUST_IN_TIME, RENEWED, ANSWERED];
 
 /// The server's replies at 60,000 to what a host sent, as what its port is to hand out.
 fn replies<R: Abort + AllocGlobal>(
@@ -327,18 +318,20 @@ const ASKS: [Row; 3] = [
     ),
 ];
 
-#[test]
-fn a_server_grants_all_of_a_list(rt: HostRuntime) -> Result<(), Fail> {
-    let mut silent = port(&rt, &[])?;
-    let mut clock = clock(&rt, &[60_000])?;
-    let mut node = node()?;
-    let mut goals = [fred()?, team()?, node_b()?];
-    turn(&rt, &mut silent, &mut clock, &mut node, &mut goals)?;
-    expect_sent(&rt, &silent, &ASKS)?;
-    let mut server = started(&rt, 4096, 0)?;
-    let mut port = replies(&rt, &mut server, silent.sent())?;
-    three_are_granted(&rt, &mut port, &mut clock, &mut node, &mut goals)?;
-    expect_sent(&rt, &port, &[])
+/// A server grants all of a list.
+fn play_grants<R: Abort + AllocGlobal>(
+    rt: &R,
+    port: &mut MemoryPort,
+    clock: &mut MemoryClock,
+    server: &mut Server,
+    node: &mut Node<3>,
+    goals: &mut [Goal],
+) -> Result<(), Fail> {
+    turn(rt, port, clock, node, goals)?;
+    expect_sent(rt, port, &ASKS)?;
+    *port = replies(rt, server, port.sent())?;
+    three_are_granted(rt, port, clock, node, goals)?;
+    expect_sent(rt, port, &[])
 }
 
 /// What comes to a host that holds FRED and the group TEAM and gives them back at 4,000, at which moments its clock is read from
@@ -346,7 +339,7 @@ fn a_server_grants_all_of_a_list(rt: HostRuntime) -> Result<(), Fail> {
 struct Ending {
     given: &'static [Row],
     moments: &'static [u64],
-    stages: [Stage; 3],
+    stages: &'static [Stage],
     sent: &'static [Row],
 }
 
@@ -374,7 +367,7 @@ const CONFIRMED: Ending = Ending {
         (SERVER, "0005 b400 reply TEAM NB 0s group 127.0.0.2"),
     ],
     moments: &[4_000],
-    stages: [Stage::Left(0), Stage::Left(0), Stage::Leaving],
+    stages: &[Stage::Left(0), Stage::Left(0), Stage::Leaving],
     sent: &[RELEASE_FRED, RELEASE_TEAM],
 };
 
@@ -384,7 +377,7 @@ const DENIED: Ending = Ending {
         (SERVER, "0005 b406 reply TEAM NB 0s group 127.0.0.2"),
     ],
     moments: &[4_000],
-    stages: [Stage::Left(0), Stage::Left(6), Stage::Leaving],
+    stages: &[Stage::Left(0), Stage::Left(6), Stage::Leaving],
     sent: &[RELEASE_FRED, RELEASE_TEAM],
 };
 
@@ -395,7 +388,7 @@ const SILENT: Ending = Ending {
         4_000, 4_000, 4_010, 4_010, 9_000, 9_000, 9_000, 14_000, 14_000, 18_999, 18_999, 18_999,
         19_000,
     ],
-    stages: [Stage::Left(0), Stage::Released, Stage::Leaving],
+    stages: &[Stage::Left(0), Stage::Released, Stage::Leaving],
     sent: &[
         RELEASE_FRED,
         RELEASE_TEAM,
@@ -411,38 +404,27 @@ const ASK_NODE_B: Row = (
     "0003 2900 two-parts NODEB NB again NB 60s unique 127.0.0.2",
 );
 
-/// `give_back` at a port of which few calls have failed.
-fn end<R: Abort + AllocGlobal>(
+const ENDINGS: &[Ending] = &[CONFIRMED, DENIED, SILENT];
+
+/// Both names are granted, and given back.
+fn play_ending<R: Abort + AllocGlobal>(
     rt: &R,
+    port: &mut MemoryPort,
+    clock: &mut MemoryClock,
     node: &mut Node<3>,
     goals: &mut [Goal],
     ending: &Ending,
 ) -> Result<(), Fail> {
-    let mut port = port(rt, ending.given)?;
-    let mut clock = clock(rt, ending.moments)?;
+    turn(rt, port, clock, node, goals)?;
+    turn(rt, port, clock, node, goals)?;
+    *port = port_of(rt, ending.given)?;
+    *clock = clock_of(rt, ending.moments)?;
     expect(rt, port.failures() < 1 << 62);
-    give_back(&mut port, &mut clock, node, SERVER, goals, 1_000)?;
+    give_back(port, clock, node, SERVER, goals, 1_000)?;
     for (goal, stage) in goals.iter().zip(ending.stages) {
-        expect_eq(rt, &goal.stage, &stage);
+        expect_eq(rt, &goal.stage, &*stage);
     }
-    expect_sent(rt, &port, ending.sent)
-}
-
-fn play_ending<R: Abort + AllocGlobal>(rt: &R, ending: &Ending) -> Result<(), Fail> {
-    let mut port = port(rt, &BOTH_ASKED)?;
-    let mut clock = clock(rt, &[4_000])?;
-    let mut node = node()?;
-    let mut goals = [fred()?, team()?, node_b()?];
-    turn(rt, &mut port, &mut clock, &mut node, &mut goals)?;
-    turn(rt, &mut port, &mut clock, &mut node, &mut goals)?;
-    end(rt, &mut node, &mut goals, ending)
-}
-
-#[test]
-fn names_are_given_back_and_which_were_confirmed_is_said(rt: HostRuntime) -> Result<(), Fail> {
-    play_ending(&rt, &CONFIRMED)?;
-    play_ending(&rt, &DENIED)?;
-    play_ending(&rt, &SILENT)
+    expect_sent(rt, port, ending.sent)
 }
 
 /// A steady clock before the time of day and after it.
@@ -506,40 +488,140 @@ fn waking<R: Abort>(
     Ok(waking_turn(port, clocks, node, SERVER, config, goals, last)?)
 }
 
-fn play_waking<R: Abort>(
+fn play_waking<R: Abort + AllocGlobal>(
     rt: &R,
     port: &mut MemoryPort,
     clocks: &mut Clocks<MemoryClock, MemoryClock>,
+    node: &mut Node<3>,
     goals: &mut [Goal],
 ) -> Result<(), Fail> {
-    let mut node = node()?;
     let mut last = reading(0, 1_000_000, 0)?;
     for (moments, day, _, slept) in &WAKING {
-        let woke = waking(rt, port, clocks, &mut node, goals, &mut last)?;
+        let woke = waking(rt, port, clocks, node, goals, &mut last)?;
         expect_eq_in(rt, &day, &woke, &*slept);
         expect_eq(rt, &last, &reading(moments[0], *day, moments[1])?);
         for goal in goals.iter() {
             expect_in(rt, &day, !goal.lapsed);
         }
     }
+    expect_sent(rt, port, &[ASK, ANSWER, ASK])
+}
+
+/// What comes in those turns, what the steady clock tells in them, and the time of day.
+fn waking_given<R: AllocGlobal>(rt: &R) -> Result<Vec<Row>, Fail> {
+    let mut given = Vec::new(rt.alloc());
+    for (_, _, row, _) in &WAKING {
+        given.push(*row)?;
+    }
+    Ok(given)
+}
+
+fn waking_steady<R: AllocGlobal>(rt: &R) -> Result<Vec<u64>, Fail> {
+    let mut steady = Vec::new(rt.alloc());
+    for (moments, _, _, _) in &WAKING {
+        steady.extend_from_slice(moments)?;
+    }
+    Ok(steady)
+}
+
+fn waking_days<R: AllocGlobal>(rt: &R) -> Result<Vec<u64>, Fail> {
+    let mut days = Vec::new(rt.alloc());
+    for (_, day, _, _) in &WAKING {
+        days.push(*day)?;
+    }
+    Ok(days)
+}
+
+fn waking_clocks<R: AllocGlobal>(rt: &R) -> Result<Clocks<MemoryClock, MemoryClock>, Fail> {
+    let steady = clock_of(rt, waking_steady(rt)?.as_slice())?;
+    let day = clock_of(rt, waking_days(rt)?.as_slice())?;
+    Ok(Clocks { steady, day })
+}
+
+/// What is played with a host that may want FRED, TEAM and NODEB.
+#[derive(Drop)]
+enum Plays {
+    /// Turns in which it wants FRED.
+    Turns(&'static Turns),
+    /// A server grants all three.
+    Grants,
+    /// FRED and TEAM are granted and given back.
+    Ending(&'static Ending),
+    /// Turns on a machine that may sleep, in which it wants FRED.
+    Waking,
+}
+
+impl Scene for Plays {
+    fn play<R: Abort + AllocGlobal + time::Clock>(
+        &self,
+        rt: &R,
+        port: &mut MemoryPort,
+        clock: &mut MemoryClock,
+        server: &mut Server,
+    ) -> Result<(), Fail> {
+        let mut goals = [fred()?, team()?, node_b()?];
+        let mut node = node()?;
+        match self {
+            Plays::Turns(turns) => {
+                play_turns(rt, port, clock, &mut node, &mut goals[..1], *turns)
+            }
+            Plays::Grants => play_grants(rt, port, clock, server, &mut node, &mut goals),
+            Plays::Ending(ending) => {
+                play_ending(rt, port, clock, &mut node, &mut goals, *ending)
+            }
+            Plays::Waking => {
+                play_waking(
+                    rt,
+                    port,
+                    &mut waking_clocks(rt)?,
+                    &mut node,
+                    &mut goals[..1],
+                )
+            }
+        }
+    }
+}
+
+fn play_each<R: Abort + AllocGlobal + time::Clock>(
+    rt: &R,
+    rows: &'static [Turns],
+) -> Result<(), Fail> {
+    for turns in rows {
+        let given = given_in(rt, turns.turns)?;
+        let moments = moments_in(rt, turns.turns)?;
+        let plays = Plays::Turns(turns);
+        play_on(rt, given.as_slice(), moments.as_slice(), &plays)?;
+    }
     Ok(())
 }
 
 #[test]
-fn a_host_that_slept_rests_and_asks_anew(rt: HostRuntime) -> Result<(), Fail> {
-    let mut given = Vec::new(rt.alloc());
-    let mut steady = Vec::new(rt.alloc());
-    let mut days = Vec::new(rt.alloc());
-    for (moments, day, row, _) in &WAKING {
-        given.push(*row)?;
-        steady.extend_from_slice(moments)?;
-        days.push(*day)?;
+fn what_a_host_tells_and_sends(rt: HostRuntime) -> Result<(), Fail> {
+    play_each(&rt, ROWS)
+}
+
+#[test]
+fn a_server_grants_all_of_a_list(rt: HostRuntime) -> Result<(), Fail> {
+    play_on(&rt, &[], &[60_000], &Plays::Grants)
+}
+
+fn play_endings<R: Abort + AllocGlobal + time::Clock>(
+    rt: &R,
+    endings: &'static [Ending],
+) -> Result<(), Fail> {
+    for ending in endings {
+        play_on(rt, &BOTH_ASKED, &[4_000], &Plays::Ending(ending))?;
     }
-    let mut port = port(&rt, given.as_slice())?;
-    let mut clocks = Clocks {
-        steady: clock(&rt, steady.as_slice())?,
-        day: clock(&rt, days.as_slice())?,
-    };
-    play_waking(&rt, &mut port, &mut clocks, &mut [fred()?])?;
-    expect_sent(&rt, &port, &[ASK, ANSWER, ASK])
+    Ok(())
+}
+
+#[test]
+fn names_are_given_back_and_which_were_confirmed_is_said(rt: HostRuntime) -> Result<(), Fail> {
+    play_endings(&rt, ENDINGS)
+}
+
+#[test]
+fn a_host_that_slept_rests_and_asks_anew(rt: HostRuntime) -> Result<(), Fail> {
+    let given = waking_given(&rt)?;
+    play_on(&rt, given.as_slice(), &[], &Plays::Waking)
 }

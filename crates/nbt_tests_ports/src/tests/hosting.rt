@@ -2,6 +2,7 @@
 //! lease 60 s, which is held for 59,878 ms, all started at 0, when it was 2026-11-24T09:11:03Z.
 
 use super::expect::{expect, expect_eq, expect_eq_in};
+use super::stage::{Scene, play_on};
 use nbt_client::Want;
 use nbt_host::{
     Clocks, Event, Goal, HostArguments, News, Refusal, Stage, host_over, run_host, write_begin,
@@ -9,7 +10,8 @@ use nbt_host::{
 };
 use nbt_name::{Addr, Kind, Name};
 use nbt_port::{Fault, MemoryClock, MemoryPort, Port, UdpPort};
-use nbt_testing::{Row, clock, config, expect_sent, moment, port};
+use nbt_server::Server;
+use nbt_testing::{Row, clock, config, expect_sent, moment};
 use std::process::Abort;
 use std::test::Fail;
 use std::time;
@@ -79,40 +81,46 @@ fn arguments<R: AllocGlobal>(
     })
 }
 
-/// The clocks of the machine: both are read at first, at 0. The steady one is read twice at a turn's beginning, at both moments of the
-/// turn, and after it; the time of day once a turn.
+/// What the steady clock tells: it is read at first, at 0, twice at a turn's beginning, at both moments of the turn, and after it.
+fn steady_in<R: AllocGlobal>(rt: &R, turns: &[Turn], end: &[u64]) -> Result<Vec<u64>, Fail> {
+    let mut steady = Vec::new(rt.alloc());
+    steady.extend_from_slice(&[0, 0])?;
+    for (first, second, _, _) in turns {
+        steady.extend_from_slice(&[*first, *first, *first, *second, *second])?;
+    }
+    steady.extend_from_slice(end)?;
+    Ok(steady)
+}
+
+/// The times of day: it is read at first, and once a turn.
+fn days_in<R: AllocGlobal>(rt: &R, turns: &[Turn]) -> Result<Vec<u64>, Fail> {
+    let mut days = Vec::new(rt.alloc());
+    days.push(DAY)?;
+    for (first, _, set, _) in turns {
+        days.push(DAY.saturating_add(*first).saturating_add(*set))?;
+    }
+    Ok(days)
+}
+
+/// The clocks of the machine.
 fn clocks<R: AllocGlobal>(
     rt: &R,
     turns: &[Turn],
     end: &[u64],
 ) -> Result<Clocks<MemoryClock, MemoryClock>, Fail> {
-    let mut steady = Vec::new(rt.alloc());
-    let mut days = Vec::new(rt.alloc());
-    steady.extend_from_slice(&[0, 0])?;
-    days.push(DAY)?;
-    for (first, second, set, _) in turns {
-        steady.extend_from_slice(&[*first, *first, *first, *second, *second])?;
-        days.push(DAY.saturating_add(*first).saturating_add(*set))?;
-    }
-    steady.extend_from_slice(end)?;
-    Ok(Clocks {
-        steady: clock(rt, steady.as_slice())?,
-        day: clock(rt, days.as_slice())?,
-    })
+    let steady = clock(rt, steady_in(rt, turns, end)?.as_slice())?;
+    let day = clock(rt, days_in(rt, turns)?.as_slice())?;
+    Ok(Clocks { steady, day })
 }
 
 /// What comes in the turns, and while the names are given back.
-fn port_of<R: AllocGlobal>(rt: &R, row: &Hosted) -> Result<MemoryPort, Fail> {
+fn given_in<R: AllocGlobal>(rt: &R, turns: &[Turn], given: &[Row]) -> Result<Vec<Row>, Fail> {
     let mut rows = Vec::new(rt.alloc());
-    for (_, _, _, came) in row.turns {
+    for (_, _, _, came) in turns {
         rows.push(*came)?;
     }
-    rows.extend_from_slice(row.given)?;
-    let mut port = port(rt, rows.as_slice())?;
-    if let Some(calls) = row.fails_after {
-        port.fail_after(calls);
-    }
-    Ok(port)
+    rows.extend_from_slice(given)?;
+    Ok(rows)
 }
 
 /// `host_over` at a port of which few calls have failed.
@@ -139,15 +147,29 @@ fn run<R: Abort + AllocGlobal + time::Clock>(
     expect_eq(rt, &str::from_utf8(printed.as_slice())?, &row.printed);
     expect_eq(rt, &str::from_utf8(errors.as_slice())?, &row.errors);
     expect_eq_in(rt, &row.printed, &all, &row.all);
-    Ok(())
+    expect_sent(rt, port, row.sent)
 }
 
-fn play<R: Abort + AllocGlobal + time::Clock>(rt: &R, row: &Hosted) -> Result<(), Fail> {
-    let arguments = arguments(rt, row.wants, row.time, row.log)?;
-    let mut port = port_of(rt, row)?;
-    let clocks = clocks(rt, row.turns, row.end)?;
-    run(rt, &mut port, clocks, &arguments, row)?;
-    expect_sent(rt, &port, row.sent)
+impl Scene for Hosted {
+    fn play<R: Abort + AllocGlobal + time::Clock>(
+        &self,
+        rt: &R,
+        port: &mut MemoryPort,
+        _: &mut MemoryClock,
+        _: &mut Server,
+    ) -> Result<(), Fail> {
+        if let Some(calls) = self.fails_after {
+            port.fail_after(calls);
+        }
+        let arguments = arguments(rt, self.wants, self.time, self.log)?;
+        run(
+            rt,
+            port,
+            clocks(rt, self.turns, self.end)?,
+            &arguments,
+            self,
+        )
+    }
 }
 
 const FRED: (&[u8; 16], Kind) = (b"FRED            ", Kind::Unique);
@@ -490,48 +512,91 @@ const ROWS: &[Hosted] = &[
     FAILING_AT_THE_END,
 ];
 
-#[test]
-fn hosts_and_their_lines(rt: HostRuntime) -> Result<(), Fail> {
-    for row in ROWS {
-        play(&rt, row)?;
+/// How many octets the output takes, and what stands in it when the next one is refused. The host is the one whose give-back is not
+/// confirmed.
+struct Short {
+    room: usize,
+    printed: &'static str,
+}
+
+const ROOMS: &[Short] = &[
+    Short {
+        room: 8,
+        printed: "host 127",
+    },
+    Short {
+        room: 60,
+        printed: "host 127.0.0.2:137 asks 127.0.0.1:137 for 1 name\n2026-11-24T",
+    },
+];
+
+/// `host_over` as in `run`, with such an output.
+fn run_short<R: Abort + AllocGlobal + time::Clock>(
+    rt: &R,
+    port: &mut MemoryPort,
+    clocks: Clocks<MemoryClock, MemoryClock>,
+    arguments: &HostArguments,
+    room: &mut [u8],
+    printed: &str,
+) {
+    let mut short = &mut *room;
+    let mut errors = Vec::new(rt.alloc());
+    expect(rt, port.failures() < 1 << 61);
+    let ended = host_over(
+        port,
+        clocks,
+        rt.alloc(),
+        HOST,
+        arguments,
+        rt,
+        &mut short,
+        &mut errors,
+    );
+    expect_eq(rt, &ended, &Err(Fault::Output));
+    expect(rt, errors.is_empty());
+    expect_eq(rt, &&*room, &printed.as_bytes());
+}
+
+impl Scene for Short {
+    fn play<R: Abort + AllocGlobal + time::Clock>(
+        &self,
+        rt: &R,
+        port: &mut MemoryPort,
+        _: &mut MemoryClock,
+        _: &mut Server,
+    ) -> Result<(), Fail> {
+        let mut octets = [0; 60];
+        let room = octets.get_mut(..self.room).ok_or("no room")?;
+        let arguments = arguments(rt, &[FRED], 4_000, false)?;
+        let clocks = clocks(rt, UNCONFIRMED.turns, &[])?;
+        run_short(rt, port, clocks, &arguments, room, self.printed);
+        Ok(())
+    }
+}
+
+fn play_hosted<R: Abort + AllocGlobal + time::Clock>(rt: &R, rows: &[Hosted]) -> Result<(), Fail> {
+    for row in rows {
+        let given = given_in(rt, row.turns, row.given)?;
+        play_on(rt, given.as_slice(), &[], row)?;
     }
     Ok(())
 }
 
-/// How many octets the output takes, and what stands in it when the next one is refused.
-const ROOMS: [(usize, &str); 2] = [
-    (8, "host 127"),
-    (
-        60,
-        "host 127.0.0.2:137 asks 127.0.0.1:137 for 1 name\n2026-11-24T",
-    ),
-];
+#[test]
+fn hosts_and_their_lines(rt: HostRuntime) -> Result<(), Fail> {
+    play_hosted(&rt, ROWS)
+}
+
+fn play_short<R: Abort + AllocGlobal + time::Clock>(rt: &R, rows: &[Short]) -> Result<(), Fail> {
+    for short in rows {
+        play_on(rt, &[GRANTED], &[], short)?;
+    }
+    Ok(())
+}
 
 #[test]
 fn a_line_that_can_not_be_written_ends_a_host(rt: HostRuntime) -> Result<(), Fail> {
-    for (room, printed) in ROOMS {
-        let arguments = arguments(&rt, &[FRED], 4_000, false)?;
-        let mut port = port_of(&rt, &UNCONFIRMED)?;
-        let clocks = clocks(&rt, UNCONFIRMED.turns, &[])?;
-        let mut octets = [0; 60];
-        let mut short = &mut octets[..room];
-        let mut errors = Vec::new(rt.alloc());
-        expect(&rt, port.failures() < 1 << 61);
-        let ended = host_over(
-            &mut port,
-            clocks,
-            rt.alloc(),
-            HOST,
-            &arguments,
-            &rt,
-            &mut short,
-            &mut errors,
-        );
-        expect_eq(&rt, &ended, &Err(Fault::Output));
-        expect_eq(&rt, &octets.get(..room), &Some(printed.as_bytes()));
-        expect(&rt, errors.is_empty());
-    }
-    Ok(())
+    play_short(&rt, ROOMS)
 }
 
 /// A host of this machine at a port that no other test has, which ends after its first turn.
@@ -548,31 +613,35 @@ fn arguments_here<R: AllocGlobal>(rt: &R, port: u16) -> Result<HostArguments, Fa
     Ok(arguments)
 }
 
-#[test]
-fn a_host_over_this_machine(rt: HostRuntime) -> Result<(), Fail> {
+/// Runs it. Returns how it ended, what it printed, and what it said of errors.
+fn run_here(rt: &HostRuntime, port: u16) -> Result<(Result<bool, Fault>, Vec<u8>, Vec<u8>), Fail> {
+    let arguments = arguments_here(rt, port)?;
     let mut printed = Vec::new(rt.alloc());
     let mut errors = Vec::new(rt.alloc());
-    let arguments = arguments_here(&rt, 20_181)?;
-    let all = run_host(&rt, rt.alloc(), &arguments, &mut printed, &mut errors);
-    expect_eq(&rt, &all, &Ok(false));
+    let all = run_host(rt, rt.alloc(), &arguments, &mut printed, &mut errors);
+    Ok((all, printed, errors))
+}
+
+/// The last line has a time of day, which no test can foresee.
+fn expect_not_held<R: Abort>(rt: &R, printed: &[u8]) -> Result<(), Fail> {
     let begin = b"host 127.42.23.4:20181 asks 127.42.23.4:20189 for 1 name\n".as_slice();
-    let rest = printed
-        .as_slice()
-        .strip_prefix(begin)
-        .ok_or("another line")?;
-    // The last line has a time of day, which no test can foresee.
-    expect(&rt, rest.ends_with(b"Z not held FRED#20\n"));
-    expect_eq(&rt, &rest.len(), &38);
-    expect(&rt, errors.is_empty());
+    let rest = printed.strip_prefix(begin).ok_or("another line")?;
+    expect(rt, rest.ends_with(b"Z not held FRED#20\n"));
+    expect_eq(rt, &rest.len(), &38);
     Ok(())
 }
 
 #[test]
+fn a_host_over_this_machine(rt: HostRuntime) -> Result<(), Fail> {
+    let (all, printed, errors) = run_here(&rt, 20_181)?;
+    expect_eq(&rt, &all, &Ok(false));
+    expect(&rt, errors.is_empty());
+    expect_not_held(&rt, printed.as_slice())
+}
+
+#[test]
 fn a_host_tells_the_port_that_it_got(rt: HostRuntime) -> Result<(), Fail> {
-    let mut printed = Vec::new(rt.alloc());
-    let mut errors = Vec::new(rt.alloc());
-    let arguments = arguments_here(&rt, 0)?;
-    let all = run_host(&rt, rt.alloc(), &arguments, &mut printed, &mut errors);
+    let (all, printed, _) = run_here(&rt, 0)?;
     expect_eq(&rt, &all, &Ok(false));
     expect(&rt, printed.as_slice().starts_with(b"host 127.42.23.4:"));
     expect(&rt, !printed.as_slice().starts_with(b"host 127.42.23.4:0 "));
@@ -581,17 +650,18 @@ fn a_host_tells_the_port_that_it_got(rt: HostRuntime) -> Result<(), Fail> {
 
 #[test]
 fn a_host_whose_port_can_not_be_had(rt: HostRuntime) -> Result<(), Fail> {
-    let arguments = arguments_here(&rt, 20_182)?;
-    let _taken = UdpPort::bind(&rt, arguments.bind)?;
-    let mut printed = Vec::new(rt.alloc());
-    let mut errors = Vec::new(rt.alloc());
-    let all = run_host(&rt, rt.alloc(), &arguments, &mut printed, &mut errors);
+    let taken = Addr {
+        ip: 0x7F2A1704,
+        port: 20_182,
+    };
+    let _taken = UdpPort::bind(&rt, taken)?;
+    let (all, printed, errors) = run_here(&rt, 20_182)?;
     expect_eq(&rt, &all, &Err(Fault::NoPort));
     expect(&rt, printed.is_empty());
     expect_eq(
         &rt,
-        &str::from_utf8(errors.as_slice())?,
-        &"nbt: 127.42.23.4:20182: Address already in use (os error 98)\n",
+        &errors.as_slice(),
+        &b"nbt: 127.42.23.4:20182: Address already in use (os error 98)\n".as_slice(),
     );
     Ok(())
 }
@@ -658,6 +728,14 @@ fn goal(stage: Stage, lapsed: bool, news: Option<News>, times: u8) -> Result<Goa
     Ok(goal)
 }
 
+/// The first line, the lines of a turn on a machine that slept, and those of the end.
+fn write_lines(goals: &[Goal], text: &mut String) -> Result<(), Fail> {
+    write_begin(HOST, SERVER, 0, text)?;
+    write_turn(SECOND, false, true, goals, text)?;
+    write_endings(SECOND, goals, text)?;
+    Ok(())
+}
+
 #[test]
 fn lines_of_a_turn_and_of_the_end(rt: HostRuntime) -> Result<(), Fail> {
     let goals = [
@@ -667,9 +745,7 @@ fn lines_of_a_turn_and_of_the_end(rt: HostRuntime) -> Result<(), Fail> {
         goal(Stage::Wanted, false, None, 1)?,
     ];
     let mut text = String::new(rt.alloc());
-    write_begin(HOST, SERVER, 0, &mut text)?;
-    write_turn(SECOND, false, true, &goals, &mut text)?;
-    write_endings(SECOND, &goals, &mut text)?;
+    write_lines(&goals, &mut text)?;
     expect_eq(
         &rt,
         &text.as_str(),

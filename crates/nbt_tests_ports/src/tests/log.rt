@@ -6,7 +6,7 @@ use arrayvec::ArrayVec;
 use nbt_lease::{Lease, Moment};
 use nbt_log::{Dates, Entry, Limiter, write_entry, write_leases, write_time};
 use nbt_name::{Addr, Kind, Name};
-use nbt_server::{Claim, Outcome, Refusal};
+use nbt_server::{Claim, Outcome, Refusal, Server};
 use nbt_testing::{GRANTED, QUERY, REFRESH, REGISTRATION, RELEASE, RIVAL, moment, octets, started};
 use nbt_text::parse_name;
 use std::process::Abort;
@@ -85,7 +85,9 @@ fn outcome_of(done: Done, claim: Claim) -> Outcome {
 }
 
 /// What was done, whose claim it is, and the line.
-const CLAIMED: [(Done, &str, Kind, u32, &str); 15] = [
+type Claimed = (Done, &'static str, Kind, u32, &'static str);
+
+const CLAIMED: &[Claimed] = &[
     (
         Done::Granted(60),
         "FRED",
@@ -200,13 +202,17 @@ fn expect_line<R: Abort + AllocGlobal>(
     Ok(())
 }
 
-#[test]
-fn a_line_for_each_outcome(rt: HostRuntime) -> Result<(), Fail> {
-    for (done, name, kind, addr, expected) in CLAIMED {
-        let entry = entry_of(68, outcome_of(done, claim_of(name, kind, addr)?));
-        expect_line(&rt, &entry, 0, expected)?;
+fn expect_lines<R: Abort + AllocGlobal>(rt: &R, rows: &[Claimed]) -> Result<(), Fail> {
+    for (done, name, kind, addr, expected) in rows {
+        let entry = entry_of(68, outcome_of(*done, claim_of(name, *kind, *addr)?));
+        expect_line(rt, &entry, 0, expected)?;
     }
     Ok(())
+}
+
+#[test]
+fn a_line_for_each_outcome(rt: HostRuntime) -> Result<(), Fail> {
+    expect_lines(&rt, CLAIMED)
 }
 
 /// What was no request, how many octets it had, how many lines were left out, and the line.
@@ -262,9 +268,11 @@ const STAR_NAME: &str = "hex:2a000000000000000000000000000000";
 
 const TEAM: &str = "0001 2900 two-parts TEAM NB again NB 60s unique 127.0.0.3";
 
-/// Datagrams to a server with room for one row that speaks from 60,000 on: when each comes, from which address, its octets as
-/// words, the name and the address that it is about, and what the server does.
-const HANDLED: [(u64, u32, &str, &str, u32, Done); 18] = [
+/// When a datagram comes, from which address, its octets as words, the name and the address that it is about, and what the server does.
+type Handled = (u64, u32, &'static str, &'static str, u32, Done);
+
+/// Datagrams to a server with room for one row that speaks from 60,000 on.
+const HANDLED: &[Handled] = &[
     (59_999, OWNER, REGISTRATION, "FRED", OWNER, Done::Silent),
     (59_999, OWNER, QUERY, "FRED", OWNER, Done::Silent),
     (59_999, OWNER, GRANTED, "FRED", OWNER, Done::ForNodes),
@@ -341,18 +349,37 @@ const HANDLED: [(u64, u32, &str, &str, u32, Done); 18] = [
     (60_500, OTHER, QUERY, "FRED", OWNER, Done::NotFound),
 ];
 
+fn expect_handled<R: Abort + AllocGlobal>(
+    rt: &R,
+    server: &mut Server,
+    reply: &mut ArrayVec<u8, 576>,
+    (at, ip, words, name, addr, done): &Handled,
+) -> Result<(), Fail> {
+    let from = Addr { ip: *ip, port: 137 };
+    let now = moment(*at)?;
+    let expected = outcome_of(*done, claim_of(name, Kind::Unique, *addr)?);
+    let given = octets(rt, words)?;
+    let outcome = server.handle(now, from, given.as_slice(), reply)?;
+    expect_eq_in(rt, words, &outcome, &expected);
+    Ok(())
+}
+
+fn expect_all_handled<R: Abort + AllocGlobal>(
+    rt: &R,
+    server: &mut Server,
+    reply: &mut ArrayVec<u8, 576>,
+    rows: &[Handled],
+) -> Result<(), Fail> {
+    for row in rows {
+        expect_handled(rt, server, reply, row)?;
+    }
+    Ok(())
+}
+
 #[test]
 fn what_a_server_did(rt: HostRuntime) -> Result<(), Fail> {
     let mut server = started(&rt, 1, 0)?;
-    let mut reply = ArrayVec::new();
-    for (at, ip, words, name, addr, done) in HANDLED {
-        let given = octets(&rt, words)?;
-        let from = Addr { ip, port: 137 };
-        let expected = outcome_of(done, claim_of(name, Kind::Unique, addr)?);
-        let outcome = server.handle(moment(at)?, from, given.as_slice(), &mut reply)?;
-        expect_eq_in(&rt, &words, &outcome, &expected);
-    }
-    Ok(())
+    expect_all_handled(&rt, &mut server, &mut ArrayVec::new(), HANDLED)
 }
 
 fn named(text: &str) -> Result<Name, Fail> {
@@ -404,26 +431,44 @@ fn lease(addr: u32, kind: Kind, end: u64) -> Lease {
     Lease { addr, kind, end }
 }
 
-#[test]
-fn the_list_of_live_leases(rt: HostRuntime) -> Result<(), Fail> {
-    let mut rows: Vec<(Name, Lease)> = Vec::new(rt.alloc());
-    rows.push((named("FRED")?, lease(0x7F000002, Kind::Unique, 11_999)))?;
-    rows.push((named("TEAM")?, lease(0xC0000207, Kind::Group, 12_000)))?;
+/// A name, its lease's address and kind, and the end of the lease.
+const LEASES: [(&str, u32, Kind, u64); 5] = [
+    ("FRED", 0x7F000002, Kind::Unique, 11_999),
+    ("TEAM", 0xC0000207, Kind::Group, 12_000),
     // Over: it ends now.
-    rows.push((named("TEAM")?, lease(0xC0000208, Kind::Group, 11_000)))?;
-    rows.push((named("NODEB.LAB.TEST")?, lease(0, Kind::Unique, 310_000)))?;
-    rows.push((
-        named("hex:46494c45522020202020202020202000")?,
-        lease(0x01020304, Kind::Unique, 11_001),
-    ))?;
+    ("TEAM", 0xC0000208, Kind::Group, 11_000),
+    ("NODEB.LAB.TEST", 0, Kind::Unique, 310_000),
+    (
+        "hex:46494c45522020202020202020202000",
+        0x01020304,
+        Kind::Unique,
+        11_001,
+    ),
+];
+
+fn leases<R: AllocGlobal>(rt: &R) -> Result<Vec<(Name, Lease)>, Fail> {
+    let mut rows = Vec::new(rt.alloc());
+    for (name, addr, kind, end) in &LEASES {
+        rows.push((named(name)?, lease(*addr, *kind, *end)))?;
+    }
+    Ok(rows)
+}
+
+fn expect_list<R: Abort + AllocGlobal>(rt: &R, rows: &[(Name, Lease)]) -> Result<(), Fail> {
+    let (dates, now) = (dates()?, moment(11_000)?);
     let mut text = String::from_str(rt.alloc(), "> ")?;
-    write_leases(&dates()?, moment(11_000)?, rows.as_slice(), &mut text)?;
+    write_leases(&dates, now, rows, &mut text)?;
     expect_eq(
-        &rt,
+        rt,
         &text.as_str(),
         &"> FRED#20 unique 127.0.0.2 2026-11-24T23:59:59Z\nTEAM#20 group 192.0.2.7 2026-11-25T00:00:00Z\nNODEB.LAB.TEST unique 0.0.0.0 2026-11-25T00:04:58Z\nFILER#00 unique 1.2.3.4 2026-11-24T23:59:59Z\n",
     );
     Ok(())
+}
+
+#[test]
+fn the_list_of_live_leases(rt: HostRuntime) -> Result<(), Fail> {
+    expect_list(&rt, leases(&rt)?.as_slice())
 }
 
 /// A moment and the time of day at it, and whether that dates moments anew: where it is more than two seconds from what was thought.

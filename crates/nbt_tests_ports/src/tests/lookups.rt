@@ -1,14 +1,17 @@
 //! Lookups of a node at 127.0.0.2 over a port in memory, at a server at 127.0.0.1.
 
 use super::expect::{expect, expect_eq, expect_eq_in};
+use super::stage::{Scene, play_on};
 use arrayvec::ArrayVec;
 use nbt_client::{Answer, Ending, Question, ask, look_up, patience_of};
 use nbt_name::{Addr, Name};
 use nbt_node::{LookupFault, Node};
-use nbt_port::{Fault, Port};
-use nbt_testing::{Row, clock, config, expect_sent, moment, octets, port};
+use nbt_port::{Fault, MemoryClock, MemoryPort, Port};
+use nbt_server::Server;
+use nbt_testing::{Row, config, expect_sent, moment, octets};
 use std::process::Abort;
 use std::test::Fail;
+use std::time;
 
 const SERVER: Addr = Addr {
     ip: 0x7F000001,
@@ -64,24 +67,21 @@ fn question(asks: &str) -> Result<Question, Fail> {
 
 /// Plays one lookup of a node that starts at 0. Where a reply ended it, the last datagram given is what is left in the
 /// buffer.
-fn play<R: Abort + AllocGlobal>(rt: &R, lookup: &Lookup) -> Result<(), Fail> {
-    let mut port = port(rt, lookup.given)?;
-    let mut clock = clock(rt, lookup.moments)?;
-    let mut node: Node<1> = Node::start(OWN, SERVER, config(16)?, moment(0)?);
-    let mut left = ArrayVec::new();
+fn see_lookup<R: Abort + AllocGlobal>(
+    rt: &R,
+    port: &mut MemoryPort,
+    clock: &mut MemoryClock,
+    node: &mut Node<1>,
+    left: &mut ArrayVec<u8, 2048>,
+    lookup: &Lookup,
+) -> Result<(), Fail> {
     expect(rt, port.failures() < 1 << 62);
     expect(rt, lookup.patience < 1 << 62);
-    let ending = look_up(
-        &mut port,
-        &mut clock,
-        &mut node,
-        &question(lookup.asks)?,
-        lookup.patience,
-        lookup.most,
-        &mut left,
-    )?;
+    let question = question(lookup.asks)?;
+    let (patience, most) = (lookup.patience, lookup.most);
+    let ending = look_up(port, clock, node, &question, patience, most, left)?;
     expect_eq(rt, &ending, &lookup.ending);
-    expect_sent(rt, &port, lookup.sent)?;
+    expect_sent(rt, port, lookup.sent)?;
     if ending == Ending::Told {
         let (_, words) = lookup.given.last().ok_or("nothing given")?;
         expect_eq_in(rt, &words, &left.as_slice(), &octets(rt, words)?.as_slice());
@@ -89,223 +89,270 @@ fn play<R: Abort + AllocGlobal>(rt: &R, lookup: &Lookup) -> Result<(), Fail> {
     Ok(())
 }
 
-#[test]
-fn lookups_that_are_told(rt: HostRuntime) -> Result<(), Fail> {
-    for told in &[
-        Lookup {
-            asks: "FRED",
-            moments: &[0, 0, 10],
-            given: &[(SERVER, FOUND)],
-            patience: 15_000,
-            most: 1_000,
-            ending: Ending::Told,
-            sent: &[(SERVER, QUERY)],
-        },
-        Lookup {
-            asks: "FRED",
-            moments: &[0, 0, 10],
-            given: &[(SERVER, NOT_FOUND)],
-            patience: 15_000,
-            most: 1,
-            ending: Ending::Told,
-            sent: &[(SERVER, QUERY)],
-        },
-        // Another id, another end, a status request and another message end nothing.
-        Lookup {
-            asks: "FRED",
-            moments: &[0, 0, 10, 10, 20, 20, 30, 30, 40, 40, 50],
-            given: &[
-                (SERVER, FOUND_BY_ANOTHER_ID),
-                (PEER, FOUND),
-                (PEER, STATUS_REQUEST),
-                (SERVER, STATUS),
-                (SERVER, FOUND),
-            ],
-            patience: 15_000,
-            most: 1_000,
-            ending: Ending::Told,
-            sent: &[(SERVER, QUERY)],
-        },
-        // Asked again after 5 s.
-        Lookup {
-            asks: "names",
-            moments: &[0, 0, 4_999, 5_000, 5_010],
-            given: &[(PEER, ""), (PEER, STATUS)],
-            patience: 15_000,
-            most: 1_000,
-            ending: Ending::Told,
-            sent: &[(PEER, STATUS_REQUEST), (PEER, STATUS_REQUEST)],
-        },
-    ] {
-        play(&rt, told)?;
+impl Scene for Lookup {
+    fn play<R: Abort + AllocGlobal + time::Clock>(
+        &self,
+        rt: &R,
+        port: &mut MemoryPort,
+        clock: &mut MemoryClock,
+        _: &mut Server,
+    ) -> Result<(), Fail> {
+        let (limits, start) = (config(16)?, moment(0)?);
+        let mut node = Node::start(OWN, SERVER, limits, start);
+        see_lookup(rt, port, clock, &mut node, &mut ArrayVec::new(), self)
+    }
+}
+
+/// Lookups that are told.
+const TOLD: &[Lookup] = &[
+    Lookup {
+        asks: "FRED",
+        moments: &[0, 0, 10],
+        given: &[(SERVER, FOUND)],
+        patience: 15_000,
+        most: 1_000,
+        ending: Ending::Told,
+        sent: &[(SERVER, QUERY)],
+    },
+    Lookup {
+        asks: "FRED",
+        moments: &[0, 0, 10],
+        given: &[(SERVER, NOT_FOUND)],
+        patience: 15_000,
+        most: 1,
+        ending: Ending::Told,
+        sent: &[(SERVER, QUERY)],
+    },
+    // Another id, another end, a status request and another message end nothing.
+    Lookup {
+        asks: "FRED",
+        moments: &[0, 0, 10, 10, 20, 20, 30, 30, 40, 40, 50],
+        given: &[
+            (SERVER, FOUND_BY_ANOTHER_ID),
+            (PEER, FOUND),
+            (PEER, STATUS_REQUEST),
+            (SERVER, STATUS),
+            (SERVER, FOUND),
+        ],
+        patience: 15_000,
+        most: 1_000,
+        ending: Ending::Told,
+        sent: &[(SERVER, QUERY)],
+    },
+    // Asked again after 5 s.
+    Lookup {
+        asks: "names",
+        moments: &[0, 0, 4_999, 5_000, 5_010],
+        given: &[(PEER, ""), (PEER, STATUS)],
+        patience: 15_000,
+        most: 1_000,
+        ending: Ending::Told,
+        sent: &[(PEER, STATUS_REQUEST), (PEER, STATUS_REQUEST)],
+    },
+];
+
+/// Lookups that are not.
+const UNTOLD: &[Lookup] = &[
+    // Three tries of 5 s.
+    Lookup {
+        asks: "FRED",
+        moments: &[
+            0, 0, 0, 5_000, 5_000, 10_000, 10_000, 14_999, 14_999, 15_000,
+        ],
+        given: &[],
+        patience: 60_000,
+        most: 1_000,
+        ending: Ending::NoReply,
+        sent: &[(SERVER, QUERY), (SERVER, QUERY), (SERVER, QUERY)],
+    },
+    // One try: the second would be sent at the limit.
+    Lookup {
+        asks: "FRED",
+        moments: &[0, 0, 0, 4_999, 4_999, 5_000],
+        given: &[(SERVER, ""), (SERVER, ""), (SERVER, FOUND)],
+        patience: 5_000,
+        most: 1_000,
+        ending: Ending::NoReply,
+        sent: &[(SERVER, QUERY)],
+    },
+    Lookup {
+        asks: "FRED",
+        moments: &[0, 0, 10],
+        given: &[(SERVER, FOUND_BY_ANOTHER_ID), (SERVER, FOUND)],
+        patience: 15_000,
+        most: 1,
+        ending: Ending::NoReply,
+        sent: &[(SERVER, QUERY)],
+    },
+    Lookup {
+        asks: "*",
+        moments: &[0],
+        given: &[],
+        patience: 15_000,
+        most: 1_000,
+        ending: Ending::Refused(LookupFault::BadName),
+        sent: &[],
+    },
+];
+
+fn play_lookups<R: Abort + AllocGlobal + time::Clock>(rt: &R, rows: &[Lookup]) -> Result<(), Fail> {
+    for lookup in rows {
+        play_on(rt, lookup.given, lookup.moments, lookup)?;
     }
     Ok(())
 }
 
 #[test]
-fn lookups_that_are_not(rt: HostRuntime) -> Result<(), Fail> {
-    for told in &[
-        // Three tries of 5 s.
-        Lookup {
-            asks: "FRED",
-            moments: &[
-                0, 0, 0, 5_000, 5_000, 10_000, 10_000, 14_999, 14_999, 15_000,
-            ],
-            given: &[],
-            patience: 60_000,
-            most: 1_000,
-            ending: Ending::NoReply,
-            sent: &[(SERVER, QUERY), (SERVER, QUERY), (SERVER, QUERY)],
-        },
-        // One try: the second would be sent at the limit.
-        Lookup {
-            asks: "FRED",
-            moments: &[0, 0, 0, 4_999, 4_999, 5_000],
-            given: &[(SERVER, ""), (SERVER, ""), (SERVER, FOUND)],
-            patience: 5_000,
-            most: 1_000,
-            ending: Ending::NoReply,
-            sent: &[(SERVER, QUERY)],
-        },
-        Lookup {
-            asks: "FRED",
-            moments: &[0, 0, 10],
-            given: &[(SERVER, FOUND_BY_ANOTHER_ID), (SERVER, FOUND)],
-            patience: 15_000,
-            most: 1,
-            ending: Ending::NoReply,
-            sent: &[(SERVER, QUERY)],
-        },
-        Lookup {
-            asks: "*",
-            moments: &[0],
-            given: &[],
-            patience: 15_000,
-            most: 1_000,
-            ending: Ending::Refused(LookupFault::BadName),
-            sent: &[],
-        },
-    ] {
-        play(&rt, told)?;
-    }
-    Ok(())
+fn lookups(rt: HostRuntime) -> Result<(), Fail> {
+    play_lookups(&rt, TOLD)?;
+    play_lookups(&rt, UNTOLD)
 }
 
-/// One question as a command asks it: the moments that the clock tells, what the port hands out, for how long it waits, and what is
-/// told.
+/// One question as a command asks it: the moments that the clock tells, what the port hands out, the call of the port that fails, for
+/// how long it waits, and what is told.
 struct Asked {
     asks: &'static str,
     moments: &'static [u64],
     given: &'static [Row],
+    fails_after: Option<u64>,
     patience: u32,
-    answer: Answer,
+    answer: Result<Answer, Fault>,
     text: &'static str,
     sent: &'static [Row],
 }
 
-fn play_asked<R: Abort + AllocGlobal>(rt: &R, asked: &Asked) -> Result<(), Fail> {
-    let mut port = port(rt, asked.given)?;
-    let mut clock = clock(rt, asked.moments)?;
-    let mut text = String::from_str(rt.alloc(), "> ")?;
+fn see_asked<R: Abort + AllocGlobal>(
+    rt: &R,
+    port: &mut MemoryPort,
+    clock: &mut MemoryClock,
+    text: &mut String,
+    asked: &Asked,
+) -> Result<(), Fail> {
+    let failures = match asked.fails_after {
+        Some(calls) => {
+            port.fail_after(calls);
+            1
+        }
+        None => 0,
+    };
     expect(rt, port.failures() < 1 << 62);
-    let answer = ask(
-        &mut port,
-        &mut clock,
-        OWN,
-        &question(asked.asks)?,
-        asked.patience,
-        &mut text,
-    )?;
+    let question = question(asked.asks)?;
+    let answer = ask(port, clock, OWN, &question, asked.patience, text);
     expect_eq(rt, &answer, &asked.answer);
     expect_eq(rt, &text.as_str().strip_prefix("> "), &Some(asked.text));
-    expect_sent(rt, &port, asked.sent)
+    expect_eq(rt, &port.failures(), &failures);
+    expect_sent(rt, port, asked.sent)
 }
 
-#[test]
-fn questions_as_commands_ask_them(rt: HostRuntime) -> Result<(), Fail> {
-    for asked in &[
-        Asked {
-            asks: "FRED",
-            moments: &[0, 0, 0, 10],
-            given: &[(SERVER, FOUND)],
-            patience: 15_000,
-            answer: Answer::Found,
-            text: "127.0.0.3 unique\n",
-            sent: &[(SERVER, QUERY)],
-        },
-        // Another end's reply is passed over.
-        Asked {
-            asks: "FRED",
-            moments: &[0, 0, 0, 10, 10, 20],
-            given: &[(PEER, FOUND), (SERVER, NOT_FOUND)],
-            patience: 15_000,
-            answer: Answer::NotFound,
-            text: "not found: no such name (3)\n",
-            sent: &[(SERVER, QUERY)],
-        },
-        Asked {
-            asks: "names",
-            moments: &[0, 0, 0, 10],
-            given: &[(PEER, STATUS_OF_FRED)],
-            patience: 15_000,
-            answer: Answer::Found,
-            text: "FRED#20 unique active  file server\n",
-            sent: &[(PEER, STATUS_REQUEST)],
-        },
-        // Two tries, and the reply comes too late.
-        Asked {
-            asks: "FRED",
-            moments: &[0, 0, 0, 5_000, 5_000, 10_000, 10_000],
-            given: &[(SERVER, ""), (SERVER, ""), (SERVER, FOUND)],
-            patience: 10_000,
-            answer: Answer::NoReply,
-            text: "no reply\n",
-            sent: &[(SERVER, QUERY), (SERVER, QUERY)],
-        },
-        // A server can't be asked for all names.
-        Asked {
-            asks: "*",
-            moments: &[0, 0],
-            given: &[],
-            patience: 15_000,
-            answer: Answer::NoReply,
-            text: "no reply\n",
-            sent: &[],
-        },
-    ] {
-        play_asked(&rt, asked)?;
+impl Scene for Asked {
+    fn play<R: Abort + AllocGlobal + time::Clock>(
+        &self,
+        rt: &R,
+        port: &mut MemoryPort,
+        clock: &mut MemoryClock,
+        _: &mut Server,
+    ) -> Result<(), Fail> {
+        let mut text = String::from_str(rt.alloc(), "> ")?;
+        see_asked(rt, port, clock, &mut text, self)
     }
-    for (answer, status) in [
-        (Answer::Found, 0),
-        (Answer::NotFound, 1),
-        (Answer::NoReply, 5),
-    ] {
-        expect_eq(&rt, &answer.status(), &status);
+}
+
+const ASKED: &[Asked] = &[
+    Asked {
+        asks: "FRED",
+        moments: &[0, 0, 0, 10],
+        given: &[(SERVER, FOUND)],
+        fails_after: None,
+        patience: 15_000,
+        answer: Ok(Answer::Found),
+        text: "127.0.0.3 unique\n",
+        sent: &[(SERVER, QUERY)],
+    },
+    // Another end's reply is passed over.
+    Asked {
+        asks: "FRED",
+        moments: &[0, 0, 0, 10, 10, 20],
+        given: &[(PEER, FOUND), (SERVER, NOT_FOUND)],
+        fails_after: None,
+        patience: 15_000,
+        answer: Ok(Answer::NotFound),
+        text: "not found: no such name (3)\n",
+        sent: &[(SERVER, QUERY)],
+    },
+    Asked {
+        asks: "names",
+        moments: &[0, 0, 0, 10],
+        given: &[(PEER, STATUS_OF_FRED)],
+        fails_after: None,
+        patience: 15_000,
+        answer: Ok(Answer::Found),
+        text: "FRED#20 unique active  file server\n",
+        sent: &[(PEER, STATUS_REQUEST)],
+    },
+    // Two tries, and the reply comes too late.
+    Asked {
+        asks: "FRED",
+        moments: &[0, 0, 0, 5_000, 5_000, 10_000, 10_000],
+        given: &[(SERVER, ""), (SERVER, ""), (SERVER, FOUND)],
+        fails_after: None,
+        patience: 10_000,
+        answer: Ok(Answer::NoReply),
+        text: "no reply\n",
+        sent: &[(SERVER, QUERY), (SERVER, QUERY)],
+    },
+    // A server can't be asked for all names.
+    Asked {
+        asks: "*",
+        moments: &[0, 0],
+        given: &[],
+        fails_after: None,
+        patience: 15_000,
+        answer: Ok(Answer::NoReply),
+        text: "no reply\n",
+        sent: &[],
+    },
+    // A call of the port fails: nothing is told.
+    Asked {
+        asks: "FRED",
+        moments: &[0],
+        given: &[(SERVER, FOUND)],
+        fails_after: Some(0),
+        patience: 15_000,
+        answer: Err(Fault::Device),
+        text: "",
+        sent: &[],
+    },
+    Asked {
+        asks: "FRED",
+        moments: &[0],
+        given: &[(SERVER, FOUND)],
+        fails_after: Some(1),
+        patience: 15_000,
+        answer: Err(Fault::Device),
+        text: "",
+        sent: &[(SERVER, QUERY)],
+    },
+];
+
+/// An answer, and the status with which a command ends.
+const STATUSES: [(Answer, u8); 3] = [
+    (Answer::Found, 0),
+    (Answer::NotFound, 1),
+    (Answer::NoReply, 5),
+];
+
+fn play_asked<R: Abort + AllocGlobal + time::Clock>(rt: &R, rows: &[Asked]) -> Result<(), Fail> {
+    for asked in rows {
+        play_on(rt, asked.given, asked.moments, asked)?;
     }
     Ok(())
 }
 
-/// A port whose call after so many fails: nothing is told.
 #[test]
-fn a_question_whose_port_fails(rt: HostRuntime) -> Result<(), Fail> {
-    for (calls, sent) in [(0, 0), (1, 1)] {
-        let mut port = port(&rt, &[(SERVER, FOUND)])?;
-        port.fail_after(calls);
-        let mut clock = clock(&rt, &[0])?;
-        let mut text = String::new(rt.alloc());
-        expect(&rt, port.failures() < 1 << 62);
-        let answer = ask(
-            &mut port,
-            &mut clock,
-            OWN,
-            &question("FRED")?,
-            15_000,
-            &mut text,
-        );
-        expect_eq(&rt, &answer, &Err(Fault::Device));
-        expect(&rt, text.is_empty());
-        expect_eq(&rt, &port.failures(), &1);
-        expect_eq(&rt, &port.sent().len(), &sent);
+fn questions_as_commands_ask_them(rt: HostRuntime) -> Result<(), Fail> {
+    play_asked(&rt, ASKED)?;
+    for (answer, status) in &STATUSES {
+        expect_eq(&rt, &answer.status(), &*status);
     }
     Ok(())
 }

@@ -2,6 +2,7 @@
 //! at 0. At its moment 60,000 it was 2026-11-24T09:12:03Z.
 
 use super::expect::{expect, expect_eq, expect_eq_in};
+use super::stage::{Scene, play_on};
 use nbt_lease::Config;
 use nbt_log::Dates;
 use nbt_name::Addr;
@@ -13,7 +14,7 @@ use nbt_port::{Fault, MemoryClock, MemoryPort, Port, UdpPort};
 use nbt_server::Server;
 use nbt_testing::{
     GRANTED, QUERY, REFRESH, REFUSED, REGISTRATION, RELEASE, RIVAL, Row, clock, config,
-    expect_sent, moment, port, started,
+    expect_sent, moment,
 };
 use std::io::Write;
 use std::process::Abort;
@@ -47,13 +48,13 @@ struct Watched {
     sent: &'static [Row],
 }
 
-/// What a watched server is made of.
+/// A watched server, and what it is given.
 #[derive(Drop)]
-struct Stage {
-    port: MemoryPort,
-    clock: MemoryClock,
-    server: Server,
-    journal: Journal<MemoryClock, MemoryPlace>,
+struct Stage<'a> {
+    port: &'a mut MemoryPort,
+    clock: &'a mut MemoryClock,
+    server: &'a mut Server,
+    journal: &'a mut Journal<MemoryClock, MemoryPlace>,
 }
 
 /// The moments that the clock tells: two of a turn in which something comes, one of another.
@@ -114,18 +115,6 @@ fn journal_of<R: AllocGlobal>(
     })
 }
 
-fn staged<R: AllocGlobal>(rt: &R, turns: &[Turn], logs: bool, lists: bool) -> Result<Stage, Fail> {
-    let clock = clock(rt, moments_of(rt, turns)?.as_slice())?;
-    let port = port(rt, rows_of(rt, turns)?.as_slice())?;
-    let journal = journal_of(rt, turns, logs, lists)?;
-    Ok(Stage {
-        port,
-        clock,
-        server: started(rt, 4096, 0)?,
-        journal,
-    })
-}
-
 /// Goes on up to a moment, and writes what it prints and what it says of errors.
 fn watch<R: Abort + time::Clock, W: Write>(
     rt: &R,
@@ -135,12 +124,13 @@ fn watch<R: Abort + time::Clock, W: Write>(
     errors: &mut Vec<u8>,
 ) -> Result<(), Fail> {
     expect(rt, stage.port.failures() <= 1 << 61);
+    let until = Some(moment(until)?);
     Ok(watch_on(
-        &mut stage.port,
-        &mut stage.clock,
-        &mut stage.server,
-        &mut stage.journal,
-        Some(moment(until)?),
+        stage.port,
+        stage.clock,
+        stage.server,
+        stage.journal,
+        until,
         rt,
         printed,
         errors,
@@ -187,14 +177,9 @@ fn expect_watched<R: Abort + AllocGlobal + time::Clock>(
     );
     expect(rt, errors.is_empty());
     if !row.lists.is_empty() {
-        expect_lists(rt, &stage.journal, row.lists)?;
+        expect_lists(rt, stage.journal, row.lists)?;
     }
-    expect_sent(rt, &stage.port, row.sent)
-}
-
-fn play<R: Abort + AllocGlobal + time::Clock>(rt: &R, row: &Watched) -> Result<(), Fail> {
-    let mut stage = staged(rt, row.turns, row.logs, !row.lists.is_empty())?;
-    expect_watched(rt, row, &mut stage)
+    expect_sent(rt, stage.port, row.sent)
 }
 
 const RELEASED: &str = "0002 b400 reply FRED NB 0s unique 127.0.0.2";
@@ -348,14 +333,6 @@ const WATCHED: &[Watched] = &[
     },
 ];
 
-#[test]
-fn watched_servers(rt: HostRuntime) -> Result<(), Fail> {
-    for row in WATCHED {
-        play(&rt, row)?;
-    }
-    Ok(())
-}
-
 /// Goes on up to a moment, and this is printed, and said of errors.
 fn expect_said<R: Abort + AllocGlobal + time::Clock>(
     rt: &R,
@@ -382,12 +359,7 @@ fn see_failed_port<R: Abort + AllocGlobal + time::Clock>(
         "2026-11-24T09:12:03Z granted FRED#20 127.0.0.2 unique 60 s\n",
         "nbt: the port failed; going on\nnbt: the port is well again after 1 failures in a row\n",
     )?;
-    expect_sent(rt, &stage.port, &[(FIRST, GRANTED)])
-}
-
-#[test]
-fn a_port_that_fails_is_said_and_passed_over(rt: HostRuntime) -> Result<(), Fail> {
-    see_failed_port(&rt, &mut staged(&rt, EACH, true, true)?)
+    expect_sent(rt, stage.port, &[(FIRST, GRANTED)])
 }
 
 /// Turns of a server whose place refuses the first two lists.
@@ -413,20 +385,13 @@ fn see_refused_lists<R: Abort + AllocGlobal + time::Clock>(
     rt: &R,
     stage: &mut Stage,
 ) -> Result<(), Fail> {
-    keep_refused(rt, &mut stage.journal, 2);
+    keep_refused(rt, stage.journal, 2);
     let said = "nbt: the list of leases can't be written: the place is full\n";
     expect_said(rt, stage, 61_500, "", said)?;
-    expect_lists(rt, &stage.journal, &[])?;
+    expect_lists(rt, stage.journal, &[])?;
     expect_said(rt, stage, 62_000, "", "")?;
     let list = "FRED#20 unique 127.0.0.2 2026-11-24T09:13:03Z\n";
-    expect_lists(rt, &stage.journal, &[list])
-}
-
-#[test]
-fn a_list_that_can_not_be_written_is_said_once_and_tried_again(
-    rt: HostRuntime,
-) -> Result<(), Fail> {
-    see_refused_lists(&rt, &mut staged(&rt, FULL, false, false)?)
+    expect_lists(rt, stage.journal, &[list])
 }
 
 fn see_full_log<R: Abort + AllocGlobal + time::Clock>(
@@ -441,12 +406,7 @@ fn see_full_log<R: Abort + AllocGlobal + time::Clock>(
         &errors.as_slice(),
         &b"nbt: the log can't be written: failed to write whole buffer\n".as_slice(),
     );
-    expect_sent(rt, &stage.port, ALL_SENT)
-}
-
-#[test]
-fn a_log_that_can_not_be_written_is_said_once_a_row(rt: HostRuntime) -> Result<(), Fail> {
-    see_full_log(&rt, &mut staged(&rt, EACH, true, true)?)
+    expect_sent(rt, stage.port, ALL_SENT)
 }
 
 /// A writer that counts what was written, and what of it was flushed.
@@ -497,22 +457,142 @@ fn see_flushed<R: Abort + AllocGlobal + time::Clock>(
     Ok(())
 }
 
+/// What is seen of a watched server.
+#[derive(Drop)]
+enum Seen {
+    Row(&'static Watched),
+    /// A port that fails is said and passed over.
+    FailedPort,
+    /// A list that can't be written is said once, and tried again.
+    RefusedLists,
+    /// A log that can't be written is said once a row.
+    FullLog,
+    /// All that is printed is flushed.
+    Flushed,
+}
+
+fn see<R: Abort + AllocGlobal + time::Clock>(
+    rt: &R,
+    stage: &mut Stage,
+    seen: &Seen,
+) -> Result<(), Fail> {
+    match seen {
+        Seen::Row(row) => expect_watched(rt, *row, stage),
+        Seen::FailedPort => see_failed_port(rt, stage),
+        Seen::RefusedLists => see_refused_lists(rt, stage),
+        Seen::FullLog => see_full_log(rt, stage),
+        Seen::Flushed => see_flushed(rt, stage),
+    }
+}
+
+/// A server that is watched over these turns, with a log, and with a list of leases in memory, where they are wanted.
+#[derive(Drop)]
+struct Watching {
+    turns: &'static [Turn],
+    logs: bool,
+    lists: bool,
+    seen: Seen,
+}
+
+impl Scene for Watching {
+    fn play<R: Abort + AllocGlobal + time::Clock>(
+        &self,
+        rt: &R,
+        port: &mut MemoryPort,
+        clock: &mut MemoryClock,
+        server: &mut Server,
+    ) -> Result<(), Fail> {
+        let mut journal = journal_of(rt, self.turns, self.logs, self.lists)?;
+        let mut stage = Stage {
+            port,
+            clock,
+            server,
+            journal: &mut journal,
+        };
+        see(rt, &mut stage, &self.seen)
+    }
+}
+
+fn play<R: Abort + AllocGlobal + time::Clock>(rt: &R, watching: &Watching) -> Result<(), Fail> {
+    let moments = moments_of(rt, watching.turns)?;
+    let rows = rows_of(rt, watching.turns)?;
+    play_on(rt, rows.as_slice(), moments.as_slice(), watching)
+}
+
+fn play_watched<R: Abort + AllocGlobal + time::Clock>(
+    rt: &R,
+    rows: &'static [Watched],
+) -> Result<(), Fail> {
+    for row in rows {
+        let watching = Watching {
+            turns: row.turns,
+            logs: row.logs,
+            lists: !row.lists.is_empty(),
+            seen: Seen::Row(row),
+        };
+        play(rt, &watching)?;
+    }
+    Ok(())
+}
+
+/// What a watched server can't have, or write; and that it flushes.
+const OTHERS: &[Watching] = &[
+    Watching {
+        turns: EACH,
+        logs: true,
+        lists: true,
+        seen: Seen::FailedPort,
+    },
+    Watching {
+        turns: FULL,
+        logs: false,
+        lists: false,
+        seen: Seen::RefusedLists,
+    },
+    Watching {
+        turns: EACH,
+        logs: true,
+        lists: true,
+        seen: Seen::FullLog,
+    },
+    Watching {
+        turns: EACH,
+        logs: true,
+        lists: false,
+        seen: Seen::Flushed,
+    },
+];
+
+fn play_others<R: Abort + AllocGlobal + time::Clock>(
+    rt: &R,
+    rows: &[Watching],
+) -> Result<(), Fail> {
+    for watching in rows {
+        play(rt, watching)?;
+    }
+    Ok(())
+}
+
 #[test]
-fn all_that_is_printed_is_flushed(rt: HostRuntime) -> Result<(), Fail> {
-    see_flushed(&rt, &mut staged(&rt, EACH, true, false)?)
+fn watched_servers(rt: HostRuntime) -> Result<(), Fail> {
+    play_others(&rt, OTHERS)?;
+    play_watched(&rt, WATCHED)
+}
+
+fn see_texts<R: Abort>(rt: &R, place: &mut MemoryPlace) -> Result<(), Fail> {
+    place.replace("one")?;
+    place.refuse(1);
+    expect(rt, place.replace("two").is_err());
+    place.replace("three")?;
+    expect(rt, place.texts().len() == 2);
+    expect_eq(rt, &place.texts()[0].as_str(), &"one");
+    expect_eq(rt, &place.texts()[1].as_str(), &"three");
+    Ok(())
 }
 
 #[test]
 fn a_place_in_memory_keeps_each_text(rt: HostRuntime) -> Result<(), Fail> {
-    let mut place = MemoryPlace::new(rt.alloc());
-    place.replace("one")?;
-    place.refuse(1);
-    expect(&rt, place.replace("two").is_err());
-    place.replace("three")?;
-    expect(&rt, place.texts().len() == 2);
-    expect_eq(&rt, &place.texts()[0].as_str(), &"one");
-    expect_eq(&rt, &place.texts()[1].as_str(), &"three");
-    Ok(())
+    see_texts(&rt, &mut MemoryPlace::new(rt.alloc()))
 }
 
 /// A path in the folder for temporary files that no other test has.
@@ -708,13 +788,18 @@ fn longest_leases_that_are_too_short_or_long(rt: HostRuntime) -> Result<(), Fail
     Ok(())
 }
 
+fn write_first(text: &mut String) -> Result<(), Fail> {
+    write_begin(FIRST, 300, 1_795_511_823, text)?;
+    write_refusal(Config::new(1_500, 20, 1)?, text)?;
+    text.push_str("\n")?;
+    write_warning(Config::new(1_000, 7_200, 1)?, text)?;
+    Ok(())
+}
+
 #[test]
 fn what_is_said_at_first(rt: HostRuntime) -> Result<(), Fail> {
     let mut text = String::new(rt.alloc());
-    write_begin(FIRST, 300, 1_795_511_823, &mut text)?;
-    write_refusal(Config::new(1_500, 20, 1)?, &mut text)?;
-    text.push_str("\n")?;
-    write_warning(Config::new(1_000, 7_200, 1)?, &mut text)?;
+    write_first(&mut text)?;
     expect_eq(
         &rt,
         &text.as_str(),

@@ -7,6 +7,7 @@ use nbt_port::{Clock, Device, MachineClock, Port, UdpPort};
 use nbt_testing::moment;
 use std::cell::Cell;
 use std::process::Abort;
+use std::rt::Net;
 use std::test::Fail;
 use std::time::Duration;
 use std::{io, time};
@@ -20,11 +21,6 @@ const THERE: Addr = Addr {
     ip: 0x7F2A1702,
     port: 20_137,
 };
-
-/// Two addresses of this machine, with a port that no other test has.
-fn pair(port: u16) -> [Addr; 2] {
-    [Addr { port, ..HERE }, Addr { port, ..THERE }]
-}
 
 /// These octets are sent.
 fn send<R: Abort>(rt: &R, port: &mut UdpPort, to: Addr, octets: &[u8]) -> Result<(), Device> {
@@ -42,46 +38,55 @@ fn receive<R: Abort>(
     port.receive(octets)
 }
 
-#[test]
-fn datagrams_go_over_udp(rt: HostRuntime) -> Result<(), Fail> {
-    let mut near = UdpPort::bind(&rt, HERE)?;
-    let mut far = UdpPort::bind(&rt, THERE)?;
-    expect(&rt, UdpPort::bind(&rt, HERE).is_err());
-    expect_eq(&rt, &near.local()?, &HERE);
-    expect_eq(&rt, &near.addr(), &HERE);
-    // For port 0 the machine chooses one.
-    let chosen = UdpPort::bind(&rt, Addr { port: 0, ..HERE })?.local()?;
-    expect_eq(&rt, &chosen.ip, &HERE.ip);
-    expect(&rt, chosen.port > 0);
-    let mut octets = ArrayVec::new();
-    send(&rt, &mut near, THERE, b"hello")?;
-    expect_eq(&rt, &receive(&rt, &mut far, &mut octets)?, &Some(HERE));
-    expect_eq(&rt, &octets.as_slice(), &b"hello".as_slice());
-    expect_eq(&rt, &receive(&rt, &mut far, &mut octets)?, &None);
-    expect_eq(&rt, &far.failures(), &0);
-    // There is no way to port 0: what is sent there is lost, and the device is well.
-    let nowhere = Addr { port: 0, ..THERE };
-    expect_eq(&rt, &send(&rt, &mut near, nowhere, b"hello"), &Ok(()));
-    expect_eq(&rt, &near.failures(), &0);
-    // The year is past 2001.
-    expect(&rt, MachineClock::new(&rt).now().get() > 1_000_000_000_000);
+/// For port 0 the machine chooses one.
+fn chosen<R: Net>(net: &R) -> Result<Addr, Fail> {
+    Ok(UdpPort::bind(net, Addr { port: 0, ..HERE })?.local()?)
+}
+
+/// What is sent comes, as these octets alone.
+fn expect_comes<R: Abort>(
+    rt: &R,
+    near: &mut UdpPort,
+    far: &mut UdpPort,
+    octets: &mut ArrayVec<u8, 2048>,
+    sent: &[u8],
+    taken: &[u8],
+) -> Result<(), Fail> {
+    send(rt, near, THERE, sent)?;
+    expect_eq(rt, &receive(rt, far, octets)?, &Some(HERE));
+    expect_eq_in(rt, &sent.len(), &octets.as_slice(), &taken);
     Ok(())
 }
 
-#[test]
-fn a_datagram_stands_alone_in_the_buffer(rt: HostRuntime) -> Result<(), Fail> {
-    let [here, there] = pair(20_138);
-    let mut near = UdpPort::bind(&rt, here)?;
-    let mut far = UdpPort::bind(&rt, there)?;
-    let mut octets = ArrayVec::new();
-    for sent in [b"the first".as_slice(), b"second", b"", b"3"] {
-        send(&rt, &mut near, there, sent)?;
-        expect_eq(&rt, &receive(&rt, &mut far, &mut octets)?, &Some(here));
-        expect_eq(&rt, &octets.as_slice(), &sent);
+/// Nothing comes, and nothing stands in the buffer.
+fn expect_nothing<R: Abort>(
+    rt: &R,
+    far: &mut UdpPort,
+    octets: &mut ArrayVec<u8, 2048>,
+) -> Result<(), Fail> {
+    expect_eq(rt, &receive(rt, far, octets)?, &None);
+    expect(rt, octets.is_empty());
+    expect_eq(rt, &far.failures(), &0);
+    Ok(())
+}
+
+/// There is no way to port 0: what is sent there is lost, and the device is well.
+fn expect_no_way<R: Abort>(rt: &R, near: &mut UdpPort) {
+    let nowhere = Addr { port: 0, ..THERE };
+    expect_eq(rt, &send(rt, near, nowhere, b"hello"), &Ok(()));
+    expect_eq(rt, &near.failures(), &0);
+}
+
+/// A datagram stands alone in the buffer.
+fn expect_alone<R: Abort>(
+    rt: &R,
+    near: &mut UdpPort,
+    far: &mut UdpPort,
+    octets: &mut ArrayVec<u8, 2048>,
+) -> Result<(), Fail> {
+    for sent in [b"hello".as_slice(), b"the first", b"second", b"", b"3"] {
+        expect_comes(rt, near, far, octets, sent, sent)?;
     }
-    // Nothing comes, and nothing stands there.
-    expect_eq(&rt, &receive(&rt, &mut far, &mut octets)?, &None);
-    expect(&rt, octets.is_empty());
     Ok(())
 }
 
@@ -105,56 +110,58 @@ fn counted<R: AllocGlobal>(rt: &R, count: usize) -> Result<Vec<u8>, Fail> {
     Ok(octets)
 }
 
-#[test]
-fn a_datagram_is_cut_at_2048_octets_alone(rt: HostRuntime) -> Result<(), Fail> {
-    let [here, there] = pair(20_139);
-    let mut near = UdpPort::bind(&rt, here)?;
-    let mut far = UdpPort::bind(&rt, there)?;
-    let mut octets = ArrayVec::new();
-    for (sent, taken) in LENGTHS {
-        send(&rt, &mut near, there, counted(&rt, sent)?.as_slice())?;
-        expect_eq_in(
-            &rt,
-            &sent,
-            &receive(&rt, &mut far, &mut octets)?,
-            &Some(here),
-        );
-        expect_eq_in(
-            &rt,
-            &sent,
-            &octets.as_slice(),
-            &counted(&rt, taken)?.as_slice(),
-        );
+/// A datagram is cut at 2,048 octets alone.
+fn expect_cut<R: Abort + AllocGlobal>(
+    rt: &R,
+    near: &mut UdpPort,
+    far: &mut UdpPort,
+    octets: &mut ArrayVec<u8, 2048>,
+) -> Result<(), Fail> {
+    for (sent, taken) in &LENGTHS {
+        let given = counted(rt, *sent)?;
+        let wanted = counted(rt, *taken)?;
+        expect_comes(rt, near, far, octets, given.as_slice(), wanted.as_slice())?;
     }
     Ok(())
 }
 
-#[test]
-fn a_datagram_that_udp_can_not_carry_is_a_failure(rt: HostRuntime) -> Result<(), Fail> {
-    let [here, there] = pair(20_140);
-    let mut near = UdpPort::bind(&rt, here)?;
-    let mut far = UdpPort::bind(&rt, there)?;
+/// A datagram that UDP can't carry is a failure.
+fn expect_failure<R: Abort>(rt: &R, near: &mut UdpPort, long: &[u8]) {
+    expect_eq(rt, &near.failures(), &0);
+    expect_eq(rt, &send(rt, near, THERE, long), &Err(Device));
+    expect_eq(rt, &near.failures(), &1);
+    expect_eq(rt, &send(rt, near, THERE, long), &Err(Device));
+    expect_eq(rt, &near.failures(), &2);
+}
+
+fn over_udp<R: Abort + AllocGlobal>(
+    rt: &R,
+    near: &mut UdpPort,
+    far: &mut UdpPort,
+    octets: &mut ArrayVec<u8, 2048>,
+) -> Result<(), Fail> {
+    expect_eq(rt, &near.local()?, &HERE);
+    expect_eq(rt, &near.addr(), &HERE);
+    expect_alone(rt, near, far, octets)?;
+    expect_nothing(rt, far, octets)?;
+    expect_no_way(rt, near);
+    expect_cut(rt, near, far, octets)?;
     // A datagram of IPv4 has 65,535 octets at most, of which 28 are headers (RFC 791, RFC 768).
-    let long = counted(&rt, 65_508)?;
-    expect_eq(
-        &rt,
-        &send(&rt, &mut near, there, long.as_slice()),
-        &Err(Device),
-    );
-    expect_eq(&rt, &near.failures(), &1);
-    expect_eq(
-        &rt,
-        &send(&rt, &mut near, there, long.as_slice()),
-        &Err(Device),
-    );
-    expect_eq(&rt, &near.failures(), &2);
+    expect_failure(rt, near, counted(rt, 65_508)?.as_slice());
     // What is sent after it comes.
-    let mut octets = ArrayVec::new();
-    send(&rt, &mut near, there, b"hello")?;
-    expect_eq(&rt, &receive(&rt, &mut far, &mut octets)?, &Some(here));
-    expect_eq(&rt, &octets.as_slice(), &b"hello".as_slice());
-    expect_eq(&rt, &far.failures(), &0);
-    Ok(())
+    expect_comes(rt, near, far, octets, b"hello", b"hello")?;
+    expect_nothing(rt, far, octets)
+}
+
+#[test]
+fn datagrams_go_over_udp(rt: HostRuntime) -> Result<(), Fail> {
+    let chosen = chosen(&rt)?;
+    expect_eq(&rt, &chosen.ip, &HERE.ip);
+    expect(&rt, chosen.port > 0);
+    let mut near = UdpPort::bind(&rt, HERE)?;
+    let mut far = UdpPort::bind(&rt, THERE)?;
+    expect(&rt, UdpPort::bind(&rt, HERE).is_err());
+    over_udp(&rt, &mut near, &mut far, &mut ArrayVec::new())
 }
 
 /// A machine whose clock shows these milliseconds, or can't be read.
@@ -188,6 +195,12 @@ const TIMES: [(Option<u64>, u64); 6] = [
     (Some(END), END),
     (Some(59_999), 59_999),
 ];
+
+#[test]
+fn the_clock_of_the_machine(rt: HostRuntime) {
+    // The year is past 2001.
+    expect(&rt, MachineClock::new(&rt).now().get() > 1_000_000_000_000);
+}
 
 #[test]
 fn a_clock_without_a_moment_tells_the_last_one_again(rt: HostRuntime) -> Result<(), Fail> {

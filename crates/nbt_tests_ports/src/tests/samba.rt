@@ -2,14 +2,16 @@
 //! life of a datagram is 1,000 ms, the longest lease 60 s, and the server started at 0.
 
 use super::expect::{expect, expect_eq, expect_eq_in, expect_in};
+use super::stage::{Scene, play_on};
 use arrayvec::ArrayVec;
 use nbt_name::Addr;
 use nbt_nbns::{Counts, SambaPort, serve_turns, take_registration};
-use nbt_port::{Device, MemoryClock, Port, UdpPort};
+use nbt_port::{Device, MemoryClock, MemoryPort, Port, UdpPort};
 use nbt_server::Server;
-use nbt_testing::{EVERY_KIND, clock, expect_sent, octets, port, started};
+use nbt_testing::{EVERY_KIND, expect_sent, octets, port as port_of};
 use std::process::Abort;
 use std::test::Fail;
+use std::{mem, time};
 
 /// What follows the flags in nmbd's registration of NODEB#20, and in the scope LAB.TEST.
 const NODEB: &str = "two-parts NODEB NB again NB 20s H-unique 198.18.137.2";
@@ -27,7 +29,7 @@ const FRED: &str = "two-parts FRED NB again NB 60s unique 127.0.0.2";
 const TEAM: &str = "two-parts TEAM NB again NB 60s group 127.0.0.2";
 
 /// What is taken: the id, the flags before and afterwards, and what follows them.
-const TAKEN: [(&str, &str, &str, &str); 13] = [
+const TAKEN: &[(&str, &str, &str, &str)] = &[
     // OPCODE 15 by nmbd, with a scope too; by a domain controller, with RD clear; and of a group.
     ("60f4", "7900", "2900", NODEB),
     ("61db", "7900", "2900", NODEB_IN_LAB),
@@ -63,7 +65,7 @@ const TAKEN: [(&str, &str, &str, &str); 13] = [
 ];
 
 /// What isn't taken.
-const LEFT: [&str; 27] = [
+const LEFT: &[&str] = &[
     // OPCODE 15 of two entries, of none, and of a part of one.
     "0001 7900 two-parts FRED NB again NB 60s 000c 6000 127.0.0.2 6000 127.0.0.3",
     "0001 7900 two-parts TEAM NB again NB 60s 000c e000 127.0.0.2 e000 127.0.0.3",
@@ -118,34 +120,45 @@ fn expect_left<R: Abort + AllocGlobal>(rt: &R, given: &[u8], words: &str) -> Res
     Ok(())
 }
 
+/// These octets are taken by one octet.
+fn expect_taken_as<R: Abort + AllocGlobal>(
+    rt: &R,
+    (id, before, afterwards, tail): &(&str, &str, &str, &str),
+) -> Result<(), Fail> {
+    let mut taken = claim(rt, id, before, tail)?;
+    expect_in(rt, &tail, take_registration(taken.as_mut_slice()));
+    let wanted = claim(rt, id, afterwards, tail)?;
+    expect_eq_in(rt, &tail, &taken.as_slice(), &wanted.as_slice());
+    Ok(())
+}
+
+fn expect_all_taken<R: Abort + AllocGlobal>(
+    rt: &R,
+    rows: &[(&str, &str, &str, &str)],
+) -> Result<(), Fail> {
+    for row in rows {
+        expect_taken_as(rt, row)?;
+    }
+    Ok(())
+}
+
 #[test]
 fn registrations_of_other_forms_are_taken_by_one_octet(rt: HostRuntime) -> Result<(), Fail> {
-    for (id, before, afterwards, tail) in TAKEN {
-        let mut taken = claim(&rt, id, before, tail)?;
-        expect_in(
-            &rt,
-            &(before, tail),
-            take_registration(taken.as_mut_slice()),
-        );
-        expect_eq_in(
-            &rt,
-            &(before, tail),
-            &taken.as_slice(),
-            &claim(&rt, id, afterwards, tail)?.as_slice(),
-        );
+    expect_all_taken(&rt, TAKEN)
+}
+
+fn expect_all_left<R: Abort + AllocGlobal>(rt: &R, list: &[&str]) -> Result<(), Fail> {
+    for words in list {
+        let given = octets(rt, words)?;
+        expect_left(rt, given.as_slice(), words)?;
     }
     Ok(())
 }
 
 #[test]
 fn all_else_is_left_as_it_is(rt: HostRuntime) -> Result<(), Fail> {
-    for words in LEFT {
-        expect_left(&rt, octets(&rt, words)?.as_slice(), words)?;
-    }
-    for words in EVERY_KIND {
-        expect_left(&rt, octets(&rt, words)?.as_slice(), words)?;
-    }
-    Ok(())
+    expect_all_left(&rt, LEFT)?;
+    expect_all_left(&rt, &EVERY_KIND)
 }
 
 #[test]
@@ -239,45 +252,88 @@ fn serve<R: Abort, P: Port>(
     serve_turns(port, clock, server, 9)
 }
 
+/// A server over the port grants what Samba registers.
+fn expect_grants<R: Abort + AllocGlobal>(
+    rt: &R,
+    over: &mut SambaPort<MemoryPort>,
+    clock: &mut MemoryClock,
+    server: &mut Server,
+) -> Result<(), Fail> {
+    let counts = serve(rt, over, clock, server)?;
+    expect_eq(rt, &counts.receives, &9);
+    expect_eq(rt, &counts.replies, &7);
+    expect_sent(rt, over.beneath(), &REPLIES)
+}
+
+/// A failure of the port beneath is a failure.
+fn expect_failure<R: Abort>(
+    rt: &R,
+    over: &mut SambaPort<MemoryPort>,
+    clock: &mut MemoryClock,
+    server: &mut Server,
+    call: u64,
+) {
+    let served = serve(rt, over, clock, server);
+    expect_eq_in(rt, &call, &served, &Err(Device));
+    expect_eq_in(rt, &call, &over.failures(), &1);
+    expect_eq_in(rt, &call, &over.beneath().failures(), &1);
+    expect_in(rt, &call, over.beneath().sent().is_empty());
+}
+
+/// A server over a port over the one that is given, of which this call fails.
+#[derive(Drop)]
+struct Over {
+    fails_after: Option<u64>,
+}
+
+impl Scene for Over {
+    fn play<R: Abort + AllocGlobal + time::Clock>(
+        &self,
+        rt: &R,
+        port: &mut MemoryPort,
+        clock: &mut MemoryClock,
+        server: &mut Server,
+    ) -> Result<(), Fail> {
+        if let Some(call) = self.fails_after {
+            port.fail_after(call);
+        }
+        let silent = port_of(rt, &[])?;
+        let mut over = SambaPort::new(mem::replace(port, silent));
+        match self.fails_after {
+            None => expect_grants(rt, &mut over, clock, server),
+            Some(call) => {
+                expect_failure(rt, &mut over, clock, server, call);
+                Ok(())
+            }
+        }
+    }
+}
+
+/// A server over the port beneath.
+struct Beneath;
+
+impl Scene for Beneath {
+    fn play<R: Abort + AllocGlobal + time::Clock>(
+        &self,
+        rt: &R,
+        port: &mut MemoryPort,
+        clock: &mut MemoryClock,
+        server: &mut Server,
+    ) -> Result<(), Fail> {
+        let counts = serve(rt, port, clock, server)?;
+        expect_eq(rt, &counts.replies, &4);
+        expect_sent(rt, port, &REPLIES_BENEATH)
+    }
+}
+
 #[test]
 fn a_server_over_the_port_grants_what_samba_registers(rt: HostRuntime) -> Result<(), Fail> {
-    let mut over = SambaPort::new(port(&rt, &COMES)?);
-    let mut clock = clock(&rt, &[60_000])?;
-    let counts = serve(&rt, &mut over, &mut clock, &mut started(&rt, 4096, 0)?)?;
-    expect_eq(&rt, &counts.receives, &9);
-    expect_eq(&rt, &counts.replies, &7);
-    expect_sent(&rt, over.beneath(), &REPLIES)
-}
-
-#[test]
-fn a_server_over_the_port_beneath_does_not(rt: HostRuntime) -> Result<(), Fail> {
-    let mut beneath = port(&rt, &COMES)?;
-    let mut clock = clock(&rt, &[60_000])?;
-    let counts = serve(&rt, &mut beneath, &mut clock, &mut started(&rt, 4096, 0)?)?;
-    expect_eq(&rt, &counts.replies, &4);
-    expect_sent(&rt, &beneath, &REPLIES_BENEATH)
-}
-
-/// The calls that fail, one at a time: the receive of the first datagram, and the send of the reply to it.
-#[test]
-fn a_failure_beneath_is_a_failure(rt: HostRuntime) -> Result<(), Fail> {
-    for call in 0..2 {
-        let mut beneath = port(&rt, &COMES)?;
-        beneath.fail_after(call);
-        let mut over = SambaPort::new(beneath);
-        let mut clock = clock(&rt, &[60_000])?;
-        let mut server = started(&rt, 4096, 0)?;
-        expect_eq_in(
-            &rt,
-            &call,
-            &serve(&rt, &mut over, &mut clock, &mut server),
-            &Err(Device),
-        );
-        expect_eq_in(&rt, &call, &over.failures(), &1);
-        expect_eq_in(&rt, &call, &over.beneath().failures(), &1);
-        expect_in(&rt, &call, over.beneath().sent().is_empty());
+    // The calls that fail, one at a time: the receive of the first datagram, and the send of the reply to it.
+    for fails_after in [None, Some(0), Some(1)] {
+        play_on(&rt, &COMES, &[60_000], &Over { fails_after })?;
     }
-    Ok(())
+    // A server over the port beneath does not.
+    play_on(&rt, &COMES, &[60_000], &Beneath)
 }
 
 /// Two ends of this machine, with a port that no other test has.
@@ -306,30 +362,44 @@ fn send<R: Abort, P: Port>(rt: &R, port: &mut P, octets: &[u8]) -> Result<(), De
     port.send(THERE, octets)
 }
 
-#[test]
-fn over_udp_too_and_the_cause_of_a_failure_is_known(rt: HostRuntime) -> Result<(), Fail> {
-    let mut near = SambaPort::new(UdpPort::bind(&rt, HERE)?);
-    let mut far = SambaPort::new(UdpPort::bind(&rt, THERE)?);
-    let mut came = ArrayVec::new();
-    // What is sent is sent as it is, and taken where it comes.
-    send(
-        &rt,
-        &mut near,
-        claim(&rt, "60f4", "7900", NODEB)?.as_slice(),
-    )?;
-    expect_eq(&rt, &receive(&rt, &mut far, &mut came)?, &Some(HERE));
-    expect_eq(
-        &rt,
-        &came.as_slice(),
-        &claim(&rt, "60f4", "2900", NODEB)?.as_slice(),
-    );
-    expect_eq(&rt, &receive(&rt, &mut far, &mut came)?, &None);
-    expect(&rt, near.cause().is_none());
-    // A datagram of IPv4 has 65,535 octets at most (RFC 791).
+/// What is sent is sent as it is, and taken where it comes.
+fn expect_taken<R: Abort + AllocGlobal>(
+    rt: &R,
+    near: &mut SambaPort<UdpPort>,
+    far: &mut SambaPort<UdpPort>,
+    came: &mut ArrayVec<u8, 2048>,
+) -> Result<(), Fail> {
+    send(rt, near, claim(rt, "60f4", "7900", NODEB)?.as_slice())?;
+    expect_eq(rt, &receive(rt, far, came)?, &Some(HERE));
+    let taken = claim(rt, "60f4", "2900", NODEB)?;
+    expect_eq(rt, &came.as_slice(), &taken.as_slice());
+    expect_eq(rt, &receive(rt, far, came)?, &None);
+    expect(rt, near.cause().is_none());
+    Ok(())
+}
+
+/// A datagram of IPv4 has 65,535 octets at most (RFC 791).
+fn expect_cause<R: Abort + AllocGlobal>(rt: &R, near: &mut SambaPort<UdpPort>) -> Result<(), Fail> {
     let mut long = Vec::new(rt.alloc());
     long.resize(65_508, 0)?;
-    expect_eq(&rt, &send(&rt, &mut near, long.as_slice()), &Err(Device));
-    expect_eq(&rt, &near.failures(), &1);
-    expect(&rt, near.cause().is_some());
+    expect_eq(rt, &send(rt, near, long.as_slice()), &Err(Device));
+    expect_eq(rt, &near.failures(), &1);
+    expect(rt, near.cause().is_some());
     Ok(())
+}
+
+fn over_udp<R: Abort + AllocGlobal>(
+    rt: &R,
+    near: &mut SambaPort<UdpPort>,
+    far: &mut SambaPort<UdpPort>,
+) -> Result<(), Fail> {
+    expect_taken(rt, near, far, &mut ArrayVec::new())?;
+    expect_cause(rt, near)
+}
+
+#[test]
+fn over_udp_too_and_the_cause_of_a_failure_is_known(rt: HostRuntime) -> Result<(), Fail> {
+    let near = UdpPort::bind(&rt, HERE)?;
+    let far = UdpPort::bind(&rt, THERE)?;
+    over_udp(&rt, &mut SambaPort::new(near), &mut SambaPort::new(far))
 }

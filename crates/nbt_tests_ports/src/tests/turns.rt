@@ -1,6 +1,7 @@
 //! A server and a node over a port in memory: the life of a datagram 1,000 ms, the longest lease 60 s, all started at 0.
 
 use super::expect::{expect, expect_eq, expect_eq_in};
+use super::stage::{Scene, play_on};
 use arrayvec::ArrayVec;
 use nbt_client::{Seen, Want, node_turn};
 use nbt_lease::Moment;
@@ -10,12 +11,13 @@ use nbt_node::{AskFault, Node};
 use nbt_port::{Datagram, Device, MemoryClock, MemoryPort, Port};
 use nbt_server::Server;
 use nbt_testing::{
-    FOUND, GRANTED, NOT_FOUND, QUERY, REFRESH, REFUSED, REGISTRATION, RIVAL, Row, clock, config,
-    expect_sent, moment, octets, port, registration_of_many, started,
+    FOUND, GRANTED, NOT_FOUND, QUERY, REFRESH, REFUSED, REGISTRATION, RIVAL, Row, config,
+    expect_sent, moment, octets, registration_of_many,
 };
 use std::collections::VecDeque;
 use std::process::Abort;
 use std::test::Fail;
+use std::time;
 
 const SERVER: Addr = Addr {
     ip: 0x7F000001,
@@ -61,8 +63,9 @@ fn turn<R: Abort>(
     node_turn(port, clock, node, SERVER, want)
 }
 
-/// Turns of a server: what comes, at which moments, the receives, replies and lost, and what is sent.
+/// Turns of a server: what they show, what comes, at which moments, the receives, replies and lost, and what is sent.
 struct Turns {
+    name: &'static str,
     given: &'static [Row],
     moments: &'static [u64],
     counts: (u64, u64, u64),
@@ -71,68 +74,56 @@ struct Turns {
 
 const RIVALS: &[Row] = &[(FIRST, REGISTRATION), (SECOND, RIVAL)];
 
-fn play<R: Abort + AllocGlobal>(rt: &R, turns: &Turns) -> Result<(), Fail> {
-    let mut port = port(rt, turns.given)?;
-    let mut clock = clock(rt, turns.moments)?;
-    let (receives, replies, lost) = turns.counts;
-    let counts = serve(
-        rt,
-        &mut port,
-        &mut clock,
-        &mut started(rt, 4096, 0)?,
-        receives,
-    )?;
-    expect_eq(rt, &counts.receives, &receives);
-    expect_eq(rt, &counts.replies, &replies);
-    expect_eq(rt, &counts.lost, &lost);
-    expect_sent(rt, &port, turns.sent)
+impl Scene for Turns {
+    fn play<R: Abort + AllocGlobal + time::Clock>(
+        &self,
+        rt: &R,
+        port: &mut MemoryPort,
+        clock: &mut MemoryClock,
+        server: &mut Server,
+    ) -> Result<(), Fail> {
+        let (receives, replies, lost) = self.counts;
+        let counts = serve(rt, port, clock, server, receives)?;
+        expect_eq_in(rt, &self.name, &counts.receives, &receives);
+        expect_eq_in(rt, &self.name, &counts.replies, &replies);
+        expect_eq_in(rt, &self.name, &counts.lost, &lost);
+        expect_sent(rt, port, self.sent)
+    }
 }
 
-const THREE_TURNS: Turns = Turns {
-    given: RIVALS,
-    moments: &[60_000],
-    counts: (3, 2, 0),
-    sent: &[(FIRST, GRANTED), (SECOND, REFUSED)],
-};
-
-#[test]
-fn replies_go_to_their_senders(rt: HostRuntime) -> Result<(), Fail> {
-    play(&rt, &THREE_TURNS)
-}
-
-const BACK: Turns = Turns {
-    given: RIVALS,
-    moments: &[60_000, 59_999],
-    counts: (2, 1, 1),
-    sent: &[(FIRST, GRANTED)],
-};
-
-#[test]
-fn a_datagram_whose_moment_goes_back_is_lost(rt: HostRuntime) -> Result<(), Fail> {
-    play(&rt, &BACK)
-}
-
-const RENEWAL: Turns = Turns {
-    given: &[
-        (FIRST, REGISTRATION),
-        (FIRST, REFRESH),
-        (SECOND, QUERY),
-        (SECOND, QUERY),
-    ],
-    moments: &[60_000, 90_000, 149_999, 150_000],
-    counts: (4, 4, 0),
-    sent: &[
-        (FIRST, GRANTED),
-        (FIRST, GRANTED),
-        (SECOND, FOUND),
-        (SECOND, NOT_FOUND),
-    ],
-};
-
-#[test]
-fn a_refresh_over_a_port_extends_its_senders_own_lease(rt: HostRuntime) -> Result<(), Fail> {
-    play(&rt, &RENEWAL)
-}
+const TURNS: &[Turns] = &[
+    Turns {
+        name: "replies go to their senders",
+        given: RIVALS,
+        moments: &[60_000],
+        counts: (3, 2, 0),
+        sent: &[(FIRST, GRANTED), (SECOND, REFUSED)],
+    },
+    Turns {
+        name: "a datagram whose moment goes back is lost",
+        given: RIVALS,
+        moments: &[60_000, 59_999],
+        counts: (2, 1, 1),
+        sent: &[(FIRST, GRANTED)],
+    },
+    Turns {
+        name: "a refresh over a port extends its sender's own lease",
+        given: &[
+            (FIRST, REGISTRATION),
+            (FIRST, REFRESH),
+            (SECOND, QUERY),
+            (SECOND, QUERY),
+        ],
+        moments: &[60_000, 90_000, 149_999, 150_000],
+        counts: (4, 4, 0),
+        sent: &[
+            (FIRST, GRANTED),
+            (FIRST, GRANTED),
+            (SECOND, FOUND),
+            (SECOND, NOT_FOUND),
+        ],
+    },
+];
 
 /// The server's reply to these words at 60,000.
 fn expect_reply<R: Abort + AllocGlobal>(
@@ -157,7 +148,6 @@ const FOUND_FOR_60S: &str = "0008 8580 reply FRED NB 60s unique 127.0.0.2";
 
 /// A call of a server's port that fails, in two turns; the server's last moment after it, and its reply to a query; some
 /// turns more, and their replies; and all that is sent.
-#[derive(Clone, Copy)]
 struct Failure {
     call: u64,
     last: u64,
@@ -188,12 +178,16 @@ const FAILED_SEND: Failure = Failure {
 };
 
 /// A reply that was not sent is lost, and what has come is not handed out again: it was handled, and its lease stays.
-const FAILURES: [Failure; 5] = [
+const FAILURES: &[Failure] = &[
     FAILED_RECEIVE,
     FAILED_SEND,
     Failure {
+        call: 1,
+        last: 60_000,
+        query: FOUND_FOR_60S,
         turns: 2,
-        ..FAILED_SEND
+        replies: 1,
+        sent: &[(SECOND, REFUSED)],
     },
     Failure {
         call: 2,
@@ -214,52 +208,30 @@ const FAILURES: [Failure; 5] = [
 ];
 
 /// Turns of a server, of which one fails, and turns after it.
-fn go_on<R: Abort + AllocGlobal>(
-    rt: &R,
-    port: &mut MemoryPort,
-    clock: &mut MemoryClock,
-    server: &mut Server,
-    failure: &Failure,
-) -> Result<(), Fail> {
-    let call = failure.call;
-    expect_eq_in(rt, &call, &serve(rt, port, clock, server, 2), &Err(Device));
-    expect_eq_in(rt, &call, &port.failures(), &1);
-    expect_eq_in(rt, &call, &server.last(), &moment(failure.last)?);
-    expect_reply(rt, server, QUERY, failure.query)?;
-    let wanted = Counts {
-        receives: failure.turns,
-        replies: failure.replies,
-        lost: 0,
-    };
-    expect_eq_in(
-        rt,
-        &call,
-        &serve(rt, port, clock, server, failure.turns)?,
-        &wanted,
-    );
-    expect_eq_in(rt, &call, &port.failures(), &1);
-    expect_sent(rt, port, failure.sent)
-}
-
-fn play_failure<R: Abort + AllocGlobal>(rt: &R, failure: &Failure) -> Result<(), Fail> {
-    let mut port = port(rt, RIVALS)?;
-    port.fail_after(failure.call);
-    let mut clock = clock(rt, &[60_000])?;
-    go_on(
-        rt,
-        &mut port,
-        &mut clock,
-        &mut started(rt, 4096, 0)?,
-        failure,
-    )
-}
-
-#[test]
-fn a_failure_at_any_call_is_told_once(rt: HostRuntime) -> Result<(), Fail> {
-    for failure in &FAILURES {
-        play_failure(&rt, failure)?;
+impl Scene for Failure {
+    fn play<R: Abort + AllocGlobal + time::Clock>(
+        &self,
+        rt: &R,
+        port: &mut MemoryPort,
+        clock: &mut MemoryClock,
+        server: &mut Server,
+    ) -> Result<(), Fail> {
+        let call = self.call;
+        port.fail_after(call);
+        expect_eq_in(rt, &call, &serve(rt, port, clock, server, 2), &Err(Device));
+        expect_eq_in(rt, &call, &port.failures(), &1);
+        expect_eq_in(rt, &call, &server.last(), &moment(self.last)?);
+        expect_reply(rt, server, QUERY, self.query)?;
+        let wanted = Counts {
+            receives: self.turns,
+            replies: self.replies,
+            lost: 0,
+        };
+        let counts = serve(rt, port, clock, server, self.turns)?;
+        expect_eq_in(rt, &call, &counts, &wanted);
+        expect_eq_in(rt, &call, &port.failures(), &1);
+        expect_sent(rt, port, self.sent)
     }
-    Ok(())
 }
 
 /// A port that hands out the registrations of 4,096 names.
@@ -276,29 +248,57 @@ fn port_of_many<R: AllocGlobal>(rt: &R) -> Result<MemoryPort, Fail> {
     Ok(MemoryPort::new(rt.alloc(), incoming))
 }
 
-#[test]
-fn nothing_lost(rt: HostRuntime) -> Result<(), Fail> {
-    let mut port = port_of_many(&rt)?;
-    let mut clock = clock(&rt, &[60_000])?;
-    let mut server = started(&rt, 4096, 0)?;
-    let wanted = Counts {
-        receives: 4096,
-        replies: 4096,
-        lost: 0,
-    };
-    expect_eq(
-        &rt,
-        &serve(&rt, &mut port, &mut clock, &mut server, 4096),
-        &Ok(wanted),
-    );
-    expect_eq(&rt, &port.sent().len(), &4096);
-    for datagram in port.sent() {
-        expect(
-            &rt,
-            matches!(datagram.octets.as_slice(), [_, _, 0xAD, 0x80, ..]),
-        );
+/// The registrations of 4,096 names, of which none is lost.
+struct Many;
+
+impl Scene for Many {
+    fn play<R: Abort + AllocGlobal + time::Clock>(
+        &self,
+        rt: &R,
+        port: &mut MemoryPort,
+        clock: &mut MemoryClock,
+        server: &mut Server,
+    ) -> Result<(), Fail> {
+        *port = port_of_many(rt)?;
+        let wanted = Counts {
+            receives: 4096,
+            replies: 4096,
+            lost: 0,
+        };
+        expect_eq(rt, &serve(rt, port, clock, server, 4096), &Ok(wanted));
+        expect_eq(rt, &port.sent().len(), &4096);
+        for datagram in port.sent() {
+            expect(
+                rt,
+                matches!(datagram.octets.as_slice(), [_, _, 0xAD, 0x80, ..]),
+            );
+        }
+        Ok(())
+    }
+}
+
+fn play_turns<R: Abort + AllocGlobal + time::Clock>(rt: &R, rows: &[Turns]) -> Result<(), Fail> {
+    for turns in rows {
+        play_on(rt, turns.given, turns.moments, turns)?;
     }
     Ok(())
+}
+
+fn play_failures<R: Abort + AllocGlobal + time::Clock>(
+    rt: &R,
+    rows: &[Failure],
+) -> Result<(), Fail> {
+    for failure in rows {
+        play_on(rt, RIVALS, &[60_000], failure)?;
+    }
+    Ok(())
+}
+
+#[test]
+fn turns_of_a_server(rt: HostRuntime) -> Result<(), Fail> {
+    play_turns(&rt, TURNS)?;
+    play_failures(&rt, FAILURES)?;
+    play_on(&rt, &[], &[60_000], &Many)
 }
 
 fn node() -> Result<Node<2>, Fail> {
@@ -341,57 +341,59 @@ const SEEN: [Seen; 4] = [
     Seen::Renewed(60),
 ];
 
-#[test]
-fn a_name_is_asked_for_granted_and_renewed(rt: HostRuntime) -> Result<(), Fail> {
-    let mut port = port(&rt, &TO_A_NODE)?;
-    let moments = [2_000, 2_000, 60_000, 60_010, 61_000, 61_000, 90_000, 90_010];
-    let mut clock = clock(&rt, &moments)?;
-    let mut node = node()?;
-    let want = fred()?;
+/// FRED is asked for, granted, and renewed.
+fn asked_and_renewed<R: Abort + AllocGlobal>(
+    rt: &R,
+    port: &mut MemoryPort,
+    clock: &mut MemoryClock,
+    node: &mut Node<2>,
+    want: &Want,
+) -> Result<(), Fail> {
     for seen in SEEN {
-        let got = turn(&rt, &mut port, &mut clock, &mut node, &want)?;
-        expect_eq(&rt, &got, &seen);
+        let got = turn(rt, port, clock, node, want)?;
+        expect_eq(rt, &got, &seen);
         if seen == Seen::Granted(60) {
-            expect_sent(&rt, &port, &[(SERVER, REGISTRATION)])?;
+            expect_sent(rt, port, &[(SERVER, REGISTRATION)])?;
         }
     }
-    expect_sent(&rt, &port, &[REQUEST, STATUS_REPLY, REFRESHING])?;
-    expect_eq(
-        &rt,
-        &node.holds(moment(149_877)?, &want.name),
-        &Some(Kind::Unique),
-    );
+    expect_sent(rt, port, &[REQUEST, STATUS_REPLY, REFRESHING])?;
+    let held = node.holds(moment(149_877)?, &want.name);
+    expect_eq(rt, &held, &Some(Kind::Unique));
     Ok(())
 }
 
-#[test]
-fn a_request_that_was_not_sent_is_sent_again(rt: HostRuntime) -> Result<(), Fail> {
-    let mut port = port(&rt, &[])?;
-    port.fail_after(0);
-    let mut clock = clock(&rt, &[60_000, 65_000])?;
-    let mut node = node()?;
-    let want = fred()?;
+/// It is asking: it doesn't hold the name, and asks for it again at 65,000 alone.
+fn expect_asking<R: Abort>(
+    rt: &R,
+    node: &mut Node<2>,
+    want: &Want,
+    out: &mut ArrayVec<u8, 576>,
+) -> Result<(), Fail> {
+    let then = moment(60_000)?;
+    expect_eq(rt, &node.holds(then, &want.name), &None);
     expect_eq(
-        &rt,
-        &turn(&rt, &mut port, &mut clock, &mut node, &want),
-        &Err(Device),
-    );
-    expect_eq(&rt, &port.failures(), &1);
-    // It is asking: it doesn't hold the name, and asks for it again at 65,000 alone.
-    let mut out = ArrayVec::new();
-    expect_eq(&rt, &node.holds(moment(60_000)?, &want.name), &None);
-    expect_eq(
-        &rt,
-        &node.ask(moment(60_000)?, &want.name, want.kind, 60, &mut out),
+        rt,
+        &node.ask(then, &want.name, want.kind, 60, out),
         &Err(AskFault::Busy),
     );
-    expect_eq(&rt, &node.poll(moment(64_999)?, &mut out), &Ok(None));
-    expect_eq(
-        &rt,
-        &turn(&rt, &mut port, &mut clock, &mut node, &want)?,
-        &Seen::Nothing,
-    );
-    expect_sent(&rt, &port, &[(SERVER, REGISTRATION)])
+    expect_eq(rt, &node.poll(moment(64_999)?, out), &Ok(None));
+    Ok(())
+}
+
+/// A request that was not sent is sent again.
+fn sent_again<R: Abort + AllocGlobal>(
+    rt: &R,
+    port: &mut MemoryPort,
+    clock: &mut MemoryClock,
+    node: &mut Node<2>,
+    want: &Want,
+) -> Result<(), Fail> {
+    port.fail_after(0);
+    expect_eq(rt, &turn(rt, port, clock, node, want), &Err(Device));
+    expect_eq(rt, &port.failures(), &1);
+    expect_asking(rt, node, want, &mut ArrayVec::new())?;
+    expect_eq(rt, &turn(rt, port, clock, node, want)?, &Seen::Nothing);
+    expect_sent(rt, port, &[(SERVER, REGISTRATION)])
 }
 
 /// The grant; a status request; nothing; and the reply to the refresh.
@@ -406,7 +408,7 @@ const WITH_A_FAILURE: [Row; 4] = [
 /// grant; that of the status request and the reply to it; a receive of nothing; the refresh and the receive of the reply to
 /// it. A request that was lost, or whose reply was, is sent again 5,000 ms after it with the same octets; the lost reply to
 /// a status request is not.
-const SENT_WITH_A_FAILURE: [&[Row]; 7] = [
+const SENT_WITH_A_FAILURE: &[&[Row]] = &[
     &[REQUEST, STATUS_REPLY, REFRESHING],
     &[REQUEST, REQUEST, STATUS_REPLY, REFRESHING],
     &[REQUEST, STATUS_REPLY, REFRESHING],
@@ -431,48 +433,77 @@ fn four_turns<R: Abort>(
 }
 
 /// Turns of a node, of which one fails at this call, and turns after it; and all that is sent.
-fn node_goes_on<R: Abort + AllocGlobal>(
+fn goes_on<R: Abort + AllocGlobal>(
     rt: &R,
     port: &mut MemoryPort,
     clock: &mut MemoryClock,
+    node: &mut Node<2>,
+    want: &Want,
     call: u64,
     sent: &[Row],
 ) -> Result<(), Fail> {
-    let mut node = node()?;
-    let want = fred()?;
-    expect_eq_in(
-        rt,
-        &call,
-        &four_turns(rt, port, clock, &mut node, &want),
-        &Err(Device),
-    );
+    port.fail_after(call);
+    let failed = four_turns(rt, port, clock, node, want);
+    expect_eq_in(rt, &call, &failed, &Err(Device));
     expect_eq_in(rt, &call, &port.failures(), &1);
     // Before the grant has come it doesn't hold the name, and after it no failure loses it.
     let holds = node.holds(moment(100_000)?, &want.name);
     expect_eq_in(rt, &call, &holds.is_some(), &(call >= 2));
-    expect_eq_in(
-        rt,
-        &call,
-        &four_turns(rt, port, clock, &mut node, &want),
-        &Ok(()),
-    );
+    let went_on = four_turns(rt, port, clock, node, want);
+    expect_eq_in(rt, &call, &went_on, &Ok(()));
     expect_eq_in(rt, &call, &port.failures(), &1);
     let held = node.holds(moment(149_877)?, &want.name);
     expect_eq_in(rt, &call, &held, &Some(Kind::Unique));
     expect_sent(rt, port, sent)
 }
 
+/// What a node does that wants FRED.
+#[derive(Drop)]
+enum Does {
+    AsksAndRenews,
+    SendsAgain,
+    /// This call fails, and all that is sent is this.
+    GoesOn(u64, &'static [Row]),
+}
+
+impl Scene for Does {
+    fn play<R: Abort + AllocGlobal + time::Clock>(
+        &self,
+        rt: &R,
+        port: &mut MemoryPort,
+        clock: &mut MemoryClock,
+        _: &mut Server,
+    ) -> Result<(), Fail> {
+        let want = fred()?;
+        let mut node = node()?;
+        match self {
+            Does::AsksAndRenews => asked_and_renewed(rt, port, clock, &mut node, &want),
+            Does::SendsAgain => sent_again(rt, port, clock, &mut node, &want),
+            Does::GoesOn(call, sent) => goes_on(rt, port, clock, &mut node, &want, *call, sent),
+        }
+    }
+}
+
+const MOMENTS: [u64; 8] = [2_000, 2_000, 60_000, 60_010, 61_000, 61_000, 90_000, 90_010];
+
 const MOMENTS_WITH_A_FAILURE: [u64; 9] = [
     60_000, 65_000, 70_000, 75_000, 80_000, 85_000, 90_000, 95_000, 100_000,
 ];
 
-#[test]
-fn a_node_goes_on_after_a_failure_at_any_call(rt: HostRuntime) -> Result<(), Fail> {
-    for (call, sent) in (0..).zip(SENT_WITH_A_FAILURE) {
-        let mut port = port(&rt, &WITH_A_FAILURE)?;
-        port.fail_after(call);
-        let mut clock = clock(&rt, &MOMENTS_WITH_A_FAILURE)?;
-        node_goes_on(&rt, &mut port, &mut clock, call, sent)?;
+fn play_each_call<R: Abort + AllocGlobal + time::Clock>(
+    rt: &R,
+    rows: &'static [&'static [Row]],
+) -> Result<(), Fail> {
+    for (call, sent) in (0..).zip(rows) {
+        let does = Does::GoesOn(call, *sent);
+        play_on(rt, &WITH_A_FAILURE, &MOMENTS_WITH_A_FAILURE, &does)?;
     }
     Ok(())
+}
+
+#[test]
+fn turns_of_a_node(rt: HostRuntime) -> Result<(), Fail> {
+    play_on(&rt, &TO_A_NODE, &MOMENTS, &Does::AsksAndRenews)?;
+    play_on(&rt, &[], &[60_000, 65_000], &Does::SendsAgain)?;
+    play_each_call(&rt, SENT_WITH_A_FAILURE)
 }
