@@ -119,14 +119,14 @@ fn scopes_that_are_no_labels(rt: HostRuntime) {
 }
 
 /// How a name is read.
-#[derive(Clone, Copy, Debug)]
+#[derive(Clone, Copy)]
 enum By {
     ReadIn,
     ReadPlain,
 }
 
 /// What is read: FRED in a scope, and the place after it; or a fault and its place.
-#[derive(Clone, Copy, Debug)]
+#[derive(Clone, Copy)]
 enum Read<'a> {
     Fred(&'a [u8], usize),
     Fault(NameFaultKind, usize),
@@ -235,14 +235,18 @@ const WORDS: [(NameFaultKind, u8, &str); 5] = [
 
 #[test]
 fn numbers_and_words_of_a_names_faults(rt: HostRuntime) -> Result<(), Fail> {
-    for (kind, number, word) in WORDS {
+    for (kind, number, word) in &WORDS {
         let text = format!(in rt.alloc(); "{kind}")?;
-        expect_eq(&rt, &text.as_str(), &word);
-        expect_eq(&rt, &kind.number(), &number);
-        expect_eq(&rt, &kind.word(), &word);
-        expect_eq(&rt, &NameFaultKind::from_word(word.as_bytes()), &Some(kind));
+        expect_eq(&rt, &text.as_str(), &*word);
+        expect_eq(&rt, &kind.number(), &*number);
+        expect_eq(&rt, &kind.word(), &*word);
+        expect_eq(
+            &rt,
+            &NameFaultKind::from_word(word.as_bytes()),
+            &Some(*kind),
+        );
     }
-    for word in ["", "long", "Shor", "TooMany", "BadType"] {
+    for word in &["", "long", "Shor", "TooMany", "BadType"] {
         expect_eq(&rt, &NameFaultKind::from_word(word.as_bytes()), &None);
     }
     Ok(())
@@ -273,7 +277,7 @@ fn cut_at_every_length(rt: HostRuntime) {
                 kind: NameFaultKind::Short,
                 place,
             });
-            expect_eq_in(&rt, &(&by, &start), &read.err(), &short);
+            expect_eq_in(&rt, &(cut, start), &read.err(), &short);
         }
     }
 }
@@ -320,7 +324,7 @@ fn a_wire_form_of_255_octets_and_one_of_256(rt: HostRuntime) -> Result<(), Fail>
 fn names_are_keys(rt: HostRuntime) -> Result<(), Fail> {
     let mut set = BTreeSet::new(rt.alloc());
     let mut map = IndexMap::new(rt.alloc());
-    for scope in [b"".as_slice(), b"\x01a".as_slice(), b"".as_slice()] {
+    for scope in &[b"".as_slice(), b"\x01a".as_slice(), b"".as_slice()] {
         set.insert(fred(scope)?)?;
         map.insert(fred(scope)?, scope.len())?;
     }
