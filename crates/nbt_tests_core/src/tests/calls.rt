@@ -73,87 +73,114 @@ fn caller_answer<A: AllocGlobal>(rt: &A, calls: Calls<'_>) -> Result<CallerAnswe
 type Call = (&'static str, &'static [(Happens<'static>, Calls<'static>)]);
 
 const CALLS: &[Call] = &[
-    ("it is retargeted, and opened", &[
-        (Happens::Stands, Calls::Sends(REQUEST)),
-        (Happens::Brings(Said::KeepAlive), Calls::Nothing),
-        (
-            Happens::Brings(Said::Retarget(SECOND)),
-            Calls::Connects(SECOND),
-        ),
-        (Happens::Stands, Calls::Sends(REQUEST)),
-        (Happens::Brings(Said::Positive), Calls::Opens),
-        (
-            Happens::Brings(Said::Message(b"hello")),
-            Calls::HandsUp(b"hello"),
-        ),
-        (Happens::Brings(Said::KeepAlive), Calls::Nothing),
-        (Happens::IsLost, Calls::Closes),
-        (Happens::Stands, Calls::Nothing),
-    ]),
-    ("a fourth retarget", &[
-        (Happens::Stands, Calls::Sends(REQUEST)),
-        (
-            Happens::Brings(Said::Retarget(SECOND)),
-            Calls::Connects(SECOND),
-        ),
-        (Happens::Stands, Calls::Sends(REQUEST)),
-        (
-            Happens::Brings(Said::Retarget(SECOND)),
-            Calls::Connects(SECOND),
-        ),
-        (Happens::Stands, Calls::Sends(REQUEST)),
-        (
-            Happens::Brings(Said::Retarget(SECOND)),
-            Calls::Connects(SECOND),
-        ),
-        (Happens::Stands, Calls::Sends(REQUEST)),
-        (
-            Happens::Brings(Said::Retarget(FIRST)),
-            Calls::Fails(Failure::TooManyTries),
-        ),
-        (Happens::Stands, Calls::Nothing),
-    ]),
-    ("it is lost four times", &[
-        (Happens::IsLost, Calls::Connects(FIRST)),
-        (Happens::IsLost, Calls::Connects(FIRST)),
-        (Happens::IsLost, Calls::Connects(FIRST)),
-        (Happens::IsLost, Calls::Fails(Failure::NoConnection)),
-    ]),
-    ("it is refused", &[
-        (Happens::Stands, Calls::Sends(REQUEST)),
-        (
-            Happens::Brings(Said::Negative(0x82)),
-            Calls::Fails(Failure::Refused(0x82)),
-        ),
-    ]),
-    ("a message answers it", &[
-        (Happens::Stands, Calls::Sends(REQUEST)),
-        (
-            Happens::Brings(Said::Message(b"hi")),
+    (
+        "it is retargeted, and opened",
+        &[
+            (Happens::Stands, Calls::Sends(REQUEST)),
+            (Happens::Brings(Said::KeepAlive), Calls::Nothing),
+            (
+                Happens::Brings(Said::Retarget(SECOND)),
+                Calls::Connects(SECOND),
+            ),
+            (Happens::Stands, Calls::Sends(REQUEST)),
+            (Happens::Brings(Said::Positive), Calls::Opens),
+            (
+                Happens::Brings(Said::Message(b"hello")),
+                Calls::HandsUp(b"hello"),
+            ),
+            (Happens::Brings(Said::KeepAlive), Calls::Nothing),
+            (Happens::IsLost, Calls::Closes),
+            (Happens::Stands, Calls::Nothing),
+        ],
+    ),
+    (
+        "a fourth retarget",
+        &[
+            (Happens::Stands, Calls::Sends(REQUEST)),
+            (
+                Happens::Brings(Said::Retarget(SECOND)),
+                Calls::Connects(SECOND),
+            ),
+            (Happens::Stands, Calls::Sends(REQUEST)),
+            (
+                Happens::Brings(Said::Retarget(SECOND)),
+                Calls::Connects(SECOND),
+            ),
+            (Happens::Stands, Calls::Sends(REQUEST)),
+            (
+                Happens::Brings(Said::Retarget(SECOND)),
+                Calls::Connects(SECOND),
+            ),
+            (Happens::Stands, Calls::Sends(REQUEST)),
+            (
+                Happens::Brings(Said::Retarget(FIRST)),
+                Calls::Fails(Failure::TooManyTries),
+            ),
+            (Happens::Stands, Calls::Nothing),
+        ],
+    ),
+    (
+        "it is lost four times",
+        &[
+            (Happens::IsLost, Calls::Connects(FIRST)),
+            (Happens::IsLost, Calls::Connects(FIRST)),
+            (Happens::IsLost, Calls::Connects(FIRST)),
+            (Happens::IsLost, Calls::Fails(Failure::NoConnection)),
+        ],
+    ),
+    (
+        "it is refused",
+        &[
+            (Happens::Stands, Calls::Sends(REQUEST)),
+            (
+                Happens::Brings(Said::Negative(0x82)),
+                Calls::Fails(Failure::Refused(0x82)),
+            ),
+        ],
+    ),
+    (
+        "a message answers it",
+        &[
+            (Happens::Stands, Calls::Sends(REQUEST)),
+            (
+                Happens::Brings(Said::Message(b"hi")),
+                Calls::Fails(Failure::Protocol),
+            ),
+        ],
+    ),
+    (
+        "a request answers it",
+        &[
+            (Happens::Stands, Calls::Sends(REQUEST)),
+            (Happens::Brings(REQUEST), Calls::Fails(Failure::Protocol)),
+        ],
+    ),
+    (
+        "a packet before the request",
+        &[(
+            Happens::Brings(Said::KeepAlive),
             Calls::Fails(Failure::Protocol),
-        ),
-    ]),
-    ("a request answers it", &[
-        (Happens::Stands, Calls::Sends(REQUEST)),
-        (Happens::Brings(REQUEST), Calls::Fails(Failure::Protocol)),
-    ]),
-    ("a packet before the request", &[(
-        Happens::Brings(Said::KeepAlive),
-        Calls::Fails(Failure::Protocol),
-    )]),
-    ("a request has no place in a session that is open", &[
-        (Happens::Stands, Calls::Sends(REQUEST)),
-        (Happens::Brings(Said::Positive), Calls::Opens),
-        (Happens::Brings(REQUEST), Calls::Fails(Failure::Protocol)),
-    ]),
-    ("a positive response has no place in a session that is open", &[
-        (Happens::Stands, Calls::Sends(REQUEST)),
-        (Happens::Brings(Said::Positive), Calls::Opens),
-        (
-            Happens::Brings(Said::Positive),
-            Calls::Fails(Failure::Protocol),
-        ),
-    ]),
+        )],
+    ),
+    (
+        "a request has no place in a session that is open",
+        &[
+            (Happens::Stands, Calls::Sends(REQUEST)),
+            (Happens::Brings(Said::Positive), Calls::Opens),
+            (Happens::Brings(REQUEST), Calls::Fails(Failure::Protocol)),
+        ],
+    ),
+    (
+        "a positive response has no place in a session that is open",
+        &[
+            (Happens::Stands, Calls::Sends(REQUEST)),
+            (Happens::Brings(Said::Positive), Calls::Opens),
+            (
+                Happens::Brings(Said::Positive),
+                Calls::Fails(Failure::Protocol),
+            ),
+        ],
+    ),
 ];
 
 /// Something happens to a call, and the caller answers it so.

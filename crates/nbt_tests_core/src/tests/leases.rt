@@ -463,7 +463,8 @@ const A_TABLE_OF_ONE_LEASE_HAS_ROOM_ONCE_IT_IS_OVER: &[Step<'static>] = &[
     Step::Grant(120_000, TEAM, FIRST, Kind::Group, 60, Ok((60, 180_000))),
 ];
 
-/// What the steps show, the rows of the table, and the steps.
+/// What the steps show, the rows of the table, and the steps. A function returns them, since the prover writes out all of a table in
+/// each step of a function that names it.
 type Case = (&'static str, usize, &'static [Step<'static>]);
 
 const CASES: &[Case] = &[
@@ -482,16 +483,8 @@ const CASES: &[Case] = &[
         4096,
         MEMBERS_IN_ORDER_OF_THEIR_BEGINNINGS,
     ),
-    (
-        "the least end of a group",
-        4096,
-        THE_LEAST_END_OF_A_GROUP,
-    ),
-    (
-        "the least end of 1,000",
-        4096,
-        THE_LEAST_END_OF_1_000,
-    ),
+    ("the least end of a group", 4096, THE_LEAST_END_OF_A_GROUP),
+    ("the least end of 1,000", 4096, THE_LEAST_END_OF_1_000),
     (
         "a group of 1,000 is full before a table of 1,000",
         1_000,
@@ -508,6 +501,10 @@ const CASES: &[Case] = &[
         A_TABLE_OF_ONE_LEASE_HAS_ROOM_ONCE_IT_IS_OVER,
     ),
 ];
+
+fn cases() -> &'static [Case] {
+    CASES
+}
 
 /// A new table goes through the steps of a case.
 fn play_case<R: Abort + AllocGlobal>(rt: &R, case: &Case) -> Result<(), Fail> {
@@ -527,7 +524,7 @@ fn names_and_their_leases_step_by_step(rt: HostRuntime) -> Result<(), Fail> {
     laws::one_case_stands();
     laws::leases_of_others_stay();
     laws::granted_lease_stands();
-    for case in CASES {
+    for case in cases() {
         play_case(&rt, case)?;
     }
     Ok(())

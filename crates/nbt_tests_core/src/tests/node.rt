@@ -645,8 +645,12 @@ const WHAT_IS_CUT_TELLS_NO_NAMES: &[Step<'static>] = &[
     Step::LookupOpen(60_001, true),
 ];
 
-/// What the steps show, and the steps.
-const CASES: &[(&str, &[Step<'static>])] = &[
+/// What the steps show, and the steps. A function returns each table, since the prover writes out all of a table in each step of a
+/// function that names it.
+type Case = (&'static str, &'static [Step<'static>]);
+
+/// Of a name that is asked for and held.
+const HOLDS: &[Case] = &[
     (
         "a node is quiet for 2,004 ms after its start",
         A_NODE_IS_QUIET_FOR_2_004_MS_AFTER_ITS_START,
@@ -671,6 +675,14 @@ const CASES: &[(&str, &[Step<'static>])] = &[
         "a hold from 69,999 and one of a second",
         A_HOLD_FROM_69_999_AND_ONE_OF_A_SECOND,
     ),
+];
+
+fn holds() -> &'static [Case] {
+    HOLDS
+}
+
+/// Of a name that rests, is lost or is refused.
+const RESTS: &[Case] = &[
     (
         "a hold that is over when its reply comes",
         A_HOLD_THAT_IS_OVER_WHEN_ITS_REPLY_COMES,
@@ -679,10 +691,7 @@ const CASES: &[(&str, &[Step<'static>])] = &[
         "a name rests after its release",
         A_NAME_RESTS_AFTER_ITS_RELEASE,
     ),
-    (
-        "a full node keeps its name",
-        A_FULL_NODE_KEEPS_ITS_NAME,
-    ),
+    ("a full node keeps its name", A_FULL_NODE_KEEPS_ITS_NAME),
     (
         "a conflict demand drops a name and only the server makes one",
         A_CONFLICT_DEMAND_DROPS_A_NAME_AND_ONLY_THE_SERVER_MAKES_ONE,
@@ -695,14 +704,19 @@ const CASES: &[(&str, &[Step<'static>])] = &[
         "a reply to a request that was given up is nothing",
         A_REPLY_TO_A_REQUEST_THAT_WAS_GIVEN_UP_IS_NOTHING,
     ),
+];
+
+fn rests() -> &'static [Case] {
+    RESTS
+}
+
+/// Of lookups and of the names of others.
+const LOOKUPS: &[Case] = &[
     (
         "a lookup does not end by the id of a registration",
         A_LOOKUP_DOES_NOT_END_BY_THE_ID_OF_A_REGISTRATION,
     ),
-    (
-        "a lookup is sent three times",
-        A_LOOKUP_IS_SENT_THREE_TIMES,
-    ),
+    ("a lookup is sent three times", A_LOOKUP_IS_SENT_THREE_TIMES),
     (
         "a lookup tells that the reply is cut",
         A_LOOKUP_TELLS_THAT_THE_REPLY_IS_CUT,
@@ -719,10 +733,15 @@ const CASES: &[(&str, &[Step<'static>])] = &[
         "a status reply lists the held names",
         A_STATUS_REPLY_LISTS_THE_HELD_NAMES,
     ),
-    (
-        "the names of another end",
-        THE_NAMES_OF_ANOTHER_END,
-    ),
+    ("the names of another end", THE_NAMES_OF_ANOTHER_END),
+];
+
+fn lookups() -> &'static [Case] {
+    LOOKUPS
+}
+
+/// Of packets that are cut.
+const CUTS: &[Case] = &[
     (
         "what is cut at every length changes no name",
         WHAT_IS_CUT_CHANGES_NO_NAME,
@@ -737,16 +756,27 @@ const CASES: &[(&str, &[Step<'static>])] = &[
     ),
 ];
 
+fn cuts() -> &'static [Case] {
+    CUTS
+}
+
+fn play_cases(rt: &impl Abort, cases: &[Case]) -> Result<(), Fail> {
+    for (what, steps) in cases {
+        play(rt, what, steps)?;
+    }
+    Ok(())
+}
+
 #[test]
 fn a_node_step_by_step(rt: HostRuntime) -> Result<(), Fail> {
     settling_ends();
     settling_in_steps();
     one_move();
     each_name();
-    for (what, steps) in CASES {
-        play(&rt, what, steps)?;
-    }
-    Ok(())
+    play_cases(&rt, holds())?;
+    play_cases(&rt, rests())?;
+    play_cases(&rt, lookups())?;
+    play_cases(&rt, cuts())
 }
 
 const ASK_FAULTS: [(AskFault, u8, &str); 5] = [

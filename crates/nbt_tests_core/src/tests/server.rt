@@ -708,10 +708,12 @@ fn play_parts<R: Abort + AllocGlobal>(
     Ok(())
 }
 
-/// What the case shows; a server's rows, when it starts, and what comes to it.
+/// What the case shows; a server's rows, when it starts, and what comes to it. A function returns each table, since the prover writes
+/// out all of a table in each step of a function that names it.
 type Case = (&'static str, usize, u64, &'static [Part]);
 
-const CASES: &[Case] = &[
+/// Of names, and what is granted for how long.
+const NAMES: &[Case] = &[
     (
         "FRED is granted once the silence is over",
         4096,
@@ -742,6 +744,14 @@ const CASES: &[Case] = &[
         0,
         &[Part::Rows(&ANOTHER_MACHINE)],
     ),
+];
+
+fn names() -> &'static [Case] {
+    NAMES
+}
+
+/// Of groups.
+const GROUPS: &[Case] = &[
     (
         "a group has 1,000 members, and is found in their order",
         4096,
@@ -778,6 +788,14 @@ const CASES: &[Case] = &[
         0,
         &[Part::Group(&OF_50)],
     ),
+];
+
+fn groups() -> &'static [Case] {
+    GROUPS
+}
+
+/// Of leases that end, are renewed and are given back.
+const LEASES: &[Case] = &[
     (
         "a query of no name, and of one that ends",
         4096,
@@ -826,6 +844,14 @@ const CASES: &[Case] = &[
         0,
         &[Part::Rows(&GROUP_OF_A_UNIQUE_NAME)],
     ),
+];
+
+fn leases() -> &'static [Case] {
+    LEASES
+}
+
+/// Of packets that are no requests of a unique name, and of moments.
+const PACKETS: &[Case] = &[
     (
         "a refresh with opcode 8 of a name that was never registered is granted",
         4096,
@@ -877,19 +903,30 @@ const CASES: &[Case] = &[
     ),
 ];
 
+fn packets() -> &'static [Case] {
+    PACKETS
+}
+
 /// A new server plays its part in a case.
 fn play_case<R: Abort + AllocGlobal>(rt: &R, case: &Case) -> Result<(), Fail> {
     let mut server = started(rt, case.1, case.2)?;
     play_parts(rt, case.0, &mut server, case.3)
 }
 
+fn play_cases<R: Abort + AllocGlobal>(rt: &R, cases: &[Case]) -> Result<(), Fail> {
+    for case in cases {
+        play_case(rt, case)?;
+    }
+    Ok(())
+}
+
 #[test]
 fn datagrams_and_their_replies(rt: HostRuntime) -> Result<(), Fail> {
     expect_eq(&rt, &ServerFault::ClockBack.number(), &1);
-    for case in CASES {
-        play_case(&rt, case)?;
-    }
-    Ok(())
+    play_cases(&rt, names())?;
+    play_cases(&rt, groups())?;
+    play_cases(&rt, leases())?;
+    play_cases(&rt, packets())
 }
 
 /// `REGISTRATION`, `GRANTED`, `QUERY` and `NOT_FOUND` as octets, which take no memory.

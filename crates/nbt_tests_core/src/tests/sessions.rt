@@ -381,7 +381,12 @@ fn take_each(rt: &impl Abort, stream: &mut Stream, octets: &[u8]) -> Result<(), 
 }
 
 /// With the last octet of a message it comes, and what stands behind it is not taken.
-fn take_last(rt: &impl Abort, stream: &mut Stream, piece: &[u8], message: &[u8]) -> Result<(), Fail> {
+fn take_last(
+    rt: &impl Abort,
+    stream: &mut Stream,
+    piece: &[u8],
+    message: &[u8],
+) -> Result<(), Fail> {
     let (taken, packet) = stream.take(piece)?;
     expect_eq(rt, &taken, &1);
     let Some(Packet::Message(octets)) = packet else {
@@ -465,7 +470,14 @@ fn the_longest_message_in_pieces(rt: HostRuntime) -> Result<(), Fail> {
     for (size, parts) in &[(1, 131_071), (1_460, 90), (131_075, 1)] {
         let mut came = Vec::new(rt.alloc());
         let mut others = Vec::new(rt.alloc());
-        take_pieces(&rt, octets.as_slice(), *size, *parts, &mut came, &mut others)?;
+        take_pieces(
+            &rt,
+            octets.as_slice(),
+            *size,
+            *parts,
+            &mut came,
+            &mut others,
+        )?;
     }
     Ok(())
 }
@@ -546,11 +558,7 @@ fn take(stream: &mut Stream, piece: &[u8]) -> Result<(usize, Option<Packet>), St
 
 /// What a stream makes of pieces, one after the other: how many octets each takes, and the packet.
 const MEMORY: [(&[u8], usize, Said<'static>); 3] = [
-    (
-        b"\x85\x00\x00\x00\x00\x00\x00\x02hi",
-        4,
-        Said::KeepAlive,
-    ),
+    (b"\x85\x00\x00\x00\x00\x00\x00\x02hi", 4, Said::KeepAlive),
     (b"\x00\x00\x00\x02hi", 6, Said::Message(b"hi")),
     (REQUEST, 72, Said::Request(FRED, TEAM)),
 ];
