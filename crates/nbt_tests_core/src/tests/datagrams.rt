@@ -173,23 +173,15 @@ fn data_of_512_octets_are_split(rt: HostRuntime) -> Result<(), Fail> {
 
 #[test]
 fn more_than_512_octets_are_too_long(rt: HostRuntime) -> Result<(), Fail> {
-    let names = (fred(b"")?, team(b"")?);
+    let source = fred(b"")?;
+    let destination = team(b"")?;
     let long = [7; 513];
-    let refused = split(
-        Delivery::DirectUnique,
-        1,
-        FIRST_END,
-        &names.0,
-        &names.1,
-        &long,
-    );
+    let delivery = Delivery::DirectUnique;
+    let refused = split(delivery, 1, FIRST_END, &source, &destination, &long);
     expect(&rt, matches!(refused, Err(TooLong)));
     expect_eq(&rt, &TooLong.number(), &1);
-    expect_eq(
-        &rt,
-        &fragments(Delivery::DirectUnique, b"", b"hello")?.len(),
-        &1,
-    );
+    let packets = fragments(delivery, b"", b"hello")?;
+    expect_eq(&rt, &packets.len(), &1);
     Ok(())
 }
 
@@ -204,19 +196,24 @@ enum Step {
     Sweep(u64, usize),
 }
 
-/// What a joiner tells: whole data of a length, or what else.
-#[derive(Clone, Copy, Debug, PartialEq)]
-enum Told {
-    Whole(usize),
-    Waiting,
-    Dropped(u8),
-}
+/// What a joiner tells, in a word and a number: `whole` and the length of the data, `waiting`, or `dropped` and the reason's number.
+type Told = (&'static str, usize);
+
+const WAITING: Told = ("waiting", 0);
+
+const TOO_LONG: Told = ("dropped", 1);
+
+const CONFLICT: Told = ("dropped", 2);
+
+const FULL: Told = ("dropped", 3);
+
+const CLOCK_BACK: Told = ("dropped", 4);
 
 fn outcome_of(joined: Joined<'_>) -> Told {
     match joined {
-        Joined::Whole(_, payload) => Told::Whole(payload.as_slice().len()),
-        Joined::Waiting => Told::Waiting,
-        Joined::Dropped(why) => Told::Dropped(why.number()),
+        Joined::Whole(_, payload) => ("whole", payload.as_slice().len()),
+        Joined::Waiting => WAITING,
+        Joined::Dropped(why) => ("dropped", why.number() as usize),
     }
 }
 
@@ -227,22 +224,14 @@ fn put(joiner: &mut Joiner<1>, ms: u64, dgram: &Dgram<'_>) -> Result<Told, Fail>
     Ok(outcome_of(joiner.put(at(ms)?, dgram)))
 }
 
-const TOO_LONG: Told = Told::Dropped(1);
-
-const CONFLICT: Told = Told::Dropped(2);
-
-const FULL: Told = Told::Dropped(3);
-
-const CLOCK_BACK: Told = Told::Dropped(4);
-
 const JOINS: &[(&str, &[u8], &[Step])] = &[
     (
         "fragments are joined in any order",
         LONG_SCOPE,
         &[
-            Step::Put(1, &[], 100, Told::Waiting),
-            Step::Put(0, &[], 200, Told::Whole(512)),
-            Step::Put(0, &[], 300, Told::Waiting),
+            Step::Put(1, &[], 100, WAITING),
+            Step::Put(0, &[], 200, ("whole", 512)),
+            Step::Put(0, &[], 300, WAITING),
             Step::Sweep(2300, 0),
             Step::Sweep(2301, 1),
             Step::Put(0, &[], 2300, CLOCK_BACK),
@@ -253,9 +242,9 @@ const JOINS: &[(&str, &[u8], &[Step])] = &[
         "fragments that disagree empty the slot",
         b"",
         &[
-            Step::Put(1, &[], 100, Told::Waiting),
+            Step::Put(1, &[], 100, WAITING),
             Step::Put(1, &[(14, 8)], 100, CONFLICT),
-            Step::Put(0, &[], 100, Told::Waiting),
+            Step::Put(0, &[], 100, WAITING),
             Step::Put(1, &[(14, 8), (3, 2)], 100, FULL),
         ],
     ),
@@ -263,9 +252,9 @@ const JOINS: &[(&str, &[u8], &[Step])] = &[
         "a gap stays a gap",
         b"",
         &[
-            Step::Piece(1, 0, true, Told::Waiting),
-            Step::Piece(1, 4, false, Told::Waiting),
-            Step::Piece(1, 2, true, Told::Whole(6)),
+            Step::Piece(1, 0, true, WAITING),
+            Step::Piece(1, 4, false, WAITING),
+            Step::Piece(1, 2, true, ("whole", 6)),
             Step::Piece(2, 511, true, TOO_LONG),
         ],
     ),
@@ -273,10 +262,10 @@ const JOINS: &[(&str, &[u8], &[Step])] = &[
         "a datagram is waited for 2,000 ms",
         b"",
         &[
-            Step::Put(0, &[], 0, Told::Waiting),
-            Step::Put(1, &[], 2000, Told::Whole(512)),
-            Step::Put(0, &[], 3000, Told::Waiting),
-            Step::Put(1, &[], 5001, Told::Waiting),
+            Step::Put(0, &[], 0, WAITING),
+            Step::Put(1, &[], 2000, ("whole", 512)),
+            Step::Put(0, &[], 3000, WAITING),
+            Step::Put(1, &[], 5001, WAITING),
         ],
     ),
 ];
@@ -361,18 +350,18 @@ fn part_at(offset: u16) -> Result<Part, Fail> {
     }))
 }
 
-/// What a datagram means for the node at 127.0.0.3.
-#[derive(Clone, Copy, Debug, PartialEq)]
-enum Means {
-    /// `hello` for TEAM.
-    Up,
-    /// The error packet for its sender.
-    Reply,
-    /// An error with an id and a code.
-    Error(u16, u8),
-    Waiting,
-    Nothing,
-}
+/// What a datagram means for the node at 127.0.0.3: a word, and for an error its id and code.
+type Means = (&'static str, u16, u8);
+
+/// `hello` for TEAM.
+const UP: Means = ("up", 0, 0);
+
+/// The error packet for its sender.
+const REPLY: Means = ("reply", 0, 0);
+
+const WAITS: Means = ("waiting", 0, 0);
+
+const NOTHING: Means = ("nothing", 0, 0);
 
 fn meaning_of(accepted: Accept<'_>) -> Result<Means, Fail> {
     Ok(match accepted {
@@ -382,13 +371,13 @@ fn meaning_of(accepted: Accept<'_>) -> Result<Means, Fail> {
             if !is_hello || names.destination != team(b"")? {
                 return Err("something else is handed up")?;
             }
-            Means::Up
+            UP
         }
-        Accept::Reply(to) if to == FIRST_END => Means::Reply,
+        Accept::Reply(to) if to == FIRST_END => REPLY,
         Accept::Reply(_) => return Err("a reply to somebody else")?,
-        Accept::Error(id, code) => Means::Error(id, code),
-        Accept::Waiting => Means::Waiting,
-        Accept::Nothing => Means::Nothing,
+        Accept::Error(id, code) => ("error", id, code),
+        Accept::Waiting => WAITS,
+        Accept::Nothing => NOTHING,
     })
 }
 
@@ -418,14 +407,14 @@ type Accepts = (
 );
 
 const ACCEPTS: &[Accepts] = &[
-    (true, 60_000, SECOND_END, HELLO, &[], Means::Up),
-    (true, 120_000, SECOND_END, HELLO, &[], Means::Nothing),
-    (false, 1, SECOND_END, HELLO, &[(0, 0x10)], Means::Reply),
-    (false, 1, SECOND_END, HELLO, &[], Means::Nothing),
-    (false, 1, SECOND_END, HELLO, &[(0, 0x12)], Means::Nothing),
-    (false, 1, SECOND_END, HELLO, &[(0, 0x17)], Means::Nothing),
-    (false, 1, FIRST_END, NOT_PRESENT, &[], Means::Error(1, 0x82)),
-    (false, 1, SECOND_END, HELLO, &[(1, 0x07)], Means::Waiting),
+    (true, 60_000, SECOND_END, HELLO, &[], UP),
+    (true, 120_000, SECOND_END, HELLO, &[], NOTHING),
+    (false, 1, SECOND_END, HELLO, &[(0, 0x10)], REPLY),
+    (false, 1, SECOND_END, HELLO, &[], NOTHING),
+    (false, 1, SECOND_END, HELLO, &[(0, 0x12)], NOTHING),
+    (false, 1, SECOND_END, HELLO, &[(0, 0x17)], NOTHING),
+    (false, 1, FIRST_END, NOT_PRESENT, &[], ("error", 1, 0x82)),
+    (false, 1, SECOND_END, HELLO, &[(1, 0x07)], WAITS),
 ];
 
 /// What the octets mean for the node.
@@ -440,21 +429,26 @@ fn meaning(
     meaning_of(accept(joiner, at(ms)?, node, from, octets, out))
 }
 
-/// The datagram of a row comes to the node.
-fn expect_meaning<R: Abort + AllocGlobal>(
-    rt: &R,
+/// The octets mean this for the node, and if it is a reply, the error packet is written.
+fn expect_meaning(
+    rt: &impl Abort,
     node: &Node<1>,
     row: &Accepts,
+    octets: &[u8],
+    out: &mut ArrayVec<u8, 576>,
 ) -> Result<(), Fail> {
-    let octets = patched(rt, row.3, row.4)?;
-    let mut joiner = Joiner::new();
-    let mut out = ArrayVec::new();
-    let means = meaning(node, &mut joiner, row.1, row.2, &octets, &mut out)?;
+    let means = meaning(node, &mut Joiner::new(), row.1, row.2, octets, out)?;
     expect_eq_in(rt, &octets, &means, &row.5);
-    let is_reply = means == Means::Reply;
+    let is_reply = means.0 == "reply";
     let reply: &[u8] = if is_reply { NOT_PRESENT } else { b"" };
     expect_eq(rt, &out.as_slice(), &reply);
     Ok(())
+}
+
+/// The datagram of a row comes to the node.
+fn expect_row<R: Abort + AllocGlobal>(rt: &R, node: &Node<1>, row: &Accepts) -> Result<(), Fail> {
+    let octets = patched(rt, row.3, row.4)?;
+    expect_meaning(rt, node, row, &octets, &mut ArrayVec::new())
 }
 
 #[test]
@@ -465,7 +459,7 @@ fn datagrams_are_for_names_that_are_held(rt: HostRuntime) -> Result<(), Fail> {
     hold_team(&mut holder, &mut ArrayVec::new())?;
     for row in ACCEPTS {
         let node = if row.0 { &holder } else { &nobody };
-        expect_meaning(&rt, node, row)?;
+        expect_row(&rt, node, row)?;
     }
     Ok(())
 }

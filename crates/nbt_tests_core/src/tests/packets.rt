@@ -230,13 +230,14 @@ fn messages_are_written_and_read(rt: HostRuntime) -> Result<(), Fail> {
 
 #[test]
 fn registration_of_fred(rt: HostRuntime) -> Result<(), Fail> {
+    let fred = fred(b"")?;
     let (packet, length) = decode(REGISTRATION)?;
     expect_eq(&rt, &length, &68);
     let Some(Message::Registration(read)) = classify(&packet) else {
         return Err(Fail::from("no registration"));
     };
     expect_eq(&rt, &read.id, &1);
-    expect(&rt, read.name == fred(b"")?);
+    expect(&rt, read.name == fred);
     expect_eq(&rt, &read.kind, &Kind::Unique);
     expect_eq(&rt, &read.addr, &0x7F000002);
     expect_eq(&rt, &read.ttl, &60);
@@ -533,17 +534,24 @@ fn a_written_form_of_576_octets_and_one_longer(rt: HostRuntime) -> Result<(), Fa
     Ok(())
 }
 
+/// The scope of the longest name: three labels of 63 octets and one of 28.
+const LONGEST_SCOPE: &[u8] =
+    b"\x3Faaaaaaaaaaaaaaaaaaaaaaaaaaaaaaaaaaaaaaaaaaaaaaaaaaaaaaaaaaaaaaa\x3Faaaaaaaaaaaaaaaaaaaaaaaaaaaaaaaaaaaaaaaaaaaaaaaaaaaaaaaaaaaaaaa\x3Faaaaaaaaaaaaaaaaaaaaaaaaaaaaaaaaaaaaaaaaaaaaaaaaaaaaaaaaaaaaaaa\x1Caaaaaaaaaaaaaaaaaaaaaaaaaaaa";
+
+/// A scope, and how many entries have room beside FRED in it.
+const ENTRIES: &[(&[u8], usize)] = &[
+    (b"", 86),
+    (b"\x03abc", 86),
+    (b"\x04abcd", 85),
+    (LONGEST_SCOPE, 49),
+];
+
 /// Beside a wire form of w octets there is room for (576 - 22 - w) / 6 entries, rounded down.
 #[test]
 fn as_many_entries_as_have_room_beside_a_name(rt: HostRuntime) -> Result<(), Fail> {
-    let mut longest = [b'a'; 221];
-    longest[0] = 63;
-    longest[64] = 63;
-    longest[128] = 63;
-    longest[192] = 28;
-    expect_eq(&rt, &entries_most(&fred(b"")?), &86);
-    expect_eq(&rt, &entries_most(&fred(b"\x03abc")?), &86);
-    expect_eq(&rt, &entries_most(&fred(b"\x04abcd")?), &85);
-    expect_eq(&rt, &entries_most(&fred(&longest)?), &49);
+    for (scope, most) in ENTRIES {
+        let name = fred(scope)?;
+        expect_eq_in(&rt, &scope, &entries_most(&name), &*most);
+    }
     Ok(())
 }

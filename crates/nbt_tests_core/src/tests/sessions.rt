@@ -99,11 +99,11 @@ fn packets_are_their_texts(rt: HostRuntime) -> Result<(), Fail> {
 /// Gives a new stream the octets in pieces of a size: the packets of the table come in order, and then as many octets as are said.
 fn play_cut<R: Abort + AllocGlobal>(
     rt: &R,
+    stream: &mut Stream,
     octets: &[u8],
     size: usize,
     more: usize,
 ) -> Result<(), Fail> {
-    let mut stream = Stream::new(rt.alloc());
     let mut came = 0usize;
     let mut held = 0usize;
     for piece in octets.chunks(size.max(1)) {
@@ -134,7 +134,8 @@ fn a_stream_cut_anywhere(rt: HostRuntime) -> Result<(), Fail> {
     }
     octets.extend_from_slice(b"\x00\x01\x00\x00rest")?;
     for size in &[1, 2, 3, 5, 7, 64, 200] {
-        play_cut(&rt, &octets, *size, 8)?;
+        let mut stream = Stream::new(rt.alloc());
+        play_cut(&rt, &mut stream, &octets, *size, 8)?;
     }
     Ok(())
 }
