@@ -43,7 +43,11 @@ fn name_of(octets: &[u8; 16]) -> Result<Name, Fail> {
 }
 
 /// The octets with others at some places.
-fn patched(rt: &HostRuntime, octets: &[u8], patches: &[(usize, u8)]) -> Result<Vec<u8>, Fail> {
+fn patched<R: AllocGlobal>(
+    rt: &R,
+    octets: &[u8],
+    patches: &[(usize, u8)],
+) -> Result<Vec<u8>, Fail> {
     let mut copy = Vec::from_slice(rt.alloc(), octets)?;
     for (place, octet) in patches {
         *copy.get_mut(*place).ok_or("a place behind the octets")? = *octet;

@@ -11,6 +11,7 @@ use nbt_node::Node;
 use nbt_session::{
     Caller, CallerAnswer, Entry, Event, Failure, Full, Listener, ListenerAnswer, laws,
 };
+use std::process::Abort;
 use std::test::Fail;
 
 const FIRST: Addr = Addr {
@@ -29,7 +30,7 @@ const SOMEBODY: &[u8; 16] = b"SOMEBODY        ";
 const REQUEST: Said<'static> = Said::Request(FRED, TEAM);
 
 /// What happens to a connection.
-#[derive(Clone, Copy, Debug)]
+#[derive(Clone, Copy)]
 enum Happens<'a> {
     Stands,
     IsLost,
@@ -45,7 +46,7 @@ fn event<A: AllocGlobal>(rt: &A, happens: Happens<'_>) -> Result<Event, Fail> {
 }
 
 /// What a caller of FRED by TEAM answers.
-#[derive(Clone, Copy, Debug)]
+#[derive(Clone, Copy)]
 enum Calls<'a> {
     Nothing,
     Connects(Addr),
@@ -68,112 +69,142 @@ fn caller_answer<A: AllocGlobal>(rt: &A, calls: Calls<'_>) -> Result<CallerAnswe
     })
 }
 
-/// What happens in turn to a call that began with 127.0.0.2, and what the caller answers.
-type Call = &'static [(Happens<'static>, Calls<'static>)];
+/// What comes of a call that began with 127.0.0.2; what happens in turn to it, and what the caller answers.
+type Call = (&'static str, &'static [(Happens<'static>, Calls<'static>)]);
 
-const CALLS: [Call; 9] = [
-    // Retargeted, and opened.
-    &[
-        (Happens::Stands, Calls::Sends(REQUEST)),
-        (Happens::Brings(Said::KeepAlive), Calls::Nothing),
-        (
-            Happens::Brings(Said::Retarget(SECOND)),
-            Calls::Connects(SECOND),
-        ),
-        (Happens::Stands, Calls::Sends(REQUEST)),
-        (Happens::Brings(Said::Positive), Calls::Opens),
-        (
-            Happens::Brings(Said::Message(b"hello")),
-            Calls::HandsUp(b"hello"),
-        ),
-        (Happens::Brings(Said::KeepAlive), Calls::Nothing),
-        (Happens::IsLost, Calls::Closes),
-        (Happens::Stands, Calls::Nothing),
-    ],
-    // A fourth retarget.
-    &[
-        (Happens::Stands, Calls::Sends(REQUEST)),
-        (
-            Happens::Brings(Said::Retarget(SECOND)),
-            Calls::Connects(SECOND),
-        ),
-        (Happens::Stands, Calls::Sends(REQUEST)),
-        (
-            Happens::Brings(Said::Retarget(SECOND)),
-            Calls::Connects(SECOND),
-        ),
-        (Happens::Stands, Calls::Sends(REQUEST)),
-        (
-            Happens::Brings(Said::Retarget(SECOND)),
-            Calls::Connects(SECOND),
-        ),
-        (Happens::Stands, Calls::Sends(REQUEST)),
-        (
-            Happens::Brings(Said::Retarget(FIRST)),
-            Calls::Fails(Failure::TooManyTries),
-        ),
-        (Happens::Stands, Calls::Nothing),
-    ],
-    // Lost four times.
-    &[
-        (Happens::IsLost, Calls::Connects(FIRST)),
-        (Happens::IsLost, Calls::Connects(FIRST)),
-        (Happens::IsLost, Calls::Connects(FIRST)),
-        (Happens::IsLost, Calls::Fails(Failure::NoConnection)),
-    ],
-    // Answered otherwise.
-    &[
-        (Happens::Stands, Calls::Sends(REQUEST)),
-        (
-            Happens::Brings(Said::Negative(0x82)),
-            Calls::Fails(Failure::Refused(0x82)),
-        ),
-    ],
-    &[
-        (Happens::Stands, Calls::Sends(REQUEST)),
-        (
-            Happens::Brings(Said::Message(b"hi")),
+const CALLS: &[Call] = &[
+    (
+        "it is retargeted, and opened",
+        &[
+            (Happens::Stands, Calls::Sends(REQUEST)),
+            (Happens::Brings(Said::KeepAlive), Calls::Nothing),
+            (
+                Happens::Brings(Said::Retarget(SECOND)),
+                Calls::Connects(SECOND),
+            ),
+            (Happens::Stands, Calls::Sends(REQUEST)),
+            (Happens::Brings(Said::Positive), Calls::Opens),
+            (
+                Happens::Brings(Said::Message(b"hello")),
+                Calls::HandsUp(b"hello"),
+            ),
+            (Happens::Brings(Said::KeepAlive), Calls::Nothing),
+            (Happens::IsLost, Calls::Closes),
+            (Happens::Stands, Calls::Nothing),
+        ],
+    ),
+    (
+        "a fourth retarget",
+        &[
+            (Happens::Stands, Calls::Sends(REQUEST)),
+            (
+                Happens::Brings(Said::Retarget(SECOND)),
+                Calls::Connects(SECOND),
+            ),
+            (Happens::Stands, Calls::Sends(REQUEST)),
+            (
+                Happens::Brings(Said::Retarget(SECOND)),
+                Calls::Connects(SECOND),
+            ),
+            (Happens::Stands, Calls::Sends(REQUEST)),
+            (
+                Happens::Brings(Said::Retarget(SECOND)),
+                Calls::Connects(SECOND),
+            ),
+            (Happens::Stands, Calls::Sends(REQUEST)),
+            (
+                Happens::Brings(Said::Retarget(FIRST)),
+                Calls::Fails(Failure::TooManyTries),
+            ),
+            (Happens::Stands, Calls::Nothing),
+        ],
+    ),
+    (
+        "it is lost four times",
+        &[
+            (Happens::IsLost, Calls::Connects(FIRST)),
+            (Happens::IsLost, Calls::Connects(FIRST)),
+            (Happens::IsLost, Calls::Connects(FIRST)),
+            (Happens::IsLost, Calls::Fails(Failure::NoConnection)),
+        ],
+    ),
+    (
+        "it is refused",
+        &[
+            (Happens::Stands, Calls::Sends(REQUEST)),
+            (
+                Happens::Brings(Said::Negative(0x82)),
+                Calls::Fails(Failure::Refused(0x82)),
+            ),
+        ],
+    ),
+    (
+        "a message answers it",
+        &[
+            (Happens::Stands, Calls::Sends(REQUEST)),
+            (
+                Happens::Brings(Said::Message(b"hi")),
+                Calls::Fails(Failure::Protocol),
+            ),
+        ],
+    ),
+    (
+        "a request answers it",
+        &[
+            (Happens::Stands, Calls::Sends(REQUEST)),
+            (Happens::Brings(REQUEST), Calls::Fails(Failure::Protocol)),
+        ],
+    ),
+    (
+        "a packet before the request",
+        &[(
+            Happens::Brings(Said::KeepAlive),
             Calls::Fails(Failure::Protocol),
-        ),
-    ],
-    &[
-        (Happens::Stands, Calls::Sends(REQUEST)),
-        (Happens::Brings(REQUEST), Calls::Fails(Failure::Protocol)),
-    ],
-    // A packet before the request.
-    &[(
-        Happens::Brings(Said::KeepAlive),
-        Calls::Fails(Failure::Protocol),
-    )],
-    // What has no place in a session that is open.
-    &[
-        (Happens::Stands, Calls::Sends(REQUEST)),
-        (Happens::Brings(Said::Positive), Calls::Opens),
-        (Happens::Brings(REQUEST), Calls::Fails(Failure::Protocol)),
-    ],
-    &[
-        (Happens::Stands, Calls::Sends(REQUEST)),
-        (Happens::Brings(Said::Positive), Calls::Opens),
-        (
-            Happens::Brings(Said::Positive),
-            Calls::Fails(Failure::Protocol),
-        ),
-    ],
+        )],
+    ),
+    (
+        "a request has no place in a session that is open",
+        &[
+            (Happens::Stands, Calls::Sends(REQUEST)),
+            (Happens::Brings(Said::Positive), Calls::Opens),
+            (Happens::Brings(REQUEST), Calls::Fails(Failure::Protocol)),
+        ],
+    ),
+    (
+        "a positive response has no place in a session that is open",
+        &[
+            (Happens::Stands, Calls::Sends(REQUEST)),
+            (Happens::Brings(Said::Positive), Calls::Opens),
+            (
+                Happens::Brings(Said::Positive),
+                Calls::Fails(Failure::Protocol),
+            ),
+        ],
+    ),
 ];
+
+/// Something happens to a call, and the caller answers it so.
+fn expect_answer<A: AllocGlobal + Abort>(
+    rt: &A,
+    place: &(&str, usize),
+    caller: &mut Caller,
+    happens: Happens<'_>,
+    calls: Calls<'_>,
+) -> Result<(), Fail> {
+    let wanted = caller_answer(rt, calls)?;
+    let answer = caller.on(event(rt, happens)?);
+    expect_in(rt, place, answer == wanted);
+    Ok(())
+}
 
 #[test]
 fn calls_and_what_comes_of_them(rt: HostRuntime) -> Result<(), Fail> {
     laws::one_call_move();
-    for steps in &CALLS {
+    for (what, steps) in CALLS {
         let (mut caller, begun) = Caller::begin(fred(b"")?, team(b"")?, FIRST);
         expect(&rt, begun == CallerAnswer::Connect(FIRST));
-        for (happens, wanted) in *steps {
-            let answer = caller.on(event(&rt, *happens)?);
-            expect_in(
-                &rt,
-                &(&happens, &wanted),
-                answer == caller_answer(&rt, *wanted)?,
-            );
+        for (number, (happens, calls)) in steps.iter().enumerate() {
+            expect_answer(&rt, &(*what, number), &mut caller, *happens, *calls)?;
         }
     }
     Ok(())
@@ -188,8 +219,8 @@ const NUMBERS: [(Failure, u8); 4] = [
 
 #[test]
 fn numbers_of_failures(rt: HostRuntime) {
-    for (failure, number) in NUMBERS {
-        expect_eq(&rt, &failure.number(), &number);
+    for (failure, number) in &NUMBERS {
+        expect_eq(&rt, &failure.number(), &*number);
     }
 }
 
@@ -197,17 +228,16 @@ fn numbers_of_failures(rt: HostRuntime) {
 const REGISTERED: &[u8; 62] =
     b"\x00\x01\xAD\x80\x00\x00\x00\x01\x00\x00\x00\x00 EGFCEFEECACACACACACACACACACACACA\x00\x00\x20\x00\x01\x00\x00\x00\x3C\x00\x06\x20\x00\x7F\x00\x00\x02";
 
-/// A node that asked for FRED at 60,000, and holds it by a reply at 60,900.
-fn holder() -> Result<Node<2>, Fail> {
-    let mut node = Node::start(FIRST, SERVER, Config::new(1000, 60, 4096)?, at(0)?);
-    let mut out = ArrayVec::new();
-    node.ask(at(60_000)?, &fred(b"")?, Kind::Unique, 60, &mut out)?;
-    node.on_datagram(at(60_900)?, SERVER, REGISTERED, &mut out)?;
-    Ok(node)
+/// The node asks for FRED at 60,000, and holds it by a reply at 60,900.
+fn hold(node: &mut Node<2>, out: &mut ArrayVec<u8, 576>) -> Result<(), Fail> {
+    let fred = fred(b"")?;
+    node.ask(at(60_000)?, &fred, Kind::Unique, 60, out)?;
+    node.on_datagram(at(60_900)?, SERVER, REGISTERED, out)?;
+    Ok(())
 }
 
 /// What a listener answers.
-#[derive(Clone, Copy, Debug)]
+#[derive(Clone, Copy)]
 enum Listens<'a> {
     Nothing,
     Takes,
@@ -229,7 +259,7 @@ fn listener_answer<A: AllocGlobal>(rt: &A, listens: Listens<'_>) -> Result<Liste
 }
 
 /// What is done with a listener of four entries and two connections.
-#[derive(Clone, Copy, Debug)]
+#[derive(Clone, Copy)]
 enum Step<'a> {
     /// An entry for FRED: the one calling name or none, where the call is to be made instead, and whether there is room.
     Listen(Option<&'a [u8; 16]>, Option<Addr>, Result<(), Full>),
@@ -239,6 +269,20 @@ enum Step<'a> {
     On(u64, usize, Happens<'a>, Listens<'a>),
 }
 
+/// An entry for FRED.
+fn entry(calling: Option<&[u8; 16]>, retarget: Option<Addr>) -> Result<Entry, Fail> {
+    let calling = match calling {
+        Some(octets) => Some(name_of(octets)?),
+        None => None,
+    };
+    Ok(Entry {
+        called: fred(b"")?,
+        calling,
+        retarget,
+    })
+}
+
+/// Whether a step goes so.
 fn play<A: AllocGlobal>(
     rt: &A,
     node: &Node<2>,
@@ -247,15 +291,7 @@ fn play<A: AllocGlobal>(
 ) -> Result<bool, Fail> {
     Ok(match step {
         Step::Listen(calling, retarget, wanted) => {
-            let calling = match calling {
-                Some(octets) => Some(name_of(octets)?),
-                None => None,
-            };
-            let entry = Entry {
-                called: fred(b"")?,
-                calling,
-                retarget,
-            };
+            let entry = entry(calling, retarget)?;
             listener.listen(entry) == wanted
         }
         Step::Unlisten(octets) => {
@@ -263,8 +299,9 @@ fn play<A: AllocGlobal>(
             true
         }
         Step::On(now, slot, happens, wanted) => {
-            let slot = slot.min(1);
-            listener.on(at(now)?, node, slot, event(rt, happens)?) == listener_answer(rt, wanted)?
+            let now = at(now)?;
+            let wanted = listener_answer(rt, wanted)?;
+            listener.on(now, node, slot.min(1), event(rt, happens)?) == wanted
         }
     })
 }
@@ -277,12 +314,12 @@ const FIRST_STANDS: Step<'static> = Step::On(70_000, 0, Happens::Stands, Listens
 
 const SECOND_STANDS: Step<'static> = Step::On(70_000, 1, Happens::Stands, Listens::Nothing);
 
-/// How many connections may be open, and what is done in turn.
-type Row = (usize, &'static [Step<'static>]);
+/// What is shown; how many connections may be open, and what is done in turn.
+type Row = (&'static str, usize, &'static [Step<'static>]);
 
-const LISTENERS: [Row; 5] = [
-    // A call is taken while its name is held, and no call of `*`.
+const LISTENERS: &[Row] = &[
     (
+        "a call is taken while its name is held, and no call of `*`",
         2,
         &[
             ANYBODY,
@@ -299,8 +336,8 @@ const LISTENERS: [Row; 5] = [
             ),
         ],
     ),
-    // Calls are refused in order: before the node's last moment, by an entry for another caller, by none, by one open.
     (
+        "calls are refused in order: before the node's last moment, by an entry for another caller, by none, by one open",
         1,
         &[
             Step::Listen(Some(FRED), None, Ok(())),
@@ -318,8 +355,8 @@ const LISTENERS: [Row; 5] = [
             Step::On(70_000, 1, Happens::Brings(REQUEST), Listens::Refuses(0x83)),
         ],
     ),
-    // The first entry that takes the call; a retarget isn't looked for where one is open.
     (
+        "the first entry that takes the call; a retarget isn't looked for where one is open",
         1,
         &[
             Step::Listen(Some(FRED), None, Ok(())),
@@ -343,8 +380,8 @@ const LISTENERS: [Row; 5] = [
             Step::On(70_000, 1, Happens::Brings(REQUEST), Listens::Refuses(0x83)),
         ],
     ),
-    // Connections come and go: a message before the request, and no connection.
     (
+        "connections come and go: a message before the request, and no connection",
         2,
         &[
             ANYBODY,
@@ -381,8 +418,8 @@ const LISTENERS: [Row; 5] = [
             Step::On(70_000, 1, Happens::Brings(Said::Positive), Listens::Closes),
         ],
     ),
-    // Four entries are full.
     (
+        "four entries are full",
         2,
         &[
             ANYBODY,
@@ -401,17 +438,26 @@ const LISTENERS: [Row; 5] = [
     ),
 ];
 
+/// The steps of a row, with a new listener.
+fn play_row<A: AllocGlobal + Abort>(rt: &A, node: &Node<2>, row: &Row) -> Result<(), Fail> {
+    let mut listener: Listener<4, 2> = Listener::new(row.1.min(2));
+    for (number, step) in row.2.iter().enumerate() {
+        let is_so = play(rt, node, &mut listener, *step)?;
+        expect_in(rt, &(row.0, number), is_so);
+    }
+    Ok(())
+}
+
 #[test]
 fn listeners_and_what_they_answer(rt: HostRuntime) -> Result<(), Fail> {
     laws::calls_go_to_held_names();
     laws::one_listener_move();
     laws::at_most_so_many_are_open();
-    for (most, steps) in &LISTENERS {
-        let node = holder()?;
-        let mut listener: Listener<4, 2> = Listener::new((*most).min(2));
-        for step in *steps {
-            expect_in(&rt, &step, play(&rt, &node, &mut listener, *step)?);
-        }
+    let config = Config::new(1000, 60, 4096)?;
+    let mut holder: Node<2> = Node::start(FIRST, SERVER, config, at(0)?);
+    hold(&mut holder, &mut ArrayVec::new())?;
+    for row in LISTENERS {
+        play_row(&rt, &holder, row)?;
     }
     Ok(())
 }

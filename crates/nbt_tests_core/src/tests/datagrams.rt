@@ -55,18 +55,23 @@ fn fragments<'a>(
     )?)
 }
 
+/// The octets of a packet.
+fn octets_of(rt: &HostRuntime, packet: &Dgram<'_>) -> Result<Vec<u8>, Fail> {
+    if !packet.fits() {
+        return Err("a packet that doesn't fit")?;
+    }
+    let mut out = ArrayVec::new();
+    encode(packet, &mut out)?;
+    Ok(Vec::from_slice(rt.alloc(), out.as_slice())?)
+}
+
 /// The octets of the packets that data of 512 octets are split into.
 fn written(rt: &HostRuntime, scope: &[u8]) -> Result<Vec<Vec<u8>>, Fail> {
     let payload = [7; 512];
     let packets = fragments(Delivery::DirectGroup, scope, &payload)?;
     let mut all = Vec::new(rt.alloc());
     for packet in packets.as_slice() {
-        if !packet.fits() {
-            return Err("a packet that doesn't fit")?;
-        }
-        let mut out = ArrayVec::new();
-        encode(packet, &mut out)?;
-        all.push(Vec::from_slice(rt.alloc(), out.as_slice())?)?;
+        all.push(octets_of(rt, packet)?)?;
     }
     Ok(all)
 }
@@ -139,46 +144,49 @@ const SPLITS: &[Splits] = &[
     ),
 ];
 
+/// The packets are of these lengths, and have these octets at some places.
+fn expect_split(
+    rt: &impl Abort,
+    packets: &[Vec<u8>],
+    lengths: &[usize],
+    octets: &[(usize, usize, u8)],
+) -> Result<(), Fail> {
+    expect_eq(rt, &packets.len(), &2);
+    for (packet, length) in packets.iter().zip(lengths) {
+        expect_eq(rt, &packet.len(), &*length);
+    }
+    for (which, place, octet) in octets {
+        let packet = packets.get(*which).ok_or("no such packet")?;
+        expect_eq_in(rt, &place, &packet.get(*place), &Some(octet));
+    }
+    Ok(())
+}
+
 #[test]
 fn data_of_512_octets_are_split(rt: HostRuntime) -> Result<(), Fail> {
     for (scope, lengths, octets) in SPLITS {
         let packets = written(&rt, scope)?;
-        expect_eq(&rt, &packets.len(), &2);
-        for (packet, length) in packets.iter().zip(lengths) {
-            expect_eq(&rt, &packet.len(), &*length);
-        }
-        for (which, place, octet) in *octets {
-            let packet = packets.get(*which).ok_or("no such packet")?;
-            expect_eq_in(&rt, &place, &packet.get(*place), &Some(octet));
-        }
+        expect_split(&rt, packets.as_slice(), lengths, octets)?;
     }
     Ok(())
 }
 
 #[test]
 fn more_than_512_octets_are_too_long(rt: HostRuntime) -> Result<(), Fail> {
-    let names = (fred(b"")?, team(b"")?);
+    let source = fred(b"")?;
+    let destination = team(b"")?;
     let long = [7; 513];
-    let refused = split(
-        Delivery::DirectUnique,
-        1,
-        FIRST_END,
-        &names.0,
-        &names.1,
-        &long,
-    );
+    let delivery = Delivery::DirectUnique;
+    let refused = split(delivery, 1, FIRST_END, &source, &destination, &long);
     expect(&rt, matches!(refused, Err(TooLong)));
     expect_eq(&rt, &TooLong.number(), &1);
-    expect_eq(
-        &rt,
-        &fragments(Delivery::DirectUnique, b"", b"hello")?.len(),
-        &1,
-    );
+    let packets = fragments(delivery, b"", b"hello")?;
+    expect_eq(&rt, &packets.len(), &1);
     Ok(())
 }
 
 /// What is done with a joiner of one slot, and what that leads to.
-#[derive(Clone, Copy, Debug)]
+#[derive(Clone, Copy)]
 enum Step {
     /// A packet of those that data of 512 octets are split into, with other octets at some places, is put at a moment.
     Put(usize, &'static [(usize, u8)], u64, Told),
@@ -188,19 +196,24 @@ enum Step {
     Sweep(u64, usize),
 }
 
-/// What a joiner tells: whole data of a length, or what else.
-#[derive(Clone, Copy, Debug, PartialEq)]
-enum Told {
-    Whole(usize),
-    Waiting,
-    Dropped(u8),
-}
+/// What a joiner tells, in a word and a number: `whole` and the length of the data, `waiting`, or `dropped` and the reason's number.
+type Told = (&'static str, usize);
+
+const WAITING: Told = ("waiting", 0);
+
+const TOO_LONG: Told = ("dropped", 1);
+
+const CONFLICT: Told = ("dropped", 2);
+
+const FULL: Told = ("dropped", 3);
+
+const CLOCK_BACK: Told = ("dropped", 4);
 
 fn outcome_of(joined: Joined<'_>) -> Told {
     match joined {
-        Joined::Whole(_, payload) => Told::Whole(payload.as_slice().len()),
-        Joined::Waiting => Told::Waiting,
-        Joined::Dropped(why) => Told::Dropped(why.number()),
+        Joined::Whole(_, payload) => ("whole", payload.as_slice().len()),
+        Joined::Waiting => WAITING,
+        Joined::Dropped(why) => ("dropped", why.number() as usize),
     }
 }
 
@@ -211,22 +224,14 @@ fn put(joiner: &mut Joiner<1>, ms: u64, dgram: &Dgram<'_>) -> Result<Told, Fail>
     Ok(outcome_of(joiner.put(at(ms)?, dgram)))
 }
 
-const TOO_LONG: Told = Told::Dropped(1);
-
-const CONFLICT: Told = Told::Dropped(2);
-
-const FULL: Told = Told::Dropped(3);
-
-const CLOCK_BACK: Told = Told::Dropped(4);
-
 const JOINS: &[(&str, &[u8], &[Step])] = &[
     (
         "fragments are joined in any order",
         LONG_SCOPE,
         &[
-            Step::Put(1, &[], 100, Told::Waiting),
-            Step::Put(0, &[], 200, Told::Whole(512)),
-            Step::Put(0, &[], 300, Told::Waiting),
+            Step::Put(1, &[], 100, WAITING),
+            Step::Put(0, &[], 200, ("whole", 512)),
+            Step::Put(0, &[], 300, WAITING),
             Step::Sweep(2300, 0),
             Step::Sweep(2301, 1),
             Step::Put(0, &[], 2300, CLOCK_BACK),
@@ -237,9 +242,9 @@ const JOINS: &[(&str, &[u8], &[Step])] = &[
         "fragments that disagree empty the slot",
         b"",
         &[
-            Step::Put(1, &[], 100, Told::Waiting),
+            Step::Put(1, &[], 100, WAITING),
             Step::Put(1, &[(14, 8)], 100, CONFLICT),
-            Step::Put(0, &[], 100, Told::Waiting),
+            Step::Put(0, &[], 100, WAITING),
             Step::Put(1, &[(14, 8), (3, 2)], 100, FULL),
         ],
     ),
@@ -247,9 +252,9 @@ const JOINS: &[(&str, &[u8], &[Step])] = &[
         "a gap stays a gap",
         b"",
         &[
-            Step::Piece(1, 0, true, Told::Waiting),
-            Step::Piece(1, 4, false, Told::Waiting),
-            Step::Piece(1, 2, true, Told::Whole(6)),
+            Step::Piece(1, 0, true, WAITING),
+            Step::Piece(1, 4, false, WAITING),
+            Step::Piece(1, 2, true, ("whole", 6)),
             Step::Piece(2, 511, true, TOO_LONG),
         ],
     ),
@@ -257,37 +262,79 @@ const JOINS: &[(&str, &[u8], &[Step])] = &[
         "a datagram is waited for 2,000 ms",
         b"",
         &[
-            Step::Put(0, &[], 0, Told::Waiting),
-            Step::Put(1, &[], 2000, Told::Whole(512)),
-            Step::Put(0, &[], 3000, Told::Waiting),
-            Step::Put(1, &[], 5001, Told::Waiting),
+            Step::Put(0, &[], 0, WAITING),
+            Step::Put(1, &[], 2000, ("whole", 512)),
+            Step::Put(0, &[], 3000, WAITING),
+            Step::Put(1, &[], 5001, WAITING),
         ],
     ),
 ];
 
+/// A packet is put with other octets at some places.
+fn put_patched<R: AllocGlobal>(
+    rt: &R,
+    joiner: &mut Joiner<1>,
+    packet: &[u8],
+    patches: &[(usize, u8)],
+    ms: u64,
+) -> Result<Told, Fail> {
+    let octets = patched(rt, packet, patches)?;
+    let (dgram, _) = decode(&octets)?;
+    put(joiner, ms, &dgram)
+}
+
+/// A step of those of a joiner.
+fn join_step<R: Abort + AllocGlobal>(
+    rt: &R,
+    what: &str,
+    joiner: &mut Joiner<1>,
+    packets: &[Vec<u8>],
+    step: &Step,
+) -> Result<(), Fail> {
+    match *step {
+        Step::Put(which, patches, ms, expected) => {
+            let packet = packets.get(which).ok_or("no such packet")?;
+            let told = put_patched(rt, joiner, packet, patches, ms)?;
+            expect_eq_in(rt, &what, &told, &expected);
+        }
+        Step::Piece(id, offset, more, expected) => {
+            let dgram = piece(id, part_at(offset)?, more, b"ab");
+            expect_eq_in(rt, &what, &put(joiner, 0, &dgram)?, &expected);
+        }
+        Step::Sweep(ms, emptied) => {
+            expect_eq_in(rt, &what, &joiner.sweep(at(ms)?), &emptied);
+        }
+    }
+    Ok(())
+}
+
+/// The steps, one after the other.
+fn join_steps<R: Abort + AllocGlobal>(
+    rt: &R,
+    what: &str,
+    joiner: &mut Joiner<1>,
+    packets: &[Vec<u8>],
+    steps: &[Step],
+) -> Result<(), Fail> {
+    for step in steps {
+        join_step(rt, what, joiner, packets, step)?;
+    }
+    Ok(())
+}
+
 #[test]
 fn fragments_are_joined(rt: HostRuntime) -> Result<(), Fail> {
+    one_datagram_or_fault();
+    written_form_is_read();
+    a_packet_does_one_thing();
+    octets_mean_one_thing();
+    what_is_read_fits();
+    a_joiner_carries_the_fragments_of_each_key();
+    fragments_make_up_one_whole();
+    a_slot_is_whole_where_its_fragments_make_up_data();
     for (what, scope, steps) in JOINS {
         let packets = written(&rt, scope)?;
-        let mut joiner = Joiner::new();
-        for step in *steps {
-            match *step {
-                Step::Put(which, patches, ms, expected) => {
-                    let packet = packets.get(which).ok_or("no such packet")?;
-                    let octets = patched(&rt, packet, patches)?;
-                    let (dgram, _) = decode(&octets)?;
-                    expect_eq_in(&rt, &what, &put(&mut joiner, ms, &dgram)?, &expected);
-                }
-                Step::Piece(id, offset, more, expected) => {
-                    let part = part_at(offset)?;
-                    let dgram = piece(id, part, more, b"ab");
-                    expect_eq_in(&rt, &what, &put(&mut joiner, 0, &dgram)?, &expected);
-                }
-                Step::Sweep(ms, emptied) => {
-                    expect_eq_in(&rt, &what, &joiner.sweep(at(ms)?), &emptied)
-                }
-            }
-        }
+        join_steps(&rt, what, &mut Joiner::new(), packets.as_slice(), steps)?;
     }
     Ok(())
 }
@@ -303,18 +350,18 @@ fn part_at(offset: u16) -> Result<Part, Fail> {
     }))
 }
 
-/// What a datagram means for the node at 127.0.0.3.
-#[derive(Clone, Copy, Debug, PartialEq)]
-enum Means {
-    /// `hello` for TEAM.
-    Up,
-    /// The error packet for its sender.
-    Reply,
-    /// An error with an id and a code.
-    Error(u16, u8),
-    Waiting,
-    Nothing,
-}
+/// What a datagram means for the node at 127.0.0.3: a word, and for an error its id and code.
+type Means = (&'static str, u16, u8);
+
+/// `hello` for TEAM.
+const UP: Means = ("up", 0, 0);
+
+/// The error packet for its sender.
+const REPLY: Means = ("reply", 0, 0);
+
+const WAITS: Means = ("waiting", 0, 0);
+
+const NOTHING: Means = ("nothing", 0, 0);
 
 fn meaning_of(accepted: Accept<'_>) -> Result<Means, Fail> {
     Ok(match accepted {
@@ -324,31 +371,29 @@ fn meaning_of(accepted: Accept<'_>) -> Result<Means, Fail> {
             if !is_hello || names.destination != team(b"")? {
                 return Err("something else is handed up")?;
             }
-            Means::Up
+            UP
         }
-        Accept::Reply(to) if to == FIRST_END => Means::Reply,
+        Accept::Reply(to) if to == FIRST_END => REPLY,
         Accept::Reply(_) => return Err("a reply to somebody else")?,
-        Accept::Error(id, code) => Means::Error(id, code),
-        Accept::Waiting => Means::Waiting,
-        Accept::Nothing => Means::Nothing,
+        Accept::Error(id, code) => ("error", id, code),
+        Accept::Waiting => WAITS,
+        Accept::Nothing => NOTHING,
     })
 }
 
-/// A node at 127.0.0.3 that was granted the group TEAM for 60 s at 60,000, or asked for nothing.
-fn node(is_granted: bool) -> Result<Node<1>, Fail> {
-    let config = Config::new(1000, 60, 4096)?;
-    let mut node = Node::start(SECOND_END, FIRST_END, config, at(0)?);
-    if is_granted {
-        let mut out = ArrayVec::new();
-        node.ask(at(60_000)?, &team(b"")?, Kind::Group, 60, &mut out)?;
-        let reply =
-            b"\x00\x01\xAD\x80\x00\x00\x00\x01\x00\x00\x00\x00 FEEFEBENCACACACACACACACACACACACA\x00\x00\x20\x00\x01\x00\x00\x00\x3C\x00\x06\xA0\x00\x7F\x00\x00\x03";
-        let heard = node.on_datagram(at(60_000)?, FIRST_END, reply, &mut out);
-        if !matches!(heard, Ok(Event::Granted(60))) {
-            return Err("TEAM isn't granted")?;
-        }
+/// The positive response to the registration of the group TEAM by 127.0.0.3, for 60 s.
+const TEAM_GRANTED: &[u8] =
+    b"\x00\x01\xAD\x80\x00\x00\x00\x01\x00\x00\x00\x00 FEEFEBENCACACACACACACACACACACACA\x00\x00\x20\x00\x01\x00\x00\x00\x3C\x00\x06\xA0\x00\x7F\x00\x00\x03";
+
+/// The node is granted the group TEAM for 60 s at 60,000.
+fn hold_team(node: &mut Node<1>, out: &mut ArrayVec<u8, 576>) -> Result<(), Fail> {
+    let team = team(b"")?;
+    node.ask(at(60_000)?, &team, Kind::Group, 60, out)?;
+    let heard = node.on_datagram(at(60_000)?, FIRST_END, TEAM_GRANTED, out);
+    if !matches!(heard, Ok(Event::Granted(60))) {
+        return Err("TEAM isn't granted")?;
     }
-    Ok(node)
+    Ok(())
 }
 
 /// Whether TEAM was granted, the moment, who sent the datagram, its octets with others at some places, and what it means.
@@ -362,31 +407,59 @@ type Accepts = (
 );
 
 const ACCEPTS: &[Accepts] = &[
-    (true, 60_000, SECOND_END, HELLO, &[], Means::Up),
-    (true, 120_000, SECOND_END, HELLO, &[], Means::Nothing),
-    (false, 1, SECOND_END, HELLO, &[(0, 0x10)], Means::Reply),
-    (false, 1, SECOND_END, HELLO, &[], Means::Nothing),
-    (false, 1, SECOND_END, HELLO, &[(0, 0x12)], Means::Nothing),
-    (false, 1, SECOND_END, HELLO, &[(0, 0x17)], Means::Nothing),
-    (false, 1, FIRST_END, NOT_PRESENT, &[], Means::Error(1, 0x82)),
-    (false, 1, SECOND_END, HELLO, &[(1, 0x07)], Means::Waiting),
+    (true, 60_000, SECOND_END, HELLO, &[], UP),
+    (true, 120_000, SECOND_END, HELLO, &[], NOTHING),
+    (false, 1, SECOND_END, HELLO, &[(0, 0x10)], REPLY),
+    (false, 1, SECOND_END, HELLO, &[], NOTHING),
+    (false, 1, SECOND_END, HELLO, &[(0, 0x12)], NOTHING),
+    (false, 1, SECOND_END, HELLO, &[(0, 0x17)], NOTHING),
+    (false, 1, FIRST_END, NOT_PRESENT, &[], ("error", 1, 0x82)),
+    (false, 1, SECOND_END, HELLO, &[(1, 0x07)], WAITS),
 ];
+
+/// What the octets mean for the node.
+fn meaning(
+    node: &Node<1>,
+    joiner: &mut Joiner<1>,
+    ms: u64,
+    from: Addr,
+    octets: &[u8],
+    out: &mut ArrayVec<u8, 576>,
+) -> Result<Means, Fail> {
+    meaning_of(accept(joiner, at(ms)?, node, from, octets, out))
+}
+
+/// The octets mean this for the node, and if it is a reply, the error packet is written.
+fn expect_meaning(
+    rt: &impl Abort,
+    node: &Node<1>,
+    row: &Accepts,
+    octets: &[u8],
+    out: &mut ArrayVec<u8, 576>,
+) -> Result<(), Fail> {
+    let means = meaning(node, &mut Joiner::new(), row.1, row.2, octets, out)?;
+    expect_eq_in(rt, &octets, &means, &row.5);
+    let is_reply = means.0 == "reply";
+    let reply: &[u8] = if is_reply { NOT_PRESENT } else { b"" };
+    expect_eq(rt, &out.as_slice(), &reply);
+    Ok(())
+}
+
+/// The datagram of a row comes to the node.
+fn expect_row<R: Abort + AllocGlobal>(rt: &R, node: &Node<1>, row: &Accepts) -> Result<(), Fail> {
+    let octets = patched(rt, row.3, row.4)?;
+    expect_meaning(rt, node, row, &octets, &mut ArrayVec::new())
+}
 
 #[test]
 fn datagrams_are_for_names_that_are_held(rt: HostRuntime) -> Result<(), Fail> {
-    for (is_granted, ms, from, octets, patches, expected) in ACCEPTS {
-        let node = node(*is_granted)?;
-        let octets = patched(&rt, octets, patches)?;
-        let mut joiner: Joiner<1> = Joiner::new();
-        let mut out = ArrayVec::new();
-        let accepted = accept(&mut joiner, at(*ms)?, &node, *from, &octets, &mut out);
-        expect_eq_in(&rt, &octets, &meaning_of(accepted)?, &*expected);
-        let reply = if *expected == Means::Reply {
-            NOT_PRESENT
-        } else {
-            b"".as_slice()
-        };
-        expect_eq(&rt, &out.as_slice(), &reply);
+    let config = Config::new(1000, 60, 4096)?;
+    let nobody: Node<1> = Node::start(SECOND_END, FIRST_END, config, at(0)?);
+    let mut holder: Node<1> = Node::start(SECOND_END, FIRST_END, config, at(0)?);
+    hold_team(&mut holder, &mut ArrayVec::new())?;
+    for row in ACCEPTS {
+        let node = if row.0 { &holder } else { &nobody };
+        expect_row(&rt, node, row)?;
     }
     Ok(())
 }
@@ -462,16 +535,16 @@ const WORDS: [(DgramFaultKind, u8, &str); 8] = [
 
 #[test]
 fn numbers_and_words_of_faults(rt: HostRuntime) {
-    for (kind, number, word) in WORDS {
-        expect_eq(&rt, &kind.number(), &number);
-        expect_eq(&rt, &kind.word(), &word);
+    for (kind, number, word) in &WORDS {
+        expect_eq(&rt, &kind.number(), &*number);
+        expect_eq(&rt, &kind.word(), &*word);
         expect_eq(
             &rt,
             &DgramFaultKind::from_word(word.as_bytes()),
-            &Some(kind),
+            &Some(*kind),
         );
     }
-    for word in ["", "short", "Shorter", "TooMany", "BadName"] {
+    for word in &["", "short", "Shorter", "TooMany", "BadName"] {
         expect_eq(&rt, &DgramFaultKind::from_word(word.as_bytes()), &None);
     }
 }
@@ -493,31 +566,49 @@ fn datagrams_cut_at_every_length(rt: HostRuntime) -> Result<(), Fail> {
     Ok(())
 }
 
+/// A fragment of `hello`, the last one or not.
+fn fragment(delivery: Delivery, part: Part, more: bool) -> Body<'static> {
+    Body::Fragment(Fragment {
+        delivery,
+        part,
+        more,
+        payload: b"hello",
+    })
+}
+
+/// Fragments of this delivery, the first and a later one, are read back.
+fn fragments_are_read_back(rt: &impl Abort, delivery: Delivery, more: bool) -> Result<(), Fail> {
+    let names = Names {
+        source: fred(b"")?,
+        destination: team(LONG_SCOPE)?,
+    };
+    let first = fragment(delivery, Part::First(names), more);
+    expect(rt, is_read_back(first)?);
+    let later = fragment(delivery, Part::Later(9), more);
+    expect(rt, is_read_back(later)?);
+    Ok(())
+}
+
+/// Every type of a packet with data, and whether more fragments come.
+const DELIVERIES: [(Delivery, bool); 6] = [
+    (Delivery::DirectUnique, false),
+    (Delivery::DirectUnique, true),
+    (Delivery::DirectGroup, false),
+    (Delivery::DirectGroup, true),
+    (Delivery::Broadcast, false),
+    (Delivery::Broadcast, true),
+];
+
+const LOOKUPS: [Lookup; 3] = [Lookup::Request, Lookup::Positive, Lookup::Negative];
+
 #[test]
 fn every_type_is_read_back(rt: HostRuntime) -> Result<(), Fail> {
-    for delivery in [
-        Delivery::DirectUnique,
-        Delivery::DirectGroup,
-        Delivery::Broadcast,
-    ] {
-        for more in [false, true] {
-            let names = Names {
-                source: fred(b"")?,
-                destination: team(LONG_SCOPE)?,
-            };
-            for part in [Part::First(names), Part::Later(9)] {
-                let body = Body::Fragment(Fragment {
-                    delivery,
-                    part,
-                    more,
-                    payload: b"hello",
-                });
-                expect(&rt, is_read_back(body)?);
-            }
-        }
+    for (delivery, more) in &DELIVERIES {
+        fragments_are_read_back(&rt, *delivery, *more)?;
     }
-    for lookup in [Lookup::Request, Lookup::Positive, Lookup::Negative] {
-        expect(&rt, is_read_back(Body::Lookup(lookup, team(b"")?))?);
+    for lookup in &LOOKUPS {
+        let body = Body::Lookup(*lookup, team(b"")?);
+        expect(&rt, is_read_back(body)?);
     }
     expect(&rt, is_read_back(Body::Error(0x84))?);
     Ok(())
@@ -565,16 +656,4 @@ fn a_joiner_takes_1584_octets_a_slot(rt: HostRuntime) -> Result<(), Fail> {
     expect_eq(&rt, &MsgType::of(0x0F), &None);
     expect_eq(&rt, &Dropped::ClockBack.number(), &4);
     Ok(())
-}
-
-#[test]
-fn the_laws_of_datagrams_are_called() {
-    one_datagram_or_fault();
-    written_form_is_read();
-    a_packet_does_one_thing();
-    octets_mean_one_thing();
-    what_is_read_fits();
-    a_joiner_carries_the_fragments_of_each_key();
-    fragments_make_up_one_whole();
-    a_slot_is_whole_where_its_fragments_make_up_data();
 }

@@ -16,7 +16,7 @@ const FIRST: u32 = 0x7F000002;
 const SECOND: u32 = 0x7F000003;
 
 /// What is asked of a table at a moment, and what has to come of it. A grant gives its seconds and its end, or why not.
-#[derive(Clone, Copy, Debug)]
+#[derive(Clone, Copy)]
 enum Step<'a> {
     /// A name is asked for by an address, as a kind, for some seconds. Memory isn't refused.
     Grant(u64, &'a [u8; 16], u32, Kind, u32, Result<(u32, u64), GrantFault>),
@@ -44,7 +44,7 @@ enum Step<'a> {
 type Leases = ArrayVec<(u32, u64), 41>;
 
 /// A table of leases, at 0.
-fn table(rt: &HostRuntime, rows: usize) -> Result<Table, Fail> {
+fn table<R: AllocGlobal>(rt: &R, rows: usize) -> Result<Table, Fail> {
     Ok(Table::new(rt.alloc(), Config::new(1000, 60, rows)?))
 }
 
@@ -57,52 +57,74 @@ fn later(rt: &impl Abort, table: &Table, ms: u64) -> Result<Moment, Fail>
     Ok(now)
 }
 
-/// A table goes through the steps.
-fn play(rt: &impl Abort, table: &mut Table, steps: &[Step<'_>]) -> Result<(), Fail> {
-    for step in steps {
-        match *step {
-            Step::Grant(ms, octets, addr, kind, ttl, expected) => {
-                let name = name_of(octets)?;
-                let answer = grant(rt, table, ms, &name, addr, kind, ttl)?;
-                expect_eq_in(rt, &step, &answer, &expected);
-            }
-            Step::Join(ms, count, expected) => join(rt, table, ms, count, expected)?,
-            Step::Grow(ms, octets, addr, kind, ttl, expected) => {
-                let name = name_of(octets)?;
-                let answer = grow(rt, table, ms, &name, addr, kind, ttl)?;
-                expect_eq_in(rt, &step, &answer, &expected);
-            }
-            Step::JoinGrowing(ms, count, expected) => {
-                join_growing(rt, table, ms, count, expected)?;
-            }
-            _ => ask(rt, table, step)?,
-        }
+/// Which step of which case it is, for the failure to print.
+type Place<'a> = (&'a str, usize);
+
+/// A table goes through the steps of a case.
+fn play(rt: &impl Abort, what: &str, table: &mut Table, steps: &[Step<'_>]) -> Result<(), Fail> {
+    for (number, step) in steps.iter().enumerate() {
+        go(rt, &(what, number), table, step)?;
     }
     Ok(())
 }
 
+/// A step. Here are those that grant.
+fn go(rt: &impl Abort, place: &Place<'_>, table: &mut Table, step: &Step<'_>) -> Result<(), Fail> {
+    match *step {
+        Step::Grant(ms, octets, addr, kind, ttl, expected) => {
+            let name = name_of(octets)?;
+            let answer = grant(rt, table, ms, &name, addr, kind, ttl)?;
+            expect_eq_in(rt, place, &answer, &expected);
+        }
+        Step::Join(ms, count, expected) => join(rt, table, ms, count, expected)?,
+        Step::Grow(ms, octets, addr, kind, ttl, expected) => {
+            let name = name_of(octets)?;
+            let answer = grow(rt, table, ms, &name, addr, kind, ttl)?;
+            expect_eq_in(rt, place, &answer, &expected);
+        }
+        Step::JoinGrowing(ms, count, expected) => {
+            join_growing(rt, table, ms, count, expected)?;
+        }
+        _ => ask(rt, place, table, step)?,
+    }
+    Ok(())
+}
+
+/// The name is released by an address.
+fn release(
+    rt: &impl Abort,
+    place: &Place<'_>,
+    table: &mut Table,
+    ms: u64,
+    octets: &[u8; 16],
+    addr: u32,
+    expected: Released,
+) -> Result<(), Fail> {
+    let name = name_of(octets)?;
+    let now = later(rt, table, ms)?;
+    let released = table.release(now, &name, addr);
+    expect_eq_in(rt, place, &released, &expected);
+    Ok(())
+}
+
 /// The steps that take no memory.
-fn ask(rt: &impl Abort, table: &mut Table, step: &Step<'_>) -> Result<(), Fail> {
+fn ask(rt: &impl Abort, place: &Place<'_>, table: &mut Table, step: &Step<'_>) -> Result<(), Fail> {
     match *step {
         Step::Release(ms, addr, expected) => {
-            let now = later(rt, table, ms)?;
-            let released = table.release(now, &name_of(FRED)?, addr);
-            expect_eq_in(rt, &step, &released, &expected);
+            release(rt, place, table, ms, FRED, addr, expected)?;
         }
         Step::Leave(ms, addr, expected) => {
-            let now = later(rt, table, ms)?;
-            let released = table.release(now, &name_of(TEAM)?, addr);
-            expect_eq_in(rt, &step, &released, &expected);
+            release(rt, place, table, ms, TEAM, addr, expected)?;
         }
         Step::Sweep(ms) => {
             let now = later(rt, table, ms)?;
             table.sweep(now);
-            expect_in(rt, &step, table.last() == now);
+            expect_in(rt, place, table.last() == now);
         }
         Step::LeastEnd(ms, octets, expected) => {
             let now = later(rt, table, ms)?;
             let end = table.least_end(now, &name_of(octets)?);
-            expect_eq_in(rt, &step, &end, &expected);
+            expect_eq_in(rt, place, &end, &expected);
         }
         Step::LeastEndAfter(ms, count, expected) => {
             let now = later(rt, table, ms)?;
@@ -111,12 +133,12 @@ fn ask(rt: &impl Abort, table: &mut Table, step: &Step<'_>) -> Result<(), Fail> 
             for _ in 0..count {
                 members.next();
             }
-            expect_eq_in(rt, &step, &members.least_end(), &expected);
+            expect_eq_in(rt, place, &members.least_end(), &expected);
         }
         Step::Members(ms, octets, expected) => {
             let now = later(rt, table, ms)?;
             let leases = leases(table, now, &name_of(octets)?)?;
-            expect_eq_in(rt, &step, &leases.as_slice(), &expected);
+            expect_eq_in(rt, place, &leases.as_slice(), &expected);
         }
         _ => return Err("a step that grants")?,
     }
@@ -224,28 +246,24 @@ const REFUSED_LIMITS: &[(u64, u32, usize, ConfigFault, u8)] = &[
     (1, 1, 4_097, ConfigFault::Rows, 3),
 ];
 
+/// The greatest limits, and what is granted by them.
+fn expect_most(rt: &impl Abort, most: &Config) {
+    expect_eq(rt, &most.life(), &60_000);
+    expect_eq(rt, &most.longest(), &1_000_000);
+    expect_eq(rt, &most.rows(), &4_096);
+    expect_eq(rt, &most.granted(0), &1_000_000);
+    expect_eq(rt, &most.granted(7), &7);
+    expect_eq(rt, &most.granted(u32::MAX), &1_000_000);
+}
+
 #[test]
 fn limits_of_a_configuration(rt: HostRuntime) -> Result<(), Fail> {
     for (life, longest, rows, fault, number) in REFUSED_LIMITS {
-        expect_eq(
-            &rt,
-            &Config::new(*life, *longest, *rows).err(),
-            &Some(*fault),
-        );
+        let refused = Config::new(*life, *longest, *rows).err();
+        expect_eq(&rt, &refused, &Some(*fault));
         expect_eq(&rt, &fault.number(), &*number);
     }
-    let most = Config::new(60_000, 1_000_000, 4_096)?;
-    expect_eq(
-        &rt,
-        &(most.life(), most.longest(), most.rows()),
-        &(60_000, 1_000_000, 4_096),
-    );
-    expect_eq(
-        &rt,
-        &(most.granted(0), most.granted(7), most.granted(u32::MAX)),
-        &(1_000_000, 7, 1_000_000),
-    );
-    expect_eq(&rt, &table(&rt, 4_096)?.config().rows(), &4_096);
+    expect_most(&rt, &Config::new(60_000, 1_000_000, 4_096)?);
     expect_eq(&rt, &GrantFault::TableFull.number(), &2);
     expect_eq(&rt, &GrantFault::GroupFull.number(), &3);
     Ok(())
@@ -265,11 +283,11 @@ const RESTS: [(u64, u64); 5] = [
 
 #[test]
 fn what_a_node_allows_for_clocks_that_drift(rt: HostRuntime) -> Result<(), Fail> {
-    for (seconds, ms) in HOLDS {
-        expect_eq(&rt, &Config::hold(seconds), &ms);
+    for (seconds, ms) in &HOLDS {
+        expect_eq(&rt, &Config::hold(*seconds), &*ms);
     }
-    for (life, ms) in RESTS {
-        expect_eq(&rt, &Config::new(life, 60, 4_096)?.quiet(), &ms);
+    for (life, ms) in &RESTS {
+        expect_eq(&rt, &Config::new(*life, 60, 4_096)?.quiet(), &*ms);
     }
     laws::hold_ends_first();
     laws::rest_outlasts_datagrams();
@@ -316,26 +334,12 @@ const FRED_BELONGS_TO_ITS_OWNER_UNTIL_120_000: &[Step<'static>] = &[
     ),
 ];
 
-#[test]
-fn fred_belongs_to_its_owner_until_120_000(rt: HostRuntime) -> Result<(), Fail> {
-    play(
-        &rt,
-        &mut table(&rt, 4096)?,
-        FRED_BELONGS_TO_ITS_OWNER_UNTIL_120_000,
-    )
-}
-
 const RELEASE_BY_THE_OWNER_ALONE: &[Step<'static>] = &[
     Step::Grant(60_000, FRED, FIRST, Kind::Unique, 60, Ok((60, 120_000))),
     Step::Release(70_000, SECOND, Released::OfOthers),
     Step::Release(70_000, FIRST, Released::Gone),
     Step::Release(70_000, FIRST, Released::NoLease),
 ];
-
-#[test]
-fn release_by_the_owner_alone(rt: HostRuntime) -> Result<(), Fail> {
-    play(&rt, &mut table(&rt, 4096)?, RELEASE_BY_THE_OWNER_ALONE)
-}
 
 const MEMBERS_IN_ORDER_OF_THEIR_BEGINNINGS: &[Step<'static>] = &[
     Step::Grant(60_000, TEAM, FIRST, Kind::Group, 50, Ok((50, 110_000))),
@@ -346,15 +350,6 @@ const MEMBERS_IN_ORDER_OF_THEIR_BEGINNINGS: &[Step<'static>] = &[
     Step::Members(60_500, TEAM, &[(FIRST, 120_500), (SECOND, 80_000)]),
     Step::LeastEnd(60_500, TEAM, Some(80_000)),
 ];
-
-#[test]
-fn members_in_order_of_their_beginnings(rt: HostRuntime) -> Result<(), Fail> {
-    play(
-        &rt,
-        &mut table(&rt, 4096)?,
-        MEMBERS_IN_ORDER_OF_THEIR_BEGINNINGS,
-    )
-}
 
 /// The member with the least end is renewed, then released, then its lease ends; and one that has a later end is.
 const THE_LEAST_END_OF_A_GROUP: &[Step<'static>] = &[
@@ -394,11 +389,6 @@ const THE_LEAST_END_OF_A_GROUP: &[Step<'static>] = &[
     Step::LeastEnd(92_000, TEAM, None),
 ];
 
-#[test]
-fn the_least_end_of_a_group(rt: HostRuntime) -> Result<(), Fail> {
-    play(&rt, &mut table(&rt, 4096)?, THE_LEAST_END_OF_A_GROUP)
-}
-
 /// The 1,000th member's end is the least; it is renewed, the 999th's is it then, and all the others' once that is released.
 const THE_LEAST_END_OF_1_000: &[Step<'static>] = &[
     Step::Join(60_000, 998, Ok((60, 120_000))),
@@ -422,11 +412,6 @@ const THE_LEAST_END_OF_1_000: &[Step<'static>] = &[
     Step::Sweep(121_000),
     Step::LeastEnd(121_000, TEAM, Some(122_000)),
 ];
-
-#[test]
-fn the_least_end_of_1_000(rt: HostRuntime) -> Result<(), Fail> {
-    play(&rt, &mut table(&rt, 4096)?, THE_LEAST_END_OF_1_000)
-}
 
 const A_GROUP_OF_1_000_IS_FULL_BEFORE_A_TABLE_OF_1_000: &[Step<'static>] = &[
     Step::Join(60_000, 1_000, Ok((60, 120_000))),
@@ -453,15 +438,6 @@ const A_GROUP_OF_1_000_IS_FULL_BEFORE_A_TABLE_OF_1_000: &[Step<'static>] = &[
     Step::Members(120_000, TEAM, &[(1_000, 121_000)]),
 ];
 
-#[test]
-fn a_group_of_1_000_is_full_before_a_table_of_1_000(rt: HostRuntime) -> Result<(), Fail> {
-    play(
-        &rt,
-        &mut table(&rt, 1_000)?,
-        A_GROUP_OF_1_000_IS_FULL_BEFORE_A_TABLE_OF_1_000,
-    )
-}
-
 const A_TABLE_OF_999_IS_FULL_BEFORE_A_GROUP_OF_1_000: &[Step<'static>] = &[
     Step::Join(60_000, 999, Ok((60, 120_000))),
     Step::Grant(
@@ -473,15 +449,6 @@ const A_TABLE_OF_999_IS_FULL_BEFORE_A_GROUP_OF_1_000: &[Step<'static>] = &[
         Err(GrantFault::TableFull),
     ),
 ];
-
-#[test]
-fn a_table_of_999_is_full_before_a_group_of_1_000(rt: HostRuntime) -> Result<(), Fail> {
-    play(
-        &rt,
-        &mut table(&rt, 999)?,
-        A_TABLE_OF_999_IS_FULL_BEFORE_A_GROUP_OF_1_000,
-    )
-}
 
 const A_TABLE_OF_ONE_LEASE_HAS_ROOM_ONCE_IT_IS_OVER: &[Step<'static>] = &[
     Step::Grant(60_000, FRED, FIRST, Kind::Unique, 60, Ok((60, 120_000))),
@@ -496,13 +463,71 @@ const A_TABLE_OF_ONE_LEASE_HAS_ROOM_ONCE_IT_IS_OVER: &[Step<'static>] = &[
     Step::Grant(120_000, TEAM, FIRST, Kind::Group, 60, Ok((60, 180_000))),
 ];
 
-#[test]
-fn a_table_of_one_lease_has_room_once_it_is_over(rt: HostRuntime) -> Result<(), Fail> {
-    play(
-        &rt,
-        &mut table(&rt, 1)?,
+/// What the steps show, the rows of the table, and the steps. A function returns them, since the prover writes out all of a table in
+/// each step of a function that names it.
+type Case = (&'static str, usize, &'static [Step<'static>]);
+
+const CASES: &[Case] = &[
+    (
+        "FRED belongs to its owner until 120,000",
+        4096,
+        FRED_BELONGS_TO_ITS_OWNER_UNTIL_120_000,
+    ),
+    (
+        "release by the owner alone",
+        4096,
+        RELEASE_BY_THE_OWNER_ALONE,
+    ),
+    (
+        "members in order of their beginnings",
+        4096,
+        MEMBERS_IN_ORDER_OF_THEIR_BEGINNINGS,
+    ),
+    ("the least end of a group", 4096, THE_LEAST_END_OF_A_GROUP),
+    ("the least end of 1,000", 4096, THE_LEAST_END_OF_1_000),
+    (
+        "a group of 1,000 is full before a table of 1,000",
+        1_000,
+        A_GROUP_OF_1_000_IS_FULL_BEFORE_A_TABLE_OF_1_000,
+    ),
+    (
+        "a table of 999 is full before a group of 1,000",
+        999,
+        A_TABLE_OF_999_IS_FULL_BEFORE_A_GROUP_OF_1_000,
+    ),
+    (
+        "a table of one lease has room once it is over",
+        1,
         A_TABLE_OF_ONE_LEASE_HAS_ROOM_ONCE_IT_IS_OVER,
-    )
+    ),
+];
+
+fn cases() -> &'static [Case] {
+    CASES
+}
+
+/// A new table goes through the steps of a case.
+fn play_case<R: Abort + AllocGlobal>(rt: &R, case: &Case) -> Result<(), Fail> {
+    let mut table = table(rt, case.1)?;
+    expect_eq(rt, &table.config().rows(), &case.1);
+    play(rt, case.0, &mut table, case.2)
+}
+
+#[test]
+fn names_and_their_leases_step_by_step(rt: HostRuntime) -> Result<(), Fail> {
+    laws::same_leases_same_count();
+    laws::same_leases_later();
+    laws::later_leases_live_now();
+    laws::one_more_lives();
+    laws::one_name_changes();
+    laws::leases_stay_sound();
+    laws::one_case_stands();
+    laws::leases_of_others_stay();
+    laws::granted_lease_stands();
+    for case in cases() {
+        play_case(&rt, case)?;
+    }
+    Ok(())
 }
 
 /// One of 65,536 names.
@@ -540,11 +565,15 @@ fn see_room(rt: &impl Abort, table: &mut Table) -> Result<(), Fail> {
     Ok(())
 }
 
+/// 4,096 names fill a table, and one more has room once half of them are over.
+fn fill_and_see_room(rt: &impl Abort, table: &mut Table) -> Result<(), Fail> {
+    fill(rt, table)?;
+    see_room(rt, table)
+}
+
 #[test]
 fn a_full_table_has_room_once_half_of_it_is_over(rt: HostRuntime) -> Result<(), Fail> {
-    let mut table = table(&rt, 4096)?;
-    fill(&rt, &mut table)?;
-    see_room(&rt, &mut table)
+    fill_and_see_room(&rt, &mut table(&rt, 4096)?)
 }
 
 /// A new name, new members, and renewals that move the end may be refused memory. A renewal that moves no end takes none.
@@ -568,18 +597,5 @@ const EACH_GROWTH: &[Step<'static>] = &[
 /// the leases are as before, and the same call with memory gives what the rule says.
 #[test]
 fn refused_memory_leaves_the_leases(rt: HostRuntime) -> Result<(), Fail> {
-    play(&rt, &mut table(&rt, 4096)?, EACH_GROWTH)
-}
-
-#[test]
-fn the_laws_of_leases_are_called() {
-    laws::same_leases_same_count();
-    laws::same_leases_later();
-    laws::later_leases_live_now();
-    laws::one_more_lives();
-    laws::one_name_changes();
-    laws::leases_stay_sound();
-    laws::one_case_stands();
-    laws::leases_of_others_stay();
-    laws::granted_lease_stands();
+    play(&rt, "each growth", &mut table(&rt, 4096)?, EACH_GROWTH)
 }

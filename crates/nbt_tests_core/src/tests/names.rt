@@ -100,9 +100,9 @@ fn the_name_that_stands_for_all(rt: HostRuntime) -> Result<(), Fail> {
         &b" CKAAAAAAAAAAAAAAAAAAAAAAAAAAAAAA\x00".as_slice(),
     );
     expect(&rt, any.is_star());
-    let refused = Name::new(any.octets(), b"").err().ok_or("a star")?;
-    expect_eq(&rt, &refused, &NameRefusal::Star);
-    expect_eq(&rt, &refused.number(), &1);
+    let refused = Name::new(any.octets(), b"").err();
+    expect_eq(&rt, &refused, &Some(NameRefusal::Star));
+    expect_eq(&rt, &NameRefusal::Star.number(), &1);
     Ok(())
 }
 
@@ -119,14 +119,14 @@ fn scopes_that_are_no_labels(rt: HostRuntime) {
 }
 
 /// How a name is read.
-#[derive(Clone, Copy, Debug)]
+#[derive(Clone, Copy)]
 enum By {
     ReadIn,
     ReadPlain,
 }
 
 /// What is read: FRED in a scope, and the place after it; or a fault and its place.
-#[derive(Clone, Copy, Debug)]
+#[derive(Clone, Copy)]
 enum Read<'a> {
     Fred(&'a [u8], usize),
     Fault(NameFaultKind, usize),
@@ -235,14 +235,18 @@ const WORDS: [(NameFaultKind, u8, &str); 5] = [
 
 #[test]
 fn numbers_and_words_of_a_names_faults(rt: HostRuntime) -> Result<(), Fail> {
-    for (kind, number, word) in WORDS {
+    for (kind, number, word) in &WORDS {
         let text = format!(in rt.alloc(); "{kind}")?;
-        expect_eq(&rt, &text.as_str(), &word);
-        expect_eq(&rt, &kind.number(), &number);
-        expect_eq(&rt, &kind.word(), &word);
-        expect_eq(&rt, &NameFaultKind::from_word(word.as_bytes()), &Some(kind));
+        expect_eq(&rt, &text.as_str(), &*word);
+        expect_eq(&rt, &kind.number(), &*number);
+        expect_eq(&rt, &kind.word(), &*word);
+        expect_eq(
+            &rt,
+            &NameFaultKind::from_word(word.as_bytes()),
+            &Some(*kind),
+        );
     }
-    for word in ["", "long", "Shor", "TooMany", "BadType"] {
+    for word in &["", "long", "Shor", "TooMany", "BadType"] {
         expect_eq(&rt, &NameFaultKind::from_word(word.as_bytes()), &None);
     }
     Ok(())
@@ -273,7 +277,7 @@ fn cut_at_every_length(rt: HostRuntime) {
                 kind: NameFaultKind::Short,
                 place,
             });
-            expect_eq_in(&rt, &(&by, &start), &read.err(), &short);
+            expect_eq_in(&rt, &(cut, start), &read.err(), &short);
         }
     }
 }
@@ -316,17 +320,26 @@ fn a_wire_form_of_255_octets_and_one_of_256(rt: HostRuntime) -> Result<(), Fail>
     Ok(())
 }
 
-#[test]
-fn names_are_keys(rt: HostRuntime) -> Result<(), Fail> {
-    let mut set = BTreeSet::new(rt.alloc());
-    let mut map = IndexMap::new(rt.alloc());
-    for scope in [b"".as_slice(), b"\x01a".as_slice(), b"".as_slice()] {
+/// Scopes, one of them twice.
+const SCOPES: &[&[u8]] = &[b"", b"\x01a", b""];
+
+/// FRED is put into both in each scope, with the length of the scope.
+fn insert_each(set: &mut BTreeSet<Name>, map: &mut IndexMap<Name, usize>) -> Result<(), Fail> {
+    for scope in SCOPES {
         set.insert(fred(scope)?)?;
         map.insert(fred(scope)?, scope.len())?;
     }
+    Ok(())
+}
+
+#[test]
+fn names_are_keys(rt: HostRuntime) -> Result<(), Fail> {
+    let fred = fred(b"")?;
+    let mut set = BTreeSet::new(rt.alloc());
+    let mut map = IndexMap::new(rt.alloc());
+    insert_each(&mut set, &mut map)?;
     expect_eq(&rt, &set.len(), &2);
     expect_eq(&rt, &map.len(), &2);
-    let fred = fred(b"")?;
     expect(&rt, set.contains(&fred));
     expect_eq(&rt, &map.get(&fred).copied(), &Some(0));
     Ok(())

@@ -94,7 +94,7 @@ const RESPONSE: &[u8; 62] =
     b"\x00\x01\xAD\x80\x00\x00\x00\x01\x00\x00\x00\x00 EGFCEFEECACACACACACACACACACACACA\x00\x00\x20\x00\x01\x00\x00\x00\x3C\x00\x06\x20\x00\x7F\x00\x00\x02";
 
 /// A response about FRED, with the entry of 127.0.0.2: its id, its flags, and its TTL in seconds.
-#[derive(Clone, Copy, Debug)]
+#[derive(Clone, Copy)]
 struct Response(u8, [u8; 2], u8);
 
 impl Response {
@@ -109,7 +109,7 @@ impl Response {
 }
 
 /// What is done at a moment, and what has to come of it.
-#[derive(Clone, Copy, Debug)]
+#[derive(Clone, Copy)]
 enum Step<'a> {
     /// A name is asked for, for 60 s: what is for the server, or why not.
     Ask(u64, &'a [u8; 16], Kind, Result<&'a [u8], AskFault>),
@@ -162,13 +162,27 @@ fn moment(step: &Step<'_>) -> Result<Moment, Fail> {
     }
 }
 
-/// A node goes through the steps, all with one buffer: each call leaves in it what it has to send, and no more.
-fn play(rt: &impl Abort, steps: &[Step<'_>]) -> Result<(), Fail> {
-    let mut node = start()?;
-    let mut out = ArrayVec::new();
+/// Which step of which case it is, for the failure to print.
+type Place<'a> = (&'a str, usize);
+
+/// A new node goes through the steps of a case, all with one buffer: each call leaves in it what it has to send, and no more.
+fn play(rt: &impl Abort, what: &str, steps: &[Step<'_>]) -> Result<(), Fail> {
     let fred = fred(b"")?;
-    for step in steps {
-        go(rt, &mut node, moment(step)?, &fred, step, &mut out)?;
+    let mut node = start()?;
+    go_through(rt, what, &mut node, &fred, steps, &mut ArrayVec::new())
+}
+
+/// The steps, one after the other.
+fn go_through(
+    rt: &impl Abort,
+    what: &str,
+    node: &mut Node<1>,
+    fred: &Name,
+    steps: &[Step<'_>],
+    out: &mut ArrayVec<u8, 576>,
+) -> Result<(), Fail> {
+    for (number, step) in steps.iter().enumerate() {
+        go(rt, &(what, number), node, moment(step)?, fred, step, out)?;
     }
     Ok(())
 }
@@ -176,6 +190,7 @@ fn play(rt: &impl Abort, steps: &[Step<'_>]) -> Result<(), Fail> {
 /// A step. Here are those of the node's own.
 fn go(
     rt: &impl Abort,
+    place: &Place<'_>,
     node: &mut Node<1>,
     now: Moment,
     fred: &Name,
@@ -185,24 +200,24 @@ fn go(
     match *step {
         Step::Ask(_, name, kind, expected) => {
             let asked = node.ask(now, &name_of(name)?, kind, 60, out);
-            expect_eq_in(rt, step, &asked.err(), &expected.err());
-            expect_in(rt, step, out.as_slice() == expected.unwrap_or(b""));
+            expect_eq_in(rt, place, &asked.err(), &expected.err());
+            expect_in(rt, place, out.as_slice() == expected.unwrap_or(b""));
         }
         Step::Release(_, expected) => {
             let released = node.release(now, fred, out);
-            expect_eq_in(rt, step, &released.err(), &expected.err());
-            expect_in(rt, step, out.as_slice() == expected.unwrap_or(b""));
+            expect_eq_in(rt, place, &released.err(), &expected.err());
+            expect_in(rt, place, out.as_slice() == expected.unwrap_or(b""));
         }
         Step::Resolve(_, expected) => {
             let resolved = node.resolve(now, fred, out);
-            expect_eq_in(rt, step, &resolved.err(), &expected.err());
-            expect_in(rt, step, out.as_slice() == expected.unwrap_or(b""));
+            expect_eq_in(rt, place, &resolved.err(), &expected.err());
+            expect_in(rt, place, out.as_slice() == expected.unwrap_or(b""));
         }
         Step::AskNames(_, expected) => {
             node.name_status(now, OWN, fred, out)?;
-            expect_in(rt, step, out.as_slice() == expected);
+            expect_in(rt, place, out.as_slice() == expected);
         }
-        _ => return watch(rt, node, now, fred, step, out),
+        _ => return watch(rt, place, node, now, fred, step, out),
     }
     Ok(())
 }
@@ -210,6 +225,7 @@ fn go(
 /// The steps by which a node is told of time, or asked what it has.
 fn watch(
     rt: &impl Abort,
+    place: &Place<'_>,
     node: &mut Node<1>,
     now: Moment,
     fred: &Name,
@@ -219,19 +235,19 @@ fn watch(
     match *step {
         Step::Poll(_, expected) => {
             let to = node.poll(now, out);
-            expect_eq_in(rt, step, &to, &Ok(expected.map(|_| SERVER)));
-            expect_in(rt, step, out.as_slice() == expected.unwrap_or(b""));
+            expect_eq_in(rt, place, &to, &Ok(expected.map(|_| SERVER)));
+            expect_in(rt, place, out.as_slice() == expected.unwrap_or(b""));
         }
         Step::PollBack(_) => {
-            expect_eq_in(rt, step, &node.poll(now, out), &Err(ClockBack));
+            expect_eq_in(rt, place, &node.poll(now, out), &Err(ClockBack));
         }
         Step::Holds(_, expected) => {
-            expect_eq_in(rt, step, &node.holds(now, fred), &expected);
+            expect_eq_in(rt, place, &node.holds(now, fred), &expected);
         }
         Step::LookupOpen(_, expected) => {
-            expect_eq_in(rt, step, &node.lookup_open(now), &expected);
+            expect_eq_in(rt, place, &node.lookup_open(now), &expected);
         }
-        _ => return hear(rt, node, now, step, out),
+        _ => return hear(rt, place, node, now, step, out),
     }
     Ok(())
 }
@@ -239,6 +255,7 @@ fn watch(
 /// The steps by which a node is told of others.
 fn hear(
     rt: &impl Abort,
+    place: &Place<'_>,
     node: &mut Node<1>,
     now: Moment,
     step: &Step<'_>,
@@ -246,24 +263,19 @@ fn hear(
 ) -> Result<(), Fail> {
     match *step {
         Step::Respond(_, from, response, expected) => {
-            hear_one(
-                rt,
-                node,
-                now,
-                (from, &response.octets()),
-                (expected, b""),
-                out,
-            )
+            let octets = response.octets();
+            hear_one(rt, place, node, now, (from, &octets), (expected, b""), out)
         }
         Step::Hear(_, from, octets, expected) => {
-            hear_one(rt, node, now, (from, octets), (expected, b""), out)
+            hear_one(rt, place, node, now, (from, octets), (expected, b""), out)
         }
         Step::Reply(_, from, octets, expected) => {
-            hear_one(rt, node, now, (from, octets), (Event::Reply, expected), out)
+            let wanted = (Event::Reply, expected);
+            hear_one(rt, place, node, now, (from, octets), wanted, out)
         }
-        Step::Cut(_, from, octets) => hear_cut(rt, node, now, from, octets, out),
+        Step::Cut(_, from, octets) => hear_cut(rt, place, node, now, from, octets, out),
         Step::CutResponse(_, from, response) => {
-            hear_cut(rt, node, now, from, &response.octets(), out)
+            hear_cut(rt, place, node, now, from, &response.octets(), out)
         }
         _ => Err("a step of the node's own")?,
     }
@@ -272,6 +284,7 @@ fn hear(
 /// A datagram comes: what is told, and what is replied.
 fn hear_one(
     rt: &impl Abort,
+    place: &Place<'_>,
     node: &mut Node<1>,
     now: Moment,
     came: (Addr, &[u8]),
@@ -279,14 +292,15 @@ fn hear_one(
     out: &mut ArrayVec<u8, 576>,
 ) -> Result<(), Fail> {
     let event = node.on_datagram(now, came.0, came.1, out)?;
-    expect_in(rt, &came, event == expected.0);
-    expect_in(rt, &came, out.as_slice() == expected.1);
+    expect_in(rt, &(place, came.1), event == expected.0);
+    expect_in(rt, &(place, came.1), out.as_slice() == expected.1);
     Ok(())
 }
 
 /// The octets come, cut to each shorter length: nothing is told, and nothing replied.
 fn hear_cut(
     rt: &impl Abort,
+    place: &Place<'_>,
     node: &mut Node<1>,
     now: Moment,
     from: Addr,
@@ -294,14 +308,8 @@ fn hear_cut(
     out: &mut ArrayVec<u8, 576>,
 ) -> Result<(), Fail> {
     for length in 0..octets.len() {
-        hear_one(
-            rt,
-            node,
-            now,
-            (from, &octets[..length]),
-            (Event::Nothing, b""),
-            out,
-        )?;
+        let came = (from, &octets[..length]);
+        hear_one(rt, place, node, now, came, (Event::Nothing, b""), out)?;
     }
     Ok(())
 }
@@ -316,11 +324,6 @@ const A_NODE_IS_QUIET_FOR_2_004_MS_AFTER_ITS_START: &[Step<'static>] = &[
     Step::PollBack(2_004),
     Step::Ask(2_006, STAR, Kind::Unique, Err(AskFault::BadName)),
 ];
-
-#[test]
-fn a_node_is_quiet_for_2_004_ms_after_its_start(rt: HostRuntime) -> Result<(), Fail> {
-    play(&rt, A_NODE_IS_QUIET_FOR_2_004_MS_AFTER_ITS_START)
-}
 
 const A_LATE_REPLY_COUNTS_FROM_THE_FIRST_SENDING: &[Step<'static>] = &[
     Step::Ask(60_000, FRED, Kind::Unique, Ok(REGISTRATION)),
@@ -345,11 +348,6 @@ const A_LATE_REPLY_COUNTS_FROM_THE_FIRST_SENDING: &[Step<'static>] = &[
     Step::Holds(149_878, None),
 ];
 
-#[test]
-fn a_late_reply_counts_from_the_first_sending(rt: HostRuntime) -> Result<(), Fail> {
-    play(&rt, A_LATE_REPLY_COUNTS_FROM_THE_FIRST_SENDING)
-}
-
 const A_REPLY_AFTER_A_RETRY_COUNTS_FROM_THE_FIRST_SENDING: &[Step<'static>] = &[
     Step::Ask(60_000, FRED, Kind::Unique, Ok(REGISTRATION)),
     Step::Poll(65_000, Some(REGISTRATION)),
@@ -363,11 +361,6 @@ const A_REPLY_AFTER_A_RETRY_COUNTS_FROM_THE_FIRST_SENDING: &[Step<'static>] = &[
     Step::Holds(119_878, None),
 ];
 
-#[test]
-fn a_reply_after_a_retry_counts_from_the_first_sending(rt: HostRuntime) -> Result<(), Fail> {
-    play(&rt, A_REPLY_AFTER_A_RETRY_COUNTS_FROM_THE_FIRST_SENDING)
-}
-
 const A_REQUEST_IS_SENT_THREE_TIMES_AND_GIVEN_UP: &[Step<'static>] = &[
     Step::Ask(60_000, FRED, Kind::Unique, Ok(REGISTRATION)),
     Step::Poll(64_999, None),
@@ -377,22 +370,12 @@ const A_REQUEST_IS_SENT_THREE_TIMES_AND_GIVEN_UP: &[Step<'static>] = &[
     Step::Ask(75_000, FRED, Kind::Unique, Ok(SECOND_REGISTRATION)),
 ];
 
-#[test]
-fn a_request_is_sent_three_times_and_given_up(rt: HostRuntime) -> Result<(), Fail> {
-    play(&rt, A_REQUEST_IS_SENT_THREE_TIMES_AND_GIVEN_UP)
-}
-
 const A_WACK_PUTS_THE_NEXT_SENDING_OFF_BY_A_MINUTE_AT_MOST: &[Step<'static>] = &[
     Step::Ask(60_000, FRED, Kind::Unique, Ok(REGISTRATION)),
     Step::Hear(60_500, SERVER, WACK, Event::Wait),
     Step::Poll(120_499, None),
     Step::Poll(120_500, Some(REGISTRATION)),
 ];
-
-#[test]
-fn a_wack_puts_the_next_sending_off_by_a_minute_at_most(rt: HostRuntime) -> Result<(), Fail> {
-    play(&rt, A_WACK_PUTS_THE_NEXT_SENDING_OFF_BY_A_MINUTE_AT_MOST)
-}
 
 const A_HOLD_FROM_69_999_AND_ONE_OF_A_SECOND: &[Step<'static>] = &[
     Step::Ask(69_999, FRED, Kind::Unique, Ok(REGISTRATION)),
@@ -415,11 +398,6 @@ const A_HOLD_FROM_69_999_AND_ONE_OF_A_SECOND: &[Step<'static>] = &[
     Step::Holds(140_996, None),
 ];
 
-#[test]
-fn a_hold_from_69_999_and_one_of_a_second(rt: HostRuntime) -> Result<(), Fail> {
-    play(&rt, A_HOLD_FROM_69_999_AND_ONE_OF_A_SECOND)
-}
-
 const A_HOLD_THAT_IS_OVER_WHEN_ITS_REPLY_COMES: &[Step<'static>] = &[
     Step::Ask(60_000, FRED, Kind::Unique, Ok(REGISTRATION)),
     Step::Hear(60_500, SERVER, WACK, Event::Wait),
@@ -433,11 +411,6 @@ const A_HOLD_THAT_IS_OVER_WHEN_ITS_REPLY_COMES: &[Step<'static>] = &[
     Step::Ask(62_004, FRED, Kind::Unique, Err(AskFault::Quiet)),
     Step::Ask(62_005, FRED, Kind::Unique, Ok(SECOND_REGISTRATION)),
 ];
-
-#[test]
-fn a_hold_that_is_over_when_its_reply_comes(rt: HostRuntime) -> Result<(), Fail> {
-    play(&rt, A_HOLD_THAT_IS_OVER_WHEN_ITS_REPLY_COMES)
-}
 
 const A_NAME_RESTS_AFTER_ITS_RELEASE: &[Step<'static>] = &[
     Step::Ask(60_000, FRED, Kind::Unique, Ok(REGISTRATION)),
@@ -460,11 +433,6 @@ const A_NAME_RESTS_AFTER_ITS_RELEASE: &[Step<'static>] = &[
     Step::Ask(72_005, FRED, Kind::Unique, Ok(THIRD_REGISTRATION)),
 ];
 
-#[test]
-fn a_name_rests_after_its_release(rt: HostRuntime) -> Result<(), Fail> {
-    play(&rt, A_NAME_RESTS_AFTER_ITS_RELEASE)
-}
-
 const A_FULL_NODE_KEEPS_ITS_NAME: &[Step<'static>] = &[
     Step::Ask(60_000, FRED, Kind::Group, Ok(GROUP_REGISTRATION)),
     Step::Respond(
@@ -476,11 +444,6 @@ const A_FULL_NODE_KEEPS_ITS_NAME: &[Step<'static>] = &[
     Step::Ask(61_000, TEAM, Kind::Group, Err(AskFault::Full)),
     Step::Holds(119_877, Some(Kind::Group)),
 ];
-
-#[test]
-fn a_full_node_keeps_its_name(rt: HostRuntime) -> Result<(), Fail> {
-    play(&rt, A_FULL_NODE_KEEPS_ITS_NAME)
-}
 
 const A_CONFLICT_DEMAND_DROPS_A_NAME_AND_ONLY_THE_SERVER_MAKES_ONE: &[Step<'static>] = &[
     Step::Ask(60_000, FRED, Kind::Unique, Ok(REGISTRATION)),
@@ -508,16 +471,6 @@ const A_CONFLICT_DEMAND_DROPS_A_NAME_AND_ONLY_THE_SERVER_MAKES_ONE: &[Step<'stat
     Step::Holds(61_000, None),
 ];
 
-#[test]
-fn a_conflict_demand_drops_a_name_and_only_the_server_makes_one(
-    rt: HostRuntime,
-) -> Result<(), Fail> {
-    play(
-        &rt,
-        A_CONFLICT_DEMAND_DROPS_A_NAME_AND_ONLY_THE_SERVER_MAKES_ONE,
-    )
-}
-
 const A_REPLY_WITH_ANOTHER_ID_AND_A_CHALLENGE_ARE_NOTHING: &[Step<'static>] = &[
     Step::Ask(60_000, FRED, Kind::Unique, Ok(REGISTRATION)),
     Step::Respond(
@@ -542,11 +495,6 @@ const A_REPLY_WITH_ANOTHER_ID_AND_A_CHALLENGE_ARE_NOTHING: &[Step<'static>] = &[
     ),
 ];
 
-#[test]
-fn a_reply_with_another_id_and_a_challenge_are_nothing(rt: HostRuntime) -> Result<(), Fail> {
-    play(&rt, A_REPLY_WITH_ANOTHER_ID_AND_A_CHALLENGE_ARE_NOTHING)
-}
-
 const A_REPLY_TO_A_REQUEST_THAT_WAS_GIVEN_UP_IS_NOTHING: &[Step<'static>] = &[
     Step::Ask(60_000, FRED, Kind::Unique, Ok(REGISTRATION)),
     Step::Poll(65_000, Some(REGISTRATION)),
@@ -569,11 +517,6 @@ const A_REPLY_TO_A_REQUEST_THAT_WAS_GIVEN_UP_IS_NOTHING: &[Step<'static>] = &[
     Step::Holds(134_878, None),
 ];
 
-#[test]
-fn a_reply_to_a_request_that_was_given_up_is_nothing(rt: HostRuntime) -> Result<(), Fail> {
-    play(&rt, A_REPLY_TO_A_REQUEST_THAT_WAS_GIVEN_UP_IS_NOTHING)
-}
-
 const A_LOOKUP_DOES_NOT_END_BY_THE_ID_OF_A_REGISTRATION: &[Step<'static>] = &[
     Step::Ask(60_000, FRED, Kind::Unique, Ok(REGISTRATION)),
     Step::Resolve(60_000, Ok(SECOND_QUERY)),
@@ -595,11 +538,6 @@ const A_LOOKUP_DOES_NOT_END_BY_THE_ID_OF_A_REGISTRATION: &[Step<'static>] = &[
     ),
 ];
 
-#[test]
-fn a_lookup_does_not_end_by_the_id_of_a_registration(rt: HostRuntime) -> Result<(), Fail> {
-    play(&rt, A_LOOKUP_DOES_NOT_END_BY_THE_ID_OF_A_REGISTRATION)
-}
-
 const A_LOOKUP_IS_SENT_THREE_TIMES: &[Step<'static>] = &[
     Step::Resolve(60_000, Ok(QUERY)),
     Step::Resolve(60_000, Err(LookupFault::Busy)),
@@ -608,11 +546,6 @@ const A_LOOKUP_IS_SENT_THREE_TIMES: &[Step<'static>] = &[
     Step::LookupOpen(74_999, true),
     Step::LookupOpen(75_000, false),
 ];
-
-#[test]
-fn a_lookup_is_sent_three_times(rt: HostRuntime) -> Result<(), Fail> {
-    play(&rt, A_LOOKUP_IS_SENT_THREE_TIMES)
-}
 
 const A_LOOKUP_ENDS_BY_THE_END_THAT_WAS_ASKED: &[Step<'static>] = &[
     Step::Resolve(60_000, Ok(QUERY)),
@@ -644,25 +577,10 @@ const A_LOOKUP_TELLS_THAT_THE_REPLY_IS_CUT: &[Step<'static>] = &[
     Step::LookupOpen(60_001, false),
 ];
 
-#[test]
-fn a_lookup_tells_that_the_reply_is_cut(rt: HostRuntime) -> Result<(), Fail> {
-    play(&rt, A_LOOKUP_TELLS_THAT_THE_REPLY_IS_CUT)
-}
-
-#[test]
-fn a_lookup_ends_by_the_end_that_was_asked(rt: HostRuntime) -> Result<(), Fail> {
-    play(&rt, A_LOOKUP_ENDS_BY_THE_END_THAT_WAS_ASKED)
-}
-
 const A_LOOKUP_OF_A_NAME_THAT_IS_NOT_THERE: &[Step<'static>] = &[
     Step::Resolve(60_000, Ok(QUERY)),
     Step::Hear(60_001, SERVER, NOT_FOUND, Event::NotFound),
 ];
-
-#[test]
-fn a_lookup_of_a_name_that_is_not_there(rt: HostRuntime) -> Result<(), Fail> {
-    play(&rt, A_LOOKUP_OF_A_NAME_THAT_IS_NOT_THERE)
-}
 
 const A_STATUS_REPLY_LISTS_THE_HELD_NAMES: &[Step<'static>] = &[
     Step::Ask(60_000, FRED, Kind::Unique, Ok(REGISTRATION)),
@@ -676,11 +594,6 @@ const A_STATUS_REPLY_LISTS_THE_HELD_NAMES: &[Step<'static>] = &[
     Step::Reply(61_000, ANYBODY, STATUS_REQUEST_TO_ALL, STATUS),
 ];
 
-#[test]
-fn a_status_reply_lists_the_held_names(rt: HostRuntime) -> Result<(), Fail> {
-    play(&rt, A_STATUS_REPLY_LISTS_THE_HELD_NAMES)
-}
-
 const THE_NAMES_OF_ANOTHER_END: &[Step<'static>] = &[
     Step::AskNames(60_000, NAMES_REQUEST),
     Step::Hear(
@@ -690,11 +603,6 @@ const THE_NAMES_OF_ANOTHER_END: &[Step<'static>] = &[
         Event::Status(b"FRED            \x24\x00"),
     ),
 ];
-
-#[test]
-fn the_names_of_another_end(rt: HostRuntime) -> Result<(), Fail> {
-    play(&rt, THE_NAMES_OF_ANOTHER_END)
-}
 
 /// A node that asks, and one that holds a name. With the last octet each of these would tell something, or be replied to.
 const WHAT_IS_CUT_CHANGES_NO_NAME: &[Step<'static>] = &[
@@ -737,16 +645,138 @@ const WHAT_IS_CUT_TELLS_NO_NAMES: &[Step<'static>] = &[
     Step::LookupOpen(60_001, true),
 ];
 
-#[test]
-fn packets_cut_at_every_length_are_nothing_to_a_node(rt: HostRuntime) -> Result<(), Fail> {
-    for steps in [
+/// What the steps show, and the steps. A function returns each table, since the prover writes out all of a table in each step of a
+/// function that names it.
+type Case = (&'static str, &'static [Step<'static>]);
+
+/// Of a name that is asked for and held.
+const HOLDS: &[Case] = &[
+    (
+        "a node is quiet for 2,004 ms after its start",
+        A_NODE_IS_QUIET_FOR_2_004_MS_AFTER_ITS_START,
+    ),
+    (
+        "a late reply counts from the first sending",
+        A_LATE_REPLY_COUNTS_FROM_THE_FIRST_SENDING,
+    ),
+    (
+        "a reply after a retry counts from the first sending",
+        A_REPLY_AFTER_A_RETRY_COUNTS_FROM_THE_FIRST_SENDING,
+    ),
+    (
+        "a request is sent three times and given up",
+        A_REQUEST_IS_SENT_THREE_TIMES_AND_GIVEN_UP,
+    ),
+    (
+        "a WACK puts the next sending off by a minute at most",
+        A_WACK_PUTS_THE_NEXT_SENDING_OFF_BY_A_MINUTE_AT_MOST,
+    ),
+    (
+        "a hold from 69,999 and one of a second",
+        A_HOLD_FROM_69_999_AND_ONE_OF_A_SECOND,
+    ),
+];
+
+fn holds() -> &'static [Case] {
+    HOLDS
+}
+
+/// Of a name that rests, is lost or is refused.
+const RESTS: &[Case] = &[
+    (
+        "a hold that is over when its reply comes",
+        A_HOLD_THAT_IS_OVER_WHEN_ITS_REPLY_COMES,
+    ),
+    (
+        "a name rests after its release",
+        A_NAME_RESTS_AFTER_ITS_RELEASE,
+    ),
+    ("a full node keeps its name", A_FULL_NODE_KEEPS_ITS_NAME),
+    (
+        "a conflict demand drops a name and only the server makes one",
+        A_CONFLICT_DEMAND_DROPS_A_NAME_AND_ONLY_THE_SERVER_MAKES_ONE,
+    ),
+    (
+        "a reply with another id and a challenge are nothing",
+        A_REPLY_WITH_ANOTHER_ID_AND_A_CHALLENGE_ARE_NOTHING,
+    ),
+    (
+        "a reply to a request that was given up is nothing",
+        A_REPLY_TO_A_REQUEST_THAT_WAS_GIVEN_UP_IS_NOTHING,
+    ),
+];
+
+fn rests() -> &'static [Case] {
+    RESTS
+}
+
+/// Of lookups and of the names of others.
+const LOOKUPS: &[Case] = &[
+    (
+        "a lookup does not end by the id of a registration",
+        A_LOOKUP_DOES_NOT_END_BY_THE_ID_OF_A_REGISTRATION,
+    ),
+    ("a lookup is sent three times", A_LOOKUP_IS_SENT_THREE_TIMES),
+    (
+        "a lookup tells that the reply is cut",
+        A_LOOKUP_TELLS_THAT_THE_REPLY_IS_CUT,
+    ),
+    (
+        "a lookup ends by the end that was asked",
+        A_LOOKUP_ENDS_BY_THE_END_THAT_WAS_ASKED,
+    ),
+    (
+        "a lookup of a name that is not there",
+        A_LOOKUP_OF_A_NAME_THAT_IS_NOT_THERE,
+    ),
+    (
+        "a status reply lists the held names",
+        A_STATUS_REPLY_LISTS_THE_HELD_NAMES,
+    ),
+    ("the names of another end", THE_NAMES_OF_ANOTHER_END),
+];
+
+fn lookups() -> &'static [Case] {
+    LOOKUPS
+}
+
+/// Of packets that are cut.
+const CUTS: &[Case] = &[
+    (
+        "what is cut at every length changes no name",
         WHAT_IS_CUT_CHANGES_NO_NAME,
+    ),
+    (
+        "what is cut at every length ends no lookup",
         WHAT_IS_CUT_ENDS_NO_LOOKUP,
+    ),
+    (
+        "what is cut at every length tells no names",
         WHAT_IS_CUT_TELLS_NO_NAMES,
-    ] {
-        play(&rt, steps)?;
+    ),
+];
+
+fn cuts() -> &'static [Case] {
+    CUTS
+}
+
+fn play_cases(rt: &impl Abort, cases: &[Case]) -> Result<(), Fail> {
+    for (what, steps) in cases {
+        play(rt, what, steps)?;
     }
     Ok(())
+}
+
+#[test]
+fn a_node_step_by_step(rt: HostRuntime) -> Result<(), Fail> {
+    settling_ends();
+    settling_in_steps();
+    one_move();
+    each_name();
+    play_cases(&rt, holds())?;
+    play_cases(&rt, rests())?;
+    play_cases(&rt, lookups())?;
+    play_cases(&rt, cuts())
 }
 
 const ASK_FAULTS: [(AskFault, u8, &str); 5] = [
@@ -770,24 +800,20 @@ const LOOKUP_FAULTS: [(LookupFault, u8, &str); 3] = [
 
 #[test]
 fn refusals_have_their_numbers_and_words(rt: HostRuntime) -> Result<(), Fail> {
-    settling_ends();
-    settling_in_steps();
-    one_move();
-    each_name();
-    for (fault, number, word) in ASK_FAULTS {
-        expect_eq(&rt, &fault.number(), &number);
-        expect_eq(&rt, &fault.word(), &word);
-        expect_eq(&rt, &AskFault::of(number), &Some(fault));
+    for (fault, number, word) in &ASK_FAULTS {
+        expect_eq(&rt, &fault.number(), &*number);
+        expect_eq(&rt, &fault.word(), &*word);
+        expect_eq(&rt, &AskFault::of(*number), &Some(*fault));
     }
-    for (fault, number, word) in RELEASE_FAULTS {
-        expect_eq(&rt, &fault.number(), &number);
-        expect_eq(&rt, &fault.word(), &word);
-        expect_eq(&rt, &ReleaseFault::of(number), &Some(fault));
+    for (fault, number, word) in &RELEASE_FAULTS {
+        expect_eq(&rt, &fault.number(), &*number);
+        expect_eq(&rt, &fault.word(), &*word);
+        expect_eq(&rt, &ReleaseFault::of(*number), &Some(*fault));
     }
-    for (fault, number, word) in LOOKUP_FAULTS {
-        expect_eq(&rt, &fault.number(), &number);
-        expect_eq(&rt, &fault.word(), &word);
-        expect_eq(&rt, &LookupFault::of(number), &Some(fault));
+    for (fault, number, word) in &LOOKUP_FAULTS {
+        expect_eq(&rt, &fault.number(), &*number);
+        expect_eq(&rt, &fault.word(), &*word);
+        expect_eq(&rt, &LookupFault::of(*number), &Some(*fault));
     }
     expect_eq(&rt, &AskFault::of(0), &None);
     expect_eq(&rt, &AskFault::of(6), &None);

@@ -60,7 +60,7 @@ const WAIT: &[u8] =
     b"\x00\x09\xBC\x00\x00\x00\x00\x01\x00\x00\x00\x00 EGFCEFEECACACACACACACACACACACACA\x00\x00\x20\x00\x01\x00\x00\x00\x05\x00\x02\x29\x00";
 
 /// What a message says beside its id and its name. Who registers is 127.0.0.2, for 60 s.
-#[derive(Clone, Copy, Debug)]
+#[derive(Clone, Copy)]
 enum Says<'a> {
     Registration(Kind),
     Overwrite(Kind),
@@ -199,19 +199,22 @@ const WRITTEN: &[Written] = &[
     (9, FRED, Says::Wait(5), WAIT, &[]),
 ];
 
-/// The message is written as these octets, and what is read from them is written so again.
-fn written_and_read(rt: &impl Abort, message: &Message<'_>, octets: &[u8]) -> Result<(), Fail> {
+/// The message is written as these octets.
+fn written(rt: &impl Abort, message: &Message<'_>, octets: &[u8]) -> Result<(), Fail> {
     let mut out = ArrayVec::new();
     expect(rt, message.fits());
     encode(message, &mut out)?;
-    expect_in(rt, &message, out.as_slice() == octets);
+    expect_in(rt, &octets, out.as_slice() == octets);
+    Ok(())
+}
+
+/// The message is written as these octets, and what is read from them is written so again.
+fn written_and_read(rt: &impl Abort, message: &Message<'_>, octets: &[u8]) -> Result<(), Fail> {
+    written(rt, message, octets)?;
     let (_, length) = decode(octets)?;
     expect_eq(rt, &length, &octets.len());
     let read = read(octets).ok_or("no message")?;
-    expect(rt, read.fits());
-    encode(&read, &mut out)?;
-    expect_in(rt, &message, out.as_slice() == octets);
-    Ok(())
+    written(rt, &read, octets)
 }
 
 #[test]
@@ -227,13 +230,14 @@ fn messages_are_written_and_read(rt: HostRuntime) -> Result<(), Fail> {
 
 #[test]
 fn registration_of_fred(rt: HostRuntime) -> Result<(), Fail> {
+    let fred = fred(b"")?;
     let (packet, length) = decode(REGISTRATION)?;
     expect_eq(&rt, &length, &68);
     let Some(Message::Registration(read)) = classify(&packet) else {
         return Err(Fail::from("no registration"));
     };
     expect_eq(&rt, &read.id, &1);
-    expect(&rt, read.name == fred(b"")?);
+    expect(&rt, read.name == fred);
     expect_eq(&rt, &read.kind, &Kind::Unique);
     expect_eq(&rt, &read.addr, &0x7F000002);
     expect_eq(&rt, &read.ttl, &60);
@@ -305,14 +309,14 @@ const WORDS: [(FaultKind, u8, &str); 6] = [
 
 #[test]
 fn numbers_and_words_of_a_packets_faults(rt: HostRuntime) -> Result<(), Fail> {
-    for (kind, number, word) in WORDS {
+    for (kind, number, word) in &WORDS {
         let text = format!(in rt.alloc(); "{kind}")?;
-        expect_eq(&rt, &text.as_str(), &word);
-        expect_eq(&rt, &kind.number(), &number);
-        expect_eq(&rt, &kind.word(), &word);
-        expect_eq(&rt, &FaultKind::from_word(word.as_bytes()), &Some(kind));
+        expect_eq(&rt, &text.as_str(), &*word);
+        expect_eq(&rt, &kind.number(), &*number);
+        expect_eq(&rt, &kind.word(), &*word);
+        expect_eq(&rt, &FaultKind::from_word(word.as_bytes()), &Some(*kind));
     }
-    for word in ["", "TooMan", "toomany", "Full", "BadType"] {
+    for word in &["", "TooMan", "toomany", "Full", "BadType"] {
         expect_eq(&rt, &FaultKind::from_word(word.as_bytes()), &None);
     }
     Ok(())
@@ -454,14 +458,19 @@ fn chain_of_1000_pointers(rt: &HostRuntime, first: u8) -> Result<Vec<u8>, Fail> 
     Ok(octets)
 }
 
+fn expect_a_name_at_the_end(rt: &impl Abort, octets: &[u8]) -> Result<(), Fail> {
+    let (_, length) = decode(octets)?;
+    expect_eq(rt, &length, &2_068);
+    expect(rt, octets.len() == 2_068);
+    let fred = fred(b"")?;
+    expect(rt, read_in(octets, 2_056) == Ok((fred, 2_058)));
+    Ok(())
+}
+
 #[test]
 fn a_name_at_the_end_of_1000_pointers(rt: HostRuntime) -> Result<(), Fail> {
     let octets = chain_of_1000_pointers(&rt, 12)?;
-    let (_, length) = decode(&octets)?;
-    expect_eq(&rt, &length, &2_068);
-    expect(&rt, octets.len() == 2_068);
-    expect(&rt, read_in(&octets, 2_056) == Ok((fred(b"")?, 2_058)));
-
+    expect_a_name_at_the_end(&rt, octets.as_slice())?;
     let octets = chain_of_1000_pointers(&rt, 56)?;
     let to_itself = Fault {
         kind: FaultKind::Name(NameFaultKind::BadPointer),
@@ -505,8 +514,8 @@ fn a_written_form_of_576_octets_and_one_longer(rt: HostRuntime) -> Result<(), Fa
     written_length();
     few_rows_are_written();
     let entries = [0x20; 522];
-    for (count, length) in [(86, 576), (87, 0)] {
-        let end = 6 * count;
+    for (count, length) in &[(86usize, 576usize), (87, 0)] {
+        let end = count.saturating_mul(6);
         expect(&rt, end <= entries.len());
         let found = Message::Found {
             id: 1,
@@ -518,24 +527,31 @@ fn a_written_form_of_576_octets_and_one_longer(rt: HostRuntime) -> Result<(), Fa
         expect(&rt, found.fits());
         let mut out = ArrayVec::new();
         let written = encode(&found, &mut out);
-        expect_eq(&rt, &written.is_err(), &(count == 87));
-        expect_eq(&rt, &out.len(), &length);
+        expect_eq(&rt, &written.is_err(), &(*count == 87));
+        expect_eq(&rt, &out.len(), &*length);
     }
     expect_eq(&rt, &Full.number(), &7);
     Ok(())
 }
 
+/// The scope of the longest name: three labels of 63 octets and one of 28.
+const LONGEST_SCOPE: &[u8] =
+    b"\x3Faaaaaaaaaaaaaaaaaaaaaaaaaaaaaaaaaaaaaaaaaaaaaaaaaaaaaaaaaaaaaaa\x3Faaaaaaaaaaaaaaaaaaaaaaaaaaaaaaaaaaaaaaaaaaaaaaaaaaaaaaaaaaaaaaa\x3Faaaaaaaaaaaaaaaaaaaaaaaaaaaaaaaaaaaaaaaaaaaaaaaaaaaaaaaaaaaaaaa\x1Caaaaaaaaaaaaaaaaaaaaaaaaaaaa";
+
+/// A scope, and how many entries have room beside FRED in it.
+const ENTRIES: &[(&[u8], usize)] = &[
+    (b"", 86),
+    (b"\x03abc", 86),
+    (b"\x04abcd", 85),
+    (LONGEST_SCOPE, 49),
+];
+
 /// Beside a wire form of w octets there is room for (576 - 22 - w) / 6 entries, rounded down.
 #[test]
 fn as_many_entries_as_have_room_beside_a_name(rt: HostRuntime) -> Result<(), Fail> {
-    let mut longest = [b'a'; 221];
-    for place in [0, 64, 128] {
-        longest[place] = 63;
+    for (scope, most) in ENTRIES {
+        let name = fred(scope)?;
+        expect_eq_in(&rt, &scope, &entries_most(&name), &*most);
     }
-    longest[192] = 28;
-    expect_eq(&rt, &entries_most(&fred(b"")?), &86);
-    expect_eq(&rt, &entries_most(&fred(b"\x03abc")?), &86);
-    expect_eq(&rt, &entries_most(&fred(b"\x04abcd")?), &85);
-    expect_eq(&rt, &entries_most(&fred(&longest)?), &49);
     Ok(())
 }

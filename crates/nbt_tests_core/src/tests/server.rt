@@ -1,6 +1,6 @@
 //! The server's replies to datagrams: the life of a datagram 1,000 ms, the longest lease 60 s.
 
-use super::expect::{expect, expect_eq, expect_eq_in, expect_in};
+use super::expect::{expect_eq, expect_eq_in, expect_in};
 use arrayvec::ArrayVec;
 use nbt_name::Addr;
 use nbt_server::{Server, ServerFault};
@@ -14,37 +14,40 @@ use std::test::Fail;
 /// When a datagram comes, from which address, its octets, and those of the reply; `-` where there is none.
 type Row = (u64, u32, &'static str, &'static str);
 
+/// A datagram as octets: which case it is of, for the failure to print; when it comes, and from which address.
+type Came<'a> = (&'a str, u64, u32, &'a [u8]);
+
 /// The reply to these octets.
-fn expect_reply<R: Abort>(
-    rt: &R,
+fn expect_reply(
+    rt: &impl Abort,
     server: &mut Server,
-    at: u64,
-    ip: u32,
-    asks: &[u8],
+    came: Came<'_>,
     gives: &[u8],
 ) -> Result<(), Fail> {
-    let from = Addr { ip, port: 137 };
+    let now = moment(came.1)?;
+    let from = Addr {
+        ip: came.2,
+        port: 137,
+    };
     let mut out = ArrayVec::new();
-    let is_reply = server.on_datagram(moment(at)?, from, asks, &mut out)?;
-    expect_eq_in(rt, &(asks, at), &out.as_slice(), &gives);
-    expect_eq_in(rt, &(asks, at), &is_reply, &!gives.is_empty());
+    let is_reply = server.on_datagram(now, from, came.3, &mut out)?;
+    expect_eq_in(rt, &came, &out.as_slice(), &gives);
+    expect_eq_in(rt, &came, &is_reply, &!gives.is_empty());
     Ok(())
 }
 
 /// The server takes the datagrams, and each reply is that of its row.
-fn play<R: Abort + AllocGlobal>(rt: &R, server: &mut Server, rows: &[Row]) -> Result<(), Fail> {
+fn play<R: Abort + AllocGlobal>(
+    rt: &R,
+    what: &str,
+    server: &mut Server,
+    rows: &[Row],
+) -> Result<(), Fail> {
     for (at, ip, asks, gives) in rows {
         let asks = octets(rt, asks)?;
         let gives = octets(rt, gives)?;
-        expect_reply(rt, server, *at, *ip, asks.as_slice(), gives.as_slice())?;
-    }
-    Ok(())
-}
-
-/// So does a server of 4,096 rows that starts at 0, one for each table.
-fn play_each<R: Abort + AllocGlobal>(rt: &R, tables: &[&[Row]]) -> Result<(), Fail> {
-    for rows in tables {
-        play(rt, &mut started(rt, 4096, 0)?, rows)?;
+        let came = (what, *at, *ip, asks.as_slice());
+        expect_reply(rt, server, came, gives.as_slice())?;
     }
     Ok(())
 }
@@ -54,20 +57,10 @@ const AFTER_THE_SILENCE: [Row; 2] = [
     (60_000, FIRST, REGISTRATION, GRANTED),
 ];
 
-#[test]
-fn fred_is_granted_once_the_silence_is_over(rt: HostRuntime) -> Result<(), Fail> {
-    play_each(&rt, &[&AFTER_THE_SILENCE])
-}
-
 const LATER: [Row; 2] = [
     (129_999, FIRST, REGISTRATION, "-"),
     (130_000, FIRST, REGISTRATION, GRANTED),
 ];
-
-#[test]
-fn a_server_that_starts_later_is_silent_later(rt: HostRuntime) -> Result<(), Fail> {
-    play(&rt, &mut started(&rt, 4096, 70_000)?, &LATER)
-}
 
 const TTL_OF_0: [Row; 1] = [(
     60_000,
@@ -83,13 +76,6 @@ const GREATEST_TTL: [Row; 1] = [(
     GRANTED,
 )];
 
-#[test]
-fn a_ttl_of_0_and_one_above_the_longest_are_granted_the_longest(
-    rt: HostRuntime,
-) -> Result<(), Fail> {
-    play_each(&rt, &[&TTL_OF_0, &GREATEST_TTL])
-}
-
 const ANOTHER_MACHINE: [Row; 3] = [
     (60_000, FIRST, REGISTRATION, GRANTED),
     (60_000, SECOND, RIVAL, REFUSED),
@@ -100,13 +86,6 @@ const ANOTHER_MACHINE: [Row; 3] = [
         "0001 ad85 reply FRED NB 0s unique 127.0.0.2",
     ),
 ];
-
-#[test]
-fn another_machine_gets_neither_the_name_nor_the_owners_address(
-    rt: HostRuntime,
-) -> Result<(), Fail> {
-    play_each(&rt, &[&ANOTHER_MACHINE])
-}
 
 const TWO_MEMBERS: [Row; 3] = [
     (
@@ -149,6 +128,7 @@ fn ended<R: AllocGlobal>(rt: &R, words: &str, addr: u32) -> Result<Vec<u8>, Fail
 /// Each of these addresses registers, and gets its reply.
 fn join<R: Abort + AllocGlobal>(
     rt: &R,
+    what: &str,
     server: &mut Server,
     addresses: (u32, u32),
     asks: &str,
@@ -157,7 +137,8 @@ fn join<R: Abort + AllocGlobal>(
     for addr in addresses.0..=addresses.1 {
         let asks = ended(rt, asks, addr)?;
         let gives = ended(rt, gives, addr)?;
-        expect_reply(rt, server, 60_500, addr, asks.as_slice(), gives.as_slice())?;
+        let came = (what, 60_500, addr, asks.as_slice());
+        expect_reply(rt, server, came, gives.as_slice())?;
     }
     Ok(())
 }
@@ -178,20 +159,34 @@ fn listed<R: AllocGlobal>(rt: &R, words: &str, last: u32) -> Result<Vec<u8>, Fai
     Ok(octets)
 }
 
+/// The group is queried, and these entries are listed.
+fn query<R: Abort + AllocGlobal>(
+    rt: &R,
+    server: &mut Server,
+    came: (&str, u64, &str),
+    gives: (&str, u32, usize),
+) -> Result<(), Fail> {
+    let asks = octets(rt, came.2)?;
+    let listed = listed(rt, gives.0, gives.1)?;
+    let came = (came.0, came.1, FIRST, asks.as_slice());
+    expect_eq_in(rt, &came, &listed.len(), &gives.2);
+    expect_reply(rt, server, came, listed.as_slice())
+}
+
 /// So goes a group at a server.
 fn play_group<R: Abort + AllocGlobal>(
     rt: &R,
+    what: &str,
     server: &mut Server,
     steps: &[Step],
 ) -> Result<(), Fail> {
     for step in steps {
         match *step {
-            Step::Join(first, last, asks, gives) => join(rt, server, (first, last), asks, gives)?,
+            Step::Join(first, last, asks, gives) => {
+                join(rt, what, server, (first, last), asks, gives)?;
+            }
             Step::Query(at, asks, gives, last, length) => {
-                let asks = octets(rt, asks)?;
-                let gives = listed(rt, gives, last)?;
-                expect_eq(rt, &gives.len(), &length);
-                expect_reply(rt, server, at, FIRST, asks.as_slice(), gives.as_slice())?;
+                query(rt, server, (what, at, asks), (gives, last, length))?;
             }
         }
     }
@@ -218,17 +213,6 @@ const A_THOUSAND: [Step; 6] = [
     Step::Join(998, 998, JOINING, JOINED),
 ];
 
-/// Two members join and are found, and then as many as there may be.
-fn grow_to_a_thousand<R: Abort + AllocGlobal>(rt: &R, server: &mut Server) -> Result<(), Fail> {
-    play(rt, server, &TWO_MEMBERS)?;
-    play_group(rt, server, &A_THOUSAND)
-}
-
-#[test]
-fn a_group_has_1_000_members_and_is_found_in_their_order(rt: HostRuntime) -> Result<(), Fail> {
-    grow_to_a_thousand(&rt, &mut started(&rt, 4096, 0)?)
-}
-
 /// 86 entries, of 0x0204 octets, have room beside a name without a scope: (576 - 22 - 34) / 6.
 const OF_87: [Step; 4] = [
     Step::Join(1, 86, JOINING, JOINED),
@@ -248,11 +232,6 @@ const OF_87: [Step; 4] = [
         572,
     ),
 ];
-
-#[test]
-fn of_a_group_of_87_the_first_86_are_listed(rt: HostRuntime) -> Result<(), Fail> {
-    play_group(&rt, &mut started(&rt, 4096, 0)?, &OF_87)
-}
 
 /// Of 87 members the first's lease lasts 30 s, and the last's, which isn't listed, 10 s. Once it is over, all are listed.
 const NOT_LISTED: [Step; 6] = [
@@ -291,11 +270,6 @@ const NOT_LISTED: [Step; 6] = [
         572,
     ),
 ];
-
-#[test]
-fn the_ttl_is_that_of_a_member_that_is_not_listed(rt: HostRuntime) -> Result<(), Fail> {
-    play_group(&rt, &mut started(&rt, 4096, 0)?, &NOT_LISTED)
-}
 
 const THIRD: u32 = 0x7F000004;
 
@@ -357,11 +331,6 @@ const LEAST_END_MOVES: [Row; 9] = [
     ),
 ];
 
-#[test]
-fn the_ttl_is_that_of_the_next_when_the_least_end_moves(rt: HostRuntime) -> Result<(), Fail> {
-    play_each(&rt, &[&LEAST_END_MOVES])
-}
-
 /// The 1,000th member's lease lasts 10 s, and the others' 60 s; then it is renewed.
 const LAST_ENDS_FIRST: [Step; 6] = [
     Step::Join(1, 999, JOINING, JOINED),
@@ -395,11 +364,6 @@ const LAST_ENDS_FIRST: [Step; 6] = [
     ),
 ];
 
-#[test]
-fn of_1_000_members_the_last_ends_first(rt: HostRuntime) -> Result<(), Fail> {
-    play_group(&rt, &mut started(&rt, 4096, 0)?, &LAST_ENDS_FIRST)
-}
-
 /// Beside the longest name 49 entries, of 0x0126 octets, have room: (576 - 22 - 255) / 6.
 const OF_50: [Step; 4] = [
     Step::Join(
@@ -430,22 +394,12 @@ const OF_50: [Step; 4] = [
     ),
 ];
 
-#[test]
-fn of_a_group_of_50_with_the_longest_name_49_are_listed(rt: HostRuntime) -> Result<(), Fail> {
-    play_group(&rt, &mut started(&rt, 4096, 0)?, &OF_50)
-}
-
 const ENDING: [Row; 4] = [
     (60_000, FIRST, QUERY, NOT_FOUND),
     (60_000, FIRST, REGISTRATION, GRANTED),
     (119_999, SECOND, QUERY, FOUND),
     (120_000, SECOND, QUERY, NOT_FOUND),
 ];
-
-#[test]
-fn a_query_of_no_name_and_of_one_that_ends(rt: HostRuntime) -> Result<(), Fail> {
-    play_each(&rt, &[&ENDING])
-}
 
 const RELEASES: [Row; 6] = [
     (60_000, FIRST, REGISTRATION, GRANTED),
@@ -475,11 +429,6 @@ const RELEASES: [Row; 6] = [
     ),
     (60_000, SECOND, QUERY, NOT_FOUND),
 ];
-
-#[test]
-fn only_the_owner_releases_a_name(rt: HostRuntime) -> Result<(), Fail> {
-    play_each(&rt, &[&RELEASES])
-}
 
 const RENEWAL: [Row; 4] = [
     (60_000, FIRST, REGISTRATION, GRANTED),
@@ -536,11 +485,6 @@ const REGISTERED_AGAIN: [Row; 4] = [
     (150_000, SECOND, QUERY, NOT_FOUND),
 ];
 
-#[test]
-fn a_refresh_extends_its_senders_own_lease(rt: HostRuntime) -> Result<(), Fail> {
-    play_each(&rt, &[&RENEWAL, &RENEWAL_OF_MEMBERS, &REGISTERED_AGAIN])
-}
-
 const SHORTER_RENEWAL: [Row; 4] = [
     (60_000, FIRST, REGISTRATION, GRANTED),
     (
@@ -558,11 +502,6 @@ const SHORTER_RENEWAL: [Row; 4] = [
     ),
 ];
 
-#[test]
-fn a_renewal_says_the_seconds_asked_and_shortens_nothing(rt: HostRuntime) -> Result<(), Fail> {
-    play_each(&rt, &[&SHORTER_RENEWAL])
-}
-
 const ONE_ROW: [Row; 3] = [
     (60_000, FIRST, REGISTRATION, GRANTED),
     (
@@ -578,11 +517,6 @@ const ONE_ROW: [Row; 3] = [
         "0001 ad80 reply TEAM NB 60s unique 127.0.0.2",
     ),
 ];
-
-#[test]
-fn a_full_table_has_room_again_when_a_lease_has_ended(rt: HostRuntime) -> Result<(), Fail> {
-    play(&rt, &mut started(&rt, 1, 0)?, &ONE_ROW)
-}
 
 const GROUP_OF_A_UNIQUE_NAME: [Row; 4] = [
     (60_000, FIRST, REGISTRATION, GRANTED),
@@ -606,11 +540,6 @@ const GROUP_OF_A_UNIQUE_NAME: [Row; 4] = [
     ),
 ];
 
-#[test]
-fn the_owner_of_a_unique_name_gets_no_group_of_it(rt: HostRuntime) -> Result<(), Fail> {
-    play_each(&rt, &[&GROUP_OF_A_UNIQUE_NAME])
-}
-
 /// A refresh has two opcodes (RFC 1002 section 4.2.4).
 const OPCODE_OF_8: [Row; 1] = [(60_000, FIRST, REFRESH, GRANTED)];
 
@@ -620,11 +549,6 @@ const OPCODE_OF_9: [Row; 1] = [(
     "0001 4800 two-parts FRED NB again NB 60s unique 127.0.0.2",
     GRANTED,
 )];
-
-#[test]
-fn a_refresh_of_a_name_that_was_never_registered_is_granted(rt: HostRuntime) -> Result<(), Fail> {
-    play_each(&rt, &[&OPCODE_OF_8, &OPCODE_OF_9])
-}
 
 /// An overwrite; then a status request, a response, a registration of two names, no octets, and a broadcast.
 const NOT_FOR_A_SERVER: [Row; 7] = [
@@ -657,18 +581,30 @@ const NOT_FOR_A_SERVER: [Row; 7] = [
     ),
 ];
 
-#[test]
-fn an_overwrite_is_refused_and_what_is_for_nodes_has_no_reply(rt: HostRuntime) -> Result<(), Fail> {
-    play_each(&rt, &[&NOT_FOR_A_SERVER])
+/// The octets come from 127.0.0.2 at this moment, cut to each shorter length, and have no reply.
+fn cut_one(
+    rt: &impl Abort,
+    what: &str,
+    server: &mut Server,
+    at: u64,
+    whole: &[u8],
+) -> Result<(), Fail> {
+    for length in 0..whole.len() {
+        expect_reply(rt, server, (what, at, FIRST, &whole[..length]), b"")?;
+    }
+    Ok(())
 }
 
-/// The packets of every kind come from 127.0.0.2 at this moment, cut to each shorter length, and none has a reply.
-fn cut<R: Abort + AllocGlobal>(rt: &R, server: &mut Server, at: u64) -> Result<(), Fail> {
-    for words in EVERY_KIND {
+/// So do the packets of every kind.
+fn cut<R: Abort + AllocGlobal>(
+    rt: &R,
+    what: &str,
+    server: &mut Server,
+    at: u64,
+) -> Result<(), Fail> {
+    for words in &EVERY_KIND {
         let whole = octets(rt, words)?;
-        for length in 0..whole.len() {
-            expect_reply(rt, server, at, FIRST, &whole[..length], b"")?;
-        }
+        cut_one(rt, what, server, at, whole.as_slice())?;
     }
     Ok(())
 }
@@ -684,82 +620,313 @@ const LEASED: [Row; 2] = [
     (120_000, SECOND, QUERY, NOT_FOUND),
 ];
 
-/// They come before a lease and while it lives.
-fn cut_before_and_after<R: Abort + AllocGlobal>(rt: &R, server: &mut Server) -> Result<(), Fail> {
-    cut(rt, server, 60_000)?;
-    play(rt, server, &FREE)?;
-    cut(rt, server, 90_000)?;
-    play(rt, server, &LEASED)
-}
+/// In the silence.
+const SILENT: [Row; 1] = [(10_000, FIRST, REGISTRATION, "-")];
 
-#[test]
-fn packets_cut_at_every_length_have_no_reply_and_change_no_lease(
-    rt: HostRuntime,
+/// A datagram at a moment before the last one, which is said, is refused, and has no reply.
+fn expect_back(
+    rt: &impl Abort,
+    what: &str,
+    server: &mut Server,
+    at: u64,
+    last: u64,
 ) -> Result<(), Fail> {
-    cut_before_and_after(&rt, &mut started(&rt, 4096, 0)?)
-}
-
-/// A datagram at a moment before the last one is refused, and has no reply.
-fn expect_back<R: Abort>(rt: &R, server: &mut Server, at: u64) -> Result<(), Fail> {
+    let now = moment(at)?;
+    let last = moment(last)?;
     let from = Addr {
         ip: FIRST,
         port: 137,
     };
     let mut out = ArrayVec::new();
-    let got = server.on_datagram(moment(at)?, from, REGISTRATION_OCTETS, &mut out);
-    expect_eq_in(rt, &at, &got.err(), &Some(ServerFault::ClockBack));
-    expect_in(rt, &at, out.is_empty());
+    let got = server.on_datagram(now, from, REGISTRATION_OCTETS, &mut out);
+    expect_eq_in(rt, &(what, at), &got.err(), &Some(ServerFault::ClockBack));
+    expect_in(rt, &(what, at), out.is_empty());
+    expect_in(rt, &(what, at), server.last() == last);
     Ok(())
 }
 
-/// Moments go back in the silence and after it.
-fn go_back<R: Abort + AllocGlobal>(rt: &R, server: &mut Server) -> Result<(), Fail> {
-    expect_reply(rt, server, 10_000, FIRST, REGISTRATION_OCTETS, b"")?;
-    expect_back(rt, server, 9_999)?;
-    play(rt, server, &AFTER_THE_SILENCE)?;
-    expect_back(rt, server, 59_000)?;
-    expect(rt, server.last() == moment(60_000)?);
-    Ok(())
-}
-
-#[test]
-fn a_moment_that_goes_back_is_refused_in_the_silence_too(rt: HostRuntime) -> Result<(), Fail> {
-    expect_eq(&rt, &ServerFault::ClockBack.number(), &1);
-    go_back(&rt, &mut started(&rt, 4096, 0)?)
-}
-
-/// A name of many registers, and gets its reply: the flags and counts of the reply, and what comes after its name.
-fn expect_one_of_many<R: Abort + AllocGlobal>(
+/// Of the names of many those from one number to another register, and each gets its reply: the flags and counts of the reply, and
+/// what comes after its name.
+fn play_many<R: Abort + AllocGlobal>(
     rt: &R,
+    what: &str,
     server: &mut Server,
-    number: u16,
+    numbers: (u16, u16),
     head: &str,
     tail: &str,
 ) -> Result<(), Fail> {
-    let asks = registration_of_many(rt, number)?;
-    let gives = one_of_many(rt, number, head, tail)?;
-    expect_reply(rt, server, 60_000, FIRST, asks.as_slice(), gives.as_slice())
+    for number in numbers.0..=numbers.1 {
+        let asks = registration_of_many(rt, number)?;
+        let gives = one_of_many(rt, number, head, tail)?;
+        let came = (what, 60_000, FIRST, asks.as_slice());
+        expect_reply(rt, server, came, gives.as_slice())?;
+    }
+    Ok(())
+}
+
+/// What comes to a server.
+#[derive(Clone, Copy)]
+enum Part {
+    /// The datagrams of rows.
+    Rows(&'static [Row]),
+    /// Those of a group.
+    Group(&'static [Step]),
+    /// Packets of every kind, cut to each shorter length, at a moment.
+    Cut(u64),
+    /// A datagram at a moment before the last one.
+    Back(u64, u64),
+    /// The registrations of names of many, from one number to another, and what their replies are made of.
+    Many(u16, u16, &'static str, &'static str),
+}
+
+fn play_part<R: Abort + AllocGlobal>(
+    rt: &R,
+    what: &str,
+    server: &mut Server,
+    part: &Part,
+) -> Result<(), Fail> {
+    match *part {
+        Part::Rows(rows) => play(rt, what, server, rows),
+        Part::Group(steps) => play_group(rt, what, server, steps),
+        Part::Cut(at) => cut(rt, what, server, at),
+        Part::Back(at, last) => expect_back(rt, what, server, at, last),
+        Part::Many(first, last, head, tail) => {
+            play_many(rt, what, server, (first, last), head, tail)
+        }
+    }
+}
+
+fn play_parts<R: Abort + AllocGlobal>(
+    rt: &R,
+    what: &str,
+    server: &mut Server,
+    parts: &[Part],
+) -> Result<(), Fail> {
+    for part in parts {
+        play_part(rt, what, server, part)?;
+    }
+    Ok(())
+}
+
+/// What the case shows; a server's rows, when it starts, and what comes to it. A function returns each table, since the prover writes
+/// out all of a table in each step of a function that names it.
+type Case = (&'static str, usize, u64, &'static [Part]);
+
+/// Of names, and what is granted for how long.
+const NAMES: &[Case] = &[
+    (
+        "FRED is granted once the silence is over",
+        4096,
+        0,
+        &[Part::Rows(&AFTER_THE_SILENCE)],
+    ),
+    (
+        "a server that starts later is silent later",
+        4096,
+        70_000,
+        &[Part::Rows(&LATER)],
+    ),
+    (
+        "a TTL of 0 is granted the longest",
+        4096,
+        0,
+        &[Part::Rows(&TTL_OF_0)],
+    ),
+    (
+        "a TTL above the longest is granted the longest",
+        4096,
+        0,
+        &[Part::Rows(&GREATEST_TTL)],
+    ),
+    (
+        "another machine gets neither the name nor the owner's address",
+        4096,
+        0,
+        &[Part::Rows(&ANOTHER_MACHINE)],
+    ),
+];
+
+fn names() -> &'static [Case] {
+    NAMES
+}
+
+/// Of groups.
+const GROUPS: &[Case] = &[
+    (
+        "a group has 1,000 members, and is found in their order",
+        4096,
+        0,
+        &[Part::Rows(&TWO_MEMBERS), Part::Group(&A_THOUSAND)],
+    ),
+    (
+        "of a group of 87 the first 86 are listed",
+        4096,
+        0,
+        &[Part::Group(&OF_87)],
+    ),
+    (
+        "the TTL is that of a member that is not listed",
+        4096,
+        0,
+        &[Part::Group(&NOT_LISTED)],
+    ),
+    (
+        "the TTL is that of the next when the least end moves",
+        4096,
+        0,
+        &[Part::Rows(&LEAST_END_MOVES)],
+    ),
+    (
+        "of 1,000 members the last ends first",
+        4096,
+        0,
+        &[Part::Group(&LAST_ENDS_FIRST)],
+    ),
+    (
+        "of a group of 50 with the longest name 49 are listed",
+        4096,
+        0,
+        &[Part::Group(&OF_50)],
+    ),
+];
+
+fn groups() -> &'static [Case] {
+    GROUPS
+}
+
+/// Of leases that end, are renewed and are given back.
+const LEASES: &[Case] = &[
+    (
+        "a query of no name, and of one that ends",
+        4096,
+        0,
+        &[Part::Rows(&ENDING)],
+    ),
+    (
+        "only the owner releases a name",
+        4096,
+        0,
+        &[Part::Rows(&RELEASES)],
+    ),
+    (
+        "a refresh extends its sender's own lease",
+        4096,
+        0,
+        &[Part::Rows(&RENEWAL)],
+    ),
+    (
+        "each member of a group extends its own",
+        4096,
+        0,
+        &[Part::Rows(&RENEWAL_OF_MEMBERS)],
+    ),
+    (
+        "a registration that comes again extends its sender's own lease",
+        4096,
+        0,
+        &[Part::Rows(&REGISTERED_AGAIN)],
+    ),
+    (
+        "a renewal says the seconds asked, and shortens nothing",
+        4096,
+        0,
+        &[Part::Rows(&SHORTER_RENEWAL)],
+    ),
+    (
+        "a full table has room again when a lease has ended",
+        1,
+        0,
+        &[Part::Rows(&ONE_ROW)],
+    ),
+    (
+        "the owner of a unique name gets no group of it",
+        4096,
+        0,
+        &[Part::Rows(&GROUP_OF_A_UNIQUE_NAME)],
+    ),
+];
+
+fn leases() -> &'static [Case] {
+    LEASES
+}
+
+/// Of packets that are no requests of a unique name, and of moments.
+const PACKETS: &[Case] = &[
+    (
+        "a refresh with opcode 8 of a name that was never registered is granted",
+        4096,
+        0,
+        &[Part::Rows(&OPCODE_OF_8)],
+    ),
+    (
+        "so is one with opcode 9",
+        4096,
+        0,
+        &[Part::Rows(&OPCODE_OF_9)],
+    ),
+    (
+        "an overwrite is refused, and what is for nodes has no reply",
+        4096,
+        0,
+        &[Part::Rows(&NOT_FOR_A_SERVER)],
+    ),
+    (
+        "packets cut at every length have no reply and change no lease, before a lease and while it lives",
+        4096,
+        0,
+        &[
+            Part::Cut(60_000),
+            Part::Rows(&FREE),
+            Part::Cut(90_000),
+            Part::Rows(&LEASED),
+        ],
+    ),
+    (
+        "a moment that goes back is refused, in the silence too",
+        4096,
+        0,
+        &[
+            Part::Rows(&SILENT),
+            Part::Back(9_999, 10_000),
+            Part::Rows(&AFTER_THE_SILENCE),
+            Part::Back(59_000, 60_000),
+        ],
+    ),
+    (
+        "as many names as there are rows are granted",
+        4096,
+        0,
+        &[
+            Part::Many(0, 4095, "ad80 reply", "00 NB 60s unique 127.0.0.2"),
+            Part::Many(4096, 4096, "ad82 reply", "00 NB 0s unique 127.0.0.2"),
+        ],
+    ),
+];
+
+fn packets() -> &'static [Case] {
+    PACKETS
+}
+
+/// A new server plays its part in a case.
+fn play_case<R: Abort + AllocGlobal>(rt: &R, case: &Case) -> Result<(), Fail> {
+    let mut server = started(rt, case.1, case.2)?;
+    play_parts(rt, case.0, &mut server, case.3)
+}
+
+fn play_cases<R: Abort + AllocGlobal>(rt: &R, cases: &[Case]) -> Result<(), Fail> {
+    for case in cases {
+        play_case(rt, case)?;
+    }
+    Ok(())
 }
 
 #[test]
-fn as_many_names_as_there_are_rows_are_granted(rt: HostRuntime) -> Result<(), Fail> {
-    let mut server = started(&rt, 4096, 0)?;
-    for number in 0..4096 {
-        expect_one_of_many(
-            &rt,
-            &mut server,
-            number,
-            "ad80 reply",
-            "00 NB 60s unique 127.0.0.2",
-        )?;
-    }
-    expect_one_of_many(
-        &rt,
-        &mut server,
-        4096,
-        "ad82 reply",
-        "00 NB 0s unique 127.0.0.2",
-    )
+fn datagrams_and_their_replies(rt: HostRuntime) -> Result<(), Fail> {
+    expect_eq(&rt, &ServerFault::ClockBack.number(), &1);
+    play_cases(&rt, names())?;
+    play_cases(&rt, groups())?;
+    play_cases(&rt, leases())?;
+    play_cases(&rt, packets())
 }
 
 /// `REGISTRATION`, `GRANTED`, `QUERY` and `NOT_FOUND` as octets, which take no memory.
@@ -775,41 +942,24 @@ const QUERY_OCTETS: &[u8] =
 const NOT_FOUND_OCTETS: &[u8] =
     b"\x00\x08\x85\x83\x00\x00\x00\x01\x00\x00\x00\x00 EGFCEFEECACACACACACACACACACACACA\x00\x00\x0A\x00\x01\x00\x00\x00\x00\x00\x00";
 
+/// FRED is granted, or memory was refused: then the server says so, has no lease, and grants the same request when it comes again.
+fn expect_granted_at_last(rt: &impl Abort, server: &mut Server) -> Result<(), Fail> {
+    let asks = ("at last", 60_000, FIRST, REGISTRATION_OCTETS);
+    if is_refused_memory(rt, server, asks, GRANTED_OCTETS)? {
+        let query = ("no lease", 60_000, SECOND, QUERY_OCTETS);
+        expect_reply(rt, server, query, NOT_FOUND_OCTETS)?;
+        expect_reply(rt, server, asks, GRANTED_OCTETS)?;
+    }
+    Ok(())
+}
+
 /// With memory it is granted. `rt try --test --fail-alloc N` refuses the Nth allocation: where it is the server's, it says so,
 /// has no lease, and grants the same request when it comes again.
 #[test]
 fn refused_memory_is_told_and_the_same_request_is_granted_later(
     rt: HostRuntime,
 ) -> Result<(), Fail> {
-    let mut server = started(&rt, 4096, 0)?;
-    let from = Addr {
-        ip: FIRST,
-        port: 137,
-    };
-    let mut out = ArrayVec::new();
-    if let Err(fault) = server.on_datagram(moment(60_000)?, from, REGISTRATION_OCTETS, &mut out) {
-        expect_eq(&rt, &fault, &ServerFault::OutOfMemory);
-        expect(&rt, out.is_empty());
-        expect_reply(
-            &rt,
-            &mut server,
-            60_000,
-            SECOND,
-            QUERY_OCTETS,
-            NOT_FOUND_OCTETS,
-        )?;
-        expect_reply(
-            &rt,
-            &mut server,
-            60_000,
-            FIRST,
-            REGISTRATION_OCTETS,
-            GRANTED_OCTETS,
-        )?;
-    } else {
-        expect_eq(&rt, &out.as_slice(), &GRANTED_OCTETS);
-    }
-    Ok(())
+    expect_granted_at_last(&rt, &mut started(&rt, 4096, 0)?)
 }
 
 /// Each growth of a server: a new name, a group's members, and renewals that move an end. FRED's lease lasts until 121,000.
@@ -838,32 +988,48 @@ const EACH_GROWTH: [Row; 7] = [
     (120_000, SECOND, QUERY, FOUND),
 ];
 
-/// The reply to these octets, which are given once more where memory was refused. Then the buffer was empty.
-fn expect_at_last<R: Abort>(
-    rt: &R,
+/// Whether memory was refused for the reply to these octets: then the buffer is empty, and otherwise it has the reply.
+fn is_refused_memory(
+    rt: &impl Abort,
     server: &mut Server,
-    at: u64,
-    ip: u32,
-    asks: &[u8],
+    came: Came<'_>,
+    gives: &[u8],
+) -> Result<bool, Fail> {
+    let now = moment(came.1)?;
+    let from = Addr {
+        ip: came.2,
+        port: 137,
+    };
+    let mut out = ArrayVec::new();
+    if let Err(fault) = server.on_datagram(now, from, came.3, &mut out) {
+        expect_eq_in(rt, &came, &fault, &ServerFault::OutOfMemory);
+        expect_in(rt, &came, out.is_empty());
+        return Ok(true);
+    }
+    expect_eq_in(rt, &came, &out.as_slice(), &gives);
+    Ok(false)
+}
+
+/// The reply to these octets, which are given once more where memory was refused.
+fn expect_at_last(
+    rt: &impl Abort,
+    server: &mut Server,
+    came: Came<'_>,
     gives: &[u8],
 ) -> Result<(), Fail> {
-    let from = Addr { ip, port: 137 };
-    let mut out = ArrayVec::new();
-    if let Err(fault) = server.on_datagram(moment(at)?, from, asks, &mut out) {
-        expect_eq_in(rt, &(asks, at), &fault, &ServerFault::OutOfMemory);
-        expect_in(rt, &(asks, at), out.is_empty());
-        return expect_reply(rt, server, at, ip, asks, gives);
+    if is_refused_memory(rt, server, came, gives)? {
+        return expect_reply(rt, server, came, gives);
     }
-    expect_eq_in(rt, &(asks, at), &out.as_slice(), &gives);
     Ok(())
 }
 
 /// The server takes the datagrams, some of them twice, and each reply is that of its row.
 fn play_growing<R: Abort + AllocGlobal>(rt: &R, server: &mut Server) -> Result<(), Fail> {
-    for (at, ip, asks, gives) in EACH_GROWTH {
+    for (at, ip, asks, gives) in &EACH_GROWTH {
         let asks = octets(rt, asks)?;
         let gives = octets(rt, gives)?;
-        expect_at_last(rt, server, at, ip, asks.as_slice(), gives.as_slice())?;
+        let came = ("each growth", *at, *ip, asks.as_slice());
+        expect_at_last(rt, server, came, gives.as_slice())?;
     }
     Ok(())
 }

@@ -27,7 +27,7 @@ const LONGER: &[u8] =
     b"\x81\x00\x00\x45 EGFCEFEECACACACACACACACACACACACA\x00 FEEFEBENCACACACACACACACACACACACA\x00\x00";
 
 /// A packet, with the sixteen octets of its names.
-#[derive(Clone, Copy, Debug)]
+#[derive(Clone, Copy)]
 pub(super) enum Said<'a> {
     Message(&'a [u8]),
     Request(&'a [u8; 16], &'a [u8; 16]),
@@ -67,21 +67,31 @@ const TEXTS: [(Said<'static>, &[u8]); 8] = [
     (Said::Message(b"hi"), b"\x00\x00\x00\x02hi"),
 ];
 
+/// The packet is written as its text, behind what stands there, and is read from it.
+fn written_and_read<R: Abort + AllocGlobal>(
+    rt: &R,
+    packet: Packet,
+    text: &[u8],
+    octets: &mut Vec<u8>,
+    stream: &mut Stream,
+) -> Result<(), Fail> {
+    octets.push(0xFF)?;
+    encode(&packet, octets)?;
+    expect_eq_in(rt, &text, &octets[0], &0xFF);
+    expect_eq_in(rt, &text, &&octets[1..], &text);
+    let taken = stream.take(&octets[1..]);
+    expect_in(rt, &text, taken == Ok((text.len(), Some(packet))));
+    Ok(())
+}
+
 #[test]
 fn packets_are_their_texts(rt: HostRuntime) -> Result<(), Fail> {
     laws::text_is_read();
     for (said, text) in &TEXTS {
         let packet = packet(&rt, *said)?;
-        let mut octets = Vec::from_slice(rt.alloc(), b"\xFF")?;
-        encode(&packet, &mut octets)?;
-        expect_eq(&rt, &octets[0], &0xFF);
-        expect_eq_in(&rt, &said, &&octets[1..], &*text);
+        let mut octets = Vec::new(rt.alloc());
         let mut stream = Stream::new(rt.alloc());
-        expect_in(
-            &rt,
-            &said,
-            stream.take(&octets[1..]) == Ok((text.len(), Some(packet))),
-        );
+        written_and_read(&rt, packet, *text, &mut octets, &mut stream)?;
     }
     Ok(())
 }
@@ -89,11 +99,11 @@ fn packets_are_their_texts(rt: HostRuntime) -> Result<(), Fail> {
 /// Gives a new stream the octets in pieces of a size: the packets of the table come in order, and then as many octets as are said.
 fn play_cut<R: Abort + AllocGlobal>(
     rt: &R,
+    stream: &mut Stream,
     octets: &[u8],
     size: usize,
     more: usize,
 ) -> Result<(), Fail> {
-    let mut stream = Stream::new(rt.alloc());
     let mut came = 0usize;
     let mut held = 0usize;
     for piece in octets.chunks(size.max(1)) {
@@ -103,8 +113,8 @@ fn play_cut<R: Abort + AllocGlobal>(
             rest = &rest[taken..];
             held = held.saturating_add(taken);
             let Some(answer) = answer else { break };
-            let (said, _) = TEXTS.get(came).ok_or("a packet more")?;
-            expect_in(rt, &(&said, &size), answer == packet(rt, *said)?);
+            let (said, text) = TEXTS.get(came).ok_or("a packet more")?;
+            expect_in(rt, &(*text, size), answer == packet(rt, *said)?);
             came = came.saturating_add(1);
             held = 0;
         }
@@ -123,9 +133,24 @@ fn a_stream_cut_anywhere(rt: HostRuntime) -> Result<(), Fail> {
         octets.extend_from_slice(*text)?;
     }
     octets.extend_from_slice(b"\x00\x01\x00\x00rest")?;
-    for size in [1, 2, 3, 5, 7, 64, 200] {
-        play_cut(&rt, &octets, size, 8)?;
+    for size in &[1, 2, 3, 5, 7, 64, 200] {
+        let mut stream = Stream::new(rt.alloc());
+        play_cut(&rt, &mut stream, &octets, *size, 8)?;
     }
+    Ok(())
+}
+
+/// The packet's text comes in two parts.
+fn cut_at<R: Abort + AllocGlobal>(
+    rt: &R,
+    stream: &mut Stream,
+    said: Said<'_>,
+    cut: &[u8],
+    rest: &[u8],
+) -> Result<(), Fail> {
+    let wanted = Ok((rest.len(), Some(packet(rt, said)?)));
+    expect_in(rt, &(cut, rest), stream.take(cut) == Ok((cut.len(), None)));
+    expect_in(rt, &(cut, rest), stream.take(rest) == wanted);
     Ok(())
 }
 
@@ -134,14 +159,9 @@ fn a_stream_cut_anywhere(rt: HostRuntime) -> Result<(), Fail> {
 fn session_packets_cut_at_every_length(rt: HostRuntime) -> Result<(), Fail> {
     for (said, text) in &TEXTS {
         for place in 0..text.len() {
-            let mut stream = Stream::new(rt.alloc());
             let (cut, rest) = text.split_at(place);
-            expect_in(&rt, &(&said, &place), stream.take(cut) == Ok((place, None)));
-            expect_in(
-                &rt,
-                &(&said, &place),
-                stream.take(rest) == Ok((rest.len(), Some(packet(&rt, *said)?))),
-            );
+            let mut stream = Stream::new(rt.alloc());
+            cut_at(&rt, &mut stream, *said, cut, rest)?;
         }
     }
     Ok(())
@@ -172,40 +192,42 @@ const FAULTS: [Fails; 17] = [
     (REQUEST, &[(39, 0x40)], FaultKind::BadName, 39),
 ];
 
-/// Gives the octets whole, and all but the last before it: the fault comes, and then for ever.
-fn see_fault<R: Abort + AllocGlobal>(
-    rt: &R,
-    octets: &[u8],
-    fault: StreamFault,
-) -> Result<(), Fail> {
-    let last = octets.len().max(1) - 1;
-    let mut stream = Stream::new(rt.alloc());
-    for piece in [octets, b"", KEEP_ALIVE] {
-        expect_eq(rt, &stream.take(piece), &Err(fault));
+/// The fault comes of each piece.
+fn see_in_stream(rt: &impl Abort, stream: &mut Stream, pieces: &[&[u8]], fault: StreamFault) {
+    for piece in pieces {
+        expect_eq(rt, &stream.take(*piece), &Err(fault));
     }
+}
+
+/// Gives the octets whole, and all but the last before it: the fault comes, and then for ever.
+fn see_fault<R: Abort + AllocGlobal>(rt: &R, octets: &[u8], fault: StreamFault) {
+    let last = octets.len().max(1) - 1;
+    let whole = [octets, b"", KEEP_ALIVE];
+    see_in_stream(rt, &mut Stream::new(rt.alloc()), &whole, fault);
     let mut stream = Stream::new(rt.alloc());
     expect_eq(rt, &stream.take(&octets[..last]), &Ok((last, None)));
-    for piece in [&octets[last..], KEEP_ALIVE, b""] {
-        expect_eq(rt, &stream.take(piece), &Err(fault));
+    let rest = [&octets[last..], KEEP_ALIVE, b""];
+    see_in_stream(rt, &mut stream, &rest, fault);
+}
+
+/// So it is of a stream in parts.
+fn see_in_parts(rt: &impl Abort, parts: &mut Pieces, pieces: &[&[u8]], fault: StreamFault) {
+    for piece in pieces {
+        expect_eq(rt, &parts.take(*piece), &Err(fault));
     }
-    Ok(())
 }
 
 /// The same of a stream in parts, which is given all but the last octet by octet.
-fn see_fault_in_parts(rt: &impl Abort, octets: &[u8], fault: StreamFault) -> Result<(), Fail> {
+fn see_fault_in_parts(rt: &impl Abort, octets: &[u8], fault: StreamFault) {
     let last = octets.len().max(1) - 1;
-    let mut pieces = Pieces::new();
-    for piece in [octets, b"", KEEP_ALIVE] {
-        expect_eq(rt, &pieces.take(piece), &Err(fault));
-    }
-    let mut pieces = Pieces::new();
+    let whole = [octets, b"", KEEP_ALIVE];
+    see_in_parts(rt, &mut Pieces::new(), &whole, fault);
+    let mut parts = Pieces::new();
     for octet in &octets[..last] {
-        expect_eq(rt, &pieces.take(&[*octet]), &Ok((1, None)));
+        expect_eq(rt, &parts.take(&[*octet]), &Ok((1, None)));
     }
-    for piece in [&octets[last..], KEEP_ALIVE, b""] {
-        expect_eq(rt, &pieces.take(piece), &Err(fault));
-    }
-    Ok(())
+    let rest = [&octets[last..], KEEP_ALIVE, b""];
+    see_in_parts(rt, &mut parts, &rest, fault);
 }
 
 #[test]
@@ -217,8 +239,8 @@ fn faults_where_they_are_seen(rt: HostRuntime) -> Result<(), Fail> {
             kind: *kind,
             place: *place,
         });
-        see_fault(&rt, &octets, fault)?;
-        see_fault_in_parts(&rt, &octets, fault)?;
+        see_fault(&rt, &octets, fault);
+        see_fault_in_parts(&rt, &octets, fault);
     }
     Ok(())
 }
@@ -232,11 +254,14 @@ const NUMBERS: [(FaultKind, u8, &str); 4] = [
 
 #[test]
 fn numbers_and_words_of_faults(rt: HostRuntime) {
-    for (kind, number, word) in NUMBERS {
-        expect_eq(&rt, &kind.number(), &number);
-        expect_eq(&rt, &kind.word(), &word);
-        let fault = StreamFault::Malformed(Fault { kind, place: 0 });
-        expect_eq(&rt, &fault.number(), &number);
+    for (kind, number, word) in &NUMBERS {
+        expect_eq(&rt, &kind.number(), &*number);
+        expect_eq(&rt, &kind.word(), &*word);
+        let fault = StreamFault::Malformed(Fault {
+            kind: *kind,
+            place: 0,
+        });
+        expect_eq(&rt, &fault.number(), &*number);
     }
     expect_eq(&rt, &StreamFault::OutOfMemory.number(), &5);
     expect_eq(&rt, &EncodeFault::TooLong.number(), &1);
@@ -244,7 +269,7 @@ fn numbers_and_words_of_faults(rt: HostRuntime) {
 }
 
 /// What comes of a call: a part, or none.
-#[derive(Clone, Copy, Debug)]
+#[derive(Clone, Copy)]
 enum Comes<'a> {
     Start(usize),
     Data(&'a [u8]),
@@ -296,18 +321,43 @@ fn part<'a, A: AllocGlobal>(rt: &A, comes: Comes<'a>) -> Result<Option<Part<'a>>
     })
 }
 
+/// What comes of a call, and how many octets it takes.
+fn expect_part(
+    rt: &impl Abort,
+    pieces: &mut Pieces,
+    rest: &[u8],
+    count: usize,
+    wanted: &Option<Part<'_>>,
+) -> Result<usize, Fail>
+    ensures { IfOk result (λ t. t ≤ length rest.now) }
+{
+    let (taken, returned) = pieces.take(rest)?;
+    expect_eq_in(rt, &rest, &taken, &count);
+    expect_in(rt, &rest, returned == *wanted);
+    Ok(taken)
+}
+
+/// What comes of the calls, one after the other.
+fn expect_parts<R: Abort + AllocGlobal>(
+    rt: &R,
+    pieces: &mut Pieces,
+    octets: &[u8],
+    calls: &[(usize, Comes<'static>)],
+) -> Result<(), Fail> {
+    let mut rest = octets;
+    for (count, comes) in calls {
+        let wanted = part(rt, *comes)?;
+        let taken = expect_part(rt, pieces, rest, *count, &wanted)?;
+        rest = &rest[taken..];
+    }
+    Ok(())
+}
+
 #[test]
 fn parts_in_one_piece(rt: HostRuntime) -> Result<(), Fail> {
     laws::parts_are_the_stream();
     for (octets, calls) in &PARTS {
-        let mut pieces = Pieces::new();
-        let mut rest = *octets;
-        for (count, comes) in *calls {
-            let (taken, returned) = pieces.take(rest)?;
-            expect_eq_in(&rt, &comes, &taken, &*count);
-            expect_in(&rt, &comes, returned == part(&rt, *comes)?);
-            rest = &rest[taken..];
-        }
+        expect_parts(&rt, &mut Pieces::new(), *octets, *calls)?;
     }
     Ok(())
 }
@@ -321,115 +371,176 @@ fn longest_message<A: AllocGlobal>(rt: &A) -> Result<Vec<u8>, Fail> {
     Ok(octets)
 }
 
-#[test]
-fn the_longest_message_octet_by_octet(rt: HostRuntime) -> Result<(), Fail> {
-    let sent = longest_message(&rt)?;
-    let last = sent.len().max(1) - 1;
-    let mut stream = Stream::new(rt.alloc());
-    for octet in &sent[..last] {
+/// The stream is given each of these octets, and no packet comes of them.
+fn take_each(rt: &impl Abort, stream: &mut Stream, octets: &[u8]) -> Result<(), Fail> {
+    for octet in octets {
         let (taken, packet) = stream.take(&[*octet])?;
-        expect_eq(&rt, &taken, &1);
-        expect(&rt, packet.is_none());
+        expect_eq(rt, &taken, &1);
+        expect(rt, packet.is_none());
     }
-    let mut piece = Vec::from_slice(rt.alloc(), &sent[last..])?;
-    piece.push(b'!')?;
-    let (taken, packet) = stream.take(&piece)?;
-    expect_eq(&rt, &taken, &1);
-    let Some(Packet::Message(octets)) = packet else {
-        return Err("no message")?;
-    };
-    expect(&rt, sent.len() == 131_075);
-    expect(&rt, octets.as_slice() == &sent[4..]);
     Ok(())
 }
 
-/// The longest message, cut into pieces of a size: how many parts of data come, which are its octets in order.
-fn parts_of_data<R: Abort + AllocGlobal>(rt: &R, size: usize) -> Result<usize, Fail> {
-    let octets = longest_message(rt)?;
-    let mut pieces = Pieces::new();
-    let mut others: Vec<Part<'_>> = Vec::new(rt.alloc());
-    let mut came = Vec::new(rt.alloc());
+/// With the last octet of a message it comes, and what stands behind it is not taken.
+fn take_last(
+    rt: &impl Abort,
+    stream: &mut Stream,
+    piece: &[u8],
+    message: &[u8],
+) -> Result<(), Fail> {
+    let (taken, packet) = stream.take(piece)?;
+    expect_eq(rt, &taken, &1);
+    let Some(Packet::Message(octets)) = packet else {
+        return Err("no message")?;
+    };
+    expect(rt, octets.as_slice() == message);
+    Ok(())
+}
+
+fn take_all(rt: &impl Abort, stream: &mut Stream, sent: &[u8]) -> Result<(), Fail> {
+    expect(rt, sent.len() == 131_075);
+    let last = sent.len().max(1) - 1;
+    take_each(rt, stream, &sent[..last])?;
+    take_last(rt, stream, &[sent[last], b'!'], &sent[4..])
+}
+
+#[test]
+fn the_longest_message_octet_by_octet(rt: HostRuntime) -> Result<(), Fail> {
+    let sent = longest_message(&rt)?;
+    take_all(&rt, &mut Stream::new(rt.alloc()), sent.as_slice())
+}
+
+/// A piece of a message comes: its octets are put behind those that came, and its other parts behind the others. How many parts of
+/// data come.
+fn take_piece<'a>(
+    rt: &impl Abort,
+    pieces: &mut Pieces,
+    piece: &'a [u8],
+    came: &mut Vec<u8>,
+    others: &mut Vec<Part<'a>>,
+) -> Result<usize, Fail> {
+    let mut rest = piece;
     let mut parts = 0usize;
-    for piece in octets.chunks(size.max(1)) {
-        let mut rest = piece;
-        for _ in 0..4 {
-            let (taken, part) = pieces.take(rest)?;
-            rest = &rest[taken..];
-            match part {
-                None => break,
-                Some(Part::MessageData(lent)) => {
-                    expect(rt, !lent.is_empty());
-                    came.extend_from_slice(lent)?;
-                    parts = parts.saturating_add(1);
-                }
-                Some(other) => {
-                    expect_eq(rt, &came.len(), &(131_071 * others.len().min(1)));
-                    others.push(other)?;
-                }
+    for _ in 0..4 {
+        let (taken, part) = pieces.take(rest)?;
+        rest = &rest[taken..];
+        match part {
+            None => break,
+            Some(Part::MessageData(lent)) => {
+                expect(rt, !lent.is_empty());
+                came.extend_from_slice(lent)?;
+                parts = parts.saturating_add(1);
+            }
+            Some(other) => {
+                expect_eq(rt, &came.len(), &(131_071 * others.len().min(1)));
+                others.push(other)?;
             }
         }
-        expect_eq(rt, &rest.len(), &0);
+    }
+    expect_eq(rt, &rest.len(), &0);
+    Ok(parts)
+}
+
+/// The longest message, cut into pieces of a size: so many parts of data come, which are its octets in order.
+fn take_pieces<'a>(
+    rt: &impl Abort,
+    octets: &'a [u8],
+    size: usize,
+    wanted: usize,
+    came: &mut Vec<u8>,
+    others: &mut Vec<Part<'a>>,
+) -> Result<(), Fail> {
+    let mut pieces = Pieces::new();
+    let mut parts = 0usize;
+    for piece in octets.chunks(size.max(1)) {
+        let more = take_piece(rt, &mut pieces, piece, came, others)?;
+        parts = parts.saturating_add(more);
     }
     expect(rt, octets.len() == 131_075);
     expect(rt, came.as_slice() == &octets[4..]);
     expect(rt, others.len() == 2);
     expect(rt, others[0] == Part::MessageStart(131_071));
     expect(rt, others[1] == Part::MessageEnd);
-    Ok(parts)
+    expect_eq_in(rt, &size, &parts, &wanted);
+    Ok(())
 }
 
 #[test]
 fn the_longest_message_in_pieces(rt: HostRuntime) -> Result<(), Fail> {
-    for (size, parts) in [(1, 131_071), (1_460, 90), (131_075, 1)] {
-        expect_eq_in(&rt, &size, &parts_of_data(&rt, size)?, &parts);
+    let octets = longest_message(&rt)?;
+    for (size, parts) in &[(1, 131_071), (1_460, 90), (131_075, 1)] {
+        let mut came = Vec::new(rt.alloc());
+        let mut others = Vec::new(rt.alloc());
+        take_pieces(
+            &rt,
+            octets.as_slice(),
+            *size,
+            *parts,
+            &mut came,
+            &mut others,
+        )?;
     }
     Ok(())
 }
 
 /// A name whose wire form has 255 octets: its scope has three labels of 63 octets and one of 28.
-fn longest(rt: &HostRuntime) -> Result<Name, Fail> {
-    let mut scope = Vec::new(rt.alloc());
-    for count in [63u8, 63, 63, 28] {
-        scope.push(count)?;
-        for _ in 0..count {
-            scope.push(b'A')?;
-        }
-    }
+fn longest() -> Result<Name, Fail> {
+    let mut scope = [b'A'; 221];
+    scope[0] = 63;
+    scope[64] = 63;
+    scope[128] = 63;
+    scope[192] = 28;
     fred(&scope)
+}
+
+/// A request is written, and a stream in parts is given it octet by octet: it comes with the last one.
+fn take_request(
+    rt: &impl Abort,
+    request: Packet,
+    octets: &mut Vec<u8>,
+    pieces: &mut Pieces,
+) -> Result<(), Fail> {
+    encode(&request, octets)?;
+    expect_eq(rt, &octets.len(), &514);
+    let last = octets.len().max(1) - 1;
+    for octet in &octets[..last] {
+        expect_eq(rt, &pieces.take(&[*octet]), &Ok((1, None)));
+    }
+    let taken = pieces.take(&octets[last..]);
+    expect(rt, taken == Ok((1, Some(Part::Other(request)))));
+    Ok(())
 }
 
 #[test]
 fn the_longest_request_octet_by_octet(rt: HostRuntime) -> Result<(), Fail> {
     let request = Packet::Request {
-        called: longest(&rt)?,
-        calling: longest(&rt)?,
+        called: longest()?,
+        calling: longest()?,
     };
     let mut octets = Vec::new(rt.alloc());
-    encode(&request, &mut octets)?;
-    expect_eq(&rt, &octets.len(), &514);
-    let mut pieces = Pieces::new();
-    let last = octets.len().max(1) - 1;
-    for octet in &octets[..last] {
-        expect_eq(&rt, &pieces.take(&[*octet]), &Ok((1, None)));
-    }
-    expect(
-        &rt,
-        pieces.take(&octets[last..]) == Ok((1, Some(Part::Other(request)))),
-    );
-    Ok(())
+    take_request(&rt, request, &mut octets, &mut Pieces::new())
+}
+
+/// A message of as many octets `x` is written behind what stands there.
+fn write_message<A: AllocGlobal>(
+    rt: &A,
+    count: usize,
+    out: &mut Vec<u8>,
+) -> Result<Result<(), EncodeFault>, Fail> {
+    let mut octets = Vec::new(rt.alloc());
+    octets.resize(count, b'x')?;
+    Ok(encode(&Packet::Message(octets), out))
 }
 
 #[test]
 fn a_message_of_131072_octets_is_too_long(rt: HostRuntime) -> Result<(), Fail> {
-    let mut octets = Vec::new(rt.alloc());
-    octets.resize(131_071, b'x')?;
     let mut out = Vec::new(rt.alloc());
-    encode(&packet(&rt, Said::Message(&octets))?, &mut out)?;
+    let written = write_message(&rt, 131_071, &mut out)?;
+    expect_eq(&rt, &written, &Ok(()));
     expect(&rt, out.len() == 131_075);
     expect_eq(&rt, &&out[..5], &b"\x00\x01\xFF\xFFx".as_slice());
-    octets.push(b'x')?;
     out.truncate(2);
-    let refused = encode(&packet(&rt, Said::Message(&octets))?, &mut out);
+    let refused = write_message(&rt, 131_072, &mut out)?;
     expect_eq(&rt, &refused, &Err(EncodeFault::TooLong));
     expect_eq(&rt, &out.as_slice(), &b"\x00\x01".as_slice());
     Ok(())
@@ -447,46 +558,76 @@ fn take(stream: &mut Stream, piece: &[u8]) -> Result<(usize, Option<Packet>), St
 }
 
 /// What a stream makes of pieces, one after the other: how many octets each takes, and the packet.
-const MEMORY: [(&[u8], usize, Option<Said<'static>>); 3] = [
-    (
-        b"\x85\x00\x00\x00\x00\x00\x00\x02hi",
-        4,
-        Some(Said::KeepAlive),
-    ),
-    (b"\x00\x00\x00\x02hi", 6, Some(Said::Message(b"hi"))),
-    (REQUEST, 72, Some(Said::Request(FRED, TEAM))),
+const MEMORY: [(&[u8], usize, Said<'static>); 3] = [
+    (b"\x85\x00\x00\x00\x00\x00\x00\x02hi", 4, Said::KeepAlive),
+    (b"\x00\x00\x00\x02hi", 6, Said::Message(b"hi")),
+    (REQUEST, 72, Said::Request(FRED, TEAM)),
 ];
+
+/// The octets from 0 to 254 come one by one, of a message of 256 octets.
+fn take_255(rt: &impl Abort, stream: &mut Stream) {
+    expect(rt, take(stream, b"\x00\x00\x01\x00") == Ok((4, None)));
+    for place in 0..255u8 {
+        expect(rt, take(stream, &[place]) == Ok((1, None)));
+    }
+}
+
+/// The octets from 0 to 255.
+fn all_octets<R: AllocGlobal>(rt: &R) -> Result<Vec<u8>, Fail> {
+    let mut sent = Vec::new(rt.alloc());
+    for place in 0..=255u8 {
+        sent.push(place)?;
+    }
+    Ok(sent)
+}
+
+/// What the stream makes of a piece.
+fn take_so(
+    rt: &impl Abort,
+    stream: &mut Stream,
+    piece: &[u8],
+    taken: usize,
+    packet: Option<Packet>,
+) {
+    expect_in(rt, &piece, take(stream, piece) == Ok((taken, packet)));
+}
+
+/// The stream takes a message octet by octet, and then the pieces.
+fn take_growing<R: Abort + AllocGlobal>(rt: &R, stream: &mut Stream) -> Result<(), Fail> {
+    let message = Packet::Message(all_octets(rt)?);
+    take_255(rt, stream);
+    take_so(rt, stream, b"\xFF\x85\x00\x00\x00", 1, Some(message));
+    for (piece, taken, said) in &MEMORY {
+        let wanted = packet(rt, *said)?;
+        take_so(rt, stream, *piece, *taken, Some(wanted));
+    }
+    Ok(())
+}
 
 /// With `rt try --test --fail-alloc N` the Nth allocation is refused. Where it is one of the stream's, nothing is
 /// taken, and the same call with memory returns what it would have.
 #[test]
 fn refused_memory_leaves_the_stream(rt: HostRuntime) -> Result<(), Fail> {
     laws::one_answer();
-    let mut stream = Stream::new(rt.alloc());
-    let mut sent = Vec::new(rt.alloc());
-    expect(&rt, take(&mut stream, b"\x00\x00\x01\x00") == Ok((4, None)));
-    for place in 0..255u8 {
-        sent.push(place)?;
-        expect(&rt, take(&mut stream, &[place]) == Ok((1, None)));
+    take_growing(&rt, &mut Stream::new(rt.alloc()))
+}
+
+/// One packet more is written, the second time if memory was refused: then the octets are as before.
+fn write_one_more(rt: &impl Abort, octets: &mut Vec<u8>) {
+    let before = octets.len();
+    let mut written = encode(&Packet::Retarget(SECOND), octets);
+    if written == Err(EncodeFault::OutOfMemory) {
+        expect_eq(rt, &octets.len(), &before);
+        written = encode(&Packet::Retarget(SECOND), octets);
     }
-    sent.push(0xFF)?;
-    let message = packet(&rt, Said::Message(&sent))?;
-    expect(
-        &rt,
-        take(&mut stream, b"\xFF\x85\x00\x00\x00") == Ok((1, Some(message))),
+    expect_eq(rt, &written, &Ok(()));
+    let last = octets.len().max(10) - 10;
+    expect_eq(rt, &last, &before);
+    expect_eq(
+        rt,
+        &&octets[last..],
+        &b"\x84\x00\x00\x06\x7F\x00\x00\x03\x00\x8B".as_slice(),
     );
-    for (piece, taken, said) in &MEMORY {
-        let wanted = match said {
-            Some(said) => Some(packet(&rt, *said)?),
-            None => None,
-        };
-        expect_in(
-            &rt,
-            &said,
-            take(&mut stream, *piece) == Ok((*taken, wanted)),
-        );
-    }
-    Ok(())
 }
 
 /// The same for what is written: the octets are as before.
@@ -494,19 +635,8 @@ fn refused_memory_leaves_the_stream(rt: HostRuntime) -> Result<(), Fail> {
 fn refused_memory_leaves_the_octets(rt: HostRuntime) -> Result<(), Fail> {
     let mut octets: Vec<u8> = Vec::new(rt.alloc());
     for count in 0..200 {
-        let mut written = encode(&Packet::Retarget(SECOND), &mut octets);
-        if written == Err(EncodeFault::OutOfMemory) {
-            expect_eq(&rt, &octets.len(), &(10 * count));
-            written = encode(&Packet::Retarget(SECOND), &mut octets);
-        }
-        expect_eq(&rt, &written, &Ok(()));
+        write_one_more(&rt, &mut octets);
         expect_eq(&rt, &octets.len(), &(10 * (count + 1)));
-        let last = octets.len().max(10) - 10;
-        expect_eq(
-            &rt,
-            &&octets[last..],
-            &b"\x84\x00\x00\x06\x7F\x00\x00\x03\x00\x8B".as_slice(),
-        );
     }
     Ok(())
 }

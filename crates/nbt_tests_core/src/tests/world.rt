@@ -69,44 +69,51 @@ fn world<R: AllocGlobal>(rt: &R) -> Result<World, Fail> {
     Ok(World::new(rt.alloc(), config(4096)?, &ENDS)?)
 }
 
-fn asks(node: usize, name: &[u8; 16], kind: Kind) -> Result<Event, Fail> {
-    Ok(Event::Ask {
+fn asks(node: usize, name: Name, kind: Kind) -> Event {
+    Event::Ask {
         node,
-        name: Name::new(name, b"")?,
+        name,
         kind,
         ttl: 60,
-    })
+    }
 }
 
-fn event<R: AllocGlobal>(rt: &R, does: Does) -> Result<Event, Fail> {
+/// The event, about this name if it is about one.
+fn event_of<R: AllocGlobal>(rt: &R, does: Does, name: Name) -> Result<Event, Fail> {
     Ok(match does {
         Tick(ms) => Event::Tick(ms),
         Advance(ms, readings) => Event::Advance { ms, readings },
         Start(end) => Event::Start(end),
         Crash(end) => Event::Crash(end),
-        Ask(node, name) => asks(node, name, Kind::Unique)?,
-        Join(node, name) => asks(node, name, Kind::Group)?,
-        Release(node, name) => Event::Release {
-            node,
-            name: Name::new(name, b"")?,
-        },
-        Resolve(node, name) => Event::Resolve {
-            node,
-            name: Name::new(name, b"")?,
-        },
-        NameStatus(node, to, name) => Event::NameStatus {
-            node,
-            to,
-            name: Name::new(name, b"")?,
-        },
+        Ask(node, _) => asks(node, name, Kind::Unique),
+        Join(node, _) => asks(node, name, Kind::Group),
+        Release(node, _) => Event::Release { node, name },
+        Resolve(node, _) => Event::Resolve { node, name },
+        NameStatus(node, to, _) => Event::NameStatus { node, to, name },
         Poll(node) => Event::Poll(node),
         Deliver(number) => Event::Deliver(number),
-        Stranger(from, to, words) => Event::Stranger {
-            from,
-            to,
-            octets: octets(rt, words)?,
-        },
+        Stranger(from, to, words) => {
+            let octets = octets(rt, words)?;
+            Event::Stranger { from, to, octets }
+        }
     })
+}
+
+/// The octets of the name that an event is about, if it is about one.
+fn name_in(does: Does) -> Option<&'static [u8; 16]> {
+    match does {
+        Ask(_, name)
+        | Join(_, name)
+        | Release(_, name)
+        | Resolve(_, name)
+        | NameStatus(_, _, name) => Some(name),
+        _ => None,
+    }
+}
+
+fn event<R: AllocGlobal>(rt: &R, does: Does) -> Result<Event, Fail> {
+    let name = Name::new(name_in(does).unwrap_or(FRED), b"")?;
+    event_of(rt, does, name)
 }
 
 /// No two ends hold the name, unless both as a group.
@@ -119,12 +126,18 @@ fn apart<R: Abort>(rt: &R, world: &World, name: &Name) {
 }
 
 /// Each event in turn has this outcome, and after each no two ends hold FRED or TEAM, unless both as a group.
-fn play<R: Abort + AllocGlobal>(rt: &R, world: &mut World, rows: &[Row]) -> Result<(), Fail> {
+fn play<R: Abort + AllocGlobal>(
+    rt: &R,
+    what: &str,
+    world: &mut World,
+    rows: &[Row],
+) -> Result<(), Fail> {
     let fred = Name::new(FRED, b"")?;
     let team = Name::new(TEAM, b"")?;
     for (number, (does, outcome)) in rows.iter().enumerate() {
-        let got = world.step(&event(rt, *does)?)?;
-        expect_eq_in(rt, &number, &got, &*outcome);
+        let event = event(rt, *does)?;
+        let got = world.step(&event)?;
+        expect_eq_in(rt, &(what, number), &got, &*outcome);
         apart(rt, world, &fred);
         apart(rt, world, &team);
     }
@@ -132,35 +145,23 @@ fn play<R: Abort + AllocGlobal>(rt: &R, world: &mut World, rows: &[Row]) -> Resu
 }
 
 /// These nodes hold the name.
-fn holders<R: Abort>(rt: &R, world: &World, name: &[u8; 16], nodes: &[usize]) -> Result<(), Fail> {
+fn holders(
+    rt: &impl Abort,
+    what: &str,
+    world: &World,
+    name: &[u8; 16],
+    nodes: &[usize],
+) -> Result<(), Fail> {
     let holders = world.holders(&Name::new(name, b"")?);
-    expect_eq(rt, &holders.len(), &nodes.len());
+    expect_eq_in(rt, &what, &holders.len(), &nodes.len());
     for (holder, node) in holders.as_slice().iter().zip(nodes) {
-        expect_eq(rt, &holder.node, &*node);
+        expect_eq_in(rt, &what, &holder.node, &*node);
     }
     Ok(())
 }
 
 /// Rows, and the nodes that hold FRED after them.
-type Part<'a> = (&'a [Row], &'a [usize]);
-
-/// So go the events of each part, and then these nodes hold FRED.
-fn play_parts<R: Abort + AllocGlobal>(
-    rt: &R,
-    world: &mut World,
-    parts: &[Part<'_>],
-) -> Result<(), Fail> {
-    for (rows, nodes) in parts {
-        play(rt, world, rows)?;
-        holders(rt, world, FRED, nodes)?;
-    }
-    Ok(())
-}
-
-/// The same in a new world.
-fn play_all<R: Abort + AllocGlobal>(rt: &R, parts: &[Part<'_>]) -> Result<(), Fail> {
-    play_parts(rt, &mut world(rt)?, parts)
-}
+type Held = (&'static [Row], &'static [usize]);
 
 const CRASHED: [Row; 17] = [
     (Start(0), Done),
@@ -181,11 +182,6 @@ const CRASHED: [Row; 17] = [
     (Deliver(1), Lost),
     (Ask(1, FRED), Sent(2)),
 ];
-
-#[test]
-fn a_node_that_crashed_rests_for_two_lives_after_its_start(rt: HostRuntime) -> Result<(), Fail> {
-    play_all(&rt, &[(&CRASHED, &[])])
-}
 
 const ASKED: [Row; 7] = [
     (Start(0), Done),
@@ -220,16 +216,6 @@ const ASKED_AGAIN: [Row; 8] = [
     (Deliver(7), Taken),
 ];
 
-#[test]
-fn an_early_ask_after_a_release_is_quiet_and_the_name_goes_to_another(
-    rt: HostRuntime,
-) -> Result<(), Fail> {
-    play_all(
-        &rt,
-        &[(&ASKED, &[1]), (&RELEASED, &[2]), (&ASKED_AGAIN, &[2])],
-    )
-}
-
 const IN_ITS_LAST_MOMENT: [Row; 1] = [(Tick(59_877), Done)];
 
 const AFTER_ITS_HOLD: [Row; 1] = [(Tick(1), Done)];
@@ -249,25 +235,6 @@ const WHERE_THE_LEASE_ENDS: [Row; 4] = [
     (Deliver(2), Sent(3)),
     (Deliver(3), Taken),
 ];
-
-#[test]
-fn a_hold_is_over_122_ms_before_its_lease_at_whose_end_another_is_granted(
-    rt: HostRuntime,
-) -> Result<(), Fail> {
-    let ends: [Part<'_>; 2] = [(&BEFORE_THE_LEASE_ENDS, &[]), (&WHERE_THE_LEASE_ENDS, &[2])];
-    for (rows, nodes) in ends {
-        play_all(
-            &rt,
-            &[
-                (&ASKED, &[1]),
-                (&IN_ITS_LAST_MOMENT, &[1]),
-                (&AFTER_ITS_HOLD, &[]),
-                (rows, nodes),
-            ],
-        )?;
-    }
-    Ok(())
-}
 
 /// What is polled 30 seconds after the last sending is the refresh; it goes there and back.
 const RENEWED: [Row; 4] = [
@@ -296,7 +263,7 @@ const ALMOST_OVER: [Row; 2] = [(Tick(59_877), Done), (Poll(2), Nothing)];
 
 const OVER: [Row; 1] = [(Tick(1), Done)];
 
-const RENEWING: [Part<'static>; 6] = [
+const RENEWING: [Held; 6] = [
     (&ASKED, &[1]),
     (&RENEWED, &[1]),
     (&RENEWED_AGAIN, &[1]),
@@ -304,11 +271,6 @@ const RENEWING: [Part<'static>; 6] = [
     (&ALMOST_OVER, &[1]),
     (&OVER, &[]),
 ];
-
-#[test]
-fn a_node_that_renews_holds_its_name_throughout(rt: HostRuntime) -> Result<(), Fail> {
-    play_all(&rt, &RENEWING)
-}
 
 /// The events of the rows.
 fn events<R: AllocGlobal>(rt: &R, rows: &[Row]) -> Result<Vec<Event>, Fail> {
@@ -319,15 +281,21 @@ fn events<R: AllocGlobal>(rt: &R, rows: &[Row]) -> Result<Vec<Event>, Fail> {
     Ok(events)
 }
 
-/// The events of each part go on to their end in one run, and then these nodes hold FRED.
+/// The events go on to their end in one run, and then these nodes hold FRED.
+fn run_one<R: Abort + AllocGlobal>(rt: &R, world: &mut World, held: &Held) -> Result<(), Fail> {
+    let events = events(rt, held.0)?;
+    expect_eq(rt, &world.run(events.as_slice()), &Ok(()));
+    holders(rt, "in one run", world, FRED, held.1)
+}
+
+/// So do those of each part.
 fn run_parts<R: Abort + AllocGlobal>(
     rt: &R,
     world: &mut World,
-    parts: &[Part<'_>],
+    parts: &[Held],
 ) -> Result<(), Fail> {
-    for (rows, nodes) in parts {
-        expect_eq(rt, &world.run(events(rt, rows)?.as_slice()), &Ok(()));
-        holders(rt, world, FRED, nodes)?;
+    for held in parts {
+        run_one(rt, world, held)?;
     }
     Ok(())
 }
@@ -349,29 +317,41 @@ const STRANGERS: [Row; 9] = [
     (Deliver(9), Nobody),
 ];
 
-#[test]
-fn strangers_are_heard_and_answered_and_their_datagrams_have_no_number(
-    rt: HostRuntime,
-) -> Result<(), Fail> {
-    play_all(&rt, &[(&STRANGERS, &[])])
-}
-
-/// The packets of every kind come from a stranger to an end, cut to each shorter length: they are taken, and none is
-/// replied to.
-fn cut<R: Abort + AllocGlobal>(
+/// These octets come from the stranger 127.0.0.2 to an end: they are taken, and not replied to.
+fn cut_one<R: Abort + AllocGlobal>(
     rt: &R,
     world: &mut World,
-    from: Addr,
     to: usize,
+    came: &[u8],
 ) -> Result<(), Fail> {
-    for words in EVERY_KIND {
+    let event = Event::Stranger {
+        from: FIRST,
+        to,
+        octets: Vec::from_slice(rt.alloc(), came)?,
+    };
+    let got = world.step(&event)?;
+    expect_eq_in(rt, &came, &got, &Taken);
+    Ok(())
+}
+
+/// So is a packet that is cut to each shorter length.
+fn cut_each<R: Abort + AllocGlobal>(
+    rt: &R,
+    world: &mut World,
+    to: usize,
+    whole: &[u8],
+) -> Result<(), Fail> {
+    for length in 0..whole.len() {
+        cut_one(rt, world, to, &whole[..length])?;
+    }
+    Ok(())
+}
+
+/// So are the packets of every kind.
+fn cut<R: Abort + AllocGlobal>(rt: &R, world: &mut World, to: usize) -> Result<(), Fail> {
+    for words in &EVERY_KIND {
         let whole = octets(rt, words)?;
-        for length in 0..whole.len() {
-            let mut octets = Vec::new(rt.alloc());
-            octets.extend_from_slice(&whole[..length])?;
-            let got = world.step(&Event::Stranger { from, to, octets })?;
-            expect_eq_in(rt, &(length, words), &got, &Taken);
-        }
+        cut_each(rt, world, to, whole.as_slice())?;
     }
     Ok(())
 }
@@ -394,27 +374,10 @@ const HELD: [Row; 3] = [
 const STATUS_REQUEST: &str = "0009 0000 one-name STAR NBSTAT";
 
 /// A world without a node at 127.0.0.2, where a stranger is.
+const BESIDE_A_STRANGER: [Addr; 2] = [SERVER, SECOND];
+
 fn with_a_stranger<R: AllocGlobal>(rt: &R) -> Result<World, Fail> {
-    Ok(World::new(rt.alloc(), config(4096)?, &[SERVER, SECOND])?)
-}
-
-/// They come before the node asks for a name and while it holds it.
-fn cut_before_and_after<R: Abort + AllocGlobal>(rt: &R, world: &mut World) -> Result<(), Fail> {
-    play(rt, world, &UP)?;
-    cut(rt, world, FIRST, 0)?;
-    cut(rt, world, FIRST, 1)?;
-    play(rt, world, &FREE)?;
-    holders(rt, world, FRED, &[1])?;
-    cut(rt, world, FIRST, 0)?;
-    cut(rt, world, FIRST, 1)?;
-    play(rt, world, &HELD)?;
-    holders(rt, world, FRED, &[1])
-}
-
-/// The stranger is 127.0.0.2, whose own names the packets are about.
-#[test]
-fn packets_of_a_stranger_cut_at_every_length_change_no_table(rt: HostRuntime) -> Result<(), Fail> {
-    cut_before_and_after(&rt, &mut with_a_stranger(&rt)?)
+    Ok(World::new(rt.alloc(), config(4096)?, &BESIDE_A_STRANGER)?)
 }
 
 const GROUP: [Row; 10] = [
@@ -430,18 +393,14 @@ const GROUP: [Row; 10] = [
     (Deliver(3), Taken),
 ];
 
-fn expect_group<R: Abort + AllocGlobal>(rt: &R, world: &mut World) -> Result<(), Fail> {
-    play(rt, world, &GROUP)?;
-    holders(rt, world, TEAM, &[1, 2])?;
-    for holder in world.holders(&Name::new(TEAM, b"")?).as_slice() {
-        expect_eq(rt, &holder.kind, &Kind::Group);
+/// These nodes hold TEAM, each as a group.
+fn expect_group(rt: &impl Abort, what: &str, world: &World, nodes: &[usize]) -> Result<(), Fail> {
+    holders(rt, what, world, TEAM, nodes)?;
+    let holders = world.holders(&Name::new(TEAM, b"")?);
+    for holder in holders.as_slice() {
+        expect_eq_in(rt, &what, &holder.kind, &Kind::Group);
     }
     Ok(())
-}
-
-#[test]
-fn two_nodes_hold_a_group(rt: HostRuntime) -> Result<(), Fail> {
-    expect_group(&rt, &mut world(&rt)?)
 }
 
 const LOOKUPS: [Row; 9] = [
@@ -455,13 +414,6 @@ const LOOKUPS: [Row; 9] = [
     (NameStatus(1, SECOND, FRED), Sent(2)),
     (Deliver(2), Down),
 ];
-
-#[test]
-fn a_lookup_is_open_until_its_answer_and_a_status_request_finds_its_end_down(
-    rt: HostRuntime,
-) -> Result<(), Fail> {
-    play_all(&rt, &[(&LOOKUPS, &[])])
-}
 
 const SILENT: [Row; 14] = [
     (Start(0), Done),
@@ -492,19 +444,6 @@ const STILL_SILENT: [Row; 5] = [
 
 const HEARD: [Row; 3] = [(Tick(1), Done), (Deliver(2), Sent(3)), (Deliver(3), Taken)];
 
-#[test]
-fn a_server_that_starts_again_is_silent_and_holds_end_first(rt: HostRuntime) -> Result<(), Fail> {
-    play_all(
-        &rt,
-        &[
-            (&SILENT, &[1]),
-            (&ENDED, &[]),
-            (&STILL_SILENT, &[]),
-            (&HEARD, &[2]),
-        ],
-    )
-}
-
 const NO_SUCH_NODES: [Row; 7] = [
     (Start(5), Nothing),
     (Crash(5), Nothing),
@@ -514,11 +453,6 @@ const NO_SUCH_NODES: [Row; 7] = [
     (Poll(1), Nothing),
     (Poll(2), Down),
 ];
-
-#[test]
-fn nodes_that_the_world_has_not(rt: HostRuntime) -> Result<(), Fail> {
-    play_all(&rt, &[(&NO_SUCH_NODES, &[])])
-}
 
 /// The world has the ends 0, 1 and 2, which all read what the true clock shows.
 const READINGS_OF_ENDS_THAT_THE_WORLD_HAS_NOT: [Row; 6] = [
@@ -550,21 +484,192 @@ const READINGS_OF_ITS_ENDS: [Row; 1] = [(
     Done,
 )];
 
-fn expect_readings<R: Abort + AllocGlobal>(rt: &R, world: &mut World) -> Result<(), Fail> {
-    play(rt, world, &READINGS_OF_ENDS_THAT_THE_WORLD_HAS_NOT)?;
-    play(rt, world, &TAKEN_BY_THE_END_THAT_IS_THERE)?;
-    holders(rt, world, FRED, &[1])?;
-    expect_eq(rt, &world.clock().get(), &90_000);
-    expect(rt, world.kept());
-    play(rt, world, &READINGS_OF_ITS_ENDS)?;
-    expect_eq(rt, &world.clock().get(), &91_000);
-    expect(rt, !world.kept());
+/// What happens in a world, and what is so after it.
+#[derive(Clone, Copy)]
+enum Part {
+    /// Events happen.
+    Rows(&'static [Row]),
+    /// Events happen, and then these nodes hold FRED, and so on.
+    Held(&'static [Held]),
+    /// These nodes hold TEAM, each as a group.
+    Team(&'static [usize]),
+    /// The true clock shows this, and the readings of the ends kept within their bound, or they didn't.
+    Clock(u64, bool),
+    /// Packets of every kind, cut to each shorter length, come from the stranger 127.0.0.2 to an end.
+    Cut(usize),
+}
+
+fn play_held<R: Abort + AllocGlobal>(
+    rt: &R,
+    what: &str,
+    world: &mut World,
+    parts: &[Held],
+) -> Result<(), Fail> {
+    for (rows, nodes) in parts {
+        play(rt, what, world, rows)?;
+        holders(rt, what, world, FRED, nodes)?;
+    }
+    Ok(())
+}
+
+fn play_part<R: Abort + AllocGlobal>(
+    rt: &R,
+    what: &str,
+    world: &mut World,
+    part: &Part,
+) -> Result<(), Fail> {
+    match *part {
+        Part::Rows(rows) => play(rt, what, world, rows),
+        Part::Held(parts) => play_held(rt, what, world, parts),
+        Part::Team(nodes) => expect_group(rt, what, world, nodes),
+        Part::Clock(ms, kept) => {
+            expect_eq_in(rt, &what, &world.clock().get(), &ms);
+            expect_eq_in(rt, &what, &world.kept(), &kept);
+            Ok(())
+        }
+        Part::Cut(to) => cut(rt, world, to),
+    }
+}
+
+fn play_parts<R: Abort + AllocGlobal>(
+    rt: &R,
+    what: &str,
+    world: &mut World,
+    parts: &[Part],
+) -> Result<(), Fail> {
+    for part in parts {
+        play_part(rt, what, world, part)?;
+    }
+    Ok(())
+}
+
+/// What the case shows; the addresses of a world's ends; and what happens in it. A function returns each table, since the prover
+/// writes out all of a table in each step of a function that names it.
+type Case = (&'static str, &'static [Addr], &'static [Part]);
+
+/// Of names that are held.
+const HOLDS: &[Case] = &[
+    (
+        "a node that crashed rests for two lives after its start",
+        &ENDS,
+        &[Part::Held(&[(&CRASHED, &[])])],
+    ),
+    (
+        "an early ask after a release is quiet, and the name goes to another",
+        &ENDS,
+        &[Part::Held(&[(&ASKED, &[1]), (&RELEASED, &[2]), (&ASKED_AGAIN, &[2])])],
+    ),
+    (
+        "a hold is over 122 ms before its lease, before whose end nobody else is granted the name",
+        &ENDS,
+        &[Part::Held(&[
+            (&ASKED, &[1]),
+            (&IN_ITS_LAST_MOMENT, &[1]),
+            (&AFTER_ITS_HOLD, &[]),
+            (&BEFORE_THE_LEASE_ENDS, &[]),
+        ])],
+    ),
+    (
+        "a hold is over 122 ms before its lease, at whose end another is granted the name",
+        &ENDS,
+        &[Part::Held(&[
+            (&ASKED, &[1]),
+            (&IN_ITS_LAST_MOMENT, &[1]),
+            (&AFTER_ITS_HOLD, &[]),
+            (&WHERE_THE_LEASE_ENDS, &[2]),
+        ])],
+    ),
+    (
+        "a node that renews holds its name throughout",
+        &ENDS,
+        &[Part::Held(&RENEWING)],
+    ),
+];
+
+fn holds() -> &'static [Case] {
+    HOLDS
+}
+
+/// Of ends, strangers and lookups.
+const ENDS_AND_STRANGERS: &[Case] = &[
+    (
+        "strangers are heard and answered, and their datagrams have no number",
+        &ENDS,
+        &[Part::Held(&[(&STRANGERS, &[])])],
+    ),
+    (
+        "packets of a stranger, cut at every length, change no table, before the node asks for a name and while it holds it",
+        &BESIDE_A_STRANGER,
+        &[
+            Part::Rows(&UP),
+            Part::Cut(0),
+            Part::Cut(1),
+            Part::Held(&[(&FREE, &[1])]),
+            Part::Cut(0),
+            Part::Cut(1),
+            Part::Held(&[(&HELD, &[1])]),
+        ],
+    ),
+    (
+        "two nodes hold a group",
+        &ENDS,
+        &[Part::Rows(&GROUP), Part::Team(&[1, 2])],
+    ),
+    (
+        "a lookup is open until its answer, and a status request finds its end down",
+        &ENDS,
+        &[Part::Held(&[(&LOOKUPS, &[])])],
+    ),
+    (
+        "a server that starts again is silent, and holds end first",
+        &ENDS,
+        &[Part::Held(&[
+            (&SILENT, &[1]),
+            (&ENDED, &[]),
+            (&STILL_SILENT, &[]),
+            (&HEARD, &[2]),
+        ])],
+    ),
+    (
+        "nodes that the world has not",
+        &ENDS,
+        &[Part::Held(&[(&NO_SUCH_NODES, &[])])],
+    ),
+    (
+        "readings of ends that the world has not are not looked at",
+        &ENDS,
+        &[
+            Part::Rows(&READINGS_OF_ENDS_THAT_THE_WORLD_HAS_NOT),
+            Part::Held(&[(&TAKEN_BY_THE_END_THAT_IS_THERE, &[1])]),
+            Part::Clock(90_000, true),
+            Part::Rows(&READINGS_OF_ITS_ENDS),
+            Part::Clock(91_000, false),
+        ],
+    ),
+];
+
+fn ends_and_strangers() -> &'static [Case] {
+    ENDS_AND_STRANGERS
+}
+
+/// A case in a new world.
+fn play_case<R: Abort + AllocGlobal>(rt: &R, case: &Case) -> Result<(), Fail> {
+    let config = config(4096)?;
+    let mut world = World::new(rt.alloc(), config, case.1)?;
+    play_parts(rt, case.0, &mut world, case.2)
+}
+
+fn play_cases<R: Abort + AllocGlobal>(rt: &R, cases: &[Case]) -> Result<(), Fail> {
+    for case in cases {
+        play_case(rt, case)?;
+    }
     Ok(())
 }
 
 #[test]
-fn readings_of_ends_that_the_world_has_not_are_not_looked_at(rt: HostRuntime) -> Result<(), Fail> {
-    expect_readings(&rt, &mut world(&rt)?)
+fn events_and_what_comes_of_them(rt: HostRuntime) -> Result<(), Fail> {
+    play_cases(&rt, holds())?;
+    play_cases(&rt, ends_and_strangers())
 }
 
 const SAME: [Addr; 2] = [
@@ -620,55 +725,75 @@ fn happen(world: &mut World, first: Event, events: &mut Vec<Event>) -> Result<()
     Ok(())
 }
 
-/// Both worlds have the same holders, and the same comes of the delivery of each datagram, and of a request after them.
-fn expect_same<R: Abort>(rt: &R, one: &mut World, other: &mut World) -> Result<(), Fail> {
-    for name in [FRED, TEAM] {
-        let name = Name::new(name, b"")?;
-        let holders = other.holders(&name);
-        expect_eq(rt, &one.holders(&name).as_slice(), &holders.as_slice());
-    }
-    for number in 0..400 {
-        let delivery = Event::Deliver(number);
-        expect_eq_in(rt, &number, &one.step(&delivery)?, &other.step(&delivery)?);
-    }
-    let start = Event::Start(2);
-    expect_eq(rt, &one.step(&start)?, &other.step(&start)?);
-    let lookup = Event::Resolve {
-        node: 2,
-        name: Name::new(FRED, b"")?,
-    };
-    expect_eq(rt, &one.step(&lookup)?, &other.step(&lookup)?);
+/// The same nodes hold the name in both worlds.
+fn expect_same_holders(
+    rt: &impl Abort,
+    one: &World,
+    other: &World,
+    name: &[u8; 16],
+) -> Result<(), Fail> {
+    let name = Name::new(name, b"")?;
+    let holders = other.holders(&name);
+    expect_eq(rt, &one.holders(&name).as_slice(), &holders.as_slice());
     Ok(())
 }
 
-/// Rounds of events, each after what came of the one before it. Returns the list of all.
-fn rounds<R: AllocGlobal>(rt: &R, world: &mut World, count: usize) -> Result<Vec<Event>, Fail> {
-    let mut list = Vec::new(rt.alloc());
-    for _ in 0..count {
-        for does in ROUND {
-            happen(world, event(rt, does)?, &mut list)?;
-        }
+/// The same comes of the event in both worlds.
+fn expect_same_step(
+    rt: &impl Abort,
+    one: &mut World,
+    other: &mut World,
+    event: &Event,
+) -> Result<(), Fail> {
+    let outcome = one.step(event)?;
+    expect_eq(rt, &outcome, &other.step(event)?);
+    Ok(())
+}
+
+/// Both worlds have the same holders, and the same comes of the delivery of each datagram, and of a request after them.
+fn expect_same<R: Abort + AllocGlobal>(
+    rt: &R,
+    one: &mut World,
+    other: &mut World,
+) -> Result<(), Fail> {
+    expect_same_holders(rt, one, other, FRED)?;
+    expect_same_holders(rt, one, other, TEAM)?;
+    for number in 0..400 {
+        expect_same_step(rt, one, other, &Event::Deliver(number))?;
     }
-    Ok(list)
+    expect_same_step(rt, one, other, &Event::Start(2))?;
+    let lookup = event(rt, Resolve(2, FRED))?;
+    expect_same_step(rt, one, other, &lookup)
+}
+
+/// Events of all kinds happen once, each after what came of the one before it. They are put into the list.
+fn round<R: AllocGlobal>(rt: &R, world: &mut World, list: &mut Vec<Event>) -> Result<(), Fail> {
+    for does in &ROUND {
+        happen(world, event(rt, *does)?, list)?;
+    }
+    Ok(())
 }
 
 /// What a world did one by one, a new one does in one run.
 fn expect_same_run<R: Abort + AllocGlobal>(
     rt: &R,
     stepped: &mut World,
-    list: &[Event],
+    run: &mut World,
+    list: &mut Vec<Event>,
 ) -> Result<(), Fail> {
+    for _ in 0..12 {
+        round(rt, stepped, list)?;
+    }
     expect(rt, list.len() > 300);
-    let mut run = world(rt)?;
-    expect_eq(rt, &run.run(list), &Ok(()));
-    expect_same(rt, &mut run, stepped)
+    expect_eq(rt, &run.run(list.as_slice()), &Ok(()));
+    expect_same(rt, run, stepped)
 }
 
 #[test]
 fn a_run_of_hundreds_of_events_ends_where_they_do_one_by_one(rt: HostRuntime) -> Result<(), Fail> {
     let mut stepped = world(&rt)?;
-    let list = rounds(&rt, &mut stepped, 12)?;
-    expect_same_run(&rt, &mut stepped, list.as_slice())
+    let mut run = world(&rt)?;
+    expect_same_run(&rt, &mut stepped, &mut run, &mut Vec::new(rt.alloc()))
 }
 
 /// The registrations of 4,096 names by the stranger at 127.0.0.2.
@@ -685,35 +810,29 @@ fn registrations<R: AllocGlobal>(rt: &R) -> Result<Vec<Event>, Fail> {
     Ok(events)
 }
 
-/// One by one each of these is replied to.
+/// One by one each of these is replied to in one world. In a run they are too in another: the next datagram has the number of as
+/// many.
 fn expect_replies<R: Abort + AllocGlobal>(
     rt: &R,
-    world: &mut World,
+    one: &mut World,
+    other: &mut World,
     events: &[Event],
 ) -> Result<(), Fail> {
-    play(rt, world, &UP)?;
+    play(rt, "one by one", one, &UP)?;
     for (number, event) in events.iter().enumerate() {
-        expect_eq(rt, &world.step(event)?, &Sent(number));
+        expect_eq(rt, &one.step(event)?, &Sent(number));
     }
-    Ok(())
-}
-
-/// In a run they are too: the next datagram has the number of as many.
-fn expect_as_many<R: Abort + AllocGlobal>(
-    rt: &R,
-    world: &mut World,
-    events: &[Event],
-) -> Result<(), Fail> {
-    play(rt, world, &UP)?;
-    expect_eq(rt, &world.run(events), &Ok(()));
-    play(rt, world, &[(Resolve(1, FRED), Sent(4096))])
+    play(rt, "in a run", other, &UP)?;
+    expect_eq(rt, &other.run(events), &Ok(()));
+    play(rt, "after a run", other, &[(Resolve(1, FRED), Sent(4096))])
 }
 
 #[test]
 fn nothing_lost_in_a_world(rt: HostRuntime) -> Result<(), Fail> {
     let events = registrations(&rt)?;
-    expect_replies(&rt, &mut with_a_stranger(&rt)?, events.as_slice())?;
-    expect_as_many(&rt, &mut with_a_stranger(&rt)?, events.as_slice())
+    let mut one = with_a_stranger(&rt)?;
+    let mut other = with_a_stranger(&rt)?;
+    expect_replies(&rt, &mut one, &mut other, events.as_slice())
 }
 
 /// The events are taken, and the delivery of the grant: what is refused memory happens once more.
@@ -729,7 +848,7 @@ fn run_at_last<R: Abort>(rt: &R, world: &mut World, events: &[Event]) -> Result<
         Err(_) => world.step(&Event::Deliver(1))?,
     };
     expect_eq(rt, &taken, &Taken);
-    holders(rt, world, FRED, &[1])
+    holders(rt, "at last", world, FRED, &[1])
 }
 
 /// With memory all events are taken. `rt try --test --fail-alloc N` refuses the Nth allocation: one that the world
@@ -739,7 +858,7 @@ fn run_at_last<R: Abort>(rt: &R, world: &mut World, events: &[Event]) -> Result<
 fn refused_memory_stops_a_run_before_its_event_or_loses_a_datagram(
     rt: HostRuntime,
 ) -> Result<(), Fail> {
-    let ask = asks(1, FRED, Kind::Unique)?;
+    let ask = asks(1, Name::new(FRED, b"")?, Kind::Unique);
     let events = [
         Event::Start(0),
         Event::Start(1),
@@ -796,11 +915,11 @@ fn expect_at_last<R: Abort + AllocGlobal>(
 
 /// Each event in turn has its outcome, some of them at the second time.
 fn play_growing<R: Abort + AllocGlobal>(rt: &R, world: &mut World) -> Result<(), Fail> {
-    for (does, outcome) in EACH_GROWTH {
-        expect_at_last(rt, world, does, outcome)?;
+    for (does, outcome) in &EACH_GROWTH {
+        expect_at_last(rt, world, *does, *outcome)?;
     }
-    holders(rt, world, FRED, &[1])?;
-    holders(rt, world, TEAM, &[1, 2])
+    holders(rt, "each growth", world, FRED, &[1])?;
+    holders(rt, "each growth", world, TEAM, &[1, 2])
 }
 
 /// `rt try --test --fail-alloc N` refuses the Nth allocation: where it is one of the world's, the same event has its
