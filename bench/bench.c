@@ -18,7 +18,9 @@
 #include <time.h>
 #include <unistd.h>
 
-enum { ROUNDS = 5, NAMES = 4096, GROUP = 1000, SMALL_GROUP = 80, FEW = 10, OUTSTANDING = 32, QUERIES = 40000, NAME_AT = 12, NAME_LENGTH = 34, POINTERS = 990, DATA_AT = 56, LEASE = 60, RENEWALS = 5 };
+#include "packets.h"
+
+enum { ROUNDS = 5, NAMES = 4096, GROUP = 1000, SMALL_GROUP = 80, FEW = 10, OUTSTANDING = 32, QUERIES = 40000, LEASE = 60, RENEWALS = 5 };
 enum measure { FEW_NAMES, ALL_NAMES, NOT_THERE, CHAINS, OF_SMALL_GROUP, OF_GROUP, JOINING_SMALL, JOINING, REJOINING, REJOINING_BACK, REGISTER, RENEW, ECHO, MEASURES };
 
 static const char *const LABELS[MEASURES] = {
@@ -51,75 +53,6 @@ static int udp_socket(uint32_t ip, uint16_t port) {
     return s;
 }
 
-/* The wire form of the name LETTER and four digits, filled up with spaces (RFC 1001 section 14.1). */
-static void put_name(unsigned char *at, char letter, unsigned number) {
-    char octets[16];
-    memset(octets, ' ', sizeof octets);
-    octets[0] = letter;
-    for (int k = 4; k > 0; k--, number /= 10) octets[k] = (char)('0' + number % 10);
-    *at++ = 32;
-    for (int k = 0; k < 16; k++) {
-        *at++ = (unsigned char)('A' + (octets[k] >> 4));
-        *at++ = (unsigned char)('A' + (octets[k] & 15));
-    }
-    *at = 0;
-}
-
-static size_t put_query(unsigned char *out, uint16_t id, char letter, unsigned number) {
-    const unsigned char head[12] = {(unsigned char)(id >> 8), (unsigned char)id, 1, 0, 0, 1};
-    memcpy(out, head, sizeof head);
-    put_name(out + NAME_AT, letter, number);
-    memcpy(out + NAME_AT + NAME_LENGTH, "\0\x20\0\1", 4);
-    return 50;
-}
-
-/* A registration for LEASE seconds of the name with this number, by 127.0.0.1 (RFC 1002 section 4.2.2). */
-static size_t put_registration(unsigned char *out, uint16_t id, unsigned number) {
-    put_query(out, id, 'N', number);
-    out[2] = 0x29;
-    out[11] = 1;
-    memcpy(out + 50, "\xc0\x0c\0\x20\0\1\0\0\0\0\0\6\x20\0\x7f\0\0\1", 18);
-    out[59] = LEASE;
-    return 68;
-}
-
-/* The address of a group's member: 127.1.0.0 and those after it. */
-static uint32_t member_ip(unsigned k) {
-    return 0x7f010000 + k;
-}
-
-/* The same of a group by a member. */
-static size_t put_membership(unsigned char *out, uint16_t id, char letter, unsigned member) {
-    size_t length = put_registration(out, id, 0);
-    put_name(out + NAME_AT, letter, 0);
-    out[62] = 0xa0;
-    uint32_t ip = htonl(member_ip(member));
-    memcpy(out + 64, &ip, 4);
-    return length;
-}
-
-/* A packet of 2,048 octets whose additional record's name takes the most steps: it is a pointer to the last of 990, each of
- * which leads to the one before it, and the first to a name (RFC 1002 section 4.2.1.3). The server has no reply to it. */
-static size_t put_chain(unsigned char *out) {
-    const unsigned last = DATA_AT + 2 * (POINTERS - 1), end = DATA_AT + 2 * POINTERS;
-    put_query(out, 0, 'N', 0);
-    out[2] = 0x85, out[3] = 0x80, out[5] = 0, out[7] = 1, out[11] = 1;
-    memset(out + 50, 0, 4);
-    out[54] = (unsigned char)(2 * POINTERS >> 8), out[55] = (unsigned char)(2 * POINTERS);
-    for (unsigned k = 0; k < POINTERS; k++) {
-        unsigned to = k ? DATA_AT + 2 * (k - 1) : NAME_AT;
-        out[DATA_AT + 2 * k] = (unsigned char)(0xc0 | to >> 8);
-        out[DATA_AT + 2 * k + 1] = (unsigned char)to;
-    }
-    out[end] = (unsigned char)(0xc0 | last >> 8), out[end + 1] = (unsigned char)last;
-    memcpy(out + end + 2, "\0\x20\0\1\0\0\0\0\0\0", 10);
-    return end + 12;
-}
-
-static uint16_t id_of(const unsigned char *octets) {
-    return (uint16_t)(octets[0] << 8 | octets[1]);
-}
-
 /* Queries a second, OUTSTANDING at a time, each after this other packet, if there is one; what doesn't come within 100 ms is
  * lost, and as many are sent anew. */
 static double queries(const struct sockaddr_in *to, char letter, unsigned names, int flags, const unsigned char *before, size_t before_length) {
@@ -140,11 +73,11 @@ static double queries(const struct sockaddr_in *to, char letter, unsigned names,
             open = 0;
             continue;
         }
-        if ((uint16_t)(sent - id_of(in)) > 2 * OUTSTANDING) {
+        if ((uint16_t)(sent - word_at(in)) > 2 * OUTSTANDING) {
             wrong++;
             continue;
         }
-        if (flags && ((in[2] << 8 | in[3]) != flags || (letter == 'N' && flags == 0x8580 && memcmp(in + length - 4, "\x7f\0\0\1", 4)))) wrong++;
+        if (flags && (word_at(in + 2) != flags || (letter == 'N' && flags == 0x8580 && memcmp(in + length - 4, "\x7f\0\0\1", 4)))) wrong++;
         answered++;
         open--;
     }
@@ -171,15 +104,15 @@ static double ask(const struct asked *asked, int reply, int backwards) {
     for (unsigned k = 0; k < asked->count + OUTSTANDING; k++) {
         if (k < asked->count) {
             unsigned who = backwards ? asked->count - 1 - k : k;
-            size_t length = asked->letter == 'N' ? put_registration(out, (uint16_t)k, who) : put_membership(out, (uint16_t)k, asked->letter, who);
-            if (reply == RELEASED) out[2] = 0x30, out[3] = 0, out[59] = 0;
+            size_t length = asked->letter == 'N' ? put_registration(out, (uint16_t)k, 'N', who, LEASE) : put_membership(out, (uint16_t)k, asked->letter, who, LEASE);
+            if (reply == RELEASED) make_release(out);
             if (sendto(asked->sockets[who], out, length, 0, (struct sockaddr *)&server, sizeof server) < 0) fail("sendto");
         }
         if (k >= OUTSTANDING) {
             unsigned id = k - OUTSTANDING, who = backwards ? asked->count - 1 - id : id;
             ssize_t length = recv(asked->sockets[who], in, sizeof in, 0);
             if (length < 0) lost++;
-            else if (length != 62 || id_of(in) != (uint16_t)id || (in[2] << 8 | in[3]) != reply) wrong++;
+            else if (length != 62 || word_at(in) != (uint16_t)id || word_at(in + 2) != reply) wrong++;
         }
     }
     return asked->count / (seconds() - begun);
