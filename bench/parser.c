@@ -50,7 +50,8 @@ static void fail(const char *what) {
 static size_t give(struct nbt_server *server, uint64_t now, uint32_t ip, const struct packet *packet, unsigned char *out) {
     struct nbt_addr from = {.ip = ip, .port = 137};
     size_t size = 0;
-    if (nbt_server_on_datagram(server, now, from, packet->octets, packet->size, out, &size) != NBT_DONE) fail("the server refused a datagram");
+    uint8_t result = nbt_server_on_datagram(server, now, from, packet->octets, packet->size, out, &size);
+    if (result != NBT_DONE) fail("the server refused a datagram");
     return size;
 }
 
@@ -64,9 +65,20 @@ static void make_reply(struct packet *reply, const char *what, uint32_t ip, cons
     memcpy(reply->octets, out, size);
 }
 
-/* Makes the packets. Replies are those of a server to the requests before them. */
+/* Makes the reply to a query of a group, which has as many entries as fit. */
+static void make_group_reply(struct packet *reply) {
+    struct packet asked, joined;
+    for (unsigned member = 0; member < MEMBERS; member++) {
+        asked.size = put_membership(asked.octets, 3, 'G', member, LEASE);
+        make_reply(&joined, "", member_ip(member), &asked, 62);
+    }
+    asked.size = put_query(asked.octets, 4, 'G', 0);
+    make_reply(reply, "a query's reply with 86 entries", LOOPBACK, &asked, 572);
+}
+
+/* Makes the packets: two requests, their replies, the longest reply to a query, and one that spells no message. */
 static void make_packets(void) {
-    struct packet *query = &packets[0], *registration = &packets[1], *chain = &packets[5], of_group, unused;
+    struct packet *query = &packets[0], *registration = &packets[1], *chain = &packets[5];
     query->what = "query";
     query->records = 1;
     query->size = put_query(query->octets, 1, 'N', 0);
@@ -75,12 +87,7 @@ static void make_packets(void) {
     registration->size = put_registration(registration->octets, 2, 'N', 0, LEASE);
     make_reply(&packets[2], "its reply", LOOPBACK, registration, 62);
     make_reply(&packets[3], "a query's reply with 1 entry", LOOPBACK, query, 62);
-    for (unsigned member = 0; member < MEMBERS; member++) {
-        of_group.size = put_membership(of_group.octets, 3, 'G', member, LEASE);
-        make_reply(&unused, "", member_ip(member), &of_group, 62);
-    }
-    of_group.size = put_query(of_group.octets, 4, 'G', 0);
-    make_reply(&packets[4], "a query's reply with 86 entries", LOOPBACK, &of_group, 572);
+    make_group_reply(&packets[4]);
     chain->what = "a chain of 990 pointers";
     chain->records = 2;
     chain->size = put_chain(chain->octets);
