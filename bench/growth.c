@@ -1,6 +1,6 @@
 /* What a datagram costs a name server, by how many names or members there are: for callgrind, which counts the instructions of
  * nbt_server_on_datagram, the library's call. There is no port, and the clock is a number that grows by 1 ms with each datagram. Each
- * reply's flags are checked. A lease lasts longer than the run, so that none expires in it. */
+ * reply's flags are checked. A lease lasts longer than the counts take, so that leases expire only where that is counted. */
 #include <nbt.h>
 #include <stdio.h>
 #include <stdlib.h>
