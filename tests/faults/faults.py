@@ -25,9 +25,8 @@ def kill(play, host, draw):
 
 def kill_at_a_request(play, host, draw):
     """The host is killed when its next request is seen; half of the time over a slow line, so that it is still under way then."""
-    if draw.random() < 0.5 and host.number not in play.bad:
-        slow = draw.uniform(0.1, 0.4)
-        lay_line(play, host, draw, 25, 0, 0, slow, 0)
+    if draw.random() < 0.5:
+        lay_line(play, host, draw, 25, 0, 0, draw.uniform(0.1, 0.4), 0)
     play.arm(host, draw.uniform(0.1, 6))
 
 
@@ -85,10 +84,10 @@ def bad_line(play, host, draw):
 def lay_line(play, host, draw, seconds, loss, again, delay, spread):
     """A bad line is laid in the host's way, and taken out again."""
     machine = host.machine
-    if host.number in play.bad:
+    if host.name in play.bad:
         return
     play.book.counts["bad lines"] += 1
-    play.bad.add(host.number)
+    play.bad.add(host.name)
     links = machine.detour()
     words = [*links, seconds, loss, again, delay, spread, draw.getrandbits(32)]
     play.helper(machine.hub, "line.py", words, lambda said: take_line(play, host, said))
@@ -97,7 +96,7 @@ def lay_line(play, host, draw, seconds, loss, again, delay, spread):
 def take_line(play, host, said):
     """The line is good again. The helper said how many frames came, and how many went on."""
     host.machine.straighten()
-    play.bad.discard(host.number)
+    play.bad.discard(host.name)
     came, went = map(int, said.split())
     play.book.counts["frames over bad lines"] += came
     play.book.counts["frames that went on"] += went

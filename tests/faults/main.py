@@ -9,6 +9,7 @@ import sys
 import time
 
 import judge
+from cases import CASES, wrong_cases
 from packets import GROUP, UNIQUE
 from play import CONTENDED, GROUPS, Play
 from programs import Host
@@ -47,8 +48,13 @@ class Report:
         """A hold, for a reader."""
         return f"{span.host} {span.name} from {self.at(span.begun)}, sure to {self.at(span.sure)}, over by {self.at(span.over)}"
 
+    def address_of(self, name):
+        """A host's address."""
+        return self.host_of(name).machine.address
+
     def row(self, what, wrong):
         """A row, which passes where nothing is wrong."""
+        wrong = list(wrong)
         if wrong:
             self.failed += 1
             self.book.say(f"failed: {what}: {len(wrong)}, first:")
@@ -64,16 +70,18 @@ class Report:
 
     def rows(self):
         """All rows of a run with faults."""
-        wrong = self.book.wrong
-        told = judge.server_against_hosts(self.book.told, self.spans, lambda name: self.host_of(name).machine.address)
-        self.row("no name was held by two hosts at once, unless both held it as a group", list(map(self.tell_pair, self.twice)))
-        self.row("no host answered for a name that by its own lines it didn't hold", [f"{a.host} {a.name} at {self.at(a.came)}" for a in self.against])
-        self.row("the server told nothing else than what a holder said", [f"{r.name} {r.addresses} at {self.at(r.asked)}: {self.tell_span(s)}" for r, s in told])
+        wrong, play = self.book.wrong, self.play
+        told = judge.server_against_hosts(self.book.told, self.spans, self.address_of)
+        against = [f"{answer.host} {answer.name} at {self.at(answer.came)}" for answer in self.against]
+        otherwise = [f"{reply.name} {reply.addresses} at {self.at(reply.asked)}: {self.tell_span(span)}" for reply, span in told]
+        self.row("no name was held by two hosts at once, unless both held it as a group", map(self.tell_pair, self.twice))
+        self.row("no host answered for a name that by its own lines it didn't hold", against)
+        self.row("the server told nothing else than what a holder said", otherwise)
         self.row("no health check was lost", wrong["health"])
         self.row("no program ended by itself", wrong["ended"])
-        self.row("each name that one may hold was held by several hosts, one after the other", self.names_of_few(self.play.contended))
+        self.row("each name that one may hold was held by several hosts, one after the other", self.names_of_few(play.contended))
         self.row("each group was held by several hosts at once", [name for name in GROUPS if not self.is_shared(name)])
-        self.row("after the faults each name was held, and each group by all hosts", [] if self.play.settled else ["not after 90 s"])
+        self.row("after the faults each name was held, and each group by all hosts", [] if play.settled else ["not after 90 s"])
 
     def names_of_few(self, names):
         """The names that no two hosts held for sure, one after the other."""
@@ -86,30 +94,36 @@ class Report:
         return bool(judge.twice(spans))
 
     def tell_counts(self):
-        """What was counted: what is open first, then what the faults did."""
+        """What was counted: what is open first, and last what the faults did."""
+        counts, say = self.book.counts, self.book.say
         late = judge.only_lines(self.spans)
         paused = [answer for answer in self.answers if judge.is_after_a_pause(answer, self.book.pauses)]
-        counts, say = self.book.counts, self.book.say
         say(f"holders twice: {len(self.twice)}; beside these, lines of two hosts overlap {len(late)} times, and no answers do")
-        say(f"answers after a pause of their host: {len(paused)}; from a hold that was over: {len(self.stale)}")
-        say(f"holds: {len(self.spans)} granted, {counts['renewed']} renewals, {counts['refused']} refusals, {counts['lapsed']} lapsed, {counts['lost']} lost, {counts['given back']} given back")
-        say(f"health checks: {counts['health checks']}, lost {len(self.book.wrong['health'])}; bad lines: {counts['bad lines']}, over which {counts['frames over bad lines']} frames came and {counts['frames that went on']} went on")
-        say(
-            f"kills {counts['kills']} ({counts['kills at a request']} at a request), of the server {counts['kills of the server']}, pauses {counts['pauses']}, "
-            f"cuts {counts['cuts']}, floods {counts['floods']}, datagrams {counts['datagrams']}, questions {counts['questions']}, answers {len(self.answers)}, answers of the server {len(self.book.told)}"
-        )
+        say(f"answers after a pause of their host: {len(paused)}, of them from a hold that was over: {len(self.stale)}")
+        say(f"health checks: {counts['health checks']}, lost: {len(self.book.wrong['health'])}")
+        say(f"holds: {len(self.spans)}, " + self.listed("renewed", "refused", "lapsed", "lost", "given back", "ends"))
+        say(self.listed("bad lines", "frames over bad lines", "frames that went on"))
+        asked = {"questions": counts["questions"], "answers": len(self.answers), "answers of the server": len(self.book.told)}
+        did = self.listed("kills", "kills at a request", "kills of the server", "pauses", "cuts", "floods", "datagrams")
+        say(f"{did}, " + ", ".join(f"{word} {number}" for word, number in asked.items()))
+
+    def listed(self, *words):
+        """Counts, each behind its word."""
+        return ", ".join(f"{word} {self.book.counts[word]}" for word in words)
 
     def tell_rival(self):
         """What was seen of nmbd, apart from all else."""
+        names = {span.host for span in self.rivals}
         wanted = [span for span in self.spans if span.name == CONTENDED[0]]
-        pairs = judge.twice(wanted + self.rivals)
-        pairs = [pair for pair in pairs if {pair[0].host, pair[1].host} & {span.host for span in self.rivals}]
+        pairs = [pair for pair in judge.twice(wanted + self.rivals) if {pair[0].host, pair[1].host} & names]
         held = sum(span.sure - span.begun for span in self.rivals)
-        self.book.say(f"rival nmbd: it answered for {CONTENDED[0]} in {len(self.rivals)} spans of {held:.0f} s in all; beside a host's hold {len(pairs)} times, {judge.seconds_of(pairs):.0f} s in all")
+        apart = judge.server_against_hosts(self.book.told, self.rivals, self.address_of)
+        say = self.book.say
+        say(f"rival nmbd: it answered for {CONTENDED[0]} {len(self.rivals)} times, for {held:.0f} s in all")
+        say(f"rival nmbd: beside a host that held it {len(pairs)} times, for {judge.seconds_of(pairs):.0f} s in all")
+        say(f"rival nmbd: meanwhile the server told of another holder, or of none, in {len(apart)} answers")
         for pair in pairs[:SHOWN]:
-            self.book.say(f"    {self.tell_pair(pair)}")
-        apart = judge.server_against_hosts(self.book.told, self.rivals, lambda name: self.host_of(name).machine.address)
-        self.book.say(f"rival nmbd: while it answered for it, the server told of another holder, or of none, in {len(apart)} answers")
+            say(f"    {self.tell_pair(pair)}")
 
 
 def main(run, net, nbt, work, minutes, seed, hosts, rival, control):
@@ -120,6 +134,7 @@ def main(run, net, nbt, work, minutes, seed, hosts, rival, control):
         report = Report(play)
     finally:
         play.end()
+    report.row(f"the judge judges {len(CASES)} runs that were written by hand", wrong_cases())
     if control:
         report.row("the judge sees two holders where a premise is broken", [] if report.twice else ["none"])
         for pair in report.twice:
@@ -133,4 +148,5 @@ def main(run, net, nbt, work, minutes, seed, hosts, rival, control):
     return 1 if report.failed else 0
 
 
-sys.exit(main(*sys.argv[1:]))
+if __name__ == "__main__":
+    sys.exit(main(*sys.argv[1:]))

@@ -98,12 +98,19 @@ class Machine:
     def cut(self, at_the_hub):
         """Its link goes down, at the hub's end or at its own."""
         self.disturb()
-        ip(self.hub, f"link set {self.link} down") if at_the_hub else ip(self.namespace, "link set eth0 down")
+        self.set_link(at_the_hub, "down")
 
     def mend(self, at_the_hub):
         """Its link comes up again."""
-        ip(self.hub, f"link set {self.link} up") if at_the_hub else ip(self.namespace, "link set eth0 up")
+        self.set_link(at_the_hub, "up")
         self.recover()
+
+    def set_link(self, at_the_hub, word):
+        """Sets one end of its link up or down."""
+        if at_the_hub:
+            ip(self.hub, f"link set {self.link} {word}")
+        else:
+            ip(self.namespace, f"link set eth0 {word}")
 
     def detour(self):
         """Its link leaves the hub, and two others are there, over which a bad line goes. Returns the two that the line joins."""
