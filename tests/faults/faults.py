@@ -15,19 +15,24 @@ class Event(NamedTuple):
     draw: random.Random
 
 
+def down_time(play, draw):
+    """How long a host is down: half of the time for longer than its leases last, so that another may get its names."""
+    return draw.choice([draw.uniform(0.1, 6), draw.uniform(play.longest, play.longest + 6)])
+
+
 def kill(play, host, draw):
-    """The host is killed, and started again soon."""
+    """The host is killed, and started again."""
     if host.is_up():
         play.book.counts["kills"] += 1
         host.kill()
-    play.after(draw.uniform(0.1, 6), host.start)
+    play.after(down_time(play, draw), host.start)
 
 
 def kill_at_a_request(play, host, draw):
     """The host is killed when its next request is seen; half of the time over a slow line, so that it is still under way then."""
     if draw.random() < 0.5:
         lay_line(play, host, draw, 25, 0, 0, draw.uniform(0.1, 0.4), 0)
-    play.arm(host, draw.uniform(0.1, 6))
+    play.arm(host, down_time(play, draw))
 
 
 def pause(play, host, draw):

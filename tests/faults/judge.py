@@ -47,7 +47,7 @@ class Told(NamedTuple):
 
 
 class Span(NamedTuple):
-    """A hold, as its host tells it: from a line `granted` on, sure up to one moment, and over by another."""
+    """A hold, as its host tells it: from a line `granted` on, sure up to one moment, and over by another, as a line says or not."""
 
     host: str
     life: int
@@ -56,6 +56,7 @@ class Span(NamedTuple):
     begun: float
     sure: float
     over: float
+    has_ending: bool
 
 
 def spans_of_lines(lines, ends, kind_of, last):
@@ -64,8 +65,8 @@ def spans_of_lines(lines, ends, kind_of, last):
 
     def close(key, at):
         host, life, name = key
-        begun = open_spans.pop(key)
-        spans.append(Span(host, life, name, kind_of(host, name), begun, begun, min(at, ends.get((host, life), last))))
+        begun, end = open_spans.pop(key), ends.get((host, life), last)
+        spans.append(Span(host, life, name, kind_of(host, name), begun, begun, min(at, end), at < end))
 
     for line in lines:
         key = (line.host, line.life, line.name)
@@ -107,7 +108,7 @@ def spans_of_answers(answers, gap, kind):
             continue
         if open_span:
             done.append(open_span)
-        spans[key] = Span(answer.host, answer.life, answer.name, kind, answer.came, answer.came, answer.came)
+        spans[key] = Span(answer.host, answer.life, answer.name, kind, answer.came, answer.came, answer.came, False)
     return done + list(spans.values())
 
 
@@ -159,7 +160,7 @@ def answers_against_lines(answers, spans, pauses):
     for answer in answers:
         around = [s for s in held[answer.host, answer.life, answer.name] if s.begun <= answer.came and answer.asked <= s.over]
         after_a_pause = is_after_a_pause(answer, pauses)
-        if after_a_pause and all(span.over <= answer.came + TURN for span in around):
+        if after_a_pause and all(span.has_ending and span.over <= answer.came + TURN for span in around):
             stale.append(answer)
         elif not around:
             against.append(answer)

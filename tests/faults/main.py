@@ -100,6 +100,8 @@ class Report:
         paused = [answer for answer in self.answers if judge.is_after_a_pause(answer, self.book.pauses)]
         say(f"holders twice: {len(self.twice)}; beside these, lines of two hosts overlap {len(late)} times, and no answers do")
         say(f"answers after a pause of their host: {len(paused)}, of them from a hold that was over: {len(self.stale)}")
+        for answer in self.stale:
+            self.book.note(f"from a hold that was over: {answer.host} {answer.name}, {self.at(answer.asked)} to {self.at(answer.came)}")
         say(f"health checks: {counts['health checks']}, lost: {len(self.book.wrong['health'])}")
         say(f"holds: {len(self.spans)}, " + self.listed("renewed", "refused", "lapsed", "lost", "given back", "ends"))
         say(self.listed("bad lines", "frames over bad lines", "frames that went on"))
