@@ -178,12 +178,13 @@ class Nmbd(Program):
         sockets = ["nmbd:socket dir", "ncalrpc dir"]
         with open(f"{folder}/smb.conf", "w") as file:
             file.write(f"[global]\nnetbios name = {name}\nworkgroup = RIVALS\nwins server = {server}\nlocal master = no\n")
-            file.write(f"bind interfaces only = yes\ninterfaces = {machine.address}/24\nlog file = {folder}/log\nlog level = 2\n")
+            file.write(f"bind interfaces only = yes\ninterfaces = {machine.address}/24\nlog level = 2\n")
             file.writelines(f"{place} = {folder}\n" for place in places)
             file.writelines(f"{place} = {folder}/run\n" for place in sockets)
 
     def words(self):
-        return ["nmbd", "--foreground", "--no-process-group", f"--configfile={self.folder}/smb.conf"]
+        # Without --debug-stdout it closes its output, by whose end its own is seen.
+        return ["nmbd", "--foreground", "--no-process-group", "--debug-stdout", f"--configfile={self.folder}/smb.conf"]
 
 
 def output_of(words):
