@@ -4,7 +4,7 @@ import random
 from collections.abc import Callable
 from typing import NamedTuple
 
-from packets import CONFLICT, GROUP, REFRESH, REGISTERED, REGISTRATION, RELEASE, UNIQUE, WAIT, reply, request
+from packets import ACTIVE, CONFLICT, GROUP, REFRESH, REGISTERED, REGISTRATION, RELEASE, UNIQUE, WAIT, reply, request
 
 class Event(NamedTuple):
     """A fault that is to come: when, which, at which host, and what else is drawn for it."""
@@ -132,33 +132,34 @@ def flood(play, host, draw):
 
 def stranger(play, host, draw):
     """A datagram about a name comes from an address that is no host's, to the server or to a host."""
-    name = draw.choice(play.contended)
     sender = draw.choice(play.strangers)
-    own = sender.getsockname()[0]
-    kind = draw.choice([UNIQUE, GROUP])
-    number = draw.randrange(1, 40)
-    to_the_server = [
-        request(number, REGISTRATION, name, kind, host.machine.address, 10),
-        request(number, REFRESH, name, kind, host.machine.address, 10),
-        request(number, RELEASE, name, kind, host.machine.address, 0),
-        request(number, RELEASE, name, kind, own, 0),
-        # The one that the server may grant: a machine of its own, for two seconds.
-        request(number, REGISTRATION, name, UNIQUE, own, 2) if draw.random() < 0.2 else request(number, RELEASE, name, kind, own, 0),
-    ]
-    to_the_host = [
-        reply(number, REGISTERED, name, kind, host.machine.address, 300),
-        reply(number, REGISTERED + 6, name, kind, host.machine.address, 0),
-        reply(number, CONFLICT, name, kind, host.machine.address, 0),
-        reply(number, WAIT, name, kind, host.machine.address, 60),
-        request(number, RELEASE, name, kind, host.machine.address, 0),
-    ]
-    target = play.server if draw.random() < 0.5 else host
-    octets = draw.choice(to_the_server if target is play.server else to_the_host)
+    name, kind, number = draw.choice(play.contended), draw.choice([UNIQUE, GROUP]), draw.randrange(1, 40)
+    if draw.random() < 0.5:
+        target, octets = play.server, to_the_server(draw, number, name, kind, host.machine.address, sender.getsockname()[0])
+    else:
+        target, octets = host, to_a_host(draw, number, name, kind, host.machine.address)
     try:
         sender.sendto(octets, (target.machine.address, 137))
         play.book.counts["datagrams"] += 1
     except OSError:
-        pass
+        pass  # the sender's buffer is full
+
+
+def to_the_server(draw, number, name, kind, address, own):
+    """A request for a host, or, now and then, one for the stranger itself for two seconds, which may be granted."""
+    if draw.random() < 0.04:
+        return request(number, REGISTRATION, name, UNIQUE, own, 2)
+    flags = draw.choice([REGISTRATION, REFRESH, RELEASE])
+    return request(number, flags, name, kind, own if flags == RELEASE and draw.random() < 0.5 else address, 10)
+
+
+def to_a_host(draw, number, name, kind, address):
+    """A reply as the server's: granted, refused, demanded, or put off; or the release of its name."""
+    replies = [(REGISTERED, 300), (ACTIVE, 0), (CONFLICT, 0), (WAIT, 60)]
+    if draw.random() < 0.2:
+        return request(number, RELEASE, name, kind, address, 0)
+    flags, ttl = draw.choice(replies)
+    return reply(number, flags, name, kind, address, ttl)
 
 
 # How many of each come in a minute, for each host, or in all.

@@ -6,7 +6,7 @@ import struct
 UNIQUE, GROUP = 0x2000, 0xA000  # NB_FLAGS of a P node (RFC 1002 section 4.2.1.3)
 NB, NBSTAT, IN = 0x0020, 0x0021, 0x0001
 REGISTRATION, REFRESH, RELEASE = 0x2900, 0x4000, 0x3000  # flags of requests
-REGISTERED, CONFLICT, WAIT = 0xAD80, 0xAD87, 0xBC00  # flags of replies
+REGISTERED, ACTIVE, CONFLICT, WAIT = 0xAD80, 0xAD86, 0xAD87, 0xBC00  # flags of replies
 
 
 def wire(name):
