@@ -6,6 +6,7 @@ from typing import NamedTuple
 
 from packets import ACTIVE, CONFLICT, GROUP, REFRESH, REGISTERED, REGISTRATION, RELEASE, UNIQUE, WAIT, reply, request
 
+
 class Event(NamedTuple):
     """A fault that is to come: when, which, at which host, and what else is drawn for it."""
 
