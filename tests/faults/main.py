@@ -99,6 +99,8 @@ class Report:
         late = judge.only_lines(self.spans)
         paused = [answer for answer in self.answers if judge.is_after_a_pause(answer, self.book.pauses)]
         say(f"holders twice: {len(self.twice)}; beside these, lines of two hosts overlap {len(late)} times, and no answers do")
+        for pair in late:
+            self.book.note(f"lines overlap: {self.tell_pair(pair)}")
         say(f"answers after a pause of their host: {len(paused)}, of them from a hold that was over: {len(self.stale)}")
         for answer in self.stale:
             self.book.note(f"from a hold that was over: {answer.host} {answer.name}, {self.at(answer.asked)} to {self.at(answer.came)}")
