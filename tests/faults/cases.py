@@ -79,6 +79,7 @@ CASES = [
     Case("an answer after the hold", [granted(1, "a"), lapsed(5, "a")], answers("a", 2, 6), Count(against=1)),
     Case("an answer after the end", [granted(1, "a")], answers("a", 2, 6), Count(against=1), ends={("a", 1): 5}),
     Case("after a pause, from a hold that is over", [granted(1, "a"), lapsed(20.01, "a")], OVER_A_PAUSE, Count(stale=1), PAUSED),
+    Case("after a pause, a while before the hold ends", [granted(1, "a"), lapsed(20.1, "a")], OVER_A_PAUSE, pauses=PAUSED),
     Case("after a pause, from a hold that lasts", [granted(1, "a"), lapsed(30, "a")], OVER_A_PAUSE, pauses=PAUSED),
     Case("after a pause, from a host that is killed then", [granted(1, "a")], OVER_A_PAUSE, pauses=PAUSED, ends={("a", 1): 19.99}),
     Case("the server tells the holder", *HOLDS, told=[Told(3, 4, "X", ("a",))]),
@@ -86,6 +87,13 @@ CASES = [
     Case("the server tells nobody", *HOLDS, Count(server=1), told=[Told(3, 4, "X", ())]),
     Case("the server tells two", *HOLDS, Count(server=1), told=[Told(3, 4, "X", ("a", "b"))]),
     Case("the server tells nobody, after the last answer", *HOLDS, told=[Told(8, 9.5, "X", ())]),
+    Case(
+        "an answer from the next hold, whose question came before the line that ends the first",
+        [granted(1, "a"), lapsed(20.01, "a"), granted(20.01, "a"), granted(12, "b"), lapsed(19, "b")],
+        answers("a", 9) + [Answer(19.99, 20.02, "a", 1, "X")] + answers("b", 13, 18),
+        Count(lines=1),
+        told=[Told(13, 14, "X", ("b",))],
+    ),
     Case(
         "a host that slept",
         [granted(1, "a"), Line(9, "a", 1, "slept", ""), granted(10, "b")],

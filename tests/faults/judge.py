@@ -1,8 +1,8 @@
 """What is judged of a run, over what was written down of it. All times are seconds of one clock, that of the machine.
 
 A host's own lines say from when on it holds a name, and that it doesn't any more. The line that ends a hold comes late where the host
-was paused, or waits for a reply to its release. So a hold is sure from its line `granted` up to the last question that was asked before
-the end and that the host itself answered for the name: between both it can't have been lost and got again without a line.
+was paused, or waits for a reply to its release. So a hold is sure from its line `granted` up to the last question that the host itself
+answered for the name before that line was read: between both it can't have been lost and got again without a line.
 """
 
 from collections import defaultdict
@@ -13,8 +13,9 @@ from packets import GROUP
 GRANTED = "granted"
 # What a host prints when it doesn't hold a name any more, or gives it back.
 ENDINGS = ("lost", "lapsed", "given back", "give-back denied", "give-back unconfirmed", "not held")
-# How long after an answer the line `lapsed` comes at the latest that shows that the hold was over when it was sent.
-TURN = 0.3
+# How long after an answer the line `lapsed` comes at the latest that shows that the hold was over when it was sent. The host's next
+# turn begins with a look at its names, right after the answer.
+TURN = 0.05
 
 
 class Line(NamedTuple):
@@ -86,12 +87,13 @@ def spans_of_lines(lines, ends, kind_of, last):
 
 def with_answers(spans, answers):
     """The same holds, each sure up to the last question that its host answered."""
-    asked = defaultdict(list)
+    own = defaultdict(list)
     for answer in answers:
-        asked[answer.host, answer.life, answer.name].append(answer.asked)
+        own[answer.host, answer.life, answer.name].append(answer)
     surer = []
     for span in spans:
-        inside = [at for at in asked[span.host, span.life, span.name] if span.begun <= at < span.over]
+        given = own[span.host, span.life, span.name]
+        inside = [answer.asked for answer in given if span.begun <= answer.asked and answer.came < span.over]
         surer.append(span._replace(sure=max(inside, default=span.begun)))
     return surer
 
