@@ -1,0 +1,188 @@
+"""What is judged of a run, over what was written down of it. All times are seconds of one clock, that of the machine.
+
+A host's own lines say from when on it holds a name, and that it doesn't any more. The line that ends a hold comes late where the host
+was paused, or waits for a reply to its release. So a hold is sure from its line `granted` up to the last question that the host itself
+answered for the name before that line was read: between both it can't have been lost and got again without a line.
+"""
+
+from collections import defaultdict
+from typing import NamedTuple
+
+from packets import GROUP
+
+GRANTED = "granted"
+# What a host prints when it doesn't hold a name any more, or gives it back.
+ENDINGS = ("lost", "lapsed", "given back", "give-back denied", "give-back unconfirmed", "not held")
+# How long after an answer the line `lapsed` comes at the latest that shows that the hold was over when it was sent. The host's next
+# turn begins with a look at its names, right after the answer.
+TURN = 0.05
+
+
+class Line(NamedTuple):
+    """A line of a host: when it was read, whose it is, from which of its starts, what happened, to which name."""
+
+    at: float
+    host: str
+    life: int
+    event: str
+    name: str
+
+
+class Answer(NamedTuple):
+    """A host's positive answer for a name: when it was asked, when the answer came, and in which of its starts it was asked."""
+
+    asked: float
+    came: float
+    host: str
+    life: int
+    name: str
+
+
+class Told(NamedTuple):
+    """What the server told of a name: the addresses, none where it has no such name."""
+
+    asked: float
+    came: float
+    name: str
+    addresses: tuple
+
+
+class Span(NamedTuple):
+    """A hold, as its host tells it: from a line `granted` on, sure up to one moment, and over by another, as a line says or not."""
+
+    host: str
+    life: int
+    name: str
+    kind: int
+    begun: float
+    sure: float
+    over: float
+    has_ending: bool
+
+
+def spans_of_lines(lines, ends, kind_of, last):
+    """The holds that lines tell. `ends` has when each life of each host was over; `last` is when the run was."""
+    spans, open_spans = [], {}
+
+    def close(key, at):
+        host, life, name = key
+        begun, end = open_spans.pop(key), ends.get((host, life), last)
+        spans.append(Span(host, life, name, kind_of(host, name), begun, begun, min(at, end), at < end))
+
+    for line in lines:
+        key = (line.host, line.life, line.name)
+        if line.event == "slept":
+            for other in [other for other in open_spans if other[:2] == key[:2]]:
+                close(other, line.at)
+        elif line.event == GRANTED:
+            if key in open_spans:
+                close(key, line.at)
+            open_spans[key] = line.at
+        elif line.event in ENDINGS and key in open_spans:
+            close(key, line.at)
+    for key in list(open_spans):
+        close(key, last)
+    return spans
+
+
+def with_answers(spans, answers):
+    """The same holds, each sure up to the last question that its host answered."""
+    own = defaultdict(list)
+    for answer in answers:
+        own[answer.host, answer.life, answer.name].append(answer)
+    surer = []
+    for span in spans:
+        given = own[span.host, span.life, span.name]
+        inside = [answer.asked for answer in given if span.begun <= answer.asked and answer.came < span.over]
+        surer.append(span._replace(sure=max(inside, default=span.begun)))
+    return surer
+
+
+def spans_of_answers(answers, gap, kind):
+    """The holds of a program that prints no lines: answers that follow each other within `gap` seconds."""
+    spans = {}
+    done = []
+    for answer in answers:
+        key = (answer.host, answer.life, answer.name)
+        open_span = spans.get(key)
+        if open_span and answer.asked - open_span.sure <= gap:
+            spans[key] = open_span._replace(sure=max(open_span.sure, answer.asked), over=answer.came)
+            continue
+        if open_span:
+            done.append(open_span)
+        spans[key] = Span(answer.host, answer.life, answer.name, kind, answer.came, answer.came, answer.came, False)
+    return done + list(spans.values())
+
+
+def by_name(spans):
+    """The holds of each name."""
+    named = defaultdict(list)
+    for span in spans:
+        named[span.name].append(span)
+    return named
+
+
+def pairs_at_once(spans, end_of):
+    """Pairs of holds of one name by two hosts, not both of a group, that stand beside one another up to the ends that end_of tells."""
+    pairs = []
+    for named in by_name(spans).values():
+        named.sort(key=lambda span: span.begun)
+        for place, first in enumerate(named):
+            for second in named[place + 1 :]:
+                if second.begun >= end_of(first):
+                    break
+                if first.host != second.host and (first.kind, second.kind) != (GROUP, GROUP):
+                    if min(end_of(first), end_of(second)) > second.begun:
+                        pairs.append((first, second))
+    return pairs
+
+
+def twice(spans):
+    """Pairs of hosts that held one name at once, for sure."""
+    return pairs_at_once(spans, lambda span: span.sure)
+
+
+def only_lines(spans):
+    """Pairs whose lines say so, but no answers: the line that ends the first hold came late."""
+    sure = twice(spans)
+    return [pair for pair in pairs_at_once(spans, lambda span: span.over) if pair not in sure]
+
+
+def is_after_a_pause(answer, pauses):
+    """Whether the host was paused between the question and the answer."""
+    return any(begun < answer.came and answer.asked < ended for begun, ended in pauses[answer.host])
+
+
+def answers_against_lines(answers, spans, pauses):
+    """Answers for a name that the host's own lines don't say it holds; and those that came after a pause, from a hold that was over."""
+    against, stale = [], []
+    held = defaultdict(list)
+    for span in spans:
+        held[span.host, span.life, span.name].append(span)
+    for answer in answers:
+        around = [s for s in held[answer.host, answer.life, answer.name] if s.begun <= answer.came and answer.asked <= s.over]
+        after_a_pause = is_after_a_pause(answer, pauses)
+        if after_a_pause and all(span.has_ending and span.over <= answer.came + TURN for span in around):
+            stale.append(answer)
+        elif not around:
+            against.append(answer)
+    return against, stale
+
+
+def server_against_hosts(told, spans, address_of):
+    """What the server told of a name, while a host held it for sure, that isn't this host's address, and no other of a unique name."""
+    against = []
+    named = by_name(spans)
+    for reply in told:
+        for span in named[reply.name]:
+            if not (span.begun <= reply.asked and reply.came <= span.sure):
+                continue
+            own = address_of(span.host)
+            if own not in reply.addresses or (span.kind != GROUP and len(reply.addresses) > 1):
+                against.append((reply, span))
+    return against
+
+
+def seconds_of(pairs):
+    """For how long pairs of holds stood beside one another, for sure."""
+    return sum(min(first.sure, second.sure) - max(first.begun, second.begun) for first, second in pairs)

@@ -1,0 +1,341 @@
+"""Plays a run: starts the programs, has the faults come, asks all the while, and writes down what is said."""
+
+import heapq
+import random
+import selectors
+import sys
+import time
+from itertools import count
+
+import faults
+import judge
+import network
+import packets
+from book import Book
+from judge import Answer, Told
+from programs import Host, Nmbd, Server, output_of
+
+LIFE = "500ms"  # the greatest life of a datagram
+CONTENDED = ["ALPHA", "BRAVO", "CHARLIE"]  # each host wants each of them for itself
+MIXED = "MIXED"  # half of the hosts want it for themselves, half as a group
+GROUPS = ["TEAM", "STAFF"]
+ASKS_HOSTS, ASKS_GROUPS, ASKS_PAUSED, ASKS_SERVER, CHECKS = 0.2, 2.0, 1.0, 0.5, 1.0  # seconds between questions
+PATIENCE = 1.0  # how long a health check waits for its reply
+MANY = 64  # how many datagrams are read at once at most
+QUIET = 90  # for how many seconds the hosts may take to get all free names once the faults are over
+
+
+class Play:
+    """The machines, what runs on them, and what is to be done when."""
+
+    def __init__(self, run, net, nbt, work, seed, hosts, longest, rival):
+        self.book = Book(f"{work}/log")
+        self.nbt, self.seed, self.longest, self.contended = nbt, seed, longest, [*CONTENDED, MIXED]
+        self.poll, self.heard = selectors.DefaultSelector(), {}
+        self.tasks, self.ids, self.turns = [], count(), count()
+        self.bad, self.cut = set(), set()
+        self.calm, self.settled = 0, False
+        self.armed, self.asked, self.checks = {}, {}, {}
+
+        def machine(name, number):
+            return network.Machine(run, name, net, number)
+
+        self.user, self.stranger = machine("user", 2), machine("stranger", 3)
+        self.server = Server(machine("server", 1), self.book, self.poll, nbt, ["--life", LIFE, "--log"], longest)
+        self.hosts = [self.host(machine(f"h{number}", 10 + number)) for number in range(1, hosts + 1)]
+        if rival:
+            last = self.hosts[-1].machine
+            self.hosts[-1] = Nmbd(last, self.book, self.poll, f"{work}/nmbd", self.server.machine.address, CONTENDED[0])
+            self.book.say(f"rival {self.hosts[-1].name}: nmbd {output_of(['nmbd', '--version'])}")
+        self.programs = [self.server, *self.hosts]
+        self.strangers = [self.stranger.port(137, f"{net}.{number}") for number in range(3, 7)]
+        self.book.on_line = self.on_line
+        self.ports = {host.name: self.listen(host.machine.port(), self.on_answer, host) for host in self.hosts}
+        self.checking = self.listen(self.user.port(), self.on_check, None)
+
+    def host(self, machine):
+        """A host that wants all names."""
+        is_group = machine.number % 2
+        names = CONTENDED if is_group else [*CONTENDED, MIXED]
+        groups = [*GROUPS, MIXED] if is_group else GROUPS
+        limits = ["--life", LIFE, "--longest", f"{self.longest}s"]
+        return Host(machine, self.book, self.poll, self.nbt, limits, self.server.machine.address, names, groups, self.seed)
+
+    # What is waited for.
+
+    def after(self, seconds, task):
+        """Does something so many seconds later."""
+        heapq.heappush(self.tasks, (time.monotonic() + seconds, next(self.ids), task))
+
+    def every(self, seconds, task):
+        """Does something again and again."""
+
+        def again():
+            task()
+            self.after(seconds, again)
+
+        again()
+
+    def listen(self, source, heard, *more):
+        """Calls `heard` when something is there to be read."""
+        self.poll.register(source, selectors.EVENT_READ)
+        self.heard[source] = lambda: heard(source, *more)
+        return source
+
+    def unlisten(self, source):
+        """Nobody listens to it any more."""
+        self.poll.unregister(source)
+        del self.heard[source]
+        source.close()
+
+    def turn(self, until):
+        """Does what is due, and reads what is there: the hosts' lines before their answers."""
+        now = time.monotonic()
+        while self.tasks and self.tasks[0][0] <= now:
+            heapq.heappop(self.tasks)[2]()
+        next_due = min(self.tasks[0][0] if self.tasks else until, until)
+        ready = self.poll.select(max(0, next_due - time.monotonic()))
+        self.read_programs()
+        for key, _ in ready:
+            if key.fileobj in self.heard:
+                self.heard[key.fileobj]()
+
+    def play_until(self, moment, is_over=lambda: False):
+        """Takes turns until that moment, or until it is over."""
+        while time.monotonic() < moment and not is_over():
+            self.turn(moment)
+
+    def read_programs(self):
+        """Reads what programs wrote. One that ended by itself is started again."""
+        for program in self.programs:
+            if program.running and not program.drain() and program.running:
+                gave_back = program.running.args[-2:-1] == ["--for"]
+                status = program.end(time.monotonic())
+                if gave_back and status in (0, 5):
+                    self.book.counts["ends"] += 1
+                else:
+                    self.book.wrong["ended"].append(f"{program.name} ended with {status}")
+                self.after(random.Random(f"{self.seed} {program.name} {program.life}").uniform(0.1, 6), program.start)
+
+    def helper(self, namespace, script, words, over):
+        """Starts a helper, and hands on what it said when it ends."""
+        running = network.starts(namespace, sys.executable, f"{sys.path[0]}/{script}", *map(str, words))
+        self.on_end(running, over)
+
+    def on_end(self, running, over):
+        """Hands on what a program said, when it ends."""
+        said = []
+
+        def heard(source):
+            octets = source.read()
+            if octets:
+                said.append(octets)
+            elif octets == b"":
+                self.unlisten(source)
+                running.wait()
+                over(b"".join(said).decode())
+
+        self.listen(running.stdout, heard)
+
+    # Kills at a request.
+
+    def arm(self, host, delay):
+        """The host is killed when its next request is seen at the hub."""
+        if host.name in self.armed:
+            return
+        tap = host.machine.tap()
+        self.armed[host.name] = tap
+        self.listen(tap, self.on_frame, host, delay)
+        self.after(25, lambda: self.disarm(host.name, tap))
+
+    def disarm(self, name, tap):
+        """Nobody waits for the host's request any more."""
+        if self.armed.get(name) is tap:
+            del self.armed[name]
+            self.unlisten(tap)
+
+    def on_frame(self, tap, host, delay):
+        """Frames were seen."""
+        for _ in range(MANY):
+            try:
+                seen = packets.payload_of(tap.recv(2048))
+            except OSError:
+                return
+            if seen and seen[0] == host.machine.address and packets.is_request_about_a_name(seen[1]) and host.is_up():
+                host.kill()
+                self.book.counts["kills"] += 1
+                self.book.counts["kills at a request"] += 1
+                self.disarm(host.name, tap)
+                self.after(delay, host.start)
+                return
+
+    # Questions to the hosts, on their own machines, so that no fault of the network touches them.
+
+    def on_line(self, host, line):
+        """Where a name was granted, all others are asked for it at once."""
+        if line.event == judge.GRANTED and line.name in self.contended:
+            for other in self.hosts:
+                if other is not host:
+                    self.ask(other, line.name)
+
+    def ask(self, host, name):
+        """Asks a host for a name."""
+        if not host.is_up() or name not in host.names + host.groups:
+            return
+        number = next(self.ids) & 0xFFFF
+        self.asked[host.name, number] = (time.monotonic(), host.life, name)
+        try:
+            self.ports[host.name].sendto(packets.query(number, name), (host.machine.address, 137))
+            self.book.counts["questions"] += 1
+        except OSError:
+            pass  # its own link is down
+
+    def ask_all(self, names, paused):
+        """Asks each host for each name."""
+        for host in self.hosts:
+            if host.is_up() and host.is_awake() != paused:
+                for name in names:
+                    self.ask(host, name)
+
+    def on_answer(self, port, host):
+        """A host answered. What it printed before is read first."""
+        for _ in range(MANY):
+            try:
+                octets, sender = port.recvfrom(2048)
+            except OSError:
+                return
+            host.drain()
+            came = time.monotonic()
+            question = self.asked.pop((host.name, packets.number_of(octets)), None)
+            if question and sender[0] == host.machine.address and packets.entries_of(octets):
+                asked, life, name = question
+                self.book.answers.append(Answer(asked, came, host.name, life, name))
+
+    # Questions to the server.
+
+    def ask_server(self):
+        """Has `nbt lookup` ask the server for the next name."""
+        names = [*self.contended, *GROUPS]
+        name = names[next(self.turns) % len(names)]
+        asked = time.monotonic()
+        words = ["lookup", name, "--server", self.server.machine.address, "--tries", "1", "--wait", "900ms"]
+        self.on_end(network.starts(self.user.namespace, self.nbt, *words), lambda said: self.on_told(asked, name, said))
+
+    def on_told(self, asked, name, said):
+        """The server told who has the name, or nothing."""
+        lines = said.splitlines()
+        self.book.counts["questions to the server"] += 1
+        if not lines or lines[0] == "no reply":
+            return
+        addresses = tuple(line.split()[0] for line in lines if line[:1].isdigit())
+        self.book.told.append(Told(asked, time.monotonic(), name, addresses))
+
+    # Health checks.
+
+    def check_all(self):
+        """Asks each machine that is well something that it has to answer, over the network."""
+        now = time.monotonic()
+        for program in self.programs:
+            if program.is_awake() and program.machine.is_well(now):
+                number = next(self.ids) & 0xFFFF
+                octets = packets.query(number, "NOBODY") if program is self.server else packets.status_request(number)
+                self.checks[number] = (program, program.life, now)
+                self.checking.sendto(octets, (program.machine.address, 137))
+                self.after(PATIENCE, lambda number=number: self.miss(number))
+
+    def on_check(self, port, _):
+        """A reply came."""
+        for _ in range(MANY):
+            try:
+                octets, sender = port.recvfrom(2048)
+            except OSError:
+                return
+            check = self.checks.get(packets.number_of(octets))
+            if check and sender[0] == check[0].machine.address:
+                del self.checks[packets.number_of(octets)]
+                self.book.counts["health checks"] += 1
+
+    def miss(self, number):
+        """No reply came in time. That counts where the machine was well all the while."""
+        check = self.checks.pop(number, None)
+        if check and check[0].life == check[1] and check[0].is_awake() and check[0].machine.is_well(check[2]):
+            self.book.counts["health checks"] += 1
+            self.book.wrong["health"].append(f"{check[0].name} asked at {check[2] - self.book.begun:.1f}")
+
+    # The run.
+
+    def begin(self):
+        """Starts all, and the questions."""
+        for program in self.programs:
+            program.start()
+        self.every(ASKS_HOSTS, lambda: self.ask_all(self.contended, False))
+        self.every(ASKS_GROUPS, lambda: self.ask_all(GROUPS, False))
+        self.every(ASKS_PAUSED, lambda: self.ask_all(self.contended, True))
+        self.every(ASKS_SERVER, self.ask_server)
+        self.every(CHECKS, self.check_all)
+        self.after(60, lambda: self.every(60, self.say_progress))
+
+    def run(self, seconds):
+        """The faults, for so many seconds, and then a time without any."""
+        self.begin()
+        for event in faults.schedule(self.seed, seconds, len(self.hosts)):
+            self.play_until(self.book.begun + event.at)
+            event.fault(self, self.hosts[event.target], event.draw)
+        self.play_until(self.book.begun + seconds)
+        for name, tap in list(self.armed.items()):
+            self.disarm(name, tap)
+        self.calm = time.monotonic()
+        self.book.note("no more faults come")
+        self.settled = self.settles()
+
+    def settles(self):
+        """Waits until the last faults are over, and then until all is held, some time at most. Returns whether it is."""
+        self.play_until(self.calm + self.longest + 25)
+        while not self.is_settled():
+            if time.monotonic() > self.calm + QUIET:
+                return False
+            self.play_until(time.monotonic() + 1)
+        return True
+
+    def is_settled(self):
+        """Whether each name is held now: one that a host wants for itself by anybody, a group by all hosts."""
+        now = time.monotonic()
+        recent = [answer for answer in self.book.answers[-4000:] if answer.asked > now - ASKS_GROUPS - 1]
+        holders = {name: {answer.host for answer in recent if answer.name == name} for name in [*self.contended, *GROUPS]}
+        hosts = {host.name for host in self.hosts if isinstance(host, Host)}
+        return all(holders[name] for name in self.contended) and all(holders[name] == hosts for name in GROUPS)
+
+    def control(self):
+        """Breaks a premise: the server is silent for half as long as it granted names for. The holder is cut off meanwhile."""
+        self.begin()
+        self.play_until(self.book.begun + 60, lambda: self.last_line("renewed", CONTENDED[0]))
+        renewed = self.last_line("renewed", CONTENDED[0])
+        if not renewed:
+            return
+        holder = next(host for host in self.hosts if host.name == renewed.host)
+        holder.machine.cut(True)
+        for program in [self.server, *self.hosts]:
+            if program is not holder:
+                program.kill()
+        self.server.longest //= 2
+        for program in self.programs:
+            program.start()
+        self.play_until(time.monotonic() + self.longest)
+
+    def last_line(self, event, name):
+        """The last line of a host of that event of a name, if there is one."""
+        return next((line for line in reversed(self.book.lines) if (line.event, line.name) == (event, name)), None)
+
+    def say_progress(self):
+        """Says how far it is."""
+        counts = self.book.counts
+        minutes = (time.monotonic() - self.book.begun) / 60
+        doing = ", ".join(f"{counts[word]} {word}" for word in ["kills", "pauses", "cuts", "granted", "lapsed"])
+        self.book.say(f"{minutes:4.0f} min: {doing}, {len(self.book.answers)} answers")
+
+    def end(self):
+        """Kills what still runs."""
+        for program in self.programs:
+            if program.is_up():
+                program.kill()
+
