@@ -1,10 +1,8 @@
 -- The times and limits that texts spell, and the failures of other texts (our profile).
 use Rattle.std.specs.Prelude.{◌≡◌, ◌≤◌, ◌↔◌, ◌⊎◌, ℕ, List, Option, Some, None, codes}
 use Rattle.std.specs.Borrow.{Bor}
-use Rattle.nbt_lease.specs.Config.{ConfigValue, IsLife, IsLongest, milliseconds}
-use Rattle.nbt_lease.specs.declared.config.TheConstants.{ROWS_MOST}
-use Rattle.nbt_client.specs.Asking.{patience_of}
-use Rattle.nbt_client.specs.declared.patience.TheConstants.{TRIES_MOST}
+use Rattle.nbt_lease.specs.Config.{ConfigValue, IsLife, IsLongest, rows_most, milliseconds}
+use Rattle.nbt_client.specs.Asking.{patience_of, tries_most}
 use Rattle.nbt_text.specs.Times.{SpellsTime}
 use Rattle.nbt_admin.specs.Failures.{ComplainsOf, out_of_memory}
 use Rattle.nbt_admin.specs.declared.failure.Failure.{Failure}
@@ -26,7 +24,7 @@ pub record SpellsPatience (tries wait : List ℕ) (patience : ℕ) : Type 0 wher
   pub once : (count ≡ 1) ↔ (tries ≡ codes "1")
   pub twice : (count ≡ 2) ↔ (tries ≡ codes "2")
   pub some : 1 ≤ count
-  pub few : count ≤ TRIES_MOST
+  pub few : count ≤ tries_most
   pub spells : SpellsWait wait last
   pub patience_is : patience ≡ patience_of count last
 
@@ -50,7 +48,7 @@ IsLongestText text = (seconds : ℕ) × SpellsLongest text seconds
 pub record IsConfigOf (life longest : List ℕ) (config : ConfigValue) : Type 0 where
   pub life_is : SpellsLife life config.life
   pub longest_is : SpellsLongest longest config.longest
-  pub rows_are : config.rows ≡ ROWS_MOST
+  pub rows_are : config.rows ≡ rows_most
 
 abbrev pub AreLimits : (life longest : List ℕ) → Type 0
 AreLimits life longest = IsLifeText life × IsLongestText longest

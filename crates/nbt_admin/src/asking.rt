@@ -1,6 +1,7 @@
 //! Reads the arguments of `lookup` and `status`.
 
 ghost use Rattle.std.specs.Prelude.{◌≡◌, ◌≤◌, ◌↔◌, IfOk, IfErr, codes};
+ghost use Rattle.nbt_client.specs.Asking.{tries_most};
 ghost use Rattle.nbt_admin.specs.Times.{IsWait, SpellsPatience};
 ghost use Rattle.nbt_admin.specs.Failures.{UsageFails};
 ghost use Rattle.nbt_admin.specs.Arguments.{AskGiven, AsksServer, AsksHost, AskFails};
@@ -75,7 +76,7 @@ fn tries_of(text: &str) -> u32
     ensures once { (result ≡ 1) ↔ (text.now ≡ codes "1") }
     ensures twice { (result ≡ 2) ↔ (text.now ≡ codes "2") }
     ensures tries_at_least { 1 ≤ result }
-    ensures tries_at_most { result ≤ TRIES_MOST }
+    ensures tries_at_most { result ≤ tries_most }
 {
     match text {
         nbt_args::ONCE => 1,

@@ -17,7 +17,7 @@ use Rattle.nbt_port.specs.declared.fault.Fault.TheVariants as f
 use Rattle.nbt_bench.specs.Here.{Here}
 use Rattle.nbt_text.specs.Lines.{one_line}
 use Rattle.nbt_port.specs.Staying.{StaysUp, EndsEarly}
-use Rattle.nbt_port.specs.declared.limits.TheConstants.{FOREVER}
+use Rattle.nbt_port.specs.Numbers.{forever}
 use Rattle.nbt_bench.specs.declared.node.NodeArguments.{NodeArguments}
 
 -- the line of what was seen in a turn, or nothing
@@ -78,12 +78,12 @@ pub record EndsTurns {P C : Type 0} (does : P → PortCall → P → Type 0) (te
 -- With a number of turns it takes them. With no end it stays up.
 abbrev pub RunsFor : {P C : Type 0} → (P → PortCall → P → Type 0) → (C → ℕ → C → Type 0) → (turns : Option ℕ) → Addr → Want → Running P C → Running P C → Type 0
 RunsFor does tells (Some turns) server want old new = TakesTurns does tells server want turns old new
-RunsFor does tells None server want old new = StaysUp (Turns does tells server want) (BreaksTurns does tells server want) FOREVER old new
+RunsFor does tells None server want old new = StaysUp (Turns does tells server want) (BreaksTurns does tells server want) forever old new
 
 -- It ends early for a fault, at once in the turn that fails so; with no end it gives up only as often as the device fails in a row.
 abbrev pub NodeEndsFor : {P C : Type 0} → (P → PortCall → P → Type 0) → (C → ℕ → C → Type 0) → (turns : Option ℕ) → Addr → Want → Fault → Running P C → Running P C → Type 0
 NodeEndsFor does tells (Some turns) server want fault old new = EndsTurns does tells server want (FailsTurn does tells server want fault) turns old new
-NodeEndsFor does tells None server want fault old new = EndsEarly (Turns does tells server want) (BreaksTurns does tells server want) (FailsTurn does tells server want) FOREVER fault old new
+NodeEndsFor does tells None server want fault old new = EndsEarly (Turns does tells server want) (BreaksTurns does tells server want) (FailsTurn does tells server want) forever fault old new
 
 -- The turns, and after them a line that says whether it then holds the name, at the moment that the clock told last.
 abbrev pub RunsToItsEnd : {P : Type 0} → (P → PortCall → P → Type 0) → NodeArguments → Running P ℕ → Running P ℕ → Type 0

@@ -12,7 +12,7 @@ use Rattle.nbt_nbns.specs.declared.serving.Counts.{Counts}
 use Rattle.nbt_bench.specs.Here.{Here}
 use Rattle.nbt_text.specs.Lines.{one_line}
 use Rattle.nbt_port.specs.Staying.{StaysUp, GivesUp}
-use Rattle.nbt_port.specs.declared.limits.TheConstants.{FOREVER}
+use Rattle.nbt_port.specs.Numbers.{forever}
 use Rattle.nbt_bench.specs.declared.serve.ServeArguments.{ServeArguments}
 
 -- the line of the counts; each turn is one receive
@@ -37,13 +37,13 @@ BreaksServing does tells old new = Breaks does tells 1 old.port old.clock old.se
 abbrev pub ServesFor : {P C : Type 0} → (P → PortCall → P → Type 0) → (C → ℕ → C → Type 0) → (turns : Option ℕ) → Serving P C → (old_text : Option (List ℕ)) → Serving P C → (text : Option (List ℕ)) → Type 0
 ServesFor does tells (Some turns) old old_text new text = (counts : Counts) × Runs does tells turns counts old.port old.clock old.server new.port new.clock new.server
     × Appends old_text text (counts_text counts)
-ServesFor does tells None old old_text new text = StaysUp (ServesTurn does tells) (BreaksServing does tells) FOREVER old new
+ServesFor does tells None old old_text new text = StaysUp (ServesTurn does tells) (BreaksServing does tells) forever old new
 
 -- The device fails. With a number of turns that is at the first call of the port that does, and nothing is printed. With no
 -- end the server gives up.
 abbrev pub FailsFor : {P C : Type 0} → (P → PortCall → P → Type 0) → (C → ℕ → C → Type 0) → (turns : Option ℕ) → Serving P C → (old_text : Option (List ℕ)) → Serving P C → (text : Option (List ℕ)) → Type 0
 FailsFor does tells (Some turns) old old_text new text = Breaks does tells turns old.port old.clock old.server new.port new.clock new.server × (text ≡ old_text)
-FailsFor does tells None old old_text new text = GivesUp (ServesTurn does tells) (BreaksServing does tells) FOREVER old new
+FailsFor does tells None old old_text new text = GivesUp (ServesTurn does tells) (BreaksServing does tells) forever old new
 
 -- The line can't be written. With a number of turns that is after the last of them, and with no end before the first.
 abbrev pub IsCutFor : {P C : Type 0} → (P → PortCall → P → Type 0) → (C → ℕ → C → Type 0) → (turns : Option ℕ) → Serving P C → Serving P C → Type 0

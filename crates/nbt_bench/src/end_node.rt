@@ -5,7 +5,7 @@ ghost use Rattle.nbt_port.specs.PortCalls.{receiving, sending};
 ghost use Rattle.nbt_nbns.specs.Serving.{Runs};
 ghost use Rattle.nbt_nbns.specs.declared.serving.Counts.{Counts};
 ghost use Rattle.nbt_bench.specs.Counting.{CountsOn};
-ghost use Rattle.nbt_bench.specs.declared.end_node.TheConstants.{BEGIN};
+ghost use Rattle.nbt_bench.specs.Numbers.{loop_begin};
 
 use crate::clock::CountedClock;
 use arrayvec::ArrayVec;
@@ -59,7 +59,7 @@ impl<P: Port + Drop> NameServer<P> {
     /// A server over this port, which is at `addr`. It started at 0, and the clock is at `BEGIN`.
     pub fn start(alloc: Global, config: Config, addr: Addr, port: P) -> NameServer<P>
         ensures addr { result.addr ≡ addr }
-        ensures clock { result.clock ≡ BEGIN }
+        ensures clock { result.clock ≡ loop_begin }
     {
         NameServer {
             server: Server::start(alloc, config, Moment::zero()),

@@ -1,7 +1,7 @@
 //! The three ports that are used.
 
 ghost use Rattle.std.specs.Prelude.{◌≡◌, ◌+◌, ◌<◌, ◌≤◌, ◌↔◌, IsSome, IfSome};
-ghost use Rattle.nbt_bench.specs.declared.ports.TheConstants.{FIRST_PORT_MOST};
+ghost use Rattle.nbt_bench.specs.Numbers.{first_port_most};
 
 /// The greatest first port: two more follow it (our profile).
 pub const FIRST_PORT_MOST: u64 = 65_533;
@@ -10,13 +10,13 @@ pub const FIRST_PORT_MOST: u64 = 65_533;
 #[derive(Clone, Copy, Debug, PartialEq, Eq)]
 pub struct Ports {
     names: u16,
-    ghost room: { (1 ≤ names) × (names ≤ FIRST_PORT_MOST) },
+    ghost room: { (1 ≤ names) × (names ≤ first_port_most) },
 }
 
 impl Ports {
     /// The three ports of which the first is `first`, which is 1 to 65,533; else none (our profile).
     pub fn new(first: u64) -> Option<Ports>
-        ensures found { IsSome result ↔ ((1 ≤ first) × (first ≤ FIRST_PORT_MOST)) }
+        ensures found { IsSome result ↔ ((1 ≤ first) × (first ≤ first_port_most)) }
         ensures names { IfSome result (λ ports. ports.names ≡ first) }
     {
         if first == 0 || first > FIRST_PORT_MOST {

@@ -1,5 +1,5 @@
 -- A lookup as a command does it (our profile).
-use Rattle.std.specs.Prelude.{ℕ, ◌+◌, ◌-◌, ◌*◌, List}
+use Rattle.std.specs.Prelude.{ℕ, ◌+◌, ◌-◌, ◌*◌, ◌^◌, List}
 use Rattle.nbt_port.specs.PortCalls.{PortCall}
 use Rattle.nbt_port.specs.Udp.{UdpValue, UdpDoes, MachineTells}
 use Rattle.nbt_lease.specs.Config.{config_of}
@@ -10,14 +10,21 @@ use Rattle.nbt_client.specs.declared.question.Question.{Question}
 use Rattle.nbt_name.specs.declared.addr.Addr.{Addr}
 use Rattle.nbt_node.specs.Calls.{started}
 use Rattle.nbt_node.specs.Node.{NodeValue}
+use Rattle.nbt_node.specs.Transaction.{sendings, retry_timeout}
 use Rattle.nbt_client.specs.Answers.{TellsEnding}
 use Rattle.nbt_client.specs.declared.answer.Answer.{Answer}
-use Rattle.nbt_client.specs.declared.asking.TheConstants.{TURNS_MOST}
-use Rattle.nbt_client.specs.declared.patience.TheConstants.{TRY}
+
+-- it asks so often at most, as a node sends any request
+abbrev pub tries_most : ℕ
+tries_most = sendings
 
 -- A lookup asks so often, one try after the other, and waits so long after the last of them.
 abbrev pub patience_of : (tries last : ℕ) → ℕ
-patience_of tries last = (tries - 1) * TRY + last
+patience_of tries last = (tries - 1) * retry_timeout + last
+
+-- It takes so many turns at most, of which each waits for one datagram: more than come in the time that it has.
+abbrev pub turns_most : ℕ
+turns_most = 2 ^ 40
 
 -- The node that asks: it holds nothing, its server is the end that is asked, and its limits are of no use.
 abbrev pub started_node : Addr → Question → ℕ → NodeValue
@@ -32,7 +39,7 @@ pub record Asks {P C : Type 0} (does : P → PortCall → P → Type 0) (tells :
   pub octets : List ℕ
   pub node : NodeValue
   pub clock_told : tells old_clock now read
-  pub looks : Looks does tells question patience TURNS_MOST old_port read (started_node own question now) ending octets port clock node
+  pub looks : Looks does tells question patience turns_most old_port read (started_node own question now) ending octets port clock node
   pub told : TellsEnding ending octets answer text
 
 -- The same, and a call of the port fails.
@@ -42,7 +49,7 @@ pub record AskFails {P C : Type 0} (does : P → PortCall → P → Type 0) (tel
   pub read : C
   pub node : NodeValue
   pub clock_told : tells old_clock now read
-  pub fails : Fails does tells question patience TURNS_MOST old_port read (started_node own question now) port clock node
+  pub fails : Fails does tells question patience turns_most old_port read (started_node own question now) port clock node
 
 -- over a UDP port of this machine that was bound to this address, and a clock of its own that begins at 0
 abbrev pub AsksHere : Addr → Question → (patience : ℕ) → Answer → List ℕ → Type 0

@@ -1,7 +1,8 @@
 //! How long a lookup waits.
 
 ghost use Rattle.std.specs.Prelude.{◌≡◌, ◌≤◌};
-ghost use Rattle.nbt_client.specs.Asking.{patience_of};
+ghost use Rattle.nbt_node.specs.Transaction.{retry_timeout};
+ghost use Rattle.nbt_client.specs.Asking.{patience_of, tries_most};
 
 /// The most sendings of a request (RFC 1002 section 6: UCAST_REQ_RETRY_COUNT).
 pub const TRIES_MOST: u32 = 3;
@@ -13,8 +14,8 @@ pub const TRY: u32 = 5_000;
 /// after the last (our profile).
 pub fn patience_of(tries: u32, last: u32) -> u32
     requires tries_at_least { 1 ≤ tries }
-    requires tries_at_most { tries ≤ TRIES_MOST }
-    requires short { last ≤ TRY }
+    requires tries_at_most { tries ≤ tries_most }
+    requires short { last ≤ retry_timeout }
     ensures { result ≡ patience_of tries last }
 {
     (tries - 1) * TRY + last

@@ -6,7 +6,7 @@ use Rattle.nbt_port.specs.PortCalls.{PortCall}
 use Rattle.nbt_port.proofs.Chains.{chain_on}
 use Rattle.nbt_node.specs.Node.{NodeValue}
 use Rattle.nbt_host.specs.declared.goal.Goal.{Goal}
-use Rattle.nbt_host.specs.declared.releasing.TheConstants.{GIVING_BACK}
+use Rattle.nbt_host.specs.Releasing.{giving_back}
 use Rattle.nbt_host.specs.Releasing.{HostValue, Releasing, TurnsOn, leaving, Breaks, is_over, Ended, Broken, Leaves}
 use Rattle.nbt_host.specs.Inner.Parts.{EndTurnIs, Passed}
 
@@ -23,5 +23,5 @@ module _ {P C : Type 0} (does : P → PortCall → P → Type 0) (tells : C → 
 -- ---- the whole
 
 pub leaves_all : {P C : Type 0} (tells : C → ℕ → C → Type 0) (goes : (limit : ℕ) → Releasing P C → Releasing P C → Type 0) (p q : P) (c d e : C) (goals left : List Goal) (node : NodeValue) (new : HostValue) (now got : ℕ) → tells c now d → left ≡ map leaving goals → got ≡ now
-    → goes (got + GIVING_BACK) (record { port = p; clock = d; host = record { goals = left; node = node } }) (record { port = q; clock = e; host = new }) → Leaves tells goes p c goals node q e new
+    → goes (got + giving_back) (record { port = p; clock = d; host = record { goals = left; node = node } }) (record { port = q; clock = e; host = new }) → Leaves tells goes p c goals node q e new
 leaves_all tells goes p q c d e goals left node new now got told are gets on = record { now = now; read = d; told = told; goes_on = rw (← are, ← gets) on }

@@ -6,7 +6,7 @@ use Rattle.nbt_port.specs.PortCalls.{PortCall}
 use Rattle.nbt_port.specs.declared.fault.Fault.{Fault}
 use Rattle.nbt_port.specs.declared.fault.Fault.TheVariants.{Device}
 use Rattle.nbt_log.specs.Dates.{second_at}
-use Rattle.nbt_port.specs.declared.limits.TheConstants.{FOREVER}
+use Rattle.nbt_port.specs.Numbers.{forever}
 use Rattle.nbt_host.specs.Releasing.{HostValue, GivesAllBack, FailsToGiveBack}
 use Rattle.nbt_host.specs.declared.goal.Goal.{Goal}
 use Rattle.nbt_host.specs.declared.goal.Stage.{Stage}
@@ -42,11 +42,11 @@ pub record Ends {P C D : Type 0} (tells : C → ℕ → C → Type 0) (gives : P
 -- the device doesn't fail in it, and it does
 abbrev pub EndsWell : {P C D : Type 0} → (P → PortCall → P → Type 0) → (C → ℕ → C → Type 0) → Addr → P → HostingValue C D → (at : ℕ) → P → HostingValue C D → Type 0
 EndsWell does tells server old_port old at port new =
-    Ends tells (λ p c h q d i. GivesAllBack does tells server FOREVER p c h.goals h.node q d i) old_port old at port new
+    Ends tells (λ p c h q d i. GivesAllBack does tells server forever p c h.goals h.node q d i) old_port old at port new
 
 abbrev pub EndsBadly : {P C D : Type 0} → (P → PortCall → P → Type 0) → (C → ℕ → C → Type 0) → Addr → P → HostingValue C D → (at : ℕ) → P → HostingValue C D → Type 0
 EndsBadly does tells server old_port old at port new =
-    Ends tells (λ p c h q d i. FailsToGiveBack does tells server FOREVER p c h.goals h.node q d i) old_port old at port new
+    Ends tells (λ p c h q d i. FailsToGiveBack does tells server forever p c h.goals h.node q d i) old_port old at port new
 
 abbrev pub GivesBack : {P C D : Type 0} → (P → PortCall → P → Type 0) → (C → ℕ → C → Type 0) → Addr → Running P C D → Running P C D → Type 0
 GivesBack does tells server old new = (at : ℕ) × EndsWell does tells server old.port old.host at new.port new.host × PrintsEnding at new.host.last new.host.host.goals old.text new.text

@@ -7,8 +7,11 @@ use Rattle.nbt_port.specs.PortCalls.{PortCall, Chain}
 use Rattle.nbt_host.specs.declared.goal.Goal.{Goal}
 use Rattle.nbt_host.specs.declared.goal.Stage.{Stage}
 use Rattle.nbt_host.specs.declared.goal.Stage.TheVariants.{Leaving, Released}
-use Rattle.nbt_host.specs.declared.releasing.TheConstants.{GIVING_BACK}
 use Rattle.nbt_host.specs.Hosting.{HostTurn, HostBreaks}
+
+-- for so many milliseconds at most it waits for the replies: three sendings, and 5 s after each (RFC 1002 section 6)
+abbrev pub giving_back : ℕ
+giving_back = 15000
 
 -- a name is to be given back
 abbrev pub leaving : Goal → Goal
@@ -72,7 +75,7 @@ pub record Leaves {P C : Type 0} (tells : C → ℕ → C → Type 0) (goes : (l
   pub now : ℕ
   pub read : C
   pub told : tells old_clock now read
-  pub goes_on : goes (now + GIVING_BACK) (record { port = old_port; clock = read; host = record { goals = map leaving goals; node = node } }) (record { port = port; clock = clock; host = new })
+  pub goes_on : goes (now + giving_back) (record { port = old_port; clock = read; host = record { goals = map leaving goals; node = node } }) (record { port = port; clock = clock; host = new })
 
 abbrev pub GivesAllBack : {P C : Type 0} → (P → PortCall → P → Type 0) → (C → ℕ → C → Type 0) → Addr → (most : ℕ) → P → C → List Goal → NodeValue → P → C → HostValue → Type 0
 GivesAllBack does tells server most old_port old_clock goals node port clock new = Leaves tells (λ limit old end. Ended does tells server limit most old end) old_port old_clock goals node port clock new

@@ -17,8 +17,11 @@ IsLife life = (1 ≤ life) × (life ≤ 60000)
 abbrev pub IsLongest : ℕ → Type 0
 IsLongest longest = (1 ≤ longest) × (longest ≤ 1000000)
 
+abbrev pub rows_most : ℕ
+rows_most = 4096
+
 abbrev pub IsRows : ℕ → Type 0
-IsRows rows = (1 ≤ rows) × (rows ≤ 4096)
+IsRows rows = (1 ≤ rows) × (rows ≤ rows_most)
 
 -- A configuration as contracts see it.
 pub record ConfigValue : Type 0 where

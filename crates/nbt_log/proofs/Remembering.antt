@@ -1,15 +1,15 @@
 -- Which line may be printed, by what the limiter remembers.
 use Rattle.std.proofs.Common.{◌≡◌, ℕ, ◌+◌, ◌-◌, ◌^◌, ◌<◌, ◌≤◌, min, length, drop, slice_index, Some, None, subst}
-use Rattle.nbt_log.specs.Limiting.{LimiterValue, Limits, told_at, has_room, is_old, leaves_out}
-use Rattle.nbt_log.specs.declared.limiter.TheConstants.{LINES_MOST, SECOND}
+use Rattle.nbt_lease.specs.Config.{milliseconds}
+use Rattle.nbt_log.specs.Limiting.{LimiterValue, lines_most, Limits, told_at, has_room, is_old, leaves_out}
 
-pub room : (old here new : LimiterValue) (now left : ℕ) → here ≡ old → length here.told < LINES_MOST → left ≡ here.left_out → new ≡ told_at here.told now → Limits old now (Some left) new
+pub room : (old here new : LimiterValue) (now left : ℕ) → here ≡ old → length here.told < lines_most → left ≡ here.left_out → new ≡ told_at here.told now → Limits old now (Some left) new
 room old here new now left same few is told = rw (is, told) (subst (λ (o : LimiterValue). Limits o now (Some here.left_out) (told_at here.told now)) same (has_room few))
 
-pub aged : (old here new : LimiterValue) (now left : ℕ) → here ≡ old → length here.told ≡ LINES_MOST → slice_index here.told 0 + SECOND ≤ now → left ≡ here.left_out → new ≡ told_at (drop 1 here.told) now
+pub aged : (old here new : LimiterValue) (now left : ℕ) → here ≡ old → length here.told ≡ lines_most → slice_index here.told 0 + milliseconds 1 ≤ now → left ≡ here.left_out → new ≡ told_at (drop 1 here.told) now
     → Limits old now (Some left) new
 aged old here new now left same full past is told = rw (is, told) (subst (λ (o : LimiterValue). Limits o now (Some here.left_out) (told_at (drop 1 here.told) now)) same (is_old full past))
 
-pub one_left_out : (old here : LimiterValue) (now left : ℕ) → here ≡ old → length here.told ≡ LINES_MOST → now < slice_index here.told 0 + SECOND → left ≡ min (here.left_out + 1) (2 ^ 64 - 1)
+pub one_left_out : (old here : LimiterValue) (now left : ℕ) → here ≡ old → length here.told ≡ lines_most → now < slice_index here.told 0 + milliseconds 1 → left ≡ min (here.left_out + 1) (2 ^ 64 - 1)
     → Limits old now None (record { told = here.told; left_out = left })
 one_left_out old here now left same full early is = rw is (subst (λ (o : LimiterValue). Limits o now None (record here { left_out = min (here.left_out + 1) (2 ^ 64 - 1) })) same (leaves_out full early))

@@ -1,7 +1,7 @@
 //! A limit for the lines of datagrams from unknown senders.
 
 ghost use Rattle.std.specs.Prelude.{◌≡◌, ◌<◌, [], length};
-ghost use Rattle.nbt_log.specs.Limiting.{Limits, told_at};
+ghost use Rattle.nbt_log.specs.Limiting.{Limits, lines_most, told_at};
 
 use arrayvec::ArrayVec;
 use nbt_lease::Moment;
@@ -58,7 +58,7 @@ impl Limiter {
 
     /// Records a printed line. Returns how many were left out since the one before.
     fn tell(&mut self, now: Moment) -> u64
-        requires room { length self.old.told < LINES_MOST }
+        requires room { length self.old.told < lines_most }
         ensures left_out { result ≡ self.old.left_out }
         ensures told { self.new ≡ told_at self.old.told now }
     {

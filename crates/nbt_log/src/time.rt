@@ -2,7 +2,7 @@
 
 ghost use Rattle.std.specs.Prelude.{◌≡◌, ◌++◌, ◌*◌, ℕ, List, OnOk, min, pos};
 ghost use Rattle.std.specs.String.{string_bytes};
-ghost use Rattle.nbt_log.specs.Dates.{IsTimeText};
+ghost use Rattle.nbt_log.specs.Dates.{IsTimeText, last_second};
 
 use jiff_core::Timestamp;
 use jiff_fmt::temporal::DateTimePrinter;
@@ -26,7 +26,7 @@ pub fn write_time(second: u64, out: &mut String) -> Result<(), AllocError>
 
 /// The instant of a second since 1970.
 fn timestamp_of(second: u64) -> Timestamp
-    ensures { result.nanosecond ≡ pos (min second LAST_SECOND * 1000000000) }
+    ensures { result.nanosecond ≡ pos (min second last_second * 1000000000) }
 {
     let nanosecond = i128::from(second.min(LAST_SECOND)) * NANOSECONDS;
     Timestamp::from_nanosecond(nanosecond).unwrap()

@@ -6,7 +6,7 @@ use Rattle.nbt_log.specs.Leases.{PrintsLeases}
 use Rattle.nbt_log.specs.declared.dates.Dates.{Dates}
 use Rattle.nbt_nbns.specs.declared.keeper.Kept.{Kept}
 use Rattle.nbt_nbns.specs.declared.keeper.Kept.TheVariants as k
-use Rattle.nbt_nbns.specs.declared.keeper.TheConstants.{SECOND}
+use Rattle.nbt_lease.specs.Config.{milliseconds}
 
 -- when it looked at the leases last, which list the place has, if it was given one, and the place
 pub record KeeperValue (L : Type 0) : Type 0 where
@@ -25,7 +25,7 @@ text_of (Some text) = Some (string_bytes text)
 -- a second has passed since the last look
 abbrev pub IsDue : Option ℕ → (now : ℕ) → Type 0
 IsDue None now = ⊤
-IsDue (Some looked) now = looked + SECOND ≤ now
+IsDue (Some looked) now = looked + milliseconds 1 ≤ now
 
 -- A look at the leases: not before a second has passed since the last. The place is given their list where it has another one.
 pub data Keeps {L : Type 0} (puts : L → List ℕ → L → Type 0) (dates : Dates) (now : ℕ) (rows : Rows) (old : KeeperValue L) : Kept → KeeperValue L → Type 0 where

@@ -5,7 +5,7 @@ use Rattle.nbt_port.specs.PortCalls.{PortCall}
 use Rattle.nbt_nbns.specs.Serving.{Breaks}
 use Rattle.nbt_port.specs.Staying.{StaysUntil, GivesUp}
 use Rattle.nbt_port.specs.Until.{IsOver}
-use Rattle.nbt_port.specs.declared.limits.TheConstants.{FOREVER}
+use Rattle.nbt_port.specs.Numbers.{forever}
 use Rattle.nbt_nbns.specs.Serving.{WatchesTurn}
 use Rattle.nbt_nbns.specs.declared.staying.Shown.{Shown}
 
@@ -49,8 +49,8 @@ WatchesLast does tells sees until old new = (shown : Shown) × Watches does tell
 
 -- It stays up for good, or until its time is over.
 abbrev pub WatchesUntil : {P C V : Type 0} → (P → PortCall → P → Type 0) → (C → ℕ → C → Type 0) → Sight V → (until : Option ℕ) → Watching P C V → Watching P C V → Type 0
-WatchesUntil does tells sees until old new = StaysUntil (WatchesOn does tells sees until) (BreaksWatching does tells) (WatchesLast does tells sees until) FOREVER old new
+WatchesUntil does tells sees until old new = StaysUntil (WatchesOn does tells sees until) (BreaksWatching does tells) (WatchesLast does tells sees until) forever old new
 
 -- It gives up before that.
 abbrev pub WatchFails : {P C V : Type 0} → (P → PortCall → P → Type 0) → (C → ℕ → C → Type 0) → Sight V → (until : Option ℕ) → Watching P C V → Watching P C V → Type 0
-WatchFails does tells sees until old new = GivesUp (WatchesOn does tells sees until) (BreaksWatching does tells) FOREVER old new
+WatchFails does tells sees until old new = GivesUp (WatchesOn does tells sees until) (BreaksWatching does tells) forever old new

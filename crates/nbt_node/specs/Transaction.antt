@@ -8,9 +8,12 @@ use Rattle.nbt_node.specs.declared.transaction.Transaction.{Transaction}
 abbrev pub sendings : ℕ
 sendings = 3
 
--- a request is sent again after 5 seconds
+-- so many milliseconds after it was sent a request is sent again (UCAST_REQ_RETRY_TIMEOUT)
+abbrev pub retry_timeout : ℕ
+retry_timeout = 5000
+
 abbrev pub next_due : ℕ → ℕ
-next_due now = now + milliseconds 5
+next_due now = now + retry_timeout
 
 -- It is to be sent once more; it was sent as often as it is, and the next sending would be due.
 abbrev pub is_next : (now tries due : ℕ) → Bool

@@ -5,14 +5,14 @@ use Rattle.nbt_port.proofs.Chains.{chain-append}
 use Rattle.nbt_port.specs.declared.fault.Fault.{Fault}
 use Rattle.nbt_port.specs.declared.fault.Fault.TheVariants as f
 use Rattle.nbt_port.specs.Staying.{GoesOn, goes_well, fails, Goes, StaysUp, GivesUp, IsCutOff, StaysUntil, takes_all, takes_the_last, EndsEarly}
-use Rattle.nbt_port.specs.declared.limits.TheConstants.{MOST_FAILURES}
+use Rattle.nbt_port.specs.Numbers.{failures_most}
 
 pub goes_none : {S X : Type 0} (turns : S → X → S → Type 0) (breaks : S → S → Type 0) (here : S) → Goes turns breaks 0 0 here here
 goes_none turns breaks here = record { outcomes = []; run = refl; count_is = refl }
 
 -- in each the row that is over, or longer, is known by another word
 pub row_over : {S X : Type 0} (turns : S → X → S → Type 0) (breaks : S → S → Type 0) (count failed row : ℕ) (old mid new : S) (x : X)
-    → row ≡ 0 → failed < MOST_FAILURES → Goes turns breaks count failed old mid → turns mid x new → Goes turns breaks (count + 1) row old new
+    → row ≡ 0 → failed < failures_most → Goes turns breaks count failed old mid → turns mid x new → Goes turns breaks (count + 1) row old new
 row_over turns breaks count failed row old mid new x is few before turn = rw is (record {
   outcomes = before.outcomes ++ Some x ∷ [];
   run = chain-append (GoesOn turns breaks) (record { here = old; failed = 0 }) (record { here = mid; failed = failed }) (record { here = new; failed = 0 })
@@ -21,7 +21,7 @@ row_over turns breaks count failed row old mid new x is few before turn = rw is 
 })
 
 pub row_longer : {S X : Type 0} (turns : S → X → S → Type 0) (breaks : S → S → Type 0) (count failed row : ℕ) (old mid new : S)
-    → row ≡ failed + 1 → failed < MOST_FAILURES → Goes turns breaks count failed old mid → breaks mid new → Goes turns breaks (count + 1) row old new
+    → row ≡ failed + 1 → failed < failures_most → Goes turns breaks count failed old mid → breaks mid new → Goes turns breaks (count + 1) row old new
 row_longer turns breaks count failed row old mid new is few before broken = rw is (record {
   outcomes = before.outcomes ++ None ∷ [];
   run = chain-append (GoesOn turns breaks) (record { here = old; failed = 0 }) (record { here = mid; failed = failed }) (record { here = new; failed = failed + 1 })

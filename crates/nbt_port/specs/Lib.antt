@@ -1,6 +1,7 @@
 pub mod Faults
 pub mod Inner
 pub mod Memory
+pub mod Numbers
 pub mod PortCalls
 pub mod Staying
 pub mod Udp

@@ -2,7 +2,7 @@
 use Rattle.std.specs.Prelude.{◌≡◌, ℕ, ◌+◌, ◌-◌, List, [], ◌∷◌, ◌++◌, map, take, Option, Some, None, Ok}
 use Rattle.nbt_name.specs.declared.addr.Addr.{Addr}
 use Rattle.nbt_port.specs.declared.memory.Datagram.{Datagram}
-use Rattle.nbt_port.specs.declared.port.TheConstants.{MOST}
+use Rattle.nbt_port.specs.Numbers.{octets_most}
 use Rattle.nbt_port.specs.PortCalls.{PortCall, nothing_came, came, receive_failed, sent, send_failed, receiving}
 
 -- ---- a port
@@ -44,7 +44,7 @@ failed port = record port { failures = port.failures + 1; fails_after = None }
 
 -- A receive hands out the first of what is to come, at most the first 2,048 octets of it: a datagram, or nothing, as at the end.
 pub data HandsOut : (incoming : List (Option Datagram)) → (found : Option Addr) → (octets : List ℕ) → (rest : List (Option Datagram)) → Type 0 where
-  datagram : (d : Datagram) (rest : List (Option Datagram)) → HandsOut (Some d ∷ rest) (Some d.addr) (take MOST d.octets.items) rest
+  datagram : (d : Datagram) (rest : List (Option Datagram)) → HandsOut (Some d ∷ rest) (Some d.addr) (take octets_most d.octets.items) rest
   nothing : (rest : List (Option Datagram)) → HandsOut (None ∷ rest) None [] rest
   at_end : HandsOut [] None [] []
 
@@ -76,7 +76,7 @@ came_in (_ ∷ acts) = came_in acts
 abbrev pub datagrams_in : List (Option Datagram) → List DatagramValue
 datagrams_in [] = []
 datagrams_in (None ∷ rest) = datagrams_in rest
-datagrams_in (Some d ∷ rest) = record { addr = d.addr; octets = take MOST d.octets.items } ∷ datagrams_in rest
+datagrams_in (Some d ∷ rest) = record { addr = d.addr; octets = take octets_most d.octets.items } ∷ datagrams_in rest
 
 -- how many receives handed out something or nothing
 abbrev pub received_in : List PortCall → ℕ

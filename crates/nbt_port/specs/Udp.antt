@@ -2,7 +2,7 @@
 use Rattle.std.specs.Prelude.{◌≡◌, ℕ, ◌≤◌, length}
 use Rattle.nbt_name.specs.declared.addr.Addr.{Addr}
 use Rattle.nbt_lease.specs.Config.{last_moment}
-use Rattle.nbt_port.specs.declared.port.TheConstants.{MOST}
+use Rattle.nbt_port.specs.Numbers.{octets_most}
 use Rattle.nbt_port.specs.PortCalls.{PortCall, came}
 
 -- the address that a port was bound to, as it was asked for, and how many of its calls have failed
@@ -12,7 +12,7 @@ pub record UdpValue : Type 0 where
 
 -- What comes has at most 2,048 octets.
 abbrev pub FitsReceive : PortCall → Type 0
-FitsReceive (came from octets) = length octets ≤ MOST
+FitsReceive (came from octets) = length octets ≤ octets_most
 FitsReceive _ = Unit {0}
 
 -- A call leaves the port where it is. Which octets a socket carries, no contract can say.

@@ -2,6 +2,7 @@
 
 ghost use Rattle.std.specs.Prelude.{◌≡◌, ℕ, ◌+◌, ◌<◌, ◌≤◌, ◌^◌, OnOk, OnErr, IfErr};
 ghost use Rattle.nbt_port.specs.declared.fault.Fault.{Fault};
+ghost use Rattle.nbt_port.specs.Numbers.{failures_most};
 ghost use Rattle.nbt_port.specs.Staying.{StaysUntil, EndsEarly, Takes};
 
 use crate::cause::Cause;
@@ -46,10 +47,10 @@ impl Row {
         machine: &M,
         errors: &mut E,
     ) -> Result<(), Device>
-        requires failed_turns { self.old.failed < MOST_FAILURES }
+        requires failed_turns { self.old.failed < failures_most }
         ensures count { self.new.failed ≡ self.old.failed + 1 }
-        ensures ok { OnOk result (self.new.failed < MOST_FAILURES) }
-        ensures err { OnErr result (self.new.failed ≡ MOST_FAILURES) }
+        ensures ok { OnOk result (self.new.failed < failures_most) }
+        ensures err { OnErr result (self.new.failed ≡ failures_most) }
     {
         self.failed += 1;
         if self.failed >= MOST_FAILURES {

@@ -2,6 +2,7 @@
 
 ghost use Rattle.std.specs.Prelude.{◌≡◌, ◌≤◌, ◌<◌, ◌^◌, ◌↔◌, [], None, Ok, IfOk, IsTrue};
 ghost use Rattle.std.specs.IoError.{error_kind};
+ghost use Rattle.nbt_port.specs.Numbers.{octets_most};
 ghost use Rattle.nbt_port.specs.PortCalls.{receiving, CountsFailure};
 ghost use Rattle.nbt_port.specs.Inner.Sockets.{IsNothing, HasNoWay, Received, Sent};
 
@@ -130,7 +131,7 @@ fn received(
     buffer: &[u8; MOST],
     octets: &mut ArrayVec<u8, 2048>,
 ) -> Result<Option<Addr>, Device>
-    requires within { IfOk answer (λ a. a.0 ≤ MOST) }
+    requires within { IfOk answer (λ a. a.0 ≤ octets_most) }
     ensures { Received answer buffer.now result octets.new.items }
 {
     octets.clear();
