@@ -8,3 +8,4 @@ pub mod Steps
 pub mod OneMove
 pub mod OneCall
 pub mod Reading
+pub mod Shifting

@@ -5,4 +5,5 @@ pub mod Node
 pub mod Moves
 pub mod Calls
 pub mod Datagrams
+pub mod Shifted
 pub mod Inner

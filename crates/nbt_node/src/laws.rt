@@ -13,6 +13,7 @@ ghost use Rattle.nbt_node.specs.Node.{NodeValue, AreDistinct, settled_node, stat
 ghost use Rattle.nbt_node.specs.Moves.{NameEvent, ask, Told, Move, NameMoves};
 ghost use Rattle.nbt_node.specs.Calls.{started, ask_refusal, Sends, Opens, Polls};
 ghost use Rattle.nbt_node.specs.Datagrams.{Handles};
+ghost use Rattle.nbt_node.specs.Shifted.{StartsAlike, SettlesAlike, MovesAlike, TellsAlike, DoesAlike};
 
 /// A state that is settled at a time stays as it is at that time.
 #[tactic(auto, using(crate::proofs::Steps::settled_twice))]
@@ -68,3 +69,15 @@ pub fn one_answer()
 {
     nbt_packet::laws::one_message_spelled();
 }
+
+/// A node whose clock shows a constant more at each time does the same, with each of its times greater by that constant: it
+/// starts so, its names and its lookup settle so, and each line of the table of moves stands. It tells the same of what it
+/// holds, and refuses each call for the same reason; else the call sends the same octets and reports the same. So nothing
+/// that a node does depends on when its clock began.
+pub fn a_shifted_node_does_the_same()
+    ensures start { (more : ℕ) → StartsAlike more }
+    ensures settling { (more : ℕ) → SettlesAlike more }
+    ensures moves { (more : ℕ) → MovesAlike more }
+    ensures telling { (more : ℕ) (node : NodeValue) (now : ℕ) (name : NameValue) → TellsAlike more node now name }
+    ensures doing { (more : ℕ) (old : NodeValue) (now : ℕ) (new : NodeValue) → DoesAlike more old now new }
+{}
