@@ -109,11 +109,11 @@ def take_line(play, host, said):
 
 
 def kill_the_server(play, host, draw):
-    """The server is killed, and started again soon. It is silent then for its longest lease."""
+    """The server is killed, and started again soon. Where it doesn't keep its leases it is silent then for its longest lease."""
     if play.server.is_up():
         play.book.counts["kills of the server"] += 1
         play.server.kill()
-    play.after(draw.uniform(0.05, 3), play.server.start)
+    play.after(draw.uniform(0, 0.3) if play.server.state else draw.uniform(0.05, 3), play.server.start)
 
 
 def flood(play, host, draw):
@@ -163,15 +163,26 @@ def to_a_host(draw, number, name, kind, address):
     return reply(number, flags, name, kind, address, ttl)
 
 
-# How many of each come in a minute, for each host, or in all.
-FOR_EACH_HOST = {kill: 0.5, kill_at_a_request: 0.5, pause: 0.75, long_pause: 0.35, cut: 1.1, bad_line: 0.4}
-IN_ALL = {kill_the_server: 0.6, cut_the_server: 0.3, flood: 2.0, stranger: 400.0}
+class Rates(NamedTuple):
+    """How many of each fault come in a minute, for each host, and in all."""
+
+    for_each_host: dict
+    in_all: dict
 
 
-def schedule(seed, seconds, hosts):
+ALL = Rates(
+    {kill: 0.5, kill_at_a_request: 0.5, pause: 0.75, long_pause: 0.35, cut: 1.1, bad_line: 0.4},
+    {kill_the_server: 0.6, cut_the_server: 0.3, flood: 2.0, stranger: 400.0},
+)
+# A server that keeps its leases is killed as often as it can be; once beside the other faults, and once beside none.
+WITH_STATE = Rates(ALL.for_each_host, ALL.in_all | {kill_the_server: 15.0})
+ONLY_THE_SERVER = Rates({}, {kill_the_server: 15.0})
+
+
+def schedule(seed, seconds, hosts, rates):
     """All events of a run, in order."""
     draw = random.Random(seed)
-    rates = {fault: rate * hosts for fault, rate in FOR_EACH_HOST.items()} | IN_ALL
+    rates = {fault: rate * hosts for fault, rate in rates.for_each_host.items()} | rates.in_all
     events = []
     for fault, rate in rates.items():
         at = draw.expovariate(rate / 60)

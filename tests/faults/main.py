@@ -1,13 +1,15 @@
 """Plays a run in the namespaces that `run` made, judges it, and prints what came of it.
 
-    main.py RUN NET NBT WORK MINUTES SEED HOSTS RIVAL CONTROL
+    main.py RUN NET NBT WORK MINUTES SEED HOSTS RIVAL CONTROL STATE
 
-RIVAL is `nmbd` or empty; CONTROL is 1 where a premise is broken, so that the judge has to see two holders.
+RIVAL is `nmbd` or empty; CONTROL is 1 where a premise is broken, so that the judge has to see two holders. STATE is empty where the
+server doesn't keep its leases; `all` where it does, and `server` where it alone is killed beside.
 """
 
 import sys
 import time
 
+import faults
 import judge
 from cases import CASES, wrong_cases
 from packets import GROUP, UNIQUE
@@ -79,9 +81,34 @@ class Report:
         self.row("the server told nothing else than what a holder said", otherwise)
         self.row("no health check was lost", wrong["health"])
         self.row("no program ended by itself", wrong["ended"])
-        self.row("each name that one may hold was held by several hosts, one after the other", self.names_of_few(play.contended))
+        if play.server.state:
+            self.rows_of_state()
+        if not self.is_calm_beside():
+            self.row("each name that one may hold was held by several hosts, one after the other", self.names_of_few(play.contended))
         self.row("each group was held by several hosts at once", [name for name in GROUPS if not self.is_shared(name)])
         self.row("after the faults each name was held, and each group by all hosts", [] if play.settled else ["not after 90 s"])
+
+    def is_calm_beside(self):
+        """Whether nothing but the server is touched by faults, so that no host has a reason to lose a name."""
+        return self.play.rates is faults.ONLY_THE_SERVER
+
+    def rows_of_state(self):
+        """What holds where the server keeps its leases."""
+        starts = self.play.server.life - 1
+        kept = self.book.counts["starts with leases kept"]
+        self.row(f"each of {starts} starts of the server had its leases", [*self.book.wrong["silent"], *self.starts_without(starts, kept)])
+        if self.is_calm_beside():
+            endings = [line for line in self.book.lines if line.event in judge.ENDINGS and line.at > self.play.begun]
+            by_itself = [f"{line.host} {line.event} {line.name} at {self.at(line.at)}" for line in endings if not self.gave_back(line)]
+            self.row("no host lost a name", by_itself)
+
+    def starts_without(self, starts, kept):
+        """What is wrong where fewer starts said that leases were kept than there were."""
+        return [] if starts == kept else [f"{kept} of {starts} said so"]
+
+    def gave_back(self, line):
+        """Whether a host gave the name back, since its own time was over."""
+        return line.event in ("given back", "give-back denied", "give-back unconfirmed")
 
     def names_of_few(self, names):
         """The names that no two hosts held for sure, one after the other."""
@@ -130,9 +157,13 @@ class Report:
             say(f"    {self.tell_pair(pair)}")
 
 
-def main(run, net, nbt, work, minutes, seed, hosts, rival, control):
+RATES = {"": faults.ALL, "all": faults.WITH_STATE, "server": faults.ONLY_THE_SERVER}
+
+
+def main(run, net, nbt, work, minutes, seed, hosts, rival, control, state):
     """Plays, and judges."""
-    play = Play(run, net, nbt, work, seed, 2 if control else int(hosts), 20 if control else 10, rival)
+    folder = f"{work}/state" if state else None
+    play = Play(run, net, nbt, work, seed, 2 if control else int(hosts), 20 if control else 10, rival, RATES[state], folder)
     try:
         play.control() if control else play.run(float(minutes) * 60)
         report = Report(play)

@@ -28,20 +28,21 @@ QUIET = 90  # for how many seconds the hosts may take to get all free names once
 class Play:
     """The machines, what runs on them, and what is to be done when."""
 
-    def __init__(self, run, net, nbt, work, seed, hosts, longest, rival):
+    def __init__(self, run, net, nbt, work, seed, hosts, longest, rival, rates, state):
         self.book = Book(f"{work}/log")
         self.nbt, self.seed, self.longest, self.contended = nbt, seed, longest, [*CONTENDED, MIXED]
         self.poll, self.heard = selectors.DefaultSelector(), {}
         self.tasks, self.ids, self.turns = [], count(), count()
         self.bad, self.cut = set(), set()
-        self.calm, self.settled = 0, False
+        self.rates, self.begun, self.calm, self.settled = rates, 0, 0, False
         self.armed, self.asked, self.checks = {}, {}, {}
 
         def machine(name, number):
             return network.Machine(run, name, net, number)
 
         self.user, self.stranger = machine("user", 2), machine("stranger", 3)
-        self.server = Server(machine("server", 1), self.book, self.poll, nbt, ["--life", LIFE, "--log"], longest)
+        self.server = Server(machine("server", 1), self.book, self.poll, nbt, ["--life", LIFE, "--log"], longest, state)
+        self.server.on_start = self.ask_server_for_all
         self.hosts = [self.host(machine(f"h{number}", 10 + number)) for number in range(1, hosts + 1)]
         if rival:
             last = self.hosts[-1].machine
@@ -214,9 +215,17 @@ class Play:
     # Questions to the server.
 
     def ask_server(self):
-        """Has `nbt lookup` ask the server for the next name."""
+        """Has the server asked for the next name."""
         names = [*self.contended, *GROUPS]
-        name = names[next(self.turns) % len(names)]
+        self.ask_server_for(names[next(self.turns) % len(names)])
+
+    def ask_server_for_all(self):
+        """Has the server asked for each name at once, as after a start with its leases."""
+        for name in [*self.contended, *GROUPS]:
+            self.ask_server_for(name)
+
+    def ask_server_for(self, name):
+        """Has `nbt lookup` ask the server for a name."""
         asked = time.monotonic()
         words = ["lookup", name, "--server", self.server.machine.address, "--tries", "1", "--wait", "900ms"]
         self.on_end(network.starts(self.user.namespace, self.nbt, *words), lambda said: self.on_told(asked, name, said))
@@ -278,10 +287,14 @@ class Play:
     def run(self, seconds):
         """The faults, for so many seconds, and then a time without any."""
         self.begin()
-        for event in faults.schedule(self.seed, seconds, len(self.hosts)):
-            self.play_until(self.book.begun + event.at)
+        if self.server.state:
+            # Its first start is silent. From then on it has leases to keep.
+            self.play_until(self.book.begun + self.longest + 10)
+        self.begun = begun = time.monotonic()
+        for event in faults.schedule(self.seed, seconds, len(self.hosts), self.rates):
+            self.play_until(begun + event.at)
             event.fault(self, self.hosts[event.target], event.draw)
-        self.play_until(self.book.begun + seconds)
+        self.play_until(begun + seconds)
         for name, tap in list(self.armed.items()):
             self.disarm(name, tap)
         self.calm = time.monotonic()

@@ -11,6 +11,9 @@ import time
 import network
 from judge import Line
 
+# How `nbt nbns` begins where it had its leases still.
+LEASES_KEPT = re.compile(r"^serving \S+, with ([0-9]+) leases? kept$")
+
 # A line of `nbt host` about a name, as docs/PROTOCOL.md has it. Which suffix the name has plays no part.
 ABOUT_A_NAME = re.compile(
     r"^\S+Z (granted|renewed|refused|asks again for|lost|lapsed|given back|give-back denied|give-back unconfirmed|not held)"
@@ -128,15 +131,28 @@ class Program:
 class Server(Program):
     """`nbt nbns`."""
 
-    def __init__(self, machine, book, poll, nbt, limits, longest):
+    def __init__(self, machine, book, poll, nbt, limits, longest, state):
         super().__init__(machine, book, poll)
-        self.nbt, self.limits, self.longest = nbt, limits, longest
+        self.nbt, self.limits, self.longest, self.state = nbt, limits, longest, state
+        self.on_start = None
 
     def words(self):
-        return [self.nbt, "nbns", "--bind", self.machine.address, *self.limits, "--longest", f"{self.longest}s"]
+        kept = ["--state", self.state] if self.state else []
+        return [self.nbt, "nbns", "--bind", self.machine.address, *self.limits, "--longest", f"{self.longest}s", *kept]
 
     def silence(self):
-        return self.longest
+        return 0 if self.state and self.life > 1 else self.longest
+
+    def read_line(self, at, text):
+        if not self.state or not text.startswith(("serving ", "silent ")):
+            return
+        if kept := LEASES_KEPT.match(text):
+            self.book.counts["starts with leases kept"] += 1
+            self.book.counts["leases kept"] += int(kept[1])
+        elif self.life > 1:
+            self.book.wrong["silent"].append(f"start {self.life}: {text}")
+        if self.on_start:
+            self.on_start()
 
 
 class Host(Program):
