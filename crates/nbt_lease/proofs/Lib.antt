@@ -12,3 +12,4 @@ pub mod Flat
 pub mod Agreeing
 pub mod Placing
 pub mod Least
+pub mod Restored

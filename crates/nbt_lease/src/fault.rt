@@ -1,7 +1,7 @@
-//! What a configuration can have wrong, and why a name isn't granted.
+//! What a configuration can have wrong, why a name isn't granted, and why kept leases can't be restored.
 
 ghost use Rattle.std.specs.Prelude.{◌≡◌};
-ghost use Rattle.nbt_lease.specs.Numbers.{config_fault_number, grant_fault_number};
+ghost use Rattle.nbt_lease.specs.Numbers.{config_fault_number, grant_fault_number, restore_fault_number};
 
 use thiserror::Error;
 
@@ -60,6 +60,34 @@ impl GrantFault {
             GrantFault::TableFull => 2,
             GrantFault::GroupFull => 3,
             GrantFault::OutOfMemory => 4,
+        }
+    }
+}
+
+/// Why no table is made of rows that were kept (our profile's numbers and order).
+#[derive(Clone, Copy, Debug, PartialEq, Eq, Error)]
+pub enum RestoreFault {
+    /// 1: more of them live than the table may hold.
+    #[error("TableFull")]
+    TableFull,
+    /// 2: a name's live leases are none that a table can have: two of one address, one that is unique beside another, more
+    /// than 1,000, or one that expires later than the longest lease that is granted now.
+    #[error("Unsound")]
+    Unsound,
+    /// 3: out of memory.
+    #[error("OutOfMemory")]
+    OutOfMemory,
+}
+
+impl RestoreFault {
+    /// The number of the fault, 1 to 3 (our profile).
+    pub fn number(self) -> u8
+        ensures { result ≡ restore_fault_number self }
+    {
+        match self {
+            RestoreFault::TableFull => 1,
+            RestoreFault::Unsound => 2,
+            RestoreFault::OutOfMemory => 3,
         }
     }
 }

@@ -1,7 +1,7 @@
 //! Names that are leased for a time: times, the limits that server and nodes share, and the name server's table of leases.
 //!
-//! A lease is a name's address, kind and expiry. It lives until its expiry, and no longer at it. Only `Table::grant` takes
-//! memory.
+//! A lease is a name's address, kind and expiry. It lives until its expiry, and no longer at it. Only `Table::grant` and
+//! `Table::restore` take memory.
 #![tactic(auto)]
 
 mod both;
@@ -15,11 +15,12 @@ mod looks;
 mod members;
 mod moment;
 mod named;
+mod restoring;
 mod standing;
 mod table;
 
 pub use config::{Config, LIFE_MOST, LONGEST_MOST, ROWS_MOST};
-pub use fault::{ConfigFault, GrantFault};
+pub use fault::{ConfigFault, GrantFault, RestoreFault};
 pub use lease::{Grant, Lease, Released};
 pub use looks::Looks;
 pub use members::Members;

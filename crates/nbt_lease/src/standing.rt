@@ -21,7 +21,7 @@ pub(crate) struct Standing {
 }
 
 impl Standing {
-    ghost use Rattle.nbt_lease.specs.Inner.Standing.{StandsIn};
+    ghost use Rattle.nbt_lease.specs.Inner.Standing.{StandsIn, MayStand};
     ghost use Rattle.nbt_lease.specs.Lease.{members_most};
     ghost use Rattle.nbt_lease.specs.Rules.{Asked, IsAllowed};
 
@@ -68,5 +68,18 @@ impl Standing {
         ensures { IsTrue result ↔ (members_most ≤ self.now.members) }
     {
         self.members >= MEMBERS_MOST
+    }
+
+    /// Whether a lease of this kind and of the requester may stand last among the name's.
+    pub fn admits(&self, kind: Kind) -> bool
+        ensures { (leases : List Lease) (lease : Lease) → StandsIn lease.addr leases self.now → lease.kind ≡ kind → IsTrue result ↔ MayStand lease leases }
+    {
+        if let Kind::Unique = kind {
+            return self.members == 0;
+        }
+        if self.own || !self.group {
+            return false;
+        }
+        self.members < MEMBERS_MOST
     }
 }

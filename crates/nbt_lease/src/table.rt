@@ -1,6 +1,6 @@
 //! The table of leases.
 
-ghost use Rattle.std.specs.Prelude.{◌≡◌, ◌≢◌, ℕ, ◌+◌, ◌<◌, ◌≤◌, [], ◌++◌, length, filter, OnOk, OnErr};
+ghost use Rattle.std.specs.Prelude.{◌≡◌, ◌≢◌, ℕ, ◌+◌, ◌<◌, ◌≤◌, ◌↔◌, [], ◌++◌, length, filter, IsOk, IfOk, IsErrOf, OnOk, OnErr};
 ghost use Rattle.std.specs.List.{IsDistinct};
 ghost use Rattle.std.specs.Map.{keys_of};
 ghost use Rattle.nbt_name.specs.Wire.{NameValue, same_name};
@@ -11,12 +11,13 @@ ghost use Rattle.nbt_lease.specs.Inner.Placing.{HoldsLive, MayBegin, Places};
 ghost use Rattle.nbt_lease.specs.Inner.Index.{members_of, rows_of};
 
 use crate::config::Config;
-use crate::fault::GrantFault;
+use crate::fault::{GrantFault, RestoreFault};
 use crate::index::Index;
 use crate::lease::{Grant, Lease, Released};
 use crate::looks::Looks;
 use crate::members::Members;
 use crate::moment::Moment;
+use crate::restoring::{begin_live, count_live};
 use crate::standing::Standing;
 use nbt_name::{Kind, Name};
 use std::alloc::{AllocError, Global};
@@ -64,6 +65,41 @@ impl Table {
             last: Moment::zero(),
             index: Index::new(alloc),
         }
+    }
+
+    /// A table of those of these rows that live at `now`, those of a name in their order. Its last time is `now`. Refused in
+    /// this order (our profile):
+    /// - `TableFull` (1): more of them live than the limits allow.
+    /// - `Unsound` (2): a name's live leases are none that a table can have at `now`: two of one address, one that is unique
+    ///   beside another, more than 1,000, or one that expires later than the longest lease that is granted now.
+    /// - `OutOfMemory` (3): out of memory, before all were looked at.
+    pub fn restore(
+        alloc: Global,
+        config: Config,
+        now: Moment,
+        rows: &[(Name, Lease)],
+    ) -> Result<Table, RestoreFault>
+        ensures leases { IfOk result (λ table. leases_at now table.rows ≡ leases_at now rows.now) }
+        ensures config { IfOk result (λ table. table.config ≡ config) }
+        ensures last { IfOk result (λ table. table.last ≡ now) }
+
+        // When it is refused.
+        ensures sound { IsOk result → IsSound config now (leases_at now rows.now) }
+        ensures full { IsErrOf result RestoreFault.TableFull ↔ (config.rows < live_count now rows.now) }
+        ensures unsound { IsErrOf result RestoreFault.Unsound → ¬ IsSound config now (leases_at now rows.now) }
+    {
+        let ms = now.get();
+        if count_live(rows, ms) > config.rows() {
+            return Err(RestoreFault::TableFull);
+        }
+        let latest = ms + 1000 * u64::from(config.longest());
+        let mut index = Index::new(alloc);
+        begin_live(&mut index, ms, latest, rows)?;
+        Ok(Table {
+            config,
+            last: now,
+            index,
+        })
     }
 
     /// The limits.

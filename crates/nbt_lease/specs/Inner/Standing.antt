@@ -1,8 +1,8 @@
 -- How a requester stands with a name, as the code finds it (private functions alone).
-use Rattle.std.specs.Prelude.{◌≡◌, ℕ, ◌↔◌, true, false, IsTrue, List, ◌∷◌, ◌++◌, length}
+use Rattle.std.specs.Prelude.{◌≡◌, ℕ, ◌<◌, ◌↔◌, true, false, IsTrue, List, [], ◌∷◌, ◌++◌, length}
 use Rattle.nbt_lease.specs.declared.standing.Standing.{Standing}
 use Rattle.nbt_lease.specs.declared.lease.Lease.{Lease}
-use Rattle.nbt_lease.specs.Lease.{HasNone, AreGroup}
+use Rattle.nbt_lease.specs.Lease.{HasNone, AreGroup, AreOneKind, members_most}
 
 -- An address has one of these leases.
 pub record HasOne (addr : ℕ) (leases : List Lease) : Type 0 where
@@ -18,3 +18,9 @@ pub record StandsIn (addr : ℕ) (leases : List Lease) (standing : Standing) : T
   pub group : IsTrue standing.group ↔ AreGroup leases
   pub own : standing.own ≡ true → HasOne addr leases
   pub none : standing.own ≡ false → HasNone addr leases
+
+-- A lease of a further address may stand last among these.
+pub record MayStand (lease : Lease) (leases : List Lease) : Type 0 where
+  pub none : HasNone lease.addr leases
+  pub room : length leases < members_most
+  pub one_kind : AreOneKind (leases ++ lease ∷ [])
