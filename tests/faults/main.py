@@ -1,9 +1,9 @@
 """Plays a run in the namespaces that `run` made, judges it, and prints what came of it.
 
-    main.py RUN NET NBT WORK MINUTES SEED HOSTS RIVAL CONTROL STATE
+    main.py RUN NET NBT WORK MINUTES SEED HOSTS RIVAL CONTROL STATE DISK
 
 RIVAL is `nmbd` or empty; CONTROL is 1 where a premise is broken, so that the judge has to see two holders. STATE is empty where the
-server doesn't keep its leases; `all` where it does, and `server` where it alone is killed beside.
+server doesn't keep its leases; `all` where it does, and `server` where it alone is killed beside. DISK is empty, or the library by which what wasn't synced is lost when it is killed.
 """
 
 import sys
@@ -160,10 +160,11 @@ class Report:
 RATES = {"": faults.ALL, "all": faults.WITH_STATE, "server": faults.ONLY_THE_SERVER}
 
 
-def main(run, net, nbt, work, minutes, seed, hosts, rival, control, state):
+def main(run, net, nbt, work, minutes, seed, hosts, rival, control, state, disk):
     """Plays, and judges."""
     folder = f"{work}/state" if state else None
-    play = Play(run, net, nbt, work, seed, 2 if control else int(hosts), 20 if control else 10, rival, RATES[state], folder)
+    longest = 20 if control else 10
+    play = Play(run, net, nbt, work, seed, 2 if control else int(hosts), longest, rival, RATES[state], folder, disk)
     try:
         play.control() if control else play.run(float(minutes) * 60)
         report = Report(play)

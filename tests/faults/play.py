@@ -28,7 +28,7 @@ QUIET = 90  # for how many seconds the hosts may take to get all free names once
 class Play:
     """The machines, what runs on them, and what is to be done when."""
 
-    def __init__(self, run, net, nbt, work, seed, hosts, longest, rival, rates, state):
+    def __init__(self, run, net, nbt, work, seed, hosts, longest, rival, rates, state, disk):
         self.book = Book(f"{work}/log")
         self.nbt, self.seed, self.longest, self.contended = nbt, seed, longest, [*CONTENDED, MIXED]
         self.poll, self.heard = selectors.DefaultSelector(), {}
@@ -41,7 +41,7 @@ class Play:
             return network.Machine(run, name, net, number)
 
         self.user, self.stranger = machine("user", 2), machine("stranger", 3)
-        self.server = Server(machine("server", 1), self.book, self.poll, nbt, ["--life", LIFE, "--log"], longest, state)
+        self.server = Server(machine("server", 1), self.book, self.poll, nbt, ["--life", LIFE, "--log"], longest, state, disk)
         self.server.on_start = self.ask_server_for_all
         self.hosts = [self.host(machine(f"h{number}", 10 + number)) for number in range(1, hosts + 1)]
         if rival:

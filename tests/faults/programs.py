@@ -131,14 +131,15 @@ class Program:
 class Server(Program):
     """`nbt nbns`."""
 
-    def __init__(self, machine, book, poll, nbt, limits, longest, state):
+    def __init__(self, machine, book, poll, nbt, limits, longest, state, disk):
         super().__init__(machine, book, poll)
-        self.nbt, self.limits, self.longest, self.state = nbt, limits, longest, state
+        self.nbt, self.limits, self.longest, self.state, self.disk = nbt, limits, longest, state, disk
         self.on_start = None
 
     def words(self):
         kept = ["--state", self.state] if self.state else []
-        return [self.nbt, "nbns", "--bind", self.machine.address, *self.limits, "--longest", f"{self.longest}s", *kept]
+        disk = ["env", f"LD_PRELOAD={self.disk}", f"DISK_FOLDER={self.state}"] if self.disk else []
+        return [*disk, self.nbt, "nbns", "--bind", self.machine.address, *self.limits, "--longest", f"{self.longest}s", *kept]
 
     def silence(self):
         return 0 if self.state and self.life > 1 else self.longest
