@@ -6,7 +6,8 @@ use Rattle.nbt_node.specs.Node.{NodeValue, slots_most}
 use Rattle.nbt_lease.specs.Config.{ConfigValue}
 use Rattle.nbt_server.specs.Serving.{ServerValue}
 use Rattle.nbt_server.specs.Calls.{ServerStarts}
-use Rattle.nbt_port.specs.Udp.{UdpValue, MachineTells}
+use Rattle.nbt_port.specs.Clocks.{MachineTells}
+use Rattle.nbt_port.specs.Udp.{UdpValue}
 use Rattle.nbt_bench.specs.Here.{Here}
 use Rattle.nbt_bench.specs.Node.{Running, NodeBegins}
 use Rattle.nbt_bench.specs.Serve.{Serving, Begins}

@@ -11,7 +11,8 @@ use Rattle.nbt_client.specs.Turning.{TakesTurn, BreaksTurn}
 use Rattle.nbt_client.specs.declared.turning.Seen.{Seen}
 use Rattle.nbt_client.specs.declared.turning.Seen.TheVariants as s
 use Rattle.nbt_client.specs.declared.turning.Want.{Want}
-use Rattle.nbt_port.specs.Udp.{UdpDoes, MachineTells}
+use Rattle.nbt_port.specs.Clocks.{MachineTells}
+use Rattle.nbt_port.specs.Udp.{UdpDoes}
 use Rattle.nbt_port.specs.declared.fault.Fault.{Fault}
 use Rattle.nbt_port.specs.declared.fault.Fault.TheVariants as f
 use Rattle.nbt_bench.specs.Here.{Here}

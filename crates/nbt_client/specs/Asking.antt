@@ -1,7 +1,8 @@
 -- A lookup as a command does it (our profile).
 use Rattle.std.specs.Prelude.{ℕ, ◌+◌, ◌-◌, ◌*◌, ◌^◌, List}
 use Rattle.nbt_port.specs.PortCalls.{PortCall}
-use Rattle.nbt_port.specs.Udp.{UdpValue, UdpDoes, MachineTells}
+use Rattle.nbt_port.specs.Clocks.{SteadyTells, SteadyBegins, SystemShows}
+use Rattle.nbt_port.specs.Udp.{UdpValue, UdpDoes}
 use Rattle.nbt_lease.specs.Config.{config_of}
 use Rattle.nbt_client.specs.Questions.{end_of}
 use Rattle.nbt_client.specs.Lookups.{Looks, Fails}
@@ -51,12 +52,12 @@ pub record AskFails {P C : Type 0} (does : P → PortCall → P → Type 0) (tel
   pub clock_told : tells old_clock now read
   pub fails : Fails does tells question patience turns_most old_port read (started_node own question now) port clock node
 
--- over a UDP port of this machine that was bound to this address, and a clock of its own that begins at 0
+-- over a UDP port of this machine that was bound to this address, and its steady clock
 abbrev pub AsksHere : Addr → Question → (patience : ℕ) → Answer → List ℕ → Type 0
-AsksHere own question patience answer text = (port : UdpValue) × (clock : ℕ)
-    × Asks UdpDoes MachineTells own question patience (record { addr = own; failures = 0 }) 0 answer text port clock
+AsksHere own question patience answer text = (first : ℕ) × (port : UdpValue) × (clock : ℕ) × SteadyBegins SystemShows first
+    × Asks UdpDoes (SteadyTells SystemShows) own question patience (record { addr = own; failures = 0 }) first answer text port clock
 
 -- the same, and a call of that port fails
 abbrev pub AskFailsHere : Addr → Question → (patience : ℕ) → Type 0
-AskFailsHere own question patience = (port : UdpValue) × (clock : ℕ)
-    × AskFails UdpDoes MachineTells own question patience (record { addr = own; failures = 0 }) 0 port clock
+AskFailsHere own question patience = (first : ℕ) × (port : UdpValue) × (clock : ℕ) × SteadyBegins SystemShows first
+    × AskFails UdpDoes (SteadyTells SystemShows) own question patience (record { addr = own; failures = 0 }) first port clock

@@ -4,7 +4,8 @@ use Rattle.std.specs.List.{list_all}
 use Rattle.std.specs.Io.KnownBytes.{Appends}
 use Rattle.nbt_name.specs.declared.addr.Addr.{Addr}
 use Rattle.nbt_port.specs.PortCalls.{PortCall}
-use Rattle.nbt_port.specs.Udp.{UdpValue, UdpDoes, MachineTells}
+use Rattle.nbt_port.specs.Clocks.{MachineTells, SteadyTells, SteadyBegins, SystemShows}
+use Rattle.nbt_port.specs.Udp.{UdpValue, UdpDoes}
 use Rattle.nbt_port.specs.declared.fault.Fault.{Fault}
 use Rattle.nbt_host.specs.Goals.{is_held}
 use Rattle.nbt_host.specs.Begin.{begin_text}
@@ -50,12 +51,12 @@ HostsOver does tells tells_day at a all old_port steady day old_text port text =
 abbrev pub HostOverFails : {P C D : Type 0} → (P → PortCall → P → Type 0) → (C → ℕ → C → Type 0) → (D → ℕ → D → Type 0) → (at : Addr) → HostArguments → Fault → P → C → D → (old_text : Option (List ℕ)) → P → (text : Option (List ℕ)) → Type 0
 HostOverFails does tells tells_day at a fault old_port steady day old_text port text = Begins tells tells_day at a (λ until old new. RunFails does tells tells_day a until fault old new) old_port steady day old_text port text
 
--- over a UDP port of this machine that was bound to this address, a clock of its own that begins at 0, and its time of day
+-- over a UDP port of this machine that was bound to this address, its steady clock, and its time of day
 abbrev pub Here : HostArguments → (UdpValue → ℕ → ℕ → UdpValue → Addr → Type 0) → Type 0
-Here a goes = (at : Addr) × (day : ℕ) × (port : UdpValue) × goes (record { addr = a.bind; failures = 0 }) 0 day port at
+Here a goes = (at : Addr) × (steady : ℕ) × (day : ℕ) × (port : UdpValue) × SteadyBegins SystemShows steady × goes (record { addr = a.bind; failures = 0 }) steady day port at
 
 abbrev pub HostsHere : HostArguments → (all : Bool) → (old_text text : Option (List ℕ)) → Type 0
-HostsHere a all old_text text = Here a (λ old_port steady day port at. HostsOver UdpDoes MachineTells MachineTells at a all old_port steady day old_text port text)
+HostsHere a all old_text text = Here a (λ old_port steady day port at. HostsOver UdpDoes (SteadyTells SystemShows) MachineTells at a all old_port steady day old_text port text)
 
 abbrev pub HostFailsHere : HostArguments → Fault → (old_text text : Option (List ℕ)) → Type 0
-HostFailsHere a fault old_text text = Here a (λ old_port steady day port at. HostOverFails UdpDoes MachineTells MachineTells at a fault old_port steady day old_text port text)
+HostFailsHere a fault old_text text = Here a (λ old_port steady day port at. HostOverFails UdpDoes (SteadyTells SystemShows) MachineTells at a fault old_port steady day old_text port text)

@@ -5,7 +5,8 @@ use Rattle.nbt_name.specs.declared.addr.Addr.{Addr}
 use Rattle.nbt_lease.specs.Config.{milliseconds}
 use Rattle.nbt_server.specs.Serving.{ServerValue}
 use Rattle.nbt_server.specs.Calls.{ServerStarts}
-use Rattle.nbt_port.specs.Udp.{UdpValue, MachineTells}
+use Rattle.nbt_port.specs.Clocks.{MachineTells, SteadyTells, SteadyBegins, SystemShows}
+use Rattle.nbt_port.specs.Udp.{UdpValue}
 use Rattle.nbt_log.specs.Dates.{second_at}
 use Rattle.nbt_log.specs.Limiting.{LimiterValue}
 use Rattle.nbt_log.specs.declared.dates.Dates.{Dates}
@@ -25,12 +26,13 @@ pub is_at_first : (a : NbnsArguments) (start time day clock : ℕ) (port : UdpVa
     → ◌≡◌ {A = Nbns} (record { port = port; clock = clock; server = server; watcher = record { dates = record { moment = start; time = time }; day = day; log = log; leases = leases }; text = text }) (at_first a start time server text)
 is_at_first a start time day clock port server log leases text p c d l k = cc
 
-pub begins : (a : NbnsArguments) (goes : (start : ℕ) → Nbns → Nbns → Type 0) (old_text begun_text text : Option (List ℕ)) (start day time : ℕ) (first : ServerValue) (here new : Nbns)
-    → MachineTells 0 start start → MachineTells day time time
+pub begins : (a : NbnsArguments) (goes : (start : ℕ) → Nbns → Nbns → Type 0) (old_text begun_text text : Option (List ℕ)) (boot start day time : ℕ) (first : ServerValue) (here new : Nbns)
+    → SteadyBegins SystemShows boot → ((read : ℕ) × SteadyTells SystemShows boot start read) → MachineTells day time time
     → ((at : Addr) × (line : List ℕ) × IsBegin at a.config.longest (second_at (record { moment = start; time = time }) (start + milliseconds a.config.longest)) line × Appends old_text begun_text line)
     → ServerStarts a.config start first → here ≡ at_first a start time first begun_text → new.text ≡ text → goes start here new → Begins a goes old_text text
-begins a goes old_text begun_text text start day time first here new start_told time_told is_first starts is text_is run = record {
+begins a goes old_text begun_text text boot start day time first here new begun start_told time_told is_first starts is text_is run = record {
   at = is_first.0;
+  boot = boot;
   start = start;
   day = day;
   time = time;
@@ -41,7 +43,8 @@ begins a goes old_text begun_text text start day time first here new start_told 
   clock = new.clock;
   last = new.server;
   journal = new.watcher;
-  start_told = start_told;
+  begins = begun;
+  start_told = let told = start_told.1 in record { reading = told.reading; shown = told.shown; moment_is = told.moment_is; never_back = told.never_back; keeps = refl };
   time_told = time_told;
   is_first = is_first.2;
   printed = is_first.3;

@@ -7,7 +7,8 @@ use Rattle.nbt_lease.specs.Config.{milliseconds}
 use Rattle.nbt_server.specs.Serving.{ServerValue}
 use Rattle.nbt_server.specs.Calls.{ServerStarts}
 use Rattle.nbt_port.specs.PortCalls.{PortCall}
-use Rattle.nbt_port.specs.Udp.{UdpValue, UdpDoes, MachineTells}
+use Rattle.nbt_port.specs.Clocks.{MachineTells, SteadyTells, SteadyBegins, SystemShows}
+use Rattle.nbt_port.specs.Udp.{UdpValue, UdpDoes}
 use Rattle.nbt_port.specs.Until.{until_of}
 use Rattle.nbt_log.specs.Dates.{second_at}
 use Rattle.nbt_log.specs.Limiting.{LimiterValue}
@@ -40,9 +41,10 @@ leases_of (Some path) = Some (new_keeper (file_of (string_bytes path)))
 abbrev pub Nbns : Type 0
 Nbns = Watching UdpValue ℕ (Journal ℕ FileValue)
 
--- Both clocks are read, the first line is printed, and a server starts, which is watched from then on.
+-- The steady clock begins, both clocks are read, the first line is printed, and a server starts, which is watched from then on.
 pub record Begins (a : NbnsArguments) (goes : (start : ℕ) → Nbns → Nbns → Type 0) (old_text text : Option (List ℕ)) : Type 0 where
   pub at : Addr
+  pub boot : ℕ
   pub start : ℕ
   pub day : ℕ
   pub time : ℕ
@@ -53,7 +55,8 @@ pub record Begins (a : NbnsArguments) (goes : (start : ℕ) → Nbns → Nbns �
   pub clock : ℕ
   pub last : ServerValue
   pub journal : Journal ℕ FileValue
-  pub start_told : MachineTells 0 start start
+  pub begins : SteadyBegins SystemShows boot
+  pub start_told : SteadyTells SystemShows boot start start
   pub time_told : MachineTells day time time
   pub is_first : IsBegin at a.config.longest (second_at (record { moment = start; time = time }) (start + milliseconds a.config.longest)) line
   pub printed : Appends old_text begun_text line
@@ -64,8 +67,8 @@ pub record Begins (a : NbnsArguments) (goes : (start : ℕ) → Nbns → Nbns �
 
 -- it stays up, or its time is over
 abbrev pub RunsNbns : NbnsArguments → (old_text text : Option (List ℕ)) → Type 0
-RunsNbns a old_text text = Begins a (λ start. WatchesUntil (PortDoes a.strict) MachineTells (Journals MachineTells Stays) (until_of start a.time)) old_text text
+RunsNbns a old_text text = Begins a (λ start. WatchesUntil (PortDoes a.strict) (SteadyTells SystemShows) (Journals MachineTells Stays) (until_of start a.time)) old_text text
 
 -- it gives up
 abbrev pub NbnsFails : NbnsArguments → (old_text text : Option (List ℕ)) → Type 0
-NbnsFails a old_text text = Begins a (λ start. WatchFails (PortDoes a.strict) MachineTells (Journals MachineTells Stays) (until_of start a.time)) old_text text
+NbnsFails a old_text text = Begins a (λ start. WatchFails (PortDoes a.strict) (SteadyTells SystemShows) (Journals MachineTells Stays) (until_of start a.time)) old_text text

@@ -1,3 +1,4 @@
+pub mod Clocks
 pub mod Faults
 pub mod Inner
 pub mod Memory

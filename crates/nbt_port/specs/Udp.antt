@@ -1,7 +1,6 @@
--- A port over UDP, and the machine's clock: as much as can be said of them (our profile).
+-- A port over UDP: as much as can be said of it (our profile).
 use Rattle.std.specs.Prelude.{◌≡◌, ℕ, ◌≤◌, length}
 use Rattle.nbt_name.specs.declared.addr.Addr.{Addr}
-use Rattle.nbt_lease.specs.Config.{last_moment}
 use Rattle.nbt_port.specs.Numbers.{octets_most}
 use Rattle.nbt_port.specs.PortCalls.{PortCall, came}
 
@@ -18,7 +17,3 @@ FitsReceive _ = Unit {0}
 -- A call leaves the port where it is. Which octets a socket carries, no contract can say.
 abbrev pub UdpDoes : UdpValue → PortCall → UdpValue → Type 0
 UdpDoes old act new = (new.addr ≡ old.addr) × FitsReceive act
-
--- The clock keeps the moment that it told. Which one it tells, no contract can say.
-abbrev pub MachineTells : (old moment new : ℕ) → Type 0
-MachineTells old moment new = (new ≡ moment) × (moment ≤ last_moment)

@@ -26,7 +26,7 @@ pub use clock::Clock;
 pub use fault::Fault;
 pub use limits::{FOREVER, MOST_FAILURES};
 pub use memory::{Datagram, MemoryClock, MemoryPort};
-pub use monotonic::{SteadyClock, steady_clock};
+pub use monotonic::{Monotonic, SteadyClock, steady_clock};
 pub use port::{Device, Port};
 pub use printing::print;
 pub use staying::{Turn, Turned, stay_up, tell_end_of};

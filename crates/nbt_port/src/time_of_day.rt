@@ -1,7 +1,9 @@
 //! The system's time of day as a clock.
 
-ghost use Rattle.std.specs.Prelude.{◌≡◌, ◌≢◌, ◌≤◌, IfOk, IfErr, IfSome};
+ghost use Rattle.std.specs.Prelude.{◌≡◌, ◌≢◌, ◌≤◌, IfOk, IfErr};
+ghost use Rattle.std.specs.Duration.{as_nanos};
 ghost use Rattle.nbt_lease.specs.Config.{last_moment};
+ghost use Rattle.nbt_port.specs.Clocks.{moment_in};
 
 use crate::cause::{Cause, MachineCall};
 use crate::clock::Clock;
@@ -59,7 +61,7 @@ impl<'a, R: time::Clock> MachineClock<'a, R> {
 }
 
 impl<'a, R: time::Clock> Clock for MachineClock<'a, R> {
-    ghost use Rattle.nbt_port.specs.Udp.{MachineTells};
+    ghost use Rattle.nbt_port.specs.Clocks.{MachineTells};
 
     ghost tells = { MachineTells };
 
@@ -91,7 +93,7 @@ fn time_of_day<R: time::Clock>(machine: &R) -> io::Result<Moment>
 
 /// A duration as a moment, in milliseconds; `None` past 2^60.
 pub(crate) fn moment_of(since: Duration) -> Option<Moment>
-    ensures { IfSome result (λ moment. moment ≤ last_moment) }
+    ensures { result ≡ moment_in (as_nanos since) }
 {
     Moment::new(u64::try_from(since.as_millis()).ok()?)
 }

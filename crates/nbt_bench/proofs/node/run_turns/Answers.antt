@@ -2,7 +2,7 @@ use Rattle.std.proofs.Common.{◌≡◌, ℕ, Option, Some, None, inl, inr}
 use Rattle.std.proofs.lemmas.Result.{err_from_is_err_and}
 use Rattle.nbt_name.specs.declared.addr.Addr.{Addr}
 use Rattle.nbt_port.specs.PortCalls.{PortCall}
-use Rattle.nbt_port.specs.Udp.{MachineTells}
+use Rattle.nbt_port.specs.Clocks.{MachineTells}
 use Rattle.nbt_port.specs.declared.fault.Fault.TheVariants as f
 use Rattle.nbt_client.specs.declared.turning.Want.{Want}
 use Rattle.nbt_bench.specs.Node.{Running, RunsToItsEnd, IsCutToItsEnd, NodeEndsFor}

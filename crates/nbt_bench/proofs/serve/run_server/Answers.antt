@@ -1,4 +1,5 @@
-use Rattle.nbt_port.specs.Udp.{UdpDoes, MachineTells}
+use Rattle.nbt_port.specs.Clocks.{MachineTells}
+use Rattle.nbt_port.specs.Udp.{UdpDoes}
 use Rattle.nbt_bench.specs.Serve.{ServerFails, ServerIsCut}
 use Rattle.nbt_bench.proofs.Beginning.{begins_here}
 use Rattle.nbt_bench.proofs.serve.run_server.Goals as goal

@@ -1,5 +1,6 @@
 use Rattle.std.proofs.Common.{◌≡◌, ℕ, List, Option, refl, sym, subst}
-use Rattle.nbt_port.specs.Udp.{UdpValue, MachineTells}
+use Rattle.nbt_port.specs.Clocks.{MachineTells, SteadyTells, SystemShows}
+use Rattle.nbt_port.specs.Udp.{UdpValue}
 use Rattle.nbt_port.proofs.Printed.{on_ok}
 use Rattle.nbt_port.specs.Until.{until_of}
 use Rattle.nbt_nbns.specs.Running.{Nbns, PortDoes}
@@ -15,10 +16,10 @@ returns-clause-ok g c =
     let w = c.watch_over in
     let first = c.in_ok-tell_begin.ensures.ok in
     on_ok w.result w.result refl w.ensures.ok
-    (λ run. begins a (λ start. WatchesUntil (PortDoes a.strict) MachineTells (Journals MachineTells Stays) (until_of start a.time)) (g.W.Write.contents c.args.writer.now) (g.W.Write.contents c.tell_begin.new.writer)
-    (g.W.Write.contents w.new.writer) c.now-start.result c.in_ok-day.day c.now.result c.start-server.result
+    (λ run. begins a (λ start. WatchesUntil (PortDoes a.strict) (SteadyTells SystemShows) (Journals MachineTells Stays) (until_of start a.time)) (g.W.Write.contents c.args.writer.now) (g.W.Write.contents c.tell_begin.new.writer)
+    (g.W.Write.contents w.new.writer) c.in_ok-clock.clock c.now-start.result c.in_ok-day.day c.now.result c.start-server.result
     _ (record { port = run.0; clock = w.new.clock; server = w.new.server; watcher = w.new.watcher; text = g.W.Write.contents w.new.writer })
-    (refl, c.now-start.ensures.1) (refl, c.now.ensures.1) (c.local_of-local.result, first.0, first.1, first.2) c.start-server.ensures
+    c.in_ok-clock.ensures.ok (c.now-start.new.self, c.now-start.ensures) (refl, c.now.ensures.1) (c.local_of-local.result, first.0, first.1, first.2) c.start-server.ensures
     (is_at_first a c.now-start.result c.now.result c.now.new.self c.now-start.new.self c.in_ok-port.port c.start-server.result c.log_of.result c.in_ok-leases_of.field-0 (g.W.Write.contents c.tell_begin.new.writer)
-    c.in_ok-port.ensures.ok c.now-start.ensures.0 c.now.ensures.0 c.log_of.ensures c.in_ok-leases_of.ensures)
+    c.in_ok-port.ensures.ok c.now-start.ensures.keeps c.now.ensures.0 c.log_of.ensures c.in_ok-leases_of.ensures)
     refl (rw c.until_of-until.ensures at run.1))
