@@ -48,7 +48,7 @@ const ASK: u64 = START + 2_005;
 
 const LATER: u64 = ASK + 1;
 
-pub static HOSTS: [Row; 6] = [
+pub static HOSTS: [Row; 7] = [
     Row {
         about: "a name and a group, which are granted, held at the end and given back",
         words: "nbt host fred --group TEAM --server 127.42.22.3:20139 --bind 127.42.22.2:20138 --longest 60s --for 2006ms",
@@ -148,6 +148,34 @@ host 127.42.22.2:20138 asks 127.42.22.3:20139 for 1 name
         text: "\
 host 127.42.22.2:20138 asks 127.42.22.3:20139 for 1 name
 2026-11-24T09:11:05Z not held FRED#20
+",
+        errors: "",
+        sent: &[],
+    },
+    Row {
+        about: "as many names as a node holds",
+        words: "nbt host A B C D E F G H I J K L M --group N --server 127.42.22.3:20139 --bind 127.42.22.2:20138 --for 2004ms",
+        moments: &[START, START, START, START, START, ASK - 1],
+        sends: &[],
+        breaks_at: 0,
+        status: 5,
+        readings: 17,
+        text: "\
+host 127.42.22.2:20138 asks 127.42.22.3:20139 for 14 names
+2026-11-24T09:11:05Z not held A#20
+2026-11-24T09:11:05Z not held B#20
+2026-11-24T09:11:05Z not held C#20
+2026-11-24T09:11:05Z not held D#20
+2026-11-24T09:11:05Z not held E#20
+2026-11-24T09:11:05Z not held F#20
+2026-11-24T09:11:05Z not held G#20
+2026-11-24T09:11:05Z not held H#20
+2026-11-24T09:11:05Z not held I#20
+2026-11-24T09:11:05Z not held J#20
+2026-11-24T09:11:05Z not held K#20
+2026-11-24T09:11:05Z not held L#20
+2026-11-24T09:11:05Z not held M#20
+2026-11-24T09:11:05Z not held N#20
 ",
         errors: "",
         sent: &[],

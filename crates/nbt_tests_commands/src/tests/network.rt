@@ -137,7 +137,7 @@ static NOT_BOUND: [(&str, &str); 10] = [
 ];
 
 /// Commands that bind a port first, what they print and end with where the machine has no memory for it, and what is said at last.
-static BINDING: [(&str, &str, u8, &[u8]); 3] = [
+static BINDING: [(&str, &str, u8, &[u8]); 6] = [
     (
         "nbt serve 127.42.24.1:22337 1000 60 --forever",
         "device\n",
@@ -155,6 +155,25 @@ static BINDING: [(&str, &str, u8, &[u8]); 3] = [
         "memory\n",
         4,
         b"nbt: memory was refused\n",
+    ),
+    // Without --bind they are at every address of this machine: those that ask at a port that the system chooses, and the server at 137.
+    (
+        "nbt lookup FRED --server 127.42.24.2:22337",
+        "device\n",
+        3,
+        b"nbt: 0.0.0.0:0: out of memory\n",
+    ),
+    (
+        "nbt status 127.42.24.2:22337",
+        "device\n",
+        3,
+        b"nbt: 0.0.0.0:0: out of memory\n",
+    ),
+    (
+        "nbt nbns",
+        "memory\n",
+        4,
+        b"nbt: 0.0.0.0:137: out of memory\nnbt: memory was refused\n",
     ),
 ];
 
