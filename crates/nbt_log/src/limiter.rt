@@ -17,7 +17,7 @@ const SECOND: u64 = 1_000;
 /// left out since.
 #[derive(Debug, Drop)]
 pub struct Limiter {
-    told: ArrayVec<u64, 10>,
+    told: ArrayVec<u64, LINES_MOST>,
     left_out: u64,
 }
 

@@ -7,6 +7,7 @@ mod OneTurn
 -- what a message that is read says, and what is taken for a registration
 pub mod SambaReading
 pub mod SambaTaken
+pub mod SambaOthers
 -- a server and what watches it begin, over this machine
 mod Beginning
 -- what became of a look at the leases
