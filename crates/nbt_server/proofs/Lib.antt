@@ -4,3 +4,5 @@ pub mod Common
 pub mod Rules
 -- OneServing: two answers of the rules are the same.
 pub mod OneServing
+-- Shifting: a server by a clock that shows a constant more does the same.
+pub mod Shifting

@@ -25,3 +25,4 @@ pub mod Holding
 pub mod Apart
 pub mod Getting
 pub mod Beginning
+pub mod Using

@@ -3,4 +3,5 @@ pub mod World
 pub mod Step
 pub mod Safety
 pub mod Getting
+pub mod Users
 pub mod Inner

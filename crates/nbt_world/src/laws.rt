@@ -8,10 +8,12 @@ ghost use Rattle.nbt_name.specs.declared.addr.Addr.{Addr};
 ghost use Rattle.nbt_world.specs.World.{WorldValue, addr_of, IsEnd, IsFresh};
 ghost use Rattle.nbt_world.specs.Inner.Kept.{Invariant};
 ghost use Rattle.nbt_world.specs.Inner.Facts.{LeasesAreSound, ClaimsAreCovered, ClaimsAreOfGroups, OpenIsFresh, RequestsHaveEnded};
-ghost use Rattle.nbt_world.specs.Safety.{IsSafe, holding};
+ghost use Rattle.nbt_world.specs.Safety.{IsSafe, RunsSafely, holding};
 ghost use Rattle.nbt_name.specs.declared.addr.Kind.{Kind};
 ghost use Rattle.nbt_world.specs.Step.{Step};
 ghost use Rattle.nbt_world.specs.Getting.{CanGet};
+ghost use Rattle.nbt_world.specs.Users.{ServesUsers, ServeUsersAsGroup, ServeUsersWhileKept};
+ghost use Rattle.nbt_world.specs.declared.event.Event.{Event};
 ghost use Rattle.nbt_world.specs.declared.event.Event.TheVariants as event;
 ghost use Rattle.nbt_world.specs.declared.event.Outcome.{Outcome};
 ghost use Rattle.nbt_world.specs.declared.event.Outcome.TheVariants as outcome;
@@ -46,3 +48,16 @@ pub fn new_world_can_get()
     ensures { (config : ConfigValue) (addrs : List Addr) (a b c d : WorldValue) (node ms : ℕ) (name : NameValue) (o p q : Outcome) → IsFresh config addrs a → IsConfig config → IsEnd a.ends (node + 1) → ¬ IsStar name
         → 1000 * config.longest ≤ ms → quiet config.life < ms → ms ≤ 2 ^ 60 → Step a (event.Start 0) o b → Step b (event.Start (node + 1)) p c → Step c (event.Tick ms) q d → CanGet d (node + 1) name }
 {}
+
+/// Calls and datagrams for a name go to nodes that hold it. So where two different nodes both let in a call to one name, or
+/// are both handed a datagram up for it, or one does the one and one the other, each by its own reading at the world's time,
+/// both hold it as a group: in each safe world; in each world that keeps its facts and in which the readings kept the drift
+/// bound so far; and in each such world along a run.
+pub fn users_of_a_name_meet_its_holder()
+    ensures held { (world : WorldValue) (number : ℕ) (name : NameValue) → ServesUsers world number name → (kind : Kind) × (holding world number name ≡ Some kind) }
+    ensures safe { (world : WorldValue) → IsSafe world → ServeUsersAsGroup world }
+    ensures kept { (world : WorldValue) → Invariant world → IsTrue world.kept → ServeUsersAsGroup world }
+    ensures along { (events : List Event) (old new : WorldValue) (worlds : List WorldValue) → RunsSafely events old worlds new → ServeUsersWhileKept worlds }
+{
+    nbt_session::laws::calls_go_to_held_names();
+}
