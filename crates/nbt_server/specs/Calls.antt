@@ -1,10 +1,11 @@
--- What a server's calls make of it: it starts, handles a datagram, or runs out of memory (our profile). Which leases live
--- afterwards is all that is said of its table.
+-- What a server's calls make of it: it starts, resumes, handles a datagram, or runs out of memory (our profile). Which
+-- leases live afterwards is all that is said of its table.
 use Rattle.std.specs.Prelude.{◌≡◌, ℕ, ◌≤◌, List, [], Option, IfSome, is_some}
 use Rattle.nbt_packet.specs.Message.{MessageValue}
 use Rattle.nbt_packet.specs.Spelling.{Spells, AreWritten}
 use Rattle.nbt_packet.specs.Text.{text}
 use Rattle.nbt_lease.specs.Config.{ConfigValue}
+use Rattle.nbt_lease.specs.Lease.{Rows}
 use Rattle.nbt_server.specs.declared.outcome.Outcome.{Outcome}
 use Rattle.nbt_server.specs.Outcomes.{has_reply, IsDone}
 use Rattle.nbt_server.specs.Serving.{leases_at, ServerValue, speaks_from, ServesOctets, NeedsMemory}
@@ -15,6 +16,19 @@ pub record ServerStarts (config : ConfigValue) (now : ℕ) (server : ServerValue
   pub last : server.last ≡ now
   pub config_is : server.table.config ≡ config
   pub empty : server.table.rows ≡ []
+
+-- a server as it was kept: its start, the time of its last datagram, and rows with its leases
+abbrev pub kept_server : ConfigValue → (start last : ℕ) → Rows → ServerValue
+kept_server config start last rows = record { start = start; last = last; table = record { config = config; last = last; rows = rows } }
+
+-- A server resumes: it has the live leases that it had, its start, and so its silence, and its limits, and its clock
+-- didn't go back.
+pub record ServerResumes (was : ServerValue) (now : ℕ) (server : ServerValue) : Type 0 where
+  pub leases : leases_at now server.table.rows ≡ leases_at now was.table.rows
+  pub start : server.start ≡ was.start
+  pub config : server.table.config ≡ was.table.config
+  pub was_called : was.last ≤ now
+  pub called : server.last ≤ now
 
 -- A server handles a datagram from this 32-bit address, at a time that doesn't go back: with this reply, whose written
 -- form spells it, or with none.

@@ -11,6 +11,6 @@ mod outcome;
 mod server;
 mod serving;
 
-pub use fault::ServerFault;
+pub use fault::{ResumeFault, ServerFault};
 pub use outcome::{Claim, Outcome, Refusal};
 pub use server::Server;

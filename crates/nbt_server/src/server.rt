@@ -1,16 +1,16 @@
 //! The name server.
 
-ghost use Rattle.std.specs.Prelude.{◌≡◌, ◌≢◌, ◌+◌, ◌*◌, ◌<◌, ◌≤◌, ◌↔◌, Option, [], IfOk, OnErr, IsErrOf, is_some};
+ghost use Rattle.std.specs.Prelude.{◌≡◌, ◌≢◌, ◌+◌, ◌*◌, ◌<◌, ◌≤◌, ◌↔◌, ◌⊎◌, Option, [], IsOk, IfOk, OnErr, IsErrOf, is_some};
 ghost use Rattle.nbt_packet.specs.Message.{MessageValue};
 ghost use Rattle.nbt_lease.specs.Config.{IsConfig};
-ghost use Rattle.nbt_lease.specs.Lease.{leases_at, IsSound};
+ghost use Rattle.nbt_lease.specs.Lease.{leases_at, live_count, IsSound};
 
-use crate::fault::ServerFault;
+use crate::fault::{ResumeFault, ServerFault};
 use crate::outcome::Outcome;
 use crate::serving::{serve, unanswered};
 use arrayvec::ArrayVec;
-use nbt_lease::{Config, Moment, Table};
-use nbt_name::Addr;
+use nbt_lease::{Config, Lease, Moment, Table};
+use nbt_name::{Addr, Name};
 use nbt_packet::read;
 use std::alloc::Global;
 use std::marker::Model;
@@ -37,7 +37,7 @@ impl Model for Server {
 impl Server {
     ghost use Rattle.nbt_packet.specs.Spelling.{AreWritten};
     ghost use Rattle.nbt_server.specs.Serving.{ServerValue, speaks_from};
-    ghost use Rattle.nbt_server.specs.Calls.{ServerStarts, ServerTakes, ServerHandles, ServerForgets};
+    ghost use Rattle.nbt_server.specs.Calls.{ServerStarts, ServerResumes, kept_server, ServerTakes, ServerHandles, ServerForgets};
 
     /// A server without leases, which starts at `now`. It takes no memory.
     pub fn start(alloc: Global, config: Config, now: Moment) -> Server
@@ -47,6 +47,45 @@ impl Server {
             start: now,
             last: now,
             table: Table::new(alloc, config),
+        }
+    }
+
+    /// A server that goes on with what was kept of it: its limits, its start, its last time, and rows with its leases, those of
+    /// a name in order of their beginnings; leases that are over at `now` are left out. Its last time is `now`. It is silent
+    /// no longer than it would have been: until the longest lease has passed since `start` (our profile). `last` and the rows
+    /// must be the last state: a lease that was granted after it may be granted to another node.
+    ///
+    /// Refusals, in this order. `ClockBack` (1): `now` is before `start` or `last`. `TableFull` (2): more of the leases live
+    /// than the limits allow. `Unsound` (3): a name's live leases are none that a server has at `now`: two of one address, one
+    /// that is unique beside another, more than 1,000, or one that expires later than the longest lease granted now.
+    /// `OutOfMemory` (4): out of memory, before all were looked at.
+    pub fn resume(
+        alloc: Global,
+        config: Config,
+        start: Moment,
+        last: Moment,
+        now: Moment,
+        rows: &[(Name, Lease)],
+    ) -> Result<Server, ResumeFault>
+        ensures resumes { IfOk result (λ server. ServerResumes (kept_server config start last rows.now) now server) }
+        ensures last { IfOk result (λ server. server.last ≡ now) }
+
+        // When it is refused.
+        ensures sound { IsOk result → IsSound config now (leases_at now rows.now) }
+        ensures clock_back { IsErrOf result ResumeFault.ClockBack ↔ ((now < start) ⊎ (now < last)) }
+        ensures full { IsErrOf result ResumeFault.TableFull ↔ ((start ≤ now) × (last ≤ now) × (config.rows < live_count now rows.now)) }
+        ensures unsound { IsErrOf result ResumeFault.Unsound → ¬ IsSound config now (leases_at now rows.now) }
+    {
+        if now.get() < start.get() || now.get() < last.get() {
+            return Err(ResumeFault::ClockBack);
+        }
+        match Table::restore(alloc, config, now, rows) {
+            Ok(table) => Ok(Server {
+                start,
+                last: now,
+                table,
+            }),
+            Err(fault) => Err(ResumeFault::of_leases(fault)),
         }
     }
 

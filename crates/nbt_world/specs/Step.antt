@@ -8,9 +8,8 @@ use Rattle.nbt_packet.specs.Message.{MessageValue, registration, overwrite, refr
 use Rattle.nbt_packet.specs.Text.{text}
 use Rattle.nbt_packet.specs.Spelling.{Spells}
 use Rattle.nbt_lease.specs.Config.{ConfigValue}
-use Rattle.nbt_lease.specs.Lease.{leases_at}
 use Rattle.nbt_server.specs.Serving.{ServerValue}
-use Rattle.nbt_server.specs.Calls.{ServerStarts, ServerTakes, ServerForgets}
+use Rattle.nbt_server.specs.Calls.{ServerStarts, ServerResumes, ServerTakes, ServerForgets}
 use Rattle.nbt_node.specs.declared.fault.AskFault.{AskFault}
 use Rattle.nbt_node.specs.declared.fault.ReleaseFault.{ReleaseFault}
 use Rattle.nbt_node.specs.declared.fault.LookupFault.{LookupFault}
@@ -96,15 +95,6 @@ pub data Starts (config : ConfigValue) (now : ℕ) (old : Ends) : ℕ → Ends �
 pub data Crashes (old : Ends) : ℕ → Ends → Type 0 where
   server_crashes : (server : ServerValue) → old.server ≡ Some server → Crashes old 0 (with_server old None (Some server))
   node_crashes : (index : ℕ) (node : NodeValue) → node_of old (suc index) ≡ Some node → Crashes old (suc index) (with_node old (suc index) None)
-
--- A server resumes: it has the live leases that it had, its start, and so its silence, and its limits, and its clock
--- didn't go back.
-pub record ServerResumes (was : ServerValue) (now : ℕ) (server : ServerValue) : Type 0 where
-  pub leases : leases_at now server.table.rows ≡ leases_at now was.table.rows
-  pub start : server.start ≡ was.start
-  pub config : server.table.config ≡ was.table.config
-  pub was_called : was.last ≤ now
-  pub called : server.last ≤ now
 
 -- a server that crashed resumes
 pub data Resumes (now : ℕ) (old : Ends) : Ends → Type 0 where
