@@ -13,6 +13,7 @@ ghost use Rattle.nbt_host.specs.Begin.{begin_text};
 ghost use Rattle.nbt_host.specs.Host.{dates_of, Starts, CantPrint};
 ghost use Rattle.nbt_host.specs.TurnLines.{has_lines};
 ghost use Rattle.nbt_host.specs.Turning.{Shows, PrintsTurn, TurnsWell, TurnsBadly, TurnIsCut};
+ghost use Rattle.nbt_port.specs.Numbers.{forever};
 ghost use Rattle.nbt_port.specs.Staying.{StaysUntil};
 ghost use Rattle.nbt_host.specs.Staying.{TurnsOn, TurnsLast, HostingFails};
 ghost use Rattle.nbt_host.specs.ReleaseLines.{PrintsEnding, GivesBack, GivingBackFails};
@@ -236,7 +237,7 @@ impl<C: Clock, D: Clock> Host<C, D> {
         errors: &mut E,
     ) -> Result<(), Fault>
         requires failure_count { P.failures port.old < 2 ^ 61 }
-        ensures ok { OnOk result (StaysUntil (TurnsOn P.does C.tells D.tells arguments.now until) (TurnsBadly P.does C.tells D.tells arguments.now) (TurnsLast P.does C.tells D.tells arguments.now until) FOREVER
+        ensures ok { OnOk result (StaysUntil (TurnsOn P.does C.tells D.tells arguments.now until) (TurnsBadly P.does C.tells D.tells arguments.now) (TurnsLast P.does C.tells D.tells arguments.now until) forever
             (record { port = port.old; host = self.old; text = W.contents writer.old }) (record { port = port.new; host = self.new; text = W.contents writer.new })) }
         ensures err { IfErr result (λ fault. HostingFails P.does C.tells D.tells arguments.now until fault
             (record { port = port.old; host = self.old; text = W.contents writer.old }) (record { port = port.new; host = self.new; text = W.contents writer.new })) }

@@ -1,8 +1,6 @@
 -- Of what spells another message than an overwrite of a group nothing is taken.
 use Rattle.std.proofs.Common.{◌≡◌, ℕ, ◌<◌, ◌≤◌, List, refl, arith, inl, inr}
 use Rattle.nbt_name.specs.declared.addr.Addr.{Addr}
-use Rattle.nbt_name.specs.declared.addr.Kind.TheVariants.{Group}
-use Rattle.nbt_name.specs.Words.{word_at}
 use Rattle.nbt_packet.specs.declared.message.Registration.{Registration}
 use Rattle.nbt_packet.specs.Packet.{PacketValue}
 use Rattle.nbt_packet.specs.Message.{MessageValue, MessageIs, Requests, registration, overwrite, refresh, release, query, status_request, registered, released, found, not_found, status, wait}

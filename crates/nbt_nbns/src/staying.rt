@@ -5,6 +5,7 @@ ghost use Rattle.nbt_server.specs.Serving.{ServerValue};
 ghost use Rattle.nbt_port.specs.PortCalls.{CountsFailure};
 ghost use Rattle.nbt_nbns.specs.Serving.{Breaks};
 ghost use Rattle.nbt_nbns.specs.declared.staying.Shown.{Shown};
+ghost use Rattle.nbt_port.specs.Numbers.{forever};
 ghost use Rattle.nbt_port.specs.Staying.{StaysUntil, EndsEarly};
 ghost use Rattle.nbt_nbns.specs.Watching.{ShowsTurn, WatchesOn, WatchesLast, BreaksWatching};
 
@@ -58,10 +59,10 @@ pub fn watch_on<P: Port, C: Clock, V: Watcher, M: time::Clock, W: Write, E: Writ
     errors: &mut E,
 ) -> Result<(), Fault>
     requires failure_count { P.failures port.old ≤ 2 ^ 61 }
-    ensures ok { OnOk result (StaysUntil (WatchesOn P.does C.tells V.sees until) (BreaksWatching P.does C.tells) (WatchesLast P.does C.tells V.sees until) FOREVER
+    ensures ok { OnOk result (StaysUntil (WatchesOn P.does C.tells V.sees until) (BreaksWatching P.does C.tells) (WatchesLast P.does C.tells V.sees until) forever
         (record { port = port.old; clock = clock.old; server = server.old; watcher = watcher.old; text = W.contents writer.old })
         (record { port = port.new; clock = clock.new; server = server.new; watcher = watcher.new; text = W.contents writer.new })) }
-    ensures err { IfErr result (λ fault. EndsEarly (WatchesOn P.does C.tells V.sees until) (BreaksWatching P.does C.tells) (λ _ _ _. ⊥) FOREVER fault
+    ensures err { IfErr result (λ fault. EndsEarly (WatchesOn P.does C.tells V.sees until) (BreaksWatching P.does C.tells) (λ _ _ _. ⊥) forever fault
         (record { port = port.old; clock = clock.old; server = server.old; watcher = watcher.old; text = W.contents writer.old })
         (record { port = port.new; clock = clock.new; server = server.new; watcher = watcher.new; text = W.contents writer.new })) }
 {
