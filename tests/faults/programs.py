@@ -175,7 +175,7 @@ class Host(Program):
         return ["--for", f"{draw.randrange(15, 60)}s"] if draw.random() < 0.2 else []
 
     def read_line(self, at, text):
-        if " slept, asks anew" in text:
+        if " slept, " in text:
             self.book.lines.append(Line(at, self.name, self.life, "slept", ""))
         elif said := ABOUT_A_NAME.match(text):
             line = Line(at, self.name, self.life, *said.groups())

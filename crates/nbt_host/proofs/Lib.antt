@@ -2,6 +2,11 @@
 
 -- what is said of a message, and what is sent back
 pub mod Replies
+-- a receive, the look at the clocks after it, and what is made of what came
+mod Listening
+-- a reading of a machine's two clocks, each by itself; one reading for all
+mod Ticking
+mod Anchors
 -- how long a refused name waits
 pub mod BackingOff
 -- the requests of names, one after the other

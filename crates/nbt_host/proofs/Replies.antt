@@ -15,7 +15,6 @@ use Rattle.nbt_port.proofs.Chains.{chain_one}
 use Rattle.nbt_host.specs.declared.news.Notice.{Notice}
 use Rattle.nbt_host.specs.Answering.{own_reply, sent_back, notice_of}
 use Rattle.nbt_host.specs.Hosting.{sending_to, HostHears, hears_nothing, hears, hears_back, LosesReply, loses_reply}
-use Rattle.nbt_host.specs.Inner.Parts.{Listens, LosesListening, loses_send}
 
 -- what is no query is replied to by the node itself, or not at all
 pub sent_back_other : (node : NodeValue) (now : ℕ) (message : Message) (told : Told) (reply : List ℕ) → ((id : ℕ) (name : NameValue) → message ≡ m.Query id name → ⊥)
@@ -70,19 +69,3 @@ pub reply_lost : {P : Type 0} (does : P → PortCall → P → Type 0) (p q : P)
     → Handles old now from octets new told reply → Says octets message → ((lost : List ℕ) × (sent_back new now message told reply ≡ Some lost) × does p (send_failed from lost) q)
     → Lost_by does now old (receiving (Ok found) octets) new p q
 reply_lost does p q now old new found from octets reply message told some handles says x = rw some (from, x.0, loses_reply from octets reply x.0 message told new handles says x.1, x.2)
-
--- ---- a receive, and what is heard
-
-pub listened : {P C : Type 0} (does : P → PortCall → P → Type 0) (tells : C → ℕ → C → Type 0) (p q r : P) (c d : C) (s t : NodeValue) (found : Option Addr) (octets given : List ℕ) (at : ℕ) (notice : Option Notice)
-    → does p (receiving (Ok found) octets) q → tells c at d → given ≡ octets → Heard_by does at s (receiving (Ok found) given) notice t q r → Listens does tells (record { at = at; notice = notice }) p c s r d t
-listened does tells p q r c d s t found octets given at notice did told same h = record {
-  hearing = receiving (Ok found) given ∷ h.0;
-  hears = h.1;
-  port_did = (q, subst (λ (xs : List ℕ). does p (receiving (Ok found) xs) q) (sym same) did, h.2);
-  clock_told = told;
-}
-
-pub listening_lost : {P C : Type 0} (does : P → PortCall → P → Type 0) (tells : C → ℕ → C → Type 0) (p q r : P) (c d : C) (s t : NodeValue) (found : Option Addr) (octets given : List ℕ) (at : ℕ)
-    → does p (receiving (Ok found) octets) q → tells c at d → given ≡ octets → Lost_by does at s (receiving (Ok found) given) t q r → LosesListening does tells p c s r d t
-listening_lost does tells p q r c d s t found octets given at did told same h =
-    loses_send at (receiving (Ok found) given ∷ send_failed h.0 h.1 ∷ []) h.2 (q, subst (λ (xs : List ℕ). does p (receiving (Ok found) xs) q) (sym same) did, chain_one does q (send_failed h.0 h.1) r h.3) told

@@ -17,9 +17,9 @@ use Rattle.nbt_host.specs.declared.news.Notice.{Notice}
 abbrev pub fresh : Want → Goal
 fresh want = record { want = want; stage = Wanted; refusal = None; held = false; lapsed = false; news = None }
 
--- what is wanted stays, and all else is forgotten
+-- what is wanted stays, and how far the host is with it; all else is forgotten
 abbrev pub anew : Goal → Goal
-anew goal = fresh goal.want
+anew goal = record (fresh goal.want) { stage = goal.stage }
 
 -- ---- refusals
 

@@ -5,37 +5,38 @@ use Rattle.nbt_node.specs.Calls.{started}
 use Rattle.nbt_port.specs.declared.fault.Fault.{Fault}
 use Rattle.nbt_port.specs.declared.fault.Fault.TheVariants.{Output, Memory}
 use Rattle.nbt_log.specs.declared.dates.Dates.{Dates}
-use Rattle.nbt_host.specs.Releasing.{HostValue}
+use Rattle.nbt_host.specs.Hosting.{HostValue, Terms}
 use Rattle.nbt_host.specs.Goals.{fresh}
-use Rattle.nbt_host.specs.Sleeping.{Reads}
-use Rattle.nbt_host.specs.declared.sleeping.Reading.{Reading}
+use Rattle.nbt_host.specs.declared.watching.Look.{Look}
 use Rattle.nbt_host.specs.declared.arguments.HostArguments.{HostArguments}
 
--- the two clocks of a machine, what they told last, and a host's names and its node
-pub record HostingValue (C D : Type 0) : Type 0 where
-  pub steady : C
-  pub day : D
-  pub last : Reading
+-- the clocks of a machine, what they told last, and a host's names and its node
+pub record HostingValue (K : Type 0) : Type 0 where
+  pub watch : K
+  pub last : Look
   pub host : HostValue
 
 -- the same with a port, and what is printed
-pub record Running (P C D : Type 0) : Type 0 where
+pub record Running (P K : Type 0) : Type 0 where
   pub port : P
-  pub host : HostingValue C D
+  pub host : HostingValue K
   pub text : Option (List ℕ)
+
+abbrev pub terms_of : HostArguments → Terms
+terms_of a = record { slots = slots_most; server = a.server; config = a.config }
 
 -- a host that knows nothing of its names yet
 abbrev pub first_host : HostArguments → (now : ℕ) → HostValue
 first_host a now = record { goals = map fresh a.wants.items; node = started slots_most a.bind a.server a.config now }
 
--- Both clocks are read, and a host starts at the moment that the steady one told last.
-pub record Starts {C D : Type 0} (tells : C → ℕ → C → Type 0) (tells_day : D → ℕ → D → Type 0) (a : HostArguments) (steady : C) (day : D) (new : HostingValue C D) : Type 0 where
-  pub reads : Reads tells tells_day steady day new.last new.steady new.day
-  pub host_is : new.host ≡ first_host a new.last.after
+-- The clocks are looked at, and a host starts at that moment.
+pub record Starts {K : Type 0} (looks : K → Look → K → Type 0) (a : HostArguments) (watch : K) (new : HostingValue K) : Type 0 where
+  pub looked : looks watch new.last new.watch
+  pub host_is : new.host ≡ first_host a new.last.at
 
--- which time of day it was at which moment, by a reading of both clocks
-abbrev pub dates_of : Reading → Dates
-dates_of reading = record { moment = reading.after; time = reading.day }
+-- which time of day it was at which moment, by a look at both clocks
+abbrev pub dates_of : Look → Dates
+dates_of look = record { moment = look.at; time = look.day }
 
 -- lines can't be written, or memory was refused for them
 abbrev pub CantPrint : Fault → Type 0

@@ -1,20 +1,22 @@
 -- What a host does in a turn over a port and a clock: a node that is to hold the names of a list (our profile).
-use Rattle.std.specs.Prelude.{◌≡◌, ℕ, ◌<◌, Bool, true, false, List, [], ◌∷◌, ◌++◌, map, Option, Some, None}
+use Rattle.std.specs.Prelude.{◌≡◌, ℕ, ◌<◌, Bool, true, false, if◌then◌else◌, List, [], ◌∷◌, ◌++◌, map, Option, Some, None, Ok}
 use Rattle.nbt_name.specs.declared.addr.Addr.{Addr}
+use Rattle.nbt_lease.specs.Config.{ConfigValue}
 use Rattle.nbt_packet.specs.Message.{MessageValue}
 use Rattle.nbt_node.specs.declared.fault.AskFault.{AskFault}
 use Rattle.nbt_node.specs.declared.fault.ReleaseFault.{ReleaseFault}
 use Rattle.nbt_node.specs.Node.{NodeValue}
 use Rattle.nbt_node.specs.Moves.{give_back, Told}
-use Rattle.nbt_node.specs.Calls.{ask_refusal, release_refusal, Sends}
+use Rattle.nbt_node.specs.Calls.{ask_refusal, release_refusal, Sends, started}
 use Rattle.nbt_node.specs.Datagrams.{Handles, Says}
-use Rattle.nbt_port.specs.PortCalls.{PortCall, nothing_came, came, receive_failed, sent, send_failed}
+use Rattle.nbt_port.specs.PortCalls.{PortCall, nothing_came, came, receive_failed, sent, send_failed, receiving}
 use Rattle.nbt_client.specs.Turning.{AsksFor, PollsAll, BreaksPolls}
 use Rattle.nbt_host.specs.declared.goal.Goal.{Goal}
 use Rattle.nbt_host.specs.declared.goal.Stage.{Stage}
 use Rattle.nbt_host.specs.declared.goal.Stage.TheVariants.{Wanted}
 use Rattle.nbt_host.specs.declared.news.Notice.{Notice}
-use Rattle.nbt_host.specs.Goals.{may_ask, seen, heard_by}
+use Rattle.nbt_host.specs.declared.watching.Look.{Look}
+use Rattle.nbt_host.specs.Goals.{anew, may_ask, seen, heard_by}
 use Rattle.nbt_host.specs.Answering.{sent_back, notice_of}
 
 -- what is sent to an end, if anything
@@ -64,40 +66,74 @@ pub data LosesReply (now : ℕ) (old : NodeValue) : List PortCall → NodeValue 
   loses_reply : (from : Addr) (octets reply lost : List ℕ) (message : Option MessageValue) (told : Told) (new : NodeValue) → Handles old now from octets new told reply → Says octets message
       → sent_back new now message told reply ≡ Some lost → LosesReply now old (came from octets ∷ send_failed from lost ∷ []) new
 
+-- ---- a host
+
+-- a host's names and its node
+pub record HostValue : Type 0 where
+  pub goals : List Goal
+  pub node : NodeValue
+
+-- what stays of it: how many slots its node has, its server, and the limits
+pub record Terms : Type 0 where
+  pub slots : ℕ
+  pub server : Addr
+  pub config : ConfigValue
+
+-- a host whose machine crashed and started at a moment: the node knows nothing, and rests
+abbrev pub started_again : Terms → (now : ℕ) → HostValue → HostValue
+started_again t now host = record { goals = map anew host.goals; node = started t.slots host.node.addr t.server t.config now }
+
+-- What a host is after a look at the clocks. Where the machine slept it starts again at that moment.
+abbrev pub woken : Terms → Look → HostValue → HostValue
+woken t look host = if look.slept then started_again t look.at host else host
+
+-- a look at each name
+abbrev pub seen_all : (now : ℕ) → HostValue → HostValue
+seen_all now host = record host { goals = map (seen host.node now) host.goals }
+
 -- ---- a turn
 
--- At the first moment that is read a look at the names, the requests and the polls; one receive; at the second what is heard.
-pub record HostTurn (server : Addr) (old_goals : List Goal) (old : NodeValue) (acts : List PortCall) (moments : List ℕ) (goals : List Goal) (new : NodeValue) : Type 0 where
-  pub first : ℕ
-  pub second : ℕ
+-- What is made of what a receive was, at a look after it. Where the machine slept nothing is made of it.
+pub data HearsAfter (t : Terms) (look : Look) (old : HostValue) : List PortCall → HostValue → Type 0 where
+  sleeps : (found : Option Addr) (octets : List ℕ) → look.slept ≡ true → HearsAfter t look old (receiving (Ok found) octets ∷ []) (woken t look old)
+  wakes : (hearing : List PortCall) (notice : Option Notice) (new : NodeValue) → look.slept ≡ false → HostHears look.at old.node hearing notice new
+      → HearsAfter t look old hearing (record { goals = map (heard_by new look.at notice) old.goals; node = new })
+
+-- A look at the clocks, and then at the names; the requests and the polls; one receive, and a look at the clocks after it.
+pub record HostTurn (t : Terms) (old : HostValue) (acts : List PortCall) (looks : List Look) (new : HostValue) : Type 0 where
+  pub first : Look
+  pub second : Look
+  pub begun : HostValue
   pub requesting : List PortCall
   pub polling : List PortCall
   pub hearing : List PortCall
   pub requested : NodeValue
   pub polled : NodeValue
-  pub notice : Option Notice
-  pub requests : RequestsAll server first old (map (seen old first) old_goals) requesting requested
-  pub polls : PollsAll first requested polling polled
-  pub hears : HostHears second polled hearing notice new
+  pub begins : begun ≡ seen_all first.at (woken t first old)
+  pub requests : RequestsAll t.server first.at begun.node begun.goals requesting requested
+  pub polls : PollsAll first.at requested polling polled
+  pub hears : HearsAfter t second (record begun { node = polled }) hearing new
   pub acts_are : acts ≡ requesting ++ (polling ++ hearing)
-  pub moments_are : moments ≡ first ∷ second ∷ []
-  pub goals_are : goals ≡ map (heard_by new second notice) (map (seen old first) old_goals)
+  pub looks_are : looks ≡ first ∷ second ∷ []
 
--- The calls after the first look of a turn in which the device fails, and the readings of the clock after it: the node is as
+-- The calls after the first looks of a turn in which the device fails, and the looks at the clocks after those: the node is as
 -- after the call of it that made the sending, or as it was before the receive.
-pub data BreaksCalls (server : Addr) (first : ℕ) (goals : List Goal) (old : NodeValue) : List PortCall → List ℕ → NodeValue → Type 0 where
+pub data BreaksCalls (server : Addr) (first : ℕ) (goals : List Goal) (old : NodeValue) : List PortCall → List Look → NodeValue → Type 0 where
   at_requests : (requesting : List PortCall) (new : NodeValue) → BreaksRequests server first old goals requesting new → BreaksCalls server first goals old requesting [] new
   at_polls : (requesting polling : List PortCall) (requested new : NodeValue) → RequestsAll server first old goals requesting requested → BreaksPolls first requested polling new
       → BreaksCalls server first goals old (requesting ++ polling) [] new
   at_receive : (requesting polling : List PortCall) (requested new : NodeValue) → RequestsAll server first old goals requesting requested → PollsAll first requested polling new
       → BreaksCalls server first goals old (requesting ++ (polling ++ receive_failed ∷ [])) [] new
-  at_reply : (second : ℕ) (requesting polling hearing : List PortCall) (requested polled new : NodeValue) → RequestsAll server first old goals requesting requested
-      → PollsAll first requested polling polled → LosesReply second polled hearing new → BreaksCalls server first goals old (requesting ++ (polling ++ hearing)) (second ∷ []) new
+  at_reply : (second : Look) (requesting polling hearing : List PortCall) (requested polled new : NodeValue) → RequestsAll server first old goals requesting requested
+      → PollsAll first requested polling polled → second.slept ≡ false → LosesReply second.at polled hearing new
+      → BreaksCalls server first goals old (requesting ++ (polling ++ hearing)) (second ∷ []) new
 
--- Such a turn: nothing else of it is done than the first look and these calls.
-pub record HostBreaks (server : Addr) (old_goals : List Goal) (old : NodeValue) (acts : List PortCall) (moments : List ℕ) (goals : List Goal) (new : NodeValue) : Type 0 where
-  pub first : ℕ
-  pub later : List ℕ
-  pub calls : BreaksCalls server first goals old acts later new
-  pub moments_are : moments ≡ first ∷ later
-  pub goals_are : goals ≡ map (seen old first) old_goals
+-- Such a turn: nothing else of it is done than the first looks and these calls.
+pub record HostBreaks (t : Terms) (old : HostValue) (acts : List PortCall) (looks : List Look) (new : HostValue) : Type 0 where
+  pub first : Look
+  pub later : List Look
+  pub begun : HostValue
+  pub begins : begun ≡ seen_all first.at (woken t first old)
+  pub calls : BreaksCalls t.server first.at begun.goals begun.node acts later new.node
+  pub looks_are : looks ≡ first ∷ later
+  pub goals_are : new.goals ≡ begun.goals

@@ -10,6 +10,6 @@ pub mod Releasing
 pub mod Running
 pub mod Sleeping
 pub mod Staying
+pub mod Ticks
 pub mod TurnLines
 pub mod Turning
-pub mod Waking

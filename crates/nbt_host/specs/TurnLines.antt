@@ -53,7 +53,7 @@ pub data TellsAll (tells : Goal → List ℕ → Type 0) : List Goal → List �
 -- that the machine slept
 abbrev pub IsSleepLine : (second : ℕ) → (slept : Bool) → List ℕ → Type 0
 IsSleepLine second false line = line ≡ []
-IsSleepLine second true line = (time : List ℕ) × IsTimeText second time × (line ≡ time ++ codes " slept, asks anew" ++ newline)
+IsSleepLine second true line = (time : List ℕ) × IsTimeText second time × (line ≡ time ++ codes " slept, or its clock was set: asks anew" ++ newline)
 
 -- what is printed of a turn
 pub record TellsTurn (second : ℕ) (log slept : Bool) (goals : List Goal) (text : List ℕ) : Type 0 where

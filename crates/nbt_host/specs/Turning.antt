@@ -1,50 +1,51 @@
 -- One turn of a host, and what is printed of it (our profile).
-use Rattle.std.specs.Prelude.{◌≡◌, ◌⊎◌, ◌↔◌, IsTrue, ℕ, Bool, true, List, Option}
+use Rattle.std.specs.Prelude.{◌≡◌, ◌⊎◌, ℕ, Bool, true, List, Option}
 use Rattle.std.specs.Io.KnownBytes.{Appends}
-use Rattle.nbt_node.specs.Node.{slots_most}
-use Rattle.nbt_port.specs.PortCalls.{PortCall}
+use Rattle.nbt_port.specs.PortCalls.{PortCall, Chain}
 use Rattle.nbt_log.specs.Dates.{second_at}
-use Rattle.nbt_host.specs.Sleeping.{HasSlept}
-use Rattle.nbt_host.specs.Waking.{WakingTurn, WakingBreaks}
+use Rattle.nbt_host.specs.Hosting.{HostValue, Terms, HostTurn, HostBreaks}
+use Rattle.nbt_host.specs.Sleeping.{last_of}
 use Rattle.nbt_host.specs.declared.goal.Goal.{Goal}
-use Rattle.nbt_host.specs.declared.sleeping.Reading.{Reading}
-use Rattle.nbt_host.specs.Host.{HostingValue, Running, dates_of}
+use Rattle.nbt_host.specs.declared.watching.Look.{Look}
+use Rattle.nbt_host.specs.Host.{HostingValue, Running, terms_of, dates_of}
 use Rattle.nbt_host.specs.TurnLines.{TellsTurn, has_lines}
 use Rattle.nbt_host.specs.declared.arguments.HostArguments.{HostArguments}
 use Rattle.nbt_host.specs.declared.host.Shown.{Shown}
 
--- After a turn the steady clock is read. The machine slept if it did since the reading before the turn.
-pub record Shows {C D : Type 0} (tells : C → ℕ → C → Type 0) (earlier : Reading) (old : HostingValue C D) (shown : Shown) (new : HostingValue C D) : Type 0 where
-  pub slept_is : IsTrue shown.slept ↔ HasSlept earlier old.last
-  pub told : tells old.steady shown.at new.steady
-  pub rest_is : new ≡ record old { steady = new.steady }
+-- A turn goes well, or the device fails in it; after it the steady clock is read. What it shows is that moment, and whether the
+-- machine slept.
+pub record GoesThrough {P K : Type 0} (turns : Terms → HostValue → List PortCall → List Look → HostValue → Type 0)
+    (does : P → PortCall → P → Type 0) (tells : K → ℕ → K → Type 0) (looks : K → Look → K → Type 0) (a : HostArguments)
+    (old_port : P) (old : HostingValue K) (shown : Shown) (port : P) (new : HostingValue K) : Type 0 where
+  pub acts : List PortCall
+  pub seen : List Look
+  pub mid : K
+  pub turn : turns (terms_of a) old.host acts seen new.host
+  pub last_is : new.last ≡ last_of old.last seen
+  pub port_did : Chain does old_port acts port
+  pub looked : Chain looks old.watch seen mid
+  pub told : tells mid shown.at new.watch
+  pub slept_is : shown.slept ≡ new.last.slept
 
--- A turn goes well, or the device fails in it. Each shows something.
-pub record TakesTurn {P C D : Type 0} (does : P → PortCall → P → Type 0) (tells : C → ℕ → C → Type 0) (tells_day : D → ℕ → D → Type 0) (a : HostArguments)
-    (old_port : P) (old : HostingValue C D) (shown : Shown) (port : P) (new : HostingValue C D) : Type 0 where
-  pub mid : HostingValue C D
-  pub turn : WakingTurn does tells tells_day slots_most a.server a.config old.last shown.slept old_port old.steady old.day old.host mid.last port mid.steady mid.day mid.host
-  pub shows : Shows tells old.last mid shown new
+abbrev pub TakesTurn : {P K : Type 0} → (P → PortCall → P → Type 0) → (K → ℕ → K → Type 0) → (K → Look → K → Type 0) → HostArguments → P → HostingValue K → Shown → P → HostingValue K → Type 0
+TakesTurn does tells looks a old_port old shown port new = GoesThrough HostTurn does tells looks a old_port old shown port new
 
-pub record BreaksTurn {P C D : Type 0} (does : P → PortCall → P → Type 0) (tells : C → ℕ → C → Type 0) (tells_day : D → ℕ → D → Type 0) (a : HostArguments)
-    (old_port : P) (old : HostingValue C D) (shown : Shown) (port : P) (new : HostingValue C D) : Type 0 where
-  pub mid : HostingValue C D
-  pub breaks : WakingBreaks does tells tells_day slots_most a.server a.config old.last old_port old.steady old.day old.host mid.last port mid.steady mid.day mid.host
-  pub shows : Shows tells old.last mid shown new
+abbrev pub BreaksTurn : {P K : Type 0} → (P → PortCall → P → Type 0) → (K → ℕ → K → Type 0) → (K → Look → K → Type 0) → HostArguments → P → HostingValue K → Shown → P → HostingValue K → Type 0
+BreaksTurn does tells looks a old_port old shown port new = GoesThrough HostBreaks does tells looks a old_port old shown port new
 
 -- The lines of what was shown are printed, dated by the moment after the turn.
-abbrev pub PrintsTurn : (log : Bool) → Shown → Reading → List Goal → (old_text text : Option (List ℕ)) → Type 0
-PrintsTurn log shown reading goals old_text text = (lines : List ℕ) × TellsTurn (second_at (dates_of reading) shown.at) log shown.slept goals lines × Appends old_text text lines
+abbrev pub PrintsTurn : (log : Bool) → Shown → Look → List Goal → (old_text text : Option (List ℕ)) → Type 0
+PrintsTurn log shown last goals old_text text = (lines : List ℕ) × TellsTurn (second_at (dates_of last) shown.at) log shown.slept goals lines × Appends old_text text lines
 
-abbrev pub TurnsWell : {P C D : Type 0} → (P → PortCall → P → Type 0) → (C → ℕ → C → Type 0) → (D → ℕ → D → Type 0) → HostArguments → Running P C D → Shown → Running P C D → Type 0
-TurnsWell does tells tells_day a old shown new = TakesTurn does tells tells_day a old.port old.host shown new.port new.host
+abbrev pub TurnsWell : {P K : Type 0} → (P → PortCall → P → Type 0) → (K → ℕ → K → Type 0) → (K → Look → K → Type 0) → HostArguments → Running P K → Shown → Running P K → Type 0
+TurnsWell does tells looks a old shown new = TakesTurn does tells looks a old.port old.host shown new.port new.host
     × PrintsTurn a.log shown new.host.last new.host.host.goals old.text new.text
 
-abbrev pub TurnsBadly : {P C D : Type 0} → (P → PortCall → P → Type 0) → (C → ℕ → C → Type 0) → (D → ℕ → D → Type 0) → HostArguments → Running P C D → Running P C D → Type 0
-TurnsBadly does tells tells_day a old new = (shown : Shown) × BreaksTurn does tells tells_day a old.port old.host shown new.port new.host
+abbrev pub TurnsBadly : {P K : Type 0} → (P → PortCall → P → Type 0) → (K → ℕ → K → Type 0) → (K → Look → K → Type 0) → HostArguments → Running P K → Running P K → Type 0
+TurnsBadly does tells looks a old new = (shown : Shown) × BreaksTurn does tells looks a old.port old.host shown new.port new.host
     × PrintsTurn a.log shown new.host.last new.host.host.goals old.text new.text
 
 -- There are some, and they can't be printed. What stands in the text then isn't said.
-abbrev pub TurnIsCut : {P C D : Type 0} → (P → PortCall → P → Type 0) → (C → ℕ → C → Type 0) → (D → ℕ → D → Type 0) → HostArguments → Running P C D → Running P C D → Type 0
-TurnIsCut does tells tells_day a old new = (shown : Shown) × (has_lines a.log shown.slept new.host.host.goals ≡ true)
-    × (TakesTurn does tells tells_day a old.port old.host shown new.port new.host ⊎ BreaksTurn does tells tells_day a old.port old.host shown new.port new.host)
+abbrev pub TurnIsCut : {P K : Type 0} → (P → PortCall → P → Type 0) → (K → ℕ → K → Type 0) → (K → Look → K → Type 0) → HostArguments → Running P K → Running P K → Type 0
+TurnIsCut does tells looks a old new = (shown : Shown) × (has_lines a.log shown.slept new.host.host.goals ≡ true)
+    × (TakesTurn does tells looks a old.port old.host shown new.port new.host ⊎ BreaksTurn does tells looks a old.port old.host shown new.port new.host)

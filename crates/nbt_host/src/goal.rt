@@ -133,11 +133,10 @@ impl Goal {
         }
     }
 
-    /// What is wanted alone stays.
+    /// What is wanted stays, and the stage; all else is forgotten.
     fn forget(&mut self)
         ensures { self.new ≡ anew self.old }
     {
-        self.stage = Stage::Wanted;
         self.refusal = None;
         self.held = false;
         self.lapsed = false;
@@ -185,7 +184,7 @@ impl Goal {
     }
 }
 
-/// Of every goal what is wanted alone stays.
+/// Of every goal what is wanted stays, and its stage; all else is forgotten.
 pub fn forget_all(goals: &mut [Goal])
     ensures { goals.new ≡ map anew goals.old }
 {

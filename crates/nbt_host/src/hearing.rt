@@ -1,4 +1,4 @@
-//! One receive of a host, and what it makes of what came.
+//! What a host makes of what came.
 
 ghost use Rattle.std.specs.Prelude.{◌≡◌, ◌<◌, ◌^◌, List, [], ◌∷◌, ℕ, Some, Ok, IfOk, OnOk, OnErr};
 ghost use Rattle.nbt_name.specs.declared.addr.Addr.{Addr as End};
@@ -7,7 +7,6 @@ ghost use Rattle.nbt_node.specs.Moves.{told_of};
 ghost use Rattle.nbt_port.specs.PortCalls.{PortCall, send_failed, receiving, Chain, CountsFailure};
 ghost use Rattle.nbt_host.specs.Answering.{sent_back};
 ghost use Rattle.nbt_host.specs.Hosting.{sending_to, HostHears, LosesReply};
-ghost use Rattle.nbt_host.specs.Inner.Parts.{Listens, LosesListening};
 
 use crate::answering::reply_to;
 use crate::news::{Notice, notice_of};
@@ -16,36 +15,10 @@ use nbt_lease::Moment;
 use nbt_name::Addr;
 use nbt_node::{Event, Node};
 use nbt_packet::{Message, read};
-use nbt_port::{Clock, Device, Port};
-
-/// What was heard, and when.
-#[derive(Drop)]
-pub struct Heard {
-    pub at: Moment,
-    pub notice: Option<Notice>,
-}
-
-/// Receives once, reads the clock, and takes what came.
-pub fn listen<P: Port, C: Clock, const N: usize>(
-    port: &mut P,
-    clock: &mut C,
-    node: &mut Node<N>,
-    out: &mut ArrayVec<u8, 576>,
-) -> Result<Heard, Device>
-    requires failure_count { P.failures port.old < 2 ^ 62 }
-    ensures ok { IfOk result (λ heard. Listens P.does C.tells heard port.old clock.old node.old port.new clock.new node.new) }
-    ensures err { OnErr result (LosesListening P.does C.tells port.old clock.old node.old port.new clock.new node.new) }
-    ensures device { CountsFailure (P.failures port.old) (P.failures port.new) result }
-{
-    let mut octets = ArrayVec::new();
-    let from = port.receive(&mut octets)?;
-    let at = clock.now();
-    let notice = hear(port, node, at, from, octets.as_slice(), out)?;
-    Ok(Heard { at, notice })
-}
+use nbt_port::{Device, Port};
 
 /// The node handles a datagram, if one came, and what there is to say is sent to its sender. Returns what it says of a name.
-fn hear<P: Port, const N: usize>(
+pub fn hear<P: Port, const N: usize>(
     port: &mut P,
     node: &mut Node<N>,
     now: Moment,

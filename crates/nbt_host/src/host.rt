@@ -1,18 +1,18 @@
 //! A host that holds names, turn by turn, and what it prints.
 
-ghost use Rattle.std.specs.Prelude.{◌≡◌, ◌+◌, ◌<◌, ◌≤◌, ◌^◌, ◌↔◌, ℕ, List, map, length, true, IsTrue, OnOk, IfOk, IfErr, MatchResult};
+ghost use Rattle.std.specs.Prelude.{◌≡◌, ◌+◌, ◌<◌, ◌≤◌, ◌^◌, ℕ, List, map, length, true, OnOk, OnErr, IfOk, IfErr, MatchResult};
 ghost use Rattle.std.specs.List.{list_all};
 ghost use Rattle.std.specs.Io.KnownBytes.{Appends};
 ghost use Rattle.nbt_node.specs.Node.{NodeValue, slots_most};
 ghost use Rattle.nbt_port.specs.PortCalls.{CountsFailure};
 ghost use Rattle.nbt_log.specs.Dates.{second_at};
 ghost use Rattle.nbt_host.specs.Goals.{fresh, is_held};
-ghost use Rattle.nbt_host.specs.Sleeping.{HasSlept};
-ghost use Rattle.nbt_host.specs.Waking.{WakingTurn, WakingBreaks};
 ghost use Rattle.nbt_host.specs.Begin.{begin_text};
-ghost use Rattle.nbt_host.specs.Host.{dates_of, Starts, CantPrint};
+ghost use Rattle.nbt_host.specs.Host.{dates_of, terms_of, Starts, CantPrint};
 ghost use Rattle.nbt_host.specs.TurnLines.{has_lines};
-ghost use Rattle.nbt_host.specs.Turning.{Shows, PrintsTurn, TurnsWell, TurnsBadly, TurnIsCut};
+ghost use Rattle.nbt_host.specs.Hosting.{HostTurn, HostBreaks};
+ghost use Rattle.nbt_host.specs.Inner.Through.{Through};
+ghost use Rattle.nbt_host.specs.Turning.{PrintsTurn, TurnsWell, TurnsBadly, TurnIsCut};
 ghost use Rattle.nbt_port.specs.Numbers.{forever};
 ghost use Rattle.nbt_port.specs.Staying.{StaysUntil};
 ghost use Rattle.nbt_host.specs.Staying.{TurnsOn, TurnsLast, HostingFails};
@@ -24,9 +24,9 @@ use crate::begin::write_begin;
 use crate::goal::Goal;
 use crate::release_lines::write_endings;
 use crate::releasing::give_back;
-use crate::sleeping::{Clocks, Reading};
 use crate::turn_lines::{has_lines, write_turn};
-use crate::waking::waking_turn;
+use crate::turning::host_turn;
+use crate::watching::{Look, Watch};
 use nbt_client::{SLOTS, Want};
 use nbt_lease::Moment;
 use nbt_log::Dates;
@@ -41,34 +41,34 @@ use std::{io, time};
 /// What a turn showed beside the names.
 #[derive(Clone, Copy, Debug, PartialEq, Eq)]
 pub struct Shown {
-    /// Whether the machine slept before it.
+    /// Whether the machine slept before it or in it.
     pub slept: bool,
     /// The moment after it.
     pub at: Moment,
 }
 
-/// A host: its names, its node, and the two clocks of its machine. A contract sees the clocks, what they told last, the names and the
+/// A host: its names, its node, and the clocks of its machine. A contract sees the clocks, what they told last, the names and the
 /// node.
 #[derive(Drop)]
-pub struct Host<C, D> {
+pub struct Host<K> {
     alloc: Global,
-    clocks: Clocks<C, D>,
-    last: Reading,
+    watch: K,
+    last: Look,
     goals: Vec<Goal>,
     node: Node<SLOTS>,
 }
 
-impl<C, D> Model for Host<C, D> {
+impl<K> Model for Host<K> {
     ghost use Rattle.nbt_host.specs.Host.{HostingValue};
 
-    ghost Value = { HostingValue C D };
+    ghost Value = { HostingValue K };
 
-    ghost view = { λ h. record { steady = h.clocks.steady; day = h.clocks.day; last = h.last; host = record { goals = h.goals.items; node = h.node } } };
+    ghost view = { λ h. record { watch = h.watch; last = h.last; host = record { goals = h.goals.items; node = h.node } } };
 }
 
-impl<C, D> Host<C, D> {
-    /// What both clocks told last: when it started, or at the beginning of its last turn.
-    pub(crate) fn last(&self) -> Reading
+impl<K> Host<K> {
+    /// What both clocks told last: when it started, or at the last look of its last turn.
+    pub(crate) fn last(&self) -> Look
         ensures { result ≡ self.now.last }
     {
         self.last
@@ -79,7 +79,7 @@ impl<C, D> Host<C, D> {
         ensures { result ≡ second_at (dates_of self.now.last) at }
     {
         let dates = Dates {
-            moment: self.last.after,
+            moment: self.last.at,
             time: self.last.day,
         };
         dates.second_at(at.get())
@@ -135,27 +135,22 @@ impl<C, D> Host<C, D> {
     }
 }
 
-impl<C: Clock + Drop, D: Clock + Drop> Host<C, D> {
-    /// A host on a machine with these clocks, which knows nothing of its names. It starts at the moment that the steady clock tells,
-    /// and rests first. Refused where memory is.
+impl<K: Watch + Drop> Host<K> {
+    /// A host on a machine with these clocks, which knows nothing of its names. It starts at the moment of a first look at them, and
+    /// rests first. Refused where memory is.
     pub fn start(
         alloc: Global,
-        mut clocks: Clocks<C, D>,
+        mut watch: K,
         arguments: &HostArguments,
-    ) -> Result<Host<C, D>, AllocError>
-        ensures { IfOk result (λ host. Starts C.tells D.tells arguments.now clocks.steady clocks.day host) }
+    ) -> Result<Host<K>, AllocError>
+        ensures { IfOk result (λ host. Starts K.looks arguments.now watch host) }
     {
         let goals = goals_of(alloc, arguments.wants.as_slice())?;
-        let last = clocks.read();
-        let node = Node::start(
-            arguments.bind,
-            arguments.server,
-            arguments.config,
-            last.after,
-        );
+        let last = watch.look();
+        let node = Node::start(arguments.bind, arguments.server, arguments.config, last.at);
         Ok(Host {
             alloc,
-            clocks,
+            watch,
             last,
             goals,
             node,
@@ -163,19 +158,17 @@ impl<C: Clock + Drop, D: Clock + Drop> Host<C, D> {
     }
 }
 
-impl<C: Clock, D: Clock> Host<C, D> {
-    /// One turn, as [`waking_turn`] does it.
-    fn turn<P: Port>(&mut self, port: &mut P, arguments: &HostArguments) -> Result<bool, Device>
+impl<K: Clock + Watch> Host<K> {
+    /// One turn, as [`host_turn`] does it.
+    fn turn<P: Port>(&mut self, port: &mut P, arguments: &HostArguments) -> Result<(), Device>
         requires failure_count { P.failures port.old < 2 ^ 62 }
-        ensures ok { IfOk result (λ slept. WakingTurn P.does C.tells D.tells slots_most arguments.now.server arguments.now.config self.old.last slept
-            port.old self.old.steady self.old.day self.old.host self.new.last port.new self.new.steady self.new.day self.new.host) }
-        ensures err { IfErr result (λ _. WakingBreaks P.does C.tells D.tells slots_most arguments.now.server arguments.now.config self.old.last
-            port.old self.old.steady self.old.day self.old.host self.new.last port.new self.new.steady self.new.day self.new.host) }
+        ensures ok { OnOk result (Through HostTurn P.does K.looks arguments.now port.old self.old port.new self.new) }
+        ensures err { OnErr result (Through HostBreaks P.does K.looks arguments.now port.old self.old port.new self.new) }
         ensures device { CountsFailure (P.failures port.old) (P.failures port.new) result }
     {
-        waking_turn(
+        host_turn(
             port,
-            &mut self.clocks,
+            &mut self.watch,
             &mut self.node,
             arguments.server,
             arguments.config,
@@ -184,13 +177,15 @@ impl<C: Clock, D: Clock> Host<C, D> {
         )
     }
 
-    /// What the turn showed that followed the reading `earlier`. The steady clock is read.
-    fn shown_since(&mut self, earlier: Reading) -> Shown
-        ensures { Shows C.tells earlier self.old result self.new }
+    /// What the turn showed. The steady clock is read.
+    fn shown(&mut self) -> Shown
+        ensures told { K.tells self.old.watch result.at self.new.watch }
+        ensures slept { result.slept ≡ self.old.last.slept }
+        ensures rest { self.new ≡ record self.old { watch = self.new.watch } }
     {
         Shown {
-            slept: self.last.slept_since(earlier),
-            at: self.clocks.steady.now(),
+            slept: self.last.slept,
+            at: self.watch.now(),
         }
     }
 
@@ -204,17 +199,16 @@ impl<C: Clock, D: Clock> Host<C, D> {
     ) -> Result<Result<Shown, Device>, Fault>
         requires failure_count { P.failures port.old < 2 ^ 62 }
         ensures ok { IfOk result (λ turned. MatchResult turned
-            (λ shown. TurnsWell P.does C.tells D.tells arguments.now
+            (λ shown. TurnsWell P.does K.tells K.looks arguments.now
             (record { port = port.old; host = self.old; text = W.contents writer.old }) shown (record { port = port.new; host = self.new; text = W.contents writer.new }))
-            (λ _. TurnsBadly P.does C.tells D.tells arguments.now
+            (λ _. TurnsBadly P.does K.tells K.looks arguments.now
             (record { port = port.old; host = self.old; text = W.contents writer.old }) (record { port = port.new; host = self.new; text = W.contents writer.new }))) }
-        ensures err { IfErr result (λ fault. CantPrint fault × TurnIsCut P.does C.tells D.tells arguments.now
+        ensures err { IfErr result (λ fault. CantPrint fault × TurnIsCut P.does K.tells K.looks arguments.now
             (record { port = port.old; host = self.old; text = W.contents writer.old }) (record { port = port.new; host = self.new; text = W.contents writer.new })) }
         ensures count { P.failures port.new ≤ P.failures port.old + 1 }
     {
-        let earlier = self.last;
         let turned = self.turn(port, arguments);
-        let shown = self.shown_since(earlier);
+        let shown = self.shown();
         self.tell_turn(arguments.log, &shown, writer)?;
         match turned {
             Ok(_) => Ok(Ok(shown)),
@@ -237,13 +231,13 @@ impl<C: Clock, D: Clock> Host<C, D> {
         errors: &mut E,
     ) -> Result<(), Fault>
         requires failure_count { P.failures port.old < 2 ^ 61 }
-        ensures ok { OnOk result (StaysUntil (TurnsOn P.does C.tells D.tells arguments.now until) (TurnsBadly P.does C.tells D.tells arguments.now) (TurnsLast P.does C.tells D.tells arguments.now until) forever
+        ensures ok { OnOk result (StaysUntil (TurnsOn P.does K.tells K.looks arguments.now until) (TurnsBadly P.does K.tells K.looks arguments.now) (TurnsLast P.does K.tells K.looks arguments.now until) forever
             (record { port = port.old; host = self.old; text = W.contents writer.old }) (record { port = port.new; host = self.new; text = W.contents writer.new })) }
-        ensures err { IfErr result (λ fault. HostingFails P.does C.tells D.tells arguments.now until fault
+        ensures err { IfErr result (λ fault. HostingFails P.does K.tells K.looks arguments.now until fault
             (record { port = port.old; host = self.old; text = W.contents writer.old }) (record { port = port.new; host = self.new; text = W.contents writer.new })) }
         ensures failure_count { P.failures port.new < 2 ^ 62 }
     {
-        let mut turn = HostTurn {
+        let mut turn = StayingTurn {
             host: self,
             port,
             arguments,
@@ -258,24 +252,26 @@ impl<C: Clock, D: Clock> Host<C, D> {
     pub fn end<P: Port, W: Write>(
         &mut self,
         port: &mut P,
-        server: Addr,
+        arguments: &HostArguments,
         writer: &mut W,
     ) -> Result<(), Fault>
         requires failure_count { P.failures port.old < 2 ^ 62 }
-        ensures ok { OnOk result (GivesBack P.does C.tells server
+        ensures ok { OnOk result (GivesBack P.does K.tells K.looks (terms_of arguments.now)
             (record { port = port.old; host = self.old; text = W.contents writer.old }) (record { port = port.new; host = self.new; text = W.contents writer.new })) }
-        ensures err { IfErr result (λ fault. GivingBackFails P.does C.tells server fault
+        ensures err { IfErr result (λ fault. GivingBackFails P.does K.tells K.looks (terms_of arguments.now) fault
             (record { port = port.old; host = self.old; text = W.contents writer.old }) (record { port = port.new; host = self.new; text = W.contents writer.new })) }
     {
         let given = give_back(
             port,
-            &mut self.clocks.steady,
+            &mut self.watch,
             &mut self.node,
-            server,
+            arguments.server,
+            arguments.config,
             self.goals.as_mut_slice(),
+            &mut self.last,
             FOREVER,
         );
-        let at = self.clocks.steady.now();
+        let at = self.watch.now();
         self.tell_ending(at, writer)?;
         given?;
         Ok(())
@@ -293,37 +289,37 @@ impl<C: Clock, D: Clock> Host<C, D> {
         errors: &mut E,
     ) -> Result<bool, Fault>
         requires failure_count { P.failures port.old < 2 ^ 61 }
-        ensures ok { IfOk result (λ all. RunsHost P.does C.tells D.tells arguments.now until all
+        ensures ok { IfOk result (λ all. RunsHost P.does K.tells K.looks arguments.now until all
             (record { port = port.old; host = self.old; text = W.contents writer.old }) (record { port = port.new; host = self.new; text = W.contents writer.new })) }
-        ensures err { IfErr result (λ fault. RunFails P.does C.tells D.tells arguments.now until fault
+        ensures err { IfErr result (λ fault. RunFails P.does K.tells K.looks arguments.now until fault
             (record { port = port.old; host = self.old; text = W.contents writer.old }) (record { port = port.new; host = self.new; text = W.contents writer.new })) }
     {
         self.stay(port, arguments, until, machine, writer, errors)?;
-        let now = self.clocks.steady.now();
+        let now = self.watch.now();
         let all = self.holds_all(now);
-        self.end(port, arguments.server, writer)?;
+        self.end(port, arguments, writer)?;
         Ok(all)
     }
 }
 
 /// One turn of a host that stays up.
 #[derive(Drop)]
-struct HostTurn<'h, 'p, 'a, 'w, P, C, D, W> {
-    host: &'h mut Host<C, D>,
+struct StayingTurn<'h, 'p, 'a, 'w, P, K, W> {
+    host: &'h mut Host<K>,
     port: &'p mut P,
     arguments: &'a HostArguments,
     until: Option<Moment>,
     writer: &'w mut W,
 }
 
-impl<P: Port, C: Clock, D: Clock, W: Write> Turn for HostTurn<'_, '_, '_, '_, P, C, D, W> {
+impl<P: Port, K: Clock + Watch, W: Write> Turn for StayingTurn<'_, '_, '_, '_, P, K, W> {
     ghost use Rattle.std.specs.Prelude.{[], ◌∷◌, Option};
     ghost use Rattle.nbt_host.specs.Host.{Running};
     ghost use Rattle.nbt_host.specs.Staying.{IsCutBy};
     ghost use Rattle.nbt_host.specs.declared.arguments.HostArguments.{HostArguments};
     ghost use Rattle.nbt_host.specs.declared.host.Shown.{Shown};
 
-    ghost State = { Running P C D };
+    ghost State = { Running P K };
 
     ghost Shown = { Shown };
 
@@ -335,13 +331,13 @@ impl<P: Port, C: Clock, D: Clock, W: Write> Turn for HostTurn<'_, '_, '_, '_, P,
 
     ghost failures = { λ t. P.failures t.port.now };
 
-    ghost turns = { λ f. TurnsOn P.does C.tells D.tells f.0 f.1 };
+    ghost turns = { λ f. TurnsOn P.does K.tells K.looks f.0 f.1 };
 
-    ghost breaks = { λ f. TurnsBadly P.does C.tells D.tells f.0 };
+    ghost breaks = { λ f. TurnsBadly P.does K.tells K.looks f.0 };
 
-    ghost last = { λ f. TurnsLast P.does C.tells D.tells f.0 f.1 };
+    ghost last = { λ f. TurnsLast P.does K.tells K.looks f.0 f.1 };
 
-    ghost cuts = { λ f. IsCutBy P.does C.tells D.tells f.0 };
+    ghost cuts = { λ f. IsCutBy P.does K.tells K.looks f.0 };
 
     fn take<E: Write>(&mut self, _errors: &mut E) -> Turned {
         match self.host.go(self.port, self.arguments, self.writer) {

@@ -2,8 +2,8 @@
 //! and a clock, or over UDP and the system's clocks, with the lines that it prints (our profile).
 //!
 //! A [`Goal`] is a wanted name with what its host keeps of it. [`host_turn`] registers and refreshes the names, takes what comes and
-//! answers queries for what is held; [`waking_turn`] does so on a machine that may sleep, after which the host starts again;
-//! [`give_back`] releases all names. These three take no memory, but what a port may take. [`Host`] prints what each turn showed:
+//! answers queries for what is held; a [`Watch`] tells it where the machine slept, after which the host starts again;
+//! [`give_back`] releases all names. These take no memory, but what a port may take. [`Host`] prints what each turn showed:
 //!
 //! ```text
 //! host 192.0.2.7:137 asks 192.0.2.1:137 for 2 names
@@ -20,6 +20,7 @@ mod event;
 mod goal;
 mod hearing;
 mod host;
+pub mod laws;
 mod news;
 mod release_lines;
 mod releasing;
@@ -28,7 +29,7 @@ mod running;
 mod sleeping;
 mod turn_lines;
 mod turning;
-mod waking;
+mod watching;
 
 pub use arguments::HostArguments;
 pub use begin::write_begin;
@@ -39,7 +40,7 @@ pub use news::News;
 pub use release_lines::write_endings;
 pub use releasing::{GIVING_BACK, give_back};
 pub use running::{host_over, run_host};
-pub use sleeping::{Clocks, Reading, SLEEP};
+pub use sleeping::{Clocks, Reading, SLEEP, TwoClocks};
 pub use turn_lines::{has_lines, write_turn};
 pub use turning::host_turn;
-pub use waking::waking_turn;
+pub use watching::{Look, Watch, WatchedClocks};

@@ -1,14 +1,16 @@
 //! A host that releases its names.
 
-ghost use Rattle.std.specs.Prelude.{◌≡◌, ◌<◌, ◌^◌, ◌↔◌, map, IsTrue, IfOk, OnOk, OnErr};
+ghost use Rattle.std.specs.Prelude.{◌≡◌, ◌≤◌, ◌<◌, ◌^◌, ◌↔◌, map, IsTrue, IfOk, OnOk, OnErr};
 ghost use Rattle.std.specs.List.{list_any};
+ghost use Rattle.nbt_node.specs.Node.{slots_most};
 ghost use Rattle.nbt_port.specs.PortCalls.{CountsFailure};
 ghost use Rattle.nbt_host.specs.Releasing.{leaving, is_open, GoesOn, Breaks, Ended, Broken, GivesAllBack, FailsToGiveBack};
 ghost use Rattle.nbt_host.specs.Inner.Parts.{EndTurnIs};
 
 use crate::goal::{Goal, Stage};
 use crate::turning::host_turn;
-use nbt_lease::Moment;
+use crate::watching::{Look, Watch};
+use nbt_lease::{Config, Moment};
 use nbt_name::Addr;
 use nbt_node::Node;
 use nbt_port::{Clock, Device, Port};
@@ -22,24 +24,33 @@ pub const GIVING_BACK: u64 = 15_000;
 /// turn at which no reply to a release is waited for, or at the end of which 15 s have passed since that time, or after `most`
 /// turns. The stages of the goals then say how each came out: `Left(0)` is confirmed, any other `Left` is denied with that
 /// RCODE, `Released` has no reply, and `Leaving` was not held. A name whose grant comes meanwhile is released in the next turn,
-/// if there is one. Refused with `Device` at the first call of the port that fails.
-pub fn give_back<P: Port, C: Clock, const N: usize>(
+/// if there is one. Where the machine slept, the host starts again, and waits on: its names aren't held any more. Refused with `Device`
+/// at the first call of the port that fails. The caller must ensure that `N` is 1 to 14.
+pub fn give_back<P: Port, K: Clock + Watch, const N: usize>(
     port: &mut P,
-    clock: &mut C,
+    watch: &mut K,
     node: &mut Node<N>,
     server: Addr,
+    config: Config,
     goals: &mut [Goal],
+    last: &mut Look,
     most: u64,
 ) -> Result<(), Device>
+    requires slots_at_least { 1 ≤ N }
+    requires slots_at_most { N ≤ slots_most }
     requires failure_count { P.failures port.old < 2 ^ 62 }
-    ensures ok { OnOk result (GivesAllBack P.does C.tells server most port.old clock.old goals.old node.old port.new clock.new (record { goals = goals.new; node = node.new })) }
-    ensures err { OnErr result (FailsToGiveBack P.does C.tells server most port.old clock.old goals.old node.old port.new clock.new (record { goals = goals.new; node = node.new })) }
+    ensures ok { OnOk result (GivesAllBack P.does K.tells K.looks (record { slots = N; server = server; config = config }) most
+        (record { port = port.old; watch = watch.old; last = last.old; host = record { goals = goals.old; node = node.old } })
+        (record { port = port.new; watch = watch.new; last = last.new; host = record { goals = goals.new; node = node.new } })) }
+    ensures err { OnErr result (FailsToGiveBack P.does K.tells K.looks (record { slots = N; server = server; config = config }) most
+        (record { port = port.old; watch = watch.old; last = last.old; host = record { goals = goals.old; node = node.old } })
+        (record { port = port.new; watch = watch.new; last = last.new; host = record { goals = goals.new; node = node.new } })) }
     // It is refused exactly where the port's count of failures grew.
     ensures device { CountsFailure (P.failures port.old) (P.failures port.new) result }
 {
     leave_all(goals);
-    let limit = clock.now().get() + GIVING_BACK;
-    wait(port, clock, node, server, goals, limit, most)
+    let limit = watch.now().get() + GIVING_BACK;
+    wait(port, watch, node, server, config, goals, last, limit, most)
 }
 
 /// Every name is to be released.
@@ -52,26 +63,30 @@ fn leave_all(goals: &mut [Goal])
 }
 
 /// Turns until the ending is over.
-fn wait<P: Port, C: Clock, const N: usize>(
+fn wait<P: Port, K: Clock + Watch, const N: usize>(
     port: &mut P,
-    clock: &mut C,
+    watch: &mut K,
     node: &mut Node<N>,
     server: Addr,
+    config: Config,
     goals: &mut [Goal],
+    last: &mut Look,
     limit: u64,
     most: u64,
 ) -> Result<(), Device>
+    requires slots_at_least { 1 ≤ N }
+    requires slots_at_most { N ≤ slots_most }
     requires failure_count { P.failures port.old < 2 ^ 62 }
-    ensures ok { OnOk result (Ended P.does C.tells server limit most
-        (record { port = port.old; clock = clock.old; host = record { goals = goals.old; node = node.old } })
-        (record { port = port.new; clock = clock.new; host = record { goals = goals.new; node = node.new } })) }
-    ensures err { OnErr result (Broken P.does C.tells server limit most
-        (record { port = port.old; clock = clock.old; host = record { goals = goals.old; node = node.old } })
-        (record { port = port.new; clock = clock.new; host = record { goals = goals.new; node = node.new } })) }
+    ensures ok { OnOk result (Ended P.does K.tells K.looks (record { slots = N; server = server; config = config }) limit most
+        (record { port = port.old; watch = watch.old; last = last.old; host = record { goals = goals.old; node = node.old } })
+        (record { port = port.new; watch = watch.new; last = last.new; host = record { goals = goals.new; node = node.new } })) }
+    ensures err { OnErr result (Broken P.does K.tells K.looks (record { slots = N; server = server; config = config }) limit most
+        (record { port = port.old; watch = watch.old; last = last.old; host = record { goals = goals.old; node = node.old } })
+        (record { port = port.new; watch = watch.new; last = last.new; host = record { goals = goals.new; node = node.new } })) }
     ensures device { CountsFailure (P.failures port.old) (P.failures port.new) result }
 {
     for _ in 0..most {
-        let goes_on = end_turn(port, clock, node, server, goals, limit)?;
+        let goes_on = end_turn(port, watch, node, server, config, goals, last, limit)?;
         if !goes_on {
             return Ok(());
         }
@@ -80,25 +95,29 @@ fn wait<P: Port, C: Clock, const N: usize>(
 }
 
 /// A turn. Returns whether the ending goes on after it.
-fn end_turn<P: Port, C: Clock, const N: usize>(
+fn end_turn<P: Port, K: Clock + Watch, const N: usize>(
     port: &mut P,
-    clock: &mut C,
+    watch: &mut K,
     node: &mut Node<N>,
     server: Addr,
+    config: Config,
     goals: &mut [Goal],
+    last: &mut Look,
     limit: u64,
 ) -> Result<bool, Device>
+    requires slots_at_least { 1 ≤ N }
+    requires slots_at_most { N ≤ slots_most }
     requires failure_count { P.failures port.old < 2 ^ 62 }
-    ensures ok { IfOk result (λ on. EndTurnIs P.does C.tells server limit on
-        (record { port = port.old; clock = clock.old; host = record { goals = goals.old; node = node.old } })
-        (record { port = port.new; clock = clock.new; host = record { goals = goals.new; node = node.new } })) }
-    ensures err { OnErr result (Breaks P.does C.tells server
-        (record { port = port.old; clock = clock.old; host = record { goals = goals.old; node = node.old } })
-        (record { port = port.new; clock = clock.new; host = record { goals = goals.new; node = node.new } })) }
+    ensures ok { IfOk result (λ on. EndTurnIs P.does K.tells K.looks (record { slots = N; server = server; config = config }) limit on
+        (record { port = port.old; watch = watch.old; last = last.old; host = record { goals = goals.old; node = node.old } })
+        (record { port = port.new; watch = watch.new; last = last.new; host = record { goals = goals.new; node = node.new } })) }
+    ensures err { OnErr result (Breaks P.does K.looks (record { slots = N; server = server; config = config })
+        (record { port = port.old; watch = watch.old; last = last.old; host = record { goals = goals.old; node = node.old } })
+        (record { port = port.new; watch = watch.new; last = last.new; host = record { goals = goals.new; node = node.new } })) }
     ensures device { CountsFailure (P.failures port.old) (P.failures port.new) result }
 {
-    host_turn(port, clock, node, server, goals)?;
-    let now = clock.now();
+    host_turn(port, watch, node, server, config, goals, last)?;
+    let now = watch.now();
     Ok(goes_on(goals, limit, now))
 }
 

@@ -6,6 +6,7 @@ ghost use Rattle.nbt_host.specs.Running.{HostsOver, HostOverFails, HostsHere, Ho
 use crate::arguments::HostArguments;
 use crate::host::Host;
 use crate::sleeping::Clocks;
+use crate::watching::{Watch, WatchedClocks};
 use nbt_name::Addr;
 use nbt_port::{
     Clock, Fault, Port, bound_port, local_of, readable_clock, steady_clock, tell_end_of, until_of,
@@ -35,17 +36,20 @@ pub fn run_host<M: Net + time::Clock, W: Write, E: Write>(
     let steady = steady_clock(machine, arguments.bind, errors)?;
     let day = readable_clock(machine, arguments.bind, errors)?;
     let at = local_of(&port);
-    let clocks = Clocks { steady, day };
+    let watch = WatchedClocks {
+        clocks: Clocks { steady, day },
+        anchor: None,
+    };
     host_over(
-        &mut port, clocks, alloc, at, arguments, machine, writer, errors,
+        &mut port, watch, alloc, at, arguments, machine, writer, errors,
     )
 }
 
-/// Runs a host over a port and two clocks, as [`run_host`] does. `at` is the address that the first line tells. Where the port
+/// Runs a host over a port and its machine's clocks, as [`run_host`] does. `at` is the address that the first line tells. Where the port
 /// failed for good, a line in `errors` says why, if the port knows it.
-pub fn host_over<P: Port, C: Clock + Drop, D: Clock + Drop, M: time::Clock, W: Write, E: Write>(
+pub fn host_over<P: Port, K: Clock + Watch + Drop, M: time::Clock, W: Write, E: Write>(
     port: &mut P,
-    clocks: Clocks<C, D>,
+    watch: K,
     alloc: Global,
     at: Addr,
     arguments: &HostArguments,
@@ -54,12 +58,12 @@ pub fn host_over<P: Port, C: Clock + Drop, D: Clock + Drop, M: time::Clock, W: W
     errors: &mut E,
 ) -> Result<bool, Fault>
     requires failure_count { P.failures port.old < 2 ^ 61 }
-    ensures ok { IfOk result (λ all. HostsOver P.does C.tells D.tells at arguments.now all port.old clocks.steady clocks.day (W.contents writer.old) port.new (W.contents writer.new)) }
-    ensures device { result ≡ Err Fault.Device → HostOverFails P.does C.tells D.tells at arguments.now Fault.Device port.old clocks.steady clocks.day (W.contents writer.old) port.new (W.contents writer.new) }
+    ensures ok { IfOk result (λ all. HostsOver P.does K.tells K.looks at arguments.now all port.old watch (W.contents writer.old) port.new (W.contents writer.new)) }
+    ensures device { result ≡ Err Fault.Device → HostOverFails P.does K.tells K.looks at arguments.now Fault.Device port.old watch (W.contents writer.old) port.new (W.contents writer.new) }
 {
-    let mut host = Host::start(alloc, clocks, arguments)?;
+    let mut host = Host::start(alloc, watch, arguments)?;
     host.tell_begin(at, arguments.server, writer)?;
-    let until = until_of(host.last().after, arguments.time);
+    let until = until_of(host.last().at, arguments.time);
     let ran = host.run(port, arguments, until, machine, writer, errors);
     tell_end_of(ran.err(), port.cause(), errors);
     ran

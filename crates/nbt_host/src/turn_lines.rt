@@ -37,7 +37,7 @@ fn write_sleep(second: u64, slept: bool, out: &mut String) -> Result<(), AllocEr
         return Ok(());
     }
     write_time(second, out)?;
-    out.push_str(" slept, asks anew")?;
+    out.push_str(" slept, or its clock was set: asks anew")?;
     end_line(out)
 }
 

@@ -48,17 +48,21 @@ const ASK: u64 = START + 2_005;
 
 const LATER: u64 = ASK + 1;
 
-pub static HOSTS: [Row; 7] = [
+/// The readings of a host: five at its start, and seven a turn, three at each look, and one after it.
+const ASKING: &[u64] = &[
+    START, START, START, START, START, ASK, ASK, ASK, ASK, ASK, ASK, ASK, LATER,
+];
+
+pub static HOSTS: [Row; 10] = [
     Row {
         about: "a name and a group, which are granted, held at the end and given back",
         words: "nbt host fred --group TEAM --server 127.42.22.3:20139 --bind 127.42.22.2:20138 --longest 60s --for 2006ms",
-        moments: &[
-            START, START, START, START, START, ASK, ASK, ASK, ASK, ASK, ASK, LATER,
-        ],
-        sends: &[(8, GRANTED), (14, JOINED), (18, RELEASED), (18, LEFT)],
+        moments: ASKING,
+        sends: &[(8, GRANTED), (15, JOINED), (20, RELEASED), (20, LEFT)],
         breaks_at: 0,
+        sets: &[],
         status: 0,
-        readings: 26,
+        readings: 36,
         text: "\
 host 127.42.22.2:20138 asks 127.42.22.3:20139 for 2 names
 2026-11-24T09:11:05Z granted FRED#20 60 s
@@ -84,6 +88,8 @@ host 127.42.22.2:20138 asks 127.42.22.3:20139 for 2 names
             ASK,
             ASK,
             ASK,
+            ASK,
+            LATER,
             LATER,
             LATER,
             LATER,
@@ -92,10 +98,11 @@ host 127.42.22.2:20138 asks 127.42.22.3:20139 for 2 names
             LATER,
             START + 40_000,
         ],
-        sends: &[(8, GRANTED), (14, QUERIES), (20, RENEWED), (24, RELEASED)],
+        sends: &[(8, GRANTED), (15, QUERIES), (22, RENEWED), (27, RELEASED)],
         breaks_at: 0,
+        sets: &[],
         status: 0,
-        readings: 29,
+        readings: 36,
         text: "\
 host 127.42.22.2:20138 asks 127.42.22.3:20139 for 1 name
 2026-11-24T09:11:05Z granted FRED#20 60 s
@@ -111,8 +118,9 @@ host 127.42.22.2:20138 asks 127.42.22.3:20139 for 1 name
         moments: &[START, START, START, START, START, ASK],
         sends: &[(8, REFUSED)],
         breaks_at: 0,
+        sets: &[],
         status: 5,
-        readings: 17,
+        readings: 22,
         text: "\
 host 127.42.22.2:20138 asks 127.42.22.3:20139 for 1 name
 2026-11-24T09:11:05Z refused FRED#20: held by another (6)
@@ -128,8 +136,9 @@ host 127.42.22.2:20138 asks 127.42.22.3:20139 for 1 name
         moments: &[START, START, START, START, START, START + 1_010],
         sends: &[],
         breaks_at: 0,
+        sets: &[],
         status: 5,
-        readings: 17,
+        readings: 22,
         text: "\
 host 127.42.22.2:20138 asks 127.42.22.3:20139 for 1 name
 2026-11-24T09:11:04Z not held fred.lab
@@ -143,8 +152,9 @@ host 127.42.22.2:20138 asks 127.42.22.3:20139 for 1 name
         moments: &[START, START, START, START, START, ASK - 1],
         sends: &[],
         breaks_at: 0,
+        sets: &[],
         status: 5,
-        readings: 17,
+        readings: 22,
         text: "\
 host 127.42.22.2:20138 asks 127.42.22.3:20139 for 1 name
 2026-11-24T09:11:05Z not held FRED#20
@@ -158,8 +168,9 @@ host 127.42.22.2:20138 asks 127.42.22.3:20139 for 1 name
         moments: &[START, START, START, START, START, ASK - 1],
         sends: &[],
         breaks_at: 0,
+        sets: &[],
         status: 5,
-        readings: 17,
+        readings: 22,
         text: "\
 host 127.42.22.2:20138 asks 127.42.22.3:20139 for 14 names
 2026-11-24T09:11:05Z not held A#20
@@ -181,11 +192,69 @@ host 127.42.22.2:20138 asks 127.42.22.3:20139 for 14 names
         sent: &[],
     },
     Row {
+        about: "the time of day is set back by an hour",
+        words: "nbt host fred --group TEAM --server 127.42.22.3:20139 --bind 127.42.22.2:20138 --longest 60s --for 2006ms",
+        moments: ASKING,
+        sends: &[(8, GRANTED), (15, JOINED), (20, RELEASED), (20, LEFT)],
+        breaks_at: 0,
+        sets: &[(7, 0, 3_600_000)],
+        status: 0,
+        readings: 36,
+        text: "\
+host 127.42.22.2:20138 asks 127.42.22.3:20139 for 2 names
+2026-11-24T08:11:05Z granted FRED#20 60 s
+2026-11-24T08:11:05Z granted TEAM#20 60 s
+2026-11-24T08:11:05Z given back FRED#20
+2026-11-24T08:11:05Z given back TEAM#20
+",
+        errors: "",
+        sent: &[ASKS, JOINS, RELEASES, LEAVES],
+    },
+    Row {
+        about: "the machine sleeps for 201 ms between two turns, and what was granted is forgotten",
+        words: "nbt host fred --group TEAM --server 127.42.22.3:20139 --bind 127.42.22.2:20138 --longest 60s --for 2006ms",
+        moments: ASKING,
+        sends: &[(8, GRANTED), (15, JOINED)],
+        breaks_at: 0,
+        sets: &[(13, 201, 0)],
+        status: 5,
+        readings: 29,
+        text: "\
+host 127.42.22.2:20138 asks 127.42.22.3:20139 for 2 names
+2026-11-24T09:11:05Z granted FRED#20 60 s
+2026-11-24T09:11:05Z slept, or its clock was set: asks anew
+2026-11-24T09:11:05Z not held FRED#20
+2026-11-24T09:11:05Z not held TEAM#20
+",
+        errors: "",
+        sent: &[ASKS, JOINS],
+    },
+    Row {
+        about: "it sleeps while it waits for what comes, and no query is answered",
+        words: "nbt host fred --group TEAM --server 127.42.22.3:20139 --bind 127.42.22.2:20138 --longest 60s --for 2006ms",
+        moments: ASKING,
+        sends: &[(8, GRANTED), (15, QUERIES)],
+        breaks_at: 0,
+        sets: &[(17, 201, 0)],
+        status: 5,
+        readings: 29,
+        text: "\
+host 127.42.22.2:20138 asks 127.42.22.3:20139 for 2 names
+2026-11-24T09:11:05Z granted FRED#20 60 s
+2026-11-24T09:11:05Z slept, or its clock was set: asks anew
+2026-11-24T09:11:05Z not held FRED#20
+2026-11-24T09:11:05Z not held TEAM#20
+",
+        errors: "",
+        sent: &[ASKS, JOINS],
+    },
+    Row {
         about: "a clock that can't be read",
         words: "nbt host FRED --server 127.42.22.3:20139 --bind 127.42.22.2:20138",
         moments: &[],
         sends: &[],
         breaks_at: 0,
+        sets: &[],
         status: 3,
         readings: 1,
         text: "device\n",

@@ -16,8 +16,15 @@ const NOBODY: &str = "127.42.22.9:9";
 /// When the port is well again, in place of a reading.
 pub const WELL: usize = usize::MAX;
 
-/// Its clock tells these moments, in milliseconds, one a reading, and then the last again; where there are none, it can't
-/// be read. At its `n`th reading the other end sends to `port` what is to be sent then. At the reading `breaks_at` the port
+/// From a reading on, the time of day is so many milliseconds ahead of what it would be, or behind.
+pub type Set = (usize, u64, u64);
+
+/// When its monotonic clock began, by the time of day.
+pub const BOOT: u64 = 500_000;
+
+/// Its time of day tells these moments, in milliseconds, one a reading, and then the last again; where there are none, it can't
+/// be read. Its monotonic clock tells how long before that [`BOOT`] was, each reading of either clock being the next. `sets` says how
+/// the time of day is set meanwhile, which the monotonic clock doesn't tell. At its `n`th reading the other end sends to `port` what is to be sent then. At the reading `breaks_at` the port
 /// breaks: its next call fails, and the first one after each sleep. After `well_after` sleeps it is well again, for the other
 /// end alone, which sends then what is to be sent at [`WELL`]; and it breaks again at the reading `breaks_again_at`. Where `port` is,
 /// whoever binds a UDP port is given that one. TCP, and strangers, are as `street` says. Where it has no memory, none of its sockets
@@ -32,6 +39,7 @@ pub struct Machine<'a, N> {
     pub moments: &'static [u64],
     pub sends: &'static [(usize, &'static str)],
     pub breaks_at: usize,
+    pub sets: &'static [Set],
     pub readings: Cell<usize>,
     pub sleeps: Cell<usize>,
     pub well_after: usize,
@@ -55,6 +63,7 @@ impl<'a, N: Net<Stream = TcpStream, Listener = TcpListener>> Machine<'a, N> {
             moments: &[],
             sends: &[],
             breaks_at: 0,
+            sets: &[],
             readings: Cell::new(0),
             sleeps: Cell::new(0),
             well_after: 0,
@@ -75,6 +84,29 @@ impl<'a, N: Net<Stream = TcpStream, Listener = TcpListener>> Machine<'a, N> {
             self.breaks()?;
         }
         Ok(())
+    }
+
+    /// A reading of a clock: the moment of it.
+    fn next_moment(&self) -> io::Result<u64> {
+        let before = self.readings.get();
+        let reading = before.saturating_add(1);
+        self.readings.set(reading);
+        self.happens(reading)?;
+        match self.moments.get(before).or(self.moments.last()) {
+            Some(ms) => Ok(*ms),
+            None => Err(io::Error::from(io::ErrorKind::Unsupported)),
+        }
+    }
+
+    /// How the time of day is set at the reading that was made last.
+    fn last_set(&self) -> Set {
+        let mut last = (0, 0, 0);
+        for set in self.sets {
+            if set.0 <= self.readings.get() {
+                last = *set;
+            }
+        }
+        last
     }
 
     /// The port is well again.
@@ -112,18 +144,13 @@ impl<'a, N: Net<Stream = TcpStream, Listener = TcpListener>> Machine<'a, N> {
 
 impl<'a, N: Net<Stream = TcpStream, Listener = TcpListener>> Clock for Machine<'a, N> {
     fn monotonic(&self) -> io::Result<Duration> {
-        self.since_1970()
+        Ok(Duration::from_millis(self.next_moment()?.saturating_sub(BOOT)))
     }
 
     fn since_1970(&self) -> io::Result<Duration> {
-        let before = self.readings.get();
-        let reading = before.saturating_add(1);
-        self.readings.set(reading);
-        self.happens(reading)?;
-        match self.moments.get(before).or(self.moments.last()) {
-            Some(ms) => Ok(Duration::from_millis(*ms)),
-            None => Err(io::Error::from(io::ErrorKind::Unsupported)),
-        }
+        let moment = self.next_moment()?;
+        let (_, ahead, behind) = self.last_set();
+        Ok(Duration::from_millis(moment.saturating_add(ahead).saturating_sub(behind)))
     }
 
     fn sleep(&self, duration: Duration) {

@@ -58,7 +58,7 @@ const END: u64 = OPEN + 1;
 /// What is said of the longest lease that is not long, and of one that is.
 const LONG: &str = "nbt: longest lease 3601 s: after each start the server is silent for as long\n";
 
-pub static NAME_SERVERS: [Row; 9] = [
+pub static NAME_SERVERS: [Row; 10] = [
     Row {
         about: "silent for the longest lease, and then it serves, until its time is over",
         words: "nbt nbns --bind 127.42.22.2:20138 --longest 60s --for 60001ms",
@@ -68,6 +68,23 @@ pub static NAME_SERVERS: [Row; 9] = [
         ],
         sends: &[(1, ASKS), (1, REFRESHES), (1, QUERIES), (1, RELEASES)],
         breaks_at: 0,
+        sets: &[],
+        status: 0,
+        readings: 16,
+        text: "serving 127.42.22.2:20138, silent for 60 s until 2026-11-24T09:12:03Z\n",
+        errors: "",
+        sent: &[RENEWED, FOUND, RELEASED],
+    },
+    Row {
+        about: "the same, while the time of day is set forward by an hour and then back by one",
+        words: "nbt nbns --bind 127.42.22.2:20138 --longest 60s --for 60001ms",
+        moments: &[
+            START, START, START, START, SILENT, SILENT, SILENT, OPEN, OPEN, OPEN, OPEN, OPEN, OPEN,
+            OPEN, END,
+        ],
+        sends: &[(1, ASKS), (1, REFRESHES), (1, QUERIES), (1, RELEASES)],
+        breaks_at: 0,
+        sets: &[(5, 3_600_000, 0), (8, 0, 3_600_000)],
         status: 0,
         readings: 16,
         text: "serving 127.42.22.2:20138, silent for 60 s until 2026-11-24T09:12:03Z\n",
@@ -91,6 +108,7 @@ pub static NAME_SERVERS: [Row; 9] = [
             (1, QUERIES),
         ],
         breaks_at: 0,
+        sets: &[],
         status: 0,
         readings: 25,
         text: "\
@@ -111,6 +129,7 @@ serving 127.42.22.2:20138, silent for 60 s until 2026-11-24T09:12:03Z
         moments: &[START, START, START, START, OPEN, OPEN, OPEN, OPEN, END],
         sends: &[(1, ASKS_AS_NMBD), (1, JOINS)],
         breaks_at: 0,
+        sets: &[],
         status: 0,
         readings: 10,
         text: "serving 127.42.22.2:20138, silent for 60 s until 2026-11-24T09:12:03Z\n",
@@ -123,6 +142,7 @@ serving 127.42.22.2:20138, silent for 60 s until 2026-11-24T09:12:03Z
         moments: &[START, START, START, START, OPEN, END],
         sends: &[(1, ASKS_AS_NMBD)],
         breaks_at: 0,
+        sets: &[],
         status: 0,
         readings: 7,
         text: "\
@@ -138,6 +158,7 @@ serving 127.42.22.2:20138, silent for 60 s until 2026-11-24T09:12:03Z
         moments: &[START],
         sends: &[],
         breaks_at: 0,
+        sets: &[],
         status: 0,
         readings: 6,
         text: "serving 127.42.22.2:20138, silent for 3600 s until 2026-11-24T10:11:03Z\n",
@@ -150,6 +171,7 @@ serving 127.42.22.2:20138, silent for 60 s until 2026-11-24T09:12:03Z
         moments: &[START],
         sends: &[],
         breaks_at: 0,
+        sets: &[],
         status: 0,
         readings: 6,
         text: "serving 127.42.22.2:20138, silent for 3601 s until 2026-11-24T10:11:04Z\n",
@@ -162,6 +184,7 @@ serving 127.42.22.2:20138, silent for 60 s until 2026-11-24T09:12:03Z
         moments: &[START],
         sends: &[],
         breaks_at: 0,
+        sets: &[],
         status: 0,
         readings: 6,
         text: "serving 127.42.22.2:20138, silent for 300 s until 2026-11-24T09:16:03Z\n",
@@ -174,6 +197,7 @@ serving 127.42.22.2:20138, silent for 60 s until 2026-11-24T09:12:03Z
         moments: &[],
         sends: &[],
         breaks_at: 0,
+        sets: &[],
         status: 3,
         readings: 1,
         text: "device\n",
@@ -186,6 +210,7 @@ serving 127.42.22.2:20138, silent for 60 s until 2026-11-24T09:12:03Z
         moments: &[0],
         sends: &[],
         breaks_at: 0,
+        sets: &[],
         status: 3,
         readings: 2,
         text: "device\n",
@@ -201,6 +226,7 @@ static KEPT: Row = Row {
     moments: &[START, START, START, START, OPEN, OPEN, OPEN, OPEN, END],
     sends: &[(1, ASKS), (1, JOINS)],
     breaks_at: 0,
+    sets: &[],
     status: 0,
     readings: 10,
     text: "serving 127.42.22.2:20138, silent for 60 s until 2026-11-24T09:12:03Z\n",

@@ -5,7 +5,7 @@ use super::ending::{expect_ending, expect_printed, status_of};
 use super::expect::{expect, expect_eq};
 use super::hosts::HOSTS;
 use super::lookups::{LOOKUPS, STATUSES};
-use super::machine::{Machine, WELL};
+use super::machine::{Machine, Set, WELL};
 use super::nbns::NAME_SERVERS;
 use super::street::Street;
 use super::terminal::octets_of;
@@ -21,7 +21,7 @@ pub const OWN: &str = "127.42.22.2:20138";
 pub const OTHER: &str = "127.42.22.3:20139";
 
 /// A command, the moments that its clock tells, and what the other end sends at which reading of it; at which reading the
-/// port breaks, or 0; and how it ends, after how many readings, what is printed, what is said of errors, and what the other end
+/// port breaks, or 0; how the time of day is set; and how it ends, after how many readings, what is printed, what is said of errors, and what the other end
 /// is sent.
 #[derive(Clone, Copy)]
 pub struct Row {
@@ -30,6 +30,7 @@ pub struct Row {
     pub moments: &'static [u64],
     pub sends: &'static [(usize, &'static str)],
     pub breaks_at: usize,
+    pub sets: &'static [Set],
     pub status: u8,
     pub readings: usize,
     pub text: &'static str,
@@ -97,6 +98,7 @@ static SERVERS: [Row; 9] = [
         moments: &[1_000_000, 1_000_000, 1_069_999, 1_070_000, 1_070_000],
         sends: &[(1, FIRST), (1, AGAIN), (1, TEAM)],
         breaks_at: 0,
+        sets: &[],
         status: 0,
         readings: 5,
         text: "turns 5 replies 2 lost 0\n",
@@ -112,6 +114,7 @@ static SERVERS: [Row; 9] = [
         moments: &[1_000_000, 1_000_000, 1_059_999],
         sends: &[(1, FIRST)],
         breaks_at: 0,
+        sets: &[],
         status: 0,
         readings: 3,
         text: "turns 1 replies 0 lost 0\n",
@@ -124,6 +127,7 @@ static SERVERS: [Row; 9] = [
         moments: &[1_000_000, 1_000_000, 1_060_000],
         sends: &[(1, FIRST)],
         breaks_at: 0,
+        sets: &[],
         status: 0,
         readings: 3,
         text: "turns 1 replies 1 lost 0\n",
@@ -136,6 +140,7 @@ static SERVERS: [Row; 9] = [
         moments: &[1_000_000, 1_000_000, 1_060_000, 1_059_999, 1_060_001],
         sends: &[(1, FIRST), (1, TEAM), (1, AGAIN)],
         breaks_at: 0,
+        sets: &[],
         status: 0,
         readings: 5,
         text: "turns 4 replies 2 lost 1\n",
@@ -148,6 +153,7 @@ static SERVERS: [Row; 9] = [
         moments: &[1_000_000],
         sends: &[],
         breaks_at: 2,
+        sets: &[],
         status: 3,
         readings: 2,
         text: "serving 127.42.22.2:20138, silent for 60 s\ndevice\n",
@@ -160,6 +166,7 @@ static SERVERS: [Row; 9] = [
         moments: &[1_000_000, 1_000_000, 1_060_000, 1_060_000],
         sends: &[(1, FIRST), (1, "00")],
         breaks_at: 4,
+        sets: &[],
         status: 3,
         readings: 4,
         text: "serving 127.42.22.2:20138, silent for 60 s\ndevice\n",
@@ -172,6 +179,7 @@ static SERVERS: [Row; 9] = [
         moments: &[1_000_000, 1_000_000, 1_060_000, 1_060_000],
         sends: &[(1, FIRST), (1, "00")],
         breaks_at: 4,
+        sets: &[],
         status: 3,
         readings: 4,
         text: "device\n",
@@ -184,6 +192,7 @@ static SERVERS: [Row; 9] = [
         moments: &[],
         sends: &[],
         breaks_at: 0,
+        sets: &[],
         status: 3,
         readings: 1,
         text: "device\n",
@@ -196,6 +205,7 @@ static SERVERS: [Row; 9] = [
         moments: &[0, 1],
         sends: &[],
         breaks_at: 0,
+        sets: &[],
         status: 3,
         readings: 1,
         text: "device\n",
@@ -221,6 +231,7 @@ static NODES: [Row; 5] = [
             ),
         ],
         breaks_at: 0,
+        sets: &[],
         status: 0,
         readings: 10,
         text: "granted 70\nheld\n",
@@ -237,6 +248,7 @@ static NODES: [Row; 5] = [
         ],
         sends: &[(3, GRANTED), (5, SECOND_GRANTED), (7, SECOND_GRANTED)],
         breaks_at: 0,
+        sets: &[],
         status: 0,
         readings: 8,
         text: "granted 60\nrenewed 60\nheld\n",
@@ -257,6 +269,7 @@ static NODES: [Row; 5] = [
             (11, CONFLICT),
         ],
         breaks_at: 0,
+        sets: &[],
         status: 0,
         readings: 12,
         text: "refused 6\ngranted 60\nlost\nnot held\n",
@@ -269,6 +282,7 @@ static NODES: [Row; 5] = [
         moments: &[1_000_000, 1_000_000, 1_002_005],
         sends: &[(3, GRANTED)],
         breaks_at: 6,
+        sets: &[],
         status: 3,
         readings: 106,
         text: "granted 60\ndevice\n",
@@ -281,6 +295,7 @@ static NODES: [Row; 5] = [
         moments: &[],
         sends: &[],
         breaks_at: 0,
+        sets: &[],
         status: 3,
         readings: 1,
         text: "device\n",
@@ -311,6 +326,7 @@ const SERVER_OUTLASTS: Row = Row {
     moments: &[1_000_000, 1_000_000, 1_060_000],
     sends: &[(1, FIRST), (1, "00"), (WELL, ASKS_FOR_FRED), (WELL, "00")],
     breaks_at: 4,
+    sets: &[],
     status: 3,
     readings: 6,
     text: "serving 127.42.22.2:20138, silent for 60 s\ndevice\n",
@@ -326,6 +342,7 @@ const NODE_OUTLASTS: Row = Row {
     ],
     sends: &[(3, GRANTED), (WELL, SECOND_GRANTED)],
     breaks_at: 4,
+    sets: &[],
     status: 3,
     readings: 109,
     text: "granted 60\nrenewed 60\ndevice\n",
@@ -357,6 +374,7 @@ where
         moments: row.moments,
         sends: row.sends,
         breaks_at: row.breaks_at,
+        sets: row.sets,
         ..Machine::new(rt, port, other, street)
     }
 }

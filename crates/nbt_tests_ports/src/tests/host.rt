@@ -5,11 +5,13 @@ use super::expect::{expect, expect_eq, expect_eq_in, expect_in};
 use super::stage::{Scene, play_on};
 use arrayvec::ArrayVec;
 use nbt_client::Want;
-use nbt_host::{Clocks, Goal, News, Reading, Stage, give_back, host_turn, waking_turn};
+use nbt_host::{
+    Clocks, Goal, Look, News, Reading, Stage, Watch, WatchedClocks, give_back, host_turn,
+};
 use nbt_lease::Moment;
 use nbt_name::{Addr, Kind, Name};
 use nbt_node::Node;
-use nbt_port::{Datagram, Device, MemoryClock, MemoryPort, Port};
+use nbt_port::{Clock, Datagram, MemoryClock, MemoryPort, Port};
 use nbt_server::Server;
 use nbt_testing::{Row, clock as clock_of, config, expect_sent, moment, port as port_of};
 use std::collections::VecDeque;
@@ -59,6 +61,46 @@ fn node_b() -> Result<Goal, Fail> {
     goal(b"NODEB           ", Kind::Unique)
 }
 
+/// A machine that never sleeps, with one clock.
+#[derive(Drop)]
+struct Awake<'c> {
+    clock: &'c mut MemoryClock,
+}
+
+impl Clock for Awake<'_> {
+    ghost use Rattle.std.specs.Prelude.{⊤};
+
+    ghost tells = { λ _ _ _. ⊤ };
+
+    fn now(&mut self) -> Moment {
+        self.clock.now()
+    }
+}
+
+impl Watch for Awake<'_> {
+    ghost use Rattle.std.specs.Prelude.{⊤};
+
+    ghost looks = { λ _ _ _. ⊤ };
+
+    fn look(&mut self) -> Look {
+        let at = self.clock.now();
+        Look {
+            at,
+            day: at,
+            slept: false,
+        }
+    }
+}
+
+/// A look at this moment, at which the machine had not slept.
+fn look_at(at: u64) -> Result<Look, Fail> {
+    Ok(Look {
+        at: moment(at)?,
+        day: moment(at)?,
+        slept: false,
+    })
+}
+
 /// `host_turn` at a port of which few calls have failed.
 fn turn<R: Abort>(
     rt: &R,
@@ -66,9 +108,20 @@ fn turn<R: Abort>(
     clock: &mut MemoryClock,
     node: &mut Node<3>,
     goals: &mut [Goal],
-) -> Result<(), Device> {
+) -> Result<(), Fail> {
     expect(rt, port.failures() < 1 << 62);
-    host_turn(port, clock, node, SERVER, goals)
+    let mut watch = Awake { clock };
+    let mut last = look_at(0)?;
+    host_turn(
+        port,
+        &mut watch,
+        node,
+        SERVER,
+        config(4096)?,
+        goals,
+        &mut last,
+    )?;
+    Ok(())
 }
 
 /// A turn: its two moments, what comes, and what is told of FRED: whether its hold has lapsed, and what came of it.
@@ -420,7 +473,12 @@ fn play_ending<R: Abort + AllocGlobal>(
     *port = port_of(rt, ending.given)?;
     *clock = clock_of(rt, ending.moments)?;
     expect(rt, port.failures() < 1 << 62);
-    give_back(port, clock, node, SERVER, goals, 1_000)?;
+    let mut watch = Awake { clock };
+    let mut last = look_at(0)?;
+    let config = config(4096)?;
+    give_back(
+        port, &mut watch, node, SERVER, config, goals, &mut last, 1_000,
+    )?;
     for (goal, stage) in goals.iter().zip(ending.stages) {
         expect_eq(rt, &goal.stage, &*stage);
     }
@@ -436,14 +494,20 @@ fn reading(before: u64, day: u64, after: u64) -> Result<Reading, Fail> {
     })
 }
 
-/// Readings after (1,000, 500,000, 1,010), and whether the machine slept: the steady clock went from 1,000 to the last number.
-const READINGS: [(u64, u64, u64, bool); 6] = [
+/// Readings after (1,000, 500,000, 1,010), and whether the machine slept: the steady clock went from 1,000 to the last number, and of
+/// that a thousandth and 200 ms are allowed.
+const READINGS: [(u64, u64, u64, bool); 10] = [
     (2_000, 501_000, 2_000, false),
-    (2_000, 501_200, 2_000, false),
-    (2_000, 501_201, 2_000, true),
-    (2_000, 504_201, 5_000, true),
-    (2_000, 504_200, 5_000, false),
+    (1_100, 500_300, 1_100, false),
+    (1_100, 500_301, 1_100, true),
+    (2_000, 501_201, 2_000, false),
+    (2_000, 501_202, 2_000, true),
+    (2_000, 504_205, 5_000, true),
+    (2_000, 504_204, 5_000, false),
     (2_000, 1_000, 2_000, false),
+    // A hold of 1,000,000 s, by clocks that drift apart by a thousandth and by no more.
+    (1_000_001_000, 1_001_500_200, 1_000_001_000, false),
+    (1_000_001_000, 1_001_500_201, 1_000_001_000, true),
 ];
 
 /// Whether the machine slept between (1,000, 500,000, 1,010) and this reading.
@@ -453,61 +517,99 @@ fn slept_until(before: u64, day: u64, after: u64) -> Result<bool, Fail> {
 }
 
 #[test]
-fn a_sleep_is_seen_from_201_ms_on(rt: HostRuntime) -> Result<(), Fail> {
+fn a_sleep_is_seen_from_201_ms_and_a_thousandth_on(rt: HostRuntime) -> Result<(), Fail> {
     for (before, day, after, slept) in &READINGS {
         expect_eq_in(&rt, &day, &slept_until(*before, *day, *after)?, &*slept);
     }
     Ok(())
 }
 
-/// A turn on a machine that may sleep: what the steady clock tells in it, what the time of day is, what comes, and whether the
-/// machine slept.
-type Waking = ([u64; 4], u64, Row, bool);
+/// The readings of many years ahead, at which no product may be too large.
+#[test]
+fn a_sleep_is_seen_at_the_last_moments(rt: HostRuntime) -> Result<(), Fail> {
+    let end = 1 << 60;
+    let earlier = reading(end - 100, end - 301, end - 100)?;
+    expect(&rt, reading(end, end, end)?.slept_since(earlier));
+    let earlier = reading(end - 100, end - 300, end - 100)?;
+    expect(&rt, !reading(end, end, end)?.slept_since(earlier));
+    Ok(())
+}
 
-/// FRED is granted, and a query answered, the time of day having gone 200 ms beyond the steady clock. Then it goes 201 ms beyond: the
-/// host starts at 5,000, answers no query, and asks anew more than 2,004 ms later, with the first id.
-const WAKING: [Waking; 5] = [
-    ([2_990, 3_000, 3_000, 3_010], 1_002_995, GRANTED, false),
-    ([3_020, 3_030, 3_040, 3_050], 1_003_235, QUERY, false),
-    ([4_990, 5_000, 5_000, 5_010], 1_005_416, QUERY, true),
-    ([7_004, 7_004, 7_004, 7_004], 1_007_400, NOTHING, false),
-    ([7_005, 7_005, 7_005, 7_005], 1_007_401, NOTHING, false),
+/// A turn on a machine that may sleep: what the steady clock tells in it, what the time of day is at its two looks, what comes, and
+/// whether the machine slept.
+type Waking = ([u64; 4], [u64; 2], Row, bool);
+
+/// FRED is granted, and a query answered, the time of day having gone 200 ms beyond the steady clock since the look before. In the
+/// next turn it goes one more, so the host starts at 3,070, answers no query, and asks anew more than 2,004 ms later, with the first
+/// id. A grant comes, and then a query, after a wait in which the machine slept for 201 ms: it isn't answered.
+const WAKING: [Waking; 9] = [
+    (
+        [2_990, 3_000, 3_000, 3_010],
+        [1_002_995, 1_003_005],
+        GRANTED,
+        false,
+    ),
+    (
+        [3_020, 3_030, 3_040, 3_050],
+        [1_003_235, 1_003_255],
+        QUERY,
+        false,
+    ),
+    (
+        [3_060, 3_070, 3_080, 3_090],
+        [1_003_276, 1_003_300],
+        QUERY,
+        true,
+    ),
+    ([5_074; 4], [1_005_290; 2], NOTHING, false),
+    ([5_075; 4], [1_005_291; 2], GRANTED, false),
+    (
+        [6_000, 6_000, 6_100, 6_100],
+        [1_006_216, 1_006_518],
+        QUERY,
+        true,
+    ),
+    // The time of day is set back by some seconds, and forward again.
+    ([6_110; 4], [1_006_528, 1_003_000], QUERY, false),
+    ([6_120; 4], [1_003_010; 2], NOTHING, false),
+    ([6_130; 4], [1_006_548; 2], NOTHING, true),
 ];
 
-/// `waking_turn` at a port of which few calls have failed.
+/// `host_turn` at a port of which few calls have failed. Returns whether the machine slept.
 fn waking<R: Abort>(
     rt: &R,
     port: &mut MemoryPort,
-    clocks: &mut Clocks<MemoryClock, MemoryClock>,
+    watch: &mut WatchedClocks<MemoryClock, MemoryClock>,
     node: &mut Node<3>,
     goals: &mut [Goal],
-    last: &mut Reading,
+    last: &mut Look,
 ) -> Result<bool, Fail> {
     expect(rt, port.failures() < 1 << 62);
-    let config = config(4096)?;
-    Ok(waking_turn(port, clocks, node, SERVER, config, goals, last)?)
+    host_turn(port, watch, node, SERVER, config(4096)?, goals, last)?;
+    Ok(last.slept)
 }
 
 fn play_waking<R: Abort + AllocGlobal>(
     rt: &R,
     port: &mut MemoryPort,
-    clocks: &mut Clocks<MemoryClock, MemoryClock>,
+    watch: &mut WatchedClocks<MemoryClock, MemoryClock>,
     node: &mut Node<3>,
     goals: &mut [Goal],
 ) -> Result<(), Fail> {
-    let mut last = reading(0, 1_000_000, 0)?;
-    for (moments, day, _, slept) in &WAKING {
-        let woke = waking(rt, port, clocks, node, goals, &mut last)?;
-        expect_eq_in(rt, &day, &woke, &*slept);
-        expect_eq(rt, &last, &reading(moments[0], *day, moments[1])?);
+    let mut last = look_at(0)?;
+    for (moments, days, _, slept) in &WAKING {
+        let woke = waking(rt, port, watch, node, goals, &mut last)?;
+        expect_eq_in(rt, &days, &woke, &*slept);
+        expect_eq_in(rt, &days, &last.at, &moment(moments[3])?);
+        expect_eq_in(rt, &days, &last.day, &moment(days[1])?);
         for goal in goals.iter() {
-            expect_in(rt, &day, !goal.lapsed);
+            expect_in(rt, &days, !goal.lapsed);
         }
     }
     expect_sent(rt, port, &[ASK, ANSWER, ASK])
 }
 
-/// What comes in those turns, what the steady clock tells in them, and the time of day.
+/// What comes in those turns, what the steady clock tells in them, and the times of day.
 fn waking_given<R: AllocGlobal>(rt: &R) -> Result<Vec<Row>, Fail> {
     let mut given = Vec::new(rt.alloc());
     for (_, _, row, _) in &WAKING {
@@ -525,17 +627,17 @@ fn waking_steady<R: AllocGlobal>(rt: &R) -> Result<Vec<u64>, Fail> {
 }
 
 fn waking_days<R: AllocGlobal>(rt: &R) -> Result<Vec<u64>, Fail> {
-    let mut days = Vec::new(rt.alloc());
-    for (_, day, _, _) in &WAKING {
-        days.push(*day)?;
+    let mut all = Vec::new(rt.alloc());
+    for (_, days, _, _) in &WAKING {
+        all.extend_from_slice(days)?;
     }
-    Ok(days)
+    Ok(all)
 }
 
-fn waking_clocks<R: AllocGlobal>(rt: &R) -> Result<Clocks<MemoryClock, MemoryClock>, Fail> {
+fn waking_clocks<R: AllocGlobal>(rt: &R) -> Result<WatchedClocks<MemoryClock, MemoryClock>, Fail> {
     let steady = clock_of(rt, waking_steady(rt)?.as_slice())?;
     let day = clock_of(rt, waking_days(rt)?.as_slice())?;
-    Ok(Clocks { steady, day })
+    Ok(WatchedClocks::new(Clocks { steady, day }))
 }
 
 /// What is played with a host that may want FRED, TEAM and NODEB.

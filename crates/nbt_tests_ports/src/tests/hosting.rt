@@ -5,8 +5,8 @@ use super::expect::{expect, expect_eq, expect_eq_in};
 use super::stage::{Scene, play_on};
 use nbt_client::Want;
 use nbt_host::{
-    Clocks, Event, Goal, HostArguments, News, Refusal, Stage, host_over, run_host, write_begin,
-    write_endings, write_event, write_turn,
+    Clocks, Event, Goal, HostArguments, News, Refusal, Stage, WatchedClocks, host_over, run_host,
+    write_begin, write_endings, write_event, write_turn,
 };
 use nbt_name::{Addr, Kind, Name};
 use nbt_port::{Fault, MemoryClock, MemoryPort, Port, UdpPort};
@@ -81,23 +81,31 @@ fn arguments<R: AllocGlobal>(
     })
 }
 
-/// What the steady clock tells: it is read at first, at 0, twice at a turn's beginning, at both moments of the turn, and after it.
+/// What the steady clock tells: it is read at first, at 0, at each of a turn's two looks before the time of day and after it, and after
+/// the turn.
 fn steady_in<R: AllocGlobal>(rt: &R, turns: &[Turn], end: &[u64]) -> Result<Vec<u64>, Fail> {
     let mut steady = Vec::new(rt.alloc());
     steady.extend_from_slice(&[0, 0])?;
     for (first, second, _, _) in turns {
-        steady.extend_from_slice(&[*first, *first, *first, *second, *second])?;
+        steady.extend_from_slice(&[*first, *first, *second, *second, *second])?;
     }
     steady.extend_from_slice(end)?;
     Ok(steady)
 }
 
-/// The times of day: it is read at first, and once a turn.
-fn days_in<R: AllocGlobal>(rt: &R, turns: &[Turn]) -> Result<Vec<u64>, Fail> {
+/// The times of day: it is read at first, and at each of a turn's two looks, also while the names are given back. There the steady
+/// clock is read twice at first, and then five times a turn.
+fn days_in<R: AllocGlobal>(rt: &R, turns: &[Turn], end: &[u64]) -> Result<Vec<u64>, Fail> {
     let mut days = Vec::new(rt.alloc());
     days.push(DAY)?;
-    for (first, _, set, _) in turns {
+    for (first, second, set, _) in turns {
         days.push(DAY.saturating_add(*first).saturating_add(*set))?;
+        days.push(DAY.saturating_add(*second).saturating_add(*set))?;
+    }
+    for (place, moment) in end.iter().enumerate() {
+        if place >= 2 && matches!(place % 5, 2 | 4) {
+            days.push(DAY.saturating_add(*moment))?;
+        }
     }
     Ok(days)
 }
@@ -107,10 +115,10 @@ fn clocks<R: AllocGlobal>(
     rt: &R,
     turns: &[Turn],
     end: &[u64],
-) -> Result<Clocks<MemoryClock, MemoryClock>, Fail> {
+) -> Result<WatchedClocks<MemoryClock, MemoryClock>, Fail> {
     let steady = clock(rt, steady_in(rt, turns, end)?.as_slice())?;
-    let day = clock(rt, days_in(rt, turns)?.as_slice())?;
-    Ok(Clocks { steady, day })
+    let day = clock(rt, days_in(rt, turns, end)?.as_slice())?;
+    Ok(WatchedClocks::new(Clocks { steady, day }))
 }
 
 /// What comes in the turns, and while the names are given back.
@@ -127,7 +135,7 @@ fn given_in<R: AllocGlobal>(rt: &R, turns: &[Turn], given: &[Row]) -> Result<Vec
 fn run<R: Abort + AllocGlobal + time::Clock>(
     rt: &R,
     port: &mut MemoryPort,
-    clocks: Clocks<MemoryClock, MemoryClock>,
+    clocks: WatchedClocks<MemoryClock, MemoryClock>,
     arguments: &HostArguments,
     row: &Hosted,
 ) -> Result<(), Fail> {
@@ -435,6 +443,7 @@ const SLEPT: Hosted = Hosted {
     wants: &[FRED],
     turns: &[
         (3_000, 3_000, 0, GRANTED),
+        (4_900, 4_900, 0, NOTHING),
         (5_000, 5_000, 201, NOTHING),
         (7_004, 7_004, 201, NOTHING),
         (7_005, 7_005, 201, GRANTED),
@@ -445,7 +454,29 @@ const SLEPT: Hosted = Hosted {
     time: 7_005,
     log: false,
     all: Ok(true),
-    printed: "host 127.0.0.2:137 asks 127.0.0.1:137 for 1 name\n2026-11-24T09:11:06Z granted FRED#20 60 s\n2026-11-24T09:11:08Z slept, asks anew\n2026-11-24T09:11:10Z granted FRED#20 60 s\n2026-11-24T09:11:10Z given back FRED#20\n",
+    printed: "host 127.0.0.2:137 asks 127.0.0.1:137 for 1 name\n2026-11-24T09:11:06Z granted FRED#20 60 s\n2026-11-24T09:11:08Z slept, or its clock was set: asks anew\n2026-11-24T09:11:10Z granted FRED#20 60 s\n2026-11-24T09:11:10Z given back FRED#20\n",
+    errors: "",
+    sent: &[ASK, ASK, RELEASE_2],
+};
+
+/// It sleeps for 190 ms and then for 11 more.
+const SLEPT_TWICE: Hosted = Hosted {
+    wants: &[FRED],
+    turns: &[
+        (3_000, 3_000, 0, GRANTED),
+        (4_800, 4_800, 0, NOTHING),
+        (4_900, 4_900, 190, NOTHING),
+        (5_000, 5_000, 201, NOTHING),
+        (7_004, 7_004, 201, NOTHING),
+        (7_005, 7_005, 201, GRANTED),
+    ],
+    end: &[],
+    given: &[FREED_2],
+    fails_after: None,
+    time: 7_005,
+    log: false,
+    all: Ok(true),
+    printed: "host 127.0.0.2:137 asks 127.0.0.1:137 for 1 name\n2026-11-24T09:11:06Z granted FRED#20 60 s\n2026-11-24T09:11:08Z slept, or its clock was set: asks anew\n2026-11-24T09:11:10Z granted FRED#20 60 s\n2026-11-24T09:11:10Z given back FRED#20\n",
     errors: "",
     sent: &[ASK, ASK, RELEASE_2],
 };
@@ -455,8 +486,8 @@ const UNCONFIRMED: Hosted = Hosted {
     wants: &[FRED],
     turns: &[(4_000, 4_000, 0, GRANTED)],
     end: &[
-        4_000, 4_000, 4_000, 4_000, 4_000, 9_000, 9_000, 9_000, 14_000, 14_000, 14_000, 18_999,
-        18_999, 19_000,
+        4_000, 4_000, 4_000, 4_000, 4_000, 4_000, 4_000, 9_000, 9_000, 9_000, 9_000, 9_000, 14_000,
+        14_000, 14_000, 14_000, 14_000, 18_999, 18_999, 18_999, 18_999, 19_000,
     ],
     given: &[],
     fails_after: None,
@@ -507,6 +538,7 @@ const ROWS: &[Hosted] = &[
     LAPSED_IN_A_FAILURE,
     TOO_LATE,
     SLEPT,
+    SLEPT_TWICE,
     UNCONFIRMED,
     FAILING,
     FAILING_AT_THE_END,
@@ -534,7 +566,7 @@ const ROOMS: &[Short] = &[
 fn run_short<R: Abort + AllocGlobal + time::Clock>(
     rt: &R,
     port: &mut MemoryPort,
-    clocks: Clocks<MemoryClock, MemoryClock>,
+    clocks: WatchedClocks<MemoryClock, MemoryClock>,
     arguments: &HostArguments,
     room: &mut [u8],
     printed: &str,
@@ -749,7 +781,7 @@ fn lines_of_a_turn_and_of_the_end(rt: HostRuntime) -> Result<(), Fail> {
     expect_eq(
         &rt,
         &text.as_str(),
-        &"host 127.0.0.2:137 asks 127.0.0.1:137 for 0 names\n2026-11-24T09:12:03Z slept, asks anew\n2026-11-24T09:12:03Z lapsed FRED#20\n2026-11-24T09:12:03Z refused FRED#20: held by another (6)\n2026-11-24T09:12:03Z asks again for FRED#20 after 5 s, 10 s .. at most 5 min\n2026-11-24T09:12:03Z refused FRED#20: held by another (6)\n2026-11-24T09:12:03Z lapsed FRED#20\n2026-11-24T09:12:03Z given back FRED#20\n2026-11-24T09:12:03Z give-back denied FRED#20: malformed request (1)\n2026-11-24T09:12:03Z give-back unconfirmed FRED#20\n2026-11-24T09:12:03Z not held FRED#20\n",
+        &"host 127.0.0.2:137 asks 127.0.0.1:137 for 0 names\n2026-11-24T09:12:03Z slept, or its clock was set: asks anew\n2026-11-24T09:12:03Z lapsed FRED#20\n2026-11-24T09:12:03Z refused FRED#20: held by another (6)\n2026-11-24T09:12:03Z asks again for FRED#20 after 5 s, 10 s .. at most 5 min\n2026-11-24T09:12:03Z refused FRED#20: held by another (6)\n2026-11-24T09:12:03Z lapsed FRED#20\n2026-11-24T09:12:03Z given back FRED#20\n2026-11-24T09:12:03Z give-back denied FRED#20: malformed request (1)\n2026-11-24T09:12:03Z give-back unconfirmed FRED#20\n2026-11-24T09:12:03Z not held FRED#20\n",
     );
     Ok(())
 }

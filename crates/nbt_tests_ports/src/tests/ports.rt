@@ -3,7 +3,7 @@
 use super::expect::{expect, expect_eq, expect_eq_in};
 use arrayvec::ArrayVec;
 use nbt_name::Addr;
-use nbt_port::{Clock, Device, MachineClock, Port, UdpPort};
+use nbt_port::{Clock, Device, Fault, MachineClock, Port, SteadyClock, UdpPort, steady_clock};
 use nbt_testing::moment;
 use std::cell::Cell;
 use std::process::Abort;
@@ -164,22 +164,38 @@ fn datagrams_go_over_udp(rt: HostRuntime) -> Result<(), Fail> {
     over_udp(&rt, &mut near, &mut far, &mut ArrayVec::new())
 }
 
-/// A machine whose clock shows these milliseconds, or can't be read.
+/// A machine whose time of day shows these milliseconds, or can't be read, and its monotonic clock, too.
 #[derive(Drop)]
 struct Machine {
     shows: Cell<Option<u64>>,
+    since_boot: Cell<Option<u64>>,
+}
+
+impl Machine {
+    /// One whose clocks can't be read.
+    fn new() -> Machine {
+        Machine {
+            shows: Cell::new(None),
+            since_boot: Cell::new(None),
+        }
+    }
+}
+
+/// These milliseconds, or that a clock can't be read.
+fn shown(ms: Option<u64>) -> io::Result<Duration> {
+    match ms {
+        Some(ms) => Ok(Duration::from_millis(ms)),
+        None => Err(io::Error::from(io::ErrorKind::Unsupported)),
+    }
 }
 
 impl time::Clock for Machine {
     fn monotonic(&self) -> io::Result<Duration> {
-        self.since_1970()
+        shown(self.since_boot.get())
     }
 
     fn since_1970(&self) -> io::Result<Duration> {
-        match self.shows.get() {
-            Some(ms) => Ok(Duration::from_millis(ms)),
-            None => Err(io::Error::from(io::ErrorKind::Unsupported)),
-        }
+        shown(self.shows.get())
     }
 }
 
@@ -204,14 +220,73 @@ fn the_clock_of_the_machine(rt: HostRuntime) {
 
 #[test]
 fn a_clock_without_a_moment_tells_the_last_one_again(rt: HostRuntime) -> Result<(), Fail> {
-    let machine = Machine {
-        shows: Cell::new(None),
-    };
+    let machine = Machine::new();
+    machine.since_boot.set(Some(7));
     let mut clock = MachineClock::new(&machine);
     for (shows, told) in TIMES {
         machine.shows.set(shows);
         expect_eq_in(&rt, &told, &clock.now(), &moment(told)?);
         expect_eq_in(&rt, &told, &clock.last(), &moment(told)?);
+    }
+    Ok(())
+}
+
+/// What the machine's monotonic clock shows, and the moment that is told: it goes on past 2^32 ms, some 50 days, and for many years.
+const STEADY_TIMES: [(Option<u64>, u64); 9] = [
+    (Some(60_000), 60_000),
+    (None, 60_000),
+    (Some(59_999), 60_000),
+    (Some(END + 1), 60_000),
+    (Some(4_294_967_295), 4_294_967_295),
+    (Some(4_294_967_296), 4_294_967_296),
+    (Some(1_000_000_000_000), 1_000_000_000_000),
+    (Some(END), END),
+    (Some(END - 1), END),
+];
+
+fn expect_steady<R: Abort>(
+    rt: &R,
+    machine: &Machine,
+    clock: &mut SteadyClock<'_, Machine>,
+) -> Result<(), Fail> {
+    for (shows, told) in STEADY_TIMES {
+        machine.since_boot.set(shows);
+        // What the time of day is doesn't matter to it.
+        machine.shows.set(Some(told + 5_000));
+        expect_eq_in(rt, &told, &clock.now(), &moment(told)?);
+    }
+    Ok(())
+}
+
+#[test]
+fn a_steady_clock_goes_on_from_boot_and_never_back(rt: HostRuntime) -> Result<(), Fail> {
+    let machine = Machine::new();
+    machine.since_boot.set(Some(1_000));
+    let mut clock = SteadyClock::begin(&machine)?;
+    machine.since_boot.set(None);
+    expect_eq(&rt, &clock.now(), &moment(1_000)?);
+    expect_steady(&rt, &machine, &mut clock)
+}
+
+/// A monotonic clock that can't be begun, and what is said of it.
+const NOT_BEGUN: [(Option<u64>, &str); 2] = [
+    (None, "nbt: 127.42.23.1:20137: clock: unsupported\n"),
+    (
+        Some(END + 1),
+        "nbt: 127.42.23.1:20137: clock: the clock is past 2^60 ms\n",
+    ),
+];
+
+#[test]
+fn a_steady_clock_that_can_not_be_read_at_first(rt: HostRuntime) -> Result<(), Fail> {
+    let machine = Machine::new();
+    machine.shows.set(Some(60_000));
+    for (shows, said) in &NOT_BEGUN {
+        machine.since_boot.set(*shows);
+        let mut errors = Vec::new(rt.alloc());
+        let refused = steady_clock(&machine, HERE, &mut errors).err();
+        expect_eq(&rt, &refused, &Some(Fault::NoClock));
+        expect_eq(&rt, &str::from_utf8(errors.as_slice())?, said);
     }
     Ok(())
 }

@@ -10,7 +10,7 @@ returns-then-not-slept c = rw c.if-not-slept.true ([], refl, sym (append-nil (st
 pub returns : goal.returns
 returns c =
     let time = c.in_ok-write_time.ensures in
-    let words = codes " slept, asks anew" in
+    let words = codes " slept, or its clock was set: asks anew" in
     rw c.if-not-slept.false (OnOk-map c.end_line.result c.end_line.ensures (λ e. (
       time.0 ++ words ++ newline,
       (time.0, time.1, refl),

@@ -1,11 +1,11 @@
-use Rattle.std.proofs.Common.{◌≡◌, List, refl, subst, rules}
+use Rattle.std.proofs.Common.{◌≡◌, List, subst, rules}
 use Rattle.std.specs.Vec.{with_items}
 use Rattle.std.proofs.lemmas.List.{with_items_is}
 use Rattle.std.proofs.lemmas.Result.{err_from_is_err_and}
 use Rattle.nbt_host.specs.declared.goal.Goal.{Goal}
 use Rattle.nbt_host.specs.ReleaseLines.{PrintsEnding, is_cut}
-use Rattle.nbt_host.specs.Host.{HostingValue}
-use Rattle.nbt_host.proofs.Ended.{ended_so, ends_badly, broke_down}
+use Rattle.nbt_host.specs.Host.{HostingValue, terms_of}
+use Rattle.nbt_host.proofs.Ended.{ended_so, broke_down}
 use Rattle.nbt_host.proofs.host.Host.end.Goals as goal
 
 pub returns-in_err-tell_ending-clause-err : goal.returns-in_err-tell_ending-clause-err
@@ -14,8 +14,8 @@ returns-in_err-tell_ending-clause-err g c =
     let a = c.args in
     let had = c.self.inside in
     let given = c.give_back-given in
-    let old : HostingValue g.row.C.Denot g.row.D.Denot = record { steady = had.clocks.steady; day = had.clocks.day; last = had.last; host = record { goals = had.goals.items; node = had.node } } in
-    let new : HostingValue g.row.C.Denot g.row.D.Denot = record { steady = c.now-at.new.self; day = had.clocks.day; last = had.last; host = record { goals = given.new.goals; node = given.new.node } } in
+    let old : HostingValue g.row.K.Denot = record { watch = had.watch; last = had.last; host = record { goals = had.goals.items; node = had.node } } in
+    let new : HostingValue g.row.K.Denot = record { watch = c.now-at.new.self; last = given.new.last; host = record { goals = given.new.goals; node = given.new.node } } in
     let goals = c.as_mut_slice.ensures.value in
     let back : (with_items had.goals given.new.goals).items ≡ given.new.goals = with_items_is had.goals given.new.goals (search rules) in
     let well = given.ensures.ok in
@@ -24,7 +24,7 @@ returns-in_err-tell_ending-clause-err g c =
     (record { port = a.port.now; host = old; text = g.W.Write.contents a.writer.now })
     (record { port = given.new.port; host = new; text = g.W.Write.contents c.tell_ending.new.writer })
     c.now-at.result c.in_err-tell_ending.ensures.err
-    (ended_so g.P.Port.does g.C.Clock.tells a.server a.port.now given.new.port old new given.new.clock c.now-at.result given.result (rw goals at well) (rw goals at badly) c.now-at.ensures refl))
+    (ended_so g.P.Port.does g.K.Clock.tells g.K.Watch.looks (terms_of a.arguments.now) a.port.now given.new.port old new given.new.watch c.now-at.result c.now-at.ensures given.result (rw goals at well) (rw goals at badly)))
 
 pub returns-in_err-given-clause-err : goal.returns-in_err-given-clause-err
 returns-in_err-given-clause-err g c =
@@ -32,15 +32,15 @@ returns-in_err-given-clause-err g c =
     let a = c.args in
     let had = c.self.inside in
     let given = c.give_back-given in
-    let old : HostingValue g.row.C.Denot g.row.D.Denot = record { steady = had.clocks.steady; day = had.clocks.day; last = had.last; host = record { goals = had.goals.items; node = had.node } } in
-    let new : HostingValue g.row.C.Denot g.row.D.Denot = record { steady = c.now-at.new.self; day = had.clocks.day; last = had.last; host = record { goals = given.new.goals; node = given.new.node } } in
+    let old : HostingValue g.row.K.Denot = record { watch = had.watch; last = had.last; host = record { goals = had.goals.items; node = had.node } } in
+    let new : HostingValue g.row.K.Denot = record { watch = c.now-at.new.self; last = given.new.last; host = record { goals = given.new.goals; node = given.new.node } } in
     let goals = c.as_mut_slice.ensures.value in
     let back : (with_items had.goals given.new.goals).items ≡ given.new.goals = with_items_is had.goals given.new.goals (search rules) in
     let badly = c.in_err-given.ensures.err in
     let printed = c.in_ok-tell_ending.ensures.ok in
-    rw (p.1, ← c.self.view_is, back) (broke_down g.P.Port.does g.C.Clock.tells a.server p.0
+    rw (p.1, ← c.self.view_is, back) (broke_down g.P.Port.does g.K.Clock.tells g.K.Watch.looks (terms_of a.arguments.now) p.0
     (record { port = a.port.now; host = old; text = g.W.Write.contents a.writer.now })
     (record { port = given.new.port; host = new; text = g.W.Write.contents c.tell_ending.new.writer })
     c.now-at.result p.2
-    (ends_badly g.P.Port.does g.C.Clock.tells a.server a.port.now given.new.port old new given.new.clock c.now-at.result (rw goals at badly) c.now-at.ensures refl)
-    (subst (λ (gs : List Goal). PrintsEnding c.now-at.result had.last gs (g.W.Write.contents a.writer.now) (g.W.Write.contents c.tell_ending.new.writer)) back printed))
+    (given.new.watch, rw goals at badly, c.now-at.ensures)
+    (subst (λ (gs : List Goal). PrintsEnding c.now-at.result given.new.last gs (g.W.Write.contents a.writer.now) (g.W.Write.contents c.tell_ending.new.writer)) back printed))
