@@ -44,7 +44,7 @@ module _ (calls : CallsGoToHeldNames) where
   by_datagram : (world : WorldValue) (number : ℕ) (name : NameValue) → HandsUp world number name → (kind : Kind) × (holding world number name ≡ Some kind)
   by_datagram world number name x =
       let now = reading world.now number in
-      let found = by_octets x.before x.after now x.node x.own x.octets x.names x.data_is x.sent x.accepts in
+      let found = by_octets x.before x.after now x.node x.own x.octets x.names x.payload x.sent x.accepts in
       (found.0, holder world number name x.node found.0 x.is_up (ap (λ (called : NameValue). holds x.node called now) (sym x.for_name) ∙ found.1))
 
   pub holds_served : (world : WorldValue) (number : ℕ) (name : NameValue) → ServesUsers world number name → (kind : Kind) × (holding world number name ≡ Some kind)
