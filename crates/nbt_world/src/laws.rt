@@ -13,7 +13,7 @@ ghost use Rattle.nbt_name.specs.declared.addr.Kind.{Kind};
 ghost use Rattle.nbt_world.specs.Step.{Step};
 ghost use Rattle.nbt_world.specs.Getting.{CanGet};
 ghost use Rattle.nbt_world.specs.Shifted.{NodesDoAlike, ServersDoAlike};
-ghost use Rattle.nbt_world.specs.Users.{ServesUsers, ServeUsersAsGroup, ServeUsersWhileKept};
+ghost use Rattle.nbt_world.specs.Users.{LetsCallIn, ServesUsers, ServeUsersAsGroup, ServeUsersWhileKept};
 ghost use Rattle.nbt_world.specs.declared.event.Event.{Event};
 ghost use Rattle.nbt_world.specs.declared.event.Event.TheVariants as event;
 ghost use Rattle.nbt_world.specs.declared.event.Outcome.{Outcome};
@@ -53,9 +53,10 @@ pub fn new_world_can_get()
 /// Calls and datagrams for a name go to nodes that hold it. So where two different nodes both let in a call to one name, or
 /// are both handed a datagram up for it, or one does the one and one the other, each by its own reading at the world's time,
 /// both hold it as a group: in each safe world; in each world that keeps its facts and in which the readings kept the drift
-/// bound so far; and in each such world along a run.
+/// bound so far; and in each such world along a run. A node that holds a name does let a call in, at some listener.
 pub fn users_of_a_name_meet_its_holder()
     ensures held { (world : WorldValue) (number : ℕ) (name : NameValue) → ServesUsers world number name → (kind : Kind) × (holding world number name ≡ Some kind) }
+    ensures lets_in { (world : WorldValue) (number : ℕ) (name : NameValue) (kind : Kind) → holding world number name ≡ Some kind → LetsCallIn world number name }
     ensures safe { (world : WorldValue) → IsSafe world → ServeUsersAsGroup world }
     ensures kept { (world : WorldValue) → Invariant world → IsTrue world.kept → ServeUsersAsGroup world }
     ensures along { (events : List Event) (old new : WorldValue) (worlds : List WorldValue) → RunsSafely events old worlds new → ServeUsersWhileKept worlds }
