@@ -1,7 +1,6 @@
 -- A server by a clock that shows a constant more does the same, with each of its times greater by as much.
-use Rattle.std.proofs.Common.{◌≡◌, ◌≢◌, ℕ, ◌+◌, ◌-◌, ◌*◌, ◌/◌, ◌<◌, ◌≤◌, max, Bool, true, false, cond, ltb, List, [], ◌∷◌, ◌++◌, map, length, take, zero, suc, Option, Some, None, Result, Ok, Err, refl, sym, ap, ◌∙◌, subst, arith, inl, inr, lt-ltb, le-ltb}
-use Rattle.std.specs.Prelude.{◌&&◌, nat_lt}
-use Rattle.std.specs.List.{filter, flat_map}
+use Rattle.std.proofs.Common.{◌≡◌, ℕ, ◌+◌, ◌-◌, ◌*◌, ◌/◌, ◌≤◌, max, Bool, true, false, cond, ltb, List, [], ◌∷◌, ◌++◌, map, length, take, zero, suc, Option, Some, None, Result, Ok, Err, refl, sym, ap, ◌∙◌, subst, arith, inl, inr, lt-ltb, le-ltb}
+use Rattle.std.specs.Prelude.{nat_lt}
 use Rattle.std.proofs.lemmas.Bool.{cases_Bool}
 use Rattle.std.proofs.lemmas.Bool.Decides.{leb_tells}
 use Rattle.std.proofs.lemmas.List.{length-map, map-append}
@@ -14,12 +13,12 @@ use Rattle.nbt_packet.specs.Message.{MessageValue, query, found}
 use Rattle.nbt_packet.specs.Text.{entry, entries_most}
 use Rattle.nbt_lease.specs.Config.{ConfigValue, granted}
 use Rattle.nbt_lease.proofs.Rows.{row_lives, row_of_other, row_over, count_lives, count_over, none_live, none_count, same_leases}
-use Rattle.nbt_lease.specs.Lease.{Rows, leases_at, live_count, members_most, is_live, at_name, HasNone, AreGroup}
-use Rattle.nbt_lease.specs.Rules.{Asked, IsAllowed, free, member, owner, end_of, grant_until, begun, renewed, GrantCase, active, renews, group_full, table_full, begins, Grants, ChangesLeases, ReleaseCase, gone, no_lease, of_others, Releases, IsLeastEnd}
+use Rattle.nbt_lease.specs.Lease.{Rows, leases_at, live_count, is_live, at_name, HasNone, AreGroup}
+use Rattle.nbt_lease.specs.Rules.{Asked, IsAllowed, free, member, owner, end_of, grant_until, begun, renewed, GrantCase, active, renews, group_full, table_full, begins, Grants, ReleaseCase, gone, no_lease, of_others, Releases, IsLeastEnd}
 use Rattle.nbt_lease.specs.declared.lease.Released.TheVariants.{Gone, NoLease, OfOthers}
-use Rattle.nbt_server.specs.Serving.{Grant, Lease, Released, GrantFault, Leases, TableValue, ServerValue, speaks_from, seconds_until, entries, listed, is_cut, found_reply, grant_reply, asked_in, Serves, registers, refuses, refuses_overwrite, releases, refuses_release, finds, finds_none, passes_over, NeedsMemory, ServesOctets, is_silent, is_no_message, serves}
-use Rattle.nbt_server.specs.Outcomes.{holder, refusal_by, release_outcome, claim, claim_in, grant_outcome, done_by, IsDone}
-use Rattle.nbt_server.specs.Calls.{ServerStarts, ServerTakes, ServerHandles, ServerForgets}
+use Rattle.nbt_server.specs.Serving.{Grant, Lease, Released, GrantFault, Leases, TableValue, ServerValue, speaks_from, seconds_until, entries, listed, found_reply, asked_in, Serves, registers, refuses, refuses_overwrite, releases, refuses_release, finds, finds_none, passes_over, NeedsMemory, ServesOctets, is_silent, is_no_message, serves}
+use Rattle.nbt_server.specs.Outcomes.{holder, refusal_by, release_outcome, claim, claim_in, done_by, IsDone}
+use Rattle.nbt_server.specs.Calls.{ServerTakes, ServerHandles, ServerForgets}
 use Rattle.nbt_lease.specs.declared.fault.GrantFault.TheVariants as faults
 use Rattle.nbt_server.specs.declared.outcome.Claim.{Claim}
 use Rattle.nbt_server.specs.declared.outcome.Refusal.TheVariants as why

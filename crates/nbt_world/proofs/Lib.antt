@@ -26,3 +26,4 @@ pub mod Apart
 pub mod Getting
 pub mod Beginning
 pub mod Using
+pub mod ByClocks

@@ -34,7 +34,7 @@ held_claim now (Some node) name kind e = go (ltb now node.last) e
     go true e = absurd (none-some kind e)
     go false e = held_in now (state_of node name) kind e
 
-holder_up : (w : WorldValue) (i : ℕ) (name : NameValue) (kind : Kind) → holding w i name ≡ Some kind → (node : NodeValue) × (node_of w.ends i ≡ Some node)
+pub holder_up : (w : WorldValue) (i : ℕ) (name : NameValue) (kind : Kind) → holding w i name ≡ Some kind → (node : NodeValue) × (node_of w.ends i ≡ Some node)
 holder_up w i name kind e = go (node_of w.ends i) refl e
   where
     go : (o : Option NodeValue) → node_of w.ends i ≡ o → held_by o name (reading w.now i) ≡ Some kind → (node : NodeValue) × (node_of w.ends i ≡ Some node)

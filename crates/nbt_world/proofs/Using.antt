@@ -1,5 +1,5 @@
 -- What a node does for the users of a name, it does as the name's holder.
-use Rattle.std.proofs.Common.{◌≡◌, ◌≢◌, ℕ, List, Option, Some, inl, inr, sym, ap, ◌∙◌, subst}
+use Rattle.std.proofs.Common.{◌≡◌, ℕ, ◌<◌, List, [], ◌∷◌, Option, Some, None, inl, inr, refl, sym, ap, ◌∙◌, arith}
 use Rattle.nbt_name.specs.declared.addr.Addr.{Addr}
 use Rattle.nbt_name.specs.declared.addr.Kind.{Kind}
 use Rattle.nbt_name.specs.Wire.{NameValue}
@@ -9,12 +9,16 @@ use Rattle.nbt_dgram.specs.declared.msg_type.Delivery.{Delivery}
 use Rattle.nbt_dgram.specs.Dgram.{DgramValue}
 use Rattle.nbt_dgram.specs.Joiner.{JoinedValue, JoinerValue}
 use Rattle.nbt_dgram.specs.Accepting.{Accepts, is_put, Hands, handed_up, up}
+use Rattle.nbt_session.specs.declared.listener.Entry.{Entry}
+use Rattle.nbt_session.specs.declared.listener.Slot.{Slot}
+use Rattle.nbt_session.specs.declared.listener.Slot.TheVariants.{Fresh, Open}
 use Rattle.nbt_session.specs.Event.{EventValue, packet}
-use Rattle.nbt_session.specs.Listener.{ListenerValue, ListenerAnswerValue, ListenerMoves, LetsIn}
-use Rattle.nbt_session.specs.Packet.{request}
+use Rattle.nbt_session.specs.Listener.{ListenerValue, ListenerAnswerValue, send, open_count, FirstThatTakes, is_taken, is_called, ListenerMoves, LetsIn, here}
+use Rattle.nbt_session.specs.Packet.{request, positive}
 use Rattle.nbt_world.specs.Drift.{reading}
 use Rattle.nbt_world.specs.World.{WorldValue, node_of}
 use Rattle.nbt_world.specs.Safety.{held_by, holding, IsSafe}
+use Rattle.nbt_world.proofs.Safe.{holder_up}
 use Rattle.nbt_world.specs.Users.{LetsCallIn, HandsUp, ServesUsers, ServeUsersAsGroup}
 
 by_hands : (node : NodeValue) (now : ℕ) (own : Addr) (d : DgramValue) (delivery : Delivery) (joined : JoinedValue) (names : Names) (payload sent : List ℕ) → Hands node now own d delivery joined (up names payload) sent
@@ -44,7 +48,7 @@ module _ (calls : CallsGoToHeldNames) where
   by_datagram : (world : WorldValue) (number : ℕ) (name : NameValue) → HandsUp world number name → (kind : Kind) × (holding world number name ≡ Some kind)
   by_datagram world number name x =
       let now = reading world.now number in
-      let found = by_octets x.before x.after now x.node x.own x.octets x.names x.data_is x.sent x.accepts in
+      let found = by_octets x.before x.after now x.node x.own x.octets x.names x.payload x.sent x.accepts in
       (found.0, holder world number name x.node found.0 x.is_up (ap (λ (called : NameValue). holds x.node called now) (sym x.for_name) ∙ found.1))
 
   pub holds_served : (world : WorldValue) (number : ℕ) (name : NameValue) → ServesUsers world number name → (kind : Kind) × (holding world number name ≡ Some kind)
@@ -57,3 +61,41 @@ module _ (calls : CallsGoToHeldNames) where
       let other = holds_served world j name b in
       let group = safe name i j one.0 other.0 apart one.1 other.1 in
       (one.1 ∙ ap (λ (k : Kind). Some k) group.0, other.1 ∙ ap (λ (k : Kind). Some k) group.1)
+
+-- ---- a node that holds a name lets a call in, at a listener with an entry for it
+
+abbrev for_anybody : NameValue → Entry
+for_anybody name = record { called = name; calling = None; retarget = None }
+
+abbrev listening : NameValue → Slot → ListenerValue
+listening name slot = record { entries = for_anybody name ∷ []; slots = slot ∷ []; most = 1 }
+
+pub call_let_in : (world : WorldValue) (number : ℕ) (name : NameValue) (kind : Kind) → holding world number name ≡ Some kind → LetsCallIn world number name
+call_let_in world number name kind held =
+    let node = holder_up world number name kind held in
+    let holds_it : holds node.0 name (reading world.now number) ≡ Some kind = ap (λ (o : Option NodeValue). held_by o name (reading world.now number)) (sym node.1) ∙ held in
+    let none_open : open_count (Fresh ∷ []) ≡ 0 = refl in
+    let room : open_count (Fresh ∷ []) < 1 = omega (arith, none_open) in
+    let first : FirstThatTakes (for_anybody name ∷ []) name name (for_anybody name) = record {
+      place = 0;
+      stands = refl;
+      takes = (refl, tt);
+      before = λ k d low high. absurd (omega (arith, high));
+    } in
+    record {
+      node = node.0;
+      is_up = node.1;
+      before = listening name Fresh;
+      after = listening name Open;
+      connection = 0;
+      calling = name;
+      answer = send positive;
+      moves = record {
+        before = Fresh;
+        after = Open;
+        was = refl;
+        moves = is_called name name Open (send positive) (is_taken kind (for_anybody name) holds_it first room refl);
+        others = refl;
+      };
+      lets_in = here;
+    }

@@ -4,4 +4,5 @@ pub mod Step
 pub mod Safety
 pub mod Getting
 pub mod Users
+pub mod Shifted
 pub mod Inner

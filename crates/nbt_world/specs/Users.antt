@@ -37,9 +37,9 @@ pub record HandsUp (world : WorldValue) (number : ℕ) (name : NameValue) : Type
   pub own : Addr
   pub octets : List ℕ
   pub names : Names
-  pub data_is : List ℕ
+  pub payload : List ℕ
   pub sent : List ℕ
-  pub accepts : Accepts before (reading world.now number) node own octets (up names data_is) sent after
+  pub accepts : Accepts before (reading world.now number) node own octets (up names payload) sent after
   pub for_name : names.destination ≡ name
 
 -- The node does one of the two.

@@ -3,7 +3,7 @@
 ghost use Rattle.std.specs.Prelude.{◌≡◌, ◌≢◌, ℕ, ◌+◌, ◌*◌, ◌^◌, ◌<◌, ◌≤◌, List, Some, IsTrue, length};
 ghost use Rattle.nbt_name.specs.Wire.{NameValue, IsStar};
 ghost use Rattle.nbt_lease.specs.Config.{ConfigValue, IsConfig};
-ghost use Rattle.nbt_lease.specs.Drift.{quiet};
+ghost use Rattle.nbt_lease.specs.Drift.{KeepsDriftBound, quiet};
 ghost use Rattle.nbt_name.specs.declared.addr.Addr.{Addr};
 ghost use Rattle.nbt_world.specs.World.{WorldValue, addr_of, IsEnd, IsFresh};
 ghost use Rattle.nbt_world.specs.Inner.Kept.{Invariant};
@@ -12,7 +12,8 @@ ghost use Rattle.nbt_world.specs.Safety.{IsSafe, RunsSafely, holding};
 ghost use Rattle.nbt_name.specs.declared.addr.Kind.{Kind};
 ghost use Rattle.nbt_world.specs.Step.{Step};
 ghost use Rattle.nbt_world.specs.Getting.{CanGet};
-ghost use Rattle.nbt_world.specs.Users.{ServesUsers, ServeUsersAsGroup, ServeUsersWhileKept};
+ghost use Rattle.nbt_world.specs.Shifted.{NodesDoAlike, ServersDoAlike};
+ghost use Rattle.nbt_world.specs.Users.{LetsCallIn, ServesUsers, ServeUsersAsGroup, ServeUsersWhileKept};
 ghost use Rattle.nbt_world.specs.declared.event.Event.{Event};
 ghost use Rattle.nbt_world.specs.declared.event.Event.TheVariants as event;
 ghost use Rattle.nbt_world.specs.declared.event.Outcome.{Outcome};
@@ -52,12 +53,33 @@ pub fn new_world_can_get()
 /// Calls and datagrams for a name go to nodes that hold it. So where two different nodes both let in a call to one name, or
 /// are both handed a datagram up for it, or one does the one and one the other, each by its own reading at the world's time,
 /// both hold it as a group: in each safe world; in each world that keeps its facts and in which the readings kept the drift
-/// bound so far; and in each such world along a run.
+/// bound so far; and in each such world along a run. A node that holds a name does let a call in, at some listener.
 pub fn users_of_a_name_meet_its_holder()
     ensures held { (world : WorldValue) (number : ℕ) (name : NameValue) → ServesUsers world number name → (kind : Kind) × (holding world number name ≡ Some kind) }
+    ensures lets_in { (world : WorldValue) (number : ℕ) (name : NameValue) (kind : Kind) → holding world number name ≡ Some kind → LetsCallIn world number name }
     ensures safe { (world : WorldValue) → IsSafe world → ServeUsersAsGroup world }
     ensures kept { (world : WorldValue) → Invariant world → IsTrue world.kept → ServeUsersAsGroup world }
     ensures along { (events : List Event) (old new : WorldValue) (worlds : List WorldValue) → RunsSafely events old worlds new → ServeUsersWhileKept worlds }
 {
     nbt_session::laws::calls_go_to_held_names();
 }
+
+/// What the ends of a world do, they do by any clock that shows a constant more at each time, with all of their own times
+/// greater by that constant: a node holds the same names, does the same at its events, and takes a datagram with the same
+/// reply; a server starts and resumes so, and takes a datagram with the same reply. So an end whose clock begins anew at its
+/// start does what a world's end does whose reading goes on.
+pub fn ends_do_the_same_by_shifted_clocks()
+    ensures nodes { (more now : ℕ) → NodesDoAlike more now }
+    ensures servers { (more now : ℕ) → ServersDoAlike more now }
+{
+    nbt_node::laws::a_shifted_node_does_the_same();
+    nbt_server::laws::a_shifted_server_does_the_same();
+}
+
+/// The drift bound lasts over a pause of a second or longer in which a clock moved by as much as the true one: if it was kept
+/// from some time to the pause's beginning, and from the pause's end on, it is kept from that time on. So a clock of an end
+/// that was down for so long can be followed by another one, which begins anew.
+pub fn bound_lasts_over_a_pause()
+    ensures { (true_then read_then true_now read_now pause true_later read_later : ℕ) → KeepsDriftBound true_then read_then true_now read_now
+        → 1000 ≤ pause → KeepsDriftBound (true_now + pause) (read_now + pause) true_later read_later → KeepsDriftBound true_then read_then true_later read_later }
+{}

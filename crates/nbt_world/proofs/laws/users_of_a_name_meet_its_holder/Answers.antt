@@ -1,9 +1,12 @@
 use Rattle.nbt_world.proofs.Safe.{is_safe}
-use Rattle.nbt_world.proofs.Using.{holds_served, served_as_group}
+use Rattle.nbt_world.proofs.Using.{holds_served, served_as_group, call_let_in}
 use Rattle.nbt_world.proofs.laws.users_of_a_name_meet_its_holder.Goals as goal
 
 pub returns-clause-held : goal.returns-clause-held
 returns-clause-held c = holds_served c.calls_go_to_held_names.ensures
+
+pub returns-clause-lets_in : goal.returns-clause-lets_in
+returns-clause-lets_in c = call_let_in
 
 pub returns-clause-safe : goal.returns-clause-safe
 returns-clause-safe c = served_as_group c.calls_go_to_held_names.ensures
