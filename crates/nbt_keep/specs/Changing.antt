@@ -1,0 +1,27 @@
+-- What a datagram changes in the leases of a server (our profile).
+use Rattle.std.specs.Prelude.{◌≡◌, Bool, true, false, filter, Option, Some, None}
+use Rattle.nbt_name.specs.Wire.{NameValue}
+use Rattle.nbt_lease.specs.Lease.{Leases, is_live, leases_at, AreApart}
+use Rattle.nbt_server.specs.Serving.{ServerValue}
+use Rattle.nbt_server.specs.declared.outcome.Outcome.{Outcome}
+use Rattle.nbt_server.specs.declared.outcome.Outcome.TheVariants.{Granted, Renewed, Released}
+use Rattle.nbt_store.specs.declared.change.Change.{Change}
+use Rattle.nbt_store.specs.Changes.{after}
+
+-- What is kept has a server's leases: those that live at its last time, in their order. Leases that are over may stand
+-- among them, and no two of a name are of one address.
+pub record IsKept (kept : Leases) (server : ServerValue) : Type 0 where
+  pub apart : (name : NameValue) → AreApart (kept name)
+  pub live : (name : NameValue) → filter (is_live server.last) (kept name) ≡ leases_at server.last server.table.rows name
+
+-- whether the server changed a lease: it granted, renewed or released one
+abbrev pub changes_leases : Outcome → Bool
+changes_leases (Granted claim seconds) = true
+changes_leases (Renewed claim seconds) = true
+changes_leases (Released claim) = true
+changes_leases outcome = false
+
+-- what is kept after a change, if there was one
+abbrev pub after_any : Option Change → Leases → Leases
+after_any None kept = kept
+after_any (Some change) kept = after change kept
