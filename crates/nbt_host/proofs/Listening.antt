@@ -4,7 +4,7 @@ use Rattle.std.specs.Prelude.{Option, if◌then◌else◌}
 use Rattle.nbt_name.specs.declared.addr.Addr.{Addr}
 use Rattle.nbt_node.specs.Node.{NodeValue}
 use Rattle.nbt_node.specs.Calls.{started}
-use Rattle.nbt_port.specs.PortCalls.{PortCall, send_failed, receiving, Chain}
+use Rattle.nbt_port.specs.PortCalls.{PortCall, send_failed, receiving}
 use Rattle.nbt_port.proofs.Chains.{chain_one}
 use Rattle.nbt_host.specs.declared.goal.Goal.{Goal}
 use Rattle.nbt_host.specs.declared.news.Notice.{Notice}

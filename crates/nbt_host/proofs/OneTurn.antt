@@ -1,5 +1,5 @@
 -- One turn, by what its calls returned.
-use Rattle.std.proofs.Common.{◌≡◌, Bool, List, subst, inl, inr, Result, Ok, Err, ◌∙◌, sym, ap}
+use Rattle.std.proofs.Common.{◌≡◌, List, subst, inl, inr, Result, Ok, Err, ◌∙◌, sym, ap}
 use Rattle.std.specs.Prelude.{◌⊎◌, OnOk, OnErr, ℕ}
 use Rattle.nbt_port.specs.PortCalls.{PortCall}
 use Rattle.nbt_port.specs.declared.port.Device.{Device}

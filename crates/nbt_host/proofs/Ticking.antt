@@ -1,5 +1,5 @@
 -- A reading of a machine's two clocks, each by itself.
-use Rattle.std.proofs.Common.{◌≡◌, ℕ, ap}
+use Rattle.std.proofs.Common.{ℕ, ap}
 use Rattle.nbt_port.specs.PortCalls.{Chain}
 use Rattle.nbt_host.specs.declared.sleeping.Clocks.{Clocks}
 use Rattle.nbt_host.specs.declared.sleeping.Reading.{Reading}

@@ -1,5 +1,5 @@
 -- A turn of a host, from its parts.
-use Rattle.std.proofs.Common.{◌≡◌, ℕ, List, [], ◌∷◌, ◌++◌, map, refl, sym, subst, ◌∙◌, ap}
+use Rattle.std.proofs.Common.{◌≡◌, List, [], ◌∷◌, ◌++◌, map, refl, sym, subst, ◌∙◌, ap}
 use Rattle.nbt_node.specs.Node.{NodeValue}
 use Rattle.nbt_port.specs.PortCalls.{PortCall, receive_failed, Chain}
 use Rattle.nbt_client.specs.Turning.{PollsAll, BreaksPolls}
@@ -7,7 +7,7 @@ use Rattle.nbt_port.proofs.Chains.{chain_one, chain-append}
 use Rattle.nbt_host.specs.declared.goal.Goal.{Goal}
 use Rattle.nbt_host.specs.declared.watching.Look.{Look}
 use Rattle.nbt_host.specs.Goals.{seen}
-use Rattle.nbt_host.specs.Hosting.{HostValue, Terms, woken, seen_all, RequestsAll, BreaksRequests, HostTurn, BreaksCalls, at_requests, at_polls, at_receive, at_reply, HostBreaks}
+use Rattle.nbt_host.specs.Hosting.{HostValue, Terms, woken, seen_all, BreaksRequests, HostTurn, BreaksCalls, at_requests, at_polls, at_receive, at_reply, HostBreaks}
 use Rattle.nbt_host.specs.Sleeping.{last_of}
 use Rattle.nbt_host.specs.Releasing.{Releasing}
 use Rattle.nbt_host.specs.Inner.Parts.{Listens, LosesListening, loses_receive, loses_send}

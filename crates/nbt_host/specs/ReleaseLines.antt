@@ -1,5 +1,5 @@
 -- How a host gives its names back, and what is printed of it (our profile).
-use Rattle.std.specs.Prelude.{◌≡◌, ◌⊎◌, ℕ, nat_eq, if◌then◌else◌, List, Option}
+use Rattle.std.specs.Prelude.{◌⊎◌, ℕ, nat_eq, if◌then◌else◌, List, Option}
 use Rattle.std.specs.Io.KnownBytes.{Appends}
 use Rattle.nbt_port.specs.PortCalls.{PortCall}
 use Rattle.nbt_port.specs.declared.fault.Fault.{Fault}

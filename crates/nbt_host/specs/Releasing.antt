@@ -1,5 +1,5 @@
 -- How a host gives its names back, turn by turn (our profile; RFC 1002 section 5.1.2.5).
-use Rattle.std.specs.Prelude.{◌≡◌, ℕ, ◌+◌, ◌<◌, Bool, true, false, List, [], ◌∷◌, ◌++◌, map, length}
+use Rattle.std.specs.Prelude.{◌≡◌, ℕ, ◌+◌, ◌<◌, Bool, true, false, List, map, length}
 use Rattle.std.specs.List.{list_any}
 use Rattle.nbt_port.specs.PortCalls.{PortCall, Chain}
 use Rattle.nbt_host.specs.declared.goal.Goal.{Goal}

@@ -1,8 +1,8 @@
 -- What was heard, as the code returns it: words of contracts within the crate.
-use Rattle.std.specs.Prelude.{◌≡◌, ℕ, Bool, true, false, List, length, ◌↔◌, IsTrue}
+use Rattle.std.specs.Prelude.{◌≡◌, ℕ, Bool, false, List, length, ◌↔◌, IsTrue}
 use Rattle.nbt_port.specs.PortCalls.{PortCall, receive_failed, Chain}
 use Rattle.nbt_host.specs.declared.watching.Look.{Look}
-use Rattle.nbt_host.specs.Hosting.{HostValue, Terms, HearsAfter, LosesReply}
+use Rattle.nbt_host.specs.Hosting.{Terms, HearsAfter, LosesReply}
 use Rattle.nbt_host.specs.Sleeping.{with_earlier}
 use Rattle.nbt_host.specs.Releasing.{Releasing, Turns, TurnsOn, GoesOn}
 
