@@ -1,9 +1,9 @@
 pub mod Numbers
 pub mod Transaction
 pub mod Settling
+pub mod Shifted
 pub mod Node
 pub mod Moves
 pub mod Calls
 pub mod Datagrams
-pub mod Shifted
 pub mod Inner
