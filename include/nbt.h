@@ -9,10 +9,12 @@
  *   - A pointer leads to as many octets or values as its parameter says, is aligned for its type and is not null: also where a
  *     length is 0. What it leads to may be written by no one else during the call, and two pointers of one call lead to places
  *     that do not overlap where one of them isn't const. The caller must ensure it; nothing tests it.
- *   - No two calls run at the same time with the same object: a program with threads has one lock for each object.
+ *   - No two calls run at the same time with the same object, also where it is const: a program with threads has one lock for each
+ *     object. A const pointer to an object says that the object stays as it is.
  *   - Numbers may be any: each length, place and count is tested.
- *   - A result is 0, or the number of what is wrong, by the names below. What a call writes where the result isn't 0 stands
- *     above it; all else stays as it was.
+ *   - A result is 0, or the number of what is wrong, by the names below. Numbers from 249 on mean one thing, whichever call returns
+ *     them; a smaller number means something only together with the call, which nbt_result_text is told too. What a call writes
+ *     where the result isn't 0 stands above it; all else stays as it was.
  *   - Sizes are octets, unless it says otherwise. Scopes and words are octets with a length, not texts that a zero ends.
  */
 #ifndef NBT_H
@@ -37,16 +39,46 @@ NBT_ASSERT(sizeof(void *) == 8 && sizeof(size_t) == 8, "nbt: pointers and sizes 
 extern "C" {
 #endif
 
+/* The version of this header, and that of the library: 10,000 for each MAJOR, 100 for each MINOR, and 1 for each PATCH. */
+#define NBT_VERSION_MAJOR 0
+#define NBT_VERSION_MINOR 1
+#define NBT_VERSION_PATCH 0
+#define NBT_VERSION (10000 * NBT_VERSION_MAJOR + 100 * NBT_VERSION_MINOR + NBT_VERSION_PATCH)
+uint32_t nbt_version(void);
+
 /* What any call can return (our profile). */
 enum {
     NBT_DONE = 0,
-    NBT_NO_NAME = 255,   /* a struct nbt_name holds no name */
-    NBT_NO_ROOM = 254,   /* the caller's buffer is too small */
-    NBT_NO_MOMENT = 253, /* a time is above 2^60 ms */
-    NBT_NO_KIND = 252,   /* a kind is none of those that the call takes */
-    NBT_NO_PLACE = 251,  /* a place is above the number of the octets */
-    NBT_NO_LEASE = 250   /* there are no more leases */
+    NBT_NO_NAME = 255,    /* a struct nbt_name holds no name */
+    NBT_NO_ROOM = 254,    /* the caller's buffer is too small */
+    NBT_NO_MOMENT = 253,  /* a time is above 2^60 ms */
+    NBT_NO_KIND = 252,    /* a kind is none of those that the call takes */
+    NBT_NO_PLACE = 251,   /* a place is above the number of the octets */
+    NBT_NO_LEASE = 250,   /* there are no more leases */
+    NBT_NOTHING_DUE = 249 /* there is no time at which something is due */
 };
+
+/* Whose result it is that nbt_result_text is to tell. */
+enum {
+    NBT_OF_ANY = 0,       /* of a call that returns nothing but what any call can */
+    NBT_OF_NAME = 1,      /* nbt_name_make, nbt_name_any */
+    NBT_OF_WORD = 2,      /* nbt_name_read */
+    NBT_OF_WIRE = 3,      /* nbt_name_from_wire, nbt_name_in_packet */
+    NBT_OF_START = 4,     /* nbt_node_start, nbt_server_start */
+    NBT_OF_ASK = 5,       /* nbt_node_ask */
+    NBT_OF_RELEASE = 6,   /* nbt_node_release */
+    NBT_OF_LOOKUP = 7,    /* nbt_node_resolve, nbt_node_name_status */
+    NBT_OF_NODE = 8,      /* nbt_node_on_datagram, nbt_node_poll, nbt_node_state */
+    NBT_OF_DATAGRAM = 9,  /* nbt_datagram_read */
+    NBT_OF_SPLIT = 10,    /* nbt_datagram_split */
+    NBT_OF_STREAM = 11,   /* nbt_pieces_take */
+    NBT_OF_MESSAGE = 12,  /* nbt_session_message */
+    NBT_OF_SERVER = 13    /* nbt_server_on_datagram, nbt_server_lease, nbt_server_row */
+};
+
+/* What a result means, in English, at most 63 characters; zeros end it, and fill `out` up. */
+#define NBT_RESULT_TEXT 64
+void nbt_result_text(uint8_t calls, uint8_t result, char out[NBT_RESULT_TEXT]);
 
 /* ---- names */
 
@@ -216,30 +248,32 @@ uint8_t nbt_node_name_status(struct nbt_node *node, uint64_t now, struct nbt_add
 /* What a datagram was to a node. A field that its kind doesn't name is 0. */
 struct nbt_event {
     uint8_t kind;
-    uint8_t rcode;    /* of REFUSED and FREED (RFC 1002 section 4.2.6) */
-    bool cut;         /* of FOUND: the name has more entries than these */
-    uint32_t seconds; /* of GRANTED and RENEWED */
-    size_t size;      /* of FOUND: the octets of its entries, 6 each; of STATUS: of its names, 18 each */
+    uint8_t rcode;        /* of REFUSED, LOST, FREED and NOT_FOUND: the server's reason (RFC 1002 section 4.2.6) */
+    bool cut;             /* of FOUND: the name has more entries than these */
+    uint32_t seconds;     /* of GRANTED and RENEWED */
+    size_t size;          /* of FOUND: the octets of its entries, 6 each; of STATUS: of its names, 18 each */
+    struct nbt_name name; /* of all but NOTHING: which name the datagram is about. Zeros of a NOT_FOUND that names none */
 };
-NBT_ASSERT(sizeof(struct nbt_event) == 16 && offsetof(struct nbt_event, seconds) == 4, "nbt: struct nbt_event");
+NBT_ASSERT(sizeof(struct nbt_event) == 256 && offsetof(struct nbt_event, name) == 16, "nbt: struct nbt_event");
 
 enum {
     NBT_EVENT_NOTHING = 0,   /* nothing that the node waited for */
-    NBT_EVENT_REPLY = 1,     /* a status request: the reply to its sender stands in `out` */
-    NBT_EVENT_GRANTED = 2,
-    NBT_EVENT_RENEWED = 3,
-    NBT_EVENT_REFUSED = 4,
-    NBT_EVENT_LOST = 5,
-    NBT_EVENT_FREED = 6,
-    NBT_EVENT_WAIT = 7,
-    NBT_EVENT_FOUND = 8,
-    NBT_EVENT_NOT_FOUND = 9,
-    NBT_EVENT_STATUS = 10
+    NBT_EVENT_REPLY = 1,     /* a status request, or a query for a name that it holds: the reply to its sender stands in `out` */
+    NBT_EVENT_GRANTED = 2,   /* the name is held */
+    NBT_EVENT_RENEWED = 3,   /* the hold goes on */
+    NBT_EVENT_REFUSED = 4,   /* the name isn't granted: another machine has it, or the server has no room */
+    NBT_EVENT_LOST = 5,      /* the name isn't held or requested any more: the server says so */
+    NBT_EVENT_FREED = 6,     /* the server has the release; `rcode` is 0 where it knew the name */
+    NBT_EVENT_WAIT = 7,      /* the server asks to wait: the request is sent again later */
+    NBT_EVENT_FOUND = 8,     /* who holds the name that was looked up */
+    NBT_EVENT_NOT_FOUND = 9, /* nobody does */
+    NBT_EVENT_STATUS = 10    /* which names an endpoint holds */
 };
 
 /*
- * Handles a datagram that came from `from`. Writes *event; the first octets of its entries or names, as many as fit, to `lent`;
- * and *size: how many octets of `out` are a reply to `from`, or 0. NBT_NO_MOMENT; NBT_CLOCK_BACK.
+ * Handles a datagram that came from `from`, and answers a status request, or a query for a name that the node holds then (RFC 1002
+ * section 4.2.13). Writes *event; the first octets of its entries or names, as many as fit, to `lent`; and *size: how many octets of
+ * `out` are a reply to `from`, or 0. NBT_NO_MOMENT; NBT_CLOCK_BACK.
  */
 uint8_t nbt_node_on_datagram(struct nbt_node *node, uint64_t now, struct nbt_addr from, const uint8_t *octets, size_t octets_size,
                              struct nbt_event *event, uint8_t *lent, size_t lent_room, uint8_t out[NBT_PACKET], size_t *size);
@@ -247,8 +281,30 @@ uint8_t nbt_node_on_datagram(struct nbt_node *node, uint64_t now, struct nbt_add
 /* Sends at most one datagram that is due: *size octets of `out`, for *to. Call it until *size is 0. NBT_NO_MOMENT; NBT_CLOCK_BACK. */
 uint8_t nbt_node_poll(struct nbt_node *node, uint64_t now, struct nbt_addr *to, uint8_t out[NBT_PACKET], size_t *size);
 
+/*
+ * Writes *due: when nbt_node_poll sends something next, if no other call with the node comes before. That is the first time, of those
+ * that aren't before its last call, at which it would: before it a poll sends nothing. NBT_NOTHING_DUE: there is none, and nothing is
+ * written. It changes with each call that the node isn't const for.
+ */
+uint8_t nbt_node_next_due(const struct nbt_node *node, uint64_t *due);
+
+/* How a name stands at a node. */
+enum {
+    NBT_STATE_IDLE = 0,      /* it may be requested, once the node has rested from its start */
+    NBT_STATE_ASKING = 1,    /* it is requested, and the node waits for the reply */
+    NBT_STATE_HELD = 2,
+    NBT_STATE_RELEASING = 3, /* it is released, and the node waits for the reply */
+    NBT_STATE_RESTING = 4    /* it may not be requested yet, so that no datagram about it is still on its way then */
+};
+
+/*
+ * Writes *state: how the name stands at `now`. What time ends shows here, and in no event: a request that got no reply (from ASKING
+ * to RESTING or IDLE), and a hold that lapsed, since its refreshes got none (from HELD). NBT_NO_MOMENT; NBT_NO_NAME; NBT_CLOCK_BACK.
+ */
+uint8_t nbt_node_state(const struct nbt_node *node, uint64_t now, const struct nbt_name *name, uint8_t *state);
+
 /* Writes *held: 0 where the node doesn't hold the name, 1 as one machine's, 2 as a group's. NBT_NO_MOMENT; NBT_NO_NAME. */
-uint8_t nbt_node_holds(struct nbt_node *node, uint64_t now, const struct nbt_name *name, uint8_t *held);
+uint8_t nbt_node_holds(const struct nbt_node *node, uint64_t now, const struct nbt_name *name, uint8_t *held);
 
 /* ---- datagrams (RFC 1001 section 17, RFC 1002 sections 4.4 and 5.3): they take no memory but what the program provides */
 
@@ -297,7 +353,7 @@ enum {
  * octets of the data, as many as fit, to `data`; and *size: how many octets of `out` are an error packet, or 0. The node
  * stays. NBT_NO_MOMENT: NOTHING.
  */
-uint8_t nbt_datagram_accept(struct nbt_joiner *joiner, struct nbt_node *node, uint64_t now, struct nbt_addr own,
+uint8_t nbt_datagram_accept(struct nbt_joiner *joiner, const struct nbt_node *node, uint64_t now, struct nbt_addr own,
                             const uint8_t *octets, size_t octets_size, struct nbt_accept *accept, uint8_t *data, size_t data_room,
                             uint8_t out[NBT_PACKET], size_t *size);
 
@@ -444,7 +500,10 @@ uint8_t nbt_session_message(size_t count, uint8_t out[4]);
  * A packet that is no message, at the front of `out`. Writes *size: how many octets of `out` are to be sent, 4 to 514, or 0 where the
  * result isn't 0. NBT_NO_KIND; NBT_NO_NAME.
  */
-uint8_t nbt_session_packet(const struct nbt_session_packet *packet, uint8_t out[NBT_PACKET], size_t *size);
+uint8_t nbt_session_write(const struct nbt_session_packet *packet, uint8_t out[NBT_PACKET], size_t *size);
+
+/* The call's older name, which is the struct's. */
+#define nbt_session_packet(packet, out, size) nbt_session_write(packet, out, size)
 
 /* ---- the calling endpoint of a session (RFC 1001 section 16.1, RFC 1002 section 5.2.1) */
 
@@ -557,7 +616,7 @@ uint8_t nbt_listener_unlisten(struct nbt_listener *listener, const struct nbt_na
  * are to be sent, or 0. The node stays. Refused, the listener staying as it was, and *kind being NOTHING: NBT_NO_MOMENT;
  * NBT_NO_PLACE where `slot` is above 7; NBT_NO_KIND; NBT_NO_NAME.
  */
-uint8_t nbt_listener_on(struct nbt_listener *listener, struct nbt_node *node, uint64_t now, size_t slot, uint8_t happened,
+uint8_t nbt_listener_on(struct nbt_listener *listener, const struct nbt_node *node, uint64_t now, size_t slot, uint8_t happened,
                         const struct nbt_session_packet *packet, uint8_t *kind, uint8_t out[NBT_PACKET], size_t *size);
 
 /* ---- a name server (RFC 1001 section 15.1.7, RFC 1002 section 5.1.4) */
@@ -613,7 +672,7 @@ NBT_ASSERT(sizeof(struct nbt_lease) == 16 && offsetof(struct nbt_lease, kind) ==
  * Writes *lease: of the name's leases that live at `now`, in order of their beginnings, number `which`, counted from 0. Else nothing
  * is written: NBT_NO_MOMENT; NBT_NO_NAME; NBT_SERVER_CLOCK_BACK; NBT_NO_LEASE where no more of them live.
  */
-uint8_t nbt_server_lease(struct nbt_server *server, uint64_t now, const struct nbt_name *name, size_t which, struct nbt_lease *lease);
+uint8_t nbt_server_lease(const struct nbt_server *server, uint64_t now, const struct nbt_name *name, size_t which, struct nbt_lease *lease);
 
 /*
  * Writes *name and *lease: of all leases of all names, number `which`, counted from 0. Those of one name stand together, in order of
@@ -621,7 +680,7 @@ uint8_t nbt_server_lease(struct nbt_server *server, uint64_t now, const struct n
  * next datagram. Allocates a list of all of them, and frees it. Else nothing is written: NBT_SERVER_OUT_OF_MEMORY;
  * NBT_NO_LEASE where there are no more.
  */
-uint8_t nbt_server_row(struct nbt_server *server, size_t which, struct nbt_name *name, struct nbt_lease *lease);
+uint8_t nbt_server_row(const struct nbt_server *server, size_t which, struct nbt_name *name, struct nbt_lease *lease);
 
 #ifdef __cplusplus
 }

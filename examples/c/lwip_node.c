@@ -1,6 +1,6 @@
 /*
- * A node over lwIP's raw UDP calls and its timers, as a device has it: registers a name at a name server, holds it, answers status
- * requests, and releases it. examples/c/node.c is the same over sockets. Its memory is static, and it calls no malloc; whether lwIP
+ * A node over lwIP's raw UDP calls and its timers, as a device has it: registers a name at a name server, holds it, answers
+ * queries and status requests, and releases it. examples/c/node.c is the same over sockets. Its memory is static, and it calls no malloc; whether lwIP
  * does, MEM_LIBC_MALLOC and MEMP_MEM_MALLOC of its options say.
  *
  * The node is called where lwIP calls the program: in lwIP's own thread, or, without a system (NO_SYS), in the main loop. So no call
@@ -31,8 +31,7 @@
 #define NAME_PORT 137
 
 /* In milliseconds: */
-#define RETRY 5000    /* between two of the three sendings of a request, as the node has it */
-#define SOON 1000     /* to the next look, where no other time is known: while a name rests, or the server asked to wait */
+#define SOON 1000     /* to the next look, where nothing is due: while a name rests, or the last of three requests waits */
 #define REFUSED 10000 /* from a refusal to the next request */
 
 static struct nbt_config limits = {1000, 3600, 4096};
@@ -42,15 +41,13 @@ static struct nbt_addr own, server;
 static struct nbt_name name;
 static struct udp_pcb *port;
 
-static int sent;            /* how often the open request was sent: 0 where none is open, and 3 at most */
-static uint64_t first_sent; /* when it was sent first */
-static uint64_t look_at;    /* when something may be due again */
-static uint64_t ask_from;   /* when a name that was refused may be requested again */
-static int was_held;        /* at the last look */
-static int stopped;         /* no name is requested any more */
-static void end(void);      /* called once all is over */
+static uint8_t state;     /* of the name, at the last look */
+static int is_unanswered; /* its last request got no reply */
+static uint64_t ask_from; /* when a name that was refused may be requested again */
+static int stopped;       /* no name is requested any more */
+static void end(void);    /* called once all is over */
 
-/* lwIP's clock begins anew after 49 days, and the node's must not. Half of the longest lease has less than 6 days. */
+/* lwIP's clock begins anew after 49 days, and the node's must not: a look comes within 6 days, half of the longest lease. */
 static uint64_t milliseconds(void) {
     static uint64_t now;
     static u32_t last;
@@ -71,76 +68,78 @@ static void send_to(struct nbt_addr to, const uint8_t *octets, size_t size) {
     pbuf_free(packet);
 }
 
-/* Sends a request of the node's once. A failure counts as a loss on the way: the node sends it again. */
-static void send_request(uint64_t now, struct nbt_addr to, const uint8_t *octets, size_t size) {
-    if (sent == 0 || sent == 3) {
-        first_sent = now;
-        sent = 0;
-    }
-    sent++;
-    look_at = now + RETRY;
-    send_to(to, octets, size);
-}
-
 /* Requests the name, where the node allows it: it doesn't while a name rests, nor for 2 seconds from the start on. */
 static void request(uint64_t now) {
     static uint8_t out[NBT_PACKET];
     size_t size;
     if (nbt_node_ask(&node, now, &name, NBT_UNIQUE, 0, out, &size) != NBT_DONE)
         return;
-    printf(sent == 0 ? "requested\n" : "no reply, requested again\n");
-    sent = 0;
-    send_request(now, server, out, size);
+    printf(is_unanswered ? "no reply, requested again\n" : "requested\n");
+    is_unanswered = 0;
+    state = NBT_STATE_ASKING;
+    send_to(server, out, size);
 }
 
-/* Sends what is due, requests the name where it isn't held, and has lwIP call this again when something may be due. */
+/* Says what time has ended, since the last look. */
+static void tell_ended(uint64_t now) {
+    uint8_t before = state;
+    nbt_node_state(&node, now, &name, &state);
+    if (before == NBT_STATE_HELD && state != before) {
+        printf("expired, no reply came to the refreshes\n");
+    } else if (before == NBT_STATE_ASKING && state != before) {
+        is_unanswered = 1;
+    } else if (before == NBT_STATE_RELEASING && state != before) {
+        printf("no reply to the release\n");
+        end();
+    }
+}
+
+/* When to look again: where something is due next, or else soon. */
+static uint64_t next_look(uint64_t now) {
+    uint64_t due;
+    if (nbt_node_next_due(&node, &due) == NBT_DONE)
+        return due;
+    return ask_from > now + SOON ? ask_from : now + SOON;
+}
+
+/* Sends what is due, requests the name where it may, and has lwIP call this again when something may be due. A sending that fails
+ * counts as a loss on the way: the node sends it again. */
 static void look(void *unused) {
     static uint8_t out[NBT_PACKET];
-    uint8_t held = 0;
     struct nbt_addr to;
     size_t size;
     uint64_t now = milliseconds();
     while (nbt_node_poll(&node, now, &to, out, &size) == NBT_DONE && size != 0)
-        send_request(now, to, out, size);
-    nbt_node_holds(&node, now, &name, &held);
-    if (was_held && held == 0) {
-        printf("expired, no reply came to the refreshes\n");
-        sent = 0;
-    }
-    was_held = held != 0;
-    if (held == 0 && !stopped && now >= ask_from)
+        send_to(to, out, size);
+    tell_ended(now);
+    if (state == NBT_STATE_IDLE && !stopped && now >= ask_from)
         request(now);
-    if (look_at <= now)
-        look_at = now + SOON;
     sys_untimeout(look, unused);
-    sys_timeout((u32_t)(look_at - now), look, unused);
+    sys_timeout((u32_t)(next_look(now) - now), look, unused);
 }
 
-/* Says what a datagram was to the node, and notes what it ends. */
+/* Says what a datagram was to the node. */
 static void tell(const struct nbt_event *event, uint64_t now) {
     switch (event->kind) {
     case NBT_EVENT_GRANTED:
     case NBT_EVENT_RENEWED:
         printf("%s for %lu s\n", event->kind == NBT_EVENT_GRANTED ? "granted" : "renewed", (unsigned long)event->seconds);
-        look_at = first_sent + (uint64_t)event->seconds * 500; /* refreshes begin at half of the lease */
         break;
     case NBT_EVENT_REFUSED:
         printf("refused with RCODE %d, to be requested again in %d s\n", event->rcode, REFUSED / 1000);
-        look_at = ask_from = now + REFUSED;
+        ask_from = now + REFUSED;
         break;
     case NBT_EVENT_LOST:
-        printf("lost, the server has taken it away\n");
-        was_held = 0;
-        look_at = now;
+        printf("lost, the server has taken it away with RCODE %d\n", event->rcode);
         break;
     case NBT_EVENT_FREED:
         printf("released with RCODE %d\n", event->rcode);
         end();
         break;
-    default: /* a status request, a request of the server's to wait, or nothing for this node */
+    default: /* a query or a status request, a request of the server's to wait, or nothing for this node */
         return;
     }
-    sent = 0;
+    nbt_node_state(&node, now, &name, &state);
 }
 
 /* Handles one datagram. lwIP calls this. */
@@ -176,27 +175,18 @@ static void begin(void) {
     look(0);
 }
 
-static void give_up(void *unused) {
-    (void)unused;
-    printf("no reply to the release\n");
-    end();
-}
-
-/* Releases the name. The node sends that three times at most, as any request. */
+/* Releases the name. The node sends that three times at most, as any request, and then gives up. */
 static void release(void *unused) {
     static uint8_t out[NBT_PACKET];
     size_t size;
-    uint64_t now = milliseconds();
     stopped = 1;
-    was_held = 0;
-    if (nbt_node_release(&node, now, &name, out, &size) != NBT_DONE) {
+    if (nbt_node_release(&node, milliseconds(), &name, out, &size) != NBT_DONE) {
         end();
         return;
     }
-    sent = 0;
-    send_request(now, server, out, size);
+    state = NBT_STATE_RELEASING;
+    send_to(server, out, size);
     look(unused);
-    sys_timeout(3 * RETRY, give_up, 0);
 }
 
 /* ---- lwIP's port to Unix, with its thread or without a system */

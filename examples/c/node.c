@@ -1,5 +1,5 @@
 /*
- * A node: registers a name at a name server, holds it, answers status requests, and releases the name at SIGINT or SIGTERM.
+ * A node: registers a name at a name server, holds it, answers queries and status requests, and releases the name at SIGINT or SIGTERM.
  *
  *     node NAME OWN SERVER [PORT [LONGEST]]        node 'FILER#20' 10.0.0.5 10.0.0.1
  *
@@ -20,8 +20,7 @@
 #include <time.h>
 
 /* In milliseconds: */
-#define RETRY 5000    /* between two of the three sendings of a request, as the node has it */
-#define SOON 1000     /* to the next look, where no other time is known: while a name rests, or the server asked to wait */
+#define SOON 1000     /* to the next look, where nothing is due: while a name rests, or the last of three requests waits */
 #define REFUSED 10000 /* from a refusal to the next request */
 
 static struct nbt_config limits = {1000, 3600, 4096};
@@ -31,11 +30,9 @@ static struct nbt_addr own, server;
 static struct nbt_name name;
 static int port;
 
-static int sent;            /* how often the open request was sent: 0 where none is open, and 3 at most */
-static uint64_t first_sent; /* when it was sent first */
-static uint64_t look_at;    /* when something may be due again */
-static uint64_t ask_from;   /* when a name that was refused may be requested again */
-static int was_held;        /* at the last look */
+static uint8_t state;     /* of the name, at the last look */
+static int is_unanswered; /* its last request got no reply */
+static uint64_t ask_from; /* when a name that was refused may be requested again */
 
 static volatile sig_atomic_t stopped;
 
@@ -65,72 +62,67 @@ static void send_to(struct nbt_addr to, const uint8_t *octets, size_t size) {
         perror("sendto");
 }
 
-/* Sends a request of the node's once. A failure counts as a loss on the way: the node sends it again. */
-static void send_request(uint64_t now, struct nbt_addr to, const uint8_t *octets, size_t size) {
-    if (sent == 0 || sent == 3) {
-        first_sent = now;
-        sent = 0;
-    }
-    sent++;
-    look_at = now + RETRY;
-    send_to(to, octets, size);
-}
-
 /* Requests the name, where the node allows it: it doesn't while a name rests, nor for 2 seconds from the start on. */
 static void request(uint64_t now) {
     uint8_t out[NBT_PACKET];
     size_t size;
     if (nbt_node_ask(&node, now, &name, NBT_UNIQUE, 0, out, &size) != NBT_DONE)
         return;
-    printf(sent == 0 ? "requested\n" : "no reply, requested again\n");
-    sent = 0;
-    send_request(now, server, out, size);
+    printf(is_unanswered ? "no reply, requested again\n" : "requested\n");
+    is_unanswered = 0;
+    state = NBT_STATE_ASKING;
+    send_to(server, out, size);
 }
 
-/* Sends what is due, and requests the name where it isn't held. Nothing is due then before `look_at`. */
+/* Sends what is due, says what time has ended, and requests the name where it may. A sending that fails counts as a loss on the way:
+ * the node sends it again. */
 static void look(void) {
-    uint8_t out[NBT_PACKET], held = 0;
+    uint8_t out[NBT_PACKET], before = state;
     struct nbt_addr to;
     size_t size;
     uint64_t now = milliseconds();
     while (nbt_node_poll(&node, now, &to, out, &size) == NBT_DONE && size != 0)
-        send_request(now, to, out, size);
-    nbt_node_holds(&node, now, &name, &held);
-    if (was_held && held == 0) {
+        send_to(to, out, size);
+    nbt_node_state(&node, now, &name, &state);
+    if (before == NBT_STATE_HELD && state != before)
         printf("expired, no reply came to the refreshes\n");
-        sent = 0;
-    }
-    was_held = held != 0;
-    if (held == 0 && !stopped && now >= ask_from)
+    else if (before == NBT_STATE_ASKING && state != before)
+        is_unanswered = 1;
+    else if (before == NBT_STATE_RELEASING && state != before)
+        printf("no reply to the release\n");
+    if (state == NBT_STATE_IDLE && !stopped && now >= ask_from)
         request(now);
-    if (look_at <= now)
-        look_at = now + SOON;
 }
 
-/* Says what a datagram was to the node, and notes what it ends. */
+/* When to look again: where something is due next, or else soon. */
+static uint64_t next_look(uint64_t now) {
+    uint64_t due;
+    if (nbt_node_next_due(&node, &due) == NBT_DONE)
+        return due;
+    return ask_from > now + SOON ? ask_from : now + SOON;
+}
+
+/* Says what a datagram was to the node. */
 static void tell(const struct nbt_event *event, uint64_t now) {
     switch (event->kind) {
     case NBT_EVENT_GRANTED:
     case NBT_EVENT_RENEWED:
         printf("%s for %lu s\n", event->kind == NBT_EVENT_GRANTED ? "granted" : "renewed", (unsigned long)event->seconds);
-        look_at = first_sent + (uint64_t)event->seconds * 500; /* refreshes begin at half of the lease */
         break;
     case NBT_EVENT_REFUSED:
         printf("refused with RCODE %d, to be requested again in %d s\n", event->rcode, REFUSED / 1000);
-        look_at = ask_from = now + REFUSED;
+        ask_from = now + REFUSED;
         break;
     case NBT_EVENT_LOST:
-        printf("lost, the server has taken it away\n");
-        was_held = 0;
-        look_at = now;
+        printf("lost, the server has taken it away with RCODE %d\n", event->rcode);
         break;
     case NBT_EVENT_FREED:
         printf("released with RCODE %d\n", event->rcode);
         break;
-    default: /* a status request, a request of the server's to wait, or nothing for this node */
+    default: /* a query or a status request, a request of the server's to wait, or nothing for this node */
         return;
     }
-    sent = 0;
+    nbt_node_state(&node, now, &name, &state);
 }
 
 /* Handles one datagram. */
@@ -154,9 +146,9 @@ static void hear(void) {
     tell(&event, now);
 }
 
-/* Waits for a datagram until `look_at`, and handles it. Signals come here alone, so none is missed. */
+/* Waits for a datagram until the next look, and handles it. Signals come here alone, so none is missed. */
 static void wait_and_hear(void) {
-    uint64_t now = milliseconds(), left = look_at > now ? look_at - now : 0;
+    uint64_t now = milliseconds(), look_at = next_look(now), left = look_at > now ? look_at - now : 0;
     struct timespec timeout;
     sigset_t none;
     fd_set ports;
@@ -182,21 +174,18 @@ static void catch_signals(void) {
     sigprocmask(SIG_BLOCK, &action.sa_mask, 0);
 }
 
-/* Releases the name. The node sends that three times at most, as any request. */
+/* Releases the name. The node sends that three times at most, as any request, and then gives up. */
 static void release(void) {
     uint8_t out[NBT_PACKET];
     size_t size;
-    uint64_t now = milliseconds(), end = now + 3 * RETRY;
-    if (nbt_node_release(&node, now, &name, out, &size) != NBT_DONE)
+    if (nbt_node_release(&node, milliseconds(), &name, out, &size) != NBT_DONE)
         return;
-    was_held = sent = 0;
-    send_request(now, server, out, size);
-    while (sent != 0 && milliseconds() < end) {
+    state = NBT_STATE_RELEASING;
+    send_to(server, out, size);
+    while (state == NBT_STATE_RELEASING) {
         wait_and_hear();
         look();
     }
-    if (sent != 0)
-        printf("no reply to the release\n");
 }
 
 static int read_words(int count, char **words) {

@@ -4,7 +4,7 @@ use Rattle.nbt_c.specs.contracts.serving.CLease.{struct as lease_struct}
 use Rattle.nbt_c.specs.contracts.ends.CAddr.{struct as end_struct}
 use Rattle.nbt_c.specs.contracts.ends.CConfig.{struct as config_struct}
 use Rattle.nbt_c.specs.contracts.name.CName.{struct as name_struct}
-use Rattle.nbt_c.specs.contracts.hearing.CEvent.{struct as event_struct}
+use Rattle.nbt_c.specs.contracts.event.CEvent.{struct as event_struct}
 use Rattle.nbt_c.specs.contracts.accepting.CAccept.{struct as accept_struct}
 use Rattle.nbt_c.specs.contracts.datagram.CDgram.{struct as datagram_struct}
 use Rattle.nbt_c.specs.contracts.packet.CPacket.{struct as packet_struct}
@@ -24,7 +24,7 @@ config_lies config = refl
 pub name_lies : (name : name_struct.D) → name_struct.as_values name ≡ (name.octets, (name.scope_size, (name.scope, tt)))
 name_lies name = refl
 
-pub event_lies : (event : event_struct.D) → event_struct.as_values event ≡ (event.kind, (event.rcode, (event.cut, (event.seconds, (event.size, tt)))))
+pub event_lies : (event : event_struct.D) → event_struct.as_values event ≡ (event.kind, (event.rcode, (event.cut, (event.seconds, (event.size, (event.name, tt))))))
 event_lies event = refl
 
 pub accept_lies : (accept : accept_struct.D) → accept_struct.as_values accept ≡ (accept.kind, (accept.code, (accept.id, (accept.to, (accept.source, (accept.destination, (accept.size, tt)))))))

@@ -8,6 +8,7 @@ pub mod Memory
 pub mod Names
 pub mod Nodes
 pub mod Results
+pub mod ResultWords
 pub mod Serving
 pub mod Sessions
 pub mod Sizes

@@ -3,6 +3,7 @@ use Rattle.std.specs.Prelude.{◌≡◌, ℕ, ◌<◌, ◌≤◌, List, [], Opti
 use Rattle.nbt_name.specs.declared.addr.Addr.{Addr}
 use Rattle.nbt_name.specs.declared.addr.Kind.{Kind}
 use Rattle.nbt_lease.specs.Config.{last_moment}
+use Rattle.nbt_packet.specs.Message.{MessageValue}
 use Rattle.nbt_node.specs.Node.{NodeValue, slots_most, holds}
 use Rattle.nbt_node.specs.Calls.{started, ask_refusal, release_refusal, resolve_refusal, status_refusal, Sends, Opens, Polls}
 use Rattle.nbt_node.specs.declared.fault.AskFault.{AskFault}
@@ -11,13 +12,18 @@ use Rattle.nbt_node.specs.declared.fault.LookupFault.{LookupFault}
 use Rattle.nbt_node.specs.declared.lookup.Wanted.TheVariants.{Entries, Names}
 use Rattle.nbt_node.specs.Moves.{ask, give_back, Told, nothing}
 use Rattle.nbt_node.specs.Numbers.{ask_fault_number, release_fault_number, lookup_fault_number}
-use Rattle.nbt_node.specs.Datagrams.{Handles}
+use Rattle.nbt_node.specs.Datagrams.{Handles, Says}
+use Rattle.nbt_node.specs.Answering.{sent_back}
+use Rattle.nbt_node.specs.declared.standing.Standing.{Standing}
+use Rattle.nbt_node.specs.declared.standing.Standing.TheVariants as s
+use Rattle.nbt_node.specs.Standing.{standing}
 use Rattle.nbt_c.specs.declared.ends.CConfig.{CConfig}
 use Rattle.nbt_c.specs.Results.{no_name, no_moment, no_kind}
 use Rattle.nbt_c.specs.declared.name.CName.{CName}
 use Rattle.nbt_c.specs.Names.{HoldsName, name_in}
 use Rattle.nbt_c.specs.declared.ends.CAddr.{CAddr}
 use Rattle.nbt_c.specs.Ends.{addr_for, kind_number, kind_of, StartsWith}
+use Rattle.nbt_c.specs.Events.{octets_back, reported}
 
 abbrev pub Starts : (own server : Addr) (config : CConfig) (now : ℕ) → ℕ → Option NodeValue → Type 0
 Starts own server config now = StartsWith (λ limits node. node ≡ started slots_most own server limits now) config now
@@ -59,10 +65,12 @@ pub data AsksStatus (old : NodeValue) (now : ℕ) (to : Addr) (held : CName) : �
 abbrev pub clock_back : ℕ
 clock_back = 4
 
-pub data Hears (old : NodeValue) (now : ℕ) (from : Addr) (octets : List ℕ) : ℕ → NodeValue → Told → List ℕ → Type 0 where
-  hears : (new : NodeValue) (told : Told) (reply : List ℕ) → now ≤ last_moment → old.last ≤ now → Handles old now from octets new told reply → Hears old now from octets 0 new told reply
-  is_late : now ≤ last_moment → now < old.last → Hears old now from octets clock_back old nothing []
-  has_no_moment : last_moment < now → Hears old now from octets no_moment old nothing []
+-- A datagram is handled, and then something is sent back, or nothing: the node's own reply, or that to a query for a name that it holds.
+pub data Hears (old : NodeValue) (now : ℕ) (from : Addr) (octets : List ℕ) : ℕ → NodeValue → Told → Option MessageValue → List ℕ → Type 0 where
+  hears : (new : NodeValue) (message : Option MessageValue) (told : Told) (own : List ℕ) → now ≤ last_moment → old.last ≤ now → Says octets message → Handles old now from octets new told own
+      → Hears old now from octets 0 new (reported told (sent_back new now message told own)) message (octets_back (sent_back new now message told own))
+  is_late : now ≤ last_moment → now < old.last → Hears old now from octets clock_back old nothing None []
+  has_no_moment : last_moment < now → Hears old now from octets no_moment old nothing None []
 
 -- the endpoint that a poll names stands where the caller asked for it; where nothing is sent, what stood there stays
 abbrev pub end_after : CAddr → Option Addr → CAddr
@@ -83,3 +91,18 @@ pub data Holds (node : NodeValue) (now : ℕ) (held : CName) : ℕ → Option Ki
   is_asked : now ≤ last_moment → HoldsName held → Holds node now held 0 (holds node (name_in held) now)
   has_no_name : now ≤ last_moment → ¬ HoldsName held → Holds node now held no_name None
   has_no_moment : last_moment < now → Holds node now held no_moment None
+
+-- 0 idle, 1 asking, 2 held, 3 releasing, 4 resting
+abbrev pub standing_number : Standing → ℕ
+standing_number s.Idle = 0
+standing_number s.Asking = 1
+standing_number s.Held = 2
+standing_number s.Releasing = 3
+standing_number s.Resting = 4
+
+-- how a name stands is written where the caller asked for it; else what stood there stays
+pub data Stands (node : NodeValue) (now : ℕ) (held : CName) (before : ℕ) : ℕ → ℕ → Type 0 where
+  stands : (it : Standing) → now ≤ last_moment → HoldsName held → standing node (name_in held) now ≡ Some it → Stands node now held before 0 (standing_number it)
+  is_late : now ≤ last_moment → HoldsName held → standing node (name_in held) now ≡ None → Stands node now held before clock_back before
+  has_no_name : now ≤ last_moment → ¬ HoldsName held → Stands node now held before no_name before
+  has_no_moment : last_moment < now → Stands node now held before no_moment before

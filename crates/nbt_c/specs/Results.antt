@@ -1,5 +1,5 @@
 -- What a call returns beside the numbers of faults, and what it puts into the caller's buffer (our profile).
-use Rattle.std.specs.Prelude.{◌≡◌, ℕ, List, ◌++◌, length, take, drop}
+use Rattle.std.specs.Prelude.{◌≡◌, ℕ, List, ◌++◌, length, take, drop, Option, Some, None}
 
 -- a name is due, and none is held
 abbrev pub no_name : ℕ
@@ -25,6 +25,15 @@ no_place = 251
 abbrev pub no_lease : ℕ
 no_lease = 250
 
+-- there is no time at which something is due
+abbrev pub nothing_due : ℕ
+nothing_due = 249
+
+-- a time stands where the caller asked for it; where there is none, what stood there stays
+abbrev pub TellsTime : Option ℕ → (before result after : ℕ) → Type 0
+TellsTime None before result after = (result ≡ nothing_due) × (after ≡ before)
+TellsTime (Some time) before result after = (result ≡ 0) × (after ≡ time)
+
 -- The octets stand at the front of the buffer, the others staying, and they are counted.
 pub record Puts (octets before after : List ℕ) (size : ℕ) : Type 0 where
   pub after_is : after ≡ octets ++ drop (length octets) before
@@ -33,3 +42,7 @@ pub record Puts (octets before after : List ℕ) (size : ℕ) : Type 0 where
 -- as many of them as fit
 abbrev pub PutsMost : (octets before after : List ℕ) → Type 0
 PutsMost octets before after = after ≡ take (length before) octets ++ drop (length octets) before
+
+-- the version, 0.1.0: 10,000 for each MAJOR, 100 for each MINOR, and 1 for each PATCH
+abbrev pub version : ℕ
+version = 100

@@ -37,7 +37,7 @@ pub extern "C" fn nbt_session_message(count: usize, out: &mut [u8; 4]) -> u8
 /// many octets it has, 4 to 514. Else `size` is 0: 252 where its kind is none of 0x81 to 0x85, 255 where a name of a request holds
 /// none.
 #[unsafe(no_mangle)]
-pub extern "C" fn nbt_session_packet(packet: &CPacket, out: &mut [u8; 576], size: &mut usize) -> u8
+pub extern "C" fn nbt_session_write(packet: &CPacket, out: &mut [u8; 576], size: &mut usize) -> u8
     ensures { (octets : List ℕ) × WritesPacket packet.now result octets × Puts octets out.old out.new size.new }
 {
     let mut octets = Octets::new();

@@ -1,86 +1,29 @@
-//! A node in C's memory: it handles datagrams, polls, and says which names it holds.
+//! A node in C's memory: it handles datagrams, polls, and says when it polls next, and which names it holds.
 
 ghost use Rattle.std.specs.Prelude.{◌≡◌, ℕ, List, Option, Some, IsSome};
 ghost use Rattle.nbt_name.specs.declared.addr.Addr.{Addr as End};
 ghost use Rattle.nbt_name.specs.declared.addr.Kind.{Kind as HeldKind};
-ghost use Rattle.nbt_node.specs.Moves.{told_of, Told};
+ghost use Rattle.nbt_node.specs.Moves.{Told};
 ghost use Rattle.nbt_node.specs.Node.{NodeValue};
-ghost use Rattle.nbt_c.specs.Events.{event_with, event_for, lent_by};
+ghost use Rattle.nbt_packet.specs.Message.{MessageValue};
+ghost use Rattle.nbt_node.specs.Waiting.{sends_at, IsFirst};
+ghost use Rattle.nbt_c.specs.Events.{event_for, lent_by};
 ghost use Rattle.nbt_c.specs.Ends.{addr_of};
-ghost use Rattle.nbt_c.specs.Nodes.{Hears, PollsNode, Holds, end_after, held_number};
-ghost use Rattle.nbt_c.specs.Results.{Puts, PutsMost};
+ghost use Rattle.nbt_c.specs.Nodes.{Hears, PollsNode, Holds, Stands, end_after, held_number, standing_number};
+ghost use Rattle.nbt_c.specs.Results.{Puts, PutsMost, TellsTime};
 
 use crate::buffer::{Octets, put_most, put_packet};
 use crate::ends::{CAddr, kind_number};
+use crate::event::{CEvent, answer, lent_by};
 use crate::held::CNode;
 use crate::name::CName;
-use crate::results::{NO_MOMENT, NO_NAME};
+use crate::results::{NO_MOMENT, NO_NAME, NOTHING_DUE};
 use nbt_lease::Moment;
 use nbt_name::{Addr, Kind};
-use nbt_node::{Event, Node};
+use nbt_node::{ClockBack, Event, Node, Standing};
+use nbt_packet::read;
 
-/// What a datagram was to a node, as C sees it. A field that its kind doesn't name is 0.
-#[repr(C)]
-#[derive(Drop)]
-pub struct CEvent {
-    /// 0 nothing, 1 reply, 2 granted, 3 renewed, 4 refused, 5 lost, 6 freed, 7 wait, 8 found, 9 not found, 10 status.
-    pub kind: u8,
-    /// Of refused and freed: the RCODE (RFC 1002 sections 4.2.6, 4.2.10 and 4.2.11).
-    pub rcode: u8,
-    /// Of found: the name has more entries than these.
-    pub cut: bool,
-    /// Of granted and renewed: for how many seconds.
-    pub seconds: u32,
-    /// Of found: how many octets the entries have, six each; of status: the names, eighteen each.
-    pub size: usize,
-}
-
-impl CEvent {
-    /// An event of a kind, with what its kind names.
-    fn new(kind: u8, rcode: u8, cut: bool, seconds: u32, size: usize) -> CEvent
-        ensures { result ≡ event_with kind rcode cut seconds size }
-    {
-        CEvent {
-            kind,
-            rcode,
-            cut,
-            seconds,
-            size,
-        }
-    }
-
-    /// What the node reports.
-    fn of(told: &Event<'_>) -> CEvent
-        ensures { result ≡ event_for (told_of told.now) }
-    {
-        match told {
-            Event::Nothing => CEvent::new(0, 0, false, 0, 0),
-            Event::Reply => CEvent::new(1, 0, false, 0, 0),
-            Event::Granted(seconds) => CEvent::new(2, 0, false, *seconds, 0),
-            Event::Renewed(seconds) => CEvent::new(3, 0, false, *seconds, 0),
-            Event::Refused(rcode) => CEvent::new(4, *rcode, false, 0, 0),
-            Event::Lost => CEvent::new(5, 0, false, 0, 0),
-            Event::Freed(rcode) => CEvent::new(6, *rcode, false, 0, 0),
-            Event::Wait => CEvent::new(7, 0, false, 0, 0),
-            Event::Found { entries, cut } => CEvent::new(8, 0, *cut, 0, entries.len()),
-            Event::NotFound => CEvent::new(9, 0, false, 0, 0),
-            Event::Status(names) => CEvent::new(10, 0, false, 0, names.len()),
-        }
-    }
-}
-
-/// The octets that an event borrows, if any.
-fn lent_by<'a>(event: &Event<'a>) -> &'a [u8]
-    ensures { result.now ≡ lent_by (told_of event.now) }
-{
-    match event {
-        Event::Found { entries, .. } => entries,
-        Event::Status(names) => names,
-        _ => &[],
-    }
-}
-
-/// Calls `nbt_node::Node::on_datagram` with what C passes.
+/// Calls `nbt_node::Node::handle` and `nbt_node::reply_to` with what C passes.
 fn hear(
     node: &mut Node<14>,
     now: u64,
@@ -90,17 +33,19 @@ fn hear(
     lent: &mut [u8],
     out: &mut Octets,
 ) -> u8
-    ensures { (heard : Told) × Hears node.old now from octets.now result node.new heard out.new.items
-        × (told.new ≡ event_for heard) × PutsMost (lent_by heard) lent.old lent.new }
+    ensures { (heard : Told) × (message : Option MessageValue) × Hears node.old now from octets.now result node.new heard message out.new.items
+        × (told.new ≡ event_for heard message) × PutsMost (lent_by heard) lent.old lent.new }
 {
     out.clear();
-    *told = CEvent::of(&Event::Nothing);
+    told.report(&Event::Nothing, &None);
     let Some(now) = Moment::new(now) else {
         return NO_MOMENT;
     };
-    match node.on_datagram(now, from, octets, out) {
+    let message = read(octets);
+    match node.handle(now, from, &message, out) {
         Ok(event) => {
-            *told = CEvent::of(&event);
+            let event = answer(node, now, &message, event, out);
+            told.report(&event, &message);
             put_most(lent_by(&event), lent);
             0
         }
@@ -108,11 +53,12 @@ fn hear(
     }
 }
 
-/// `nbt_node::Node::on_datagram`: handles a datagram of these octets, which came at `now` from `from`. 0, and `event` says what it
-/// was to the node; of found and status, the first octets of the entries or names stand in `lent`, as many as fit. A reply to
-/// `from` stands at the front of `out`, `size` being how many octets it has, else 0. Refused, the node staying as it was, `event`
-/// being nothing and `size` 0: 253 where `now` is above 2^60 ms, `ClockBack` (4) where it is before the node's start or the time of
-/// an earlier call that wasn't refused.
+/// `nbt_node::Node::on_datagram`, and `nbt_node::reply_to`: handles a datagram of these octets, which came at `now` from `from`, and
+/// answers a query for a name that the node holds then (RFC 1002 section 4.2.13). 0, and `event` says what it was to the node; of
+/// found and status, the first octets of the entries or names stand in `lent`, as many as fit. A reply to `from` stands at the front
+/// of `out`, `size` being how many octets it has, else 0. Refused, the node staying as it was, `event` being nothing and `size` 0:
+/// 253 where `now` is above 2^60 ms, `ClockBack` (4) where it is before the node's start or the time of an earlier call that wasn't
+/// refused.
 #[unsafe(no_mangle)]
 pub extern "C" fn nbt_node_on_datagram(
     node: &mut CNode,
@@ -125,8 +71,8 @@ pub extern "C" fn nbt_node_on_datagram(
     size: &mut usize,
 ) -> u8
     requires { IsSome node.old.node }
-    ensures { (old : NodeValue) → node.old.node ≡ Some old → (new : NodeValue) × (told : Told) × (reply : List ℕ) × (node.new.node ≡ Some new)
-        × Hears old now (addr_of from) octets.now result new told reply × (event.new ≡ event_for told)
+    ensures { (old : NodeValue) → node.old.node ≡ Some old → (new : NodeValue) × (told : Told) × (message : Option MessageValue) × (reply : List ℕ)
+        × (node.new.node ≡ Some new) × Hears old now (addr_of from) octets.now result new told message reply × (event.new ≡ event_for told message)
         × PutsMost (lent_by told) lent.old lent.new × Puts reply out.old out.new size.new }
 {
     let mut reply = Octets::new();
@@ -182,6 +128,29 @@ pub extern "C" fn nbt_node_poll(
     result
 }
 
+/// `nbt_node::Node::next_due`: when `nbt_node_poll` sends something next, in milliseconds, if no other call with the node comes before:
+/// the first time, of those that aren't before its last call, at which it would. 0, and that time stands in `due`; or 249 where there
+/// is none, `due` being left as it was. The node stays.
+#[unsafe(no_mangle)]
+pub extern "C" fn nbt_node_next_due(node: &mut CNode, due: &mut u64) -> u8
+    requires { IsSome node.old.node }
+    ensures { (old : NodeValue) → node.old.node ≡ Some old → (next : Option ℕ) × (node.new.node ≡ Some old)
+        × IsFirst (sends_at old) old.last next × TellsTime next due.old result due.new }
+{
+    tell_time(node.get().next_due(), due)
+}
+
+/// Tells a time, if there is one.
+fn tell_time(time: Option<u64>, out: &mut u64) -> u8
+    ensures { TellsTime time out.old result out.new }
+{
+    let Some(time) = time else {
+        return NOTHING_DUE;
+    };
+    *out = time;
+    0
+}
+
 /// Calls `nbt_node::Node::holds` with what C passes.
 fn holds(node: &Node<14>, now: u64, name: &CName, held: &mut u8) -> u8
     ensures { (kind : Option HeldKind) × Holds node.now now name.now result kind × (held.new ≡ held_number kind) }
@@ -215,4 +184,44 @@ pub extern "C" fn nbt_node_holds(node: &mut CNode, now: u64, name: &CName, held:
         × Holds old now name.now result kind × (held.new ≡ held_number kind) }
 {
     holds(node.get(), now, name, held)
+}
+
+/// Calls `nbt_node::Node::standing` with what C passes.
+fn stands(node: &Node<14>, now: u64, name: &CName, state: &mut u8) -> u8
+    ensures { Stands node.now now name.now state.old result state.new }
+{
+    let Some(now) = Moment::new(now) else {
+        return NO_MOMENT;
+    };
+    let Some(name) = name.read() else {
+        return NO_NAME;
+    };
+    let Some(standing) = node.standing(now, &name) else {
+        return ClockBack.number();
+    };
+    *state = standing_number(standing);
+    0
+}
+
+fn standing_number(standing: Standing) -> u8
+    ensures { result ≡ standing_number standing }
+{
+    match standing {
+        Standing::Idle => 0,
+        Standing::Asking => 1,
+        Standing::Held => 2,
+        Standing::Releasing => 3,
+        Standing::Resting => 4,
+    }
+}
+
+/// `nbt_node::Node::standing`: how the name stands at the node at `now`, as time alone has left it. 0, and `state` is 0 idle, 1
+/// asking, 2 held, 3 releasing or 4 resting. Else `state` stays: 253, 255 as by `nbt_node_ask`, or `ClockBack` (4) as by
+/// `nbt_node_on_datagram`. The node stays.
+#[unsafe(no_mangle)]
+pub extern "C" fn nbt_node_state(node: &mut CNode, now: u64, name: &CName, state: &mut u8) -> u8
+    requires { IsSome node.old.node }
+    ensures { (old : NodeValue) → node.old.node ≡ Some old → (node.new.node ≡ Some old) × Stands old now name.now state.old result state.new }
+{
+    stands(node.get(), now, name, state)
 }

@@ -22,6 +22,8 @@ pub struct CName {
 }
 
 impl CName {
+    ghost use Rattle.std.specs.Prelude.{None};
+    ghost use Rattle.nbt_c.specs.Events.{stored_if};
     ghost use Rattle.nbt_c.specs.Names.{HoldsName, name_in, stored};
 
     /// The name that is held; `None` where `scope_size` is above 221, or the scope is no row of labels.
@@ -36,6 +38,17 @@ impl CName {
         match Name::any(&self.scope[..size]) {
             Ok(scoped) => Some(with_octets(&self.octets, &scoped)),
             Err(_) => None,
+        }
+    }
+
+    /// No name: zeros.
+    pub(crate) fn none() -> CName
+        ensures { result ≡ stored_if None }
+    {
+        CName {
+            octets: [0; 16],
+            scope_size: 0,
+            scope: filled(&[]),
         }
     }
 

@@ -17,3 +17,6 @@ pub(crate) const NO_PLACE: u8 = 251;
 
 /// No more leases live.
 pub(crate) const NO_LEASE: u8 = 250;
+
+/// A poll sends nothing, at whatever time.
+pub(crate) const NOTHING_DUE: u8 = 249;

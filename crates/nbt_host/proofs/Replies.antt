@@ -13,7 +13,8 @@ use Rattle.nbt_port.specs.declared.port.Device.{Device}
 use Rattle.nbt_port.specs.PortCalls.{PortCall, came, sent, send_failed, sending, receiving, Chain}
 use Rattle.nbt_port.proofs.Chains.{chain_one}
 use Rattle.nbt_host.specs.declared.news.Notice.{Notice}
-use Rattle.nbt_host.specs.Answering.{own_reply, sent_back, notice_of}
+use Rattle.nbt_node.specs.Answering.{own_reply, sent_back}
+use Rattle.nbt_host.specs.Noticing.{notice_of}
 use Rattle.nbt_host.specs.Hosting.{sending_to, HostHears, hears_nothing, hears, hears_back, LosesReply, loses_reply}
 
 -- what is no query is replied to by the node itself, or not at all

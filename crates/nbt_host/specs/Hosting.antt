@@ -17,7 +17,8 @@ use Rattle.nbt_host.specs.declared.goal.Stage.TheVariants.{Wanted}
 use Rattle.nbt_host.specs.declared.news.Notice.{Notice}
 use Rattle.nbt_host.specs.declared.watching.Look.{Look}
 use Rattle.nbt_host.specs.Goals.{anew, may_ask, seen, heard_by}
-use Rattle.nbt_host.specs.Answering.{sent_back, notice_of}
+use Rattle.nbt_node.specs.Answering.{sent_back}
+use Rattle.nbt_host.specs.Noticing.{notice_of}
 
 -- what is sent to an end, if anything
 abbrev pub sending_to : Addr → Option (List ℕ) → List PortCall

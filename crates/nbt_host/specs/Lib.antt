@@ -1,4 +1,4 @@
-pub mod Answering
+pub mod Noticing
 pub mod Begin
 pub mod Events
 pub mod Goals

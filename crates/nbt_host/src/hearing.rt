@@ -5,15 +5,14 @@ ghost use Rattle.nbt_name.specs.declared.addr.Addr.{Addr as End};
 ghost use Rattle.nbt_packet.specs.Message.{message_if};
 ghost use Rattle.nbt_node.specs.Moves.{told_of};
 ghost use Rattle.nbt_port.specs.PortCalls.{PortCall, send_failed, receiving, Chain, CountsFailure};
-ghost use Rattle.nbt_host.specs.Answering.{sent_back};
+ghost use Rattle.nbt_node.specs.Answering.{sent_back};
 ghost use Rattle.nbt_host.specs.Hosting.{sending_to, HostHears, LosesReply};
 
-use crate::answering::reply_to;
 use crate::news::{Notice, notice_of};
 use arrayvec::ArrayVec;
 use nbt_lease::Moment;
 use nbt_name::Addr;
-use nbt_node::{Event, Node};
+use nbt_node::{Event, Node, reply_to};
 use nbt_packet::{Message, read};
 use nbt_port::{Device, Port};
 

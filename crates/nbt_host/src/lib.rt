@@ -13,7 +13,6 @@
 //! ```
 #![tactic(auto)]
 
-mod answering;
 mod arguments;
 mod begin;
 mod event;

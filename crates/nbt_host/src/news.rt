@@ -3,7 +3,7 @@
 ghost use Rattle.std.specs.Prelude.{◌≡◌, None};
 ghost use Rattle.nbt_packet.specs.Message.{message_if};
 ghost use Rattle.nbt_node.specs.Moves.{told_of};
-ghost use Rattle.nbt_host.specs.Answering.{news_of, notice_of};
+ghost use Rattle.nbt_host.specs.Noticing.{news_of, notice_of};
 
 use nbt_name::Name;
 use nbt_node::Event;

@@ -4,6 +4,7 @@ pub mod Known
 pub mod Awake
 pub mod Moving
 pub mod Due
+pub mod FirstTimes
 pub mod Steps
 pub mod OneMove
 pub mod OneCall

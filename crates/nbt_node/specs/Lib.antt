@@ -6,4 +6,7 @@ pub mod Node
 pub mod Moves
 pub mod Calls
 pub mod Datagrams
+pub mod Answering
+pub mod Standing
+pub mod Waiting
 pub mod Inner

@@ -2,6 +2,7 @@
 //! status requests (RFC 1001 section 15, RFC 1002 section 5.1). No call allocates memory.
 #![tactic(auto)]
 
+mod answering;
 mod asking;
 mod event;
 mod fault;
@@ -12,11 +13,15 @@ mod polling;
 mod replies;
 mod settling;
 mod slots;
+mod standing;
 mod state;
 mod status;
 mod transaction;
+mod waiting;
 
+pub use answering::reply_to;
 pub use event::Event;
 pub use fault::{AskFault, ClockBack, LookupFault, ReleaseFault};
 pub use node::Node;
+pub use standing::Standing;
 pub use transaction::RETRY_TIMEOUT;

@@ -11,9 +11,11 @@ use crate::polling::first_due;
 use crate::replies::{on_registered, on_released, on_wait};
 use crate::settling::is_resting;
 use crate::slots;
+use crate::standing::Standing;
 use crate::state::{Slot, State};
 use crate::status::{listed, write_names};
 use crate::transaction::{Transaction, next_due};
+use crate::waiting::{earlier, lookup_next_due, slots_next_due};
 use arrayvec::ArrayVec;
 use nbt_lease::{Config, Moment};
 use nbt_name::{Addr, Kind, Name};
@@ -50,6 +52,8 @@ impl<const N: usize> Node<N> {
     ghost use Rattle.nbt_node.specs.Moves.{Move, ask, give_back, hear, told_of};
     ghost use Rattle.nbt_packet.specs.Spelling.{AreWritten};
     ghost use Rattle.nbt_node.specs.Calls.{started, ask_refusal, release_refusal, resolve_refusal, status_refusal, Sends, Opens, Polls, slot_due};
+    ghost use Rattle.nbt_node.specs.Standing.{standing};
+    ghost use Rattle.nbt_node.specs.Waiting.{sends_at, IsFirst};
     ghost use Rattle.nbt_node.specs.Datagrams.{NodeHears, Lists, Ends, NodeTakes, Handles, Says, is_listed_for};
 
     /// A node at `addr` whose name server is at `server`. It holds no name, and registers none until more than
@@ -93,6 +97,18 @@ impl<const N: usize> Node<N> {
             return None;
         }
         slots::state_in(&self.slots, name).held_at(now)
+    }
+
+    /// How the name stands at `now`, as time alone has left it; `None` where `now` is before the time of its last call. A
+    /// registration that got no reply, and a hold that ended, show here alone: no call reports them.
+    pub fn standing(&self, now: Moment, name: &Name) -> Option<Standing>
+        ensures { result ≡ standing self.now name.now now }
+    {
+        if now.get() < self.last.get() {
+            return None;
+        }
+        let state = slots::state_in(&self.slots, name).settled(self.config, now);
+        Some(state.standing())
     }
 
     /// Why the name may not be registered, judged by the node that is settled at `now`.
@@ -253,6 +269,17 @@ impl<const N: usize> Node<N> {
     {
         self.settle(now);
         Lookup::poll(&mut self.lookup, now, out)
+    }
+
+    /// When `poll` sends something next, in milliseconds, if nothing happens to the node before: the first time, of those that
+    /// aren't before its last call, at which it would. `None` where there is no such time. It may be later than any `Moment`.
+    pub fn next_due(&self) -> Option<u64>
+        ensures { IsFirst (sends_at self.now) self.now.last result }
+    {
+        earlier(
+            slots_next_due(&self.slots, self.config, self.last),
+            lookup_next_due(&self.lookup, self.last),
+        )
     }
 
     /// Whether a lookup is open at `now`; `false` where `now` is before the time of the last call.

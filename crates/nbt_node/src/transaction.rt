@@ -6,7 +6,7 @@ ghost use Rattle.nbt_node.specs.Transaction.{sendings, next_due, is_next, is_ove
 use nbt_lease::Moment;
 
 /// How often a request is sent in all (UCAST_REQ_RETRY_COUNT, RFC 1002 section 6).
-const SENDINGS: u8 = 3;
+pub const SENDINGS: u8 = 3;
 
 /// The milliseconds after which a request without a reply is sent again (UCAST_REQ_RETRY_TIMEOUT, RFC 1002 section 6).
 pub const RETRY_TIMEOUT: u32 = 5_000;

@@ -1,7 +1,7 @@
 use Rattle.std.proofs.Common.{refl}
 use Rattle.nbt_packet.specs.Message.{message_if}
 use Rattle.nbt_node.specs.Moves.{told_of}
-use Rattle.nbt_host.specs.Answering.{sent_back}
+use Rattle.nbt_node.specs.Answering.{sent_back}
 use Rattle.nbt_host.proofs.Replies.{back_sent, back_lost}
 use Rattle.nbt_host.proofs.hearing.send_back.Goals as goal
 

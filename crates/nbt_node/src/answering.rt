@@ -1,4 +1,4 @@
-//! What a host sends back to who sent it a datagram (RFC 1002 section 4.2.13).
+//! What an endpoint sends back to who sent it a datagram, where it answers queries (RFC 1002 section 4.2.13).
 
 ghost use Rattle.std.specs.Prelude.{◌≡◌, ℕ, ◌+◌, ◌≤◌, List, [], ◌++◌, length, Some, None, if◌then◌else◌};
 ghost use Rattle.nbt_name.specs.Wire.{wire};
@@ -7,12 +7,13 @@ ghost use Rattle.nbt_packet.specs.Message.{message_if, nb, internet};
 ghost use Rattle.nbt_packet.specs.Text.{header, answer_octets, entry};
 ghost use Rattle.nbt_node.specs.Node.{holds};
 ghost use Rattle.nbt_node.specs.Moves.{told_of};
-ghost use Rattle.nbt_host.specs.Answering.{answer_if, own_reply, sent_back};
+ghost use Rattle.nbt_node.specs.Answering.{answer_if, own_reply, sent_back};
 
+use crate::event::Event;
+use crate::node::Node;
 use arrayvec::ArrayVec;
 use nbt_lease::Moment;
 use nbt_name::{Kind, Name, put_long, put_word};
-use nbt_node::{Event, Node};
 use nbt_packet::{Message, entry_octets};
 
 /// The flags of a positive reply of an end node to a query: R, OPCODE 0, AA, RD; RA is clear (RFC 1002 section 4.2.13).

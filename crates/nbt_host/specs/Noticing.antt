@@ -1,0 +1,27 @@
+-- What a host learns of its names by a datagram (our profile).
+use Rattle.std.specs.Prelude.{Option, Some, None}
+use Rattle.nbt_name.specs.Wire.{NameValue}
+use Rattle.nbt_packet.specs.Message.{MessageValue, registered, released}
+use Rattle.nbt_node.specs.Moves.{Told, is_granted, is_renewed, is_refused, is_lost, is_freed}
+use Rattle.nbt_host.specs.declared.news.News.{News}
+use Rattle.nbt_host.specs.declared.news.News.TheVariants as n
+use Rattle.nbt_host.specs.declared.news.Notice.{Notice}
+
+-- what a node's user is told of one of its names
+abbrev pub news_of : Told → Option News
+news_of (is_granted seconds) = Some (n.Granted seconds)
+news_of (is_renewed seconds) = Some (n.Renewed seconds)
+news_of (is_refused rcode) = Some (n.Refused rcode)
+news_of is_lost = Some n.Lost
+news_of (is_freed rcode) = Some (n.Freed rcode)
+news_of told = None
+
+abbrev pub of_name : NameValue → Option News → Option Notice
+of_name name None = None
+of_name name (Some news) = Some (record { name = name; news = news })
+
+-- of which one: that of the server's reply
+abbrev pub notice_of : Option MessageValue → Told → Option Notice
+notice_of (Some (registered rcode r)) told = of_name r.name (news_of told)
+notice_of (Some (released id rcode name kind addr)) told = of_name name (news_of told)
+notice_of message told = None
