@@ -1,6 +1,5 @@
 -- What changes make of the leases of each name, and what a crash leaves of them (our profile).
 use Rattle.std.specs.Prelude.{◌≡◌, ℕ, ◌≤◌, not, nat_eq, if◌then◌else◌, List, [], ◌∷◌, ◌++◌, length, map, filter, take}
-use Rattle.nbt_name.specs.Wire.{same_name}
 use Rattle.nbt_lease.specs.declared.lease.Lease.{Lease}
 use Rattle.nbt_lease.specs.Lease.{Leases, Rows, at_name}
 use Rattle.nbt_store.specs.declared.change.Change.{Change}
@@ -29,13 +28,13 @@ abbrev pub after_all : List Change → Leases → Leases
 after_all [] leases = leases
 after_all (change ∷ changes) leases = after_all changes (after change leases)
 
+-- the changes by which leases began
+abbrev pub begun_all : Rows → List Change
+begun_all rows = map (λ row. Began row.0 row.1) rows
+
 -- no lease of any name
 abbrev pub no_leases : Leases
 no_leases name = []
-
--- the leases that rows have, whether they are over or not
-abbrev pub leases_of : Rows → Leases
-leases_of rows name = map (λ row. row.1) (filter (λ row. same_name row.0 name) rows)
 
 -- What a crash may leave of changes if it keeps so many at least: the first of them, in order.
 pub record MayLeave (changes : List Change) (durable : ℕ) (left : List Change) : Type 0 where

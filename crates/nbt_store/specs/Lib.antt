@@ -1,1 +1,13 @@
+pub mod Boot
 pub mod Changes
+pub mod Checksum
+pub mod Words
+pub mod Records
+pub mod Lines
+pub mod Loading
+pub mod Silence
+pub mod Recents
+pub mod Reading
+pub mod Writing
+pub mod Headers
+pub mod Numbers

@@ -1,5 +1,7 @@
 //! Changes of leases.
 
+ghost use Rattle.std.specs.Prelude.{◌≡◌};
+
 use nbt_lease::Lease;
 use nbt_name::Name;
 
@@ -29,4 +31,27 @@ pub enum Change {
         /// The 32-bit address.
         addr: u32,
     },
+}
+
+impl Change {
+    /// An equal change.
+    pub fn copy(&self) -> Change
+        ensures { result ≡ self.now }
+    {
+        match self {
+            Change::Began { name, lease } => Change::Began {
+                name: name.copy(),
+                lease: *lease,
+            },
+            Change::Moved { name, addr, end } => Change::Moved {
+                name: name.copy(),
+                addr: *addr,
+                end: *end,
+            },
+            Change::Released { name, addr } => Change::Released {
+                name: name.copy(),
+                addr: *addr,
+            },
+        }
+    }
 }

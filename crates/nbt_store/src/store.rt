@@ -4,6 +4,9 @@ ghost use Rattle.std.specs.Prelude.{◌≡◌, ◌≤◌, ◌⊎◌, ℕ, List, 
 ghost use Rattle.nbt_store.specs.declared.change.Change.{Change as ChangeValue};
 
 use crate::change::Change;
+use crate::header::Header;
+use nbt_lease::Lease;
+use nbt_name::Name;
 use thiserror::Error;
 
 /// A call of a store failed. What it keeps of the last change isn't known, so the server ends.
@@ -31,4 +34,17 @@ pub trait Store {
         ensures changes { changes self.new ≡ changes self.old }
         ensures grows { durable self.old ≤ durable self.new }
         ensures within { durable self.old ≤ length (changes self.old) → durable self.new ≤ length (changes self.new) };
+}
+
+/// A store that can be written anew.
+pub trait Renew: Store {
+    /// Whether it is several times as long as so many live leases are.
+    fn is_long(&self, live: usize) -> bool;
+
+    /// Writes the leases of these rows in place of what is kept, and is then a store that has just been opened: the caller must
+    /// ensure that they are the live leases that all changes make. A crash leaves what was kept before, or these. Refused with
+    /// `Broken` if the store fails: what is kept is then the one or the other.
+    fn renew(&mut self, header: &Header, rows: &[(Name, Lease)]) -> Result<(), Broken>
+        ensures changes { OnOk result (Self.changes self.new ≡ []) }
+        ensures durable { OnOk result (Self.durable self.new ≡ 0) };
 }

@@ -1,0 +1,108 @@
+-- What is written says the change, or is of the header.
+use Rattle.std.proofs.Common.{◌≡◌, ◌∙◌, ℕ, ◌+◌, ◌<◌, ◌^◌, List, [], ◌∷◌, ◌++◌, ap, sym, subst, refl, lit<, lit≤}
+use Rattle.std.specs.Prelude.{codes}
+use Rattle.std.specs.Fmt.{decimal}
+use Rattle.std.proofs.lemmas.Fmt.{decimal_is_IsNumeral}
+use Rattle.nbt_name.specs.Wire.{NameValue}
+use Rattle.nbt_lease.specs.declared.lease.Lease.{Lease}
+use Rattle.nbt_text.specs.Lines.{words as words_of, one_line}
+use Rattle.nbt_text.specs.NameText.{SpellsName}
+use Rattle.nbt_text.specs.Number.{SpellsNumber}
+use Rattle.nbt_store.specs.declared.change.Change.{Change}
+use Rattle.nbt_store.specs.declared.change.Change.TheVariants as change
+use Rattle.nbt_store.specs.declared.header.Header.{Header}
+use Rattle.nbt_store.specs.declared.verb.Verb.TheVariants as verbs
+use Rattle.nbt_store.specs.Boot.{SpellsBoot}
+use Rattle.nbt_store.specs.Lines.{IsLine, IsHead, SpellsHeader, IsFile, IsClosed, whole_lines, version}
+use Rattle.nbt_store.specs.Records.{IsRecord, Says, says}
+use Rattle.nbt_store.specs.Words.{Then, SpellsHost, kind_word}
+use Rattle.nbt_store.specs.Writing.{AddsWord}
+use Rattle.nbt_store.proofs.WordLists.{one_word}
+use Rattle.std.proofs.lemmas.List.{map-append}
+use Rattle.std.specs.Prelude.{take}
+use Rattle.nbt_lease.specs.Lease.{Rows}
+use Rattle.nbt_store.specs.Changes.{begun_all}
+use Rattle.nbt_store.proofs.WholeLines.{behind_closed, one_line_is, closed_by, one_more_change}
+
+pub spells_number : (n : ℕ) → n < 2 ^ 64 → SpellsNumber (decimal n) n
+spells_number n h = let known = decimal_is_IsNumeral n h in (known.0, sym known.1, h)
+
+one : {A B : Type 0} (One : List ℕ → A → Type 0) (Others : List (List ℕ) → B → Type 0) (word : List ℕ) (rest : List (List ℕ)) (a : A) (b : B) → One word a → Others rest b → Then One Others (word ∷ rest) (a, b)
+one One Others word rest a b p q = record { word = word; rest = rest; words_are = refl; one = p; others = q }
+
+more_words : (old new word : List ℕ) (ws : List (List ℕ)) → AddsWord old new word → words_of old ≡ ws → words_of new ≡ ws ++ word ∷ []
+more_words old new word ws adds e = adds.words_are ∙ ap (λ (xs : List (List ℕ)). xs ++ word ∷ []) e
+
+pub began_says : (t0 t1 t2 t3 t4 n h e : List ℕ) (name : NameValue) (lease : Lease) → t0 ≡ codes "began" → SpellsName n name → AddsWord t0 t1 n → SpellsHost h lease.addr → AddsWord t1 t2 h → AddsWord t2 t3 (kind_word lease.kind)
+    → SpellsNumber e lease.end → AddsWord t3 t4 e → Says (words_of t4) (change.Began name lease) × IsLine t4
+began_says t0 t1 t2 t3 t4 n h e name lease is sn an sh ah ak se ae =
+    let k : List ℕ = kind_word lease.kind in
+    let w0 : words_of t0 ≡ codes "began" ∷ [] = ap words_of is ∙ one_word (codes "began") (record { some = lit< tt; marks = (lit≤ tt, (lit≤ tt, (lit≤ tt, (lit≤ tt, (lit≤ tt, tt))))) }) in
+    let w4 : words_of t4 ≡ codes "began" ∷ n ∷ h ∷ k ∷ e ∷ [] = more_words t3 t4 e _ ae (more_words t2 t3 k _ ak (more_words t1 t2 h _ ah (more_words t0 t1 n _ an w0))) in (
+      subst (λ (ws : List (List ℕ)). Says ws (change.Began name lease)) (sym w4) (says verbs.Began (n ∷ h ∷ k ∷ e ∷ []) (change.Began name lease) (record {
+        values = (name, (lease.addr, (lease.kind, (lease.end, tt))));
+        spelled = one _ _ n _ name _ sn (one _ _ h _ lease.addr _ sh (one _ _ k _ lease.kind _ refl (one _ _ e _ lease.end tt se refl)));
+        change_is = refl;
+      })),
+      ae.line (ak.line (ah.line (an.line (subst IsLine (sym is) (lit≤ tt, (lit≤ tt, (lit≤ tt, (lit≤ tt, (lit≤ tt, tt))))))))),
+    )
+
+pub moved_says : (t0 t1 t2 t3 n h e : List ℕ) (name : NameValue) (addr end : ℕ) → t0 ≡ codes "moved" → SpellsName n name → AddsWord t0 t1 n → SpellsHost h addr → AddsWord t1 t2 h
+    → SpellsNumber e end → AddsWord t2 t3 e → Says (words_of t3) (change.Moved name addr end) × IsLine t3
+moved_says t0 t1 t2 t3 n h e name addr end is sn an sh ah se ae =
+    let w0 : words_of t0 ≡ codes "moved" ∷ [] = ap words_of is ∙ one_word (codes "moved") (record { some = lit< tt; marks = (lit≤ tt, (lit≤ tt, (lit≤ tt, (lit≤ tt, (lit≤ tt, tt))))) }) in
+    let w3 : words_of t3 ≡ codes "moved" ∷ n ∷ h ∷ e ∷ [] = more_words t2 t3 e _ ae (more_words t1 t2 h _ ah (more_words t0 t1 n _ an w0)) in (
+      subst (λ (ws : List (List ℕ)). Says ws (change.Moved name addr end)) (sym w3) (says verbs.Moved (n ∷ h ∷ e ∷ []) (change.Moved name addr end) (record {
+        values = (name, (addr, (end, tt)));
+        spelled = one _ _ n _ name _ sn (one _ _ h _ addr _ sh (one _ _ e _ end tt se refl));
+        change_is = refl;
+      })),
+      ae.line (ah.line (an.line (subst IsLine (sym is) (lit≤ tt, (lit≤ tt, (lit≤ tt, (lit≤ tt, (lit≤ tt, tt)))))))),
+    )
+
+pub released_says : (t0 t1 t2 n h : List ℕ) (name : NameValue) (addr : ℕ) → t0 ≡ codes "released" → SpellsName n name → AddsWord t0 t1 n → SpellsHost h addr → AddsWord t1 t2 h → Says (words_of t2) (change.Released name addr) × IsLine t2
+released_says t0 t1 t2 n h name addr is sn an sh ah =
+    let w0 : words_of t0 ≡ codes "released" ∷ [] = ap words_of is ∙ one_word (codes "released") (record { some = lit< tt; marks = (lit≤ tt, (lit≤ tt, (lit≤ tt, (lit≤ tt, (lit≤ tt, (lit≤ tt, (lit≤ tt, (lit≤ tt, tt)))))))) }) in
+    let w2 : words_of t2 ≡ codes "released" ∷ n ∷ h ∷ [] = more_words t1 t2 h _ ah (more_words t0 t1 n _ an w0) in (
+      subst (λ (ws : List (List ℕ)). Says ws (change.Released name addr)) (sym w2) (says verbs.Released (n ∷ h ∷ []) (change.Released name addr) (record {
+        values = (name, (addr, tt));
+        spelled = one _ _ n _ name _ sn (one _ _ h _ addr tt sh refl);
+        change_is = refl;
+      })),
+      ah.line (an.line (subst IsLine (sym is) (lit≤ tt, (lit≤ tt, (lit≤ tt, (lit≤ tt, (lit≤ tt, (lit≤ tt, (lit≤ tt, (lit≤ tt, tt)))))))))),
+    )
+
+pub header_says : (t1 t2 t3 t4 t5 t6 a b c d e f : List ℕ) (h : Header) → SpellsNumber a h.life → words_of t1 ≡ a ∷ [] → IsLine t1 → SpellsNumber b h.longest → AddsWord t1 t2 b → SpellsNumber c h.rows → AddsWord t2 t3 c
+    → SpellsBoot d h.boot → AddsWord t3 t4 d → SpellsNumber e h.start → AddsWord t4 t5 e → SpellsNumber f h.last → AddsWord t5 t6 f → SpellsHeader (words_of t6) h × IsLine t6
+header_says t1 t2 t3 t4 t5 t6 a b c d e f h sa w1 l1 sb ab sc ac sd ad se ae sf af =
+    let w6 : words_of t6 ≡ a ∷ b ∷ c ∷ d ∷ e ∷ f ∷ [] = more_words t5 t6 f _ af (more_words t4 t5 e _ ae (more_words t3 t4 d _ ad (more_words t2 t3 c _ ac (more_words t1 t2 b _ ab w1)))) in (
+      subst (λ (ws : List (List ℕ)). SpellsHeader ws h) (sym w6) (record {
+        values = (h.life, (h.longest, (h.rows, (h.boot, (h.start, (h.last, tt))))));
+        spelled = one _ _ a _ h.life _ sa (one _ _ b _ h.longest _ sb (one _ _ c _ h.rows _ sc (one _ _ d _ h.boot _ sd (one _ _ e _ h.start _ se (one _ _ f _ h.last tt sf refl)))));
+        header_is = refl;
+      }),
+      af.line (ae.line (ad.line (ac.line (ab.line l1)))),
+    )
+
+-- the first two lines
+pub front_file : (octets head : List ℕ) (h : Header) → IsHead head h → IsLine head → octets ≡ one_line version ++ one_line head → IsFile octets h [] × IsClosed octets
+front_file octets head h is line e = (
+  record {
+    head = head;
+    records = [];
+    lines_are = ap whole_lines e ∙ behind_closed (one_line version) (one_line head) (version, refl) ∙ ap (λ (ls : List (List ℕ)). whole_lines (one_line version) ++ ls) (one_line_is head line);
+    head_is = is;
+    records_are = tt;
+  },
+  subst IsClosed (sym e) (closed_by (one_line version) head),
+)
+
+-- a lease more
+pub lease_written : (before after : List ℕ) (h : Header) (rows : Rows) (i : ℕ) (row : NameValue × Lease) (line : List ℕ) → IsFile before h (begun_all (take i rows)) → IsClosed before → IsRecord line (change.Began row.0 row.1) → IsLine line
+    → after ≡ before ++ one_line line → take (i + 1) rows ≡ take i rows ++ row ∷ [] → IsFile after h (begun_all (take (i + 1) rows)) × IsClosed after
+lease_written before after h rows i row line file closed stated is e more = (
+  subst (λ (xs : List ℕ). IsFile xs h (begun_all (take (i + 1) rows))) (sym e)
+      (subst (λ (cs : List Change). IsFile (before ++ one_line line) h cs) (sym (ap begun_all more ∙ map-append (λ (r : NameValue × Lease). change.Began r.0 r.1) (take i rows) (row ∷ [])))
+      (one_more_change before line h (begun_all (take i rows)) (change.Began row.0 row.1) file closed is stated)),
+  subst IsClosed (sym e) (closed_by before line),
+)

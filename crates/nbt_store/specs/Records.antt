@@ -1,0 +1,45 @@
+-- What the line of a change says (our profile).
+use Rattle.std.specs.Prelude.{◌≡◌, ℕ, List, ◌∷◌, codes}
+use Rattle.nbt_name.specs.declared.addr.Kind.{Kind}
+use Rattle.nbt_lease.specs.declared.lease.Lease.{Lease}
+use Rattle.nbt_text.specs.NameText.{SpellsName}
+use Rattle.nbt_text.specs.Number.{SpellsNumber}
+use Rattle.nbt_text.specs.Lines.{words as words_of}
+use Rattle.nbt_store.specs.declared.change.Change.{Change}
+use Rattle.nbt_store.specs.declared.change.Change.TheVariants as change
+use Rattle.nbt_store.specs.declared.verb.Verb.{Verb}
+use Rattle.nbt_store.specs.declared.verb.Verb.TheVariants.{Began, Moved, Released}
+use Rattle.nbt_store.specs.Checksum.{sealed}
+use Rattle.nbt_store.specs.Words.{NoMore, Then, first, second, third, fourth, SpellsHost, SpellsKind}
+
+-- what a line begins with
+abbrev pub verb_word : Verb → List ℕ
+verb_word Began = codes "began"
+verb_word Moved = codes "moved"
+verb_word Released = codes "released"
+
+-- The words spell values, of which a change is made.
+pub record Makes {A : Type 0} (Spell : List (List ℕ) → A → Type 0) (make : A → Change) (words : List (List ℕ)) (c : Change) : Type 0 where
+  pub values : A
+  pub spelled : Spell words values
+  pub change_is : c ≡ make values
+
+abbrev pub lease_of : (addr : ℕ) → Kind → (end : ℕ) → Lease
+lease_of addr kind end = record { addr = addr; kind = kind; end = end }
+
+-- What the words after a verb say: `began NAME HOST KIND END`, `moved NAME HOST END`, `released NAME HOST`, with the end in
+-- milliseconds.
+abbrev pub SaysOf : Verb → List (List ℕ) → Change → Type 0
+SaysOf Began = Makes (Then SpellsName (Then SpellsHost (Then SpellsKind (Then SpellsNumber NoMore)))) (λ v. change.Began (first v) (lease_of (second v) (third v) (fourth v)))
+SaysOf Moved = Makes (Then SpellsName (Then SpellsHost (Then SpellsNumber NoMore))) (λ v. change.Moved (first v) (second v) (third v))
+SaysOf Released = Makes (Then SpellsName (Then SpellsHost NoMore)) (λ v. change.Released (first v) (second v))
+
+-- What the words of a line say.
+pub data Says : List (List ℕ) → Change → Type 0 where
+  says : (verb : Verb) (rest : List (List ℕ)) (c : Change) → SaysOf verb rest c → Says (verb_word verb ∷ rest) c
+
+-- The line of a change: its words, closed by their checksum.
+pub record IsRecord (line : List ℕ) (c : Change) : Type 0 where
+  pub body : List ℕ
+  pub line_is : line ≡ sealed body
+  pub words_say : Says (words_of body) c

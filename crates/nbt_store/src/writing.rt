@@ -1,0 +1,253 @@
+//! Lines as they are written.
+
+ghost use Rattle.std.specs.Prelude.{◌≡◌, ◌++◌, List, ℕ, [], ◌∷◌, OnOk, codes, map};
+ghost use Rattle.std.specs.Fmt.{decimal};
+ghost use Rattle.std.specs.String.{string_bytes};
+ghost use Rattle.nbt_text.specs.Lines.{one_line, words as words_spoken};
+ghost use Rattle.nbt_text.specs.NameText.{SpellsName};
+ghost use Rattle.nbt_text.specs.Number.{SpellsNumber};
+ghost use Rattle.nbt_store.specs.declared.change.Change.TheVariants as changes;
+ghost use Rattle.nbt_store.specs.Boot.{AreMarks, SpellsBoot};
+ghost use Rattle.nbt_store.specs.Checksum.{sealed};
+ghost use Rattle.nbt_store.specs.Lines.{IsClosed, IsFile, IsHead, IsLine, SpellsHeader, version};
+ghost use Rattle.nbt_store.specs.Changes.{begun_all};
+ghost use Rattle.nbt_store.specs.Records.{IsRecord, Says};
+ghost use Rattle.nbt_store.specs.Words.{SpellsHost, kind_word};
+ghost use Rattle.nbt_store.specs.Writing.{AddsWord, IsWord};
+
+use crate::boot::Boot;
+use crate::change::Change;
+use crate::header::Header;
+use crate::sealing::checksum;
+use crate::word::NAME_SERVICE;
+use nbt_lease::Lease;
+use nbt_name::{Addr, Kind, Name};
+use nbt_text::{end_line, write_address, write_hexadecimal, write_name};
+use std::alloc::{AllocError, Global};
+
+/// Appends the line of a change, with its line feed. If out of memory, only a part may be appended.
+pub fn write_change(alloc: Global, change: &Change, out: &mut String) -> Result<(), AllocError>
+    ensures { OnOk result ((line : List ℕ) × IsRecord line change.now × IsLine line × (string_bytes out.new ≡ string_bytes out.old ++ one_line line)) }
+{
+    let mut body = String::new(alloc);
+    write_words(change, &mut body)?;
+    write_sealed(&body, out)?;
+    Ok(())
+}
+
+/// Appends the line of a lease that began, with its line feed.
+fn write_row(alloc: Global, row: &(Name, Lease), out: &mut String) -> Result<(), AllocError>
+    ensures { OnOk result ((line : List ℕ) × IsRecord line (changes.Began row.now.0 row.now.1) × IsLine line × (string_bytes out.new ≡ string_bytes out.old ++ one_line line)) }
+{
+    let (name, lease) = row;
+    let mut body = String::new(alloc);
+    write_began(name, *lease, &mut body)?;
+    write_sealed(&body, out)?;
+    Ok(())
+}
+
+/// Appends a file of these leases, each of which began: the line of the version, that of the header, and one for each
+/// lease. If out of memory, only a part may be appended.
+pub fn write_file(
+    alloc: Global,
+    header: &Header,
+    rows: &[(Name, Lease)],
+    out: &mut String,
+) -> Result<(), AllocError>
+    requires { string_bytes out.old ≡ [] }
+    ensures file { OnOk result (IsFile (string_bytes out.new) header.now (begun_all rows.now)) }
+    ensures closed { OnOk result (IsClosed (string_bytes out.new)) }
+{
+    write_front(alloc, header, out)?;
+    for row in rows {
+        write_row(alloc, row, out)?;
+    }
+    Ok(())
+}
+
+/// Appends the line of the version and that of the header.
+fn write_front(alloc: Global, header: &Header, out: &mut String) -> Result<(), AllocError>
+    requires { string_bytes out.old ≡ [] }
+    ensures file { OnOk result (IsFile (string_bytes out.new) header.now []) }
+    ensures closed { OnOk result (IsClosed (string_bytes out.new)) }
+{
+    out.push_str("nbt leases, version 1")?;
+    end_line(out)?;
+    write_head(alloc, header, out)?;
+    Ok(())
+}
+
+/// Appends the line of the header.
+fn write_head(alloc: Global, header: &Header, out: &mut String) -> Result<(), AllocError>
+    ensures { OnOk result ((line : List ℕ) × IsHead line header.now × IsLine line × (string_bytes out.new ≡ string_bytes out.old ++ one_line line)) }
+{
+    let mut body = String::new(alloc);
+    write_header(header, &mut body)?;
+    write_sealed(&body, out)?;
+    Ok(())
+}
+
+/// Appends the words of a line, their checksum and a line feed.
+fn write_sealed(body: &String, out: &mut String) -> Result<(), AllocError>
+    ensures { OnOk result (string_bytes out.new ≡ string_bytes out.old ++ one_line (sealed (string_bytes body.now))) }
+{
+    out.push_str(body.as_str())?;
+    out.push_str(" ")?;
+    write_hexadecimal(checksum(body.as_bytes()).to_be_bytes().as_slice(), out)?;
+    end_line(out)
+}
+
+/// Puts the words of a change.
+fn write_words(change: &Change, out: &mut String) -> Result<(), AllocError>
+    requires { string_bytes out.old ≡ [] }
+    ensures says { OnOk result (Says (words_spoken (string_bytes out.new)) change.now) }
+    ensures line { OnOk result (IsLine (string_bytes out.new)) }
+{
+    match change {
+        Change::Began { name, lease } => write_began(name, *lease, out),
+        Change::Moved { name, addr, end } => write_moved(name, *addr, *end, out),
+        Change::Released { name, addr } => write_released(name, *addr, out),
+    }
+}
+
+/// Puts `began NAME HOST KIND END`.
+fn write_began(name: &Name, lease: Lease, out: &mut String) -> Result<(), AllocError>
+    requires { string_bytes out.old ≡ [] }
+    ensures says { OnOk result (Says (words_spoken (string_bytes out.new)) (changes.Began name.now lease)) }
+    ensures line { OnOk result (IsLine (string_bytes out.new)) }
+{
+    out.push_str("began")?;
+    add_name(name, out)?;
+    add_host(lease.addr, out)?;
+    add_kind(lease.kind, out)?;
+    add_number(lease.end, out)?;
+    Ok(())
+}
+
+/// Puts `moved NAME HOST END`.
+fn write_moved(name: &Name, addr: u32, end: u64, out: &mut String) -> Result<(), AllocError>
+    requires { string_bytes out.old ≡ [] }
+    ensures says { OnOk result (Says (words_spoken (string_bytes out.new)) (changes.Moved name.now addr end)) }
+    ensures line { OnOk result (IsLine (string_bytes out.new)) }
+{
+    out.push_str("moved")?;
+    add_name(name, out)?;
+    add_host(addr, out)?;
+    add_number(end, out)?;
+    Ok(())
+}
+
+/// Puts `released NAME HOST`.
+fn write_released(name: &Name, addr: u32, out: &mut String) -> Result<(), AllocError>
+    requires { string_bytes out.old ≡ [] }
+    ensures says { OnOk result (Says (words_spoken (string_bytes out.new)) (changes.Released name.now addr)) }
+    ensures line { OnOk result (IsLine (string_bytes out.new)) }
+{
+    out.push_str("released")?;
+    add_name(name, out)?;
+    add_host(addr, out)?;
+    Ok(())
+}
+
+/// Puts the words of a header.
+fn write_header(header: &Header, out: &mut String) -> Result<(), AllocError>
+    requires { string_bytes out.old ≡ [] }
+    ensures says { OnOk result (SpellsHeader (words_spoken (string_bytes out.new)) header.now) }
+    ensures line { OnOk result (IsLine (string_bytes out.new)) }
+{
+    put_number(header.life, out)?;
+    add_number(header.longest, out)?;
+    add_number(header.rows, out)?;
+    add_boot(&header.boot, out)?;
+    add_number(header.start, out)?;
+    add_number(header.last, out)?;
+    Ok(())
+}
+
+/// Puts a number.
+fn put_number(number: u64, out: &mut String) -> Result<(), AllocError>
+    requires { string_bytes out.old ≡ [] }
+    ensures { OnOk result ((word : List ℕ) × SpellsNumber word number × (words_spoken (string_bytes out.new) ≡ word ∷ []) × IsLine (string_bytes out.new)) }
+{
+    push_number(number, out)?;
+    Ok(())
+}
+
+/// Appends a number.
+fn push_number(number: u64, out: &mut String) -> Result<(), AllocError>
+    ensures { OnOk result (string_bytes out.new ≡ string_bytes out.old ++ decimal number) }
+{
+    write!(out, "{number}")
+}
+
+/// Appends a space and a name.
+fn add_name(name: &Name, out: &mut String) -> Result<(), AllocError>
+    ensures { OnOk result ((word : List ℕ) × SpellsName word name.now × AddsWord (string_bytes out.old) (string_bytes out.new) word) }
+{
+    let _sixteen = name.octets();
+    out.push_str(" ")?;
+    write_name(name, out)?;
+    Ok(())
+}
+
+/// Appends a space and a host.
+fn add_host(addr: u32, out: &mut String) -> Result<(), AllocError>
+    ensures { OnOk result ((word : List ℕ) × SpellsHost word addr × AddsWord (string_bytes out.old) (string_bytes out.new) word) }
+{
+    let end = Addr {
+        ip: addr,
+        port: NAME_SERVICE,
+    };
+    out.push_str(" ")?;
+    write_address(end, out)?;
+    Ok(())
+}
+
+/// Appends a space and a kind.
+fn add_kind(kind: Kind, out: &mut String) -> Result<(), AllocError>
+    ensures { OnOk result (AddsWord (string_bytes out.old) (string_bytes out.new) (kind_word kind)) }
+{
+    match kind {
+        Kind::Unique => push_word("unique", out),
+        Kind::Group => push_word("group", out),
+    }
+}
+
+/// Appends a space and a word.
+fn push_word(word: &str, out: &mut String) -> Result<(), AllocError>
+    requires { IsWord word.now }
+    ensures { OnOk result (AddsWord (string_bytes out.old) (string_bytes out.new) word.now) }
+{
+    out.push_str(" ")?;
+    out.push_str(word)?;
+    Ok(())
+}
+
+/// Appends a space and a number.
+fn add_number(number: u64, out: &mut String) -> Result<(), AllocError>
+    ensures { OnOk result ((word : List ℕ) × SpellsNumber word number × AddsWord (string_bytes out.old) (string_bytes out.new) word) }
+{
+    out.push_str(" ")?;
+    push_number(number, out)?;
+    Ok(())
+}
+
+/// Appends a space and a boot's id.
+fn add_boot(boot: &Boot, out: &mut String) -> Result<(), AllocError>
+    ensures { OnOk result ((word : List ℕ) × SpellsBoot word boot.now × AddsWord (string_bytes out.old) (string_bytes out.new) word) }
+{
+    out.push_str(" ")?;
+    push_marks(boot.octets(), out)?;
+    Ok(())
+}
+
+/// Appends characters that are no spaces.
+fn push_marks(octets: &[u8], out: &mut String) -> Result<(), AllocError>
+    requires { AreMarks octets.now }
+    ensures { OnOk result (string_bytes out.new ≡ string_bytes out.old ++ octets.now) }
+{
+    for octet in octets {
+        out.push(char::from(*octet))?;
+    }
+    Ok(())
+}
