@@ -39,7 +39,10 @@ NBT_ASSERT(sizeof(void *) == 8 && sizeof(size_t) == 8, "nbt: pointers and sizes 
 extern "C" {
 #endif
 
-/* The version of this header, and that of the library: 10,000 for each MAJOR, 100 for each MINOR, and 1 for each PATCH. */
+/*
+ * The version of this header, and that of the library: 10,000 for each MAJOR, 100 for each MINOR, and 1 for each PATCH. Before 1.0.0 a
+ * MINOR may change a size, a struct or a call. The number of a result, an event, a kind or a state never changes.
+ */
 #define NBT_VERSION_MAJOR 0
 #define NBT_VERSION_MINOR 1
 #define NBT_VERSION_PATCH 0
@@ -252,7 +255,7 @@ struct nbt_event {
     bool cut;             /* of FOUND: the name has more entries than these */
     uint32_t seconds;     /* of GRANTED and RENEWED */
     size_t size;          /* of FOUND: the octets of its entries, 6 each; of STATUS: of its names, 18 each */
-    struct nbt_name name; /* of all but NOTHING: which name the datagram is about. Zeros of a NOT_FOUND that names none */
+    struct nbt_name name; /* of all but NOTHING: the name that the datagram is about; zeros where a NOT_FOUND has none */
 };
 NBT_ASSERT(sizeof(struct nbt_event) == 256 && offsetof(struct nbt_event, name) == 16, "nbt: struct nbt_event");
 
