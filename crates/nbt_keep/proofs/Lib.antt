@@ -6,3 +6,5 @@ pub mod Kept
 pub mod Told
 -- what a store has after it, and what a crash leaves
 pub mod Stored
+-- a server that resumes with what was kept
+pub mod Resumed

@@ -4,6 +4,7 @@
 
 mod changing;
 mod keeping;
+pub mod laws;
 
 pub use changing::{Handled, handle_telling};
 pub use keeping::handle_keeping;

@@ -1,0 +1,32 @@
+-- A server that resumes with what was kept.
+use Rattle.std.proofs.Common.{◌≡◌, ℕ, ◌≤◌, [], refl, sym, ap, ◌∙◌, subst, arith}
+use Rattle.nbt_lease.specs.Lease.{Leases, Rows, is_live, leases_at, IsSound}
+use Rattle.nbt_lease.proofs.Common.{filter, NameValue}
+use Rattle.nbt_lease.proofs.Rows.{later_is, same_leases}
+use Rattle.nbt_server.specs.Serving.{ServerValue}
+use Rattle.nbt_server.specs.Calls.{ServerResumes, kept_server}
+use Rattle.nbt_keep.specs.Changing.{IsKept}
+use Rattle.nbt_keep.specs.Keeping.{IsStored}
+use Rattle.nbt_keep.proofs.Told.{KeptAt, kept_at}
+
+pub resumes_kept : (was server : ServerValue) (kept : Leases) (rows : Rows) (last now : ℕ) → IsKept kept was → was.last ≤ now → ((name : NameValue) → leases_at now rows name ≡ filter (is_live now) (kept name))
+    → ServerResumes (kept_server was.table.config was.start last rows) now server → ServerResumes was now server
+resumes_kept was server kept rows last now k onward same r =
+    let at : KeptAt now kept (leases_at now was.table.rows) = kept_at kept was now onward k in
+    record {
+      leases = r.leases ∙ same_leases (leases_at now rows) (leases_at now was.table.rows) (λ name. same name ∙ at.live name);
+      start = r.start;
+      config = r.config;
+      was_called = onward;
+      called = r.called;
+    }
+
+pub resumed_stored : (was server : ServerValue) (now : ℕ) → ServerResumes was now server → server.last ≡ now → IsSound was.table.config now (leases_at now was.table.rows) → IsStored (leases_at now was.table.rows) [] 0 server
+resumed_stored was server now r last_is sound = record {
+  kept = record {
+    apart = λ name. (sound name).apart;
+    live = λ name. subst (λ (n : ℕ). filter (is_live n) (leases_at now was.table.rows name) ≡ leases_at n server.table.rows name) (sym last_is)
+        (sym (later_is now now was.table.rows name (omega arith)) ∙ sym (ap (λ (f : Leases). f name) r.leases));
+  };
+  all = refl;
+}
