@@ -11,6 +11,7 @@ mod leases;
 mod names;
 mod node;
 mod packets;
+mod resuming;
 mod server;
 mod sessions;
 mod world;
