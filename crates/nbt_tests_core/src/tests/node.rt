@@ -8,7 +8,7 @@ use arrayvec::ArrayVec;
 use nbt_lease::{Config, Moment};
 use nbt_name::{Addr, Kind, Name};
 use nbt_node::laws::{each_name, one_move, settling_ends, settling_in_steps};
-use nbt_node::{AskFault, ClockBack, Event, LookupFault, Node, ReleaseFault};
+use nbt_node::{AskFault, ClockBack, Event, LookupFault, Node, ReleaseFault, Standing};
 use std::process::Abort;
 use std::test::Fail;
 
@@ -57,6 +57,10 @@ const REFRESH: &[u8] =
 
 const RELEASE: &[u8] =
     b"\x00\x02\x30\x00\x00\x01\x00\x00\x00\x00\x00\x01 EGFCEFEECACACACACACACACACACACACA\x00\x00\x20\x00\x01\xC0\x0C\x00\x20\x00\x01\x00\x00\x00\x00\x00\x06\x20\x00\x7F\x00\x00\x02";
+
+/// Its release with id 3.
+const THIRD_RELEASE: &[u8] =
+    b"\x00\x03\x30\x00\x00\x01\x00\x00\x00\x00\x00\x01 EGFCEFEECACACACACACACACACACACACA\x00\x00\x20\x00\x01\xC0\x0C\x00\x20\x00\x01\x00\x00\x00\x00\x00\x06\x20\x00\x7F\x00\x00\x02";
 
 /// A WACK of 90 s for id 1.
 const WACK: &[u8] =
@@ -137,6 +141,10 @@ enum Step<'a> {
     Holds(u64, Option<Kind>),
     /// Whether a lookup is open.
     LookupOpen(u64, bool),
+    /// When something is sent next.
+    NextDue(u64, Option<u64>),
+    /// How FRED stands.
+    Stands(u64, Option<Standing>),
 }
 
 fn start() -> Result<Node<1>, Fail> {
@@ -158,7 +166,9 @@ fn moment(step: &Step<'_>) -> Result<Moment, Fail> {
         | Step::CutResponse(ms, _, _)
         | Step::Reply(ms, _, _, _)
         | Step::Holds(ms, _)
-        | Step::LookupOpen(ms, _) => at(ms),
+        | Step::LookupOpen(ms, _)
+        | Step::NextDue(ms, _)
+        | Step::Stands(ms, _) => at(ms),
     }
 }
 
@@ -246,6 +256,12 @@ fn watch(
         }
         Step::LookupOpen(_, expected) => {
             expect_eq_in(rt, place, &node.lookup_open(now), &expected);
+        }
+        Step::NextDue(_, expected) => {
+            expect_eq_in(rt, place, &node.next_due(), &expected);
+        }
+        Step::Stands(_, expected) => {
+            expect_eq_in(rt, place, &node.standing(now, fred), &expected);
         }
         _ => return hear(rt, place, node, now, step, out),
     }
@@ -675,11 +691,51 @@ const HOLDS: &[Case] = &[
         "a hold from 69,999 and one of a second",
         A_HOLD_FROM_69_999_AND_ONE_OF_A_SECOND,
     ),
+    ("what is due next and how a name stands", WHAT_IS_DUE_NEXT),
 ];
 
 fn holds() -> &'static [Case] {
     HOLDS
 }
+
+/// A hold of 60 s ends after 59,878 ms, and its refresh opens after 30 s.
+const WHAT_IS_DUE_NEXT: &[Step<'_>] = &[
+    Step::NextDue(0, None),
+    Step::Stands(0, Some(Standing::Idle)),
+    Step::Ask(10_000, FRED, Kind::Unique, Ok(REGISTRATION)),
+    Step::NextDue(10_000, Some(15_000)),
+    Step::Stands(9_999, None),
+    Step::Stands(10_000, Some(Standing::Asking)),
+    Step::Poll(15_000, Some(REGISTRATION)),
+    Step::NextDue(15_000, Some(20_000)),
+    Step::Respond(
+        16_000,
+        SERVER,
+        Response(1, [0xAD, 0x80], 60),
+        Event::Granted(60),
+    ),
+    Step::NextDue(16_000, Some(40_000)),
+    Step::Poll(39_999, None),
+    Step::NextDue(39_999, Some(40_000)),
+    Step::Poll(40_000, Some(REFRESH)),
+    Step::Poll(45_000, Some(REFRESH)),
+    Step::Poll(50_000, Some(REFRESH)),
+    Step::NextDue(50_000, Some(55_000)),
+    Step::Stands(69_877, Some(Standing::Held)),
+    Step::Stands(69_878, Some(Standing::Idle)),
+    Step::Release(60_000, Ok(THIRD_RELEASE)),
+    Step::Stands(60_000, Some(Standing::Releasing)),
+    Step::NextDue(60_000, Some(65_000)),
+    Step::Respond(
+        60_001,
+        SERVER,
+        Response(3, [0xB4, 0x00], 0),
+        Event::Freed(0),
+    ),
+    Step::NextDue(60_001, None),
+    Step::Stands(62_004, Some(Standing::Resting)),
+    Step::Stands(62_005, Some(Standing::Idle)),
+];
 
 /// Of a name that rests, is lost or is refused.
 const RESTS: &[Case] = &[
