@@ -13,6 +13,7 @@ mod node;
 mod packets;
 mod server;
 mod sessions;
+mod store;
 mod world;
 
 /// The sixteen octets of names: FRED's and TEAM's, filled with spaces, and of the name that stands for all.
