@@ -14,6 +14,7 @@ mod packets;
 mod resuming;
 mod server;
 mod sessions;
+mod store;
 mod world;
 
 /// The sixteen octets of names: FRED's and TEAM's, filled with spaces, and of the name that stands for all.
