@@ -13,7 +13,7 @@
  *     object. A const pointer to an object says that the object stays as it is.
  *   - Numbers may be any: each length, place and count is tested.
  *   - A result is 0, or the number of what is wrong, by the names below. Numbers from 249 on mean one thing, whichever call returns
- *     them; a smaller number means something only together with the call, which nbt_result_text is told too. What a call writes
+ *     them. Numbers from 1 to 248 mean something only together with the call: nbt_result_text is told both. What a call writes
  *     where the result isn't 0 stands above it; all else stays as it was.
  *   - Sizes are octets, unless it says otherwise. Scopes and words are octets with a length, not texts that a zero ends.
  */
@@ -286,8 +286,8 @@ uint8_t nbt_node_poll(struct nbt_node *node, uint64_t now, struct nbt_addr *to, 
 
 /*
  * Writes *due: when nbt_node_poll sends something next, if no other call with the node comes before. That is the first time, of those
- * that aren't before its last call, at which it would: before it a poll sends nothing. NBT_NOTHING_DUE: there is none, and nothing is
- * written. It changes with each call that the node isn't const for.
+ * that aren't before the node's last call, at which a poll would: before it a poll sends nothing. NBT_NOTHING_DUE: there is none, and
+ * nothing is written. Each call for which the node isn't const may change that time.
  */
 uint8_t nbt_node_next_due(const struct nbt_node *node, uint64_t *due);
 
