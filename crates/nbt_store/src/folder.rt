@@ -1,7 +1,7 @@
 //! A store in a folder of the system: the file `leases`.
 //!
-//! What a file keeps no contract can say: the octets that are written are exact by contract, and that they are written,
-//! synced and renamed in this order tests show.
+//! What a file keeps no contract can say. The octets that are written are exact by contract. That they are written, synced and
+//! renamed in this order can be read here: no test shows it yet.
 
 use crate::boot::Boot;
 use crate::change::Change;
