@@ -41,6 +41,7 @@ cut_off turns breaks cuts most f.NoPort old new other cut = cut
 cut_off turns breaks cuts most f.NoClock old new other cut = cut
 cut_off turns breaks cuts most f.Device old new other cut = absurd (other refl)
 cut_off turns breaks cuts most f.Output old new other cut = cut
+cut_off turns breaks cuts most f.Store old new other cut = cut
 cut_off turns breaks cuts most f.Memory old new other cut = cut
 
 -- where no turn cuts it off, it gives up
@@ -51,4 +52,5 @@ gives_up turns breaks most old new (Err f.NoPort) ended = absurd ended.4
 gives_up turns breaks most old new (Err f.NoClock) ended = absurd ended.4
 gives_up turns breaks most old new (Err f.Device) ended = (ended, refl)
 gives_up turns breaks most old new (Err f.Output) ended = absurd ended.4
+gives_up turns breaks most old new (Err f.Store) ended = absurd ended.4
 gives_up turns breaks most old new (Err f.Memory) ended = absurd ended.4

@@ -1,6 +1,7 @@
 -- The system's clocks: as much as can be said of them (our profile).
-use Rattle.std.specs.Prelude.{◌≡◌, ℕ, ◌/◌, ◌≤◌, nat_le, max, if◌then◌else◌, Option, Some, None, ⊤}
+use Rattle.std.specs.Prelude.{◌≡◌, ℕ, ◌+◌, ◌/◌, ◌≤◌, nat_le, min, max, if◌then◌else◌, Option, Some, None, ⊤}
 use Rattle.nbt_lease.specs.Config.{last_moment}
+use Rattle.nbt_port.specs.declared.ahead.Ahead.{Ahead}
 
 -- so many nanoseconds as a moment; none past the last moment
 abbrev pub moment_in : (nanoseconds : ℕ) → Option ℕ
@@ -42,3 +43,16 @@ pub record SteadyBegins (shows : Option ℕ → Type 0) (first : ℕ) : Type 0 w
 -- What a system shows by its monotonic clock, no contract can say.
 abbrev pub SystemShows : (reading : Option ℕ) → Type 0
 SystemShows reading = ⊤
+
+-- ---- a clock that is ahead of another
+
+-- so many milliseconds later, and at most the last moment
+abbrev pub ahead_of : (moment by : ℕ) → ℕ
+ahead_of moment by = min (moment + by) last_moment
+
+-- It tells what the other clock tells, so many milliseconds later.
+pub record TellsAhead {C : Type 0} (tells : C → ℕ → C → Type 0) (old : Ahead C) (moment : ℕ) (new : Ahead C) : Type 0 where
+  pub other : ℕ
+  pub told : tells old.clock other new.clock
+  pub moment_is : moment ≡ ahead_of other old.by
+  pub stays : new.by ≡ old.by

@@ -5,7 +5,7 @@ use Rattle.std.specs.declared.io.Error.{Error}
 use Rattle.std.specs.declared.io.ErrorKind.{ErrorKind}
 use Rattle.std.specs.declared.io.ErrorKind.TheVariants as kind
 use Rattle.nbt_port.specs.declared.fault.Fault.{Fault}
-use Rattle.nbt_port.specs.declared.fault.Fault.TheVariants.{NoPort, NoClock, Device, Output, Memory}
+use Rattle.nbt_port.specs.declared.fault.Fault.TheVariants.{NoPort, NoClock, Device, Output, Store, Memory}
 
 -- the status with which the program ends
 abbrev pub fault_status : Fault → ℕ
@@ -13,6 +13,7 @@ fault_status NoPort = 3
 fault_status NoClock = 3
 fault_status Device = 3
 fault_status Output = 3
+fault_status Store = 3
 fault_status Memory = 4
 
 -- all that is printed of it: its word on a line of its own, and nothing where the output failed
@@ -21,6 +22,7 @@ fault_line NoPort = codes "device" ++ 10 ∷ []
 fault_line NoClock = codes "device" ++ 10 ∷ []
 fault_line Device = codes "device" ++ 10 ∷ []
 fault_line Output = []
+fault_line Store = codes "device" ++ 10 ∷ []
 fault_line Memory = codes "memory" ++ 10 ∷ []
 
 abbrev pub fault_of_kind : ErrorKind → Fault

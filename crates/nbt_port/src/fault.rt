@@ -23,6 +23,9 @@ pub enum Fault {
     /// What is printed can't be written.
     #[error("output")]
     Output,
+    /// What keeps a server's leases failed.
+    #[error("device")]
+    Store,
     /// Out of memory.
     #[error("memory")]
     Memory,
@@ -35,7 +38,7 @@ impl Fault {
         ensures bound { (3 ≤ result) × (result ≤ 4) }
     {
         match self {
-            Fault::NoPort | Fault::NoClock | Fault::Device | Fault::Output => 3,
+            Fault::NoPort | Fault::NoClock | Fault::Device | Fault::Output | Fault::Store => 3,
             Fault::Memory => 4,
         }
     }
@@ -45,7 +48,7 @@ impl Fault {
         ensures { result.now ≡ fault_line self }
     {
         match self {
-            Fault::NoPort | Fault::NoClock | Fault::Device => "device\n",
+            Fault::NoPort | Fault::NoClock | Fault::Device | Fault::Store => "device\n",
             Fault::Output => "",
             Fault::Memory => "memory\n",
         }

@@ -5,6 +5,7 @@
 //! clocks as over memory.
 #![tactic(auto)]
 
+mod ahead;
 mod binding;
 mod cause;
 mod clock;
@@ -20,6 +21,7 @@ mod time_of_day;
 mod udp;
 mod until;
 
+pub use ahead::{Ahead, ahead_of};
 pub use binding::{bound_port, local_of, not_bound};
 pub use cause::{Cause, MachineCall};
 pub use clock::Clock;
@@ -28,7 +30,7 @@ pub use limits::{FOREVER, MOST_FAILURES};
 pub use memory::{Datagram, MemoryClock, MemoryPort};
 pub use monotonic::{Monotonic, SteadyClock, steady_clock};
 pub use port::{Device, Port};
-pub use printing::print;
+pub use printing::{not_printed, print};
 pub use staying::{Turn, Turned, stay_up, tell_end_of};
 pub use time_of_day::{MachineClock, readable_clock};
 pub use udp::{RECEIVE_WAIT, UdpPort};

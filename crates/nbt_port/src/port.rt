@@ -31,6 +31,15 @@ pub trait Port {
         ensures does { does self.old (receiving result octets.new.items) self.new }
         ensures count { CountsFailure (failures self.old) (failures self.new) result };
 
+    /// Receives as [`Port::receive`] does, with the same refusal, but doesn't wait: `None` where nothing has come yet.
+    fn receive_now(&mut self, octets: &mut ArrayVec<u8, 2048>) -> Result<Option<Addr>, Device>
+        requires failure_count { failures self.old < 2 ^ 62 }
+        ensures does { does self.old (receiving result octets.new.items) self.new }
+        ensures count { CountsFailure (failures self.old) (failures self.new) result }
+    {
+        self.receive(octets)
+    }
+
     /// Sends these octets to a host. Refused with `Device` where the device fails: they are then lost.
     fn send(&mut self, to: Addr, octets: &[u8]) -> Result<(), Device>
         requires failure_count { failures self.old < 2 ^ 62 }
@@ -43,6 +52,12 @@ pub trait Port {
 
     /// Why the last call that failed did, where the port knows it.
     fn cause(&self) -> Option<Cause> {
+        None
+    }
+
+    /// Why the last datagram to the host that it watches was lost, where it was, and the port watches one: there is no route, and the
+    /// device is well.
+    fn lost(&self) -> Option<Cause> {
         None
     }
 }

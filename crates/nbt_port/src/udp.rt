@@ -19,14 +19,18 @@ use std::time::Duration;
 /// How long a receive waits for a datagram, in milliseconds (our profile).
 pub const RECEIVE_WAIT: u64 = 100;
 
-/// A port over UDP (RFC 768). A receive waits 100 ms at most. A contract sees the address that it was bound to, as it was
-/// asked for, and how many calls have failed.
+/// A port over UDP (RFC 768). A receive waits 100 ms at most; one that doesn't wait switches the socket, until a call waits
+/// again. A contract sees the address that it was bound to, as it was asked for, and how many calls have failed.
 #[derive(Drop)]
 pub struct UdpPort {
     socket: UdpSocket,
     addr: Addr,
     failures: u64,
     cause: Option<Cause>,
+    waits: bool,
+    watched: Option<Addr>,
+    lost: Option<Cause>,
+    strict: bool,
 }
 
 impl Model for UdpPort {
@@ -38,6 +42,8 @@ impl Model for UdpPort {
 }
 
 impl UdpPort {
+    ghost use Rattle.nbt_port.specs.Udp.{UdpDoes};
+
     /// Binds a port to an address of this system; for port 0 the system chooses one. Refused where the system refuses it, as an
     /// address in use, or one that isn't its.
     pub fn bind<R: Net>(net: &R, addr: Addr) -> io::Result<UdpPort>
@@ -50,7 +56,26 @@ impl UdpPort {
             addr,
             failures: 0,
             cause: None,
+            waits: true,
+            watched: None,
+            lost: None,
+            strict: false,
         })
+    }
+
+    /// From now on it keeps why the last datagram to this host was lost, if it was: `Port::lost` tells it.
+    pub fn watch(&mut self, to: Addr)
+        ensures { self.new ≡ self.old }
+    {
+        self.watched = Some(to);
+        self.lost = None;
+    }
+
+    /// From now on a datagram without a route is a failure of the port, as any other that the system refuses to send.
+    pub fn be_strict(&mut self)
+        ensures { self.new ≡ self.old }
+    {
+        self.strict = true;
     }
 
     /// The address that it was bound to, as it was asked for.
@@ -69,6 +94,56 @@ impl UdpPort {
             }),
             SocketAddr::V6(_) => Ok(self.addr),
         }
+    }
+
+    /// Receives, and waits for it or not.
+    fn receive_as(
+        &mut self,
+        waits: bool,
+        octets: &mut ArrayVec<u8, 2048>,
+    ) -> Result<Option<Addr>, Device>
+        requires failure_count { self.old.failures < 2 ^ 62 }
+        ensures does { UdpDoes self.old (receiving result octets.new.items) self.new }
+        ensures count { CountsFailure self.old.failures self.new.failures result }
+        ensures empty { result ≡ Ok None → octets.new.items ≡ [] }
+    {
+        let mut buffer = [0; MOST];
+        let answer = self.answer_to(waits, &mut buffer);
+        let error = answer.err();
+        let received = received(answer, &buffer, octets);
+        if received.is_err() {
+            self.failures += 1;
+            self.cause = self.cause_of(MachineCall::Receive, error);
+        }
+        received
+    }
+
+    /// The system's answer to a receive that waits or not.
+    fn answer_to(&mut self, waits: bool, buffer: &mut [u8; MOST]) -> io::Result<(usize, SocketAddr)>
+        ensures same { self.new ≡ self.old }
+        ensures within { IfOk result (λ a. a.0 ≤ octets_most) }
+    {
+        self.set_waiting(waits)?;
+        self.socket.recv_from(buffer)
+    }
+
+    /// Has its calls wait or not. Asks the system only where they do otherwise.
+    fn set_waiting(&mut self, waits: bool) -> io::Result<()>
+        ensures { self.new ≡ self.old }
+    {
+        if self.waits != waits {
+            self.socket.set_nonblocking(!waits)?;
+            self.waits = waits;
+        }
+        Ok(())
+    }
+
+    /// The system's answer to a send, which waits.
+    fn answer_to_send(&mut self, to: Addr, octets: &[u8]) -> io::Result<usize>
+        ensures { self.new ≡ self.old }
+    {
+        self.set_waiting(true)?;
+        self.socket.send_to(octets, socket_addr(to))
     }
 
     /// Why this call of it failed.
@@ -94,23 +169,33 @@ impl Port for UdpPort {
         // Where nothing came, nothing is left of an earlier datagram.
         ensures empty { result ≡ Ok None → octets.new.items ≡ [] }
     {
-        let mut buffer = [0; MOST];
-        let answer = self.socket.recv_from(&mut buffer);
-        let error = answer.err();
-        let received = received(answer, &buffer, octets);
-        if received.is_err() {
-            self.failures += 1;
-            self.cause = self.cause_of(MachineCall::Receive, error);
-        }
-        received
+        self.receive_as(true, octets)
+    }
+
+    /// Nothing has come yet where the socket says so, which then doesn't wait.
+    fn receive_now(&mut self, octets: &mut ArrayVec<u8, 2048>) -> Result<Option<Addr>, Device>
+        requires failure_count { self.old.failures < 2 ^ 62 }
+        ensures does { UdpDoes self.old (receiving result octets.new.items) self.new }
+        ensures count { CountsFailure self.old.failures self.new.failures result }
+        ensures empty { result ≡ Ok None → octets.new.items ≡ [] }
+    {
+        self.receive_as(false, octets)
     }
 
     fn send(&mut self, to: Addr, octets: &[u8]) -> Result<(), Device> {
-        let answer = self.socket.send_to(octets, socket_addr(to));
-        let sent = sent(answer);
+        let answer = self.answer_to_send(to, octets);
+        let why = answer.err();
+        if self.watched == Some(to) {
+            self.lost = lost_to(to, why);
+        }
+        let sent = sent(answer, self.strict);
         if sent.is_err() {
             self.failures += 1;
-            self.cause = self.cause_of(MachineCall::Send, answer.err());
+            self.cause = if self.strict {
+                lost_to(to, why)
+            } else {
+                self.cause_of(MachineCall::Send, why)
+            };
         }
         sent
     }
@@ -121,6 +206,10 @@ impl Port for UdpPort {
 
     fn cause(&self) -> Option<Cause> {
         self.cause
+    }
+
+    fn lost(&self) -> Option<Cause> {
+        self.lost
     }
 }
 
@@ -149,13 +238,21 @@ fn received(
     }
 }
 
-/// What a send returns, by the system's answer: `Device`, but at an error that says that there is no route.
-fn sent(answer: io::Result<usize>) -> Result<(), Device>
-    ensures { Sent answer result }
+/// Why a datagram to this host was not sent, if it wasn't.
+fn lost_to(to: Addr, error: Option<io::Error>) -> Option<Cause> {
+    match error {
+        Some(error) => Some(Cause::new(MachineCall::Send, to, error)),
+        None => None,
+    }
+}
+
+/// What a send returns, by the system's answer: `Device`, but at an error that says that there is no route, if the port isn't strict.
+fn sent(answer: io::Result<usize>, strict: bool) -> Result<(), Device>
+    ensures { Sent strict answer result }
 {
     match answer {
         Ok(_) => Ok(()),
-        Err(error) if has_no_way(&error) => Ok(()),
+        Err(error) if !strict && has_no_way(&error) => Ok(()),
         Err(_) => Err(Device),
     }
 }

@@ -1,5 +1,5 @@
 -- What a port makes of the answers of the machine's sockets (our profile).
-use Rattle.std.specs.Prelude.{◌≡◌, ℕ, List, [], Option, None, Some, Result, Ok, Err, take}
+use Rattle.std.specs.Prelude.{◌≡◌, ℕ, Bool, false, List, [], Option, None, Some, Result, Ok, Err, take}
 use Rattle.std.specs.IoError.{error_kind}
 use Rattle.std.specs.Net.Addr.{ipv4_bits}
 use Rattle.std.specs.Net.Socket.{v4_ip, v4_port}
@@ -47,9 +47,9 @@ Received (Ok (count, from)) buffer (Err failure) octets = ⊥
 Received (Err error) buffer (Ok sender) octets = IsNothing (error_kind error) × (sender ≡ None) × (octets ≡ [])
 Received (Err error) buffer (Err failure) octets = (¬ IsNothing (error_kind error)) × (octets ≡ [])
 
--- What a send comes to: it fails at every error but those of a datagram without a way, which is lost.
-abbrev pub Sent : {A : Type 0} → Result ℕ Error → Result A Device → Type 0
-Sent (Ok count) (Ok done) = Unit {0}
-Sent (Ok count) (Err failure) = ⊥
-Sent (Err error) (Ok done) = HasNoWay (error_kind error)
-Sent (Err error) (Err failure) = ¬ HasNoWay (error_kind error)
+-- What a send comes to: it fails at every error but those of a datagram without a way, which is lost, where the port isn't strict.
+abbrev pub Sent : {A : Type 0} → (strict : Bool) → Result ℕ Error → Result A Device → Type 0
+Sent strict (Ok count) (Ok done) = Unit {0}
+Sent strict (Ok count) (Err failure) = ⊥
+Sent strict (Err error) (Ok done) = (strict ≡ false) × HasNoWay (error_kind error)
+Sent strict (Err error) (Err failure) = ¬ ((strict ≡ false) × HasNoWay (error_kind error))
