@@ -5,3 +5,5 @@ pub mod Saying
 pub mod WholeLines
 pub mod Written
 pub mod Members
+pub mod Crashing
+pub mod Asking

@@ -51,15 +51,27 @@ by_verb ws rest word found_verb v (Some i) whole tells there reads = rw (whole, 
 
 -- ---- headers
 
-abbrev pub Six : Type 0
-Six = ℕ × (ℕ × (ℕ × (List ℕ × (ℕ × (ℕ × Unit {0})))))
+abbrev pub Eight : Type 0
+Eight = ℕ × (ℕ × (ℕ × (List ℕ × (ℕ × (ℕ × (ℕ × (ℕ × Unit {0})))))))
 
-abbrev pub header_from : Six → Header
-header_from v = record { life = v.0; longest = v.1.0; rows = v.1.1.0; boot = v.1.1.1.0; start = v.1.1.1.1.0; last = v.1.1.1.1.1.0 }
+abbrev pub header_from : Eight → Header
+header_from v = record {
+  life = v.0;
+  longest = v.1.0;
+  rows = v.1.1.0;
+  boot = v.1.1.1.0;
+  ahead = v.1.1.1.1.0;
+  start = v.1.1.1.1.1.0;
+  last = v.1.1.1.1.1.1.0;
+  day = v.1.1.1.1.1.1.1.0;
+}
 
-pub header_made : (ws : List (List ℕ)) (found : Option Six) (r : Option Header) (Gives : Six → Header → Type 0) (h : Header)
-    → Reads Six found (Then SpellsNumber (Then SpellsNumber (Then SpellsNumber (Then SpellsBoot (Then SpellsNumber (Then SpellsNumber NoMore))))) ws) → MatchOption found (r ≡ None) (λ x. IsSomeAnd r (Gives x))
-    → ((x : Six) (j : Header) → Gives x j → j ≡ header_from x) → (r ≡ Some h) ↔ SpellsHeader ws h
+abbrev pub SpellEight : List (List ℕ) → Eight → Type 0
+SpellEight = Then SpellsNumber (Then SpellsNumber (Then SpellsNumber (Then SpellsBoot (Then SpellsNumber (Then SpellsNumber (Then SpellsNumber (Then SpellsNumber NoMore)))))))
+
+pub header_made : (ws : List (List ℕ)) (found : Option Eight) (r : Option Header) (Gives : Eight → Header → Type 0) (h : Header)
+    → Reads Eight found (SpellEight ws) → MatchOption found (r ≡ None) (λ x. IsSomeAnd r (Gives x))
+    → ((x : Eight) (j : Header) → Gives x j → j ≡ header_from x) → (r ≡ Some h) ↔ SpellsHeader ws h
 header_made ws None r Gives h reads none given = (
   λ same. absurd cc,
   λ m. let there = (reads m.values).1 m.spelled in absurd cc,

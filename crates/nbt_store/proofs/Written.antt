@@ -72,16 +72,17 @@ released_says t0 t1 t2 n h name addr is sn an sh ah =
       ah.line (an.line (subst IsLine (sym is) (lit≤ tt, (lit≤ tt, (lit≤ tt, (lit≤ tt, (lit≤ tt, (lit≤ tt, (lit≤ tt, (lit≤ tt, tt)))))))))),
     )
 
-pub header_says : (t1 t2 t3 t4 t5 t6 a b c d e f : List ℕ) (h : Header) → SpellsNumber a h.life → words_of t1 ≡ a ∷ [] → IsLine t1 → SpellsNumber b h.longest → AddsWord t1 t2 b → SpellsNumber c h.rows → AddsWord t2 t3 c
-    → SpellsBoot d h.boot → AddsWord t3 t4 d → SpellsNumber e h.start → AddsWord t4 t5 e → SpellsNumber f h.last → AddsWord t5 t6 f → SpellsHeader (words_of t6) h × IsLine t6
-header_says t1 t2 t3 t4 t5 t6 a b c d e f h sa w1 l1 sb ab sc ac sd ad se ae sf af =
-    let w6 : words_of t6 ≡ a ∷ b ∷ c ∷ d ∷ e ∷ f ∷ [] = more_words t5 t6 f _ af (more_words t4 t5 e _ ae (more_words t3 t4 d _ ad (more_words t2 t3 c _ ac (more_words t1 t2 b _ ab w1)))) in (
-      subst (λ (ws : List (List ℕ)). SpellsHeader ws h) (sym w6) (record {
-        values = (h.life, (h.longest, (h.rows, (h.boot, (h.start, (h.last, tt))))));
-        spelled = one _ _ a _ h.life _ sa (one _ _ b _ h.longest _ sb (one _ _ c _ h.rows _ sc (one _ _ d _ h.boot _ sd (one _ _ e _ h.start _ se (one _ _ f _ h.last tt sf refl)))));
+pub header_says : (t1 t2 t3 t4 t5 t6 t7 t8 a b c d e f g i : List ℕ) (h : Header) → SpellsNumber a h.life → words_of t1 ≡ a ∷ [] → IsLine t1 → SpellsNumber b h.longest → AddsWord t1 t2 b → SpellsNumber c h.rows → AddsWord t2 t3 c
+    → SpellsBoot d h.boot → AddsWord t3 t4 d → SpellsNumber e h.ahead → AddsWord t4 t5 e → SpellsNumber f h.start → AddsWord t5 t6 f → SpellsNumber g h.last → AddsWord t6 t7 g → SpellsNumber i h.day → AddsWord t7 t8 i
+    → SpellsHeader (words_of t8) h × IsLine t8
+header_says t1 t2 t3 t4 t5 t6 t7 t8 a b c d e f g i h sa w1 l1 sb ab sc ac sd ad se ae sf af sg ag si ai =
+    let w8 : words_of t8 ≡ a ∷ b ∷ c ∷ d ∷ e ∷ f ∷ g ∷ i ∷ [] = more_words t7 t8 i _ ai (more_words t6 t7 g _ ag (more_words t5 t6 f _ af (more_words t4 t5 e _ ae (more_words t3 t4 d _ ad (more_words t2 t3 c _ ac (more_words t1 t2 b _ ab w1)))))) in (
+      subst (λ (ws : List (List ℕ)). SpellsHeader ws h) (sym w8) (record {
+        values = (h.life, (h.longest, (h.rows, (h.boot, (h.ahead, (h.start, (h.last, (h.day, tt))))))));
+        spelled = one _ _ a _ h.life _ sa (one _ _ b _ h.longest _ sb (one _ _ c _ h.rows _ sc (one _ _ d _ h.boot _ sd (one _ _ e _ h.ahead _ se (one _ _ f _ h.start _ sf (one _ _ g _ h.last _ sg (one _ _ i _ h.day tt si refl)))))));
         header_is = refl;
       }),
-      af.line (ae.line (ad.line (ac.line (ab.line l1)))),
+      ai.line (ag.line (af.line (ae.line (ad.line (ac.line (ab.line l1)))))),
     )
 
 -- the first two lines

@@ -6,7 +6,10 @@ pub mod Records
 pub mod Lines
 pub mod Loading
 pub mod Silence
-pub mod Recents
+pub mod Calls
+pub mod DiskCalls
+pub mod Crashes
+pub mod DiskStores
 pub mod Reading
 pub mod Writing
 pub mod Headers

@@ -38,11 +38,20 @@ IsClosed octets = (front : List ℕ) × (octets ≡ front ++ newline)
 abbrev pub version : List ℕ
 version = codes "nbt leases, version 1"
 
--- The words of the second line: LIFE LONGEST ROWS BOOT START LAST.
+-- The words of the second line: LIFE LONGEST ROWS BOOT AHEAD START LAST DAY.
 pub record SpellsHeader (words : List (List ℕ)) (h : Header) : Type 0 where
-  pub values : ℕ × (ℕ × (ℕ × (List ℕ × (ℕ × (ℕ × Unit {0})))))
-  pub spelled : Then SpellsNumber (Then SpellsNumber (Then SpellsNumber (Then SpellsBoot (Then SpellsNumber (Then SpellsNumber NoMore))))) words values
-  pub header_is : h ≡ record { life = values.0; longest = values.1.0; rows = values.1.1.0; boot = values.1.1.1.0; start = values.1.1.1.1.0; last = values.1.1.1.1.1.0 }
+  pub values : ℕ × (ℕ × (ℕ × (List ℕ × (ℕ × (ℕ × (ℕ × (ℕ × Unit {0})))))))
+  pub spelled : Then SpellsNumber (Then SpellsNumber (Then SpellsNumber (Then SpellsBoot (Then SpellsNumber (Then SpellsNumber (Then SpellsNumber (Then SpellsNumber NoMore))))))) words values
+  pub header_is : h ≡ record {
+    life = values.0;
+    longest = values.1.0;
+    rows = values.1.1.0;
+    boot = values.1.1.1.0;
+    ahead = values.1.1.1.1.0;
+    start = values.1.1.1.1.1.0;
+    last = values.1.1.1.1.1.1.0;
+    day = values.1.1.1.1.1.1.1.0;
+  }
 
 -- The second line: its words, closed by their checksum.
 pub record IsHead (line : List ℕ) (h : Header) : Type 0 where

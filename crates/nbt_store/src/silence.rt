@@ -2,7 +2,7 @@
 
 ghost use Rattle.std.specs.Prelude.{◌≡◌};
 ghost use Rattle.nbt_store.specs.Numbers.{silence_number};
-ghost use Rattle.nbt_store.specs.Silence.{reason_of};
+ghost use Rattle.nbt_store.specs.Silence.{ahead_at as ahead_at_time, ahead_in as ahead_in_boot, going_on};
 
 use crate::boot::Boot;
 use crate::header::Header;
@@ -21,10 +21,10 @@ pub enum Silence {
     /// 3: they were granted under another number of rows.
     #[error("another number of rows")]
     OtherRows,
-    /// 4: their times are of another boot.
+    /// 4: they were kept in another boot, and the server is to be silent then.
     #[error("another boot")]
     OtherBoot,
-    /// 5: the clock is behind a time at which they were kept.
+    /// 5: the clock is behind a time at which they were kept, or it can't be had.
     #[error("clock went back")]
     ClockBack,
 }
@@ -44,25 +44,60 @@ impl Silence {
     }
 }
 
-/// Why a server with these limits, in this boot and at this time, is silent in place of going on with the leases that were
-/// kept under this header; none if it goes on. The first reason counts, in the order of `Silence`.
-pub fn why_silent(header: &Header, config: Config, boot: &Boot, now: Moment) -> Option<Silence>
-    ensures { result ≡ reason_of header.now config boot.now now }
+/// By how many milliseconds the server's clock is ahead of the machine's, where a server with these limits goes on with the leases
+/// that were kept under this header; or why it is silent. `monotonic` is what the machine's clock reads in this boot, and `day`
+/// the time of day, both in ms. The first reason counts, in the order of `Silence`.
+///
+/// In the boot of the header the clock is as much ahead as it was. In another boot it went on since the file was written as the
+/// time of day did: nobody may have set that in between. With `silent_after_boot` another boot is a reason.
+pub fn why_silent(
+    header: &Header,
+    config: Config,
+    boot: &Boot,
+    monotonic: u64,
+    day: u64,
+    silent_after_boot: bool,
+) -> Result<u64, Silence>
+    ensures { result ≡ going_on header.now config boot.now monotonic day silent_after_boot }
 {
     if header.life != config.life() {
-        return Some(Silence::OtherLife);
+        return Err(Silence::OtherLife);
     }
     if header.longest != u64::from(config.longest()) {
-        return Some(Silence::OtherLongest);
+        return Err(Silence::OtherLongest);
     }
     if header.rows != config.rows() as u64 {
-        return Some(Silence::OtherRows);
+        return Err(Silence::OtherRows);
     }
-    if header.boot.octets() != boot.octets() {
-        return Some(Silence::OtherBoot);
+    if silent_after_boot && header.boot.octets() != boot.octets() {
+        return Err(Silence::OtherBoot);
     }
-    if now.get() < header.start || now.get() < header.last {
-        return Some(Silence::ClockBack);
+    ahead_in(header, boot, monotonic, day)
+}
+
+/// By how much the server's clock is ahead in this boot, at these times.
+fn ahead_in(header: &Header, boot: &Boot, monotonic: u64, day: u64) -> Result<u64, Silence>
+    ensures { result ≡ ahead_in_boot header.now boot.now monotonic day }
+{
+    if header.boot.octets() == boot.octets() {
+        return ahead_at(header, monotonic, monotonic.saturating_add(header.ahead));
     }
-    None
+    if day < header.day {
+        return Err(Silence::ClockBack);
+    }
+    ahead_at(
+        header,
+        monotonic,
+        header.last.saturating_add(day - header.day),
+    )
+}
+
+/// By how much the server's clock is ahead where its time is this one.
+fn ahead_at(header: &Header, monotonic: u64, now: u64) -> Result<u64, Silence>
+    ensures { result ≡ ahead_at_time header.now monotonic now }
+{
+    if now < header.start || now < header.last || now < monotonic || Moment::new(now).is_none() {
+        return Err(Silence::ClockBack);
+    }
+    Ok(now - monotonic)
 }

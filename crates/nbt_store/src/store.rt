@@ -1,12 +1,12 @@
 //! What keeps changes over a crash.
 
-ghost use Rattle.std.specs.Prelude.{◌≡◌, ◌≤◌, ◌⊎◌, ℕ, List, [], ◌∷◌, ◌++◌, length, OnOk, OnErr};
-ghost use Rattle.nbt_store.specs.declared.change.Change.{Change as ChangeValue};
+ghost use Rattle.nbt_store.specs.Calls.{StoreCall, appending, renewing, syncing};
 
 use crate::change::Change;
 use crate::header::Header;
 use nbt_lease::Lease;
 use nbt_name::Name;
+use std::io;
 use thiserror::Error;
 
 /// A call of a store failed. What it keeps of the last change isn't known, so the server ends.
@@ -14,37 +14,29 @@ use thiserror::Error;
 #[error("store")]
 pub struct Broken;
 
-/// A store of changes. A crash at any time leaves the first of them, in order, and as many as are durable at least.
+/// A store of changes. A crash at any time leaves the first of them, in order, and as many as are durable at least. From a call
+/// that failed on what it keeps isn't known, and the caller gives it up.
 pub trait Store {
-    /// All changes that were appended since it was opened, in order.
-    ghost changes: { Self → List ChangeValue };
-
-    /// How many of them every crash from now on keeps.
-    ghost durable: { Self → ℕ };
+    /// What a call of it is: the store before, what the call did, and the store afterwards.
+    ghost does: { Self → StoreCall → Self → Type 0 };
 
     /// Appends a change; a crash may keep it or not. Refused with `Broken` if the store fails: it may be appended or not.
     fn append(&mut self, change: &Change) -> Result<(), Broken>
-        ensures ok { OnOk result (changes self.new ≡ changes self.old ++ change.now ∷ []) }
-        ensures err { OnErr result ((changes self.new ≡ changes self.old) ⊎ (changes self.new ≡ changes self.old ++ change.now ∷ [])) }
-        ensures durable { durable self.new ≡ durable self.old };
+        ensures { does self.old (appending change.now result) self.new };
 
     /// Makes all changes durable: every crash from then on keeps them. Refused with `Broken` if the store fails.
     fn sync(&mut self) -> Result<(), Broken>
-        ensures ok { OnOk result (durable self.new ≡ length (changes self.new)) }
-        ensures changes { changes self.new ≡ changes self.old }
-        ensures grows { durable self.old ≤ durable self.new }
-        ensures within { durable self.old ≤ length (changes self.old) → durable self.new ≤ length (changes self.new) };
-}
+        ensures { does self.old (syncing result) self.new };
 
-/// A store that can be written anew.
-pub trait Renew: Store {
-    /// Whether it is several times as long as so many live leases are.
-    fn is_long(&self, live: usize) -> bool;
-
-    /// Writes the leases of these rows in place of what is kept, and is then a store that has just been opened: the caller must
-    /// ensure that they are the live leases that all changes make. A crash leaves what was kept before, or these. Refused with
-    /// `Broken` if the store fails: what is kept is then the one or the other.
+    /// Writes these leases in place of all that is kept: the caller must ensure that they are the live leases that all changes
+    /// make. A crash within the call leaves what was kept before, or these. Refused with `Broken` if the store fails: what is kept
+    /// is then the one or the other.
     fn renew(&mut self, header: &Header, rows: &[(Name, Lease)]) -> Result<(), Broken>
-        ensures changes { OnOk result (Self.changes self.new ≡ []) }
-        ensures durable { OnOk result (Self.durable self.new ≡ 0) };
+        ensures { does self.old (renewing header.now rows.now result) self.new };
+
+    /// Whether what is kept has several times as many lines as leases with which it was written last, so that it is to be renewed.
+    fn is_long(&self) -> bool;
+
+    /// Why the first call that failed did, for people; `None` where none did.
+    fn error(&self) -> Option<&io::Error>;
 }

@@ -159,8 +159,10 @@ fn write_header(header: &Header, out: &mut String) -> Result<(), AllocError>
     add_number(header.longest, out)?;
     add_number(header.rows, out)?;
     add_boot(&header.boot, out)?;
+    add_number(header.ahead, out)?;
     add_number(header.start, out)?;
     add_number(header.last, out)?;
+    add_number(header.day, out)?;
     Ok(())
 }
 

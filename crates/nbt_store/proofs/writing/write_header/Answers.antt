@@ -10,8 +10,11 @@ returns-clause-says c =
     let d = c.in_ok-add_boot.ensures in
     let e = c.in_ok-add_number-3.ensures in
     let f = c.in_ok-add_number-4.ensures in
+    let g = c.in_ok-add_number-5.ensures in
+    let i = c.in_ok-add_number-6.ensures in
     (header_says (string_bytes c.put_number.new.out) (string_bytes c.add_number.new.out) (string_bytes c.add_number-2.new.out) (string_bytes c.add_boot.new.out) (string_bytes c.add_number-3.new.out) (string_bytes c.add_number-4.new.out)
-    a.0 b.0 r.0 d.0 e.0 f.0 c.args.header.now a.1 a.2 a.3 b.1 b.2 r.1 r.2 d.1 d.2 e.1 e.2 f.1 f.2).0
+    (string_bytes c.add_number-5.new.out) (string_bytes c.add_number-6.new.out)
+    a.0 b.0 r.0 d.0 e.0 f.0 g.0 i.0 c.args.header.now a.1 a.2 a.3 b.1 b.2 r.1 r.2 d.1 d.2 e.1 e.2 f.1 f.2 g.1 g.2 i.1 i.2).0
 
 pub returns-clause-line : goal.returns-clause-line
 returns-clause-line c =
@@ -21,5 +24,8 @@ returns-clause-line c =
     let d = c.in_ok-add_boot.ensures in
     let e = c.in_ok-add_number-3.ensures in
     let f = c.in_ok-add_number-4.ensures in
+    let g = c.in_ok-add_number-5.ensures in
+    let i = c.in_ok-add_number-6.ensures in
     (header_says (string_bytes c.put_number.new.out) (string_bytes c.add_number.new.out) (string_bytes c.add_number-2.new.out) (string_bytes c.add_boot.new.out) (string_bytes c.add_number-3.new.out) (string_bytes c.add_number-4.new.out)
-    a.0 b.0 r.0 d.0 e.0 f.0 c.args.header.now a.1 a.2 a.3 b.1 b.2 r.1 r.2 d.1 d.2 e.1 e.2 f.1 f.2).1
+    (string_bytes c.add_number-5.new.out) (string_bytes c.add_number-6.new.out)
+    a.0 b.0 r.0 d.0 e.0 f.0 g.0 i.0 c.args.header.now a.1 a.2 a.3 b.1 b.2 r.1 r.2 d.1 d.2 e.1 e.2 f.1 f.2 g.1 g.2 i.1 i.2).1

@@ -1,0 +1,27 @@
+//! What a store needs of a disk.
+
+ghost use Rattle.nbt_store.specs.DiskCalls.{DiskCall, creating, adding, flushing, installing};
+
+use std::io;
+
+/// What a store needs of a folder of a disk, call by call: the file, and a new file beside it.
+pub trait Disk {
+    /// What a call of it is: the disk before, what the call did, and the disk afterwards.
+    ghost does: { Self → DiskCall → Self → Type 0 };
+
+    /// Makes a new file of these octets beside the file, and opens it in place of what was open.
+    fn create(&mut self, octets: &[u8]) -> io::Result<()>
+        ensures { does self.old (creating octets.now result) self.new };
+
+    /// Writes these octets at the end of the open file, in one write.
+    fn append(&mut self, octets: &[u8]) -> io::Result<()>
+        ensures { does self.old (adding octets.now result) self.new };
+
+    /// Makes the octets of the open file durable: every crash from then on keeps them.
+    fn sync(&mut self) -> io::Result<()>
+        ensures { does self.old (flushing result) self.new };
+
+    /// Puts the new file in the place of the file, and makes that durable. A crash leaves the old file or the new one.
+    fn install(&mut self) -> io::Result<()>
+        ensures { does self.old (installing result) self.new };
+}

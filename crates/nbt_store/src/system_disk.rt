@@ -1,0 +1,127 @@
+//! A folder of the system as a disk.
+//!
+//! What a file keeps no contract can say. That the octets are written, synced and renamed can be read here.
+
+ghost use Rattle.std.specs.Prelude.{⊤};
+
+use crate::boot::Boot;
+use crate::disk::Disk;
+use std::alloc::Global;
+use std::fs::{File, OpenFile};
+use std::io::{ErrorKind, Read, Write};
+use std::rt::Files;
+use std::{fs, io};
+
+/// Where Linux has the id of the boot.
+const BOOT_ID: &str = "/proc/sys/kernel/random/boot_id";
+
+/// The id of this boot, where the system has one.
+pub fn this_boot<R: Files>(rt: &R, alloc: Global) -> io::Result<Option<Boot>> {
+    let text = octets_of(rt, alloc, BOOT_ID)?;
+    let octets = text.as_slice();
+    match octets.split_last() {
+        Some((b'\n', id)) => Ok(Boot::new(id)),
+        _ => Ok(Boot::new(octets)),
+    }
+}
+
+/// A folder of the system: its file `leases`, the new file `leases.new` beside it, and the file `lock`, which it holds locked for
+/// as long as it lasts.
+#[derive(Drop)]
+pub struct SystemDisk<'a, R: Files> {
+    machine: &'a R,
+    folder: &'a str,
+    path: String,
+    new_path: String,
+    bad_path: String,
+    _lock: File,
+    open: Option<R::File>,
+}
+
+impl<'a, R: Files<File = File>> SystemDisk<'a, R> {
+    /// Opens a folder, which has to be there, and locks its file `lock`, which is made if it isn't there. Refused with an error of
+    /// the kind `WouldBlock` if another holds that lock, and with no such error otherwise; or if out of memory.
+    pub fn open_folder(
+        machine: &'a R,
+        alloc: Global,
+        folder: &'a str,
+    ) -> io::Result<SystemDisk<'a, R>> {
+        let lock = open_lock(machine, alloc, folder)?;
+        lock.try_lock()?;
+        Ok(SystemDisk {
+            machine,
+            folder,
+            path: format!(in alloc; "{folder}/leases")?,
+            new_path: format!(in alloc; "{folder}/leases.new")?,
+            bad_path: format!(in alloc; "{folder}/leases.bad")?,
+            _lock: lock,
+            open: None,
+        })
+    }
+
+    /// The octets of the file; `None` where there is none.
+    pub fn read(&self, alloc: Global) -> io::Result<Option<Vec<u8>>> {
+        match octets_of(self.machine, alloc, self.path.as_str()) {
+            Ok(octets) => Ok(Some(octets)),
+            Err(why) if why.kind() == ErrorKind::NotFound => Ok(None),
+            Err(why) => Err(why),
+        }
+    }
+
+    /// Renames the file `leases.bad`, in place of an earlier one of that name, so that what could not be loaded isn't lost where
+    /// the store is opened anew. To be called where the file is damaged or of another version, before the store is opened.
+    pub fn set_aside(&mut self) -> io::Result<()> {
+        fs::rename(self.machine, self.path.as_str(), self.bad_path.as_str())?;
+        sync_folder(self.machine, self.folder)
+    }
+}
+
+/// The octets of a file.
+fn octets_of<R: Files>(machine: &R, alloc: Global, path: &str) -> io::Result<Vec<u8>> {
+    let mut octets = Vec::new(alloc);
+    File::open(machine, path)?.read_to_end(&mut octets)?;
+    Ok(octets)
+}
+
+/// Opens the file `lock` of a folder, and makes it if it isn't there.
+fn open_lock<R: Files>(machine: &R, alloc: Global, folder: &str) -> io::Result<R::File> {
+    let path = format!(in alloc; "{folder}/lock")?;
+    let mut how = File::options();
+    how.write(true);
+    how.create(true);
+    how.open(machine, path.as_str())
+}
+
+/// Makes the names of a folder durable.
+fn sync_folder<R: Files>(machine: &R, folder: &str) -> io::Result<()> {
+    File::open(machine, folder)?.sync_all()
+}
+
+/// The file that is open; an error where none is.
+fn opened<F>(file: &mut Option<F>) -> io::Result<&mut F> {
+    file.as_mut().ok_or(io::Error::from(ErrorKind::NotFound))
+}
+
+impl<'a, R: Files> Disk for SystemDisk<'a, R> {
+    ghost does = { λ _ _ _. ⊤ };
+
+    fn create(&mut self, octets: &[u8]) -> io::Result<()> {
+        let mut file = File::create(self.machine, self.new_path.as_str())?;
+        file.write_all(octets)?;
+        self.open = Some(file);
+        Ok(())
+    }
+
+    fn append(&mut self, octets: &[u8]) -> io::Result<()> {
+        opened(&mut self.open)?.write_all(octets)
+    }
+
+    fn sync(&mut self) -> io::Result<()> {
+        opened(&mut self.open)?.sync_data()
+    }
+
+    fn install(&mut self) -> io::Result<()> {
+        fs::rename(self.machine, self.new_path.as_str(), self.path.as_str())?;
+        sync_folder(self.machine, self.folder)
+    }
+}
