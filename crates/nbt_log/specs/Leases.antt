@@ -1,5 +1,5 @@
--- The list of live leases, a line each (our profile).
-use Rattle.std.specs.Prelude.{◌≡◌, ℕ, ◌<◌, ◌≤◌, List, [], ◌∷◌, ◌++◌, codes}
+-- The list of live leases: what it is, and a line each (our profile).
+use Rattle.std.specs.Prelude.{◌≡◌, ◌⊎◌, ℕ, ◌<◌, ◌≤◌, List, [], ◌∷◌, ◌++◌, codes}
 use Rattle.nbt_lease.specs.declared.lease.Lease.{Lease}
 use Rattle.nbt_lease.specs.Lease.{Rows}
 use Rattle.nbt_name.specs.Wire.{NameValue}
@@ -31,3 +31,15 @@ pub data PrintsRow (dates : Dates) (now : ℕ) (row : NameValue × Lease) (text 
 pub data PrintsLeases (dates : Dates) (now : ℕ) : Rows → List ℕ → Type 0 where
   no_row : PrintsLeases dates now [] []
   row : (first : NameValue × Lease) (rows : Rows) (line text : List ℕ) → PrintsRow dates now first line → PrintsLeases dates now rows text → PrintsLeases dates now (first ∷ rows) (line ++ text)
+
+-- the first line, which says what a file is
+abbrev pub list_head : List ℕ
+list_head = codes "# live leases of nbt nbns" ++ newline
+
+-- The list: the first line, and the rows.
+abbrev pub IsList : Dates → ℕ → Rows → List ℕ → Type 0
+IsList dates now rows text = (lines : List ℕ) × PrintsLeases dates now rows lines × (text ≡ list_head ++ lines)
+
+-- A list may be put in place of a file that has no octet, and of one whose first octets are the first line of a list.
+abbrev pub MayBecomeList : (first : List ℕ) → Type 0
+MayBecomeList first = (first ≡ []) ⊎ (first ≡ list_head)

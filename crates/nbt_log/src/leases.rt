@@ -1,8 +1,8 @@
 //! The list of the live leases.
 
-ghost use Rattle.std.specs.Prelude.{◌≡◌, ◌++◌, ℕ, List, OnOk};
+ghost use Rattle.std.specs.Prelude.{◌≡◌, ◌++◌, ◌↔◌, ℕ, List, OnOk, IsTrue};
 ghost use Rattle.std.specs.String.{string_bytes};
-ghost use Rattle.nbt_log.specs.Leases.{IsLeaseText, PrintsRow, PrintsLeases, machine};
+ghost use Rattle.nbt_log.specs.Leases.{IsLeaseText, PrintsRow, PrintsLeases, IsList, MayBecomeList, machine};
 
 use crate::dates::Dates;
 use crate::time::write_time;
@@ -13,9 +13,34 @@ use nbt_show::kind_word;
 use nbt_text::end_line;
 use std::alloc::AllocError;
 
-/// Appends a line for each of the rows whose lease lives at `now`, in their order: the name, its kind, the address, and the
-/// expiry, as `FILER#20 unique 192.0.2.7 2026-11-24T09:17:03Z`. A lease no longer lives at its expiry.
-pub fn write_leases(
+/// The first line of a list of leases, with its end, which says what a file is (our profile).
+pub const LIST_HEAD: &str = "# live leases of nbt nbns\n";
+
+/// Whether a list may be put in place of a file that begins with these octets, the first ones of it, as many as [`LIST_HEAD`]
+/// has, or all: where there are none, or they are that line.
+pub fn may_become_list(first: &[u8]) -> bool
+    ensures { IsTrue result ↔ MayBecomeList first.now }
+{
+    first.is_empty() || first == LIST_HEAD.as_bytes()
+}
+
+/// Appends the list of the leases that live at `now`: the line [`LIST_HEAD`], and then a line for each of the rows whose lease
+/// lives, in their order: the name, its kind, the address, and the expiry, as `FILER#20 unique 192.0.2.7
+/// 2026-11-24T09:17:03Z`. A lease no longer lives at its expiry.
+pub fn write_list(
+    dates: &Dates,
+    now: Moment,
+    rows: &[(Name, Lease)],
+    out: &mut String,
+) -> Result<(), AllocError>
+    ensures { OnOk result ((text : List ℕ) × IsList dates.now now rows.now text × (string_bytes out.new ≡ string_bytes out.old ++ text)) }
+{
+    out.push_str(LIST_HEAD)?;
+    write_leases(dates, now, rows, out)
+}
+
+/// Appends a line for each of the rows whose lease lives at `now`, in their order.
+fn write_leases(
     dates: &Dates,
     now: Moment,
     rows: &[(Name, Lease)],

@@ -3,7 +3,7 @@
 //!
 //! ```text
 //! 2026-11-24T09:12:03Z granted FILER#20 192.0.2.7 unique 300 s
-//! 2026-11-24T09:12:04Z refused FILER#20 192.0.2.8 unique: held by another (6)
+//! 2026-11-24T09:12:04Z refused FILER#20 192.0.2.8 unique from 192.0.2.8:137: another has it: 192.0.2.7 (6)
 //! 2026-11-24T09:12:05Z malformed from 192.0.2.9:137: 12 octets
 //! ```
 #![tactic(auto)]
@@ -12,14 +12,16 @@ mod dates;
 mod entry;
 mod leases;
 mod limiter;
+mod limiters;
 mod line;
 mod time;
 mod word;
 
 pub use dates::Dates;
-pub use entry::Entry;
-pub use leases::write_leases;
+pub use entry::{Entry, LineKind};
+pub use leases::{LIST_HEAD, may_become_list, write_list};
 pub use limiter::{LINES_MOST, Limiter};
+pub use limiters::Limiters;
 pub use line::{write_entry, write_reason, write_seconds};
 pub use time::write_time;
 pub use word::write_word;

@@ -1,4 +1,4 @@
-//! A limit for the lines of datagrams from unknown senders.
+//! A limit for lines of one kind.
 
 ghost use Rattle.std.specs.Prelude.{◌≡◌, ◌<◌, [], length};
 ghost use Rattle.nbt_log.specs.Limiting.{Limits, lines_most, told_at};
