@@ -8,21 +8,21 @@ use Rattle.nbt_server.specs.Calls.{ServerStarts}
 use Rattle.nbt_port.specs.Clocks.{MachineTells, SteadyTells, SteadyBegins, SystemShows}
 use Rattle.nbt_port.specs.Udp.{UdpValue}
 use Rattle.nbt_log.specs.Dates.{second_at}
-use Rattle.nbt_log.specs.Limiting.{LimiterValue}
 use Rattle.nbt_log.specs.declared.dates.Dates.{Dates}
 use Rattle.nbt_nbns.specs.Begin.{IsBegin}
 use Rattle.nbt_nbns.specs.Running.{Nbns, Begins, log_of, leases_of}
 use Rattle.nbt_nbns.specs.Keeping.{KeeperValue}
+use Rattle.nbt_nbns.specs.Logging.{LoggerValue}
 use Rattle.nbt_nbns.specs.Places.{FileValue}
 use Rattle.nbt_nbns.specs.declared.running.NbnsArguments.{NbnsArguments}
 use Rattle.nbt_nbns.specs.declared.journal.Journal.{Journal}
 
 -- what a server and its journal are at first
 abbrev pub at_first : NbnsArguments → (start time : ℕ) → ServerValue → Option (List ℕ) → Nbns
-at_first a start time server text = record { port = record { addr = a.bind; failures = 0 }; clock = start; server = server; watcher = record { dates = record { moment = start; time = time }; day = time; log = log_of a.log; leases = leases_of a.leases }; text = text }
+at_first a start time server text = record { port = record { addr = a.bind; failures = 0 }; clock = start; server = server; watcher = record { dates = record { moment = start; time = time }; day = time; log = log_of a.log a.broadcasts; leases = leases_of a.leases }; text = text }
 
-pub is_at_first : (a : NbnsArguments) (start time day clock : ℕ) (port : UdpValue) (server : ServerValue) (log : Option LimiterValue) (leases : Option (KeeperValue FileValue)) (text : Option (List ℕ))
-    → port ≡ record { addr = a.bind; failures = 0 } → clock ≡ start → day ≡ time → log ≡ log_of a.log → leases ≡ leases_of a.leases
+pub is_at_first : (a : NbnsArguments) (start time day clock : ℕ) (port : UdpValue) (server : ServerValue) (log : Option LoggerValue) (leases : Option (KeeperValue FileValue)) (text : Option (List ℕ))
+    → port ≡ record { addr = a.bind; failures = 0 } → clock ≡ start → day ≡ time → log ≡ log_of a.log a.broadcasts → leases ≡ leases_of a.leases
     → ◌≡◌ {A = Nbns} (record { port = port; clock = clock; server = server; watcher = record { dates = record { moment = start; time = time }; day = day; log = log; leases = leases }; text = text }) (at_first a start time server text)
 is_at_first a start time day clock port server log leases text p c d l k = cc
 

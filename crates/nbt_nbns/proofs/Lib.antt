@@ -12,3 +12,5 @@ pub mod SambaOthers
 mod Beginning
 -- what became of a look at the leases
 mod Looking
+-- what waits behind what was written of a log
+mod Outgoing

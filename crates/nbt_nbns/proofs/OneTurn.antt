@@ -1,5 +1,5 @@
 -- One turn of a server, by what its port, its clock and its server returned.
-use Rattle.std.proofs.Common.{◌≡◌, ℕ, Bool, true, false, List, [], ◌∷◌, length, refl, sym, ap, ◌∙◌, subst, Option, None, Some, Ok, Err}
+use Rattle.std.proofs.Common.{◌≡◌, ℕ, Bool, true, false, List, [], ◌∷◌, refl, sym, ap, ◌∙◌, subst, Option, None, Some, Ok, Err}
 use Rattle.std.specs.Prelude.{◌↔◌, ◌<◌, IsErrOf, is_some}
 use Rattle.std.proofs.lemmas.Bool.{false≢true}
 use Rattle.nbt_name.specs.declared.addr.Addr.{Addr}
@@ -16,6 +16,7 @@ use Rattle.nbt_nbns.specs.Serving.{Turn, is_empty, is_taken, is_lost, of_send, a
 use Rattle.nbt_port.proofs.Chains.{chain_one}
 use Rattle.nbt_nbns.proofs.ServerTurns.{runs_one, breaks_one}
 use Rattle.nbt_nbns.specs.declared.serving.Counts.{Counts}
+use Rattle.nbt_log.specs.Kinds.{entry_of}
 use Rattle.nbt_log.specs.declared.entry.Entry.{Entry}
 
 -- a datagram came
@@ -50,7 +51,7 @@ module _ {P C : Type 0} (does : P → PortCall → P → Type 0) (tells : C → 
   module _ (out : List ℕ) (outcome : Outcome) where
     -- what the log has of it
     abbrev logged : Option Entry
-    logged = Some (record { from = from; count = length octets; outcome = outcome })
+    logged = Some (entry_of from octets outcome)
 
     silent : (reply : Option MessageValue) (took : ServerTakes old now from.ip octets reply new) → IsDone took.serves outcome → is_some reply ≡ false → Served does tells p c old logged (record { receives = 1; replies = 0; lost = 0 }) q d new
     silent (Some reply) took done none = absurd (false≢true (sym none))

@@ -1,23 +1,21 @@
 -- The log and the list of live leases of a server that is watched (our profile).
 use Rattle.std.specs.Prelude.{◌≡◌, ℕ, List, Option, Some, None}
-use Rattle.std.specs.Io.KnownBytes.{Appends}
 use Rattle.nbt_lease.specs.Lease.{Rows}
 use Rattle.nbt_server.specs.Serving.{ServerValue}
 use Rattle.nbt_log.specs.Dates.{followed}
-use Rattle.nbt_log.specs.Limiting.{LimiterValue}
 use Rattle.nbt_log.specs.declared.dates.Dates.{Dates}
 use Rattle.nbt_nbns.specs.Keeping.{KeeperValue, Keeps}
-use Rattle.nbt_nbns.specs.Logging.{Logs}
+use Rattle.nbt_nbns.specs.Logging.{LoggerValue, Prints}
 use Rattle.nbt_nbns.specs.declared.journal.Journal.{Journal}
 use Rattle.nbt_nbns.specs.declared.keeper.Kept.{Kept}
 use Rattle.nbt_nbns.specs.declared.staying.Shown.{Shown}
 
--- Where there is a log, it has the line of what is shown now, if that is printed. Where memory was refused, or the line can't be
+-- Where there is a log, it has the line of what is shown now, if that is printed. Where memory was refused, or the log can't be
 -- written, some of it may be missing.
-pub data LogsIn (dates : Dates) (shown : Shown) (old_text : Option (List ℕ)) : (old new : Option LimiterValue) → (text : Option (List ℕ)) → Type 0 where
+pub data LogsIn (dates : Dates) (shown : Shown) (old_text : Option (List ℕ)) : (old new : Option LoggerValue) → (text : Option (List ℕ)) → Type 0 where
   no_log : LogsIn dates shown old_text None None old_text
-  logged : (old new : LimiterValue) (line : List ℕ) (text : Option (List ℕ)) → Logs old dates shown.at shown.entry line new → Appends old_text text line → LogsIn dates shown old_text (Some old) (Some new) text
-  not_logged : (old new : LimiterValue) (text : Option (List ℕ)) → LogsIn dates shown old_text (Some old) (Some new) text
+  logged : (old new : LoggerValue) (text : Option (List ℕ)) → Prints old dates shown.at shown.entry old_text new text → LogsIn dates shown old_text (Some old) (Some new) text
+  not_logged : (old new : LoggerValue) (text : Option (List ℕ)) → LogsIn dates shown old_text (Some old) (Some new) text
 
 -- Where the list is kept, the leases are looked at.
 pub data KeepsIn {L : Type 0} (puts : L → List ℕ → L → Type 0) (dates : Dates) (now : ℕ) (rows : Rows) : (old new : Option (KeeperValue L)) → Type 0 where

@@ -5,6 +5,7 @@ pub mod Keeping
 pub mod Limits
 pub mod Logging
 pub mod OneAnswer
+pub mod Outboxes
 pub mod Places
 pub mod Running
 pub mod Samba

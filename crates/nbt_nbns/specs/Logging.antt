@@ -1,23 +1,35 @@
 -- Which lines are printed (our profile).
-use Rattle.std.specs.Prelude.{◌≡◌, ℕ, Bool, true, false, List, [], Option, Some, None}
-use Rattle.nbt_server.specs.declared.outcome.Outcome.{Outcome}
-use Rattle.nbt_server.specs.declared.outcome.Outcome.TheVariants as o
+use Rattle.std.specs.Prelude.{◌≡◌, ℕ, Bool, List, [], Option, Some, None}
 use Rattle.nbt_log.specs.Dates.{second_at}
-use Rattle.nbt_log.specs.Limiting.{LimiterValue, Limits}
+use Rattle.nbt_log.specs.Kinds.{told_kind}
+use Rattle.nbt_log.specs.Limiting.{LimitersValue, LimitsKind, new_limiters}
 use Rattle.nbt_log.specs.Lines.{IsLine}
 use Rattle.nbt_log.specs.declared.dates.Dates.{Dates}
 use Rattle.nbt_log.specs.declared.entry.Entry.{Entry}
+use Rattle.nbt_log.specs.declared.entry.LineKind.{LineKind}
+use Rattle.nbt_nbns.specs.Outboxes.{OutboxValue, new_outbox, Sends}
 
--- a datagram that was no request to a server
-abbrev pub is_stranger : Outcome → Bool
-is_stranger o.ForNodes = true
-is_stranger o.NoMessage = true
-is_stranger outcome = false
+-- whether broadcasts are printed, what is remembered of the lines of each kind, and what waits to be written
+pub record LoggerValue : Type 0 where
+  pub broadcasts : Bool
+  pub limiters : LimitersValue
+  pub outbox : OutboxValue
 
--- Of a turn in which nothing was done no line is printed. The line of what was no request is printed as the limit allows, with the
--- count of those that were left out; every other line is printed.
-pub data Logs (old : LimiterValue) (dates : Dates) (now : ℕ) : Option Entry → List ℕ → LimiterValue → Type 0 where
-  nothing : Logs old dates now None [] old
-  stranger : (entry : Entry) (left_out : ℕ) (line : List ℕ) (new : LimiterValue) → is_stranger entry.outcome ≡ true → Limits old now (Some left_out) new → IsLine (second_at dates now) left_out entry line → Logs old dates now (Some entry) line new
-  left_out : (entry : Entry) (new : LimiterValue) → is_stranger entry.outcome ≡ true → Limits old now None new → Logs old dates now (Some entry) [] new
-  other : (entry : Entry) (line : List ℕ) → is_stranger entry.outcome ≡ false → IsLine (second_at dates now) 0 entry line → Logs old dates now (Some entry) line old
+abbrev pub new_logger : (broadcasts : Bool) → LoggerValue
+new_logger broadcasts = record { broadcasts = broadcasts; limiters = new_limiters; outbox = new_outbox }
+
+-- Of a turn in which nothing was done, and of what has no kind, no line is printed. Every other line is printed as the limit of its
+-- kind allows, with the count of those that were left out.
+pub data Logs (broadcasts : Bool) (old : LimitersValue) (dates : Dates) (now : ℕ) : Option Entry → List ℕ → LimitersValue → Type 0 where
+  nothing : Logs broadcasts old dates now None [] old
+  untold : (entry : Entry) → told_kind broadcasts entry ≡ None → Logs broadcasts old dates now (Some entry) [] old
+  told : (entry : Entry) (kind : LineKind) (left_out : ℕ) (line : List ℕ) (new : LimitersValue) → told_kind broadcasts entry ≡ Some kind → LimitsKind old kind now (Some left_out) new
+      → IsLine (second_at dates now) left_out entry line → Logs broadcasts old dates now (Some entry) line new
+  left_out : (entry : Entry) (kind : LineKind) (new : LimitersValue) → told_kind broadcasts entry ≡ Some kind → LimitsKind old kind now None new → Logs broadcasts old dates now (Some entry) [] new
+
+-- The line, if there is one, is handed to the writer behind what waits.
+pub record Prints (old : LoggerValue) (dates : Dates) (now : ℕ) (entry : Option Entry) (old_text : Option (List ℕ)) (new : LoggerValue) (text : Option (List ℕ)) : Type 0 where
+  pub line : List ℕ
+  pub logs : Logs old.broadcasts old.limiters dates now entry line new.limiters
+  pub sends : Sends old.outbox line old_text new.outbox text
+  pub broadcasts_stay : new.broadcasts ≡ old.broadcasts

@@ -11,13 +11,13 @@ use Rattle.nbt_port.specs.Clocks.{MachineTells, SteadyTells, SteadyBegins, Syste
 use Rattle.nbt_port.specs.Udp.{UdpValue, UdpDoes}
 use Rattle.nbt_port.specs.Until.{until_of}
 use Rattle.nbt_log.specs.Dates.{second_at}
-use Rattle.nbt_log.specs.Limiting.{LimiterValue}
 use Rattle.nbt_log.specs.declared.dates.Dates.{Dates}
 use Rattle.nbt_port.specs.Until.{until_of}
 use Rattle.nbt_nbns.specs.SambaPort.{HandsOn}
 use Rattle.nbt_nbns.specs.Begin.{IsBegin}
 use Rattle.nbt_nbns.specs.Journaling.{Journals}
 use Rattle.nbt_nbns.specs.Keeping.{KeeperValue, new_keeper}
+use Rattle.nbt_nbns.specs.Logging.{LoggerValue, new_logger}
 use Rattle.nbt_nbns.specs.Places.{FileValue, file_of, Stays}
 use Rattle.nbt_nbns.specs.Watching.{Watching, WatchesUntil, WatchFails}
 use Rattle.nbt_nbns.specs.declared.running.NbnsArguments.{NbnsArguments}
@@ -29,8 +29,8 @@ PortDoes true = UdpDoes
 PortDoes false = HandsOn UdpDoes
 
 -- a log in which no line was printed yet, if there is to be one
-abbrev pub log_of : Bool → Option LimiterValue
-log_of log = if log then Some (record { told = []; left_out = 0 }) else None
+abbrev pub log_of : (log broadcasts : Bool) → Option LoggerValue
+log_of log broadcasts = if log then Some (new_logger broadcasts) else None
 
 -- a list that was not kept yet in the file of this path, if there is to be one
 abbrev pub leases_of : {A : Type 0} → Option (String A) → Option (KeeperValue FileValue)
@@ -62,7 +62,7 @@ pub record Begins (a : NbnsArguments) (goes : (start : ℕ) → Nbns → Nbns �
   pub printed : Appends old_text begun_text line
   pub starts : ServerStarts a.config start first
   pub goes_on : goes start
-      (record { port = record { addr = a.bind; failures = 0 }; clock = start; server = first; watcher = record { dates = record { moment = start; time = time }; day = time; log = log_of a.log; leases = leases_of a.leases }; text = begun_text })
+      (record { port = record { addr = a.bind; failures = 0 }; clock = start; server = first; watcher = record { dates = record { moment = start; time = time }; day = time; log = log_of a.log a.broadcasts; leases = leases_of a.leases }; text = begun_text })
       (record { port = port; clock = clock; server = last; watcher = journal; text = text })
 
 -- it stays up, or its time is over

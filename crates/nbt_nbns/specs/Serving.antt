@@ -8,6 +8,7 @@ use Rattle.nbt_server.specs.Serving.{ServerValue}
 use Rattle.nbt_server.specs.Calls.{ServerTakes, ServerForgets}
 use Rattle.nbt_server.specs.Outcomes.{IsDone}
 use Rattle.nbt_server.specs.declared.outcome.Outcome.{Outcome}
+use Rattle.nbt_log.specs.Kinds.{entry_of}
 use Rattle.nbt_log.specs.declared.entry.Entry.{Entry}
 use Rattle.nbt_nbns.specs.declared.serving.Counts.{Counts}
 use Rattle.nbt_port.specs.PortCalls.{PortCall, nothing_came, came, receive_failed, sent, send_failed, Chain}
@@ -42,10 +43,10 @@ pub data Turns (old : ServerValue) : Turn → ServerValue → Type 0 where
   goes_back : (now : ℕ) (from : Addr) (octets : List ℕ) → now < old.last → Turns old (is_lost now from octets) old
   has_no_memory : (now : ℕ) (from : Addr) (octets : List ℕ) (new : ServerValue) → ServerForgets old now from.ip octets new → Turns old (is_lost now from octets) new
 
--- What the log has of a turn: nothing, where no datagram came or it was lost; else its sender, its length, and what the server did.
+-- What the log has of a turn: nothing, where no datagram came or it was lost; else its entry, with what the server did.
 abbrev pub IsLogged : {old new : ServerValue} {turn : Turn} → Turns old turn new → Option Entry → Type 0
 IsLogged passes entry = entry ≡ None
-IsLogged (takes now from octets reply new does) entry = (outcome : Outcome) × IsDone does.serves outcome × (entry ≡ Some (record { from = from; count = length octets; outcome = outcome }))
+IsLogged (takes now from octets reply new does) entry = (outcome : Outcome) × IsDone does.serves outcome × (entry ≡ Some (entry_of from octets outcome))
 IsLogged (goes_back now from octets early) entry = entry ≡ None
 IsLogged (has_no_memory now from octets new forgets) entry = entry ≡ None
 

@@ -1,9 +1,9 @@
-//! Errors of what can't be written.
+//! What can't be written, and what can be written again.
 
 use std::io;
 use std::io::Write;
 
-/// Says why something can't be written, at the first failure of a row.
+/// Says why something can't be written, at the first failure of a row, and when the row is over.
 #[derive(Debug, Drop)]
 pub(crate) struct Complaint {
     is_told: bool,
@@ -15,8 +15,11 @@ impl Complaint {
         Complaint { is_told: false }
     }
 
-    /// It was written: the row is over.
-    pub fn end(&mut self) {
+    /// It was written: the row is over. If there was one, a line in `errors` says so. A failure to write to `errors` is ignored.
+    pub fn end<E: Write>(&mut self, what: &str, errors: &mut E) {
+        if self.is_told {
+            let _ = write_end(what, errors);
+        }
         self.is_told = false;
     }
 
@@ -37,5 +40,10 @@ pub(crate) fn complain<E: Write>(what: &str, error: io::Error, errors: &mut E) {
 
 fn write_line<E: Write>(what: &str, error: io::Error, errors: &mut E) -> io::Result<()> {
     writeln!(errors, "nbt: {what} can't be written: {error}")?;
+    errors.flush()
+}
+
+fn write_end<E: Write>(what: &str, errors: &mut E) -> io::Result<()> {
+    writeln!(errors, "nbt: {what} is written again")?;
     errors.flush()
 }

@@ -2,13 +2,13 @@
 
 ghost use Rattle.std.specs.Prelude.{◌≡◌, ◌↔◌, Some, IsTrue, IfOk, MatchResult};
 ghost use Rattle.std.specs.String.{string_bytes};
-ghost use Rattle.nbt_log.specs.Leases.{PrintsLeases};
+ghost use Rattle.nbt_log.specs.Leases.{IsList};
 ghost use Rattle.nbt_nbns.specs.Keeping.{IsDue, Keeps, new_keeper, text_of};
 
 use crate::complaint::Complaint;
 use crate::place::Place;
 use nbt_lease::{Lease, Moment};
-use nbt_log::{Dates, write_leases};
+use nbt_log::{Dates, write_list};
 use nbt_name::Name;
 use nbt_server::Server;
 use std::alloc::{AllocError, Global};
@@ -76,7 +76,7 @@ impl<L> Keeper<L> {
 impl<L: Place> Keeper<L> {
     /// Looks at the leases that live at `now`, at most once in a second, and gives the place their list where it has another one.
     /// Where that can't be done, that is said in `errors`, by the name of the place, the first time of a row, and the next look
-    /// tries again.
+    /// tries again; that it can be done again is said too.
     pub fn keep<E: Write>(
         &mut self,
         server: &Server,
@@ -91,7 +91,7 @@ impl<L: Place> Keeper<L> {
         }
         match self.look(server, dates, now) {
             Ok(kept) => {
-                self.complaint.end();
+                self.complaint.end(self.place.name(), errors);
                 kept
             }
             Err(error) => {
@@ -140,11 +140,11 @@ fn has(text: &Option<String>, list: &str) -> bool
 
 /// The list of the leases that live at `now`.
 fn listed(alloc: Global, server: &Server, dates: &Dates, now: Moment) -> Result<String, AllocError>
-    ensures { IfOk result (λ text. PrintsLeases dates.now now server.now.table.rows (string_bytes text)) }
+    ensures { IfOk result (λ text. IsList dates.now now server.now.table.rows (string_bytes text)) }
 {
     let mut rows: Vec<(Name, Lease)> = Vec::new(alloc);
     server.table().list_rows(&mut rows)?;
     let mut text = String::new(alloc);
-    write_leases(dates, now, rows.as_slice(), &mut text)?;
+    write_list(dates, now, rows.as_slice(), &mut text)?;
     Ok(text)
 }

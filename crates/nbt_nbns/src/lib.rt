@@ -14,11 +14,13 @@ mod keeper;
 pub mod laws;
 mod limits;
 mod logger;
+mod outbox;
 mod place;
 mod running;
 mod samba;
 mod samba_port;
 mod serving;
+mod standing;
 mod staying;
 
 pub use begin::write_begin;
@@ -28,8 +30,9 @@ pub use limits::{
     HOLDS_LEAST, Judged, LIVES_LEAST, LONGEST_QUIET, judge, write_refusal, write_warning,
 };
 pub use logger::Logger;
+pub use outbox::Outbox;
 pub use place::{FilePlace, MemoryPlace, Place};
-pub use running::{NbnsArguments, run_nbns};
+pub use running::{NbnsArguments, leases_of, log_of, run_nbns};
 pub use samba::take_registration;
 pub use samba_port::SambaPort;
 pub use serving::{Counts, ServedTurn, serve_turn, serve_turns};

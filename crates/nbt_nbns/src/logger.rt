@@ -2,50 +2,54 @@
 
 ghost use Rattle.std.specs.Prelude.{◌≡◌, [], ◌++◌, ℕ, List, IsTrue, OnOk};
 ghost use Rattle.std.specs.String.{string_bytes};
-ghost use Rattle.std.specs.Io.KnownBytes.{Appends};
-ghost use Rattle.nbt_nbns.specs.Logging.{is_stranger, Logs};
+ghost use Rattle.nbt_nbns.specs.Logging.{Logs, Prints, new_logger};
 
 use crate::complaint::Complaint;
+use crate::outbox::Outbox;
 use crate::staying::Shown;
-use nbt_log::{Dates, Limiter, write_entry};
-use nbt_port::print;
-use nbt_server::Outcome;
+use nbt_log::{Dates, Limiters, write_entry};
 use std::alloc::{AllocError, Global};
 use std::io;
 use std::io::Write;
 use std::marker::Model;
 
-/// Prints a line for what a server did with each datagram; of those from unknown senders at most ten in any second. A contract sees which of those
-/// may be printed.
+/// Prints a line for what a server did with each datagram, of each kind at most ten in any second. A contract sees which of those
+/// may be printed, whether broadcasts are, and what waits for the reader of the log.
 #[derive(Drop)]
 pub struct Logger {
     line: String,
-    limiter: Limiter,
+    broadcasts: bool,
+    limiters: Limiters,
+    outbox: Outbox,
     complaint: Complaint,
 }
 
 impl Model for Logger {
-    ghost use Rattle.nbt_log.specs.Limiting.{LimiterValue};
+    ghost use Rattle.nbt_nbns.specs.Logging.{LoggerValue};
 
-    ghost Value = { LimiterValue };
+    ghost Value = { LoggerValue };
 
-    ghost view = { λ l. l.limiter };
+    ghost view = { λ l. record { broadcasts = l.broadcasts; limiters = l.limiters; outbox = l.outbox } };
 }
 
 impl Logger {
-    /// Nothing is printed yet.
-    pub fn new(alloc: Global) -> Logger
-        ensures { result ≡ record { told = []; left_out = 0 } }
+    /// Nothing is printed yet. Broadcasts of B nodes are printed where that is wanted.
+    pub fn new(alloc: Global, broadcasts: bool) -> Logger
+        ensures { result ≡ new_logger broadcasts }
     {
         Logger {
             line: String::new(alloc),
-            limiter: Limiter::new(),
+            broadcasts,
+            limiters: Limiters::new(),
+            outbox: Outbox::new(alloc),
             complaint: Complaint::new(),
         }
     }
 
-    /// Prints the line of what a server did with a datagram, at once, where it may be printed. Returns whether that was done:
-    /// not where it was out of memory or the line can't be written, which is said in `errors`, the first time of a row.
+    /// Prints the line of what a server did with a datagram, at once, where it may be printed, and what waits of the lines before
+    /// it. Where the reader of the log is slow, a line waits or is dropped, as [`Outbox::send`] says. Returns whether that was
+    /// done: not where it was out of memory or the log can't be written, which is said in `errors`, the first time of a row, as is
+    /// that it can be written again.
     pub fn log<W: Write, E: Write>(
         &mut self,
         dates: &Dates,
@@ -53,12 +57,12 @@ impl Logger {
         writer: &mut W,
         errors: &mut E,
     ) -> bool
-        ensures { IsTrue result → (line : List ℕ) × Logs self.old dates.now shown.now.at shown.now.entry line self.new × Appends (W.contents writer.old) (W.contents writer.new) line }
+        ensures { IsTrue result → Prints self.old dates.now shown.now.at shown.now.entry (W.contents writer.old) self.new (W.contents writer.new) }
     {
         match self.print_line(dates, shown, writer) {
-            Ok(is_printed) => {
-                if is_printed {
-                    self.complaint.end();
+            Ok(()) => {
+                if self.outbox.is_empty() {
+                    self.complaint.end("the log", errors);
                 }
                 true
             }
@@ -69,60 +73,48 @@ impl Logger {
         }
     }
 
-    /// Prints the line, where it may be printed. Returns whether there was one.
+    /// Prints the line, where it may be printed.
     fn print_line<W: Write>(
         &mut self,
         dates: &Dates,
         shown: &Shown,
         writer: &mut W,
-    ) -> io::Result<bool>
-        ensures { OnOk result ((line : List ℕ) × Logs self.old dates.now shown.now.at shown.now.entry line self.new × Appends (W.contents writer.old) (W.contents writer.new) line) }
+    ) -> io::Result<()>
+        ensures { OnOk result (Prints self.old dates.now shown.now.at shown.now.entry (W.contents writer.old) self.new (W.contents writer.new)) }
     {
         self.line.clear();
-        write_limited(&mut self.limiter, dates, shown, &mut self.line)?;
-        print_any(self.line.as_str(), writer)
+        write_limited(
+            &mut self.limiters,
+            self.broadcasts,
+            dates,
+            shown,
+            &mut self.line,
+        )?;
+        self.outbox.send(self.line.as_str(), writer)
     }
 }
 
 /// Appends the line, where it may be printed.
 fn write_limited(
-    limiter: &mut Limiter,
+    limiters: &mut Limiters,
+    broadcasts: bool,
     dates: &Dates,
     shown: &Shown,
     out: &mut String,
 ) -> Result<(), AllocError>
-    ensures { OnOk result ((line : List ℕ) × Logs limiter.old dates.now shown.now.at shown.now.entry line limiter.new × (string_bytes out.new ≡ string_bytes out.old ++ line)) }
+    ensures { OnOk result ((line : List ℕ) × Logs broadcasts limiters.old dates.now shown.now.at shown.now.entry line limiters.new × (string_bytes out.new ≡ string_bytes out.old ++ line)) }
 {
     let Some(entry) = &shown.entry else {
         return Ok(());
     };
-    let second = dates.second_at(shown.at.get());
-    if !is_stranger(&entry.outcome) {
-        return write_entry(second, entry, 0, out);
-    }
-    match limiter.take(shown.at) {
-        Some(left_out) => write_entry(second, entry, left_out, out),
+    let Some(kind) = entry.told_kind(broadcasts) else {
+        return Ok(());
+    };
+    match limiters.take(kind, shown.at) {
+        Some(left_out) => {
+            let second = dates.second_at(shown.at.get());
+            write_entry(second, entry, left_out, out)
+        }
         None => Ok(()),
     }
-}
-
-/// Whether a line is one of those that are limited: of a datagram that was no request to a server.
-fn is_stranger(outcome: &Outcome) -> bool
-    ensures { result ≡ is_stranger outcome.now }
-{
-    match outcome {
-        Outcome::ForNodes | Outcome::NoMessage => true,
-        _ => false,
-    }
-}
-
-/// Prints a text, if it has any octet. Returns whether it has.
-fn print_any<W: Write>(text: &str, writer: &mut W) -> io::Result<bool>
-    ensures { OnOk result (Appends (W.contents writer.old) (W.contents writer.new) text.now) }
-{
-    if text.is_empty() {
-        return Ok(false);
-    }
-    print(text, writer)?;
-    Ok(true)
 }

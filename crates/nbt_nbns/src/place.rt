@@ -4,7 +4,10 @@ ghost use Rattle.std.specs.Prelude.{◌≡◌, ℕ, List, [], IfOk, OnOk, map};
 ghost use Rattle.std.specs.String.{string_bytes};
 ghost use Rattle.nbt_nbns.specs.Places.{file_of};
 
+use crate::standing::check_place;
 use std::alloc::{AllocError, Global};
+use std::fs::OpenOptions;
+use std::io::{ErrorKind, Write};
 use std::marker::Model;
 use std::rt::Files;
 use std::{fs, io};
@@ -87,8 +90,9 @@ impl Place for MemoryPlace {
     }
 }
 
-/// A file of this system. The text is written to a new file beside it, which is then renamed over it. A contract sees the two
-/// paths.
+/// A file of this system that has a list of leases. The text is written to a new file beside it, which is then renamed over it.
+/// Both are refused where something else stands at their paths, as [`check_place`] says, and nothing of it changes. A contract
+/// sees the two paths.
 #[derive(Drop)]
 pub struct FilePlace<'a, R: Files> {
     machine: &'a R,
@@ -118,6 +122,17 @@ impl<'a, R: Files> FilePlace<'a, R> {
             beside,
         })
     }
+
+    /// The first of both paths at which something stands that may not be replaced by a list, and why; `None` where both are free.
+    pub fn taken(&self) -> Option<(&str, io::Error)> {
+        match check_place(self.machine, self.path.as_str()) {
+            Err(error) => Some((self.path.as_str(), error)),
+            Ok(()) => {
+                let error = check_place(self.machine, self.beside.as_str()).err()?;
+                Some((self.beside.as_str(), error))
+            }
+        }
+    }
 }
 
 impl<'a, R: Files> Place for FilePlace<'a, R> {
@@ -131,7 +146,33 @@ impl<'a, R: Files> Place for FilePlace<'a, R> {
     }
 
     fn replace(&mut self, text: &str) -> io::Result<()> {
-        fs::write(self.machine, self.beside.as_str(), text)?;
-        fs::rename(self.machine, self.beside.as_str(), self.path.as_str())
+        if let Some((_, error)) = self.taken() {
+            return Err(error);
+        }
+        clear(self.machine, self.beside.as_str())?;
+        match write_new(self.machine, self.beside.as_str(), text) {
+            Ok(()) => fs::rename(self.machine, self.beside.as_str(), self.path.as_str()),
+            Err(error) => {
+                let _ = clear(self.machine, self.beside.as_str());
+                Err(error)
+            }
+        }
     }
+}
+
+/// Removes the file at this path, if there is one.
+fn clear<R: Files>(machine: &R, path: &str) -> io::Result<()> {
+    match fs::remove_file(machine, path) {
+        Err(error) if error.kind() != ErrorKind::NotFound => Err(error),
+        _ => Ok(()),
+    }
+}
+
+/// Writes a new file. Refused where something stands at its path, also a link.
+fn write_new<R: Files>(machine: &R, path: &str, text: &str) -> io::Result<()> {
+    let mut file = OpenOptions::new()
+        .write(true)
+        .create_new(true)
+        .open(machine, path)?;
+    file.write_all(text.as_bytes())
 }

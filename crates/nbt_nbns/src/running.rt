@@ -25,7 +25,7 @@ use nbt_port::{
     tell_end_of, until_of,
 };
 use nbt_server::Server;
-use std::alloc::{AllocError, Global};
+use std::alloc::Global;
 use std::io::Write;
 use std::net::Net;
 use std::rt::Files;
@@ -42,6 +42,8 @@ pub struct NbnsArguments {
     pub time: Option<u64>,
     /// Whether it logs what it makes of each datagram.
     pub log: bool,
+    /// Whether the log has the broadcasts of B nodes too.
+    pub broadcasts: bool,
     /// The path of the file that has the list of its live leases, if there is to be one.
     pub leases: Option<String>,
     /// Whether registrations that Samba's programs send are left as they are.
@@ -52,7 +54,8 @@ pub struct NbnsArguments {
 /// is silent and until when, and then stays up for 2^61 turns or until its time is over, also where the port fails, as
 /// [`watch_on`] does. It logs to `writer`, and keeps the list of its leases in a file, where the arguments say so. Refused:
 /// `NoPort` where the port can't be bound; `NoClock` where a clock can't be read at first; `Memory` where it is out of memory
-/// before the first line; `Output` where that line can't be written; `Device` at the hundredth turn in a row that fails. Of
+/// before the first line; `Output` where the list's file is none that may be replaced, and then nothing is printed, or where the
+/// first line can't be written; `Device` at the hundredth turn in a row that fails. Of
 /// each but `Memory` a line in `errors` says what failed, and why. A failure to write to `errors` is ignored.
 pub fn run_nbns<M: Net + time::Clock + Files, W: Write, E: Write>(
     machine: &M,
@@ -78,8 +81,8 @@ pub fn run_nbns<M: Net + time::Clock + Files, W: Write, E: Write>(
     let mut journal = Journal {
         dates,
         day,
-        log: log_of(alloc, arguments.log),
-        leases: leases_of(machine, alloc, &arguments.leases)?,
+        log: log_of(alloc, arguments.log, arguments.broadcasts),
+        leases: leases_of(machine, alloc, &arguments.leases, errors)?,
     };
     let local = local_of(&port);
     tell_begin(alloc, local, &dates, arguments.config, writer, errors)?;
@@ -126,28 +129,35 @@ fn tell_begin<W: Write, E: Write>(
 }
 
 /// The log, if there is to be one.
-fn log_of(alloc: Global, is_wanted: bool) -> Option<Logger>
-    ensures { result ≡ log_of is_wanted }
+pub fn log_of(alloc: Global, is_wanted: bool, broadcasts: bool) -> Option<Logger>
+    ensures { result ≡ log_of is_wanted broadcasts }
 {
     if is_wanted {
-        Some(Logger::new(alloc))
+        Some(Logger::new(alloc, broadcasts))
     } else {
         None
     }
 }
 
-/// The list of leases in the file of this path, if there is to be one.
-fn leases_of<'a, M: Files>(
+/// The list of leases in the file of this path, if there is to be one. Refused: `Memory`; `Output` where a list may not be put in
+/// place of what stands there, and a line in `errors` says why.
+pub fn leases_of<'a, M: Files, E: Write>(
     machine: &'a M,
     alloc: Global,
     path: &Option<String>,
-) -> Result<Option<Keeper<FilePlace<'a, M>>>, AllocError>
-    ensures { IfOk result (λ leases. leases ≡ leases_of path.now) }
+    errors: &mut E,
+) -> Result<Option<Keeper<FilePlace<'a, M>>>, Fault>
+    ensures ok { IfOk result (λ leases. leases ≡ leases_of path.now) }
+    ensures err { IfErr result (λ fault. (fault ≡ Fault.Output) ⊎ (fault ≡ Fault.Memory)) }
 {
     let Some(path) = path else {
         return Ok(None);
     };
     let place = FilePlace::new(machine, alloc, path.as_str())?;
+    if let Some((path, error)) = place.taken() {
+        complain(path, error, errors);
+        return Err(Fault::Output);
+    }
     Ok(Some(Keeper::new(alloc, place)))
 }
 

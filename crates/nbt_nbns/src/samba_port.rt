@@ -53,6 +53,12 @@ impl<P: Port> Port for SambaPort<P> {
         Ok(from)
     }
 
+    fn receive_now(&mut self, octets: &mut ArrayVec<u8, 2048>) -> Result<Option<Addr>, Device> {
+        let from = self.beneath.receive_now(octets)?;
+        hand_on(from, octets);
+        Ok(from)
+    }
+
     fn send(&mut self, to: Addr, octets: &[u8]) -> Result<(), Device> {
         self.beneath.send(to, octets)
     }

@@ -119,11 +119,7 @@ pub fn serve_turn<P: Port, C: Clock>(
                 port.send(from, reply.as_slice())?;
                 counts.replies = 1;
             }
-            let entry = Some(Entry {
-                from,
-                count: octets.len(),
-                outcome,
-            });
+            let entry = Some(Entry::of(from, octets.as_slice(), outcome));
             Ok(ServedTurn { entry, counts })
         }
         Err(_) => {

@@ -1,17 +1,15 @@
-use Rattle.std.proofs.Common.{ℕ, Bool, true, false, List, Option, Some, None, refl}
+use Rattle.std.proofs.Common.{ℕ, Bool, true, false, List, Option, Some, refl}
 use Rattle.std.specs.Prelude.{IsTrue}
-use Rattle.std.specs.Io.KnownBytes.{Appends}
-use Rattle.nbt_log.specs.Limiting.{LimiterValue}
 use Rattle.nbt_log.specs.declared.dates.Dates.{Dates}
 use Rattle.nbt_nbns.specs.Journaling.{LogsIn, no_log, logged, not_logged}
-use Rattle.nbt_nbns.specs.Logging.{Logs}
+use Rattle.nbt_nbns.specs.Logging.{LoggerValue, Prints}
 use Rattle.nbt_nbns.specs.declared.staying.Shown.{Shown}
 use Rattle.nbt_nbns.proofs.journal.log_in.Goals as goal
 
 -- a line that was printed, or wasn't
-logs : (dates : Dates) (shown : Shown) (old_text text : Option (List ℕ)) (old new : LimiterValue) (done : Bool)
-    → (IsTrue done → (line : List ℕ) × Logs old dates shown.at shown.entry line new × Appends old_text text line) → LogsIn dates shown old_text (Some old) (Some new) text
-logs dates shown old_text text old new true said = let line = said refl in logged old new line.0 text line.1 line.2
+logs : (dates : Dates) (shown : Shown) (old_text text : Option (List ℕ)) (old new : LoggerValue) (done : Bool)
+    → (IsTrue done → Prints old dates shown.at shown.entry old_text new text) → LogsIn dates shown old_text (Some old) (Some new) text
+logs dates shown old_text text old new true said = logged old new text (said refl)
 logs dates shown old_text text old new false said = not_logged old new text
 
 pub returns-in-Some : goal.returns-in-Some

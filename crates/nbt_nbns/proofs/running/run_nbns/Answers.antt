@@ -21,5 +21,5 @@ returns-clause-ok g c =
     _ (record { port = run.0; clock = w.new.clock; server = w.new.server; watcher = w.new.watcher; text = g.W.Write.contents w.new.writer })
     c.in_ok-clock.ensures.ok (c.now-start.new.self, c.now-start.ensures) (refl, c.now.ensures.1) (c.local_of-local.result, first.0, first.1, first.2) c.start-server.ensures
     (is_at_first a c.now-start.result c.now.result c.now.new.self c.now-start.new.self c.in_ok-port.port c.start-server.result c.log_of.result c.in_ok-leases_of.field-0 (g.W.Write.contents c.tell_begin.new.writer)
-    c.in_ok-port.ensures.ok c.now-start.ensures.keeps c.now.ensures.0 c.log_of.ensures c.in_ok-leases_of.ensures)
+    c.in_ok-port.ensures.ok c.now-start.ensures.keeps c.now.ensures.0 c.log_of.ensures c.in_ok-leases_of.ensures.ok)
     refl (rw c.until_of-until.ensures at run.1))

@@ -44,12 +44,12 @@ returns-after-has_reply-clause-ok g c =
     let handled = subst (λ octets. ServerHandles c.args.server.now c.now-now.result c.in-Some.from.ip octets c.in-Ok.outcome c.handle.new.out.items c.handle.new.self) c.as_slice.ensures.value c.in-Ok.ensures.handled in
     elim c.if-has_reply.branch [
       | then-has_reply+in_ok-send-in-Ok w ↦
-          rw (c.len.ensures.value, w.port-is, w.counts-is) (served_replied g.P.Port.does g.C.Clock.tells c.args.port.now c.receive.new.self c.args.clock.now c.now-now.new.self c.args.server.now c.handle.new.self
+          rw (c.of.ensures, c.as_slice-in-Ok.ensures.value, w.port-is, w.counts-is) (served_replied g.P.Port.does g.C.Clock.tells c.args.port.now c.receive.new.self c.args.clock.now c.now-now.new.self c.args.server.now c.handle.new.self
           c.in_ok-from.field-0 c.in-Some.from c.receive.new.octets.items c.now-now.result
           c.in-Some.is c.in_ok-from.ensures.does c.now-now.ensures c.handle.new.out.items c.in-Ok.outcome w.send.new.self handled (sym c.has_reply.ensures ∙ w.if-has_reply.true)
           (subst (λ out. g.P.Port.does c.receive.new.self (sent c.in-Some.from out) w.send.new.self) w.as_slice-then-has_reply.ensures.value w.in_ok-send-in-Ok.ensures.does))
       | else-has_reply w ↦
-          rw (c.len.ensures.value, w.port-is, w.counts-is) (served_silent g.P.Port.does g.C.Clock.tells c.args.port.now c.receive.new.self c.args.clock.now c.now-now.new.self c.args.server.now c.handle.new.self
+          rw (c.of.ensures, c.as_slice-in-Ok.ensures.value, w.port-is, w.counts-is) (served_silent g.P.Port.does g.C.Clock.tells c.args.port.now c.receive.new.self c.args.clock.now c.now-now.new.self c.args.server.now c.handle.new.self
           c.in_ok-from.field-0 c.in-Some.from c.receive.new.octets.items c.now-now.result
           c.in-Some.is c.in_ok-from.ensures.does c.now-now.ensures c.handle.new.out.items c.in-Ok.outcome handled (sym c.has_reply.ensures ∙ w.if-has_reply.false))
     ]

@@ -1,0 +1,28 @@
+-- Lines that wait for the reader of a log (our profile).
+use Rattle.std.specs.Prelude.{◌≡◌, ◌≢◌, ℕ, ◌+◌, ◌-◌, ◌^◌, nat_eq, min, if◌then◌else◌, List, [], ◌++◌, Option, codes}
+use Rattle.std.specs.Fmt.{decimal}
+use Rattle.std.specs.Io.KnownBytes.{Appends, append_known}
+use Rattle.nbt_text.specs.Lines.{newline}
+
+-- what the writer didn't take yet, and how many lines were dropped meanwhile
+pub record OutboxValue : Type 0 where
+  pub waiting : List ℕ
+  pub dropped : ℕ
+
+abbrev pub new_outbox : OutboxValue
+new_outbox = record { waiting = []; dropped = 0 }
+
+-- how many lines were dropped, if some were
+abbrev pub note : (dropped : ℕ) → List ℕ
+note dropped = if nat_eq dropped 0 then [] else codes ".. " ++ decimal dropped ++ codes " lines dropped: the reader of the log was slow, or it could not be written" ++ newline
+
+-- A line is added, behind the note of those that were dropped before; while something waits it is dropped. Where there is no line, nothing
+-- is added.
+pub data Adds (old : OutboxValue) (line : List ℕ) : (added : List ℕ) → OutboxValue → Type 0 where
+  is_added : (rest : List ℕ) → Adds old line (note old.dropped ++ line) (record { waiting = rest; dropped = 0 })
+  is_none : (rest : List ℕ) → line ≡ [] → Adds old line [] (record { waiting = rest; dropped = old.dropped })
+  is_dropped : (rest : List ℕ) → rest ≢ [] → Adds old line [] (record { waiting = rest; dropped = min (old.dropped + 1) (2 ^ 64 - 1) })
+
+-- What was written and what waits, taken together, grow by what is added: no octet is lost, doubled or moved.
+abbrev pub Sends : (old : OutboxValue) → (line : List ℕ) → (old_text : Option (List ℕ)) → OutboxValue → (text : Option (List ℕ)) → Type 0
+Sends old line old_text new text = (added : List ℕ) × Adds old line added new × Appends (append_known old_text old.waiting) (append_known text new.waiting) added
