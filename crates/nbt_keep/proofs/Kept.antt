@@ -67,7 +67,7 @@ among now (x ∷ xs) (y ∷ ys) lease behind e =
     (cases_Bool (is_live now x))
 
 -- no two of one address: no other lease is of this one's
-apart_front : (xs : List Lease) (lease : Lease) (ys : List Lease) → AreApart (xs ++ lease ∷ ys) → HasNone lease.addr xs
+pub apart_front : (xs : List Lease) (lease : Lease) (ys : List Lease) → AreApart (xs ++ lease ∷ ys) → HasNone lease.addr xs
 apart_front [] lease ys h = tt
 apart_front (x ∷ xs) lease ys h = let other : lease.addr ≢ x.addr = (all_behind (λ l. l.addr ≢ x.addr) xs (lease ∷ ys) h.0).0 in ((λ same. other (sym same)), apart_front xs lease ys h.1)
 

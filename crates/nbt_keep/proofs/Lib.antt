@@ -4,7 +4,22 @@
 pub mod Kept
 -- what the server did with a datagram, and the change that it is
 pub mod Told
--- what a store has after it, and what a crash leaves
-pub mod Stored
 -- a server that resumes with what was kept
 pub mod Resumed
+-- what waits leaves, and what a datagram makes of a server and of what waits
+mod Leaving
+mod Taking
+mod Passed
+-- what came of a look at the file
+mod Looked
+mod Stayed
+-- what is kept where a server's live leases are written in place of all
+mod Renewed
+-- what a crash leaves, call by call, and of whole runs
+mod Crashes
+mod Runs
+mod WholeRuns
+-- whether a server goes on with what was kept
+pub mod Deciding
+-- such a server begins, over this machine
+mod Started

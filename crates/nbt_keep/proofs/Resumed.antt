@@ -6,7 +6,6 @@ use Rattle.nbt_lease.proofs.Rows.{later_is, same_leases}
 use Rattle.nbt_server.specs.Serving.{ServerValue}
 use Rattle.nbt_server.specs.Calls.{ServerResumes, kept_server}
 use Rattle.nbt_keep.specs.Changing.{IsKept}
-use Rattle.nbt_keep.specs.Keeping.{IsStored}
 use Rattle.nbt_keep.proofs.Told.{KeptAt, kept_at}
 
 pub resumes_kept : (was server : ServerValue) (kept : Leases) (rows : Rows) (last now : ℕ) → IsKept kept was → was.last ≤ now → ((name : NameValue) → leases_at now rows name ≡ filter (is_live now) (kept name))
@@ -20,13 +19,3 @@ resumes_kept was server kept rows last now k onward same r =
       was_called = onward;
       called = r.called;
     }
-
-pub resumed_stored : (was server : ServerValue) (now : ℕ) → ServerResumes was now server → server.last ≡ now → IsSound was.table.config now (leases_at now was.table.rows) → IsStored (leases_at now was.table.rows) [] 0 server
-resumed_stored was server now r last_is sound = record {
-  kept = record {
-    apart = λ name. (sound name).apart;
-    live = λ name. subst (λ (n : ℕ). filter (is_live n) (leases_at now was.table.rows name) ≡ leases_at n server.table.rows name) (sym last_is)
-        (sym (later_is now now was.table.rows name (omega arith)) ∙ sym (ap (λ (f : Leases). f name) r.leases));
-  };
-  all = refl;
-}

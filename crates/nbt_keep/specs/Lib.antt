@@ -1,3 +1,13 @@
+pub mod Begin
+pub mod Beginning
 pub mod Changing
-pub mod Keeping
+pub mod Devices
+pub mod Folders
+pub mod Opening
+pub mod Waiting
+pub mod Turning
+pub mod Resuming
+pub mod Running
+pub mod Runs
+pub mod Staying
 pub mod Inner

@@ -1,12 +1,16 @@
 //! What holds of a server and what is kept of its leases, whatever the code does: laws over the definitions alone.
 
-ghost use Rattle.std.specs.Prelude.{◌≡◌, ℕ, ◌≤◌, [], filter};
+ghost use Rattle.std.specs.Prelude.{◌≡◌, ℕ, ◌≤◌, filter};
 ghost use Rattle.nbt_name.specs.Wire.{NameValue};
-ghost use Rattle.nbt_lease.specs.Lease.{Leases, Rows, is_live, leases_at, IsSound};
+ghost use Rattle.nbt_lease.specs.Lease.{Leases, Rows, is_live, leases_at};
 ghost use Rattle.nbt_server.specs.Serving.{ServerValue};
 ghost use Rattle.nbt_server.specs.Calls.{ServerResumes, kept_server};
+ghost use Rattle.nbt_store.specs.Changes.{after_all, begun_all, no_leases};
 ghost use Rattle.nbt_keep.specs.Changing.{IsKept};
-ghost use Rattle.nbt_keep.specs.Keeping.{IsStored};
+ghost use Rattle.nbt_keep.specs.Waiting.{batch};
+ghost use Rattle.nbt_keep.specs.Runs.{live_rows, NoReplyPrecedesItsChange, CrashLeavesAnEarlierServer, ServersGoByTurns};
+
+use crate::waiting::BATCH;
 
 /// A server that crashed may resume with any rows that have what lives of its kept leases, with its own start and limits, once
 /// its clock reads no less than at its last datagram: the server made of them is one that it resumes as.
@@ -15,8 +19,29 @@ pub fn what_is_kept_resumes()
         → ServerResumes (kept_server was.table.config was.start last rows) now server → ServerResumes was now server }
 {}
 
-/// A store that begins with the live leases of a server that resumed has its leases, before any change.
-pub fn a_resumed_server_is_stored()
-    ensures { (was server : ServerValue) (now : ℕ) → ServerResumes was now server → server.last ≡ now → IsSound was.table.config now (leases_at now was.table.rows)
-        → IsStored (leases_at now was.table.rows) [] 0 server }
+/// Whenever a reply of a run is sent, all changes that were appended before are durable: so is what the reply says.
+pub fn no_reply_precedes_its_change()
+    ensures { NoReplyPrecedesItsChange }
+{}
+
+/// Whatever a crash leaves of what was kept, after any call of a run or within one that failed, has the live leases of an earlier
+/// server, and that one knows of each reply that has left. So the world's event of a server that resumes covers it: the datagrams
+/// behind are lost.
+pub fn a_crash_leaves_an_earlier_server()
+    ensures { CrashLeavesAnEarlierServer }
+{}
+
+/// The servers of a run go by the turns of a server without a store. So all that holds of those holds of these.
+pub fn servers_go_by_turns()
+    ensures { ServersGoByTurns }
+{}
+
+/// Where a server's live leases are written in place of all that was kept, its leases are kept.
+pub fn what_is_written_is_kept()
+    ensures { (server : ServerValue) (kept : Leases) → IsKept kept server → IsKept (after_all (begun_all (live_rows server)) no_leases) server }
+{}
+
+/// At 64 replies that wait they leave (our profile).
+pub fn numbers()
+    ensures { BATCH ≡ batch }
 {}

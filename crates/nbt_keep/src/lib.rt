@@ -1,10 +1,30 @@
-//! A name server and what keeps its leases over a crash (our profile): what each datagram changed, and a server whose reply
-//! leaves only once that is durable.
+//! A name server and what keeps its leases over a crash (our profile): what each datagram changed, and a server over a port and a
+//! store whose replies leave only once what they rest on is durable, many at one sync.
 #![tactic(auto)]
 
+mod arguments;
+mod beginning;
 mod changing;
-mod keeping;
+mod fault;
+mod first_line;
+mod folder;
 pub mod laws;
+mod looking;
+mod opening;
+mod resuming;
+mod running;
+mod staying;
+mod turning;
+mod waiting;
 
+pub use arguments::{ServerArguments, StateFolder};
+pub use beginning::{Begun, begin, manner_of};
 pub use changing::{Handled, handle_telling};
-pub use keeping::handle_keeping;
+pub use fault::KeepFault;
+pub use first_line::{Manner, write_begin, write_reason};
+pub use folder::FolderStore;
+pub use resuming::{Decided, Found, Going, Reason, resume};
+pub use running::run_server;
+pub use staying::keep_on;
+pub use turning::keep_turn;
+pub use waiting::{BATCH, Reply, Waiting};

@@ -1,0 +1,74 @@
+use Rattle.std.proofs.Common.{◌≡◌, ℕ, List, [], ◌∷◌, ◌++◌, refl, sym, ap, subst, ◌∙◌, Option, None, Some, Ok, Err, arith}
+use Rattle.std.proofs.lemmas.Result.{err_from_is_err_and}
+use Rattle.nbt_port.specs.PortCalls.{receive_failed, receiving}
+use Rattle.nbt_store.specs.Calls.{append_failed}
+use Rattle.nbt_keep.specs.Devices.{on_port, on_store}
+use Rattle.nbt_keep.specs.Turning.{taking, receive_in, receive_fails}
+use Rattle.nbt_keep.proofs.Passed.{taken, went_on, not_taken, not_received, passed_so, failed_so, dropped_so, room_left, room_failed}
+use Rattle.nbt_keep.proofs.turning.keep_turn.Goals as goal
+
+pub returns-in_err-came-clause-err : goal.returns-in_err-came-clause-err
+returns-in_err-came-clause-err g c =
+    let p = err_from_is_err_and c.from_residual.result c.from_residual.ensures.1 in
+    rw (p.1, p.2) (record {
+      took = None;
+      calls = on_port receive_failed ∷ [];
+      takes = refl;
+      fails = receive_fails;
+      devices_did = not_received g.P.Port.does g.S.Store.does c.args.port.now c.receive.new.port c.receive.new.port c.args.store.now c.args.store.now c.args.store.now c.in_err-came.ensures.does;
+      clock_told = refl;
+    })
+
+pub returns-in_err-entry-clause-err : goal.returns-in_err-entry-clause-err
+returns-in_err-entry-clause-err g c =
+    let p = err_from_is_err_and c.from_residual-in_err-entry.result c.from_residual-in_err-entry.ensures.1 in
+    let t = c.in_err-entry.ensures.err in
+    rw (p.1, p.2) (record {
+      took = Some (record { turn = t.0; change = Some t.1 });
+      calls = on_port (receive_in t.0) ∷ on_store (append_failed t.1) ∷ [];
+      takes = t.2;
+      fails = dropped_so t.0 t.1 c.args.waiting.now c.take_any.new.waiting t.6;
+      devices_did = not_taken g.P.Port.does g.S.Store.does c.args.port.now c.receive.new.port c.receive.new.port c.args.store.now c.take_any.new.store c.take_any.new.store t.0 t.1 (receiving (Ok c.in_ok-came.came) c.as_slice.result.now) t.3
+          (subst (λ (xs : List ℕ). g.P.Port.does c.args.port.now (receiving (Ok c.in_ok-came.came) xs) c.receive.new.port) (sym c.as_slice.ensures.value) c.in_ok-came.ensures.does) t.4;
+      clock_told = t.5;
+    })
+
+pub returns-in-Ok-clause-ok : goal.returns-in-Ok-clause-ok
+returns-in-Ok-clause-ok g c =
+    let t = c.in_ok-entry.ensures.ok in
+    let l = c.in-Ok.ensures.ok in
+    record {
+      took = t.0;
+      calls = taking t.0 ++ l.0;
+      takes = t.1;
+      logged = t.2;
+      changed = t.3;
+      passes = passed_so t.0 c.lacks_reply.result c.args.waiting.now c.take_any.new.waiting c.leave_where_due.new.self l.0 (t.5 ∙ sym c.lacks_reply.ensures) t.8 l.1;
+      devices_did = went_on g.P.Port.does g.S.Store.does c.args.port.now c.receive.new.port c.leave_where_due.new.port c.args.store.now c.take_any.new.store c.leave_where_due.new.store t.0 l.0
+          (taken g.P.Port.does g.S.Store.does c.args.port.now c.receive.new.port c.receive.new.port c.args.store.now c.take_any.new.store c.take_any.new.store t.0 (receiving (Ok c.in_ok-came.came) c.as_slice.result.now) t.4
+          (subst (λ (xs : List ℕ). g.P.Port.does c.args.port.now (receiving (Ok c.in_ok-came.came) xs) c.receive.new.port) (sym c.as_slice.ensures.value) c.in_ok-came.ensures.does) t.6)
+          l.2;
+      clock_told = t.7;
+    }
+
+pub returns-in-Err-clause-err : goal.returns-in-Err-clause-err
+returns-in-Err-clause-err g c =
+    let t = c.in_ok-entry.ensures.ok in
+    let l = c.in-Err.ensures.err in
+    record {
+      took = Some t.0;
+      calls = taking t.0 ++ l.0;
+      takes = t.1;
+      fails = failed_so t.0 c.lacks_reply.result c.in-Err.why c.args.waiting.now c.take_any.new.waiting c.leave_where_due.new.self l.0 (t.5 ∙ sym c.lacks_reply.ensures) t.8 l.1 l.2;
+      devices_did = went_on g.P.Port.does g.S.Store.does c.args.port.now c.receive.new.port c.leave_where_due.new.port c.args.store.now c.take_any.new.store c.leave_where_due.new.store t.0 l.0
+          (taken g.P.Port.does g.S.Store.does c.args.port.now c.receive.new.port c.receive.new.port c.args.store.now c.take_any.new.store c.take_any.new.store t.0 (receiving (Ok c.in_ok-came.came) c.as_slice.result.now) t.4
+          (subst (λ (xs : List ℕ). g.P.Port.does c.args.port.now (receiving (Ok c.in_ok-came.came) xs) c.receive.new.port) (sym c.as_slice.ensures.value) c.in_ok-came.ensures.does) t.6)
+          l.3;
+      clock_told = t.7;
+    }
+
+pub returns-in-Ok-clause-room : goal.returns-in-Ok-clause-room
+returns-in-Ok-clause-room g c = room_left c.lacks_reply.result c.take_any.new.waiting c.leave_where_due.new.self c.in-Ok.ensures.ok.0 c.in-Ok.ensures.ok.1
+
+pub returns-in-Err-clause-room : goal.returns-in-Err-clause-room
+returns-in-Err-clause-room g c = room_failed c.take_any.new.waiting c.leave_where_due.new.self c.in-Err.why c.in-Err.ensures.err.0 c.in-Err.ensures.err.2 c.take_any.ensures.few

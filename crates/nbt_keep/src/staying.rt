@@ -1,0 +1,238 @@
+//! A server that keeps its leases, stays up, and is watched.
+
+ghost use Rattle.std.specs.Prelude.{◌<◌, ◌≤◌, ◌+◌, ◌^◌, ℕ, List, length, Option, IfOk, IfErr, OnOk};
+ghost use Rattle.nbt_port.specs.Numbers.{forever};
+ghost use Rattle.nbt_port.specs.Staying.{StaysUntil, EndsEarly};
+ghost use Rattle.nbt_keep.specs.Waiting.{batch};
+ghost use Rattle.nbt_keep.specs.Turning.{KeepsTurn, BreaksKeeping};
+ghost use Rattle.nbt_keep.specs.Inner.Ending.{EndsSo, ComesTo};
+ghost use Rattle.nbt_keep.specs.Staying.{WatchesOn, WatchesLast, BreaksStaying, CutsStaying};
+ghost use Rattle.nbt_keep.specs.declared.fault.KeepFault.TheVariants as fault;
+
+use crate::fault::KeepFault;
+use crate::looking::look_after;
+use crate::turning::keep_turn;
+use crate::waiting::Waiting;
+use arrayvec::ArrayVec;
+use nbt_lease::{Lease, Moment};
+use nbt_name::Name;
+use nbt_nbns::{Shown, Watcher};
+use nbt_port::{Clock, FOREVER, Fault, Port, Turn, Turned, is_over, stay_up};
+use nbt_server::Server;
+use nbt_store::{Header, Store};
+use std::alloc::Global;
+use std::io::Write;
+use std::{io, time};
+
+/// The server goes through turns as [`crate::keep_turn`] has them until the moment `until`, if there is one, and no reply waits, and
+/// through 2^61 of them at most. It stays up when the port fails, as [`stay_up`] says. After each turn that went well the clock is
+/// read, the watcher is shown what the turn was, and where no reply waits the store is looked after: the live leases are written anew
+/// in place of all changes, where the file has several times as many lines as leases with which it was written, or the time of day that `day` tells
+/// is more than 2,000 ms from what `header` expects, since that clock was set. `header` is that of the file, and has the moment and
+/// the time of day of the last such writing afterwards; `waiting` has no reply at first.
+///
+/// Refused with `Device` at the hundredth failure of the port in a row, and with `Store` at the first failure of the store, at
+/// once; it then says in `errors` why. No reply leaves whose change isn't durable. What can't be written to `errors` is passed over.
+pub fn keep_on<
+    P: Port,
+    S: Store,
+    C: Clock,
+    D: Clock,
+    V: Watcher,
+    M: time::Clock,
+    W: Write,
+    E: Write,
+>(
+    port: &mut P,
+    store: &mut S,
+    clock: &mut C,
+    day: &mut D,
+    server: &mut Server,
+    waiting: &mut Waiting,
+    header: &mut Header,
+    watcher: &mut V,
+    until: Option<Moment>,
+    alloc: Global,
+    machine: &M,
+    writer: &mut W,
+    errors: &mut E,
+) -> Result<(), Fault>
+    requires failure_count { P.failures port.old ≤ 2 ^ 61 }
+    requires room { length waiting.old.replies < batch }
+    ensures ok { OnOk result (StaysUntil (WatchesOn P.does S.does C.tells D.tells V.sees until) (BreaksStaying P.does S.does C.tells D.tells V.sees fault.Port) (WatchesLast P.does S.does C.tells D.tells V.sees until) forever
+        (record { keeping = record { port = port.old; store = store.old; clock = clock.old; server = server.old; waiting = waiting.old }; header = header.old; day = day.old; watcher = watcher.old; text = W.contents writer.old })
+        (record { keeping = record { port = port.new; store = store.new; clock = clock.new; server = server.new; waiting = waiting.new }; header = header.new; day = day.new; watcher = watcher.new; text = W.contents writer.new })) }
+    ensures err { IfErr result (λ why. EndsEarly (WatchesOn P.does S.does C.tells D.tells V.sees until) (BreaksStaying P.does S.does C.tells D.tells V.sees fault.Port) (CutsStaying P.does S.does C.tells D.tells V.sees) forever why
+        (record { keeping = record { port = port.old; store = store.old; clock = clock.old; server = server.old; waiting = waiting.old }; header = header.old; day = day.old; watcher = watcher.old; text = W.contents writer.old })
+        (record { keeping = record { port = port.new; store = store.new; clock = clock.new; server = server.new; waiting = waiting.new }; header = header.new; day = day.new; watcher = watcher.new; text = W.contents writer.new })) }
+{
+    let mut rows = Vec::new(alloc);
+    let mut turn = KeptTurn {
+        port,
+        store,
+        clock,
+        day,
+        server,
+        waiting,
+        header,
+        watcher,
+        until,
+        writer,
+        rows: &mut rows,
+        octets: ArrayVec::new(),
+    };
+    stay_up(&mut turn, FOREVER, machine, errors)
+}
+
+/// One turn of a server that keeps its leases and is watched.
+#[derive(Drop)]
+struct KeptTurn<'p, 't, 'c, 'd, 's, 'r, 'h, 'v, 'w, 'b, P, S, C, D, V, W> {
+    port: &'p mut P,
+    store: &'t mut S,
+    clock: &'c mut C,
+    day: &'d mut D,
+    server: &'s mut Server,
+    waiting: &'r mut Waiting,
+    header: &'h mut Header,
+    watcher: &'v mut V,
+    until: Option<Moment>,
+    writer: &'w mut W,
+    rows: &'b mut Vec<(Name, Lease)>,
+    octets: ArrayVec<u8, 2048>,
+    ghost room: { length waiting.now.replies < batch },
+}
+
+impl<P: Port, S: Store, C: Clock, D: Clock, V: Watcher, W: Write> Turn
+    for KeptTurn<'_, '_, '_, '_, '_, '_, '_, '_, '_, '_, P, S, C, D, V, W> {
+    ghost use Rattle.std.specs.Prelude.{[], ◌∷◌};
+    ghost use Rattle.nbt_nbns.specs.declared.staying.Shown.{Shown as TurnShown};
+    ghost use Rattle.nbt_keep.specs.Staying.{Staying};
+
+    ghost State = { Staying P S C D V };
+
+    ghost Shown = { TurnShown };
+
+    ghost Fixed = { Option ℕ × List ℕ };
+
+    ghost state = { λ t. record { keeping = record { port = t.port.now; store = t.store.now; clock = t.clock.now; server = t.server.now; waiting = t.waiting.now }; header = t.header.now; day = t.day.now; watcher = t.watcher.now; text = W.contents t.writer.now } };
+
+    ghost fixed = { λ t. (t.until, t.port.ghost_name ∷ t.store.ghost_name ∷ t.clock.ghost_name ∷ t.day.ghost_name ∷ t.server.ghost_name ∷ t.waiting.ghost_name ∷ t.header.ghost_name ∷ t.watcher.ghost_name ∷ t.writer.ghost_name ∷ []) };
+
+    ghost failures = { λ t. P.failures t.port.now };
+
+    ghost turns = { λ f. WatchesOn P.does S.does C.tells D.tells V.sees f.0 };
+
+    ghost breaks = { λ _. BreaksStaying P.does S.does C.tells D.tells V.sees fault.Port };
+
+    ghost last = { λ f. WatchesLast P.does S.does C.tells D.tells V.sees f.0 };
+
+    ghost cuts = { λ _. CutsStaying P.does S.does C.tells D.tells V.sees };
+
+    fn take<E: Write>(&mut self, errors: &mut E) -> Turned {
+        let shown = match turn_and_moment(
+            self.port,
+            self.store,
+            self.clock,
+            self.server,
+            self.waiting,
+            &mut self.octets,
+        ) {
+            Ok(shown) => shown,
+            Err(KeepFault::Port) => return Turned::Failed(self.port.cause()),
+            Err(KeepFault::Store) => {
+                tell_store(self.store, errors);
+                return Turned::CutOff(Fault::Store);
+            }
+        };
+        self.watcher.see(self.server, &shown, self.writer, errors);
+        after_turn(
+            self.store,
+            self.day,
+            self.header,
+            self.rows,
+            self.server,
+            self.waiting,
+            &self.until,
+            shown.at,
+            errors,
+        )
+    }
+}
+
+/// Looks after the file, after a turn that went well. Returns what came of the turn.
+fn after_turn<S: Store, D: Clock, E: Write>(
+    store: &mut S,
+    day: &mut D,
+    header: &mut Header,
+    rows: &mut Vec<(Name, Lease)>,
+    server: &Server,
+    waiting: &Waiting,
+    until: &Option<Moment>,
+    at: Moment,
+    errors: &mut E,
+) -> Turned
+    ensures { ComesTo S.does D.tells server.now waiting.now until.now at store.old day.old header.old store.new day.new header.new result }
+{
+    match look_after(store, day, header, rows, server, waiting, at) {
+        Ok(()) => ending(until, at, waiting),
+        Err(_) => {
+            tell_store(store, errors);
+            Turned::CutOff(Fault::Store)
+        }
+    }
+}
+
+/// Whether a turn that went well was the last: its time is over, and no reply waits.
+fn ending(until: &Option<Moment>, at: Moment, waiting: &Waiting) -> Turned
+    ensures { EndsSo until.now at waiting.now result }
+{
+    if !is_over(until, at) {
+        return Turned::Well;
+    }
+    if waiting.is_clear() {
+        Turned::Last
+    } else {
+        Turned::Well
+    }
+}
+
+/// One turn, and the moment after it.
+fn turn_and_moment<P: Port, S: Store, C: Clock>(
+    port: &mut P,
+    store: &mut S,
+    clock: &mut C,
+    server: &mut Server,
+    waiting: &mut Waiting,
+    octets: &mut ArrayVec<u8, 2048>,
+) -> Result<Shown, KeepFault>
+    requires failure_count { P.failures port.old < 2 ^ 62 }
+    requires room { length waiting.old.replies < batch }
+    ensures ok { IfOk result (λ shown. (turned : C) × KeepsTurn P.does S.does C.tells
+        (record { port = port.old; store = store.old; clock = clock.old; server = server.old; waiting = waiting.old }) shown.entry
+        (record { port = port.new; store = store.new; clock = turned; server = server.new; waiting = waiting.new })
+        × C.tells turned shown.at clock.new) }
+    ensures err { IfErr result (λ why. BreaksKeeping P.does S.does C.tells why
+        (record { port = port.old; store = store.old; clock = clock.old; server = server.old; waiting = waiting.old })
+        (record { port = port.new; store = store.new; clock = clock.new; server = server.new; waiting = waiting.new })) }
+    ensures room { length waiting.new.replies < batch }
+    ensures count { P.failures port.new ≤ P.failures port.old + 1 }
+{
+    let entry = keep_turn(port, clock, store, server, waiting, octets)?;
+    Ok(Shown {
+        entry,
+        at: clock.now(),
+    })
+}
+
+/// Says why the store failed, where it knows it.
+fn tell_store<S: Store, E: Write>(store: &S, errors: &mut E) {
+    let _ = write_store(store, errors);
+}
+
+fn write_store<S: Store, E: Write>(store: &S, errors: &mut E) -> io::Result<()> {
+    match store.error() {
+        Some(error) => writeln!(errors, "nbt: the leases can't be kept: {error}")?,
+        None => writeln!(errors, "nbt: the leases can't be kept")?,
+    }
+    errors.flush()
+}
