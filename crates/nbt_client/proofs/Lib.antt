@@ -10,3 +10,5 @@ pub mod Turns
 pub mod OneTurn
 -- a turn of a lookup, and turns up to its end
 pub mod LookupTurns
+-- what a reply lists
+mod Listed

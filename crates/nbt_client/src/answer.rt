@@ -1,8 +1,8 @@
 //! The outcome of a lookup, and its text.
 
-ghost use Rattle.std.specs.Prelude.{◌≡◌, ◌++◌, ℕ, List, IfOk};
+ghost use Rattle.std.specs.Prelude.{◌≡◌, ◌++◌, ℕ, List, IfOk, length, nat_eq, if◌then◌else◌};
 ghost use Rattle.std.specs.String.{string_bytes};
-ghost use Rattle.nbt_client.specs.Answers.{answer_status, silence, TellsEnding};
+ghost use Rattle.nbt_client.specs.Answers.{answer_status, silence, no_names, TellsEnding};
 
 use crate::lookup::Ending;
 use nbt_show::{Reply, write_reply};
@@ -32,8 +32,8 @@ impl Answer {
     }
 }
 
-/// Appends the text of the outcome of a lookup that ended so, `octets` being its reply if one came: the text of the reply, or
-/// the line `no reply`, also where the node sent nothing.
+/// Appends the text of the outcome of a lookup that ended so, `octets` being its reply if one came: the text of the reply, the line
+/// `no names` where it lists nothing, or the line `no reply`, also where the node sent nothing.
 pub fn write_ending(ending: Ending, octets: &[u8], out: &mut String) -> Result<Answer, AllocError>
     ensures { IfOk result (λ answer. (text : List ℕ) × TellsEnding ending octets.now answer text × (string_bytes out.new ≡ string_bytes out.old ++ text)) }
 {
@@ -48,11 +48,23 @@ pub fn write_ending(ending: Ending, octets: &[u8], out: &mut String) -> Result<A
 fn write_told(octets: &[u8], out: &mut String) -> Result<Answer, AllocError>
     ensures { IfOk result (λ answer. (text : List ℕ) × TellsEnding Ending.Told octets.now answer text × (string_bytes out.new ≡ string_bytes out.old ++ text)) }
 {
+    let before = out.as_str().len();
     match write_reply(octets, out)? {
-        Reply::Found => Ok(Answer::Found),
+        Reply::Found => end_found(before, out),
         Reply::NotFound => Ok(Answer::NotFound),
         Reply::Other => write_silence(out),
     }
+}
+
+/// Appends that nothing is listed, if nothing was appended to so many octets.
+fn end_found(before: usize, out: &mut String) -> Result<Answer, AllocError>
+    ensures { IfOk result (λ answer. (answer ≡ Answer.Found)
+        × (string_bytes out.new ≡ (if nat_eq (length (string_bytes out.old)) before then string_bytes out.old ++ no_names else string_bytes out.old))) }
+{
+    if out.as_str().len() == before {
+        out.push_str("no names\n")?;
+    }
+    Ok(Answer::Found)
 }
 
 /// Appends that no reply came.

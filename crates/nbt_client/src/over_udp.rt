@@ -14,7 +14,8 @@ use std::net::Net;
 use std::time;
 
 /// Looks up from the address `own` of this system, as [`ask`] does; for 0.0.0.0:0 the system chooses both. Refused: `NoPort`
-/// where the port can't be bound; then `NoClock` where the clock can't be read; `Device` and `Memory` as [`ask`] is. Nothing is
+/// where the port can't be bound; then `NoClock` where the clock can't be read; `Device` and `Memory` as [`ask`] is, and `Device` at
+/// the first request that has no route too. Nothing is
 /// appended, except where it is out of memory. Of each but `Memory` a line in `errors` says which call of the system failed,
 /// for which address, and why; a failure to write it is ignored.
 pub fn ask_here<M: Net + time::Clock, E: Write>(
@@ -33,6 +34,7 @@ pub fn ask_here<M: Net + time::Clock, E: Write>(
 {
     let mut port = bound_port(machine, own, errors).map_err(|_| Fault::NoPort)?;
     let mut clock = steady_clock(machine, own, errors)?;
+    port.be_strict();
     let asked = ask(&mut port, &mut clock, own, question, patience, out);
     tell_end_of(asked.err(), port.cause(), errors);
     asked
