@@ -5,7 +5,7 @@ use Rattle.std.proofs.lemmas.List.{length-map}
 use Rattle.nbt_name.specs.declared.addr.Addr.{Addr}
 use Rattle.nbt_host.specs.declared.watching.Look.{Look}
 use Rattle.nbt_host.specs.Hosting.{HostValue}
-use Rattle.nbt_host.specs.Goals.{fresh}
+use Rattle.nbt_host.specs.Goals.{wanted}
 use Rattle.nbt_host.specs.Begin.{begin_text}
 use Rattle.nbt_host.specs.Host.{HostingValue, Running, Starts, first_host}
 use Rattle.nbt_host.specs.Running.{Begins}
@@ -14,7 +14,7 @@ use Rattle.nbt_host.specs.declared.arguments.HostArguments.{HostArguments}
 
 -- as many names are told of as are wanted
 count_of : (a : HostArguments) (now : ℕ) (host : HostValue) → host ≡ first_host a now → length host.goals ≡ length a.wants.items
-count_of a now host is = ap (λ (h : HostValue). length h.goals) is ∙ length-map a.wants.items fresh
+count_of a now host is = ap (λ (h : HostValue). length h.goals) is ∙ length-map a.wants.items (wanted a.config)
 
 pub begins : {P K : Type 0} (looks : K → Look → K → Type 0) (at : Addr) (a : HostArguments) (goes : (until : Option ℕ) → Running P K → Running P K → Type 0)
     (old_port port : P) (watch : K) (old_text begun_text text : Option (List ℕ)) (first last : HostingValue K) (until : Option ℕ)

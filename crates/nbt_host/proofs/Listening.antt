@@ -50,12 +50,12 @@ module _ {P K : Type 0} (does : P → PortCall → P → Type 0) (looks : K → 
   }
 
   pub heard_on : (notice : Option Notice) (new_goals : List Goal) (new : NodeValue) → false ≡ second.slept → given ≡ octets → Heard_by does second.at node (receiving (Ok found) given) notice new q r
-      → new_goals ≡ map (heard_by new second.at notice) goals → Listens does looks t old (record { port = r; watch = w; last = last; host = record { goals = new_goals; node = new } })
+      → new_goals ≡ map (heard_by t.config new second.at notice) goals → Listens does looks t old (record { port = r; watch = w; last = last; host = record { goals = new_goals; node = new } })
   heard_on notice new_goals new awake same h takes =
       let is : ◌≡◌ {A = HostValue} (record { goals = goals; node = node }) old.host = woke ∙ is_awake t second old.host awake in
       let hearing : List PortCall = receiving (Ok found) given ∷ h.0 in
       let heard : HostHears second.at old.host.node hearing notice new = subst (λ (x : HostValue). HostHears second.at x.node hearing notice new) is h.1 in
-      let taken : new_goals ≡ map (heard_by new second.at notice) old.host.goals = takes ∙ ap (λ (x : HostValue). map (heard_by new second.at notice) x.goals) is in
+      let taken : new_goals ≡ map (heard_by t.config new second.at notice) old.host.goals = takes ∙ ap (λ (x : HostValue). map (heard_by t.config new second.at notice) x.goals) is in
       record {
         second = second;
         hearing = hearing;

@@ -1,6 +1,7 @@
 -- What is known of a host by its fields, said of the host.
 use Rattle.std.proofs.Common.{◌≡◌, ℕ, Bool, false, List, [], Option, sym, ap, subst, ◌∙◌}
 use Rattle.std.specs.List.{list_all}
+use Rattle.nbt_name.specs.declared.addr.Addr.{Addr}
 use Rattle.nbt_port.specs.PortCalls.{PortCall}
 use Rattle.nbt_host.specs.Goals.{is_held}
 use Rattle.nbt_host.specs.declared.goal.Goal.{Goal}
@@ -18,11 +19,11 @@ use Rattle.nbt_host.proofs.Quiet.{quiet_turn}
 
 module _ {K : Type 0} (fields host : HostingValue K) (is : fields ≡ host) where
   -- nothing is printed of a turn that has no lines
-  pub prints_nothing : (log : Bool) (shown : Shown) (goals : List Goal) (text : Option (List ℕ)) → goals ≡ fields.host.goals → false ≡ has_lines log shown.slept goals → PrintsTurn log shown host.last host.host.goals text text
-  prints_nothing log shown goals text are none =
+  pub prints_nothing : (log : Bool) (server : Addr) (shown : Shown) (goals : List Goal) (text : Option (List ℕ)) → goals ≡ fields.host.goals → false ≡ has_lines log shown.slept goals → PrintsTurn log server shown host.last host.host.goals text text
+  prints_nothing log server shown goals text are none =
       let same : goals ≡ host.host.goals = are ∙ ap (λ (h : HostingValue K). h.host.goals) is in
       let quiet : has_lines log shown.slept host.host.goals ≡ false = ap (has_lines log shown.slept) (sym same) ∙ sym none in
-      ([], quiet_turn (second_at (dates_of host.last) shown.at) log shown.slept host.host.goals quiet, appends_nothing text)
+      ([], quiet_turn (second_at (dates_of host.last) shown.at) log server shown.slept host.host.goals quiet, appends_nothing text)
 
 -- the end of a host's time, by what its calls returned
 pub over_at : {P K : Type 0} (does : P → PortCall → P → Type 0) (tells : K → ℕ → K → Type 0) (looks : K → Look → K → Type 0) (a : HostArguments) (until : Option ℕ) (goes : Running P K → Running P K → Type 0)

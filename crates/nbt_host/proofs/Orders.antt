@@ -14,7 +14,7 @@ use Rattle.nbt_port.specs.PortCalls.{PortCall, sent, send_failed, sending, Chain
 use Rattle.nbt_port.proofs.Chains.{chain_one, chain-append}
 use Rattle.nbt_host.specs.declared.goal.Goal.{Goal}
 use Rattle.nbt_host.specs.declared.goal.Stage.{Stage}
-use Rattle.nbt_host.specs.declared.goal.Stage.TheVariants.{Wanted, Leaving, Released, Left}
+use Rattle.nbt_host.specs.declared.goal.Stage.TheVariants.{Wanted, Leaving, Released, Left, Doubtful}
 use Rattle.nbt_host.specs.Goals.{may_ask}
 use Rattle.nbt_host.specs.Hosting.{sending_to, is_wanted, Requests, asks, may_not_ask, gives_back, may_not_give_back, RequestsAll, of_none, of_next, BreaksRequests, at_request}
 
@@ -70,6 +70,7 @@ not_wanted Wanted other = absurd (other refl)
 not_wanted Leaving other = refl
 not_wanted Released other = refl
 not_wanted (Left rcode) other = refl
+not_wanted Doubtful other = refl
 
 pub asked_by : (now : ℕ) (old new : NodeValue) (goal : Goal) (out : List ℕ) (result : Result (Unit {0}) AskFault) → is_wanted goal.stage ≡ true → may_ask now goal.refusal ≡ true → result_err result ≡ ask_refusal old now goal.want.name
     → OnOk result (Sends old now goal.want.name (ask goal.want.kind goal.want.ttl) new out) → OnErr result ((new ≡ old) × (out ≡ [])) → Requests now old goal (if is_ok result then Some out else None) new

@@ -1,5 +1,6 @@
 -- The line of an event of a name (our profile).
 use Rattle.std.specs.Prelude.{◌≡◌, ℕ, List, ◌++◌, codes}
+use Rattle.std.specs.Fmt.{decimal}
 use Rattle.nbt_name.specs.Wire.{NameValue}
 use Rattle.nbt_text.specs.Lines.{newline}
 use Rattle.nbt_log.specs.Dates.{IsTimeText}
@@ -10,6 +11,8 @@ use Rattle.nbt_host.specs.declared.event.Event.TheVariants as e
 -- what stands between the time and the name
 abbrev pub words_before : Event → List ℕ
 words_before (e.Granted seconds) = codes " granted "
+words_before (e.Untimed seconds) = codes " granted "
+words_before (e.Brief seconds) = codes " granted "
 words_before (e.Renewed seconds) = codes " renewed "
 words_before (e.Refused rcode) = codes " refused "
 words_before e.AsksAgain = codes " asks again for "
@@ -20,9 +23,15 @@ words_before (e.Denied rcode) = codes " give-back denied "
 words_before e.Unconfirmed = codes " give-back unconfirmed "
 words_before e.NotHeld = codes " not held "
 
+-- the seconds of a hold of which there is more to say
+abbrev pub seconds_and : (seconds : ℕ) → List ℕ → List ℕ
+seconds_and seconds more = codes " " ++ decimal seconds ++ codes " s: " ++ more ++ newline
+
 -- what stands after the name, with the end of the line: the seconds of a hold, or an RCODE in words and as a number
 abbrev pub text_after : Event → List ℕ
 text_after (e.Granted seconds) = seconds_text seconds
+text_after (e.Untimed seconds) = seconds_and seconds (codes "the server says no time")
+text_after (e.Brief seconds) = seconds_and seconds (codes "too short to be renewed in time")
 text_after (e.Renewed seconds) = seconds_text seconds
 text_after (e.Refused rcode) = reason_text rcode
 text_after (e.Denied rcode) = reason_text rcode

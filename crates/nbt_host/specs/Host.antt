@@ -6,7 +6,7 @@ use Rattle.nbt_port.specs.declared.fault.Fault.{Fault}
 use Rattle.nbt_port.specs.declared.fault.Fault.TheVariants.{Output, Memory}
 use Rattle.nbt_log.specs.declared.dates.Dates.{Dates}
 use Rattle.nbt_host.specs.Hosting.{HostValue, Terms}
-use Rattle.nbt_host.specs.Goals.{fresh}
+use Rattle.nbt_host.specs.Goals.{wanted}
 use Rattle.nbt_host.specs.declared.watching.Look.{Look}
 use Rattle.nbt_host.specs.declared.arguments.HostArguments.{HostArguments}
 
@@ -27,7 +27,7 @@ terms_of a = record { slots = slots_most; server = a.server; config = a.config }
 
 -- a host that knows nothing of its names yet
 abbrev pub first_host : HostArguments → (now : ℕ) → HostValue
-first_host a now = record { goals = map fresh a.wants.items; node = started slots_most a.bind a.server a.config now }
+first_host a now = record { goals = map (wanted a.config) a.wants.items; node = started slots_most a.bind a.server a.config now }
 
 -- The clocks are looked at, and a host starts at that moment.
 pub record Starts {K : Type 0} (looks : K → Look → K → Type 0) (a : HostArguments) (watch : K) (new : HostingValue K) : Type 0 where

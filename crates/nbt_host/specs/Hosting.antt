@@ -98,7 +98,7 @@ seen_all now host = record host { goals = map (seen host.node now) host.goals }
 pub data HearsAfter (t : Terms) (look : Look) (old : HostValue) : List PortCall → HostValue → Type 0 where
   sleeps : (found : Option Addr) (octets : List ℕ) → look.slept ≡ true → HearsAfter t look old (receiving (Ok found) octets ∷ []) (woken t look old)
   wakes : (hearing : List PortCall) (notice : Option Notice) (new : NodeValue) → look.slept ≡ false → HostHears look.at old.node hearing notice new
-      → HearsAfter t look old hearing (record { goals = map (heard_by new look.at notice) old.goals; node = new })
+      → HearsAfter t look old hearing (record { goals = map (heard_by t.config new look.at notice) old.goals; node = new })
 
 -- A look at the clocks, and then at the names; the requests and the polls; one receive, and a look at the clocks after it.
 pub record HostTurn (t : Terms) (old : HostValue) (acts : List PortCall) (looks : List Look) (new : HostValue) : Type 0 where

@@ -10,7 +10,7 @@ use Rattle.nbt_host.specs.Hosting.{Terms}
 use Rattle.nbt_host.specs.Releasing.{Releasing, GivesAllBack, FailsToGiveBack}
 use Rattle.nbt_host.specs.declared.goal.Goal.{Goal}
 use Rattle.nbt_host.specs.declared.goal.Stage.{Stage}
-use Rattle.nbt_host.specs.declared.goal.Stage.TheVariants.{Wanted, Leaving, Released, Left}
+use Rattle.nbt_host.specs.declared.goal.Stage.TheVariants.{Wanted, Leaving, Released, Left, Doubtful}
 use Rattle.nbt_host.specs.declared.watching.Look.{Look}
 use Rattle.nbt_host.specs.Events.{IsLine}
 use Rattle.nbt_host.specs.Host.{HostingValue, Running, dates_of, CantPrint}
@@ -22,6 +22,7 @@ use Rattle.nbt_host.specs.declared.event.Event.TheVariants as e
 abbrev pub outcome_of : Stage → Event
 outcome_of (Left rcode) = if nat_eq rcode 0 then e.GivenBack else e.Denied rcode
 outcome_of Released = e.Unconfirmed
+outcome_of Doubtful = e.Unconfirmed
 outcome_of Leaving = e.NotHeld
 outcome_of Wanted = e.NotHeld
 

@@ -3,6 +3,8 @@ use Rattle.std.specs.Prelude.{◌≡◌, ℕ, Bool, true, false, nat_eq, is_some
 use Rattle.std.specs.Bool.{then_some}
 use Rattle.std.specs.List.{list_any}
 use Rattle.nbt_name.specs.Wire.{NameValue}
+use Rattle.nbt_name.specs.declared.addr.Addr.{Addr}
+use Rattle.nbt_text.specs.Address.{address_text}
 use Rattle.nbt_text.specs.Lines.{newline}
 use Rattle.nbt_host.specs.declared.goal.Goal.{Goal}
 use Rattle.nbt_host.specs.declared.goal.Refusal.{Refusal}
@@ -21,6 +23,8 @@ lapse_of lapsed = then_some lapsed e.Lapsed
 abbrev pub news_of : (log : Bool) → Option News → Option Event
 news_of log None = None
 news_of log (Some (n.Granted seconds)) = Some (e.Granted seconds)
+news_of log (Some (n.Untimed seconds)) = Some (e.Untimed seconds)
+news_of log (Some (n.Brief seconds)) = Some (e.Brief seconds)
 news_of log (Some (n.Renewed seconds)) = then_some log (e.Renewed seconds)
 news_of log (Some (n.Refused rcode)) = Some (e.Refused rcode)
 news_of log (Some n.Lost) = Some e.Lost
@@ -55,17 +59,27 @@ abbrev pub IsSleepLine : (second : ℕ) → (slept : Bool) → List ℕ → Type
 IsSleepLine second false line = line ≡ []
 IsSleepLine second true line = (time : List ℕ) × IsTimeText second time × (line ≡ time ++ codes " slept, or its clock was set: asks anew" ++ newline)
 
+-- that no reply has come of the server
+abbrev pub IsSilenceLine : (second : ℕ) → (server : Addr) → (silent : Bool) → List ℕ → Type 0
+IsSilenceLine second server false line = line ≡ []
+IsSilenceLine second server true line = (time : List ℕ) × IsTimeText second time × (line ≡ time ++ codes " no reply yet from " ++ address_text server ++ newline)
+
+abbrev pub tells_silence : Goal → Bool
+tells_silence goal = goal.silent
+
 -- what is printed of a turn
-pub record TellsTurn (second : ℕ) (log slept : Bool) (goals : List Goal) (text : List ℕ) : Type 0 where
+pub record TellsTurn (second : ℕ) (log : Bool) (server : Addr) (slept : Bool) (goals : List Goal) (text : List ℕ) : Type 0 where
   pub sleep : List ℕ
+  pub silence : List ℕ
   pub names : List ℕ
   pub sleep_is : IsSleepLine second slept sleep
+  pub silence_is : IsSilenceLine second server (list_any tells_silence goals) silence
   pub names_are : TellsAll (TellsGoal second log) goals names
-  pub text_is : text ≡ sleep ++ names
+  pub text_is : text ≡ sleep ++ silence ++ names
 
 -- something is printed of a name, and of a turn
 abbrev pub is_told : (log : Bool) → Goal → Bool
 is_told log goal = goal.lapsed || is_some (news_of log goal.news)
 
 abbrev pub has_lines : (log slept : Bool) → List Goal → Bool
-has_lines log slept goals = slept || list_any (is_told log) goals
+has_lines log slept goals = slept || (list_any tells_silence goals || list_any (is_told log) goals)

@@ -1,6 +1,7 @@
 -- One turn of a host, and what is printed of it (our profile).
 use Rattle.std.specs.Prelude.{◌≡◌, ◌⊎◌, ℕ, Bool, true, List, Option}
 use Rattle.std.specs.Io.KnownBytes.{Appends}
+use Rattle.nbt_name.specs.declared.addr.Addr.{Addr}
 use Rattle.nbt_port.specs.PortCalls.{PortCall, Chain}
 use Rattle.nbt_log.specs.Dates.{second_at}
 use Rattle.nbt_host.specs.Hosting.{HostValue, Terms, HostTurn, HostBreaks}
@@ -34,16 +35,16 @@ abbrev pub BreaksTurn : {P K : Type 0} → (P → PortCall → P → Type 0) →
 BreaksTurn does tells looks a old_port old shown port new = GoesThrough HostBreaks does tells looks a old_port old shown port new
 
 -- The lines of what was shown are printed, dated by the moment after the turn.
-abbrev pub PrintsTurn : (log : Bool) → Shown → Look → List Goal → (old_text text : Option (List ℕ)) → Type 0
-PrintsTurn log shown last goals old_text text = (lines : List ℕ) × TellsTurn (second_at (dates_of last) shown.at) log shown.slept goals lines × Appends old_text text lines
+abbrev pub PrintsTurn : (log : Bool) → (server : Addr) → Shown → Look → List Goal → (old_text text : Option (List ℕ)) → Type 0
+PrintsTurn log server shown last goals old_text text = (lines : List ℕ) × TellsTurn (second_at (dates_of last) shown.at) log server shown.slept goals lines × Appends old_text text lines
 
 abbrev pub TurnsWell : {P K : Type 0} → (P → PortCall → P → Type 0) → (K → ℕ → K → Type 0) → (K → Look → K → Type 0) → HostArguments → Running P K → Shown → Running P K → Type 0
 TurnsWell does tells looks a old shown new = TakesTurn does tells looks a old.port old.host shown new.port new.host
-    × PrintsTurn a.log shown new.host.last new.host.host.goals old.text new.text
+    × PrintsTurn a.log a.server shown new.host.last new.host.host.goals old.text new.text
 
 abbrev pub TurnsBadly : {P K : Type 0} → (P → PortCall → P → Type 0) → (K → ℕ → K → Type 0) → (K → Look → K → Type 0) → HostArguments → Running P K → Running P K → Type 0
 TurnsBadly does tells looks a old new = (shown : Shown) × BreaksTurn does tells looks a old.port old.host shown new.port new.host
-    × PrintsTurn a.log shown new.host.last new.host.host.goals old.text new.text
+    × PrintsTurn a.log a.server shown new.host.last new.host.host.goals old.text new.text
 
 -- There are some, and they can't be printed. What stands in the text then isn't said.
 abbrev pub TurnIsCut : {P K : Type 0} → (P → PortCall → P → Type 0) → (K → ℕ → K → Type 0) → (K → Look → K → Type 0) → HostArguments → Running P K → Running P K → Type 0

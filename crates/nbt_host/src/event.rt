@@ -2,7 +2,7 @@
 
 ghost use Rattle.std.specs.Prelude.{◌≡◌, ◌++◌, ℕ, List, OnOk};
 ghost use Rattle.std.specs.String.{string_bytes};
-ghost use Rattle.nbt_host.specs.Events.{words_before, text_after, IsLine};
+ghost use Rattle.nbt_host.specs.Events.{words_before, seconds_and, text_after, IsLine};
 
 use nbt_log::{write_reason, write_seconds, write_time, write_word};
 use nbt_name::Name;
@@ -14,6 +14,10 @@ use std::alloc::AllocError;
 pub enum Event {
     /// It is held, for these seconds from the first sending of its request.
     Granted(u32),
+    /// The same, by the host's own longest lease, since the server says no time.
+    Untimed(u32),
+    /// The same, for so few that it can't be renewed in time: such holds come and go, and the others of a row aren't told.
+    Brief(u32),
     /// Its hold was renewed, for these seconds from the first sending of the refresh.
     Renewed(u32),
     /// It isn't granted, with this RCODE (RFC 1002 section 4.2.6).
@@ -40,7 +44,7 @@ impl Event {
         ensures { result.now ≡ words_before self }
     {
         match self {
-            Event::Granted(_) => " granted ",
+            Event::Granted(_) | Event::Untimed(_) | Event::Brief(_) => " granted ",
             Event::Renewed(_) => " renewed ",
             Event::Refused(_) => " refused ",
             Event::AsksAgain => " asks again for ",
@@ -59,6 +63,12 @@ impl Event {
     {
         match self {
             Event::Granted(seconds) => write_seconds(seconds, out),
+            Event::Untimed(seconds) => write_seconds_and(seconds, "the server says no time", out),
+            Event::Brief(seconds) => write_seconds_and(
+                seconds,
+                "too short to be renewed in time",
+                out,
+            ),
             Event::Renewed(seconds) => write_seconds(seconds, out),
             Event::Refused(rcode) => write_reason(rcode, out),
             Event::Denied(rcode) => write_reason(rcode, out),
@@ -67,6 +77,13 @@ impl Event {
                 end_line(out),
         }
     }
+}
+
+/// Appends the seconds of a hold, what more there is to say of it, and the end of the line.
+fn write_seconds_and(seconds: u32, more: &str, out: &mut String) -> Result<(), AllocError>
+    ensures { OnOk result (string_bytes out.new ≡ string_bytes out.old ++ seconds_and seconds more.now) }
+{
+    writeln!(out, " {seconds} s: {more}")
 }
 
 /// Appends the line of an event of a name in a second since 1970, as `2026-11-24T09:12:03Z granted FILER#20 300 s` or

@@ -1,12 +1,12 @@
 //! A wanted name, and what its host keeps of it.
 
-ghost use Rattle.std.specs.Prelude.{◌≡◌, ◌≤◌, map};
-ghost use Rattle.nbt_host.specs.Goals.{fresh, anew, back_off, times_after, may_ask, is_known, is_kept, stage_at, seen_at, seen, heard, heard_by};
+ghost use Rattle.std.specs.Prelude.{◌≡◌, ◌≤◌, map, false};
+ghost use Rattle.nbt_host.specs.Goals.{fresh, anew, back_off, times_after, may_ask, is_known, is_kept, stage_at, left_at, freed_stage, is_asked, is_asking, is_silent, seen_at, seen, is_brief, told_grant, granted_for, heard, heard_by};
 
 use crate::news::{News, Notice};
 use nbt_client::Want;
-use nbt_lease::Moment;
-use nbt_node::Node;
+use nbt_lease::{Config, Moment};
+use nbt_node::{Node, RETRY_TIMEOUT, Standing};
 
 /// How far a host is with a name.
 #[derive(Clone, Copy, Debug, PartialEq, Eq)]
@@ -19,6 +19,8 @@ pub enum Stage {
     Released,
     /// It was released, which the server knows, with this RCODE: 0 confirms it.
     Left(u8),
+    /// It was released, and the server denied a repeated request for that: an earlier one may have been confirmed.
+    Doubtful,
 }
 
 /// The last of some refusals in a row.
@@ -39,11 +41,21 @@ pub struct Goal {
     pub want: Want,
     /// How far the host is with it.
     pub stage: Stage,
+    /// When it was released, if it was.
+    pub left: Moment,
     /// The last refusal since the last grant, if one came.
     pub refusal: Option<Refusal>,
     /// Whether the name was held when the host looked last.
     pub held: bool,
-    /// What the last turn told first: whether that hold was over by time at the turn's first reading of the clock.
+    /// Whether the last hold that was granted is too short to be renewed in time, which was told.
+    pub brief: bool,
+    /// Whether its registration was pending when the host looked last, and no reply has come since.
+    pub asked: bool,
+    /// Whether it was told that no reply has come, and none has come since.
+    pub unheard: bool,
+    /// Whether the last turn told that.
+    pub silent: bool,
+    /// What the last turn told of the name first: whether that hold was over by time at the turn's first reading of the clock.
     pub lapsed: bool,
     /// What the last turn told then, if anything came.
     pub news: Option<News>,
@@ -86,6 +98,36 @@ fn is_known(rcode: u8, refusal: Option<Refusal>) -> bool
     }
 }
 
+/// Whether a hold of so many seconds ends before its refresh may be sent.
+fn is_brief(config: Config, seconds: u32) -> bool
+    ensures { result ≡ is_brief config seconds }
+{
+    Config::hold(seconds) <= config.quiet() + 1
+}
+
+/// What is told of a grant: of one that is too short that it is, once in a row of them.
+fn told_grant(is_brief: bool, was_brief: bool, seconds: u32, news: News) -> Option<News>
+    ensures { result ≡ told_grant is_brief was_brief seconds news }
+{
+    match (is_brief, was_brief) {
+        (true, true) => None,
+        (true, false) => Some(News::Brief(seconds)),
+        (false, _) => Some(news),
+    }
+}
+
+/// How far the host is with a name that was released at `left`, where the server's reply comes at `now`, with this RCODE. A denial that
+/// comes once the request was sent again says nothing: the one before may have been confirmed.
+fn freed_stage(now: Moment, left: Moment, rcode: u8) -> Stage
+    ensures { result ≡ freed_stage now left rcode }
+{
+    if rcode == 0 || now.get() < left.get() + u64::from(RETRY_TIMEOUT) {
+        Stage::Left(rcode)
+    } else {
+        Stage::Doubtful
+    }
+}
+
 impl Stage {
     /// Whether the name was not given back.
     fn is_kept(self) -> bool
@@ -93,7 +135,7 @@ impl Stage {
     {
         match self {
             Stage::Wanted | Stage::Leaving => true,
-            Stage::Released | Stage::Left(_) => false,
+            Stage::Released | Stage::Left(_) | Stage::Doubtful => false,
         }
     }
 
@@ -106,6 +148,16 @@ impl Stage {
             _ => self,
         }
     }
+
+    /// When the name was released, if it is now, or was at `left`.
+    fn left_at(self, now: Moment, is_held: bool, left: Moment) -> Moment
+        ensures { result ≡ left_at now is_held self left }
+    {
+        match self {
+            Stage::Leaving if is_held => now,
+            _ => left,
+        }
+    }
 }
 
 impl Goal {
@@ -116,8 +168,13 @@ impl Goal {
         Goal {
             want,
             stage: Stage::Wanted,
+            left: Moment::zero(),
             refusal: None,
             held: false,
+            brief: false,
+            asked: false,
+            unheard: false,
+            silent: false,
             lapsed: false,
             news: None,
         }
@@ -139,45 +196,91 @@ impl Goal {
     {
         self.refusal = None;
         self.held = false;
+        self.brief = false;
+        self.asked = false;
+        self.unheard = false;
+        self.silent = false;
         self.lapsed = false;
         self.news = None;
     }
 
-    /// A look at the name at a time at which it is held, or isn't.
-    fn see(&mut self, is_held: bool)
-        ensures { self.new ≡ seen_at is_held self.old }
+    /// A reply came, whatever it says.
+    fn is_answered(&mut self)
+        ensures { self.new ≡ record self.old { asked = false; unheard = false } }
     {
-        self.lapsed = self.held && !is_held && self.stage.is_kept();
+        self.asked = false;
+        self.unheard = false;
+    }
+
+    /// Whether no reply came to a registration that had all its sendings, which wasn't told yet.
+    fn is_silent(&self, is_asked: bool) -> bool
+        ensures { result ≡ is_silent is_asked self.now }
+    {
+        self.asked && !is_asked && !self.unheard
+    }
+
+    /// A look at the name at a time at which it is held, or isn't, and a registration of it is pending, or isn't.
+    fn see(&mut self, now: Moment, is_held: bool, is_asked: bool)
+        ensures { self.new ≡ seen_at now is_held is_asked self.old }
+    {
+        self.left = self.stage.left_at(now, is_held, self.left);
+        self.silent = self.is_silent(is_asked);
+        self.unheard = self.unheard || self.silent;
+        self.asked = is_asked;
+        self.lapsed = self.held && !is_held && self.stage.is_kept() && !self.brief;
         self.stage = self.stage.at(is_held);
         self.held = is_held;
         self.news = None;
     }
 
+    /// The name was granted for these seconds, and is then held, or isn't.
+    fn grant(&mut self, config: Config, is_held: bool, seconds: u32, news: News)
+        ensures { self.new ≡ granted_for config is_held seconds news self.old }
+    {
+        self.is_answered();
+        self.refusal = None;
+        self.held = is_held;
+        self.news = None;
+        if is_held {
+            let brief = is_brief(config, seconds);
+            self.news = told_grant(brief, self.brief, seconds, news);
+            self.brief = brief;
+        }
+    }
+
     /// Takes what came for the name at `now`, at which it is then held, or isn't.
-    fn hear(&mut self, now: Moment, is_held: bool, news: News)
-        ensures { self.new ≡ heard now is_held news self.old }
+    fn hear(&mut self, config: Config, now: Moment, is_held: bool, news: News)
+        ensures { self.new ≡ heard config now is_held news self.old }
     {
         match news {
-            News::Granted(_) => {
-                self.refusal = None;
-                self.held = is_held;
+            News::Granted(seconds) => self.grant(config, is_held, seconds, news),
+            News::Untimed(seconds) if self.want.ttl == 0 => {
+                self.grant(config, is_held, seconds, News::Granted(seconds));
+            }
+            News::Untimed(seconds) => self.grant(config, is_held, seconds, news),
+            News::Brief(seconds) => self.grant(config, is_held, seconds, news),
+            News::Renewed(_) => {
+                self.is_answered();
                 self.news = is_held.then_some(news);
             }
-            News::Renewed(_) => self.news = is_held.then_some(news),
             News::Refused(rcode) => {
+                self.is_answered();
                 self.news = (!is_known(rcode, self.refusal)).then_some(news);
                 self.refusal = Some(Refusal {
                     rcode,
                     times: times_after(self.refusal),
                     at: now,
                 });
+                self.brief = false;
             }
             News::Lost => {
+                self.is_answered();
                 self.held = false;
+                self.brief = false;
                 self.news = Some(news);
             }
             News::Freed(rcode) => {
-                self.stage = Stage::Left(rcode);
+                self.stage = freed_stage(now, self.left, rcode);
                 self.news = Some(news);
             }
         }
@@ -193,12 +296,29 @@ pub fn forget_all(goals: &mut [Goal])
     }
 }
 
+/// Whether a registration of the name is pending.
+fn is_asked<const N: usize>(node: &Node<N>, now: Moment, goal: &Goal) -> bool
+    ensures { result ≡ is_asked node.now now goal.now }
+{
+    is_asking(node.standing(now, &goal.want.name))
+}
+
+fn is_asking(standing: Option<Standing>) -> bool
+    ensures { result ≡ is_asking standing }
+{
+    match standing {
+        Some(Standing::Asking) => true,
+        _ => false,
+    }
+}
+
 /// A look at one name.
 fn see<const N: usize>(node: &Node<N>, now: Moment, goal: &mut Goal)
     ensures { goal.new ≡ seen node.now now goal.old }
 {
     let is_held = node.holds(now, &goal.want.name).is_some();
-    goal.see(is_held);
+    let is_asked = is_asked(node, now, goal);
+    goal.see(now, is_held, is_asked);
 }
 
 /// Looks at every name at `now`.
@@ -211,28 +331,35 @@ pub fn see_all<const N: usize>(node: &Node<N>, now: Moment, goals: &mut [Goal])
 }
 
 /// Takes what came at `now`, if it is for this name.
-fn hear<const N: usize>(node: &Node<N>, now: Moment, notice: &Option<Notice>, goal: &mut Goal)
-    ensures { goal.new ≡ heard_by node.now now notice.now goal.old }
+fn hear<const N: usize>(
+    node: &Node<N>,
+    config: Config,
+    now: Moment,
+    notice: &Option<Notice>,
+    goal: &mut Goal,
+)
+    ensures { goal.new ≡ heard_by config node.now now notice.now goal.old }
 {
     let Some(notice) = notice else {
         return;
     };
     if notice.name == goal.want.name {
         let is_held = node.holds(now, &goal.want.name).is_some();
-        goal.hear(now, is_held, notice.news);
+        goal.hear(config, now, is_held, notice.news);
     }
 }
 
 /// Takes what came at `now` for whichever name it is for.
 pub fn hear_all<const N: usize>(
     node: &Node<N>,
+    config: Config,
     now: Moment,
     notice: &Option<Notice>,
     goals: &mut [Goal],
 )
-    ensures { goals.new ≡ map (heard_by node.now now notice.now) goals.old }
+    ensures { goals.new ≡ map (heard_by config node.now now notice.now) goals.old }
 {
     for goal in goals.iter_mut() {
-        hear(node, now, notice, goal);
+        hear(node, config, now, notice, goal);
     }
 }

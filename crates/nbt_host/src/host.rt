@@ -6,7 +6,7 @@ ghost use Rattle.std.specs.Io.KnownBytes.{Appends};
 ghost use Rattle.nbt_node.specs.Node.{NodeValue, slots_most};
 ghost use Rattle.nbt_port.specs.PortCalls.{CountsFailure};
 ghost use Rattle.nbt_log.specs.Dates.{second_at};
-ghost use Rattle.nbt_host.specs.Goals.{fresh, is_held};
+ghost use Rattle.nbt_host.specs.Goals.{in_full, wanted, is_held};
 ghost use Rattle.nbt_host.specs.Begin.{begin_text};
 ghost use Rattle.nbt_host.specs.Host.{dates_of, terms_of, Starts, CantPrint};
 ghost use Rattle.nbt_host.specs.TurnLines.{has_lines};
@@ -28,14 +28,17 @@ use crate::turn_lines::{has_lines, write_turn};
 use crate::turning::host_turn;
 use crate::watching::{Look, Watch};
 use nbt_client::{SLOTS, Want};
-use nbt_lease::Moment;
+use nbt_lease::{Config, Moment};
 use nbt_log::Dates;
 use nbt_name::Addr;
 use nbt_node::Node;
-use nbt_port::{Clock, Device, FOREVER, Fault, Port, Turn, Turned, is_over, print, stay_up};
+use nbt_port::{
+    Cause, Clock, Device, FOREVER, Fault, Port, Turn, Turned, is_over, not_printed, print, stay_up,
+};
 use std::alloc::{AllocError, Global};
 use std::io::Write;
 use std::marker::Model;
+use std::net::{Ipv4Addr, SocketAddrV4};
 use std::{io, time};
 
 /// What a turn showed beside the names.
@@ -86,24 +89,35 @@ impl<K> Host<K> {
     }
 
     /// Prints which host asks which server for how many names, at once. Refused: `Memory` where memory is refused, and `Output` where
-    /// the line can't be written.
-    pub(crate) fn tell_begin<W: Write>(
+    /// the line can't be written, for which `errors` has the reason.
+    pub(crate) fn tell_begin<W: Write, E: Write>(
         &self,
         at: Addr,
         server: Addr,
         writer: &mut W,
+        errors: &mut E,
     ) -> Result<(), Fault>
         ensures ok { OnOk result (Appends (W.contents writer.old) (W.contents writer.new) (begin_text at server (length self.now.host.goals))) }
         ensures err { IfErr result (λ fault. CantPrint fault) }
     {
         let mut text = String::new(self.alloc);
         write_begin(at, server, self.goals.len(), &mut text)?;
-        print(text.as_str(), writer).map_err(|_| Fault::Output)
+        match print(text.as_str(), writer) {
+            Ok(()) => Ok(()),
+            Err(error) => Err(not_printed(error, errors)),
+        }
     }
 
     /// Prints what a turn showed, if anything, at once. Where there is nothing it isn't refused.
-    fn tell_turn<W: Write>(&self, log: bool, shown: &Shown, writer: &mut W) -> Result<(), Fault>
-        ensures ok { OnOk result (PrintsTurn log shown.now self.now.last self.now.host.goals (W.contents writer.old) (W.contents writer.new)) }
+    fn tell_turn<W: Write, E: Write>(
+        &self,
+        log: bool,
+        server: Addr,
+        shown: &Shown,
+        writer: &mut W,
+        errors: &mut E,
+    ) -> Result<(), Fault>
+        ensures ok { OnOk result (PrintsTurn log server shown.now self.now.last self.now.host.goals (W.contents writer.old) (W.contents writer.new)) }
         ensures err { IfErr result (λ fault. CantPrint fault × (has_lines log shown.now.slept self.now.host.goals ≡ true)) }
     {
         let goals = self.goals.as_slice();
@@ -112,19 +126,30 @@ impl<K> Host<K> {
         }
         let second = self.second_at(shown.at);
         let mut text = String::new(self.alloc);
-        write_turn(second, log, shown.slept, goals, &mut text)?;
-        print(text.as_str(), writer).map_err(|_| Fault::Output)
+        write_turn(second, log, server, shown.slept, goals, &mut text)?;
+        match print(text.as_str(), writer) {
+            Ok(()) => Ok(()),
+            Err(error) => Err(not_printed(error, errors)),
+        }
     }
 
     /// Prints what came of giving the names back, at once.
-    fn tell_ending<W: Write>(&self, at: Moment, writer: &mut W) -> Result<(), Fault>
+    fn tell_ending<W: Write, E: Write>(
+        &self,
+        at: Moment,
+        writer: &mut W,
+        errors: &mut E,
+    ) -> Result<(), Fault>
         ensures ok { OnOk result (PrintsEnding at self.now.last self.now.host.goals (W.contents writer.old) (W.contents writer.new)) }
         ensures err { IfErr result (λ fault. CantPrint fault) }
     {
         let second = self.second_at(at);
         let mut text = String::new(self.alloc);
         write_endings(second, self.goals.as_slice(), &mut text)?;
-        print(text.as_str(), writer).map_err(|_| Fault::Output)
+        match print(text.as_str(), writer) {
+            Ok(()) => Ok(()),
+            Err(error) => Err(not_printed(error, errors)),
+        }
     }
 
     /// Whether all names are held at a moment.
@@ -145,7 +170,7 @@ impl<K: Watch + Drop> Host<K> {
     ) -> Result<Host<K>, AllocError>
         ensures { IfOk result (λ host. Starts K.looks arguments.now watch host) }
     {
-        let goals = goals_of(alloc, arguments.wants.as_slice())?;
+        let goals = goals_of(alloc, arguments.config, arguments.wants.as_slice())?;
         let last = watch.look();
         let node = Node::start(arguments.bind, arguments.server, arguments.config, last.at);
         Ok(Host {
@@ -190,12 +215,14 @@ impl<K: Clock + Watch> Host<K> {
     }
 
     /// One turn, and what is printed of it, also where a call of the port fails. Returns what it showed, or `Device` where a call
-    /// failed. Refused: `Output` where the lines can't be written, and `Memory` where memory is refused for them.
-    fn go<P: Port, W: Write>(
+    /// failed. Refused: `Output` where the lines can't be written, for which `errors` has the reason, and `Memory` where memory is refused
+    /// for them.
+    fn go<P: Port, W: Write, E: Write>(
         &mut self,
         port: &mut P,
         arguments: &HostArguments,
         writer: &mut W,
+        errors: &mut E,
     ) -> Result<Result<Shown, Device>, Fault>
         requires failure_count { P.failures port.old < 2 ^ 62 }
         ensures ok { IfOk result (λ turned. MatchResult turned
@@ -209,7 +236,7 @@ impl<K: Clock + Watch> Host<K> {
     {
         let turned = self.turn(port, arguments);
         let shown = self.shown();
-        self.tell_turn(arguments.log, &shown, writer)?;
+        self.tell_turn(arguments.log, arguments.server, &shown, writer, errors)?;
         match turned {
             Ok(_) => Ok(Ok(shown)),
             Err(failure) => Ok(Err(failure)),
@@ -243,17 +270,20 @@ impl<K: Clock + Watch> Host<K> {
             arguments,
             until,
             writer,
+            lost: false,
         };
         stay_up(&mut turn, FOREVER, machine, errors)
     }
 
     /// Gives all names back, as [`give_back`] does, and prints what came of each, at once, also where the port failed. Refused:
-    /// `Device` at the first call of the port that fails; `Output` and `Memory` where the lines can't be printed.
-    pub fn end<P: Port, W: Write>(
+    /// `Device` at the first call of the port that fails; `Output`, for which `errors` has the reason, and `Memory` where the lines can't be
+    /// printed.
+    pub fn end<P: Port, W: Write, E: Write>(
         &mut self,
         port: &mut P,
         arguments: &HostArguments,
         writer: &mut W,
+        errors: &mut E,
     ) -> Result<(), Fault>
         requires failure_count { P.failures port.old < 2 ^ 62 }
         ensures ok { OnOk result (GivesBack P.does K.tells K.looks (terms_of arguments.now)
@@ -272,7 +302,7 @@ impl<K: Clock + Watch> Host<K> {
             FOREVER,
         );
         let at = self.watch.now();
-        self.tell_ending(at, writer)?;
+        self.tell_ending(at, writer, errors)?;
         given?;
         Ok(())
     }
@@ -297,7 +327,7 @@ impl<K: Clock + Watch> Host<K> {
         self.stay(port, arguments, until, machine, writer, errors)?;
         let now = self.watch.now();
         let all = self.holds_all(now);
-        self.end(port, arguments, writer)?;
+        self.end(port, arguments, writer, errors)?;
         Ok(all)
     }
 }
@@ -310,6 +340,8 @@ struct StayingTurn<'h, 'p, 'a, 'w, P, K, W> {
     arguments: &'a HostArguments,
     until: Option<Moment>,
     writer: &'w mut W,
+    /// Whether the last request to the server had no route, which was said.
+    lost: bool,
 }
 
 impl<P: Port, K: Clock + Watch, W: Write> Turn for StayingTurn<'_, '_, '_, '_, P, K, W> {
@@ -339,8 +371,10 @@ impl<P: Port, K: Clock + Watch, W: Write> Turn for StayingTurn<'_, '_, '_, '_, P
 
     ghost cuts = { λ f. IsCutBy P.does K.tells K.looks f.0 };
 
-    fn take<E: Write>(&mut self, _errors: &mut E) -> Turned {
-        match self.host.go(self.port, self.arguments, self.writer) {
+    fn take<E: Write>(&mut self, errors: &mut E) -> Turned {
+        let went = self.host.go(self.port, self.arguments, self.writer, errors);
+        self.lost = tell_lost(self.lost, self.port.lost(), self.arguments.server, errors);
+        match went {
             Ok(Ok(shown)) if is_over(&self.until, shown.at) => Turned::Last,
             Ok(Ok(_)) => Turned::Well,
             Ok(Err(_)) => Turned::Failed(self.port.cause()),
@@ -349,24 +383,44 @@ impl<P: Port, K: Clock + Watch, W: Write> Turn for StayingTurn<'_, '_, '_, '_, P
     }
 }
 
+/// Says that requests to the server have no route, and why, where that is new, and that they have one again. Returns whether they have
+/// none. A failure to write it is ignored.
+fn tell_lost<E: Write>(was_lost: bool, lost: Option<Cause>, server: Addr, errors: &mut E) -> bool {
+    match lost {
+        Some(cause) if !was_lost => cause.tell("; going on", errors),
+        None if was_lost => {
+            let _ = tell_found(server, errors);
+        }
+        _ => {}
+    }
+    lost.is_some()
+}
+
+fn tell_found<E: Write>(server: Addr, errors: &mut E) -> io::Result<()> {
+    let end = SocketAddrV4::new(Ipv4Addr::from_bits(server.ip), server.port);
+    writeln!(errors, "nbt: {end} has a route again")?;
+    errors.flush()
+}
+
 /// What a host keeps of its names when it starts.
-fn goals_of(alloc: Global, wants: &[Want]) -> Result<Vec<Goal>, AllocError>
-    ensures { IfOk result (λ goals. goals.items ≡ map fresh wants.now) }
+fn goals_of(alloc: Global, config: Config, wants: &[Want]) -> Result<Vec<Goal>, AllocError>
+    ensures { IfOk result (λ goals. goals.items ≡ map (wanted config) wants.now) }
 {
     let mut goals = Vec::new(alloc);
     for want in wants {
-        goals.push(Goal::new(copy_of(want)))?;
+        goals.push(Goal::new(in_full(config, want)))?;
     }
     Ok(goals)
 }
 
-fn copy_of(want: &Want) -> Want
-    ensures { result ≡ want.now }
+/// What is wanted, by its seconds: TTL 0 stands for the longest lease, which some servers take for none.
+fn in_full(config: Config, want: &Want) -> Want
+    ensures { result ≡ in_full config want.now }
 {
     Want {
         name: want.name.copy(),
         kind: want.kind,
-        ttl: want.ttl,
+        ttl: config.granted(want.ttl),
     }
 }
 

@@ -14,6 +14,10 @@ use nbt_packet::Message;
 pub enum News {
     /// It is held, for these seconds from the first sending of its request.
     Granted(u32),
+    /// It is held, for these seconds of the host's own, since the server's reply says no time: it has TTL 0.
+    Untimed(u32),
+    /// It is held, for these seconds, which are too few to be renewed in time.
+    Brief(u32),
     /// Its hold was renewed, for these seconds from the first sending of the refresh.
     Renewed(u32),
     /// It isn't granted, with this RCODE (RFC 1002 section 4.2.6).
@@ -31,11 +35,12 @@ pub struct Notice {
     pub news: News,
 }
 
-/// What an event says of one of the node's names, if it does.
-fn news_of(event: Event<'_>) -> Option<News>
-    ensures { result ≡ news_of (told_of event.entry) }
+/// What an event says of one of the node's names, if it does, by a reply with this TTL.
+fn news_of(ttl: u32, event: Event<'_>) -> Option<News>
+    ensures { result ≡ news_of ttl (told_of event.entry) }
 {
     match event {
+        Event::Granted(seconds) if ttl == 0 => Some(News::Untimed(seconds)),
         Event::Granted(seconds) => Some(News::Granted(seconds)),
         Event::Renewed(seconds) => Some(News::Renewed(seconds)),
         Event::Refused(rcode) => Some(News::Refused(rcode)),
@@ -54,12 +59,12 @@ fn news_of(event: Event<'_>) -> Option<News>
 pub fn notice_of(message: &Option<Message<'_>>, event: Event<'_>) -> Option<Notice>
     ensures { result ≡ notice_of (message_if message.now) (told_of event.entry) }
 {
-    let name = match message {
-        Some(Message::Registered { registration, .. }) => &registration.name,
-        Some(Message::Released { name, .. }) => name,
+    let (name, ttl) = match message {
+        Some(Message::Registered { registration, .. }) => (&registration.name, registration.ttl),
+        Some(Message::Released { name, .. }) => (name, 0),
         _ => return None,
     };
-    let news = news_of(event)?;
+    let news = news_of(ttl, event)?;
     Some(Notice {
         name: name.copy(),
         news,

@@ -26,7 +26,7 @@ fn outcome_of(stage: Stage) -> Event
     match stage {
         Stage::Left(0) => Event::GivenBack,
         Stage::Left(rcode) => Event::Denied(rcode),
-        Stage::Released => Event::Unconfirmed,
+        Stage::Released | Stage::Doubtful => Event::Unconfirmed,
         Stage::Wanted | Stage::Leaving => Event::NotHeld,
     }
 }

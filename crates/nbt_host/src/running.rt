@@ -21,7 +21,8 @@ use std::time;
 /// [`Host::stay`] does; then it releases them. Returns whether all were held when its time was over. Refused: `NoPort` where
 /// the port can't be bound; `NoClock` where a clock can't be read at first; `Device` at the hundredth turn in a row that fails,
 /// and at the first failure while the names are released; `Output` where a line can't be written; `Memory` where it is out of
-/// memory. Of each but the last two a line in `errors` says which call of the system failed, for which address, and why.
+/// memory. Of each but the last a line in `errors` says what failed, and why: which call of the system, for which address, or the
+/// output. Where a request to the server has no route, a line there says so once, and another when it has one again.
 pub fn run_host<M: Net + time::Clock, W: Write, E: Write>(
     machine: &M,
     alloc: Global,
@@ -35,6 +36,7 @@ pub fn run_host<M: Net + time::Clock, W: Write, E: Write>(
     let mut port = bound_port(machine, arguments.bind, errors).map_err(|_| Fault::NoPort)?;
     let steady = steady_clock(machine, arguments.bind, errors)?;
     let day = readable_clock(machine, arguments.bind, errors)?;
+    port.watch(arguments.server);
     let at = local_of(&port);
     let watch = WatchedClocks {
         clocks: Clocks { steady, day },
@@ -62,7 +64,7 @@ pub fn host_over<P: Port, K: Clock + Watch + Drop, M: time::Clock, W: Write, E: 
     ensures device { result ≡ Err Fault.Device → HostOverFails P.does K.tells K.looks at arguments.now Fault.Device port.old watch (W.contents writer.old) port.new (W.contents writer.new) }
 {
     let mut host = Host::start(alloc, watch, arguments)?;
-    host.tell_begin(at, arguments.server, writer)?;
+    host.tell_begin(at, arguments.server, writer, errors)?;
     let until = until_of(host.last().at, arguments.time);
     let ran = host.run(port, arguments, until, machine, writer, errors);
     tell_end_of(ran.err(), port.cause(), errors);

@@ -3,29 +3,32 @@
 ghost use Rattle.std.specs.Prelude.{◌≡◌, ◌++◌, ℕ, List, OnOk};
 ghost use Rattle.std.specs.List.{list_any};
 ghost use Rattle.std.specs.String.{string_bytes};
-ghost use Rattle.nbt_host.specs.TurnLines.{lapse_of, news_of, again_of, IsLineIf, IsSleepLine, is_told, has_lines, TellsGoal, TellsAll, TellsTurn};
+ghost use Rattle.nbt_host.specs.TurnLines.{lapse_of, news_of, again_of, IsLineIf, IsSleepLine, IsSilenceLine, is_told, tells_silence, has_lines, TellsGoal, TellsAll, TellsTurn};
 
 use crate::event::{Event, write_event};
 use crate::goal::{Goal, Refusal};
 use crate::news::News;
 use nbt_log::write_time;
-use nbt_name::Name;
-use nbt_text::end_line;
+use nbt_name::{Addr, Name};
+use nbt_text::{end_line, write_address};
 use std::alloc::AllocError;
 
-/// Appends what is printed of a turn, in this second since 1970: that the machine slept, and then of each name, in the list's
+/// Appends what is printed of a turn, in this second since 1970: that the machine slept, that no reply has
+/// come from the server, and then of each name, in the list's
 /// order, that its hold lapsed, what came for it, a renewal where `log` is set alone, and after the first refusal of a row that
 /// it is requested again.
 pub fn write_turn(
     second: u64,
     log: bool,
+    server: Addr,
     slept: bool,
     goals: &[Goal],
     out: &mut String,
 ) -> Result<(), AllocError>
-    ensures { OnOk result ((text : List ℕ) × TellsTurn second log slept goals.now text × (string_bytes out.new ≡ string_bytes out.old ++ text)) }
+    ensures { OnOk result ((text : List ℕ) × TellsTurn second log server slept goals.now text × (string_bytes out.new ≡ string_bytes out.old ++ text)) }
 {
     write_sleep(second, slept, out)?;
+    write_silence(second, server, is_any_silent(goals), out)?;
     write_goals(second, log, goals, out)
 }
 
@@ -38,6 +41,24 @@ fn write_sleep(second: u64, slept: bool, out: &mut String) -> Result<(), AllocEr
     }
     write_time(second, out)?;
     out.push_str(" slept, or its clock was set: asks anew")?;
+    end_line(out)
+}
+
+/// Appends that no reply has come from the server, if none has.
+fn write_silence(
+    second: u64,
+    server: Addr,
+    silent: bool,
+    out: &mut String,
+) -> Result<(), AllocError>
+    ensures { OnOk result ((text : List ℕ) × IsSilenceLine second server silent text × (string_bytes out.new ≡ string_bytes out.old ++ text)) }
+{
+    if !silent {
+        return Ok(());
+    }
+    write_time(second, out)?;
+    out.push_str(" no reply yet from ")?;
+    write_address(server, out)?;
     end_line(out)
 }
 
@@ -80,7 +101,19 @@ fn write_if(
 pub fn has_lines(log: bool, slept: bool, goals: &[Goal]) -> bool
     ensures { result ≡ has_lines log slept goals.now }
 {
-    slept || is_any_told(log, goals)
+    slept || is_any_silent(goals) || is_any_told(log, goals)
+}
+
+/// Whether it is printed that no reply has come.
+fn is_any_silent(goals: &[Goal]) -> bool
+    ensures { result ≡ list_any tells_silence goals.now }
+{
+    for goal in goals {
+        if goal.silent {
+            return true;
+        }
+    }
+    false
 }
 
 /// Whether something is printed of a name.
@@ -115,6 +148,8 @@ fn news_of(log: bool, news: Option<News>) -> Option<Event>
 {
     match news? {
         News::Granted(seconds) => Some(Event::Granted(seconds)),
+        News::Untimed(seconds) => Some(Event::Untimed(seconds)),
+        News::Brief(seconds) => Some(Event::Brief(seconds)),
         News::Renewed(seconds) => log.then_some(Event::Renewed(seconds)),
         News::Refused(rcode) => Some(Event::Refused(rcode)),
         News::Lost => Some(Event::Lost),

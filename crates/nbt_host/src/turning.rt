@@ -123,6 +123,6 @@ fn listen<P: Port, K: Watch, const N: usize>(
         return Ok(());
     }
     let notice = hear(port, node, at, from, octets.as_slice(), out)?;
-    hear_all(node, at, &notice, goals);
+    hear_all(node, config, at, &notice, goals);
     Ok(())
 }
