@@ -1,0 +1,5 @@
+pub mod Inner
+pub mod Lines
+pub mod Releases
+pub mod Releasing
+pub mod Running
