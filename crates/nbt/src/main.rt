@@ -2,11 +2,31 @@
 #![tactic(auto)]
 
 use std::env::Env;
+use std::io::IsTerminal;
+use std::os::fd::AsFd;
+use std::os::unix::net::UnixStream;
 use std::process::ExitCode;
 use std::{env, io};
 
 fn arguments(rt: &(impl Env + AllocGlobal)) -> io::Result<Vec<String>> {
     Ok(env::args(rt)?.collect(rt.alloc())?)
+}
+
+/// Has what this stream is open on refuse a write that would wait for its reader. A terminal stays as it is: a shell has it open too.
+fn never_wait<S: AsFd + IsTerminal>(stream: &S) -> io::Result<()> {
+    if stream.is_terminal() {
+        return Ok(());
+    }
+    let same = stream.as_fd().try_clone_to_owned()?;
+    UnixStream::from(same).set_nonblocking(true)
+}
+
+/// Whether the arguments name `nbns`, which serves on while the reader of its log is slow.
+fn is_server(arguments: &[String]) -> bool {
+    match arguments.get(1) {
+        Some(command) => command.as_str() == "nbns",
+        None => false,
+    }
 }
 
 fn main(rt: HostRuntime) -> ExitCode {
@@ -15,6 +35,10 @@ fn main(rt: HostRuntime) -> ExitCode {
         Ok(arguments) => {
             let arguments = arguments.as_slice();
             let mut errors = rt.stderr();
+            if is_server(arguments) {
+                let _ = never_wait(&rt.stdout());
+                let _ = never_wait(&errors);
+            }
             nbt_prog::command_telling(
                 &rt,
                 rt.alloc(),

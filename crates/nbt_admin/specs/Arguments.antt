@@ -1,19 +1,20 @@
 -- The arguments that texts give, and the failures of other texts (our profile).
-use Rattle.std.specs.Prelude.{◌≡◌, ◌⊎◌, ◌≢◌, ◌≤◌, ◌<◌, ◌+◌, ℕ, Bool, List, [], ◌∷◌, ◌++◌, length, Any}
+use Rattle.std.specs.Prelude.{◌≡◌, ◌⊎◌, ◌≢◌, ◌≤◌, ◌<◌, ◌+◌, ℕ, Bool, List, [], ◌∷◌, ◌++◌, length, Any, ⊤, Option, Some, None}
 use Rattle.nbt_text.specs.Address.{SpellsEnd}
 use Rattle.nbt_client.specs.declared.question.Question.{Question}
 use Rattle.nbt_client.specs.declared.question.Question.TheVariants as q
 use Rattle.nbt_args.specs.declared.texts.LookupTexts.{LookupTexts}
 use Rattle.nbt_admin.specs.Failures.{IsUsage, out_of_memory, ComplainsOf}
 use Rattle.nbt_admin.specs.Times.{IsWait, SpellsPatience, IsConfigOf, AreLimits, LimitsFail, SpellsEnding, IsEnding, EndingFails}
-use Rattle.nbt_admin.specs.Texts.{IsAddress, AddressFails, SpellsAsked, SpellsSought, SpellsOwn, IsOwn, OwnFails, SoughtFails}
+use Rattle.nbt_admin.specs.Texts.{IsAddress, AddressFails, IsPath, PathFails, SpellsAsked, SpellsSought, SpellsOwn, IsOwn, OwnFails, SoughtFails}
 use Rattle.nbt_admin.specs.declared.asking.AskArguments.{AskArguments}
 use Rattle.nbt_admin.specs.declared.failure.Failure.{Failure}
 use Rattle.std.specs.Option.{option_map}
 use Rattle.std.specs.String.{string_bytes}
 use Rattle.nbt_lease.specs.Config.{ConfigValue}
 use Rattle.nbt_nbns.specs.Limits.{judged}
-use Rattle.nbt_nbns.specs.declared.running.NbnsArguments.{NbnsArguments}
+use Rattle.nbt_keep.specs.declared.arguments.ServerArguments.{ServerArguments}
+use Rattle.nbt_keep.specs.declared.arguments.StateFolder.{StateFolder}
 use Rattle.nbt_nbns.specs.declared.limits.Judged.TheVariants.{Short}
 use Rattle.nbt_args.specs.declared.texts.NbnsTexts.{NbnsTexts}
 use Rattle.nbt_admin.specs.declared.failure.Complaint.TheVariants as complaint
@@ -55,15 +56,36 @@ AskFails NameIsBad texts failure = (failure ≡ out_of_memory)
 
 -- ---- `nbns`
 
+-- where a server keeps its leases, if anywhere
+abbrev pub GivesState : Option (Bor (List ℕ)) → (silent_after_boot : Bool) → Option StateFolder → Type 0
+GivesState None silent_after_boot state = state ≡ None
+GivesState (Some text) silent_after_boot state = (folder : StateFolder) × (state ≡ Some folder) × (string_bytes folder.path ≡ text.now) × (folder.silent_after_boot ≡ silent_after_boot) × (text.now ≢ [])
+
+-- an empty text names no folder
+abbrev pub IsState : Option (Bor (List ℕ)) → Type 0
+IsState None = ⊤
+IsState (Some text) = text.now ≢ []
+
+abbrev pub StateFails : Option (Bor (List ℕ)) → Failure → Type 0
+StateFails None failure = ⊥
+StateFails (Some text) failure = (failure ≡ out_of_memory) ⊎ ((text.now ≡ []) × ComplainsOf text.now w.Folder failure)
+
 -- a network can run with these limits
-pub record NbnsGiven (texts : NbnsTexts) (a : NbnsArguments) : Type 0 where
-  pub bind : SpellsEnd texts.bind.now a.bind
-  pub config : IsConfigOf texts.life.now texts.longest.now a.config
-  pub fits : judged a.config ≢ Short
-  pub time : SpellsEnding texts.time a.time
-  pub log_is : a.log ≡ texts.log
-  pub leases_are : option_map string_bytes a.leases ≡ option_map (λ text. text.now) texts.leases
-  pub strict_is : a.strict ≡ texts.strict
+pub record NbnsGiven (texts : NbnsTexts) (a : ServerArguments) : Type 0 where
+  pub bind : SpellsEnd texts.bind.now a.nbns.bind
+  pub config : IsConfigOf texts.life.now texts.longest.now a.nbns.config
+  pub fits : judged a.nbns.config ≢ Short
+  pub time : SpellsEnding texts.time a.nbns.time
+  pub log_is : a.nbns.log ≡ texts.log
+  pub broadcasts_are : a.nbns.broadcasts ≡ texts.broadcasts
+  pub leases_are : option_map string_bytes a.nbns.leases ≡ option_map (λ text. text.now) texts.leases
+  pub is_path : IsPath (option_map (λ text. text.now) texts.leases)
+  pub strict_is : a.nbns.strict ≡ texts.strict
+  pub state_is : GivesState texts.state texts.silent_after_boot a.state
+
+-- the limits, with which a network can run
+abbrev pub AreFit : NbnsTexts → Type 0
+AreFit texts = (config : ConfigValue) × IsConfigOf texts.life.now texts.longest.now config × (judged config ≢ Short)
 
 -- The first wrong argument is reported; memory may be out at any step.
 abbrev pub NbnsFails : NbnsTexts → Failure → Type 0
@@ -71,7 +93,9 @@ NbnsFails texts failure = (failure ≡ out_of_memory)
     ⊎ (LimitsFail texts.life.now texts.longest.now failure
     ⊎ ((AreLimits texts.life.now texts.longest.now × EndingFails texts.time failure)
     ⊎ ((IsEnding texts.time × ((config : ConfigValue) × IsConfigOf texts.life.now texts.longest.now config × (judged config ≡ Short) × (failure ≡ Complaint (complaint.Short config))))
-    ⊎ (IsEnding texts.time × ((config : ConfigValue) × IsConfigOf texts.life.now texts.longest.now config × (judged config ≢ Short)) × AddressFails texts.bind.now failure))))
+    ⊎ ((IsEnding texts.time × AreFit texts × AddressFails texts.bind.now failure)
+    ⊎ ((IsEnding texts.time × AreFit texts × IsAddress texts.bind.now × StateFails texts.state failure)
+    ⊎ (IsEnding texts.time × AreFit texts × IsAddress texts.bind.now × IsState texts.state × PathFails (option_map (λ text. text.now) texts.leases) failure))))))
 
 -- ---- `host`
 
@@ -137,3 +161,13 @@ HostFails texts failure = (failure ≡ out_of_memory)
     ⊎ ((AreLimits texts.life.now texts.longest.now × IsEnding texts.time × AddressFails texts.server.now failure)
     ⊎ ((AreLimits texts.life.now texts.longest.now × IsEnding texts.time × IsAddress texts.server.now × OwnFails texts.bind.now failure)
     ⊎ (AreLimits texts.life.now texts.longest.now × IsEnding texts.time × IsAddress texts.server.now × IsOwn texts.bind.now × NamesFail texts failure)))))
+
+-- ---- `release`
+
+-- the arguments of `host`, with a port that isn't for the system to choose
+abbrev pub ReleaseGiven : HostTexts → HostArguments → Type 0
+ReleaseGiven texts a = HostGiven texts a × (a.bind.port ≢ 0)
+
+abbrev pub ReleaseFails : HostTexts → Failure → Type 0
+ReleaseFails texts failure = HostFails texts failure
+    ⊎ ((a : HostArguments) × HostGiven texts a × (a.bind.port ≡ 0) × ((failure ≡ out_of_memory) ⊎ ComplainsOf texts.bind.now w.AnyPort failure))

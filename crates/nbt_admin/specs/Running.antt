@@ -2,15 +2,16 @@
 use Rattle.std.specs.Prelude.{◌≡◌, ◌⊎◌, ℕ, Bool, if◌then◌else◌, List, Option}
 use Rattle.std.specs.Io.KnownBytes.{Appends}
 use Rattle.nbt_args.specs.declared.texts.AdminLine.{AdminLine}
-use Rattle.nbt_args.specs.declared.texts.AdminLine.TheVariants.{Lookup, Status, Nbns, Host}
+use Rattle.nbt_args.specs.declared.texts.AdminLine.TheVariants.{Lookup, Status, Nbns, Host, Release}
 use Rattle.nbt_client.specs.Answers.{answer_status}
 use Rattle.nbt_client.specs.Asking.{AsksHere}
 use Rattle.nbt_client.specs.declared.answer.Answer.{Answer}
 use Rattle.nbt_host.specs.Running.{HostsHere}
 use Rattle.nbt_host.specs.declared.arguments.HostArguments.{HostArguments}
-use Rattle.nbt_nbns.specs.Running.{RunsNbns}
-use Rattle.nbt_nbns.specs.declared.running.NbnsArguments.{NbnsArguments}
-use Rattle.nbt_admin.specs.Arguments.{AskGiven, AsksServer, AsksHost, AskFails, HostGiven, HostFails, NbnsGiven, NbnsFails}
+use Rattle.nbt_keep.specs.Running.{RunsServer}
+use Rattle.nbt_keep.specs.declared.arguments.ServerArguments.{ServerArguments}
+use Rattle.nbt_admin.specs.Arguments.{AskGiven, AsksServer, AsksHost, AskFails, HostGiven, HostFails, ReleaseGiven, ReleaseFails, NbnsGiven, NbnsFails}
+use Rattle.nbt_release.specs.Running.{ReleasesHere}
 use Rattle.nbt_admin.specs.Failures.{IsFault}
 use Rattle.nbt_admin.specs.Texts.{NameFails, SoughtFails}
 use Rattle.nbt_admin.specs.declared.asking.AskArguments.{AskArguments}
@@ -30,12 +31,19 @@ pub record HostedHere (a : HostArguments) (status : ℕ) (old_text text : Option
   pub hosts : HostsHere a all old_text text
   pub status_is : status ≡ (if all then 0 else 5)
 
+-- The names were given back, and the status says whether all releases were confirmed.
+pub record ReleasedHere (a : HostArguments) (status : ℕ) (old_text text : Option (List ℕ)) : Type 0 where
+  pub all : Bool
+  pub releases : ReleasesHere a.bind a.server a.wants.items all old_text text
+  pub status_is : status ≡ (if all then 0 else 1)
+
 -- the command ran with the arguments that its texts give
 abbrev pub Runs : AdminLine → (status : ℕ) → (old_text text : Option (List ℕ)) → Type 0
 Runs (Lookup texts) status old_text text = (a : AskArguments) × AskGiven AsksServer texts a × AskedHere a status old_text text
 Runs (Status texts) status old_text text = (a : AskArguments) × AskGiven AsksHost texts a × AskedHere a status old_text text
-Runs (Nbns texts) status old_text text = (a : NbnsArguments) × NbnsGiven texts a × (status ≡ 0) × RunsNbns a old_text text
+Runs (Nbns texts) status old_text text = (a : ServerArguments) × NbnsGiven texts a × (status ≡ 0) × RunsServer a old_text text
 Runs (Host texts) status old_text text = (a : HostArguments) × HostGiven texts a × HostedHere a status old_text text
+Runs (Release texts) status old_text text = (a : HostArguments) × ReleaseGiven texts a × ReleasedHere a status old_text text
 
 -- the first argument that is wrong is reported
 abbrev pub Refuses : AdminLine → Failure → Type 0
@@ -43,6 +51,7 @@ Refuses (Lookup texts) failure = AskFails (SoughtFails texts.exact texts.scope.n
 Refuses (Status texts) failure = AskFails (NameFails texts.exact texts.scope.now texts.name.now) texts failure
 Refuses (Nbns texts) failure = NbnsFails texts failure
 Refuses (Host texts) failure = HostFails texts failure
+Refuses (Release texts) failure = ReleaseFails texts failure
 
 -- an argument is wrong, or a port, a clock, a socket or the output failed, or memory is out
 abbrev pub Stops : AdminLine → Failure → Type 0

@@ -1,5 +1,5 @@
 -- The addresses and names that texts spell, and the failures of other texts (our profile).
-use Rattle.std.specs.Prelude.{◌≡◌, ◌⊎◌, ℕ, Bool, true, false, List}
+use Rattle.std.specs.Prelude.{◌≡◌, ◌≢◌, ◌⊎◌, ℕ, Bool, true, false, List, [], Option, Some}
 use Rattle.nbt_name.specs.Wire.{NameValue, IsStar}
 use Rattle.nbt_name.specs.declared.addr.Addr.{Addr}
 use Rattle.nbt_text.specs.declared.casing.Case.{Case}
@@ -51,3 +51,12 @@ SpellsSought exact scope text name = SpellsAsked exact scope text name × (¬ Is
 abbrev pub SoughtFails : (exact : Bool) → (scope text : List ℕ) → Failure → Type 0
 SoughtFails exact scope text failure = NameFails exact scope text failure
     ⊎ ((name : NameValue) × SpellsAsked exact scope text name × IsStar name × ComplainsOf text w.Star failure)
+
+-- ---- paths
+
+-- a file may have any path but the empty one
+abbrev pub IsPath : Option (List ℕ) → Type 0
+IsPath path = path ≢ Some []
+
+abbrev pub PathFails : Option (List ℕ) → Failure → Type 0
+PathFails path failure = (failure ≡ out_of_memory) ⊎ ((path ≡ Some []) × ComplainsOf [] w.NoPath failure)

@@ -18,6 +18,8 @@ pub enum ArgumentFault {
     Address,
     /// The address 0.0.0.0, at which no other host reaches this machine.
     Anywhere,
+    /// An address at port 0, for which the system chooses one.
+    AnyPort,
     /// Not a name.
     Name(nbt_text::Fault),
     /// A name that begins with `*`, which is not sent to a server.
@@ -30,17 +32,23 @@ pub enum ArgumentFault {
     Longest,
     /// Not a time.
     Time,
+    /// Empty, and so no folder.
+    Folder,
+    /// An empty path.
+    NoPath,
 }
 
 impl ArgumentFault {
     /// What the argument should be.
     fn what(self) -> &'static str {
         match self {
-            ArgumentFault::Address | ArgumentFault::Anywhere => "address",
+            ArgumentFault::Address | ArgumentFault::Anywhere | ArgumentFault::AnyPort => "address",
             ArgumentFault::Name(_) | ArgumentFault::Star | ArgumentFault::Twice => "name",
             ArgumentFault::Life => "life",
             ArgumentFault::Longest => "longest lease",
             ArgumentFault::Time => "time",
+            ArgumentFault::Folder => "folder",
+            ArgumentFault::NoPath => "list of leases",
         }
     }
 }
@@ -52,6 +60,7 @@ impl fmt::Display for ArgumentFault {
             ArgumentFault::Anywhere => {
                 f.write_str("not an address at which others find this machine")
             }
+            ArgumentFault::AnyPort => f.write_str("not the port of a host"),
             ArgumentFault::Name(fault) => write!(f, "{fault}"),
             ArgumentFault::Star => f.write_str("no server is asked for a name that begins with *"),
             ArgumentFault::Twice => f.write_str("given twice"),
@@ -64,6 +73,8 @@ impl fmt::Display for ArgumentFault {
                 write!(f, "not a time in whole seconds from 1s to {most}s")
             }
             ArgumentFault::Time => f.write_str("not a time, as 1500ms, 300s or 5m"),
+            ArgumentFault::Folder => f.write_str("an empty text names no folder"),
+            ArgumentFault::NoPath => f.write_str("no path of a file"),
         }
     }
 }

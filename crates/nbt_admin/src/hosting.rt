@@ -1,8 +1,8 @@
-//! Reads the arguments of `host`.
+//! Reads the arguments of `host` and of `release`.
 
 ghost use Rattle.std.specs.Prelude.{◌≡◌, ◌↔◌, ◌++◌, List, Any, IsTrue, IfOk, IfErr, OnOk};
 ghost use Rattle.nbt_client.specs.declared.turning.Want.{Want as Wanted};
-ghost use Rattle.nbt_admin.specs.Arguments.{HostGiven, HostFails, AreWanted, SpellWants, NamesFail, TextsFail};
+ghost use Rattle.nbt_admin.specs.Arguments.{HostGiven, HostFails, ReleaseGiven, ReleaseFails, AreWanted, SpellWants, NamesFail, TextsFail};
 
 use crate::failure::{ArgumentFault, Complaint, Failure};
 use crate::naming::{address_of, name_to_ask, own_of};
@@ -36,6 +36,19 @@ pub fn host_arguments(alloc: Global, texts: &HostTexts<'_>) -> Result<HostArgume
         time,
         log: texts.log,
     })
+}
+
+/// Reads the arguments of `release`, which are those of `host`. Refused as [`host_arguments`] refuses them, and last the own address
+/// where its port is 0.
+pub fn release_arguments(alloc: Global, texts: &HostTexts<'_>) -> Result<HostArguments, Failure>
+    ensures given { IfOk result (ReleaseGiven texts.now) }
+    ensures failure { IfErr result (ReleaseFails texts.now) }
+{
+    let arguments = host_arguments(alloc, texts)?;
+    if arguments.bind.port == 0 {
+        return Err(Failure::of_argument(alloc, texts.bind, ArgumentFault::AnyPort));
+    }
+    Ok(arguments)
 }
 
 /// Reads the names to hold, if these are not too many.

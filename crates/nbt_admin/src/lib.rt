@@ -1,4 +1,4 @@
-//! The commands for people who run a network, `lookup`, `status`, `nbns` and `host` (our profile).
+//! The commands for people who run a network, `lookup`, `status`, `nbns`, `host` and `release` (our profile).
 //!
 //! [`run`] reads the arguments whose texts `nbt_args` found, runs the command on this machine, prints its output, and returns the status.
 #![tactic(auto)]

@@ -2,20 +2,23 @@
 
 ghost use Rattle.std.specs.Prelude.{◌≡◌, ◌≤◌, IfOk, OnOk, IfErr};
 ghost use Rattle.std.specs.Io.KnownBytes.{Appends};
-ghost use Rattle.nbt_nbns.specs.Running.{RunsNbns};
-ghost use Rattle.nbt_admin.specs.Running.{Runs, Refuses, Stops, AskedHere, HostedHere};
+ghost use Rattle.nbt_keep.specs.Running.{RunsServer};
+ghost use Rattle.nbt_admin.specs.Running.{Runs, Refuses, Stops, AskedHere, HostedHere, ReleasedHere};
 
 use crate::asking::{AskArguments, lookup_arguments, status_arguments};
 use crate::failure::Failure;
-use crate::hosting::host_arguments;
+use crate::hosting::{host_arguments, release_arguments};
 use crate::serving::nbns_arguments;
 use nbt_args::AdminLine;
 use nbt_client::ask_here;
 use nbt_host::{HostArguments, run_host};
+use nbt_keep::{ServerArguments, run_server};
 use nbt_lease::Config;
-use nbt_nbns::{Judged, NbnsArguments, judge, run_nbns, write_warning};
+use nbt_nbns::{Judged, judge, write_warning};
 use nbt_port::Fault;
+use nbt_release::run_release;
 use std::alloc::Global;
+use std::fs::File;
 use std::io::Write;
 use std::net::Net;
 use std::rt::Files;
@@ -24,11 +27,15 @@ use std::{io, time};
 /// The status of a host that didn't hold all its names at its end (our profile).
 const NOT_HELD: u8 = 5;
 
+/// The status of releases of which one wasn't confirmed (our profile).
+const NOT_RELEASED: u8 = 1;
+
 /// Runs a command over this machine's UDP, clocks and files, prints its output, and returns the status: of a lookup or a status request 0, 1
-/// or 5, as its answer has it; of a name server 0; of a host 0 if it held all its names at its end, else 5. The first invalid argument is
-/// refused before anything is done. Then it fails as `ask_here`, `run_nbns` and `run_host` do, and with `Output` if an answer can't be
-/// printed. If the longest lease of a name server is above an hour, a line in `errors` says for how long the server is silent.
-pub fn run<M: Net + time::Clock + Files, W: Write, E: Write>(
+/// or 5, as its answer has it; of a name server 0; of a host 0 if it held all its names at its end, else 5; of releases 0 if all were
+/// confirmed, else 1. The first invalid argument is refused before anything is done. Then it fails as `ask_here`, `run_server`,
+/// `run_host` and `run_release` do, and with `Output` if an answer can't be printed. If the longest lease of a name server that keeps
+/// no leases is above an hour, a line in `errors` says for how long the server is silent.
+pub fn run<M: Net + time::Clock + Files<File = File>, W: Write, E: Write>(
     machine: &M,
     alloc: Global,
     line: &AdminLine<'_>,
@@ -57,6 +64,10 @@ pub fn run<M: Net + time::Clock + Files, W: Write, E: Write>(
             let host = host_arguments(alloc, texts)?;
             Ok(hold(machine, alloc, &host, writer, errors)?)
         }
+        AdminLine::Release(texts) => {
+            let host = release_arguments(alloc, texts)?;
+            Ok(release(machine, alloc, &host, writer, errors)?)
+        }
     }
 }
 
@@ -76,6 +87,9 @@ pub fn check(alloc: Global, line: &AdminLine<'_>) -> Result<(), Failure>
         }
         AdminLine::Host(texts) => {
             host_arguments(alloc, texts)?;
+        }
+        AdminLine::Release(texts) => {
+            release_arguments(alloc, texts)?;
         }
     }
     Ok(())
@@ -113,19 +127,20 @@ fn print<W: Write>(text: &str, writer: &mut W) -> io::Result<()>
 }
 
 /// Runs a name server.
-fn serve<M: Net + time::Clock + Files, W: Write, E: Write>(
+fn serve<M: Net + time::Clock + Files<File = File>, W: Write, E: Write>(
     machine: &M,
     alloc: Global,
-    arguments: &NbnsArguments,
+    arguments: &ServerArguments,
     writer: &mut W,
     errors: &mut E,
 ) -> Result<(), Fault>
-    ensures { OnOk result (RunsNbns arguments.now (W.contents writer.old) (W.contents writer.new)) }
+    ensures { OnOk result (RunsServer arguments.now (W.contents writer.old) (W.contents writer.new)) }
 {
-    if judge(arguments.config) == Judged::Long {
-        let _ = warn(alloc, arguments.config, errors);
+    let config = arguments.nbns.config;
+    if arguments.state.is_none() && judge(config) == Judged::Long {
+        let _ = warn(alloc, config, errors);
     }
-    run_nbns(machine, alloc, arguments, writer, errors)
+    run_server(machine, alloc, arguments, writer, errors)
 }
 
 /// Warns for how long a server is silent.
@@ -149,4 +164,28 @@ fn hold<M: Net + time::Clock, W: Write, E: Write>(
 {
     let all = run_host(machine, alloc, arguments, writer, errors)?;
     Ok(if all { 0 } else { NOT_HELD })
+}
+
+/// Gives back what a host left, and returns the status.
+fn release<M: Net + time::Clock, W: Write, E: Write>(
+    machine: &M,
+    alloc: Global,
+    arguments: &HostArguments,
+    writer: &mut W,
+    errors: &mut E,
+) -> Result<u8, Fault>
+    ensures done { IfOk result (λ status. ReleasedHere arguments.now status (W.contents writer.old) (W.contents writer.new)) }
+    ensures bound { IfOk result (λ status. status ≤ 5) }
+{
+    let wants = arguments.wants.as_slice();
+    let all = run_release(
+        machine,
+        alloc,
+        arguments.bind,
+        arguments.server,
+        wants,
+        writer,
+        errors,
+    )?;
+    Ok(if all { 0 } else { NOT_RELEASED })
 }

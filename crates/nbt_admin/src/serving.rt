@@ -3,18 +3,20 @@
 ghost use Rattle.std.specs.Prelude.{◌≡◌, IfOk, IfErr};
 ghost use Rattle.std.specs.Option.{option_map};
 ghost use Rattle.std.specs.String.{string_bytes};
-ghost use Rattle.nbt_admin.specs.Arguments.{NbnsGiven, NbnsFails};
+ghost use Rattle.nbt_admin.specs.Arguments.{NbnsGiven, NbnsFails, GivesState, StateFails};
+ghost use Rattle.nbt_admin.specs.Texts.{IsPath, PathFails};
 
-use crate::failure::Failure;
+use crate::failure::{ArgumentFault, Failure};
 use crate::naming::address_of;
 use crate::timing::{config_of, ending_of, fit};
 use nbt_args::NbnsTexts;
+use nbt_keep::{ServerArguments, StateFolder};
 use nbt_nbns::NbnsArguments;
-use std::alloc::{AllocError, Global};
+use std::alloc::Global;
 
 /// Reads the arguments of `nbns`. Refused, in this order: the life, the longest lease, the time, a longest lease that is too short for
-/// a network, and the address.
-pub fn nbns_arguments(alloc: Global, texts: &NbnsTexts<'_>) -> Result<NbnsArguments, Failure>
+/// a network, the address, the folder of the state, and an empty path of the list of leases.
+pub fn nbns_arguments(alloc: Global, texts: &NbnsTexts<'_>) -> Result<ServerArguments, Failure>
     ensures given { IfOk result (NbnsGiven texts.now) }
     ensures failure { IfErr result (NbnsFails texts.now) }
 {
@@ -22,23 +24,54 @@ pub fn nbns_arguments(alloc: Global, texts: &NbnsTexts<'_>) -> Result<NbnsArgume
     let time = ending_of(alloc, texts.time)?;
     fit(config)?;
     let bind = address_of(alloc, texts.bind)?;
+    let state = state_of(alloc, texts.state, texts.silent_after_boot)?;
     let leases = path_of(alloc, texts.leases)?;
-    Ok(NbnsArguments {
-        bind,
-        config,
-        time,
-        log: texts.log,
-        leases,
-        strict: texts.strict,
+    Ok(ServerArguments {
+        nbns: NbnsArguments {
+            bind,
+            config,
+            time,
+            log: texts.log,
+            broadcasts: texts.broadcasts,
+            leases,
+            strict: texts.strict,
+        },
+        state,
     })
 }
 
-/// Copies the path of a file, if there is one.
-fn path_of(alloc: Global, text: Option<&str>) -> Result<Option<String>, AllocError>
-    ensures { IfOk result (λ path. option_map string_bytes path ≡ option_map (λ t. t.now) text.entry) }
+/// Reads where a server keeps its leases, if anywhere. Refused: an empty text.
+fn state_of(
+    alloc: Global,
+    text: Option<&str>,
+    silent_after_boot: bool,
+) -> Result<Option<StateFolder>, Failure>
+    ensures given { IfOk result (GivesState text.entry silent_after_boot) }
+    ensures failure { IfErr result (StateFails text.entry) }
 {
-    match text {
-        Some(text) => Ok(Some(String::from_str(alloc, text)?)),
-        None => Ok(None),
+    let Some(text) = text else {
+        return Ok(None);
+    };
+    if text.is_empty() {
+        return Err(Failure::of_argument(alloc, text, ArgumentFault::Folder));
     }
+    let path = String::from_str(alloc, text)?;
+    Ok(Some(StateFolder {
+        path,
+        silent_after_boot,
+    }))
+}
+
+/// Copies the path of a file, if there is one. Refused where it is empty.
+fn path_of(alloc: Global, text: Option<&str>) -> Result<Option<String>, Failure>
+    ensures path { IfOk result (λ path. (option_map string_bytes path ≡ option_map (λ t. t.now) text.entry) × IsPath (option_map (λ t. t.now) text.entry)) }
+    ensures failure { IfErr result (PathFails (option_map (λ t. t.now) text.entry)) }
+{
+    let Some(text) = text else {
+        return Ok(None);
+    };
+    if text.is_empty() {
+        return Err(Failure::of_argument(alloc, text, ArgumentFault::NoPath));
+    }
+    Ok(Some(String::from_str(alloc, text)?))
 }

@@ -1,4 +1,4 @@
-//! The commands for people who run a network, `lookup`, `status`, `nbns` and `host`.
+//! The commands for people who run a network, `lookup`, `status`, `nbns`, `host` and `release`.
 
 use crate::argument::{Argument, Description, Form, Presence};
 
@@ -152,6 +152,9 @@ Exit status:
   5  no reply",
 };
 
+/// The option that keeps the leases of a name server.
+const STATE: &str = "state";
+
 pub static NBNS: Description = Description {
     name: "nbns",
     about: "Runs a name server",
@@ -169,13 +172,19 @@ pub static NBNS: Description = Description {
             name: "log",
             form: Form::Flag,
             presence: Presence::Optional,
-            help: "Prints a line for each grant, renewal, refusal and release, and for a packet that is no request",
+            help: "Prints a line for each grant, renewal, refusal and release, and for a packet without a reply",
+        },
+        Argument {
+            name: "log-broadcasts",
+            form: Form::Flag,
+            presence: Presence::Optional,
+            help: "With --log, prints a line for each broadcast of a B node too",
         },
         Argument {
             name: "leases",
             form: Form::Option("FILE"),
             presence: Presence::Optional,
-            help: "Keeps the list of live leases in this file",
+            help: "Keeps the list of live leases in this file, which is replaced only if it is such a list, or empty",
         },
         Argument {
             name: "strict",
@@ -183,21 +192,40 @@ pub static NBNS: Description = Description {
             presence: Presence::Optional,
             help: "Doesn't accept the registrations of Samba's programs",
         },
+        Argument {
+            name: STATE,
+            form: Form::Option("FOLDER"),
+            presence: Presence::Optional,
+            help: "Keeps the leases in this folder, and goes on with those that it kept there",
+        },
+        Argument {
+            name: "silent-after-boot",
+            form: Form::Flag,
+            presence: Presence::With(STATE),
+            help: "Goes on with kept leases in the same boot of the machine alone",
+        },
     ],
     help: "\
 The first line has its address, and for how long and until when it is silent, as `serving 0.0.0.0:137, silent for 300 s until
-2026-11-24T09:17:03Z`. It keeps its leases in memory only, so after each start it waits until every lease that it may have
-granted before has expired. Then it serves until a signal or --for ends it; its leases expire by themselves. The standard port
-is 137, for which most systems require privileges.
+2026-11-24T09:17:03Z`. Without --state it keeps its leases in memory only, so after each start it waits until every lease that it
+may have granted before has expired. Then it serves until a signal or --for ends it; its leases expire by themselves. The
+standard port is 137, for which most systems require privileges.
+
+With --state it writes each change of a lease to FOLDER/leases before its reply leaves, and a later start goes on at once: the
+first line is `serving 0.0.0.0:137, with 17 leases kept`. Where it can't go on, the line says why: `silent for 300 s until
+2026-11-24T09:17:03Z, since nothing was kept`. After another boot it goes on too, by the time of day, which nobody may have set
+in between, unless --silent-after-boot. What FOLDER has must be what this server kept last: a copy or an older state may grant a
+name to a second machine. FOLDER must exist, and one server at a time may use it.
 
 ADDR is A.B.C.D or A.B.C.D:PORT. TIME is a number and its unit, as 1500ms, 300s or 5m. The longest lease must be at least 10 s
-and at least 20 lives of a datagram, else a hold would lapse before it can be refreshed. If it is above an hour, standard error
-says for how long each start is silent.
+and at least 20 lives of a datagram, else a hold would lapse before it can be refreshed. If it is above an hour, and without
+--state, standard error says for how long each start is silent.
 
---log prints lines as `2026-11-24T09:12:03Z granted FILER#20 192.0.2.7 unique 300 s`; `renewed`, `refused` with the reason,
-`released`, and `malformed` or `foreign` for a packet that is no request, at most ten of these per second. --leases writes the
-list of live leases to FILE.new and renames that to FILE, when it has changed and at most once per second: one line per lease, as
-`FILER#20 unique 192.0.2.7 2026-11-24T09:17:03Z`, with the time of its expiry.
+--log prints lines as `2026-11-24T09:12:03Z granted FILER#20 192.0.2.7 unique 300 s`; `renewed`, `refused` with the sender and
+the reason, `released`, `unanswered` for a request during the silence, and `malformed` or `foreign` for a packet that is no
+request: of each kind at most ten per second. --leases writes the list of live leases to FILE.new and renames that to FILE, when
+it has changed and at most once per second: a first line that says what it is, and one line per lease, as `FILER#20 unique
+192.0.2.7 2026-11-24T09:17:03Z`, with the time of its expiry.
 
 Samba's nmbd registers its names by OPCODE 15, and joins groups by an overwrite. Such a registration of one address, and such an
 overwrite of a group, are accepted as registrations, unless --strict. A machine that registers two addresses isn't served: its
@@ -206,11 +234,13 @@ second one is refused, and nmbd then drops its names.
 Examples:
   nbt nbns
   nbt nbns --bind 192.0.2.1 --longest 10m --log --leases leases.txt
+  nbt nbns --state /var/lib/nbt
 
 Exit status:
   0  done
   2  wrong usage, or an invalid argument; standard error says why
-  3  no port or no clock, a socket failed 100 times in a row, or the output failed; prints `device`, unless it was the output
+  3  no port or no clock, a socket failed 100 times in a row, FOLDER can't be read or written, or the output failed; prints
+     `device`, unless it was the output
   4  out of memory at the start; prints `memory`",
 };
 
@@ -269,4 +299,59 @@ Exit status:
   3  no port or no clock, a socket failed 100 times in a row, or the output failed; prints `device`, unless it was the output
   4  out of memory; prints `memory`
   5  a name wasn't held at the end",
+};
+
+pub static RELEASE: Description = Description {
+    name: "release",
+    about: "Gives back names that a host of this machine left at a name server",
+    arguments: &[
+        Argument {
+            name: "name",
+            form: Form::PlacedMany("NAME"),
+            presence: Presence::Unless("group"),
+            help: "The names that the host held, each for this machine alone",
+        },
+        SERVER,
+        Argument {
+            name: "bind",
+            form: Form::Option("ADDR"),
+            presence: Presence::Required,
+            help: "The host's address, by default at port 137",
+        },
+        Argument {
+            name: "group",
+            form: Form::Options("NAME"),
+            presence: Presence::Optional,
+            help: "A name that it held as a group; may be repeated",
+        },
+        SCOPE,
+        EXACT,
+        LIFE,
+        LONGEST,
+        FOR,
+        Argument {
+            name: "log",
+            form: Form::Flag,
+            presence: Presence::Optional,
+            help: "As `nbt host` has it",
+        },
+    ],
+    help: "\
+Sends a release request for each name from the address and the port of the host. While a host runs there, that port can't be
+bound, and nothing is sent. Each request is sent up to three times, one every 5 s, until its reply comes. At the end prints one
+line per name: `released FILER#20`; `not leased FILER#20` if the server has no such name; `refused FILER#20: held by another (6)`,
+with the server's own reason; or `no reply for FILER#20`.
+
+The arguments are those of `nbt host`, so that the same settings serve both. --life, --longest, --for and --log have no effect.
+The port of --bind is the host's, and so not 0.
+
+Examples:
+  nbt release FILER 'FILER<00>' --group 'WORKGROUP<00>' --server 192.0.2.1 --bind 192.0.2.7
+
+Exit status:
+  0  all names were released, or not leased
+  1  a release was refused, or got no reply
+  2  wrong usage, or an invalid argument; standard error says why
+  3  a host runs there, no port or no clock, or a socket or the output failed; prints `device`, unless it was the output
+  4  out of memory; prints `memory`",
 };

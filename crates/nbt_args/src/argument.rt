@@ -33,6 +33,8 @@ pub enum Presence {
     Default(&'static str),
     /// Required unless the argument of this name is given.
     Unless(&'static str),
+    /// Optional, and only beside the argument of this name.
+    With(&'static str),
     /// Either this argument is required or the argument of this name, and not both.
     InsteadOf(&'static str),
 }
@@ -92,6 +94,7 @@ fn arg_of<'a>(alloc: Global, argument: &Argument) -> Result<Arg<'a>, AllocError>
         Presence::Required => Ok(arg.required(true)),
         Presence::Optional => Ok(arg),
         Presence::Default(value) => Ok(arg.default_value(value)),
+        Presence::With(other) => arg.requires_arg(other),
         Presence::Unless(other) => arg.required_unless_present(other),
         Presence::InsteadOf(other) => arg.conflicts_with(other)?.required_unless_present(other),
     }

@@ -15,8 +15,8 @@ const ABOUT: &str =
     "NetBIOS over TCP and UDP, as RFC 1001 and RFC 1002 specify it: names, and the packets of the name service";
 
 const HELP: &str = "\
-`lookup`, `status`, `nbns` and `host` are for people who run a network. The others are a bench on which the protocol is tried:
-their words and texts are fixed.
+`lookup`, `status`, `nbns`, `host` and `release` are for people who run a network. The others are a bench on which the protocol
+is tried: their words and texts are fixed.
 
 Examples:
   nbt lookup FILER --server 192.0.2.1
@@ -25,7 +25,7 @@ Examples:
 Exit status:
   0  done
   1  an address, a hexadecimal text or the input can't be read (prints `unreadable`), or octets are refused; of `lookup` and
-     `status`: not found
+     `status`: not found; of `release`: a name was not released
   2  wrong usage; of the commands for people also a word that can't be read
   3  input or output failed; prints `device` where it can
   4  an allocation was refused; prints `memory`
@@ -38,6 +38,7 @@ pub fn program<'a>(alloc: Global) -> Result<Command<'a>, AllocError> {
         &admin::STATUS,
         &admin::NBNS,
         &admin::HOST,
+        &admin::RELEASE,
         &bench::ANSWER,
         &bench::SHOW,
         &bench::CHECK,

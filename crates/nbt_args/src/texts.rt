@@ -99,13 +99,19 @@ pub struct NbnsTexts<'a> {
     pub time: Option<&'a str>,
     /// Whether it logs.
     pub log: bool,
+    /// Whether the log has broadcasts too.
+    pub broadcasts: bool,
     /// The path of the list of leases, if any.
     pub leases: Option<&'a str>,
     /// Whether Samba's registrations are not accepted.
     pub strict: bool,
+    /// The folder that keeps the leases, if any.
+    pub state: Option<&'a str>,
+    /// Whether it is silent after another boot.
+    pub silent_after_boot: bool,
 }
 
-/// The texts of the arguments of `host`.
+/// The texts of the arguments of `host`, or of `release`.
 #[derive(Drop)]
 pub struct HostTexts<'a> {
     /// The unique names.
@@ -137,6 +143,7 @@ pub enum AdminLine<'a> {
     Status(LookupTexts<'a>),
     Nbns(NbnsTexts<'a>),
     Host(HostTexts<'a>),
+    Release(HostTexts<'a>),
 }
 
 /// A command, with the texts of its arguments.
@@ -198,6 +205,7 @@ fn line_of<'a>(
         "status" => CommandLine::Admin(AdminLine::Status(lookup_texts(matches, "host"))),
         "nbns" => CommandLine::Admin(AdminLine::Nbns(nbns_texts(matches))),
         "host" => CommandLine::Admin(AdminLine::Host(host_texts(alloc, matches)?)),
+        "release" => CommandLine::Admin(AdminLine::Release(host_texts(alloc, matches)?)),
         "answer" => CommandLine::Answer(answer_texts(matches)),
         "show" => CommandLine::Show(show_texts(matches)),
         "check" => CommandLine::Check,
@@ -237,8 +245,11 @@ fn nbns_texts<'a>(matches: &ArgMatches<'a>) -> NbnsTexts<'a>
     ensures longest { result.longest.now ≡ argument_of matches.now (codes "longest") }
     ensures time { option_map (λ text. text.now) result.time ≡ value_of matches.now (codes "for") }
     ensures logs { Tells matches.now (codes "log") result.log }
+    ensures broadcasts { Tells matches.now (codes "log-broadcasts") result.broadcasts }
     ensures leases { option_map (λ text. text.now) result.leases ≡ value_of matches.now (codes "leases") }
     ensures strict { Tells matches.now (codes "strict") result.strict }
+    ensures state { option_map (λ text. text.now) result.state ≡ value_of matches.now (codes "state") }
+    ensures boots { Tells matches.now (codes "silent-after-boot") result.silent_after_boot }
 {
     NbnsTexts {
         bind: argument(matches, "bind"),
@@ -246,8 +257,11 @@ fn nbns_texts<'a>(matches: &ArgMatches<'a>) -> NbnsTexts<'a>
         longest: argument(matches, "longest"),
         time: matches.get_str("for"),
         log: matches.get_flag("log"),
+        broadcasts: matches.get_flag("log-broadcasts"),
         leases: matches.get_str("leases"),
         strict: matches.get_flag("strict"),
+        state: matches.get_str("state"),
+        silent_after_boot: matches.get_flag("silent-after-boot"),
     }
 }
 

@@ -24,6 +24,7 @@ at_least_two why.NoPort = omega arith
 at_least_two why.NoClock = omega arith
 at_least_two why.Device = omega arith
 at_least_two why.Output = omega arith
+at_least_two why.Store = omega arith
 at_least_two why.Memory = omega arith
 
 status_is : (ending : Ending) (status : ℕ) → status ≡ ending_status ending → status ≡ (if is_done ending then 0 else 1)

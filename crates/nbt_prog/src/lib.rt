@@ -25,6 +25,7 @@ use nbt_port::Fault;
 pub use running::run;
 use std::alloc::Global;
 use std::convert::AsStr;
+use std::fs::File;
 use std::io::{Read, Write};
 use std::net::Net;
 use std::rt::Files;
@@ -67,14 +68,13 @@ pub fn command<S: AsStr, R: Read, W: Write>(
 /// `unreadable` and `memory`. The status is 3 too if a port can't be bound, if a clock can't be read at the start, or if a socket
 /// failed. Then a line in `errors` says which call of the system failed, for which address, and why. With `--forever` a line in `errors`
 /// reports a socket that failed, and only the hundredth failed turn in a row ends the command. Failures to write to `errors` are ignored.
-pub fn command_telling<M: Net + time::Clock + Files, S: AsStr, R: Read, W: Write, E: Write>(
-    machine: &M,
-    alloc: Global,
-    arguments: &[S],
-    reader: &mut R,
-    writer: &mut W,
-    errors: &mut E,
-) -> u8
+pub fn command_telling<
+    M: Net + time::Clock + Files<File = File>,
+    S: AsStr,
+    R: Read,
+    W: Write,
+    E: Write,
+>(machine: &M, alloc: Global, arguments: &[S], reader: &mut R, writer: &mut W, errors: &mut E) -> u8
     ensures bound { result ≤ 5 }
 {
     let status = match nbt_args::read(alloc, arguments) {

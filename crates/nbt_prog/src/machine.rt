@@ -11,6 +11,7 @@ use crate::numbers::ports_of;
 use crate::running::{reported, run};
 use nbt_args::CommandLine;
 use std::alloc::Global;
+use std::fs::File;
 use std::io::{Read, Write};
 use std::net::Net;
 use std::rt::Files;
@@ -19,7 +20,7 @@ use std::time;
 /// Runs a command line on this machine, and returns the exit status. The commands that open sockets write to `writer` while they run, `lookup` and
 /// `status` at their end; the others as [`run`] does. `errors` gets the lines of [`command_telling`](crate::command_telling), except the one
 /// for memory that is out.
-pub fn run_on<M: Net + time::Clock + Files, R: Read, W: Write, E: Write>(
+pub fn run_on<M: Net + time::Clock + Files<File = File>, R: Read, W: Write, E: Write>(
     machine: &M,
     alloc: Global,
     line: &CommandLine<'_>,
@@ -37,7 +38,7 @@ pub fn run_on<M: Net + time::Clock + Files, R: Read, W: Write, E: Write>(
 }
 
 /// Runs a command line up to its status, or to its failure, which is not printed yet.
-fn done_on<M: Net + time::Clock + Files, R: Read, W: Write, E: Write>(
+fn done_on<M: Net + time::Clock + Files<File = File>, R: Read, W: Write, E: Write>(
     machine: &M,
     alloc: Global,
     line: &CommandLine<'_>,
