@@ -7,6 +7,7 @@ use crate::case::Case;
 use bstr::ByteSlice;
 use nbt_prog::{command, command_telling};
 use std::alloc::Global;
+use std::fs::File;
 use std::io;
 use std::io::Write;
 use std::net::Net;
@@ -60,7 +61,7 @@ pub struct Ending {
 
 impl Ending {
     /// Plays a case on this machine.
-    pub fn on<R: AllocGlobal + Net + Clock + Files>(rt: &R, case: &Case) -> Ending {
+    pub fn on<R: AllocGlobal + Net + Clock + Files<File = File>>(rt: &R, case: &Case) -> Ending {
         let mut printed = Paper::new(rt.alloc());
         let mut said = Paper::new(rt.alloc());
         let status = command_telling(

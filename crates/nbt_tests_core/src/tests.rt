@@ -6,11 +6,13 @@ use std::test::Fail;
 
 mod calls;
 mod datagrams;
+mod disks;
 mod expect;
 mod leases;
 mod names;
 mod node;
 mod packets;
+mod restarts;
 mod resuming;
 mod server;
 mod sessions;

@@ -3,10 +3,12 @@
 mod expect;
 mod host;
 mod hosting;
+mod keeping;
 mod log;
 mod lookups;
 mod nbns;
 mod ports;
+mod releases;
 mod samba;
 mod stage;
 mod turns;

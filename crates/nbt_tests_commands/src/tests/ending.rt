@@ -5,6 +5,7 @@ use super::expect::{expect, expect_eq};
 use super::terminal::words_of;
 use nbt_prog::command_telling;
 use std::fmt::Debug;
+use std::fs::File;
 use std::io;
 use std::net::Net;
 use std::process::Abort;
@@ -12,7 +13,7 @@ use std::rt::Files;
 use std::time::Clock;
 
 /// The status of a command of these words, and of one more if it isn't empty.
-pub fn status_of<R: Abort + AllocGlobal, M: Net + Clock + Files>(
+pub fn status_of<R: Abort + AllocGlobal, M: Net + Clock + Files<File = File>>(
     rt: &R,
     machine: &M,
     line: &str,
@@ -45,7 +46,7 @@ pub fn expect_printed<R: Abort>(
 }
 
 /// The command, without input, ends with this status, and prints and says this. Each line that it prints is flushed before the next.
-pub fn expect_ending<R: Abort + AllocGlobal, M: Net + Clock + Files>(
+pub fn expect_ending<R: Abort + AllocGlobal, M: Net + Clock + Files<File = File>>(
     rt: &R,
     machine: &M,
     about: &str,

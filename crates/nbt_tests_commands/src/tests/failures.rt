@@ -3,6 +3,7 @@
 use super::LimitedWriter;
 use super::ending::{expect_printed, status_of};
 use nbt_prog::command;
+use std::fs::File;
 use std::io;
 use std::io::Read;
 use std::net::Net;
@@ -63,7 +64,7 @@ static LINES: [(&str, &[u8]); 5] = [
 /// A flush that fails, and a write, end the command, and what was written before stays: no `device` comes after it.
 fn expect_nothing_more<R>(rt: &R, line: &str, text: &[u8])
 where
-    R: Abort + AllocGlobal + Net + Clock + Files,
+    R: Abort + AllocGlobal + Net + Clock + Files<File = File>,
 {
     let mut errors = LimitedWriter::new();
     let mut paper = LimitedWriter::stuck();

@@ -2,12 +2,12 @@
 
 use super::serving::{NO_CLOCK, Row};
 
-/// The requests of the host, each for as long as may be: for FRED alone, for TEAM as a group; and its releases.
+/// The requests of the host, each for its longest lease, 60 s: for FRED alone, for TEAM as a group; and its releases.
 const ASKS: &str =
-    "0001_2900_0001_0000_0000_0001_{FRED}_0020_0001_c00c_0020_0001_00000000_0006_2000_7f2a1602";
+    "0001_2900_0001_0000_0000_0001_{FRED}_0020_0001_c00c_0020_0001_0000003c_0006_2000_7f2a1602";
 
 const JOINS: &str =
-    "0002_2900_0001_0000_0000_0001_{TEAM}_0020_0001_c00c_0020_0001_00000000_0006_a000_7f2a1602";
+    "0002_2900_0001_0000_0000_0001_{TEAM}_0020_0001_c00c_0020_0001_0000003c_0006_a000_7f2a1602";
 
 const RELEASES: &str =
     "0003_3000_0001_0000_0000_0001_{FRED}_0020_0001_c00c_0020_0001_00000000_0006_2000_7f2a1602";
@@ -33,13 +33,13 @@ const ANSWERS: &str = "0009_8500_0000_0001_0000_0000_{FRED}_0020_0001_00000000_0
 
 /// A refresh of FRED, and its renewal.
 const REFRESHES: &str =
-    "0002_4000_0001_0000_0000_0001_{FRED}_0020_0001_c00c_0020_0001_00000000_0006_2000_7f2a1602";
+    "0002_4000_0001_0000_0000_0001_{FRED}_0020_0001_c00c_0020_0001_0000003c_0006_2000_7f2a1602";
 
 const RENEWED: &str = "0002_ad80_0000_0001_0000_0000_{FRED}_0020_0001_0000003c_0006_2000_7f2a1602";
 
 /// For `fred` in the scope `lab`, as it stands.
 const ASKS_AS_IT_STANDS: &str =
-    "0001_2900_0001_0000_0000_0001_204747484347464745434143414341434143414341434143414341434143414341036c616200_0020_0001_c00c_0020_0001_00000000_0006_2000_7f2a1602";
+    "0001_2900_0001_0000_0000_0001_204747484347464745434143414341434143414341434143414341434143414341036c616200_0020_0001_c00c_0020_0001_0000003c_0006_2000_7f2a1602";
 
 /// 2026-11-24T09:11:03Z, when the host starts; when it may ask for names, where a datagram lives 1 s; and a millisecond later.
 const START: u64 = 1_795_511_463_000;
@@ -141,7 +141,7 @@ host 127.42.22.2:20138 asks 127.42.22.3:20139 for 1 name
         readings: 22,
         text: "\
 host 127.42.22.2:20138 asks 127.42.22.3:20139 for 1 name
-2026-11-24T09:11:04Z not held fred.lab
+2026-11-24T09:11:04Z not held hex:66726564202020202020202020202020.lab
 ",
         errors: "",
         sent: &[ASKS_AS_IT_STANDS],

@@ -8,6 +8,7 @@ use super::street::{Luck, Street};
 use arrayvec::ArrayVec;
 use nbt_prog::command_telling;
 use std::cell::Cell;
+use std::fs::File;
 use std::io;
 use std::io::Write;
 use std::net::{IpAddr, Ipv4Addr, Net, SocketAddr, TcpListener, TcpStream, UdpSocket};
@@ -142,7 +143,7 @@ fn expect_told<'a, R>(
     connections: usize,
 )
 where
-    R: Abort + AllocGlobal + Net<Stream = TcpStream, Listener = TcpListener> + Files,
+    R: Abort + AllocGlobal + Net<Stream = TcpStream, Listener = TcpListener> + Files<File = File>,
 {
     let machine = Machine::new(rt, server, stranger, street);
     let mut told = Watcher {
@@ -168,7 +169,7 @@ where
 /// stranger is at a port of its own.
 fn expect_luck<R>(rt: &R, row: usize, lucks: &(Luck, Luck, usize), teller: u16)
 where
-    R: Abort + AllocGlobal + Net<Stream = TcpStream, Listener = TcpListener> + Files,
+    R: Abort + AllocGlobal + Net<Stream = TcpStream, Listener = TcpListener> + Files<File = File>,
 {
     let (caller, listener, connections) = *lucks;
     let server = UdpSocket::bind(rt, end(1, 21137)).expect(rt, "the server's port");

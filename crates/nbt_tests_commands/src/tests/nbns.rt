@@ -55,6 +55,9 @@ const SILENT: u64 = OPEN - 1;
 
 const END: u64 = OPEN + 1;
 
+/// When it starts again.
+const AGAIN: u64 = END + 1;
+
 /// What is said of the longest lease that is not long, and of one that is.
 const LONG: &str = "nbt: longest lease 3601 s: after each start the server is silent for as long\n";
 
@@ -115,7 +118,7 @@ pub static NAME_SERVERS: [Row; 10] = [
 serving 127.42.22.2:20138, silent for 60 s until 2026-11-24T09:12:03Z
 2026-11-24T09:12:03Z granted FRED#20 127.42.22.3 unique 60 s
 2026-11-24T09:12:03Z renewed FRED#20 127.42.22.3 unique 60 s
-2026-11-24T09:12:03Z refused FRED#20 127.42.22.4 unique: refused (5)
+2026-11-24T09:12:03Z refused FRED#20 127.42.22.4 unique from 127.42.22.3:20139: not its own address (5)
 2026-11-24T09:12:03Z malformed from 127.42.22.3:20139: 1 octets
 2026-11-24T09:12:03Z foreign from 127.42.22.3:20139: 62 octets
 2026-11-24T09:12:03Z released FRED#20 127.42.22.3 unique
@@ -247,7 +250,67 @@ fn a_list_of_leases(rt: HostRuntime) {
         &rt,
         &KEPT.about,
         &list.as_str(),
-        &"FRED#20 unique 127.42.22.3 2026-11-24T09:13:03Z\n",
+        &"# live leases of nbt nbns\nFRED#20 unique 127.42.22.3 2026-11-24T09:13:03Z\n",
     );
     fs::remove_file(&rt, path.as_str()).expect(&rt, "the list of leases");
+}
+
+/// Servers over one state, whose folder is the last word: the first grants two leases, the second goes on with them, and the third has
+/// another limit.
+static STATES: [Row; 3] = [
+    Row {
+        about: "nothing was kept",
+        words: "nbt nbns --bind 127.42.22.2:20138 --longest 60s --for 60001ms --state",
+        moments: &[
+            START, START, START, START, OPEN, OPEN, OPEN, OPEN, OPEN, OPEN, END,
+        ],
+        sends: &[(1, ASKS), (1, JOINS)],
+        breaks_at: 0,
+        sets: &[],
+        status: 0,
+        readings: 13,
+        text: "serving 127.42.22.2:20138, silent for 60 s until 2026-11-24T09:12:03Z, since nothing was kept\n",
+        errors: "",
+        sent: &[GRANTED, JOINED],
+    },
+    Row {
+        about: "two leases were kept",
+        words: "nbt nbns --bind 127.42.22.2:20138 --longest 60s --for 0ms --state",
+        moments: &[AGAIN],
+        sends: &[(1, QUERIES)],
+        breaks_at: 0,
+        sets: &[],
+        status: 0,
+        readings: 8,
+        text: "serving 127.42.22.2:20138, with 2 leases kept\n",
+        errors: "",
+        sent: &[FOUND],
+    },
+    Row {
+        about: "they were kept under another limit",
+        words: "nbt nbns --bind 127.42.22.2:20138 --longest 61s --for 0ms --state",
+        moments: &[AGAIN],
+        sends: &[],
+        breaks_at: 0,
+        sets: &[],
+        status: 0,
+        readings: 7,
+        text: "serving 127.42.22.2:20138, silent for 61 s until 2026-11-24T09:13:04Z, since another LONGEST\n",
+        errors: "",
+        sent: &[],
+    },
+];
+
+/// The folder is in that for temporary files, where no other run of the tests has one.
+#[test]
+fn servers_over_a_state(rt: HostRuntime) {
+    let folder = env::temp_dir(&rt).expect(&rt, "a folder for temporary files");
+    let folder = folder.as_path().to_str().expect(&rt, "a folder as text");
+    let id = process::id(rt.process());
+    let path = format!(in rt.alloc(); "{folder}/nbt-tests-{id}-state").expect(&rt, "memory");
+    fs::create_dir(&rt, path.as_str()).expect(&rt, "a folder");
+    for row in &STATES {
+        expect_row(&rt, row, path.as_str(), 0);
+    }
+    fs::remove_dir_all(&rt, path.as_str()).expect(&rt, "the folder");
 }

@@ -8,6 +8,7 @@ use super::machine::Machine;
 use super::street::Street;
 use super::terminal::words_of;
 use nbt_prog::command;
+use std::fs::File;
 use std::io;
 use std::net::{Net, TcpListener, TcpStream, UdpSocket};
 use std::process::Abort;
@@ -177,7 +178,7 @@ static BINDING: [(&str, &str, u8, &[u8]); 6] = [
     ),
 ];
 
-fn expect_not_bound<R: Abort + AllocGlobal + Net + Clock + Files>(rt: &R) {
+fn expect_not_bound<R: Abort + AllocGlobal + Net + Clock + Files<File = File>>(rt: &R) {
     for row in &NOT_BOUND {
         let (line, said) = *row;
         expect_ending(rt, rt, "", line, "", 3, "device\n", said);
@@ -187,7 +188,7 @@ fn expect_not_bound<R: Abort + AllocGlobal + Net + Clock + Files>(rt: &R) {
 /// None of its sockets is at that port, since it has no memory for one.
 fn expect_no_memory<R>(rt: &R, port: &UdpSocket)
 where
-    R: Abort + AllocGlobal + Net<Stream = TcpStream, Listener = TcpListener> + Files,
+    R: Abort + AllocGlobal + Net<Stream = TcpStream, Listener = TcpListener> + Files<File = File>,
 {
     let street = Street::new();
     let machine = Machine {

@@ -9,6 +9,7 @@ use super::machine::{Machine, Set, WELL};
 use super::nbns::NAME_SERVERS;
 use super::street::Street;
 use super::terminal::octets_of;
+use std::fs::File;
 use std::net::{Net, TcpListener, TcpStream, UdpSocket};
 use std::process::Abort;
 use std::rt::Files;
@@ -383,7 +384,7 @@ where
 /// it is well after three failures before. With no end the command waits after each failure but the last: 99 times, and those three.
 pub fn expect_row<R>(rt: &R, row: &Row, last: &str, breaks_again_at: usize)
 where
-    R: Abort + AllocGlobal + Net<Stream = TcpStream, Listener = TcpListener> + Files,
+    R: Abort + AllocGlobal + Net<Stream = TcpStream, Listener = TcpListener> + Files<File = File>,
 {
     let well_after = if breaks_again_at == 0 { 0 } else { 3 };
     let waits = if row.words.ends_with("--forever") {
@@ -428,7 +429,7 @@ fn expect_sent<R: Abort>(rt: &R, row: &Row, other: &UdpSocket) {
 
 fn expect_rows<R>(rt: &R, rows: &[Row])
 where
-    R: Abort + AllocGlobal + Net<Stream = TcpStream, Listener = TcpListener> + Files,
+    R: Abort + AllocGlobal + Net<Stream = TcpStream, Listener = TcpListener> + Files<File = File>,
 {
     for row in rows {
         expect_row(rt, row, "", 0);
@@ -451,7 +452,7 @@ fn commands_with_another_end(rt: HostRuntime) {
 /// Runs a row's command, of which no line can be flushed: the first ends it.
 fn expect_untold<R>(rt: &R, row: &Row, line: &str)
 where
-    R: Abort + AllocGlobal + Net<Stream = TcpStream, Listener = TcpListener> + Files,
+    R: Abort + AllocGlobal + Net<Stream = TcpStream, Listener = TcpListener> + Files<File = File>,
 {
     let port = UdpSocket::bind(rt, OWN).expect(rt, "its port");
     let other = UdpSocket::bind(rt, OTHER).expect(rt, "the other end's port");

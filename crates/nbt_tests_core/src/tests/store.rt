@@ -1,12 +1,11 @@
-//! What a store keeps: its file as text, cut at each octet, with each octet changed in turn, and with trouble at each call.
+//! What a store keeps: its file as text, cut at each octet, and with each octet changed in turn.
 
-use super::expect::{expect, expect_eq, expect_eq_in, expect_in};
+use super::expect::{expect, expect_eq, expect_eq_in};
 use super::{at, fred, team};
 use nbt_lease::{Config, Lease};
 use nbt_name::Kind;
 use nbt_store::{
-    Boot, Change, Fault, Header, MemoryStore, ReadFault, Silence, Store, Trouble, load, why_silent,
-    write_change, write_file,
+    Boot, Change, Fault, Header, ReadFault, Silence, load, why_silent, write_change, write_file,
 };
 use std::alloc::Global;
 use std::process::Abort;
@@ -16,9 +15,12 @@ const FIRST: u32 = 0xC000_0207;
 
 const SECOND: u32 = 0xC000_0208;
 
+/// The time of day when the file was written.
+const DAY: u64 = 1_700_000_000_000;
+
 /// A file of four changes. The checksums were computed apart from this program.
 const FILE: &str = "nbt leases, version 1\n\
-1000 60 4096 boot-1 5 77 2cf8e45b\n\
+1000 60 4096 boot-1 7 5 77 1700000000000 649305e6\n\
 began FRED 192.0.2.7:137 unique 60077 f11427eb\n\
 began TEAM 192.0.2.8:137 group 60078 eb6be340\n\
 moved FRED 192.0.2.7:137 65000 bc0d448f\n\
@@ -29,7 +31,8 @@ const ROWS: [usize; 5] = [0, 1, 2, 2, 1];
 
 fn header() -> Result<Header, Fail> {
     let boot = Boot::new(b"boot-1").ok_or("no boot")?;
-    Ok(Header::new(Config::new(1000, 60, 4096)?, boot, at(5)?, at(77)?))
+    let config = Config::new(1000, 60, 4096)?;
+    Ok(Header::new(config, boot, 7, at(5)?, at(77)?, DAY))
 }
 
 /// FRED of the first host, alone.
@@ -148,81 +151,112 @@ fn file_of_a_store_with_each_octet_changed(rt: HostRuntime) -> Result<(), Fail> 
         for octet in [0, b'\n', b' ', b'0', b'~', 255] {
             change_octet(&rt, place, octet)?;
         }
+        let was = FILE.as_bytes().get(place).ok_or("past the end")?;
+        change_octet(&rt, place, *was ^ 1)?;
     }
     Ok(())
 }
 
-/// Lets TEAM begin at the addresses from 0 on, as many as there are; each second change is synced. Returns how many were
-/// synced and how many were tried, up to the first that failed.
-fn run(store: &mut MemoryStore, count: u32) -> Result<(usize, usize), Fail> {
-    let mut synced = 0;
-    for addr in 0..count {
-        let began = Change::Began {
-            name: team(b"")?,
-            lease: team_lease(addr),
-        };
-        let tried = addr as usize + 1;
-        let Ok(()) = store.append(&began) else {
-            return Ok((synced, tried));
-        };
-        if addr % 2 == 1 {
-            let Ok(()) = store.sync() else {
-                return Ok((synced, tried));
-            };
-            synced = tried;
-        }
-    }
-    Ok((synced, count as usize))
-}
+/// Octets that are no file, and why.
+const FAULTS: &[(&[u8], Fault)] = &[
+    (b"", Fault::Empty),
+    (b"nbt leases, version 1", Fault::Empty),
+    (b"\n", Fault::Version),
+    (b"nbt leases, version 2\n", Fault::Version),
+    (b"nbt leases, version 1\n", Fault::Damaged(2)),
+    (
+        b"nbt leases, version 1\n1000 60 4096 boot-1 5 77 2cf8e45b\n",
+        Fault::Damaged(2),
+    ),
+];
 
-/// Whatever a crash leaves of a store has all changes that were synced, and none that wasn't tried.
-fn crash(rt: &(impl Abort + AllocGlobal), call: usize, trouble: Trouble) -> Result<(), Fail> {
-    let alloc = rt.alloc();
-    let rows = Vec::new(alloc);
-    let mut store = MemoryStore::new(alloc, &header()?, rows.as_slice(), Some((call, trouble)))?;
-    let (synced, tried) = run(&mut store, 6)?;
-    let octets = store.octets();
-    for end in store.synced()..=octets.len() {
-        let left = loaded(alloc, &octets[..end])?;
-        let row = (call, trouble, end, left);
-        expect_in(rt, &row, synced <= left && left <= tried);
+/// Each has its fault.
+fn see_faults(rt: &(impl Abort + AllocGlobal), rows: &[(&[u8], Fault)]) {
+    for row in rows {
+        let (octets, fault) = *row;
+        expect_eq_in(
+            rt,
+            row,
+            &loaded(rt.alloc(), octets),
+            &Err(ReadFault::File(fault)),
+        );
     }
-    Ok(())
 }
 
 #[test]
-fn crash_of_a_store_at_each_call(rt: HostRuntime) -> Result<(), Fail> {
-    for call in 0..10 {
-        crash(&rt, call, Trouble::Refused)?;
-        for most in 0..60 {
-            crash(&rt, call, Trouble::Torn(most))?;
-        }
-    }
-    Ok(())
+fn octets_that_are_no_file_of_a_store(rt: HostRuntime) {
+    see_faults(&rt, FAULTS);
 }
 
-/// What is asked of a header: LIFE, LONGEST, rows, the boot and the time; and why the server is silent.
-type Asked<'a> = (u64, u32, usize, &'a [u8], u64, Option<Silence>);
+/// What is asked of a header: LIFE, LONGEST and the rows.
+type Limits = (u64, u32, usize);
 
-const SILENCES: [Asked<'static>; 9] = [
-    (1000, 60, 4096, b"boot-1", 77, None),
-    (1000, 60, 4096, b"boot-1", 900, None),
-    (999, 61, 4095, b"boot-2", 4, Some(Silence::OtherLife)),
-    (1000, 61, 4095, b"boot-2", 4, Some(Silence::OtherLongest)),
-    (1000, 60, 4095, b"boot-2", 4, Some(Silence::OtherRows)),
-    (1000, 60, 4096, b"boot-2", 4, Some(Silence::OtherBoot)),
-    (1000, 60, 4096, b"boot-1-", 900, Some(Silence::OtherBoot)),
-    (1000, 60, 4096, b"boot-1", 4, Some(Silence::ClockBack)),
-    (1000, 60, 4096, b"boot-1", 76, Some(Silence::ClockBack)),
+/// The limits, the boot, the machine's clock, the time of day and whether the server is silent after another boot; and how far its
+/// clock is ahead, or why it is silent.
+type Asked<'a> = (Limits, &'a [u8], u64, u64, bool, Result<u64, Silence>);
+
+const SAME: Limits = (1000, 60, 4096);
+
+const BOOT: &[u8] = b"boot-1";
+
+const OTHER: &[u8] = b"boot-1-";
+
+const LAST: u64 = 1 << 60;
+
+const SILENCES: &[Asked<'static>] = &[
+    // In the boot of the file the clock is as much ahead as it was.
+    (SAME, BOOT, 70, DAY, false, Ok(7)),
+    (SAME, BOOT, 900, DAY - 1, false, Ok(7)),
+    (SAME, BOOT, 900, DAY, true, Ok(7)),
+    (SAME, BOOT, LAST - 7, DAY, false, Ok(7)),
+    (SAME, BOOT, 69, DAY + 9, false, Err(Silence::ClockBack)),
+    (SAME, BOOT, LAST - 6, DAY, false, Err(Silence::ClockBack)),
+    (SAME, BOOT, u64::MAX, DAY, false, Err(Silence::ClockBack)),
+    // After another one it went on as the time of day did.
+    (SAME, OTHER, 0, DAY, false, Ok(77)),
+    (SAME, OTHER, 100, DAY + 1000, false, Ok(977)),
+    (SAME, OTHER, 1077, DAY + 1000, false, Ok(0)),
+    (
+        SAME,
+        OTHER,
+        1078,
+        DAY + 1000,
+        false,
+        Err(Silence::ClockBack),
+    ),
+    (SAME, OTHER, 0, DAY - 1, false, Err(Silence::ClockBack)),
+    (SAME, OTHER, 0, DAY + LAST - 77, false, Ok(LAST)),
+    (
+        SAME,
+        OTHER,
+        0,
+        DAY + LAST - 76,
+        false,
+        Err(Silence::ClockBack),
+    ),
+    (SAME, OTHER, 0, u64::MAX, false, Err(Silence::ClockBack)),
+    (SAME, OTHER, 100, DAY + 1000, true, Err(Silence::OtherBoot)),
+    // Each reason comes in its turn.
+    ((999, 61, 4095), OTHER, 0, 0, true, Err(Silence::OtherLife)),
+    (
+        (1000, 61, 4095),
+        OTHER,
+        0,
+        0,
+        true,
+        Err(Silence::OtherLongest),
+    ),
+    ((1000, 60, 4095), OTHER, 0, 0, true, Err(Silence::OtherRows)),
+    (SAME, OTHER, 0, 0, true, Err(Silence::OtherBoot)),
 ];
 
-/// Each reason comes in its turn.
+/// Each row is as it says.
 fn ask_reasons(rt: &impl Abort, rows: &[Asked<'_>]) -> Result<(), Fail> {
     for row in rows {
-        let (life, longest, most, boot, now, wanted) = *row;
+        let ((life, longest, most), boot, monotonic, day, silent, wanted) = *row;
         let boot = Boot::new(boot).ok_or("no boot")?;
         let config = Config::new(life, longest, most)?;
-        let got = why_silent(&header()?, config, &boot, at(now)?);
+        let got = why_silent(&header()?, config, &boot, monotonic, day, silent);
         expect_eq_in(rt, row, &got, &wanted);
     }
     Ok(())
@@ -230,7 +264,7 @@ fn ask_reasons(rt: &impl Abort, rows: &[Asked<'_>]) -> Result<(), Fail> {
 
 #[test]
 fn reasons_for_a_silence(rt: HostRuntime) -> Result<(), Fail> {
-    ask_reasons(&rt, SILENCES.as_slice())?;
+    ask_reasons(&rt, SILENCES)?;
     expect(&rt, Boot::new(b"").is_none());
     expect(&rt, Boot::new(b"boot 1").is_none());
     expect(

@@ -8,6 +8,7 @@ use nbt_host::{
     Clocks, Event, Goal, HostArguments, News, Refusal, Stage, WatchedClocks, host_over, run_host,
     write_begin, write_endings, write_event, write_turn,
 };
+use nbt_lease::Config;
 use nbt_name::{Addr, Kind, Name};
 use nbt_port::{Fault, MemoryClock, MemoryPort, Port, UdpPort};
 use nbt_server::Server;
@@ -57,7 +58,7 @@ fn want(octets: &[u8; 16], kind: Kind) -> Result<Want, Fail> {
     Ok(Want {
         name: Name::new(octets, b"")?,
         kind,
-        ttl: 60,
+        ttl: 0,
     })
 }
 
@@ -438,6 +439,246 @@ const TOO_LATE: Hosted = Hosted {
     sent: &[ASK],
 };
 
+/// The server's reply has TTL 0, though it was asked for 60 s. Its renewal, which has it too, isn't told.
+const UNTIMED: Hosted = Hosted {
+    wants: &[FRED],
+    turns: &[
+        (
+            3_000,
+            3_000,
+            0,
+            (SERVER, "0001 ad80 reply FRED NB 0s unique 127.0.0.2"),
+        ),
+        (
+            33_000,
+            33_000,
+            0,
+            (SERVER, "0002 ad80 reply FRED NB 0s unique 127.0.0.2"),
+        ),
+    ],
+    end: &[],
+    given: &[(SERVER, "0003 b400 reply FRED NB 0s unique 127.0.0.2")],
+    fails_after: None,
+    time: 33_000,
+    log: false,
+    all: Ok(true),
+    printed: "host 127.0.0.2:137 asks 127.0.0.1:137 for 1 name\n2026-11-24T09:11:06Z granted FRED#20 60 s: the server says no time\n2026-11-24T09:11:36Z given back FRED#20\n",
+    errors: "",
+    sent: &[
+        ASK,
+        REFRESH_2,
+        (
+            SERVER,
+            "0003 3000 two-parts FRED NB again NB 0s unique 127.0.0.2",
+        ),
+    ],
+};
+
+/// Holds of 2 s and 1 s, which end after 1,994 ms and 996 ms, and may be refreshed 2,005 ms after their request at the earliest: that is
+/// told once, and that they lapse isn't. A hold of 3 s ends the row, and lapses; so does a refusal.
+const BRIEF: Hosted = Hosted {
+    wants: &[FRED],
+    turns: &[
+        (
+            3_000,
+            3_000,
+            0,
+            (SERVER, "0001 ad80 reply FRED NB 00000002 unique 127.0.0.2"),
+        ),
+        (4_994, 4_994, 0, NOTHING),
+        (
+            6_000,
+            6_000,
+            0,
+            (SERVER, "0002 ad80 reply FRED NB 1s unique 127.0.0.2"),
+        ),
+        (8_000, 8_000, 0, NOTHING),
+        (
+            9_000,
+            9_000,
+            0,
+            (SERVER, "0003 ad80 reply FRED NB 00000003 unique 127.0.0.2"),
+        ),
+        (11_992, 11_992, 0, NOTHING),
+        (
+            12_500,
+            12_500,
+            0,
+            (SERVER, "0004 ad80 reply FRED NB 00000002 unique 127.0.0.2"),
+        ),
+        (13_990, 13_990, 0, NOTHING),
+        (
+            17_000,
+            17_000,
+            0,
+            (SERVER, "0005 ad86 reply FRED NB 0s unique 127.0.0.2"),
+        ),
+        (
+            22_000,
+            22_000,
+            0,
+            (SERVER, "0006 ad80 reply FRED NB 00000002 unique 127.0.0.2"),
+        ),
+    ],
+    end: &[],
+    given: &[(SERVER, "0007 b400 reply FRED NB 0s unique 127.0.0.2")],
+    fails_after: None,
+    time: 22_000,
+    log: false,
+    all: Ok(true),
+    printed: "host 127.0.0.2:137 asks 127.0.0.1:137 for 1 name\n2026-11-24T09:11:06Z granted FRED#20 2 s: too short to be renewed in time\n2026-11-24T09:11:12Z granted FRED#20 3 s\n2026-11-24T09:11:14Z lapsed FRED#20\n2026-11-24T09:11:15Z granted FRED#20 2 s: too short to be renewed in time\n2026-11-24T09:11:20Z refused FRED#20: held by another (6)\n2026-11-24T09:11:20Z asks again for FRED#20 after 5 s, 10 s .. at most 5 min\n2026-11-24T09:11:25Z granted FRED#20 2 s: too short to be renewed in time\n2026-11-24T09:11:25Z given back FRED#20\n",
+    errors: "",
+    sent: &[
+        ASK,
+        ASK_2,
+        ASK_3,
+        ASK_4,
+        (
+            SERVER,
+            "0005 2900 two-parts FRED NB again NB 60s unique 127.0.0.2",
+        ),
+        (
+            SERVER,
+            "0006 2900 two-parts FRED NB again NB 60s unique 127.0.0.2",
+        ),
+        (
+            SERVER,
+            "0007 3000 two-parts FRED NB again NB 0s unique 127.0.0.2",
+        ),
+    ],
+};
+
+/// No reply comes to the three sendings of the first request, nor to those of the second, which is told once; the third is granted.
+/// When its hold has lapsed, no reply comes again.
+const SILENT: Hosted = Hosted {
+    wants: &[FRED],
+    turns: &[
+        (3_000, 3_000, 0, NOTHING),
+        (8_000, 8_000, 0, NOTHING),
+        (13_000, 13_000, 0, NOTHING),
+        (17_999, 17_999, 0, NOTHING),
+        (18_000, 18_000, 0, NOTHING),
+        (23_000, 23_000, 0, NOTHING),
+        (28_000, 28_000, 0, NOTHING),
+        (33_000, 33_000, 0, NOTHING),
+        (
+            34_000,
+            34_000,
+            0,
+            (SERVER, "0003 ad80 reply FRED NB 00000003 unique 127.0.0.2"),
+        ),
+        (40_000, 40_000, 0, NOTHING),
+        (45_000, 45_000, 0, NOTHING),
+        (50_000, 50_000, 0, NOTHING),
+        (55_000, 55_000, 0, NOTHING),
+    ],
+    end: &[],
+    given: &[],
+    fails_after: None,
+    time: 55_000,
+    log: false,
+    all: Ok(false),
+    printed: "host 127.0.0.2:137 asks 127.0.0.1:137 for 1 name\n2026-11-24T09:11:21Z no reply yet from 127.0.0.1:137\n2026-11-24T09:11:37Z granted FRED#20 3 s\n2026-11-24T09:11:43Z lapsed FRED#20\n2026-11-24T09:11:58Z no reply yet from 127.0.0.1:137\n2026-11-24T09:11:58Z not held FRED#20\n",
+    errors: "",
+    sent: &[
+        ASK,
+        ASK,
+        ASK,
+        ASK_2,
+        ASK_2,
+        ASK_2,
+        ASK_3,
+        ASK_4,
+        ASK_4,
+        ASK_4,
+        (
+            SERVER,
+            "0005 2900 two-parts FRED NB again NB 60s unique 127.0.0.2",
+        ),
+    ],
+};
+
+/// The confirmation of a release is the last word: what comes to a repeated one is nothing.
+const CONFIRMED_FIRST: Hosted = Hosted {
+    wants: &[FRED, (b"TEAM            ", Kind::Group)],
+    turns: &[
+        (3_000, 3_000, 0, GRANTED),
+        (
+            4_000,
+            4_000,
+            0,
+            (SERVER, "0002 ad80 reply TEAM NB 60s group 127.0.0.2"),
+        ),
+    ],
+    end: &[],
+    given: &[
+        (SERVER, "0003 b400 reply FRED NB 0s unique 127.0.0.2"),
+        (SERVER, "0003 b406 reply FRED NB 0s unique 127.0.0.2"),
+        (SERVER, "0004 b400 reply TEAM NB 0s group 127.0.0.2"),
+    ],
+    fails_after: None,
+    time: 4_000,
+    log: false,
+    all: Ok(true),
+    printed: "host 127.0.0.2:137 asks 127.0.0.1:137 for 2 names\n2026-11-24T09:11:06Z granted FRED#20 60 s\n2026-11-24T09:11:07Z granted TEAM#20 60 s\n2026-11-24T09:11:07Z given back FRED#20\n2026-11-24T09:11:07Z given back TEAM#20\n",
+    errors: "",
+    sent: &[
+        ASK,
+        (
+            SERVER,
+            "0002 2900 two-parts TEAM NB again NB 60s group 127.0.0.2",
+        ),
+        (
+            SERVER,
+            "0003 3000 two-parts FRED NB again NB 0s unique 127.0.0.2",
+        ),
+        (
+            SERVER,
+            "0004 3000 two-parts TEAM NB again NB 0s group 127.0.0.2",
+        ),
+    ],
+};
+
+/// No reply comes to the first release, and the second is denied: the first may have been confirmed, and the name another's since.
+const DENIED_LATE: Hosted = Hosted {
+    wants: &[FRED],
+    turns: &[(4_000, 4_000, 0, GRANTED)],
+    end: &[
+        4_000, 4_000, 4_000, 4_000, 4_000, 4_000, 4_000, 9_000, 9_000, 9_000, 9_000, 9_000,
+    ],
+    given: &[
+        NOTHING,
+        (SERVER, "0002 b406 reply FRED NB 0s unique 127.0.0.2"),
+    ],
+    fails_after: None,
+    time: 4_000,
+    log: false,
+    all: Ok(true),
+    printed: "host 127.0.0.2:137 asks 127.0.0.1:137 for 1 name\n2026-11-24T09:11:07Z granted FRED#20 60 s\n2026-11-24T09:11:12Z give-back unconfirmed FRED#20\n",
+    errors: "",
+    sent: &[ASK, RELEASE_2, RELEASE_2],
+};
+
+/// The first one is denied a millisecond before it would be sent again.
+const DENIED: Hosted = Hosted {
+    wants: &[FRED],
+    turns: &[(4_000, 4_000, 0, GRANTED)],
+    end: &[
+        4_000, 4_000, 4_000, 4_000, 4_000, 4_000, 4_000, 8_999, 8_999, 8_999, 8_999, 8_999,
+    ],
+    given: &[
+        NOTHING,
+        (SERVER, "0002 b406 reply FRED NB 0s unique 127.0.0.2"),
+    ],
+    fails_after: None,
+    time: 4_000,
+    log: false,
+    all: Ok(true),
+    printed: "host 127.0.0.2:137 asks 127.0.0.1:137 for 1 name\n2026-11-24T09:11:07Z granted FRED#20 60 s\n2026-11-24T09:11:11Z give-back denied FRED#20: held by another (6)\n",
+    errors: "",
+    sent: &[ASK, RELEASE_2],
+};
+
 /// The time of day goes 201 ms beyond the steady clock: the host rests, and asks anew with the first id.
 const SLEPT: Hosted = Hosted {
     wants: &[FRED],
@@ -544,6 +785,9 @@ const ROWS: &[Hosted] = &[
     FAILING_AT_THE_END,
 ];
 
+/// What the server doesn't say, says too briefly, or says again.
+const SERVERS: &[Hosted] = &[UNTIMED, BRIEF, SILENT, CONFIRMED_FIRST, DENIED_LATE, DENIED];
+
 /// How many octets the output takes, and what stands in it when the next one is refused. The host is the one whose give-back is not
 /// confirmed.
 struct Short {
@@ -570,7 +814,7 @@ fn run_short<R: Abort + AllocGlobal + time::Clock>(
     arguments: &HostArguments,
     room: &mut [u8],
     printed: &str,
-) {
+) -> Result<(), Fail> {
     let mut short = &mut *room;
     let mut errors = Vec::new(rt.alloc());
     expect(rt, port.failures() < 1 << 61);
@@ -585,8 +829,13 @@ fn run_short<R: Abort + AllocGlobal + time::Clock>(
         &mut errors,
     );
     expect_eq(rt, &ended, &Err(Fault::Output));
-    expect(rt, errors.is_empty());
+    expect_eq(
+        rt,
+        &str::from_utf8(errors.as_slice())?,
+        &"nbt: the output can't be written: failed to write whole buffer\n",
+    );
     expect_eq(rt, &&*room, &printed.as_bytes());
+    Ok(())
 }
 
 impl Scene for Short {
@@ -601,8 +850,7 @@ impl Scene for Short {
         let room = octets.get_mut(..self.room).ok_or("no room")?;
         let arguments = arguments(rt, &[FRED], 4_000, false)?;
         let clocks = clocks(rt, UNCONFIRMED.turns, &[])?;
-        run_short(rt, port, clocks, &arguments, room, self.printed);
-        Ok(())
+        run_short(rt, port, clocks, &arguments, room, self.printed)
     }
 }
 
@@ -617,6 +865,11 @@ fn play_hosted<R: Abort + AllocGlobal + time::Clock>(rt: &R, rows: &[Hosted]) ->
 #[test]
 fn hosts_and_their_lines(rt: HostRuntime) -> Result<(), Fail> {
     play_hosted(&rt, ROWS)
+}
+
+#[test]
+fn hosts_and_what_their_servers_leave_unsaid(rt: HostRuntime) -> Result<(), Fail> {
+    play_hosted(&rt, SERVERS)
 }
 
 fn play_short<R: Abort + AllocGlobal + time::Clock>(rt: &R, rows: &[Short]) -> Result<(), Fail> {
@@ -677,6 +930,25 @@ fn a_host_tells_the_port_that_it_got(rt: HostRuntime) -> Result<(), Fail> {
     expect_eq(&rt, &all, &Ok(false));
     expect(&rt, printed.as_slice().starts_with(b"host 127.42.23.4:"));
     expect(&rt, !printed.as_slice().starts_with(b"host 127.42.23.4:0 "));
+    Ok(())
+}
+
+/// There is no way to port 0. A datagram lives 1 ms, so that it asks at once.
+#[test]
+fn a_host_says_that_its_server_has_no_route(rt: HostRuntime) -> Result<(), Fail> {
+    let mut arguments = arguments_here(&rt, 20_183)?;
+    arguments.server.port = 0;
+    arguments.config = Config::new(1, 60, 1)?;
+    arguments.time = Some(300);
+    let mut printed = Vec::new(rt.alloc());
+    let mut errors = Vec::new(rt.alloc());
+    let all = run_host(&rt, rt.alloc(), &arguments, &mut printed, &mut errors);
+    expect_eq(&rt, &all, &Ok(false));
+    expect_eq(
+        &rt,
+        &errors.as_slice(),
+        &b"nbt: 127.42.23.4:0: send: Invalid argument (os error 22); going on\n".as_slice(),
+    );
     Ok(())
 }
 
@@ -763,7 +1035,7 @@ fn goal(stage: Stage, lapsed: bool, news: Option<News>, times: u8) -> Result<Goa
 /// The first line, the lines of a turn on a machine that slept, and those of the end.
 fn write_lines(goals: &[Goal], text: &mut String) -> Result<(), Fail> {
     write_begin(HOST, SERVER, 0, text)?;
-    write_turn(SECOND, false, true, goals, text)?;
+    write_turn(SECOND, false, SERVER, true, goals, text)?;
     write_endings(SECOND, goals, text)?;
     Ok(())
 }

@@ -4,7 +4,10 @@
 use super::expect::{expect_eq, expect_eq_in};
 use arrayvec::ArrayVec;
 use nbt_lease::{Lease, Moment};
-use nbt_log::{Dates, Entry, Limiter, write_entry, write_leases, write_time};
+use nbt_log::{
+    Dates, Entry, LIST_HEAD, Limiter, Limiters, LineKind, may_become_list, write_entry, write_list,
+    write_time,
+};
 use nbt_name::{Addr, Kind, Name};
 use nbt_server::{Claim, Outcome, Refusal, Server};
 use nbt_testing::{GRANTED, QUERY, REFRESH, REGISTRATION, RELEASE, RIVAL, moment, octets, started};
@@ -114,35 +117,42 @@ const CLAIMED: &[Claimed] = &[
         "FRED",
         Kind::Unique,
         0x7F000003,
-        "2026-11-24T09:12:03Z refused FRED#20 127.0.0.3 unique: held by another (6)\n",
+        "2026-11-24T09:12:03Z refused FRED#20 127.0.0.3 unique from 192.0.2.9:137: another has it: 127.0.0.2 (6)\n",
     ),
     (
         Done::Refused(Refusal::NotOwn),
         "TEAM",
         Kind::Group,
         0x7F000002,
-        "2026-11-24T09:12:03Z refused TEAM#20 127.0.0.2 group: refused (5)\n",
+        "2026-11-24T09:12:03Z refused TEAM#20 127.0.0.2 group from 192.0.2.9:137: not its own address (5)\n",
+    ),
+    (
+        Done::Refused(Refusal::Star),
+        "TEAM",
+        Kind::Unique,
+        0x7F000002,
+        "2026-11-24T09:12:03Z refused TEAM#20 127.0.0.2 unique from 192.0.2.9:137: its name begins with * (5)\n",
     ),
     (
         Done::Refused(Refusal::Overwrite),
         "TEAM",
         Kind::Group,
         0x7F000002,
-        "2026-11-24T09:12:03Z refused TEAM#20 127.0.0.2 group: refused (5)\n",
+        "2026-11-24T09:12:03Z refused TEAM#20 127.0.0.2 group from 192.0.2.9:137: an overwrite (5)\n",
     ),
     (
         Done::Refused(Refusal::TableFull),
         "TEAM",
         Kind::Group,
         0x7F000002,
-        "2026-11-24T09:12:03Z refused TEAM#20 127.0.0.2 group: server failure (2)\n",
+        "2026-11-24T09:12:03Z refused TEAM#20 127.0.0.2 group from 192.0.2.9:137: the table is full (2)\n",
     ),
     (
         Done::Refused(Refusal::GroupFull),
         "TEAM",
         Kind::Group,
         0x7F000002,
-        "2026-11-24T09:12:03Z refused TEAM#20 127.0.0.2 group: server failure (2)\n",
+        "2026-11-24T09:12:03Z refused TEAM#20 127.0.0.2 group from 192.0.2.9:137: the group is full (2)\n",
     ),
     // Releases: of a lease, of none, and one that is refused.
     (
@@ -158,7 +168,7 @@ const CLAIMED: &[Claimed] = &[
         "FRED",
         Kind::Unique,
         0x7F000003,
-        "2026-11-24T09:12:03Z release refused FRED#20 127.0.0.3 unique: held by another (6)\n",
+        "2026-11-24T09:12:03Z release refused FRED#20 127.0.0.3 unique from 192.0.2.9:137: another has it: 127.0.0.2 (6)\n",
     ),
     // In a scope, and with a suffix that is no space.
     (
@@ -166,13 +176,54 @@ const CLAIMED: &[Claimed] = &[
         "NODEB.LAB.TEST",
         Kind::Unique,
         0xC6128902,
-        "2026-11-24T09:12:03Z granted NODEB.LAB.TEST 198.18.137.2 unique 20 s\n",
+        "2026-11-24T09:12:03Z granted NODEB#20.LAB.TEST 198.18.137.2 unique 20 s\n",
     ),
     // Queries, and a request to a server that is silent.
     (Done::Found, "FRED", Kind::Unique, 0x7F000002, ""),
     (Done::NotFound, "FRED", Kind::Unique, 0x7F000002, ""),
-    (Done::Silent, "FRED", Kind::Unique, 0x7F000002, ""),
+    (
+        Done::Silent,
+        "FRED",
+        Kind::Unique,
+        0x7F000002,
+        "2026-11-24T09:12:03Z unanswered FRED#20 from 192.0.2.9:137\n",
+    ),
 ];
+
+/// What was done with FRED, how many lines of its kind were left out before, and the line.
+const AFTER_OTHERS: [(Done, u64, &str); 5] = [
+    (
+        Done::Granted(60),
+        12,
+        "2026-11-24T09:12:03Z granted FRED#20 127.0.0.2 unique 60 s, 12 left out before\n",
+    ),
+    (
+        Done::Refused(Refusal::TableFull),
+        1_200,
+        "2026-11-24T09:12:03Z refused FRED#20 127.0.0.2 unique from 192.0.2.9:137: the table is full (2), 1200 left out before\n",
+    ),
+    (
+        Done::Released,
+        1,
+        "2026-11-24T09:12:03Z released FRED#20 127.0.0.2 unique, 1 left out before\n",
+    ),
+    (
+        Done::Silent,
+        7,
+        "2026-11-24T09:12:03Z unanswered FRED#20 from 192.0.2.9:137, 7 left out before\n",
+    ),
+    (Done::Found, 7, ""),
+];
+
+#[test]
+fn a_line_says_how_many_were_left_out(rt: HostRuntime) -> Result<(), Fail> {
+    for (done, left_out, expected) in AFTER_OTHERS {
+        let claim = claim_of("FRED", Kind::Unique, 0x7F000002)?;
+        let entry = entry_of(68, false, outcome_of(done, claim));
+        expect_line(&rt, &entry, left_out, expected)?;
+    }
+    Ok(())
+}
 
 fn claim_of(name: &str, kind: Kind, addr: u32) -> Result<Claim, Fail> {
     Ok(Claim {
@@ -182,10 +233,11 @@ fn claim_of(name: &str, kind: Kind, addr: u32) -> Result<Claim, Fail> {
     })
 }
 
-fn entry_of(count: usize, outcome: Outcome) -> Entry {
+fn entry_of(count: usize, is_broadcast: bool, outcome: Outcome) -> Entry {
     Entry {
         from: FROM,
         count,
+        is_broadcast,
         outcome,
     }
 }
@@ -204,7 +256,7 @@ fn expect_line<R: Abort + AllocGlobal>(
 
 fn expect_lines<R: Abort + AllocGlobal>(rt: &R, rows: &[Claimed]) -> Result<(), Fail> {
     for (done, name, kind, addr, expected) in rows {
-        let entry = entry_of(68, outcome_of(*done, claim_of(name, *kind, *addr)?));
+        let entry = entry_of(68, false, outcome_of(*done, claim_of(name, *kind, *addr)?));
         expect_line(rt, &entry, 0, expected)?;
     }
     Ok(())
@@ -215,39 +267,120 @@ fn a_line_for_each_outcome(rt: HostRuntime) -> Result<(), Fail> {
     expect_lines(&rt, CLAIMED)
 }
 
-/// What was no request, how many octets it had, how many lines were left out, and the line.
-const STRANGERS: [(Done, usize, u64, &str); 4] = [
+/// What was no request, how many octets it had, whether it was a broadcast, how many lines were left out, and the line.
+const STRANGERS: [(Done, usize, bool, u64, &str); 6] = [
     (
         Done::NoMessage,
         12,
+        false,
         0,
         "2026-11-24T09:12:03Z malformed from 192.0.2.9:137: 12 octets\n",
     ),
     (
         Done::NoMessage,
         0,
+        false,
         3,
         "2026-11-24T09:12:03Z malformed from 192.0.2.9:137: 0 octets, 3 left out before\n",
     ),
     (
         Done::ForNodes,
         62,
+        false,
         0,
         "2026-11-24T09:12:03Z foreign from 192.0.2.9:137: 62 octets\n",
     ),
     (
         Done::ForNodes,
         50,
+        false,
         1,
         "2026-11-24T09:12:03Z foreign from 192.0.2.9:137: 50 octets, 1 left out before\n",
+    ),
+    (
+        Done::NoMessage,
+        68,
+        true,
+        0,
+        "2026-11-24T09:12:03Z broadcast from 192.0.2.9:137: 68 octets\n",
+    ),
+    (
+        Done::ForNodes,
+        50,
+        true,
+        2,
+        "2026-11-24T09:12:03Z broadcast from 192.0.2.9:137: 50 octets, 2 left out before\n",
     ),
 ];
 
 #[test]
 fn a_line_for_what_is_no_request(rt: HostRuntime) -> Result<(), Fail> {
-    for (done, count, left_out, expected) in STRANGERS {
-        let entry = entry_of(count, outcome_of(done, claim_of("FRED", Kind::Unique, 0)?));
+    for (done, count, is_broadcast, left_out, expected) in STRANGERS {
+        let outcome = outcome_of(done, claim_of("FRED", Kind::Unique, 0)?);
+        let entry = entry_of(count, is_broadcast, outcome);
         expect_line(&rt, &entry, left_out, expected)?;
+    }
+    Ok(())
+}
+
+/// Octets, what was done with them, and of which kind their line is without broadcasts and with them.
+type Kinds = (&'static [u8], Done, Option<LineKind>, Option<LineKind>);
+
+const KINDS: &[Kinds] = &[
+    // B is the lowest bit of the fourth octet's upper half; R is the highest of the third.
+    (
+        &[0, 1, 0x29, 0x10],
+        Done::NoMessage,
+        None,
+        Some(LineKind::Broadcast),
+    ),
+    (
+        &[0, 1, 0x01, 0x10],
+        Done::ForNodes,
+        None,
+        Some(LineKind::Broadcast),
+    ),
+    (
+        &[0, 1, 0x29, 0x20],
+        Done::NoMessage,
+        Some(LineKind::Malformed),
+        Some(LineKind::Malformed),
+    ),
+    (
+        &[0, 1, 0xAD, 0x10],
+        Done::NoMessage,
+        Some(LineKind::Malformed),
+        Some(LineKind::Malformed),
+    ),
+    (
+        &[0, 1, 0x29],
+        Done::NoMessage,
+        Some(LineKind::Malformed),
+        Some(LineKind::Malformed),
+    ),
+    (
+        &[0, 1, 0xAD, 0x80],
+        Done::ForNodes,
+        Some(LineKind::Foreign),
+        Some(LineKind::Foreign),
+    ),
+    (&[0, 1, 0x29, 0x10], Done::Found, None, None),
+    (
+        &[0, 1, 0x29, 0x10],
+        Done::Silent,
+        Some(LineKind::Unanswered),
+        Some(LineKind::Unanswered),
+    ),
+];
+
+#[test]
+fn of_which_kind_a_line_is(rt: HostRuntime) -> Result<(), Fail> {
+    for (octets, done, plain, wide) in KINDS {
+        let claim = claim_of("FRED", Kind::Unique, 0)?;
+        let entry = Entry::of(FROM, *octets, outcome_of(*done, claim));
+        expect_eq(&rt, &entry.count, &octets.len());
+        expect_eq_in(&rt, octets, &entry.told_kind(false), plain);
+        expect_eq_in(&rt, octets, &entry.told_kind(true), wide);
     }
     Ok(())
 }
@@ -419,6 +552,52 @@ fn ten_lines_in_a_second(rt: HostRuntime) -> Result<(), Fail> {
     Ok(())
 }
 
+#[test]
+fn lines_of_each_kind_are_limited_by_themselves(rt: HostRuntime) -> Result<(), Fail> {
+    let mut limiters = Limiters::new();
+    for _ in 0..10 {
+        expect_eq(
+            &rt,
+            &limiters.take(LineKind::Granted, moment(5_000)?),
+            &Some(0),
+        );
+    }
+    expect_eq(
+        &rt,
+        &limiters.take(LineKind::Granted, moment(5_000)?),
+        &None,
+    );
+    expect_eq(
+        &rt,
+        &limiters.take(LineKind::Refused, moment(5_000)?),
+        &Some(0),
+    );
+    expect_eq(
+        &rt,
+        &limiters.take(LineKind::Granted, moment(6_000)?),
+        &Some(1),
+    );
+    Ok(())
+}
+
+/// The first octets of a file, and whether a list may be put in place of it.
+const FIRSTS: [(&str, bool); 6] = [
+    ("", true),
+    (LIST_HEAD, true),
+    ("# live leases of nbt nbns", false),
+    ("# live leases of nbt nbnt\n", false),
+    ("FILER#20 unique 192.0.2.7 ", false),
+    ("\n", false),
+];
+
+#[test]
+fn what_a_list_may_be_put_in_place_of(rt: HostRuntime) -> Result<(), Fail> {
+    for (first, expected) in FIRSTS {
+        expect_eq_in(&rt, &first, &may_become_list(first.as_bytes()), &expected);
+    }
+    Ok(())
+}
+
 /// At the moment 10,000 ms it was 2026-11-24T23:59:58Z.
 fn dates() -> Result<Dates, Fail> {
     Ok(Dates {
@@ -457,11 +636,11 @@ fn leases<R: AllocGlobal>(rt: &R) -> Result<Vec<(Name, Lease)>, Fail> {
 fn expect_list<R: Abort + AllocGlobal>(rt: &R, rows: &[(Name, Lease)]) -> Result<(), Fail> {
     let (dates, now) = (dates()?, moment(11_000)?);
     let mut text = String::from_str(rt.alloc(), "> ")?;
-    write_leases(&dates, now, rows, &mut text)?;
+    write_list(&dates, now, rows, &mut text)?;
     expect_eq(
         rt,
         &text.as_str(),
-        &"> FRED#20 unique 127.0.0.2 2026-11-24T23:59:59Z\nTEAM#20 group 192.0.2.7 2026-11-25T00:00:00Z\nNODEB.LAB.TEST unique 0.0.0.0 2026-11-25T00:04:58Z\nFILER#00 unique 1.2.3.4 2026-11-24T23:59:59Z\n",
+        &"> # live leases of nbt nbns\nFRED#20 unique 127.0.0.2 2026-11-24T23:59:59Z\nTEAM#20 group 192.0.2.7 2026-11-25T00:00:00Z\nNODEB#20.LAB.TEST unique 0.0.0.0 2026-11-25T00:04:58Z\nFILER#00 unique 1.2.3.4 2026-11-24T23:59:59Z\n",
     );
     Ok(())
 }

@@ -3,7 +3,7 @@
 use super::expect::{expect, expect_eq, expect_eq_in};
 use super::stage::{Scene, play_on};
 use arrayvec::ArrayVec;
-use nbt_client::{Answer, Ending, Question, ask, look_up, patience_of};
+use nbt_client::{Answer, Ending, Question, ask, ask_here, look_up, patience_of};
 use nbt_name::{Addr, Name};
 use nbt_node::{LookupFault, Node};
 use nbt_port::{Fault, MemoryClock, MemoryPort, Port};
@@ -289,6 +289,16 @@ const ASKED: &[Asked] = &[
         text: "FRED#20 unique active  file server\n",
         sent: &[(PEER, STATUS_REQUEST)],
     },
+    Asked {
+        asks: "names",
+        moments: &[0, 0, 0, 10],
+        given: &[(PEER, STATUS)],
+        fails_after: None,
+        patience: 15_000,
+        answer: Ok(Answer::Found),
+        text: "no names\n",
+        sent: &[(PEER, STATUS_REQUEST)],
+    },
     // Two tries, and the reply comes too late.
     Asked {
         asks: "FRED",
@@ -389,6 +399,30 @@ fn questions_as_commands_ask_them(rt: HostRuntime) -> Result<(), Fail> {
     for (answer, status) in &STATUSES {
         expect_eq(&rt, &answer.status(), &*status);
     }
+    Ok(())
+}
+
+/// There is no way to port 0: the question ends at once, and it is said why.
+#[test]
+fn a_question_without_a_route_ends_at_once(rt: HostRuntime) -> Result<(), Fail> {
+    let own = Addr {
+        ip: 0x7F2A1705,
+        port: 0,
+    };
+    let question = Question::Holders(
+        Addr { port: 0, ..SERVER },
+        Name::new(b"FRED            ", b"")?,
+    );
+    let mut text = String::new(rt.alloc());
+    let mut errors = Vec::new(rt.alloc());
+    let answer = ask_here(&rt, own, &question, 15_000, &mut text, &mut errors);
+    expect_eq(&rt, &answer, &Err(Fault::Device));
+    expect_eq(&rt, &text.as_str(), &"");
+    expect_eq(
+        &rt,
+        &errors.as_slice(),
+        &b"nbt: 127.0.0.1:0: send: Invalid argument (os error 22)\n".as_slice(),
+    );
     Ok(())
 }
 

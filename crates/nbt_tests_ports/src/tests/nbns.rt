@@ -7,8 +7,8 @@ use nbt_lease::Config;
 use nbt_log::Dates;
 use nbt_name::Addr;
 use nbt_nbns::{
-    FilePlace, Journal, Judged, Keeper, Logger, MemoryPlace, NbnsArguments, Place, judge, run_nbns,
-    watch_on, write_begin, write_refusal, write_warning,
+    FilePlace, Journal, Judged, Keeper, Logger, MemoryPlace, NbnsArguments, Outbox, Place, judge,
+    run_nbns, watch_on, write_begin, write_refusal, write_warning,
 };
 use nbt_port::{Fault, MemoryClock, MemoryPort, Port, UdpPort};
 use nbt_server::Server;
@@ -17,6 +17,7 @@ use nbt_testing::{
     expect_sent, moment,
 };
 use std::io::Write;
+use std::os::unix::fs::symlink;
 use std::process::Abort;
 use std::test::Fail;
 use std::{env, fs, io, process, time};
@@ -98,7 +99,7 @@ fn journal_of<R: AllocGlobal>(
     };
     let day = clock(rt, times_of(rt, turns)?.as_slice())?;
     let log = if logs {
-        Some(Logger::new(rt.alloc()))
+        Some(Logger::new(rt.alloc(), false))
     } else {
         None
     };
@@ -214,11 +215,11 @@ const WATCHED: &[Watched] = &[
         turns: EACH,
         until: 64_000,
         logs: true,
-        printed: "2026-11-24T09:12:03Z granted FRED#20 127.0.0.2 unique 60 s\n2026-11-24T09:12:03Z refused FRED#20 127.0.0.3 unique: held by another (6)\n2026-11-24T09:12:04Z renewed FRED#20 127.0.0.2 unique 60 s\n2026-11-24T09:12:05Z malformed from 127.0.0.3:1024: 1 octets\n2026-11-24T09:12:05Z foreign from 127.0.0.2:137: 62 octets\n2026-11-24T09:12:06Z released FRED#20 127.0.0.2 unique\n",
+        printed: "2026-11-24T09:12:03Z granted FRED#20 127.0.0.2 unique 60 s\n2026-11-24T09:12:03Z refused FRED#20 127.0.0.3 unique from 127.0.0.3:1024: another has it: 127.0.0.2 (6)\n2026-11-24T09:12:04Z renewed FRED#20 127.0.0.2 unique 60 s\n2026-11-24T09:12:05Z malformed from 127.0.0.3:1024: 1 octets\n2026-11-24T09:12:05Z foreign from 127.0.0.2:137: 62 octets\n2026-11-24T09:12:06Z released FRED#20 127.0.0.2 unique\n",
         lists: &[
-            "FRED#20 unique 127.0.0.2 2026-11-24T09:13:03Z\n",
-            "FRED#20 unique 127.0.0.2 2026-11-24T09:13:04Z\n",
-            "",
+            "# live leases of nbt nbns\nFRED#20 unique 127.0.0.2 2026-11-24T09:13:03Z\n",
+            "# live leases of nbt nbns\nFRED#20 unique 127.0.0.2 2026-11-24T09:13:04Z\n",
+            "# live leases of nbt nbns\n",
         ],
         sent: ALL_SENT,
     },
@@ -237,9 +238,9 @@ const WATCHED: &[Watched] = &[
         logs: false,
         printed: "",
         lists: &[
-            "FRED#20 unique 127.0.0.2 2026-11-24T09:13:03Z\n",
-            "FRED#20 unique 127.0.0.2 2026-11-24T09:13:04Z\n",
-            "",
+            "# live leases of nbt nbns\nFRED#20 unique 127.0.0.2 2026-11-24T09:13:03Z\n",
+            "# live leases of nbt nbns\nFRED#20 unique 127.0.0.2 2026-11-24T09:13:04Z\n",
+            "# live leases of nbt nbns\n",
         ],
         sent: ALL_SENT,
     },
@@ -248,20 +249,22 @@ const WATCHED: &[Watched] = &[
         turns: EACH,
         until: 60_400,
         logs: true,
-        printed: "2026-11-24T09:12:03Z granted FRED#20 127.0.0.2 unique 60 s\n2026-11-24T09:12:03Z refused FRED#20 127.0.0.3 unique: held by another (6)\n",
+        printed: "2026-11-24T09:12:03Z granted FRED#20 127.0.0.2 unique 60 s\n2026-11-24T09:12:03Z refused FRED#20 127.0.0.3 unique from 127.0.0.3:1024: another has it: 127.0.0.2 (6)\n",
         lists: &[],
         sent: &[(FIRST, GRANTED), (SECOND, REFUSED)],
     },
-    // Until 60,000 it is silent: nothing is told of a request. What is malformed is told of, and the list has no lease.
+    // Until 60,000 it is silent: a request is told as unanswered. What is malformed is told of, a broadcast isn't, and the list has
+    // no lease.
     Watched {
         turns: &[
             (59_998, 0, (FIRST, REGISTRATION)),
+            (59_998, 0, (FIRST, "00012910")),
             (59_999, 0, (FIRST, "00")),
         ],
         until: 59_999,
         logs: true,
-        printed: "2026-11-24T09:12:02Z malformed from 127.0.0.2:137: 1 octets\n",
-        lists: &[""],
+        printed: "2026-11-24T09:12:02Z unanswered FRED#20 from 127.0.0.2:137\n2026-11-24T09:12:02Z malformed from 127.0.0.2:137: 1 octets\n",
+        lists: &["# live leases of nbt nbns\n"],
         sent: &[],
     },
     // A datagram whose moment goes back is lost; a lease that is over is granted anew, and leaves the list by time alone.
@@ -276,7 +279,10 @@ const WATCHED: &[Watched] = &[
         until: 121_000,
         logs: true,
         printed: "2026-11-24T09:12:03Z granted FRED#20 127.0.0.2 unique 60 s\n",
-        lists: &["FRED#20 unique 127.0.0.2 2026-11-24T09:13:03Z\n", ""],
+        lists: &[
+            "# live leases of nbt nbns\nFRED#20 unique 127.0.0.2 2026-11-24T09:13:03Z\n",
+            "# live leases of nbt nbns\n",
+        ],
         sent: &[(FIRST, GRANTED)],
     },
     Watched {
@@ -288,8 +294,8 @@ const WATCHED: &[Watched] = &[
         logs: true,
         printed: "2026-11-24T09:12:03Z granted FRED#20 127.0.0.2 unique 60 s\n2026-11-24T09:13:03Z granted FRED#20 127.0.0.2 unique 60 s\n",
         lists: &[
-            "FRED#20 unique 127.0.0.2 2026-11-24T09:13:03Z\n",
-            "FRED#20 unique 127.0.0.2 2026-11-24T09:14:03Z\n",
+            "# live leases of nbt nbns\nFRED#20 unique 127.0.0.2 2026-11-24T09:13:03Z\n",
+            "# live leases of nbt nbns\nFRED#20 unique 127.0.0.2 2026-11-24T09:14:03Z\n",
         ],
         sent: &[(FIRST, GRANTED), (FIRST, GRANTED)],
     },
@@ -302,10 +308,10 @@ const WATCHED: &[Watched] = &[
         ],
         until: 61_000,
         logs: true,
-        printed: "2026-11-24T09:12:03Z granted FRED#20 127.0.0.2 unique 60 s\n2026-11-24T10:12:03Z refused FRED#20 127.0.0.3 unique: held by another (6)\n",
+        printed: "2026-11-24T09:12:03Z granted FRED#20 127.0.0.2 unique 60 s\n2026-11-24T10:12:03Z refused FRED#20 127.0.0.3 unique from 127.0.0.3:1024: another has it: 127.0.0.2 (6)\n",
         lists: &[
-            "FRED#20 unique 127.0.0.2 2026-11-24T09:13:03Z\n",
-            "FRED#20 unique 127.0.0.2 2026-11-24T10:13:03Z\n",
+            "# live leases of nbt nbns\nFRED#20 unique 127.0.0.2 2026-11-24T09:13:03Z\n",
+            "# live leases of nbt nbns\nFRED#20 unique 127.0.0.2 2026-11-24T10:13:03Z\n",
         ],
         sent: &[(FIRST, GRANTED), (SECOND, REFUSED)],
     },
@@ -389,8 +395,14 @@ fn see_refused_lists<R: Abort + AllocGlobal + time::Clock>(
     let said = "nbt: the list of leases can't be written: the place is full\n";
     expect_said(rt, stage, 61_500, "", said)?;
     expect_lists(rt, stage.journal, &[])?;
-    expect_said(rt, stage, 62_000, "", "")?;
-    let list = "FRED#20 unique 127.0.0.2 2026-11-24T09:13:03Z\n";
+    expect_said(
+        rt,
+        stage,
+        62_000,
+        "",
+        "nbt: the list of leases is written again\n",
+    )?;
+    let list = "# live leases of nbt nbns\nFRED#20 unique 127.0.0.2 2026-11-24T09:13:03Z\n";
     expect_lists(rt, stage.journal, &[list])
 }
 
@@ -426,6 +438,67 @@ impl Write for Paper {
         self.flushed = self.written;
         Ok(())
     }
+}
+
+/// A pipe with this much room, to which a write that would wait is refused.
+#[derive(Drop)]
+struct Pipe {
+    room: usize,
+    text: Vec<u8>,
+}
+
+impl Write for Pipe {
+    fn write(&mut self, buf: &[u8]) -> io::Result<usize> {
+        if self.room == 0 {
+            return Err(io::Error::from(io::ErrorKind::WouldBlock));
+        }
+        let count = self.room.min(buf.len());
+        self.text.extend_from_slice(&buf[..count])?;
+        self.room -= count;
+        Ok(count)
+    }
+
+    fn flush(&mut self) -> io::Result<()> {
+        Ok(())
+    }
+}
+
+/// How much room there is, a line that is sent then, and all that the reader has of the log afterwards.
+const SENT_TO_A_PIPE: [(usize, &str, &str); 7] = [
+    (100, "one\n", "one\n"),
+    (2, "two\n", "one\ntw"),
+    (0, "three\n", "one\ntw"),
+    (1, "four\n", "one\ntwo"),
+    (1, "five\n", "one\ntwo\n"),
+    (
+        500,
+        "six\n",
+        "one\ntwo\n.. 2 lines dropped: the reader of the log was slow, or it could not be written\nfive\nsix\n",
+    ),
+    (
+        500,
+        "seven\n",
+        "one\ntwo\n.. 2 lines dropped: the reader of the log was slow, or it could not be written\nfive\nsix\nseven\n",
+    ),
+];
+
+fn see_pipe<R: Abort>(rt: &R, outbox: &mut Outbox, pipe: &mut Pipe) -> Result<(), Fail> {
+    for (room, line, expected) in SENT_TO_A_PIPE {
+        pipe.room = room;
+        outbox.send(line, pipe)?;
+        expect_eq_in(rt, &line, &pipe.text.as_slice(), &expected.as_bytes());
+    }
+    expect(rt, outbox.is_empty());
+    Ok(())
+}
+
+#[test]
+fn a_slow_reader_of_the_log_gets_whole_lines(rt: HostRuntime) -> Result<(), Fail> {
+    let mut pipe = Pipe {
+        room: 0,
+        text: Vec::new(rt.alloc()),
+    };
+    see_pipe(&rt, &mut Outbox::new(rt.alloc()), &mut pipe)
 }
 
 /// Paper on which nothing was written.
@@ -606,9 +679,9 @@ fn path_for(rt: &HostRuntime, name: &str) -> Result<String, Fail> {
 /// Replaces a file's text. Returns the one that it has then, and the one that is read by who had it open before.
 fn replaced(rt: &HostRuntime, path: &str) -> Result<(String, String), Fail> {
     let mut place = FilePlace::new(rt, rt.alloc(), path)?;
-    place.replace("one\n")?;
+    place.replace("# live leases of nbt nbns\none\n")?;
     let before = fs::open(rt, path)?;
-    place.replace("two\n")?;
+    place.replace("# live leases of nbt nbns\ntwo\n")?;
     let text = fs::read_to_string(rt, path)?;
     Ok((text, io::read_to_string(rt.alloc(), before)?))
 }
@@ -630,7 +703,14 @@ fn can_be_replaced(rt: &HostRuntime, path: &str, end: &str) -> Result<bool, Fail
 fn a_file_has_one_list_or_the_other(rt: HostRuntime) -> Result<(), Fail> {
     let path = path_for(&rt, "one-or-the-other")?;
     let (text, before) = replaced(&rt, path.as_str())?;
-    expect_eq(&rt, &(text.as_str(), before.as_str()), &("two\n", "one\n"));
+    expect_eq(
+        &rt,
+        &(text.as_str(), before.as_str()),
+        &(
+            "# live leases of nbt nbns\ntwo\n",
+            "# live leases of nbt nbns\none\n",
+        ),
+    );
     // The new file has become the old one.
     expect(&rt, !is_there(&rt, path.as_str(), ".new")?);
     fs::remove_file(&rt, path.as_str())?;
@@ -648,6 +728,7 @@ fn arguments(port: u16, strict: bool) -> Result<NbnsArguments, Fail> {
         config: config(16)?,
         time: Some(0),
         log: true,
+        broadcasts: false,
         leases: None,
         strict,
     })
@@ -692,7 +773,11 @@ fn a_server_over_this_machine(rt: HostRuntime) -> Result<(), Fail> {
         expect(&rt, ended.is_ok() && errors.is_empty());
         let before = b"serving 127.42.23.3:20171, silent for 60 s until ";
         expect_begin(&rt, printed.as_slice(), before)?;
-        expect_eq(&rt, &fs::read_to_string(&rt, path.as_str())?.as_str(), &"");
+        expect_eq(
+            &rt,
+            &fs::read_to_string(&rt, path.as_str())?.as_str(),
+            &"# live leases of nbt nbns\n",
+        );
         fs::remove_file(&rt, path.as_str())?;
     }
     Ok(())
@@ -720,6 +805,82 @@ fn a_list_whose_file_can_not_be_had(rt: HostRuntime) -> Result<(), Fail> {
         "nbt: {path} can't be written: No such file or directory (os error 2)\n"
     )?;
     expect_eq(&rt, &errors.as_slice(), &expected.as_bytes());
+    Ok(())
+}
+
+/// Whether a list at this path is refused before anything is served, for what stands at the path with this behind it.
+fn is_refused(rt: &HostRuntime, path: &str, end: &str, why: &str) -> Result<bool, Fail> {
+    let arguments = arguments_with_leases(rt, 0, false, path)?;
+    let (ended, printed, errors) = run(rt, &arguments);
+    let expected = format!(in rt.alloc(); "nbt: {path}{end} can't be written: {why}\n")?;
+    Ok(
+        ended == Err(Fault::Output)
+            && printed.is_empty()
+            && errors.as_slice() == expected.as_bytes(),
+    )
+}
+
+const ANOTHER: &str = "its first line isn't '# live leases of nbt nbns': remove that file first";
+
+/// Whether a file of this text, which stands at a list's path or at that of the new file beside it, stays as it is.
+fn stays(rt: &HostRuntime, name: &str, end: &str, text: &str) -> Result<bool, Fail> {
+    let path = path_for(rt, name)?;
+    let there = format!(in rt.alloc(); "{path}{end}")?;
+    fs::write(rt, there.as_str(), text)?;
+    let refused = is_refused(rt, path.as_str(), end, ANOTHER)?;
+    let same = fs::read_to_string(rt, there.as_str())?.as_str() == text;
+    fs::remove_file(rt, there.as_str())?;
+    Ok(refused && same)
+}
+
+#[test]
+fn a_list_replaces_nothing_but_a_list(rt: HostRuntime) -> Result<(), Fail> {
+    let device = is_refused(
+        &rt,
+        "/dev/null",
+        "",
+        "a device, a pipe or a socket is there",
+    )?;
+    expect(&rt, device);
+    let folder = is_refused(&rt, "/tmp", "", "a folder is there")?;
+    expect(&rt, folder);
+    let old = stays(
+        &rt,
+        "old",
+        "",
+        "FRED#20 unique 127.0.0.2 2026-11-24T09:13:03Z\n",
+    )?;
+    expect(&rt, old);
+    let cut = stays(&rt, "cut", "", "# live leases of nbt nbns")?;
+    expect(&rt, cut);
+    let beside = stays(&rt, "beside", ".new", "not mine")?;
+    expect(&rt, beside);
+    Ok(())
+}
+
+#[test]
+fn a_list_replaces_no_link(rt: HostRuntime) -> Result<(), Fail> {
+    let path = path_for(&rt, "link")?;
+    let there = path_for(&rt, "linked")?;
+    fs::write(&rt, there.as_str(), "")?;
+    symlink(&rt, there.as_str(), path.as_str())?;
+    let link = is_refused(&rt, path.as_str(), "", "a link is there")?;
+    expect(&rt, link);
+    // One that leads nowhere is a link too.
+    fs::remove_file(&rt, there.as_str())?;
+    let link = is_refused(&rt, path.as_str(), "", "a link is there")?;
+    expect(&rt, link);
+    fs::remove_file(&rt, path.as_str())?;
+    Ok(())
+}
+
+#[test]
+fn a_list_replaces_an_empty_file(rt: HostRuntime) -> Result<(), Fail> {
+    let path = path_for(&rt, "empty")?;
+    fs::write(&rt, path.as_str(), "")?;
+    let (ended, _, errors) = run(&rt, &arguments_with_leases(&rt, 0, false, path.as_str())?);
+    expect(&rt, ended.is_ok() && errors.is_empty());
+    fs::remove_file(&rt, path.as_str())?;
     Ok(())
 }
 

@@ -70,11 +70,23 @@ fn expect_nothing<R: Abort>(
     Ok(())
 }
 
-/// There is no way to port 0: what is sent there is lost, and the device is well.
+/// There is no way to port 0: what is sent there is lost, and the device is well. Where it is watched, the port knows why.
 fn expect_no_way<R: Abort>(rt: &R, near: &mut UdpPort) {
     let nowhere = Addr { port: 0, ..THERE };
     expect_eq(rt, &send(rt, near, nowhere, b"hello"), &Ok(()));
     expect_eq(rt, &near.failures(), &0);
+    expect(rt, near.lost().is_none());
+    near.watch(nowhere);
+    expect(rt, near.lost().is_none());
+    expect_eq(rt, &send(rt, near, nowhere, b"hello"), &Ok(()));
+    expect(rt, near.lost().is_some());
+    expect_eq(rt, &near.failures(), &0);
+    // What goes elsewhere says nothing of it.
+    expect_eq(rt, &send(rt, near, HERE, b"hello"), &Ok(()));
+    expect(rt, near.lost().is_some());
+    near.watch(HERE);
+    expect_eq(rt, &send(rt, near, nowhere, b"hello"), &Ok(()));
+    expect(rt, near.lost().is_none());
 }
 
 /// A datagram stands alone in the buffer.
