@@ -174,9 +174,13 @@ ALL = Rates(
     {kill: 0.5, kill_at_a_request: 0.5, pause: 0.75, long_pause: 0.35, cut: 1.1, bad_line: 0.4},
     {kill_the_server: 0.6, cut_the_server: 0.3, flood: 2.0, stranger: 400.0},
 )
-# A server that keeps its leases is killed as often as it can be; once beside the other faults, and once beside none.
-WITH_STATE = Rates(ALL.for_each_host, ALL.in_all | {kill_the_server: 15.0})
-ONLY_THE_SERVER = Rates({}, {kill_the_server: 15.0})
+
+
+def rates_of(state, rate):
+    """How many come: a server that keeps its leases is killed so many times a minute, beside all other faults or beside none."""
+    if state == "server":
+        return Rates({}, {kill_the_server: rate})
+    return Rates(ALL.for_each_host, ALL.in_all | {kill_the_server: rate}) if state else ALL
 
 
 def schedule(seed, seconds, hosts, rates):

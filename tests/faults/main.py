@@ -1,9 +1,10 @@
 """Plays a run in the namespaces that `run` made, judges it, and prints what came of it.
 
-    main.py RUN NET NBT WORK MINUTES SEED HOSTS RIVAL CONTROL STATE DISK
+    main.py RUN NET NBT WORK MINUTES SEED HOSTS RIVAL CONTROL STATE DISK RATE
 
 RIVAL is `nmbd` or empty; CONTROL is 1 where a premise is broken, so that the judge has to see two holders. STATE is empty where the
 server doesn't keep its leases; `all` where it does, and `server` where it alone is killed beside. DISK is empty, or the library by which what wasn't synced is lost when it is killed.
+RATE is how many times a minute a server is killed that keeps its leases.
 """
 
 import sys
@@ -90,11 +91,11 @@ class Report:
 
     def is_calm_beside(self):
         """Whether nothing but the server is touched by faults, so that no host has a reason to lose a name."""
-        return self.play.rates is faults.ONLY_THE_SERVER
+        return not self.play.rates.for_each_host
 
     def rows_of_state(self):
         """What holds where the server keeps its leases."""
-        starts = self.play.server.life - 1
+        starts = self.play.server.life - 1 - self.book.counts["starts cut short"]
         kept = self.book.counts["starts with leases kept"]
         self.row(f"each of {starts} starts of the server had its leases", [*self.book.wrong["silent"], *self.starts_without(starts, kept)])
         if self.is_calm_beside():
@@ -157,14 +158,12 @@ class Report:
             say(f"    {self.tell_pair(pair)}")
 
 
-RATES = {"": faults.ALL, "all": faults.WITH_STATE, "server": faults.ONLY_THE_SERVER}
-
-
-def main(run, net, nbt, work, minutes, seed, hosts, rival, control, state, disk):
+def main(run, net, nbt, work, minutes, seed, hosts, rival, control, state, disk, rate):
     """Plays, and judges."""
     folder = f"{work}/state" if state else None
-    longest = 20 if control else 10
-    play = Play(run, net, nbt, work, seed, 2 if control else int(hosts), longest, rival, RATES[state], folder, disk)
+    # Where no host may lose a name, a refresh that comes while the server is down is sent again in time.
+    longest = 20 if control else 60 if state == "server" else 10
+    play = Play(run, net, nbt, work, seed, 2 if control else int(hosts), longest, rival, faults.rates_of(state, float(rate)), folder, disk)
     try:
         play.control() if control else play.run(float(minutes) * 60)
         report = Report(play)

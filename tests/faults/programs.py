@@ -11,8 +11,8 @@ import time
 import network
 from judge import Line
 
-# How `nbt nbns` begins where it had its leases still.
-LEASES_KEPT = re.compile(r"^serving \S+, with ([0-9]+) leases? kept$")
+# How `nbt nbns` begins where it had its leases still, also within the silence of its first start.
+LEASES_KEPT = re.compile(r"^serving \S+, with ([0-9]+) leases? kept(, silent for .*)?$")
 
 # A line of `nbt host` about a name, as docs/PROTOCOL.md has it. Which suffix the name has plays no part.
 ABOUT_A_NAME = re.compile(
@@ -134,7 +134,7 @@ class Server(Program):
     def __init__(self, machine, book, poll, nbt, limits, longest, state, disk):
         super().__init__(machine, book, poll)
         self.nbt, self.limits, self.longest, self.state, self.disk = nbt, limits, longest, state, disk
-        self.on_start = None
+        self.on_start, self.has_begun = None, False
 
     def words(self):
         kept = ["--state", self.state] if self.state else []
@@ -144,9 +144,19 @@ class Server(Program):
     def silence(self):
         return 0 if self.state and self.life > 1 else self.longest
 
+    def start(self):
+        self.has_begun = self.has_begun and self.is_up()
+        super().start()
+
+    def end(self, at):
+        if not self.has_begun:
+            self.book.counts["starts cut short"] += 1
+        return super().end(at)
+
     def read_line(self, at, text):
-        if not self.state or not text.startswith(("serving ", "silent ")):
+        if not self.state or not text.startswith("serving "):
             return
+        self.has_begun = True
         if kept := LEASES_KEPT.match(text):
             self.book.counts["starts with leases kept"] += 1
             self.book.counts["leases kept"] += int(kept[1])
