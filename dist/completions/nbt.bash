@@ -2,7 +2,7 @@
 
 _nbt() {
     local word=${COMP_WORDS[COMP_CWORD]} before=${COMP_WORDS[COMP_CWORD - 1]} given words='' reply
-    local commands='lookup status nbns host answer show check sim serve node loop help' arguments=0
+    local commands='lookup status nbns host release answer show check sim serve node loop help' arguments=0
     COMPREPLY=()
 
     # bash has `--leases=file` as three words.
@@ -16,6 +16,11 @@ _nbt() {
     --leases)
         compopt -o filenames 2>/dev/null
         mapfile -t COMPREPLY < <(compgen -f -- "$word")
+        return
+        ;;
+    --state)
+        compopt -o filenames 2>/dev/null
+        mapfile -t COMPREPLY < <(compgen -d -- "$word")
         return
         ;;
     --tries)
@@ -36,8 +41,8 @@ _nbt() {
         case ${COMP_WORDS[1]} in
         lookup) words='--server --scope --exact --tries --wait --bind --help' ;;
         status) words='--scope --exact --tries --wait --bind --help' ;;
-        nbns) words='--bind --life --longest --for --log --leases --strict --help' ;;
-        host) words='--server --bind --group --scope --exact --life --longest --for --log --help' ;;
+        nbns) words='--bind --life --longest --for --log --log-broadcasts --leases --strict --state --silent-after-boot --help' ;;
+        host | release) words='--server --bind --group --scope --exact --life --longest --for --log --help' ;;
         answer) words='--at --help' ;;
         show) words='--explain --help' ;;
         serve | node) words='--forever --help' ;;
