@@ -222,7 +222,9 @@ fn write_found(
                 rows.push((team()?, lease))?;
             }
             let header = Header::new(config, boot_of(true)?, 7, at(5)?, at(77)?, DAY);
-            write_file(alloc, &header, rows.as_slice(), out)?;
+            let mut text = String::new(alloc);
+            write_file(alloc, &header, rows.as_slice(), &mut text)?;
+            out.push_str(text.as_str())?;
         }
     }
     Ok(())
@@ -243,7 +245,7 @@ fn begin_as(rt: &(impl Abort + AllocGlobal), row: &Start<'_>) -> Result<(), Fail
         config,
         boot: &boot,
         monotonic: at(monotonic)?,
-        day: at(DAY + later)?,
+        day: at(DAY.saturating_add(later))?,
         silent_after_boot,
     };
     let begun = begin(rt.alloc(), &found)?;
