@@ -4,6 +4,7 @@ use Rattle.nbt_text.specs.Address.{SpellsEnd}
 use Rattle.nbt_client.specs.declared.question.Question.{Question}
 use Rattle.nbt_client.specs.declared.question.Question.TheVariants as q
 use Rattle.nbt_args.specs.declared.texts.LookupTexts.{LookupTexts}
+use Rattle.nbt_admin.specs.Binds.{GivesBind, IsBind, BindFails}
 use Rattle.nbt_admin.specs.Failures.{IsUsage, out_of_memory, ComplainsOf}
 use Rattle.nbt_admin.specs.Times.{IsWait, SpellsPatience, IsConfigOf, AreLimits, LimitsFail, SpellsEnding, IsEnding, EndingFails}
 use Rattle.nbt_admin.specs.Texts.{IsAddress, AddressFails, IsPath, PathFails, SpellsAsked, SpellsSought, SpellsOwn, IsOwn, OwnFails, SoughtFails}
@@ -72,7 +73,7 @@ StateFails (Some text) failure = (failure ≡ out_of_memory) ⊎ ((text.now ≡ 
 
 -- a network can run with these limits
 pub record NbnsGiven (texts : NbnsTexts) (a : ServerArguments) : Type 0 where
-  pub bind : SpellsEnd texts.bind.now a.nbns.bind
+  pub bind : GivesBind texts.binds.items a.nbns.bind
   pub config : IsConfigOf texts.life.now texts.longest.now a.nbns.config
   pub fits : judged a.nbns.config ≢ Short
   pub time : SpellsEnding texts.time a.nbns.time
@@ -93,9 +94,9 @@ NbnsFails texts failure = (failure ≡ out_of_memory)
     ⊎ (LimitsFail texts.life.now texts.longest.now failure
     ⊎ ((AreLimits texts.life.now texts.longest.now × EndingFails texts.time failure)
     ⊎ ((IsEnding texts.time × ((config : ConfigValue) × IsConfigOf texts.life.now texts.longest.now config × (judged config ≡ Short) × (failure ≡ Complaint (complaint.Short config))))
-    ⊎ ((IsEnding texts.time × AreFit texts × AddressFails texts.bind.now failure)
-    ⊎ ((IsEnding texts.time × AreFit texts × IsAddress texts.bind.now × StateFails texts.state failure)
-    ⊎ (IsEnding texts.time × AreFit texts × IsAddress texts.bind.now × IsState texts.state × PathFails (option_map (λ text. text.now) texts.leases) failure))))))
+    ⊎ ((IsEnding texts.time × AreFit texts × BindFails texts.binds.items failure)
+    ⊎ ((IsEnding texts.time × AreFit texts × IsBind texts.binds.items × StateFails texts.state failure)
+    ⊎ (IsEnding texts.time × AreFit texts × IsBind texts.binds.items × IsState texts.state × PathFails (option_map (λ text. text.now) texts.leases) failure))))))
 
 -- ---- `host`
 

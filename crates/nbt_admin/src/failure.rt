@@ -20,6 +20,8 @@ pub enum ArgumentFault {
     Anywhere,
     /// An address at port 0, for which the system chooses one.
     AnyPort,
+    /// An address that an earlier argument has too.
+    AddressTwice,
     /// Not a name.
     Name(nbt_text::Fault),
     /// A name that begins with `*`, which is not sent to a server.
@@ -42,7 +44,10 @@ impl ArgumentFault {
     /// What the argument should be.
     fn what(self) -> &'static str {
         match self {
-            ArgumentFault::Address | ArgumentFault::Anywhere | ArgumentFault::AnyPort => "address",
+            ArgumentFault::Address
+            | ArgumentFault::Anywhere
+            | ArgumentFault::AnyPort
+            | ArgumentFault::AddressTwice => "address",
             ArgumentFault::Name(_) | ArgumentFault::Star | ArgumentFault::Twice => "name",
             ArgumentFault::Life => "life",
             ArgumentFault::Longest => "longest lease",
@@ -63,7 +68,7 @@ impl fmt::Display for ArgumentFault {
             ArgumentFault::AnyPort => f.write_str("not the port of a host"),
             ArgumentFault::Name(fault) => write!(f, "{fault}"),
             ArgumentFault::Star => f.write_str("no server is asked for a name that begins with *"),
-            ArgumentFault::Twice => f.write_str("given twice"),
+            ArgumentFault::Twice | ArgumentFault::AddressTwice => f.write_str("given twice"),
             ArgumentFault::Life => {
                 let most = LIFE_MOST / 1_000;
                 write!(f, "not a time from 1ms to {most}s")

@@ -4,6 +4,7 @@
 #![tactic(auto)]
 
 mod asking;
+mod binding;
 mod failure;
 mod hosting;
 mod naming;

@@ -6,8 +6,8 @@ ghost use Rattle.std.specs.String.{string_bytes};
 ghost use Rattle.nbt_admin.specs.Arguments.{NbnsGiven, NbnsFails, GivesState, StateFails};
 ghost use Rattle.nbt_admin.specs.Texts.{IsPath, PathFails};
 
+use crate::binding::bind_of;
 use crate::failure::{ArgumentFault, Failure};
-use crate::naming::address_of;
 use crate::timing::{config_of, ending_of, fit};
 use nbt_args::NbnsTexts;
 use nbt_keep::{ServerArguments, StateFolder};
@@ -15,7 +15,7 @@ use nbt_nbns::NbnsArguments;
 use std::alloc::Global;
 
 /// Reads the arguments of `nbns`. Refused, in this order: the life, the longest lease, the time, a longest lease that is too short for
-/// a network, the address, the folder of the state, and an empty path of the list of leases.
+/// a network, the addresses, the folder of the state, and an empty path of the list of leases.
 pub fn nbns_arguments(alloc: Global, texts: &NbnsTexts<'_>) -> Result<ServerArguments, Failure>
     ensures given { IfOk result (NbnsGiven texts.now) }
     ensures failure { IfErr result (NbnsFails texts.now) }
@@ -23,7 +23,7 @@ pub fn nbns_arguments(alloc: Global, texts: &NbnsTexts<'_>) -> Result<ServerArgu
     let config = config_of(alloc, texts.life, texts.longest)?;
     let time = ending_of(alloc, texts.time)?;
     fit(config)?;
-    let bind = address_of(alloc, texts.bind)?;
+    let bind = bind_of(alloc, &texts.binds)?;
     let state = state_of(alloc, texts.state, texts.silent_after_boot)?;
     let leases = path_of(alloc, texts.leases)?;
     Ok(ServerArguments {

@@ -161,9 +161,9 @@ pub static NBNS: Description = Description {
     arguments: &[
         Argument {
             name: "bind",
-            form: Form::Option("ADDR"),
-            presence: Presence::Default("0.0.0.0"),
-            help: "The own address, by default at port 137; for port 0 the system chooses one, which the first line has",
+            form: Form::Options("ADDR"),
+            presence: Presence::Optional,
+            help: "An own address, by default at port 137, and may be repeated; without it, every address of the machine",
         },
         LIFE,
         LONGEST,
@@ -178,7 +178,7 @@ pub static NBNS: Description = Description {
             name: "log-broadcasts",
             form: Form::Flag,
             presence: Presence::Optional,
-            help: "With --log, prints a line for each broadcast of a B node too",
+            help: "With --log, and --bind 0.0.0.0, prints a line for each broadcast of a B node too",
         },
         Argument {
             name: "leases",
@@ -206,18 +206,23 @@ pub static NBNS: Description = Description {
         },
     ],
     help: "\
-The first line has its address, and for how long and until when it is silent, as `serving 0.0.0.0:137, silent for 300 s until
-2026-11-24T09:17:03Z`. Without --state it keeps its leases in memory only, so after each start it waits until every lease that it
-may have granted before has expired. Then it serves until a signal or --for ends it; its leases expire by themselves. The
+The first line has its addresses, and for how long and until when it is silent, as `serving 127.0.0.1:137, 192.0.2.1:137, silent
+for 300 s until 2026-11-24T09:17:03Z`. Without --state it keeps its leases in memory only, so after each start it waits until every
+lease that it may have granted before has expired. Then it serves until a signal or --for ends it; its leases expire by themselves. The
 standard port is 137, for which most systems require privileges.
 
 With --state it writes each change of a lease to FOLDER/leases before its reply leaves, and a later start goes on at once: the
-first line is `serving 0.0.0.0:137, with 17 leases kept`. Where it can't go on, the line says why: `silent for 300 s until
+first line is `serving 192.0.2.1:137, with 17 leases kept`. Where it can't go on, the line says why: `silent for 300 s until
 2026-11-24T09:17:03Z, since nothing was kept`. After another boot it goes on too, by the time of day, which nobody may have set
 in between, unless --silent-after-boot. What FOLDER has must be what this server kept last: a copy or an older state may grant a
 name to a second machine. FOLDER must exist, and one server at a time may use it.
 
-ADDR is A.B.C.D or A.B.C.D:PORT. TIME is a number and its unit, as 1500ms, 300s or 5m. The longest lease must be at least 10 s
+A reply leaves from the address at which its request came. Without --bind it serves every IPv4 address of the machine at port 137,
+by a socket for each: standard error says when one comes or goes. --bind 0.0.0.0 is one socket for all, which hears broadcasts too,
+and whose replies leave from the address that the system chooses.
+
+ADDR is A.B.C.D or A.B.C.D:PORT; for port 0 the system chooses one, which the first line has. TIME is a number and its unit, as
+1500ms, 300s or 5m. The longest lease must be at least 10 s
 and at least 20 lives of a datagram, else a hold would lapse before it can be refreshed. If it is above an hour, and without
 --state, standard error says for how long each start is silent.
 
@@ -233,7 +238,7 @@ second one is refused, and nmbd then drops its names.
 
 Examples:
   nbt nbns
-  nbt nbns --bind 192.0.2.1 --longest 10m --log --leases leases.txt
+  nbt nbns --bind 192.0.2.1 --bind 198.51.100.1 --longest 10m --log --leases leases.txt
   nbt nbns --state /var/lib/nbt
 
 Exit status:

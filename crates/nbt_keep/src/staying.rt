@@ -25,8 +25,8 @@ use std::io::Write;
 use std::{io, time};
 
 /// The server goes through turns as [`crate::keep_turn`] has them until the moment `until`, if there is one, and no reply waits, and
-/// through 2^61 of them at most. It stays up when the port fails, as [`stay_up`] says. After each turn that went well the clock is
-/// read, the watcher is shown what the turn was, and where no reply waits the store is looked after: the live leases are written anew
+/// through 2^61 of them at most. It stays up when the port fails, as [`stay_up`] says. What changed at the port is said in `errors` after each turn.
+/// After one that went well the clock is read, the watcher is shown what the turn was, and where no reply waits the store is looked after: the live leases are written anew
 /// in place of all changes, where the file has several times as many lines as leases with which it was written, or the time of day that `day` tells
 /// is more than 2,000 ms from what `header` expects, since that clock was set. `header` is that of the file, and has the moment and
 /// the time of day of the last such writing afterwards; `waiting` has no reply at first.
@@ -138,12 +138,16 @@ impl<P: Port, S: Store, C: Clock, D: Clock, V: Watcher, W: Write> Turn
             &mut self.octets,
         ) {
             Ok(shown) => shown,
-            Err(KeepFault::Port) => return Turned::Failed(self.port.cause()),
+            Err(KeepFault::Port) => {
+                self.port.tell_changes(errors);
+                return Turned::Failed(self.port.cause());
+            }
             Err(KeepFault::Store) => {
                 tell_store(self.store, errors);
                 return Turned::CutOff(Fault::Store);
             }
         };
+        self.port.tell_changes(errors);
         self.watcher.see(self.server, &shown, self.writer, errors);
         after_turn(
             self.store,

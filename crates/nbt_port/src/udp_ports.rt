@@ -157,11 +157,25 @@ impl<'a, M: Net + Files + time::Clock> UdpPorts<'a, M> {
         self.follow(&mut following, own);
         self.following = Some(following);
         self.tell_refused(errors);
-        self.changes.clear();
         if self.sockets.len() == 0 {
-            return Err(Fault::NoPort);
+            return Err(self.refusal());
         }
+        self.changes.clear();
         Ok(())
+    }
+
+    /// Why no address can be bound.
+    fn refusal(&self) -> Fault
+        ensures { IsNotBound result }
+    {
+        for change in self.changes.as_slice() {
+            if let Change::Refused(cause) = change {
+                if cause.is_of_memory() {
+                    return Fault::Memory;
+                }
+            }
+        }
+        Fault::NoPort
     }
 
     /// The addresses that it has now.

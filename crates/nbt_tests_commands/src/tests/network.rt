@@ -157,7 +157,7 @@ static BINDING: [(&str, &str, u8, &[u8]); 6] = [
         4,
         b"nbt: memory was refused\n",
     ),
-    // Without --bind they are at every address of this machine: those that ask at a port that the system chooses, and the server at 137.
+    // Without --bind they are at every address of this machine: those that ask at a port that the system chooses, and the server at 137 of each.
     (
         "nbt lookup FRED --server 127.42.24.2:22337",
         "device\n",
@@ -174,7 +174,7 @@ static BINDING: [(&str, &str, u8, &[u8]); 6] = [
         "nbt nbns",
         "memory\n",
         4,
-        b"nbt: 0.0.0.0:137: out of memory\nnbt: memory was refused\n",
+        b":137: out of memory\nnbt: memory was refused\n",
     ),
 ];
 
