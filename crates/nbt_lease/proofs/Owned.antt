@@ -8,6 +8,15 @@ pub none_of : (m addr : ℕ) → count_of m addr [] ≡ 0
 unfolding count_of
 none_of m addr = refl
 
+-- one row more, in front
+pub row_counts : (m addr : ℕ) (row : NameValue × Lease) (rows : Rows) → is_live_of addr m row.1 ≡ true → count_of m addr (row ∷ rows) ≡ suc (count_of m addr rows)
+unfolding count_of
+row_counts m addr row rows counts = rw counts refl
+
+pub row_passes : (m addr : ℕ) (row : NameValue × Lease) (rows : Rows) → is_live_of addr m row.1 ≡ false → count_of m addr (row ∷ rows) ≡ count_of m addr rows
+unfolding count_of
+row_passes m addr row rows passes = rw passes refl
+
 -- the rows of one name
 abbrev named_rows : NameValue → List Lease → Rows
 named_rows name leases = map (λ lease. (name, lease)) leases
