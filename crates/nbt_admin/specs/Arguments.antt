@@ -5,7 +5,7 @@ use Rattle.nbt_client.specs.declared.question.Question.{Question}
 use Rattle.nbt_client.specs.declared.question.Question.TheVariants as q
 use Rattle.nbt_args.specs.declared.texts.LookupTexts.{LookupTexts}
 use Rattle.nbt_admin.specs.Failures.{IsUsage, out_of_memory, ComplainsOf}
-use Rattle.nbt_admin.specs.Times.{IsWait, SpellsPatience, IsConfigOf, AreLimits, LimitsFail, SpellsEnding, IsEnding, EndingFails}
+use Rattle.nbt_admin.specs.Times.{IsWait, SpellsPatience, IsConfigOf, AreLimits, LimitsFail, SpellsEnding, IsEnding, EndingFails, SpellsClientRows, ClientRowsFail}
 use Rattle.nbt_admin.specs.Texts.{IsAddress, AddressFails, IsPath, PathFails, SpellsAsked, SpellsSought, SpellsOwn, IsOwn, OwnFails, SoughtFails}
 use Rattle.nbt_admin.specs.declared.asking.AskArguments.{AskArguments}
 use Rattle.nbt_admin.specs.declared.failure.Failure.{Failure}
@@ -81,6 +81,7 @@ pub record NbnsGiven (texts : NbnsTexts) (a : ServerArguments) : Type 0 where
   pub leases_are : option_map string_bytes a.nbns.leases ≡ option_map (λ text. text.now) texts.leases
   pub is_path : IsPath (option_map (λ text. text.now) texts.leases)
   pub strict_is : a.nbns.strict ≡ texts.strict
+  pub client_rows_are : SpellsClientRows texts.rows_per_client a.nbns.rows_per_client
   pub state_is : GivesState texts.state texts.silent_after_boot a.state
 
 -- the limits, with which a network can run
@@ -95,7 +96,8 @@ NbnsFails texts failure = (failure ≡ out_of_memory)
     ⊎ ((IsEnding texts.time × ((config : ConfigValue) × IsConfigOf texts.life.now texts.longest.now config × (judged config ≡ Short) × (failure ≡ Complaint (complaint.Short config))))
     ⊎ ((IsEnding texts.time × AreFit texts × AddressFails texts.bind.now failure)
     ⊎ ((IsEnding texts.time × AreFit texts × IsAddress texts.bind.now × StateFails texts.state failure)
-    ⊎ (IsEnding texts.time × AreFit texts × IsAddress texts.bind.now × IsState texts.state × PathFails (option_map (λ text. text.now) texts.leases) failure))))))
+    ⊎ ((IsEnding texts.time × AreFit texts × IsAddress texts.bind.now × IsState texts.state × PathFails (option_map (λ text. text.now) texts.leases) failure)
+    ⊎ (IsEnding texts.time × AreFit texts × IsAddress texts.bind.now × IsState texts.state × IsPath (option_map (λ text. text.now) texts.leases) × ClientRowsFail texts.rows_per_client failure)))))))
 
 -- ---- `host`
 

@@ -1,8 +1,9 @@
--- The times and limits that texts spell, and the failures of other texts (our profile).
+-- The times, limits and numbers that texts spell, and the failures of other texts (our profile).
 use Rattle.std.specs.Prelude.{◌≡◌, ◌≤◌, ◌↔◌, ◌⊎◌, ℕ, List, Option, Some, None, codes}
 use Rattle.std.specs.Borrow.{Bor}
-use Rattle.nbt_lease.specs.Config.{ConfigValue, IsLife, IsLongest, rows_most, milliseconds}
+use Rattle.nbt_lease.specs.Config.{ConfigValue, IsLife, IsLongest, IsRows, rows_most, milliseconds}
 use Rattle.nbt_client.specs.Asking.{patience_of, tries_most}
+use Rattle.nbt_text.specs.Number.{SpellsNumber}
 use Rattle.nbt_text.specs.Times.{SpellsTime}
 use Rattle.nbt_admin.specs.Failures.{ComplainsOf, out_of_memory}
 use Rattle.nbt_admin.specs.declared.failure.Failure.{Failure}
@@ -73,3 +74,21 @@ IsEnding (Some text) = (time : ℕ) × SpellsTime text.now time
 abbrev pub EndingFails : Option (Bor (List ℕ)) → Failure → Type 0
 EndingFails None failure = ⊥
 EndingFails (Some text) failure = (failure ≡ out_of_memory) ⊎ (((time : ℕ) → ¬ SpellsTime text.now time) × ComplainsOf text.now w.Time failure)
+
+-- ---- how many live leases a client of a server may have
+
+-- without a text
+abbrev pub client_rows : ℕ
+client_rows = 64
+
+-- no more than a server has
+abbrev pub SpellsRows : List ℕ → ℕ → Type 0
+SpellsRows text rows = SpellsNumber text rows × IsRows rows
+
+abbrev pub SpellsClientRows : Option (Bor (List ℕ)) → ℕ → Type 0
+SpellsClientRows None rows = rows ≡ client_rows
+SpellsClientRows (Some text) rows = SpellsRows text.now rows
+
+abbrev pub ClientRowsFail : Option (Bor (List ℕ)) → Failure → Type 0
+ClientRowsFail None failure = ⊥
+ClientRowsFail (Some text) failure = (failure ≡ out_of_memory) ⊎ (((rows : ℕ) → ¬ SpellsRows text.now rows) × ComplainsOf text.now w.ClientRows failure)

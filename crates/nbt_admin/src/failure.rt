@@ -4,7 +4,7 @@ ghost use Rattle.std.specs.Prelude.{◌≡◌, ◌⊎◌};
 
 use crate::hosting::NAMES_MOST;
 use nbt_args::{Refusal, Text};
-use nbt_lease::{Config, LIFE_MOST, LONGEST_MOST};
+use nbt_lease::{Config, LIFE_MOST, LONGEST_MOST, ROWS_MOST};
 use nbt_nbns::write_refusal;
 use nbt_port::Fault;
 use std::alloc::{AllocError, AllocFailed, Global};
@@ -36,6 +36,8 @@ pub enum ArgumentFault {
     Folder,
     /// An empty path.
     NoPath,
+    /// Not a number of live leases for a client.
+    ClientRows,
 }
 
 impl ArgumentFault {
@@ -49,6 +51,7 @@ impl ArgumentFault {
             ArgumentFault::Time => "time",
             ArgumentFault::Folder => "folder",
             ArgumentFault::NoPath => "list of leases",
+            ArgumentFault::ClientRows => "rows per client",
         }
     }
 }
@@ -75,6 +78,10 @@ impl fmt::Display for ArgumentFault {
             ArgumentFault::Time => f.write_str("not a time, as 1500ms, 300s or 5m"),
             ArgumentFault::Folder => f.write_str("an empty text names no folder"),
             ArgumentFault::NoPath => f.write_str("no path of a file"),
+            ArgumentFault::ClientRows => {
+                let most = ROWS_MOST;
+                write!(f, "not a whole number from 1 to {most}")
+            }
         }
     }
 }

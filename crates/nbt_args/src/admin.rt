@@ -193,6 +193,12 @@ pub static NBNS: Description = Description {
             help: "Doesn't accept the registrations of Samba's programs",
         },
         Argument {
+            name: "rows-per-client",
+            form: Form::Option("N"),
+            presence: Presence::Optional,
+            help: "How many live leases a client may have: from 1 to 4096; without it, 64",
+        },
+        Argument {
             name: STATE,
             form: Form::Option("FOLDER"),
             presence: Presence::Optional,
@@ -226,6 +232,9 @@ the reason, `released`, `unanswered` for a request during the silence, and `malf
 request: of each kind at most ten per second. --leases writes the list of live leases to FILE.new and renames that to FILE, when
 it has changed and at most once per second: a first line that says what it is, and one line per lease, as `FILER#20 unique
 192.0.2.7 2026-11-24T09:17:03Z`, with the time of its expiry.
+
+A client is the address that a registration comes from. One with N live leases, unique names and groups together, is refused one
+of a further name, with SRV_ERR; what it has it keeps, and renews. Machines behind one address count as one client.
 
 Samba's nmbd registers its names by OPCODE 15, and joins groups by an overwrite. Such a registration of one address, and such an
 overwrite of a group, are accepted as registrations, unless --strict. A machine that registers two addresses isn't served: its

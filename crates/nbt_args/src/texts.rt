@@ -105,6 +105,8 @@ pub struct NbnsTexts<'a> {
     pub leases: Option<&'a str>,
     /// Whether Samba's registrations are not accepted.
     pub strict: bool,
+    /// How many live leases a client may have; `None` for the default.
+    pub rows_per_client: Option<&'a str>,
     /// The folder that keeps the leases, if any.
     pub state: Option<&'a str>,
     /// Whether it is silent after another boot.
@@ -248,6 +250,7 @@ fn nbns_texts<'a>(matches: &ArgMatches<'a>) -> NbnsTexts<'a>
     ensures broadcasts { Tells matches.now (codes "log-broadcasts") result.broadcasts }
     ensures leases { option_map (λ text. text.now) result.leases ≡ value_of matches.now (codes "leases") }
     ensures strict { Tells matches.now (codes "strict") result.strict }
+    ensures client_rows { option_map (λ text. text.now) result.rows_per_client ≡ value_of matches.now (codes "rows-per-client") }
     ensures state { option_map (λ text. text.now) result.state ≡ value_of matches.now (codes "state") }
     ensures boots { Tells matches.now (codes "silent-after-boot") result.silent_after_boot }
 {
@@ -260,6 +263,7 @@ fn nbns_texts<'a>(matches: &ArgMatches<'a>) -> NbnsTexts<'a>
         broadcasts: matches.get_flag("log-broadcasts"),
         leases: matches.get_str("leases"),
         strict: matches.get_flag("strict"),
+        rows_per_client: matches.get_str("rows-per-client"),
         state: matches.get_str("state"),
         silent_after_boot: matches.get_flag("silent-after-boot"),
     }

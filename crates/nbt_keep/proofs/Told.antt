@@ -16,7 +16,7 @@ use Rattle.nbt_lease.proofs.Others.{here}
 use Rattle.nbt_lease.proofs.Cases.{not_none, one_own}
 use Rattle.nbt_packet.specs.declared.message.Registration.{Registration}
 use Rattle.nbt_packet.specs.Message.{MessageValue}
-use Rattle.nbt_server.specs.Serving.{ServerValue, ServesOctets, Serves, asked_in, registers, refuses, refuses_overwrite, releases, refuses_release, finds, finds_none, passes_over, is_silent, is_no_message, serves}
+use Rattle.nbt_server.specs.Serving.{ServerValue, ServesOctets, Serves, asked_in, registers, refuses, refuses_overwrite, releases, refuses_release, finds, finds_none, passes_over, is_silent, is_no_message, turns_away, serves}
 use Rattle.nbt_server.specs.Calls.{ServerHandles, ServerForgets}
 use Rattle.nbt_server.specs.declared.fault.ServerFault.{ServerFault}
 use Rattle.nbt_server.specs.declared.fault.ServerFault.TheVariants.{ClockBack, OutOfMemory}
@@ -135,7 +135,9 @@ told_octets : (server : ServerValue) (now ip : ℕ) (octets : List ℕ) (reply :
     → IsDone does outcome → Tells now new outcome change → KeptAt now kept (leases_at now server.table.rows) → KeptAt now (after_any change kept) new
 told_octets server now ip octets reply new kept outcome change (is_silent early) live done tells k = kept_same now kept new new change (silent_none octets now new outcome change done tells) refl k
 told_octets server now ip octets reply new kept outcome change (is_no_message none) live done tells k = kept_same now kept new new change (subst (λ (o : Outcome). Tells now new o change) done tells) refl k
-told_octets server now ip octets reply new kept outcome change (serves m _ _ speaks spelled does) live done tells k =
+told_octets server now ip octets reply new kept outcome change (turns_away m speaks spelled over) live done tells k =
+    kept_same now kept new new change (subst (λ (o : Outcome). Tells now new o change) done tells) refl k
+told_octets server now ip octets reply new kept outcome change (serves m _ _ speaks spelled room does) live done tells k =
     served server.table now ip m reply new kept change does live (subst (λ (o : Outcome). Tells now new o change) done tells) k
 
 pub told : (old new : ServerValue) (now ip : ℕ) (octets out : List ℕ) (outcome : Outcome) (change : Option Change) → ServerHandles old now ip octets outcome out new → Tells now (leases_at now new.table.rows) outcome change
@@ -180,7 +182,8 @@ some_octets : (server : ServerValue) (now ip : ℕ) (octets : List ℕ) (reply :
     → Tells now new outcome change → is_some change ≡ changes_leases outcome
 some_octets server now ip octets reply new outcome change (is_silent early) done tells = some_silent octets now new outcome change done tells
 some_octets server now ip octets reply new outcome change (is_no_message none) done tells = ap is_some (subst (λ (o : Outcome). Tells now new o change) done tells) ∙ ap changes_leases (sym done)
-some_octets server now ip octets reply new outcome change (serves m _ _ speaks spelled does) done tells =
+some_octets server now ip octets reply new outcome change (turns_away m speaks spelled over) done tells = ap is_some (subst (λ (o : Outcome). Tells now new o change) done tells) ∙ ap changes_leases (sym done)
+some_octets server now ip octets reply new outcome change (serves m _ _ speaks spelled room does) done tells =
     some_served server.table now ip m reply new change does (subst (λ (o : Outcome). Tells now new o change) done tells) ∙ ap changes_leases (sym done)
 
 pub some_told : (old new : ServerValue) (now ip : ℕ) (octets out : List ℕ) (outcome : Outcome) (change : Option Change) → ServerHandles old now ip octets outcome out new → Tells now (leases_at now new.table.rows) outcome change → is_some change ≡ changes_leases outcome

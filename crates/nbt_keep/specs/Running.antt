@@ -11,6 +11,7 @@ use Rattle.nbt_port.specs.Until.{until_of}
 use Rattle.nbt_port.specs.declared.ahead.Ahead.{Ahead}
 use Rattle.nbt_port.specs.declared.fault.Fault.{Fault}
 use Rattle.nbt_log.specs.declared.dates.Dates.{Dates}
+use Rattle.nbt_server.specs.Calls.{limited}
 use Rattle.nbt_nbns.specs.Journaling.{Journals}
 use Rattle.nbt_nbns.specs.Places.{FileValue, Stays}
 use Rattle.nbt_nbns.specs.Running.{PortDoes, RunsNbns, NbnsFails, log_of, leases_of}
@@ -36,10 +37,10 @@ KeptNbns = Staying UdpValue Bool (Ahead ℕ) ℕ (Journal ℕ FileValue)
 abbrev pub dates_of : Begun → (time : ℕ) → Dates
 dates_of begun time = record { moment = begun.server.last; time = time }
 
--- what a server is at first that begins so, at this time of the monotonic clock and this time of day
+-- what a server is at first that begins so, at this time of the monotonic clock and this time of day: it limits its clients
 abbrev pub at_first : NbnsArguments → Begun → (monotonic time : ℕ) → Option (List ℕ) → KeptNbns
 at_first a begun monotonic time text = record {
-  keeping = record { port = record { addr = a.bind; failures = 0 }; store = false; clock = record { clock = monotonic; by = begun.header.ahead }; server = begun.server; waiting = none_waits };
+  keeping = record { port = record { addr = a.bind; failures = 0 }; store = false; clock = record { clock = monotonic; by = begun.header.ahead }; server = limited (Some a.rows_per_client) begun.server; waiting = none_waits };
   header = begun.header;
   day = time;
   watcher = record { dates = dates_of begun time; day = 0; log = log_of a.log a.broadcasts; leases = leases_of a.leases };

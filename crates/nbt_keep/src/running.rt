@@ -115,6 +115,8 @@ fn run_kept<M: Net + time::Clock + Files<File = File>, W: Write, E: Write>(
         leases,
     };
     let until = until_of(dates.moment, arguments.time);
+    let mut server = begun.server;
+    server.limit_clients(arguments.rows_per_client);
     let kept = KeptServer {
         store: opened.store,
         clock: Ahead {
@@ -122,7 +124,7 @@ fn run_kept<M: Net + time::Clock + Files<File = File>, W: Write, E: Write>(
             by: begun.header.ahead,
         },
         day,
-        server: begun.server,
+        server,
         waiting,
         header: begun.header,
         journal,

@@ -5,7 +5,7 @@ use Rattle.std.specs.Io.KnownBytes.{Appends}
 use Rattle.nbt_name.specs.declared.addr.Addr.{Addr}
 use Rattle.nbt_lease.specs.Config.{milliseconds}
 use Rattle.nbt_server.specs.Serving.{ServerValue}
-use Rattle.nbt_server.specs.Calls.{ServerStarts}
+use Rattle.nbt_server.specs.Calls.{ServerStarts, limited}
 use Rattle.nbt_port.specs.PortCalls.{PortCall}
 use Rattle.nbt_port.specs.Clocks.{MachineTells, SteadyTells, SteadyBegins, SystemShows}
 use Rattle.nbt_port.specs.Udp.{UdpValue, UdpDoes}
@@ -41,7 +41,8 @@ leases_of (Some path) = Some (new_keeper (file_of (string_bytes path)))
 abbrev pub Nbns : Type 0
 Nbns = Watching UdpValue ℕ (Journal ℕ FileValue)
 
--- The steady clock begins, both clocks are read, the first line is printed, and a server starts, which is watched from then on.
+-- The steady clock begins, both clocks are read, the first line is printed, and a server starts, which limits its clients and
+-- is watched from then on.
 pub record Begins (a : NbnsArguments) (goes : (start : ℕ) → Nbns → Nbns → Type 0) (old_text text : Option (List ℕ)) : Type 0 where
   pub at : Addr
   pub boot : ℕ
@@ -62,7 +63,7 @@ pub record Begins (a : NbnsArguments) (goes : (start : ℕ) → Nbns → Nbns �
   pub printed : Appends old_text begun_text line
   pub starts : ServerStarts a.config start first
   pub goes_on : goes start
-      (record { port = record { addr = a.bind; failures = 0 }; clock = start; server = first; watcher = record { dates = record { moment = start; time = time }; day = time; log = log_of a.log a.broadcasts; leases = leases_of a.leases }; text = begun_text })
+      (record { port = record { addr = a.bind; failures = 0 }; clock = start; server = limited (Some a.rows_per_client) first; watcher = record { dates = record { moment = start; time = time }; day = time; log = log_of a.log a.broadcasts; leases = leases_of a.leases }; text = begun_text })
       (record { port = port; clock = clock; server = last; watcher = journal; text = text })
 
 -- it stays up, or its time is over

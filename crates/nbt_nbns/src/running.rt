@@ -48,6 +48,8 @@ pub struct NbnsArguments {
     pub leases: Option<String>,
     /// Whether registrations that Samba's programs send are left as they are.
     pub strict: bool,
+    /// How many live leases a client may have.
+    pub rows_per_client: u32,
 }
 
 /// Runs a name server on a UDP port of this system, over the monotonic clock. It first prints where it serves, for how long it
@@ -87,6 +89,7 @@ pub fn run_nbns<M: Net + time::Clock + Files, W: Write, E: Write>(
     let local = local_of(&port);
     tell_begin(alloc, local, &dates, arguments.config, writer, errors)?;
     let mut server = Server::start(alloc, arguments.config, start);
+    server.limit_clients(arguments.rows_per_client);
     let until = until_of(start, arguments.time);
     watch_over(
         port,

@@ -22,16 +22,18 @@ pub record ServerStarts (config : ConfigValue) (now : ℕ) (server : ServerValue
 abbrev pub limited : Option ℕ → ServerValue → ServerValue
 limited client_rows server = record server { client_rows = client_rows }
 
--- a server as it was kept: its start, the time of its last datagram, and rows with its leases
+-- a server as it was kept: its start, the time of its last datagram, and rows with its leases; of a limit for clients
+-- nothing is kept
 abbrev pub kept_server : ConfigValue → (start last : ℕ) → Rows → ServerValue
 kept_server config start last rows = record { start = start; last = last; table = record { config = config; last = last; rows = rows }; client_rows = None }
 
 -- A server resumes: it has the live leases that it had, its start, and so its silence, and its limits, and its clock
--- didn't go back. A client may have another number of leases than before.
+-- didn't go back.
 pub record ServerResumes (was : ServerValue) (now : ℕ) (server : ServerValue) : Type 0 where
   pub leases : leases_at now server.table.rows ≡ leases_at now was.table.rows
   pub start : server.start ≡ was.start
   pub config : server.table.config ≡ was.table.config
+  pub limit : server.client_rows ≡ was.client_rows
   pub was_called : was.last ≤ now
   pub called : server.last ≤ now
 

@@ -81,7 +81,6 @@ impl Server {
     ) -> Result<Server, ResumeFault>
         ensures resumes { IfOk result (λ server. ServerResumes (kept_server config start last rows.now) now server) }
         ensures last { IfOk result (λ server. server.last ≡ now) }
-        ensures no_limit { IfOk result (λ server. server.client_rows ≡ None) }
 
         // When it is refused.
         ensures sound { IsOk result → IsSound config now (leases_at now rows.now) }
