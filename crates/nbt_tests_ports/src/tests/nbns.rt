@@ -542,6 +542,8 @@ enum Seen {
     FullLog,
     /// All that is printed is flushed.
     Flushed,
+    /// A row, where a client may have so many names.
+    Limited(u32, &'static Watched),
 }
 
 fn see<R: Abort + AllocGlobal + time::Clock>(
@@ -555,6 +557,10 @@ fn see<R: Abort + AllocGlobal + time::Clock>(
         Seen::RefusedLists => see_refused_lists(rt, stage),
         Seen::FullLog => see_full_log(rt, stage),
         Seen::Flushed => see_flushed(rt, stage),
+        Seen::Limited(rows, row) => {
+            stage.server.limit_clients(*rows);
+            expect_watched(rt, *row, stage)
+        }
     }
 }
 
@@ -608,8 +614,45 @@ fn play_watched<R: Abort + AllocGlobal + time::Clock>(
     Ok(())
 }
 
-/// What a watched server can't have, or write; and that it flushes.
+const TEAM: &str = "0001 2900 two-parts TEAM NB again NB 60s unique 127.0.0.2";
+
+/// A client asks for a second name, where it may have one, and renews the first; another one gets it.
+const ONE_NAME_EACH: &[Turn] = &[
+    (60_000, 0, (FIRST, REGISTRATION)),
+    (60_500, 0, (FIRST, TEAM)),
+    (61_000, 0, (FIRST, REFRESH)),
+    (
+        61_500,
+        0,
+        (
+            SECOND,
+            "0001 2900 two-parts TEAM NB again NB 60s unique 127.0.0.3",
+        ),
+    ),
+];
+
+const LIMITED: Watched = Watched {
+    turns: ONE_NAME_EACH,
+    until: 61_500,
+    logs: true,
+    printed: "2026-11-24T09:12:03Z granted FRED#20 127.0.0.2 unique 60 s\n2026-11-24T09:12:03Z refused TEAM#20 127.0.0.2 unique from 127.0.0.2:137: the client has too many names (2)\n2026-11-24T09:12:04Z renewed FRED#20 127.0.0.2 unique 60 s\n2026-11-24T09:12:04Z granted TEAM#20 127.0.0.3 unique 60 s\n",
+    lists: &[],
+    sent: &[
+        (FIRST, GRANTED),
+        (FIRST, "0001 ad82 reply TEAM NB 0s unique 127.0.0.2"),
+        (FIRST, GRANTED),
+        (SECOND, "0001 ad80 reply TEAM NB 60s unique 127.0.0.3"),
+    ],
+};
+
+/// What a watched server can't have, or write; that it flushes; and that it limits its clients.
 const OTHERS: &[Watching] = &[
+    Watching {
+        turns: ONE_NAME_EACH,
+        logs: true,
+        lists: false,
+        seen: Seen::Limited(1, &LIMITED),
+    },
     Watching {
         turns: EACH,
         logs: true,
@@ -731,6 +774,7 @@ fn arguments(port: u16, strict: bool) -> Result<NbnsArguments, Fail> {
         broadcasts: false,
         leases: None,
         strict,
+        rows_per_client: 64,
     })
 }
 
