@@ -266,7 +266,7 @@ const TEAM: &str = "0001 2900 two-parts TEAM NB again NB 60s unique 127.0.0.2";
 const TEAM_REFUSED: &str = "0001 ad82 reply TEAM NB 0s unique 127.0.0.2";
 
 /// A second name of a client that may have one: nothing is appended for it, and its refusal waits for what was before it.
-const A_SECOND_NAME: Kept = Kept {
+const A_SECOND_NAME: &Kept = &Kept {
     name: "the refusal of a client that is full is no change",
     given: &[(FIRST, REGISTRATION), (FIRST, TEAM), NOTHING, (FIRST, TEAM)],
     port_fails: None,

@@ -631,7 +631,7 @@ const ONE_NAME_EACH: &[Turn] = &[
     ),
 ];
 
-const LIMITED: Watched = Watched {
+const LIMITED: &Watched = &Watched {
     turns: ONE_NAME_EACH,
     until: 61_500,
     logs: true,
@@ -651,7 +651,7 @@ const OTHERS: &[Watching] = &[
         turns: ONE_NAME_EACH,
         logs: true,
         lists: false,
-        seen: Seen::Limited(1, &LIMITED),
+        seen: Seen::Limited(1, LIMITED),
     },
     Watching {
         turns: EACH,
