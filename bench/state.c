@@ -88,7 +88,7 @@ static struct child start(const char *program, uint16_t port, const char *folder
     pid_t pid = fork();
     if (pid == 0) {
         dup2(ends[1], STDOUT_FILENO);
-        execl(program, "nbt", "nbns", "--bind", bind_to, "--longest", "60s", folder ? "--state" : (char *)NULL, folder, (char *)NULL);
+        execl(program, "nbt", "nbns", "--bind", bind_to, "--longest", "60s", "--rows-per-client", "4096", folder ? "--state" : (char *)NULL, folder, (char *)NULL);
         fail(program);
     }
     close(ends[1]);
