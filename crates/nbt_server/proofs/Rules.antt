@@ -1,7 +1,7 @@
 -- What the code has found, as a line of the server's rules and what was done by it; and that replies have a written form, which
 -- is short.
 use Rattle.std.proofs.Common.{◌≡◌, true, false, ℕ, zero, suc, ◌-◌, ◌++◌, ◌*◌, ◌%◌, ◌≢◌, ◌<◌, ◌≤◌, List, [], ◌∷◌, take, length, length-append, append_assoc, append-nil, ap, ◌∙◌, Option, Some, None, Result, Ok, Err, sym, subst, refl, arith}
-use Rattle.nbt_server.proofs.Common.{HasNone, IsTrue, ◌↔◌, by_registration, by_refresh, registration, refresh, none-some, same_Some, by_limit, by_rule, DoesWithin, IsFull, IsOverLimit, server_error, turned_away, turns_away, lt-ltb, le-ltb, length-take, All-contains, All-from_recursion, IfOk, OnErr, Bool, min, nat_lt, nat_eq, is_some, if◌then◌else◌, Kind, NameValue, Message, Registration, MessageValue, message_of, query, registered, release, released, not_found, AreWritten, entry, GrantFault, Grant, Lease, Released, Leases, TableValue, members_most, AreSound, leases_at, Grants, Releases, IsLeastEnd, Claim, Refusal, Outcome, rcode_of, not_own, refusal_by, claim, claim_in, grant_outcome, release_outcome, done_by, Does, has_reply, IsUnanswered, no_message, IsDone, AsksFor, IsOwn, IsForNodes, asked_in, refused_error, name_error, fault_rcode, found_reply, grant_reply, release_rcode, entries, Serves, registers, refuses, releases, refuses_release, finds, finds_none, ServerValue, ServesOctets, is_silent, is_no_message, serves}
+use Rattle.nbt_server.proofs.Common.{HasNone, IsTrue, ◌↔◌, by_registration, by_refresh, registration, refresh, none-some, same_Some, IsFull, IsOverLimit, turns_away, lt-ltb, le-ltb, length-take, All-contains, All-from_recursion, IfOk, OnErr, Bool, min, nat_lt, nat_eq, is_some, if◌then◌else◌, Kind, NameValue, Message, Registration, MessageValue, message_of, query, registered, release, released, not_found, AreWritten, entry, GrantFault, Grant, Lease, Released, Leases, TableValue, members_most, AreSound, leases_at, Grants, Releases, IsLeastEnd, Claim, Refusal, Outcome, rcode_of, not_own, refusal_by, claim, claim_in, grant_outcome, release_outcome, done_by, Does, has_reply, IsUnanswered, no_message, IsDone, AsksFor, IsOwn, IsForNodes, asked_in, refused_error, name_error, fault_rcode, found_reply, grant_reply, release_rcode, entries, Serves, registers, refuses, releases, refuses_release, finds, finds_none, ServerValue, ServesOctets, is_silent, is_no_message, serves}
 use Rattle.nbt_packet.proofs.Sizes.{length-entry}
 use Rattle.nbt_packet.specs.declared.message.Message.TheVariants as code
 use Rattle.nbt_lease.specs.declared.fault.GrantFault.TheVariants as faults

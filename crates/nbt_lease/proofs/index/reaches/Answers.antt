@@ -1,4 +1,4 @@
-use Rattle.std.proofs.Common.{◌≡◌, ◌+◌, ◌∙◌, refl, arith}
+use Rattle.std.proofs.Common.{refl, arith}
 use Rattle.nbt_lease.proofs.Owned.{first_name, no_name, all_found}
 use Rattle.nbt_lease.proofs.Common.{rows_of}
 use Rattle.nbt_lease.specs.Lease.{count_of}
