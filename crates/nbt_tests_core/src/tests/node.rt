@@ -906,13 +906,18 @@ fn expect_ids(
     Ok(())
 }
 
+fn play_ids(rt: &impl Abort, rows: &[(u16, &[u8; 2], &[u8; 2])]) -> Result<(), Fail> {
+    let config = Config::new(1000, 60, 4096)?;
+    for (first_id, first, second) in rows {
+        let mut node = Node::start_from(OWN, SERVER, config, at(0)?, *first_id);
+        expect_ids(rt, &mut node, first, second)?;
+    }
+    Ok(())
+}
+
 #[test]
 fn ids_count_from_the_one_that_is_given(rt: HostRuntime) -> Result<(), Fail> {
-    let config = Config::new(1000, 60, 4096)?;
-    for (first_id, first, second) in FIRST_IDS {
-        let mut node = Node::start_from(OWN, SERVER, config, at(0)?, *first_id);
-        expect_ids(&rt, &mut node, first, second)?;
-    }
+    play_ids(&rt, FIRST_IDS)?;
     expect_ids(&rt, &mut start()?, b"\x00\x01", b"\x00\x02")
 }
 
