@@ -245,6 +245,10 @@ static void play_lapse(struct nbt_node *node, const struct nbt_name *name) {
     are_octets("lost, the name", &event.name, name, sizeof *name);
 }
 
+static size_t id_of(const uint8_t *packet) {
+    return (size_t)packet[0] << 8 | packet[1];
+}
+
 /* The ids count from the one that is given, 0 follows 65,535, and a reply with the id of an earlier life is none to this one. */
 static void play_ids(struct nbt_node *node, const struct nbt_name *name, const struct nbt_name *other) {
     uint8_t out[NBT_PACKET], before[NBT_PACKET], response[NBT_PACKET], lent[1], none;
@@ -256,18 +260,18 @@ static void play_ids(struct nbt_node *node, const struct nbt_name *name, const s
     is_number("from, moment", nbt_node_start_from(node, OWN, SERVER, LIMITS, (UINT64_C(1) << 60) + 1, 7), NBT_NO_MOMENT);
     is_number("from 1", nbt_node_start(node, OWN, SERVER, LIMITS, 0), NBT_DONE);
     is_number("from 1", nbt_node_ask(node, 10000, name, NBT_UNIQUE, 300, before, &size), NBT_DONE);
-    is_number("from 1", before[0] * 256 + before[1], 1);
+    is_number("from 1", id_of(before), 1);
     is_number("from 65,535", nbt_node_start_from(node, OWN, SERVER, LIMITS, 20000, 65535), NBT_DONE);
     is_number("quiet", nbt_node_ask(node, 22004, name, NBT_UNIQUE, 300, out, &size), NBT_ASK_QUIET);
     is_number("from 65,535", nbt_node_ask(node, 22005, name, NBT_UNIQUE, 300, out, &size), NBT_DONE);
-    is_number("from 65,535", out[0] * 256 + out[1], 65535);
+    is_number("from 65,535", id_of(out), 65535);
     count = respond(before, 68, 0xAD, 0x80, 300, response);
     is_number("an old grant", nbt_node_on_datagram(node, 22006, SERVER, response, count, &event, lent, sizeof lent, out, &size), NBT_DONE);
     is_number("an old grant", event.kind, NBT_EVENT_NOTHING);
     is_number("an old grant", nbt_node_holds(node, 22006, name, &none), NBT_DONE);
     is_number("an old grant", none, 0);
     is_number("0 follows", nbt_node_ask(node, 22007, other, NBT_UNIQUE, 300, out, &size), NBT_DONE);
-    is_number("0 follows", out[0] * 256 + out[1], 0);
+    is_number("0 follows", id_of(out), 0);
 }
 
 int main(void) {
