@@ -1,19 +1,18 @@
 -- What no fact of a world speaks of: the id of a node's next request, and when a refresh is due.
-use Rattle.std.proofs.Common.{◌≡◌, ◌≢◌, ℕ, false, true, suc, Option, Some, None, refl, sym, ap, subst, inl, inr}
+use Rattle.std.proofs.Common.{◌≡◌, ◌≢◌, ℕ, false, true, suc, Some, None, refl, sym, ap, subst, inl, inr}
 use Rattle.std.specs.Prelude.{IsTrue, ◌⊎◌}
 use Rattle.nbt_name.specs.Wire.{NameValue}
 use Rattle.nbt_name.proofs.Same.{names_apart}
 use Rattle.nbt_packet.specs.Message.{MessageValue}
 use Rattle.nbt_node.specs.declared.state.State.{State}
 use Rattle.nbt_node.specs.declared.state.State.TheVariants.{Idle, Asking, Held, Releasing, Resting}
-use Rattle.nbt_node.specs.declared.transaction.Transaction.{Transaction}
 use Rattle.nbt_node.specs.Node.{NodeValue, is_in, has_room, AreDistinct, state_of}
 use Rattle.nbt_node.specs.Calls.{due_soon, refreshing_soon}
 use Rattle.nbt_node.proofs.Known.{absent, distinct-with_state, with_state-other, with_state-same}
 use Rattle.nbt_world.specs.declared.clocks.Clocks.{Clocks}
 use Rattle.nbt_world.specs.Drift.{reading}
 use Rattle.nbt_world.specs.World.{WorldValue, node_of, with_node}
-use Rattle.nbt_world.specs.Inner.Kept.{Known, Invariant, IsNodeOf, Claims, has, may_get}
+use Rattle.nbt_world.specs.Inner.Kept.{Invariant, IsNodeOf, has, may_get}
 use Rattle.nbt_world.proofs.Drifting.{RestLaw}
 use Rattle.nbt_world.proofs.Knowing.{knows, Fades, stays, ended-fades, fresh-fades}
 use Rattle.nbt_world.proofs.Claiming.{NoNewClaim, claims_as}
