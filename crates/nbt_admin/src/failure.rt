@@ -3,7 +3,8 @@
 ghost use Rattle.std.specs.Prelude.{◌≡◌, ◌⊎◌};
 
 use crate::hosting::NAMES_MOST;
-use nbt_args::{Refusal, Text};
+use crate::reason::why_no_address;
+use nbt_args::{NoUnit, Refusal, Text};
 use nbt_lease::{Config, LIFE_MOST, LONGEST_MOST};
 use nbt_nbns::write_refusal;
 use nbt_port::Fault;
@@ -16,7 +17,13 @@ use std::{fmt, io};
 pub enum ArgumentFault {
     /// Not an address.
     Address,
-    /// The address 0.0.0.0, at which no other host reaches this machine.
+    /// An address to which requests are sent, and that isn't of one machine.
+    NotOne,
+    /// The same, at port 0.
+    NoPort,
+    /// The own address, to which no request is sent.
+    Itself,
+    /// An address that isn't of one machine, at which no other host reaches this one.
     Anywhere,
     /// An address at port 0, for which the system chooses one.
     AnyPort,
@@ -42,7 +49,12 @@ impl ArgumentFault {
     /// What the argument should be.
     fn what(self) -> &'static str {
         match self {
-            ArgumentFault::Address | ArgumentFault::Anywhere | ArgumentFault::AnyPort => "address",
+            ArgumentFault::Address
+            | ArgumentFault::NotOne
+            | ArgumentFault::NoPort
+            | ArgumentFault::Itself
+            | ArgumentFault::Anywhere
+            | ArgumentFault::AnyPort => "address",
             ArgumentFault::Name(_) | ArgumentFault::Star | ArgumentFault::Twice => "name",
             ArgumentFault::Life => "life",
             ArgumentFault::Longest => "longest lease",
@@ -57,6 +69,9 @@ impl fmt::Display for ArgumentFault {
     fn fmt<W: fmt::Write>(&self, f: &mut fmt::Formatter<W>) -> fmt::Result {
         match self {
             ArgumentFault::Address => f.write_str("no A.B.C.D or A.B.C.D:PORT in decimal"),
+            ArgumentFault::NotOne => f.write_str("an address of one machine is wanted"),
+            ArgumentFault::NoPort => f.write_str("a port from 1 to 65535 is wanted"),
+            ArgumentFault::Itself => f.write_str("that is this host's own address (--bind)"),
             ArgumentFault::Anywhere => {
                 f.write_str("not an address at which others find this machine")
             }
@@ -80,7 +95,8 @@ impl fmt::Display for ArgumentFault {
 }
 
 /// An invalid argument, and what is wrong with it. It prints as
-/// `name 'FILESERVER-NUMBER-1': 19 characters, at most 15`.
+/// `name 'FILESERVER-NUMBER-1': 19 characters, at most 15`. Of an address, and of a time without its unit, it has what is wrong with
+/// the text.
 #[derive(Drop)]
 pub struct BadArgument {
     pub text: String,
@@ -92,7 +108,19 @@ impl fmt::Display for BadArgument {
         let what = self.fault.what();
         let text = self.text.as_str();
         let fault = self.fault;
-        write!(f, "{what} '{text}': {fault}")
+        match fault {
+            ArgumentFault::Address => match why_no_address(text) {
+                Some(reason) => write!(f, "{what} '{text}': {reason}"),
+                None => write!(f, "{what} '{text}': {fault}"),
+            },
+            ArgumentFault::Life | ArgumentFault::Longest | ArgumentFault::Time => {
+                match NoUnit::of(text) {
+                    Some(reason) => write!(f, "{what} '{text}': {reason}"),
+                    None => write!(f, "{what} '{text}': {fault}"),
+                }
+            }
+            _ => write!(f, "{what} '{text}': {fault}"),
+        }
     }
 }
 

@@ -7,6 +7,7 @@ mod asking;
 mod failure;
 mod hosting;
 mod naming;
+mod reason;
 mod running;
 mod serving;
 mod timing;

@@ -12,7 +12,7 @@ const SCOPE: Argument = Argument {
     name: "scope",
     form: Form::Option("SCOPE"),
     presence: Presence::Optional,
-    help: "The name's scope, as NETBIOS.COM",
+    help: "The scope of a name that is written without one, as NETBIOS.COM",
 };
 
 const EXACT: Argument = Argument {
@@ -93,7 +93,9 @@ Prints one address per line, as `192.0.2.7 unique` or `192.0.2.7 group`, then `c
 NAME, prints `not found: no such name (3)`, with the server's own reason. If no reply comes, prints `no reply`.
 
 NAME is `FILER`, `FILER#20` or `FILER<20>`: 1 to 15 characters and the suffix in two hexadecimal digits, by default 20. Any
-other name is `hex:` and 32 digits. ADDR is A.B.C.D or A.B.C.D:PORT, in decimal with no leading zeros.
+other name is `hex:` and 32 digits. A scope may follow the suffix or the digits, as in `FILER#20.NETBIOS.COM`, and is taken as it
+is written. ADDR is A.B.C.D or A.B.C.D:PORT, in decimal with no leading zeros, and that of --server one machine's. TIME is a
+number and its unit, as 500ms or 5s.
 
 Examples:
   nbt lookup FILER --server 192.0.2.1
@@ -136,8 +138,8 @@ the host, and the suffix's meaning in Microsoft's list, if it is there. A name t
 The last line is `unit id` and six octets, mostly the address of a network card, unless they are zero. If no reply comes, prints
 `no reply`.
 
-ADDR is A.B.C.D or A.B.C.D:PORT, in decimal with no leading zeros. NAME is one of the host's names, or `*` for any of them,
-written as `nbt lookup --help` says.
+ADDR is A.B.C.D or A.B.C.D:PORT, in decimal with no leading zeros. TIME is a number and its unit, as 500ms or 5s. NAME is one of
+the host's names, or `*` for any of them, written as `nbt lookup --help` says.
 
 Examples:
   nbt status 192.0.2.7
@@ -286,8 +288,9 @@ requests them again after a refusal. Prints one line per event, with its time: a
 lost, or lapsed, since no reply came in time. When its time ends, it releases the names and prints which releases the server
 confirmed. A signal ends it at once, and its leases expire by themselves.
 
-NAME is as `nbt lookup --help` says. --bind is an address at which other hosts reach this machine, and so not 0.0.0.0. --life and
---longest must be those of the server; their defaults are those of `nbt nbns`.
+NAME is as `nbt lookup --help` says. ADDR is A.B.C.D or A.B.C.D:PORT, of one machine and so not 0.0.0.0: --bind is an address at
+which other hosts reach this machine, and not that of --server. TIME is a number and its unit, as 1500ms, 300s or 5m. --life and
+--longest must be those of the server; their defaults and limits are those of `nbt nbns`.
 
 Examples:
   nbt host FILER 'FILER<00>' --group 'WORKGROUP<00>' --server 192.0.2.1 --bind 192.0.2.7
