@@ -1,13 +1,13 @@
 -- The arguments that texts give, and the failures of other texts (our profile).
 use Rattle.std.specs.Prelude.{◌≡◌, ◌⊎◌, ◌≢◌, ◌≤◌, ◌<◌, ◌+◌, ℕ, Bool, List, [], ◌∷◌, ◌++◌, length, Any, ⊤, Option, Some, None}
-use Rattle.nbt_text.specs.Address.{SpellsEnd}
+use Rattle.nbt_text.specs.Address.{SpellsEnd, SpellsSource}
 use Rattle.nbt_client.specs.Questions.{end_of}
 use Rattle.nbt_client.specs.declared.question.Question.{Question}
 use Rattle.nbt_client.specs.declared.question.Question.TheVariants as q
 use Rattle.nbt_args.specs.declared.texts.LookupTexts.{LookupTexts}
 use Rattle.nbt_admin.specs.Failures.{IsUsage, out_of_memory, ComplainsOf}
 use Rattle.nbt_admin.specs.Times.{IsWait, SpellsPatience, IsConfigOf, AreLimits, LimitsFail, AreFitLimits, ShortFails, SpellsEnding, IsEnding, EndingFails}
-use Rattle.nbt_admin.specs.Texts.{IsAddress, AddressFails, SpellsPeer, SpellEnds, AreEnds, EndsFail, IsPath, PathFails, SpellsAsked, SpellsSought, SpellsOwn, OwnFails, SoughtFails}
+use Rattle.nbt_admin.specs.Texts.{IsAddress, AddressFails, SourceFails, SpellsPeer, SpellEnds, AreEnds, EndsFail, IsPath, PathFails, SpellsAsked, SpellsSought, SpellsOwn, OwnFails, SoughtFails}
 use Rattle.nbt_admin.specs.declared.asking.AskArguments.{AskArguments}
 use Rattle.nbt_admin.specs.declared.failure.Failure.{Failure}
 use Rattle.std.specs.Option.{option_map}
@@ -44,7 +44,7 @@ AsksHost texts (q.Names host name) = SpellsPeer texts.to.now host × SpellsAsked
 -- the question comes from the texts too
 pub record AskGiven (Asks : LookupTexts → Question → Type 0) (texts : LookupTexts) (a : AskArguments) : Type 0 where
   pub question : Asks texts a.question
-  pub bind : SpellsEnd texts.bind.now a.bind
+  pub bind : SpellsSource texts.bind.now a.bind
   pub apart : end_of a.question ≢ a.bind
   pub patience : SpellsPatience texts.tries.now texts.wait.now a.patience
 
@@ -52,8 +52,8 @@ pub record AskGiven (Asks : LookupTexts → Question → Type 0) (texts : Lookup
 abbrev pub AskFails : (Failure → Type 0) → LookupTexts → Failure → Type 0
 AskFails NameIsBad texts failure = (failure ≡ out_of_memory)
     ⊎ ((¬ IsWait texts.wait.now × IsUsage failure)
-    ⊎ ((IsWait texts.wait.now × EndsFail SpellsEnd AddressFails texts.to.now texts.bind.now failure)
-    ⊎ (IsWait texts.wait.now × AreEnds SpellsEnd texts.to.now texts.bind.now × NameIsBad failure)))
+    ⊎ ((IsWait texts.wait.now × EndsFail SpellsSource SourceFails texts.to.now texts.bind.now failure)
+    ⊎ (IsWait texts.wait.now × AreEnds SpellsSource texts.to.now texts.bind.now × NameIsBad failure)))
 
 -- ---- `nbns`
 

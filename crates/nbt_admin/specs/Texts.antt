@@ -6,7 +6,7 @@ use Rattle.nbt_text.specs.declared.casing.Case.{Case}
 use Rattle.nbt_text.specs.declared.casing.Case.TheVariants.{Folded, Exact}
 use Rattle.nbt_text.specs.declared.fault.Fault.{Fault as NameFault}
 use Rattle.nbt_text.specs.ScopedNames.{SpellsScopedName, MisspellsScopedName}
-use Rattle.nbt_text.specs.Address.{SpellsEnd}
+use Rattle.nbt_text.specs.Address.{SpellsEnd, SpellsSource}
 use Rattle.nbt_admin.specs.Failures.{ComplainsOf, out_of_memory}
 use Rattle.nbt_admin.specs.declared.failure.Failure.{Failure}
 use Rattle.nbt_admin.specs.declared.failure.ArgumentFault.TheVariants as w
@@ -19,6 +19,13 @@ IsAddress text = (address : Addr) × SpellsEnd text address
 -- an address that can't be read
 abbrev pub AddressFails : List ℕ → Failure → Type 0
 AddressFails text failure = (failure ≡ out_of_memory) ⊎ (¬ IsAddress text × ComplainsOf text w.Address failure)
+
+-- an address from which requests are sent
+abbrev pub IsSource : List ℕ → Type 0
+IsSource text = (address : Addr) × SpellsSource text address
+
+abbrev pub SourceFails : List ℕ → Failure → Type 0
+SourceFails text failure = (failure ≡ out_of_memory) ⊎ (¬ IsSource text × ComplainsOf text w.Address failure)
 
 -- The address of one machine isn't 0.0.0.0, nor a multicast address, 224.0.0.0 to 239.255.255.255 (RFC 1112 section 4), nor 255.255.255.255,
 -- which is for all machines of a network (RFC 919 section 7).

@@ -5,11 +5,11 @@ ghost use Rattle.nbt_client.specs.Asking.{tries_most};
 ghost use Rattle.nbt_admin.specs.Times.{IsWait, SpellsPatience};
 ghost use Rattle.nbt_admin.specs.Failures.{UsageFails};
 ghost use Rattle.nbt_admin.specs.Arguments.{AskGiven, AsksServer, AsksHost, AskFails};
-ghost use Rattle.nbt_text.specs.Address.{SpellsEnd};
-ghost use Rattle.nbt_admin.specs.Texts.{AddressFails, SpellEnds, EndsFail, SoughtFails, NameFails};
+ghost use Rattle.nbt_text.specs.Address.{SpellsSource};
+ghost use Rattle.nbt_admin.specs.Texts.{SourceFails, SpellEnds, EndsFail, SoughtFails, NameFails};
 
 use crate::failure::Failure;
-use crate::naming::{address_of, apart, name_of, name_to_ask, peer_of};
+use crate::naming::{apart, name_of, name_to_ask, peer_of, source_of};
 use crate::timing::parse_between;
 use nbt_args::{LimitedArgument, LimitedCommand, LookupTexts};
 use nbt_client::{Question, TRIES_MOST, patience_of};
@@ -59,11 +59,11 @@ pub fn status_arguments(alloc: Global, texts: &LookupTexts<'_>) -> Result<AskArg
 
 /// Reads the address that is asked, and the own one, which is another.
 fn ends_of(alloc: Global, to: &str, bind: &str) -> Result<(Addr, Addr), Failure>
-    ensures read { IfOk result (λ ends. SpellEnds SpellsEnd to.now bind.now ends.0 ends.1) }
-    ensures failure { IfErr result (EndsFail SpellsEnd AddressFails to.now bind.now) }
+    ensures read { IfOk result (λ ends. SpellEnds SpellsSource to.now bind.now ends.0 ends.1) }
+    ensures failure { IfErr result (EndsFail SpellsSource SourceFails to.now bind.now) }
 {
     let peer = peer_of(alloc, to)?;
-    let own = address_of(alloc, bind)?;
+    let own = source_of(alloc, bind)?;
     apart(alloc, to, peer, own)?;
     Ok((peer, own))
 }

@@ -1,13 +1,13 @@
 //! Reads addresses and names.
 
 ghost use Rattle.std.specs.Prelude.{◌≡◌, ◌≢◌, ◌⊎◌, ◌↔◌, IfOk, IfErr, IsTrue};
-ghost use Rattle.nbt_text.specs.Address.{SpellsEnd};
+ghost use Rattle.nbt_text.specs.Address.{SpellsEnd, SpellsSource};
 ghost use Rattle.nbt_admin.specs.Failures.{ComplainsOf, out_of_memory};
-ghost use Rattle.nbt_admin.specs.Texts.{case_of, AddressFails, IsOfOne, SpellsPeer, PeerFails, SpellsOwn, OwnFails, SpellsAsked, NameFails, SpellsSought, SoughtFails};
+ghost use Rattle.nbt_admin.specs.Texts.{case_of, AddressFails, SourceFails, IsOfOne, SpellsPeer, PeerFails, SpellsOwn, OwnFails, SpellsAsked, NameFails, SpellsSought, SoughtFails};
 
 use crate::failure::{ArgumentFault, Failure};
 use nbt_name::{Addr, Name};
-use nbt_text::{Case, read_address, read_scoped_name};
+use nbt_text::{Case, read_address, read_scoped_name, read_source};
 use std::alloc::Global;
 
 /// The first multicast address, 224.0.0.0, and the first address behind them, 240.0.0.0 (RFC 1112 section 4).
@@ -25,6 +25,17 @@ pub fn address_of(alloc: Global, text: &str) -> Result<Addr, Failure>
 {
     match read_address(alloc, text)? {
         Some(end) => Ok(end),
+        None => Err(Failure::of_argument(alloc, text, ArgumentFault::Address)),
+    }
+}
+
+/// Reads an address from which requests are sent.
+pub fn source_of(alloc: Global, text: &str) -> Result<Addr, Failure>
+    ensures read { IfOk result (SpellsSource text.now) }
+    ensures failure { IfErr result (SourceFails text.now) }
+{
+    match read_source(alloc, text)? {
+        Some(source) => Ok(source),
         None => Err(Failure::of_argument(alloc, text, ArgumentFault::Address)),
     }
 }

@@ -47,7 +47,7 @@ const BIND: Argument = Argument {
     name: "bind",
     form: Form::Option("ADDR"),
     presence: Presence::Default("0.0.0.0:0"),
-    help: "The own address, by default at port 137; for port 0 the system chooses one",
+    help: "The own address, by default at port 0, for which the system chooses one",
 };
 
 const LIFE: Argument = Argument {

@@ -138,7 +138,7 @@ static NOT_BOUND: [(&str, &str); 10] = [
 ];
 
 /// Commands that bind a port first, what they print and end with where the machine has no memory for it, and what is said at last.
-static BINDING: [(&str, &str, u8, &[u8]); 6] = [
+static BINDING: [(&str, &str, u8, &[u8]); 7] = [
     (
         "nbt serve 127.42.24.1:22337 1000 60 --forever",
         "device\n",
@@ -163,6 +163,13 @@ static BINDING: [(&str, &str, u8, &[u8]); 6] = [
         "device\n",
         3,
         b"nbt: 0.0.0.0:0: out of memory\n",
+    ),
+    // An own address without a port is at a port that the system chooses, too.
+    (
+        "nbt lookup FRED --server 127.42.24.1:137 --bind 127.42.24.1",
+        "device\n",
+        3,
+        b"nbt: 127.42.24.1:0: out of memory\n",
     ),
     (
         "nbt status 127.42.24.2:22337",
