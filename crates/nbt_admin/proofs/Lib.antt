@@ -1,5 +1,5 @@
 -- What several proofs share; the proof of a function is in the folder of its module and its name.
-mod Ends
+pub mod Ends
 pub mod Reading
 mod States
 mod Wanting

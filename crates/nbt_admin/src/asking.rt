@@ -58,6 +58,7 @@ pub fn status_arguments(alloc: Global, texts: &LookupTexts<'_>) -> Result<AskArg
 }
 
 /// Reads the address that is asked, and the own one, which is another.
+#[tactic(auto, using(crate::proofs::Ends::one_end))]
 fn ends_of(alloc: Global, to: &str, bind: &str) -> Result<(Addr, Addr), Failure>
     ensures read { IfOk result (λ ends. SpellEnds SpellsSource to.now bind.now ends.0 ends.1) }
     ensures failure { IfErr result (EndsFail SpellsSource SourceFails to.now bind.now) }

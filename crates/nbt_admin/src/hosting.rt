@@ -54,6 +54,7 @@ pub fn release_arguments(alloc: Global, texts: &HostTexts<'_>) -> Result<HostArg
 }
 
 /// Reads the server's address, and the own one, which is another.
+#[tactic(auto, using(crate::proofs::Ends::one_end))]
 fn ends_of(alloc: Global, server: &str, bind: &str) -> Result<(Addr, Addr), Failure>
     ensures read { IfOk result (λ ends. SpellEnds SpellsOwn server.now bind.now ends.0 ends.1) }
     ensures failure { IfErr result (EndsFail SpellsOwn OwnFails server.now bind.now) }

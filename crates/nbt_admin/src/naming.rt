@@ -41,6 +41,7 @@ pub fn source_of(alloc: Global, text: &str) -> Result<Addr, Failure>
 }
 
 /// Reads an address to which requests can be sent. Refused, after what is no address: one that isn't of one machine, and port 0.
+#[tactic(auto, using(crate::proofs::Ends::not_of_one, crate::proofs::Ends::at_port_0))]
 pub fn peer_of(alloc: Global, text: &str) -> Result<Addr, Failure>
     ensures read { IfOk result (SpellsPeer text.now) }
     ensures failure { IfErr result (PeerFails text.now) }
@@ -75,6 +76,7 @@ fn is_of_one(ip: u32) -> bool
 }
 
 /// Reads an address at which other hosts reach this machine: that of one machine.
+#[tactic(auto, using(crate::proofs::Ends::found_by_nobody))]
 pub fn own_of(alloc: Global, text: &str) -> Result<Addr, Failure>
     ensures read { IfOk result (SpellsOwn text.now) }
     ensures failure { IfErr result (OwnFails text.now) }
