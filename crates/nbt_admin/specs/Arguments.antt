@@ -12,7 +12,6 @@ use Rattle.nbt_admin.specs.declared.asking.AskArguments.{AskArguments}
 use Rattle.nbt_admin.specs.declared.failure.Failure.{Failure}
 use Rattle.std.specs.Option.{option_map}
 use Rattle.std.specs.String.{string_bytes}
-use Rattle.nbt_lease.specs.Config.{ConfigValue}
 use Rattle.nbt_nbns.specs.Limits.{judged}
 use Rattle.nbt_keep.specs.declared.arguments.ServerArguments.{ServerArguments}
 use Rattle.nbt_keep.specs.declared.arguments.StateFolder.{StateFolder}
