@@ -1,6 +1,7 @@
-"""Has a name server start over a file that is cut at each of its octets, and over one in which each octet in turn is another.
+"""Has a name server start over a file that is cut at each of its octets, over one in which each octet in turn is another, and over files
+of other limits, times and boots, whose checksums are right.
 
-    octets.py NBT FILE LONGEST
+    files.py NBT FILE LONGEST
 
 FILE is what a server with this LONGEST kept, with one line for each lease, of which the first is FILER's; all of them live until this
 is done, which the last row shows. Each server has a folder and a port of its own, on the loopback of this namespace. After its first
@@ -22,6 +23,8 @@ import packets  # noqa: E402
 
 AT_ONCE = 8
 FIRST_PORT = 20000
+PRIME, BASE = 4_294_967_291, 257  # of a line's checksum (docs/PROTOCOL.md, section 9)
+HOUR = 3_600_000  # milliseconds
 OTHERS = (0x0A, 0x20, 0x00, 0xFF)  # what an octet is changed to, beside one that differs from it in a bit
 PATIENCE = 0.03  # for how many seconds a reply is waited for that mustn't come
 KEPT = re.compile(rb"^serving \S+, with ([0-9]+) leases? kept\n$")
@@ -108,6 +111,60 @@ def changed_well(start, place):
     return start.is_silent("another version" if line == 1 else f"damaged at line {line}") and start.aside == start.octets
 
 
+def sealed(words):
+    """A line of these words, with its checksum."""
+    body, check = " ".join(map(str, words)), 0
+    for octet in body.encode():
+        check = (check * BASE + octet + 1) % PRIME
+    return f"{body} {check:08x}\n"
+
+
+def forged(good, **changes):
+    """The file with other words in its header, by their names, and leases with an expiry that is so much later."""
+    version, header, *leases = good.decode().splitlines()
+    names = ["life", "longest", "rows", "boot", "ahead", "start", "last", "day"]
+    words = dict(zip(names, header.split(), strict=False))
+    later = changes.pop("later", 0)
+    for name, change in changes.items():
+        words[name] = int(words[name]) + change if isinstance(change, int) else change
+    lines = [line.split()[:-1] for line in leases]
+    return "".join([f"{version}\n", sealed(words.values()), *(sealed([*line[:-1], int(line[-1]) + later]) for line in lines)]).encode()
+
+
+def with_many(good, count):
+    """The file with so many leases, of names of their own."""
+    version, header, lease, *_ = good.decode().splitlines()
+    began, _, host, kind, end, _ = lease.split()
+    return "".join([f"{version}\n{header}\n", *(sealed([began, f"N{number}", host, kind, end]) for number in range(count))]).encode()
+
+
+def files_of(good):
+    """Files with right checksums, and why a server is silent over each: None where it goes on."""
+    other = {"boot": "01234567-89ab-cdef-0123-456789abcdef"}
+    return [
+        ("as it was", good, None),
+        ("with the same checksums", forged(good), None),
+        ("of another version", good.replace(b"version 1", b"version 2"), "another version"),
+        ("of another LIFE", forged(good, life=1), "another LIFE"),
+        ("of another LONGEST", forged(good, longest=1), "another LONGEST"),
+        ("of fewer rows", forged(good, rows=-1), "another number of rows"),
+        ("of an hour later, by the machine's clock", forged(good, last=HOUR), "clock went back"),
+        ("of an earlier time, with a lease longer than any", forged(good, later=HOUR), "leases that no server grants"),
+        ("of another boot", forged(good, **other), None),
+        ("of another boot, an hour later by the time of day", forged(good, **other, day=HOUR), "clock went back"),
+        ("of another boot, an hour before", forged(good, **other, day=-HOUR), "the kept leases are over"),
+        ("of as many leases as there are rows", with_many(good, 4096), None),
+        ("of one lease more", with_many(good, 4097), "more leases than rows"),
+    ]
+
+
+def reasoned(start, reason, leases):
+    """Whether it is silent for this reason; where there is none, whether it goes on with so many leases, or that many of other names."""
+    if reason:
+        return start.is_silent(reason)
+    return start.kept() == leases and (leases > 2 or start.is_refused())
+
+
 def row(what, starts, is_well):
     """A row, which passes where each start was as it has to be."""
     wrong = [f"octet {place}: {start.line!r}, reply {start.reply.hex()}" for place, start in starts if not is_well(start, place)]
@@ -135,6 +192,10 @@ def main(nbt, path, longest):
     took = time.monotonic() - begun
     row(f"a file that is cut at each octet, {len(cut)} files", starts[: len(cut)], cut_well)
     row(f"a file in which each octet in turn is another, {len(changed)} files", starts[len(cut) :], changed_well)
+    for what, octets, reason in files_of(good):
+        start = Start(nbt, longest, FIRST_PORT - 2, octets)
+        leases = lines_of(octets) - 2
+        row(f"a file {what}: {reason or 'it goes on'}", [(0, start)], lambda start, _: reasoned(start, reason, leases))
     row(f"the file as it was, {took:.1f} s later", [(0, last)], lambda start, _: goes_on(start, lines_of(good) - 2))
 
 
