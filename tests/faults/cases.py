@@ -33,7 +33,7 @@ def answers(host, *moments, name="X"):
 class Count(NamedTuple):
     """How many there are of: pairs that held a name at once; pairs whose lines overlap alone; answers against lines; answers from a hold
     that was over, after a pause; replies of the server against a hold; names that a host lost; and starts of the server with fewer
-    leases than holds; and replies that lack the holder of Y, once one had it."""
+    leases than holds; and replies that lack the holder of Y, while its lease lasts."""
 
     twice: int = 0
     lines: int = 0
@@ -46,8 +46,8 @@ class Count(NamedTuple):
 
 
 class Case(NamedTuple):
-    """A run: what it shows, the hosts' lines and answers, what has to be counted, pauses, what the server told, when hosts ended, and
-    the server's starts."""
+    """A run: what it shows, the hosts' lines and answers, what has to be counted, pauses, what the server told, when hosts ended, the
+    server's starts, and y's leases of Y."""
 
     what: str
     lines: list
@@ -57,6 +57,7 @@ class Case(NamedTuple):
     told: list = []
     ends: dict = {}
     starts: list = []
+    leases: list = []
 
 
 HOLDS = [granted(1, "a")], answers("a", 9)  # a host that holds a name from 1 to 9, for sure
@@ -123,13 +124,14 @@ CASES = [
     Case("a start of the server with a lease for each hold", *HOLDS, starts=[(3, 4, 1), (8, 10, 0)]),
     Case("a start of the server without a lease for a hold", *HOLDS, Count(fewer=1), starts=[(3, 4, 0), (5, 6, 1)]),
     Case(
-        "a name that the server forgets, and tells again",
+        "a name that the server forgets",
         [],
         [],
         Count(lacking=2),
-        told=[Told(at, at + 0.1, "Y", addresses) for at, addresses in enumerate([(), ("y",), (), ("z",), ("y", "z")])],
+        told=[Told(at, at + 0.1, "Y", addresses) for at, addresses in enumerate([(), ("y",), (), ("z",), ("y", "z"), ()])],
+        leases=[(0.5, 2), (2.5, 2)],
     ),
-    Case("a name that the server never tells", [], [], told=[Told(1, 2, "Y", ())]),
+    Case("a name whose lease is over, or isn't yet", [], [], told=[Told(1, 2, "Y", ()), Told(5, 6, "Y", ())], leases=[(1.5, 4)]),
 ]
 
 
@@ -143,7 +145,8 @@ def judged(case):
     spans = judge.with_answers(judge.spans_of_lines(case.lines, case.ends, kind_of, UNTIL), case.answers)
     against, stale = judge.answers_against_lines(case.answers, spans, defaultdict(list, case.pauses))
     server = judge.server_against_hosts(case.told, spans, lambda host: host)
-    lost, fewer, lacking = judge.losses(case.lines), judge.fewer_leases(case.starts, spans), judge.not_told(case.told, "Y", "y")
+    lost, fewer = judge.losses(case.lines), judge.fewer_leases(case.starts, spans)
+    lacking = judge.not_told(case.told, case.leases, "Y", "y")
     return Count(*map(len, (judge.twice(spans), judge.only_lines(spans), against, stale, server, lost, fewer, lacking)))
 
 

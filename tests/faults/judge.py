@@ -210,11 +210,11 @@ def server_against_hosts(told, spans, address_of):
     return against
 
 
-def not_told(told, name, address):
-    """What the server told of a name otherwise than that it is this address's, after it told so for the first time."""
-    replies = [reply for reply in told if reply.name == name]
-    first = min((reply.came for reply in replies if address in reply.addresses), default=float("inf"))
-    return [reply for reply in replies if reply.asked > first and address not in reply.addresses]
+def not_told(told, leases, name, address):
+    """What the server told of a name otherwise than that it is this address's, while one of these leases lasted: each is when the server
+    said that it begins, and for how many seconds."""
+    replies = [reply for reply in told if reply.name == name and address not in reply.addresses]
+    return [reply for reply in replies if any(at <= reply.asked and reply.came <= at + seconds for at, seconds in leases)]
 
 
 def seconds_of(pairs):

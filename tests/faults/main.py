@@ -119,6 +119,26 @@ class Report:
         return [] if starts == kept else [f"{kept} of {starts} said so"]
 
     def row_of_nmbd(self, nmbd):
+        """The server tells who has nmbd's own name for as long as it granted that. nmbd doesn't repeat a refresh that nobody heard."""
+        told, leases = self.book.told, self.book.leases
+        wrong = judge.not_told(told, leases, nmbd.OWN, nmbd.machine.address)
+        lines = [f"{reply.addresses} at {self.at(reply.asked)}" for reply in wrong]
+        self.row(f"nmbd had {nmbd.OWN} for as long as each of {len(leases)} leases", lines if leases else ["never"])
+
+    def lacking(self):
+        """The starts of the server that lacked leases of holds that were sure."""
+        fewer = judge.fewer_leases(self.book.starts, self.spans)
+        return [f"at {self.at(at)}: {leases} leases, {holds} holds" for at, leases, holds in fewer]
+
+    def losses(self):
+        """The lines by which hosts lost names since faults come."""
+        return [line for line in judge.losses(self.book.lines) if line.at > self.play.begun]
+
+    def starts_without(self, starts, kept):
+        """What is wrong where fewer starts said that leases were kept than there were."""
+        return [] if starts == kept else [f"{kept} of {starts} said so"]
+
+    def row_of_nmbd(self, nmbd):
         """The server tells who has nmbd's own name from its first registration on."""
         told = [reply for reply in self.book.told if reply.name == nmbd.OWN]
         wrong = [f"{reply.addresses} at {self.at(reply.asked)}" for reply in judge.not_told(told, nmbd.OWN, nmbd.machine.address)]
@@ -168,6 +188,9 @@ class Report:
         say = self.book.say
         say(f"rival nmbd: it answered for {CONTENDED[0]} {len(self.rivals)} times, for {held:.0f} s in all")
         say(f"rival nmbd: beside a host that held it {len(pairs)} times, for {judge.seconds_of(pairs):.0f} s in all")
+        own = [reply for reply in self.book.told if reply.name == Nmbd.OWN and reply.asked > self.play.begun]
+        found = [reply for reply in own if reply.addresses]
+        say(f"rival nmbd: the server told who has {Nmbd.OWN} in {len(found)} of {len(own)} answers")
         say(f"rival nmbd: meanwhile the server told of another holder, or of none, in {len(apart)} answers")
         for pair in pairs[:SHOWN]:
             say(f"    {self.tell_pair(pair)}")

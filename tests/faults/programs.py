@@ -14,6 +14,9 @@ from judge import Line
 # How `nbt nbns` begins where it had its leases still, also within the silence of its first start.
 LEASES_KEPT = re.compile(r"^serving \S+, with ([0-9]+) leases? kept(, silent for .*)?$")
 
+# A line of `nbt nbns` about a lease of nmbd's own name.
+OWN_LEASE = re.compile(r"^\S+Z (?:granted|renewed) NMBD#20 \S+ unique ([0-9]+) s$")
+
 # A line of `nbt host` about a name, as docs/PROTOCOL.md has it. Which suffix the name has plays no part.
 ABOUT_A_NAME = re.compile(
     r"^\S+Z (granted|renewed|refused|asks again for|lost|lapsed|given back|give-back denied|give-back unconfirmed|not held)"
@@ -157,6 +160,8 @@ class Server(Program):
         return super().end(at)
 
     def read_line(self, at, text):
+        if lease := OWN_LEASE.match(text):
+            self.book.leases.append((at, int(lease[1])))
         if not self.state or not text.startswith("serving "):
             return
         self.has_begun = True
