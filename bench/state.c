@@ -1,7 +1,7 @@
 /* What keeping the leases costs `nbt nbns`: a server with --state beside one without, in one run.
  *
  * state PROGRAM FOLDER [PORT]: starts PROGRAM on PORT of 127.0.0.1, and on PORT + 1 with --state FOLDER, which is there and empty. It
- * prints registrations, renewals and queries a second of both, 32 outstanding, from as many sockets; how much of a processor a query
+ * prints registrations, renewals and queries a second of both, 32 outstanding, from 64 addresses of 64 names each; how much of a processor a query
  * takes the servers; the most memory that both had; how long the second one takes from its start with 4,096 leases to its first line
  * and to its first reply, each after SIGKILL; and how long a sync of a line of this folder takes, before and after. The two servers are
  * asked in turn, so that other work on the machine hits both alike. A number is the median of the rounds, and a ratio that of their
@@ -23,10 +23,10 @@
 
 #include "packets.h"
 
-enum { NAMES = 4096, OUTSTANDING = 32, LEASE = 60, SYNCS = 200, GRANTED = 0xad80, RELEASED = 0xb400, FOUND = 0x8580 };
+enum { NAMES = 4096, CLIENTS = 64, FIRST_CLIENT = 0x7f000101, OUTSTANDING = 32, LEASE = 60, SYNCS = 200, GRANTED = 0xad80, RELEASED = 0xb400, FOUND = 0x8580 };
 enum { ROUNDS = 15, QUERY_ROUNDS = 60, STARTS = 5, MOST_ROUNDS = 60 };
 
-static int sockets[OUTSTANDING];
+static int sockets[CLIENTS];
 static unsigned long lost, wrong;
 
 static void fail(const char *what) {
@@ -40,8 +40,9 @@ static double seconds(void) {
     return (double)t.tv_sec + (double)t.tv_nsec / 1e9;
 }
 
-static int udp_socket(void) {
-    struct sockaddr_in own = {.sin_family = AF_INET, .sin_addr.s_addr = htonl(INADDR_LOOPBACK)};
+/* The socket of a client, which has an address of its own: 127.0.1.1 and those after it. */
+static int udp_socket(unsigned client) {
+    struct sockaddr_in own = {.sin_family = AF_INET, .sin_addr.s_addr = htonl(FIRST_CLIENT + client)};
     struct timeval wait = {.tv_usec = 500000};
     int s = socket(AF_INET, SOCK_DGRAM, 0);
     if (s < 0 || bind(s, (struct sockaddr *)&own, sizeof own) < 0) fail("socket");
@@ -52,11 +53,13 @@ static int udp_socket(void) {
 static size_t packet(unsigned char *out, unsigned k, int reply) {
     if (reply == FOUND) return put_query(out, (uint16_t)k, 'N', k % NAMES);
     size_t length = put_registration(out, (uint16_t)k, 'N', k % NAMES, LEASE);
+    put_long(out + ADDRESS_AT, FIRST_CLIENT + k % CLIENTS);
     if (reply == RELEASED) make_release(out);
     return length;
 }
 
-/* How many requests a second, at that port, OUTSTANDING at a time, from as many sockets; what doesn't come within half a second is lost. */
+/* How many requests a second, at that port, OUTSTANDING at a time, of each client in turn; what doesn't come within half a second is
+ * lost. */
 static double ask(uint16_t port, unsigned count, int reply) {
     struct sockaddr_in server = {.sin_family = AF_INET, .sin_addr.s_addr = htonl(INADDR_LOOPBACK), .sin_port = htons(port)};
     unsigned char out[80], in[600];
@@ -64,12 +67,12 @@ static double ask(uint16_t port, unsigned count, int reply) {
     for (unsigned k = 0; k < count + OUTSTANDING; k++) {
         if (k >= OUTSTANDING) {
             unsigned id = k - OUTSTANDING;
-            if (recv(sockets[id % OUTSTANDING], in, sizeof in, 0) < 0) lost++;
+            if (recv(sockets[id % CLIENTS], in, sizeof in, 0) < 0) lost++;
             else if (word_at(in) != (uint16_t)id || word_at(in + 2) != reply) wrong++;
         }
         if (k < count) {
             size_t length = packet(out, k, reply);
-            if (sendto(sockets[k % OUTSTANDING], out, length, 0, (struct sockaddr *)&server, sizeof server) < 0) fail("sendto");
+            if (sendto(sockets[k % CLIENTS], out, length, 0, (struct sockaddr *)&server, sizeof server) < 0) fail("sendto");
         }
     }
     return count / (seconds() - begun);
@@ -214,7 +217,7 @@ int main(int count, char **words) {
     static struct measure registers, renews, queries, releases;
     double before[2];
     char line[256];
-    for (int k = 0; k < OUTSTANDING; k++) sockets[k] = udp_socket();
+    for (unsigned k = 0; k < CLIENTS; k++) sockets[k] = udp_socket(k);
     printf("%-38s %9.0f us\n", "a line and its sync in that folder", sync_time(folder));
     struct pair pair = {{port, (uint16_t)(port + 1)}, {start(program, port, NULL), start(program, (uint16_t)(port + 1), folder)}};
     for (int k = 0; k < 2; k++) first_line(&pair.children[k], line, sizeof line);

@@ -125,27 +125,6 @@ class Report:
         lines = [f"{reply.addresses} at {self.at(reply.asked)}" for reply in wrong]
         self.row(f"nmbd had {nmbd.OWN} for as long as each of {len(leases)} leases", lines if leases else ["never"])
 
-    def lacking(self):
-        """The starts of the server that lacked leases of holds that were sure."""
-        fewer = judge.fewer_leases(self.book.starts, self.spans)
-        return [f"at {self.at(at)}: {leases} leases, {holds} holds" for at, leases, holds in fewer]
-
-    def losses(self):
-        """The lines by which hosts lost names since faults come."""
-        return [line for line in judge.losses(self.book.lines) if line.at > self.play.begun]
-
-    def starts_without(self, starts, kept):
-        """What is wrong where fewer starts said that leases were kept than there were."""
-        return [] if starts == kept else [f"{kept} of {starts} said so"]
-
-    def row_of_nmbd(self, nmbd):
-        """The server tells who has nmbd's own name from its first registration on."""
-        told = [reply for reply in self.book.told if reply.name == nmbd.OWN]
-        wrong = [f"{reply.addresses} at {self.at(reply.asked)}" for reply in judge.not_told(told, nmbd.OWN, nmbd.machine.address)]
-        if not any(nmbd.machine.address in reply.addresses for reply in told):
-            wrong.append("never")
-        self.row(f"the server told in {len(told)} answers that nmbd has {nmbd.OWN}, from the first on", wrong)
-
     def names_of_few(self, names):
         """The names that no two hosts held for sure, one after the other."""
         holders = {name: {span.host for span in self.spans if span.name == name and span.sure > span.begun} for name in names}
@@ -212,9 +191,10 @@ def main(run, net, nbt, work, minutes, seed, hosts, rival, control, state, disk,
         play.end()
     report.row(f"the judge judges {len(CASES)} runs that were written by hand", wrong_cases())
     if lies:
-        lacking = report.lacking()
-        report.row("the judge sees that leases are missing where a sync does nothing", [] if lacking else ["none"])
-        report.book.say(f"starts of the server that lacked leases: {len(lacking)}, names that hosts lost: {len(report.losses())}")
+        silent, lacking = report.book.wrong["silent"], report.lacking()
+        report.row("the judge sees that leases are missing where a sync does nothing", [] if silent or lacking else ["none"])
+        starts = f"starts of the server with nothing kept: {len(silent)}, with too few leases: {len(lacking)}"
+        report.book.say(f"{starts}; names that hosts lost: {len(report.losses())}")
     elif silence:
         report.row("the judge sees two holders where a premise is broken", [] if report.twice else ["none"])
         for pair in report.twice:
