@@ -1,11 +1,11 @@
 /* What keeping the leases costs `nbt nbns`: a server with --state beside one without, in one run.
  *
  * state PROGRAM FOLDER [PORT]: starts PROGRAM on PORT of 127.0.0.1, and on PORT + 1 with --state FOLDER, which is there and empty. It
- * prints registrations, renewals and queries a second of both, 32 outstanding, from 64 addresses of 64 names each; how much of a processor a query
- * takes the servers; the most memory that both had; how long the second one takes from its start with 4,096 leases to its first line
- * and to its first reply, each after SIGKILL; and how long a sync of a line of this folder takes, before and after. The two servers are
- * asked in turn, so that other work on the machine hits both alike. A number is the median of the rounds, and a ratio that of their
- * ratios. Each reply's id and flags are checked. It takes a minute and a half, the first of which is the silence. */
+ * prints registrations, renewals and queries a second of both, 32 outstanding, from 64 addresses of 64 names each; how much of a
+ * processor a query takes the servers; the most memory that both had; how long the second one takes from its start with 4,096 leases
+ * to its first line and to its first reply, each after SIGKILL; and how long a sync of a line of this folder takes, before and after.
+ * The two servers are asked in turn, so that other work on the machine hits both alike. A number is the median of the rounds, and a
+ * ratio that of their ratios. Each reply's id and flags are checked. It takes a minute and a half, the first of which is the silence. */
 #define _GNU_SOURCE
 #include <arpa/inet.h>
 #include <fcntl.h>
@@ -23,7 +23,8 @@
 
 #include "packets.h"
 
-enum { NAMES = 4096, CLIENTS = 64, FIRST_CLIENT = 0x7f000101, OUTSTANDING = 32, LEASE = 60, SYNCS = 200, GRANTED = 0xad80, RELEASED = 0xb400, FOUND = 0x8580 };
+enum { NAMES = 4096, CLIENTS = 64, FIRST_CLIENT = 0x7f000101, OUTSTANDING = 32, LEASE = 60, SYNCS = 200 };
+enum { GRANTED = 0xad80, RELEASED = 0xb400, FOUND = 0x8580 };
 enum { ROUNDS = 15, QUERY_ROUNDS = 60, STARTS = 5, MOST_ROUNDS = 60 };
 
 static int sockets[CLIENTS];

@@ -150,7 +150,7 @@ def files_of(good):
         ("of fewer rows", forged(good, rows=-1), "another number of rows"),
         ("of an hour later, by the machine's clock", forged(good, last=HOUR), "clock went back"),
         ("of an earlier time, with a lease longer than any", forged(good, later=HOUR), "leases that no server grants"),
-        ("of another boot", forged(good, **other), None),
+        ("of another boot", forged(good, **other, day=-50), None),
         ("of another boot, an hour later by the time of day", forged(good, **other, day=HOUR), "clock went back"),
         ("of another boot, an hour before", forged(good, **other, day=-HOUR), "the kept leases are over"),
         ("of as many leases as there are rows", with_many(good, 4096), None),
