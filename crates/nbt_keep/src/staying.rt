@@ -80,6 +80,7 @@ pub fn keep_on<
         writer,
         rows: &mut rows,
         octets: ArrayVec::new(),
+        reply: ArrayVec::new(),
     };
     stay_up(&mut turn, FOREVER, machine, errors)
 }
@@ -99,6 +100,7 @@ struct KeptTurn<'p, 't, 'c, 'd, 's, 'r, 'h, 'v, 'w, 'b, P, S, C, D, V, W> {
     writer: &'w mut W,
     rows: &'b mut Vec<(Name, Lease)>,
     octets: ArrayVec<u8, 2048>,
+    reply: ArrayVec<u8, 576>,
     ghost room: { length waiting.now.replies < batch },
 }
 
@@ -136,6 +138,7 @@ impl<P: Port, S: Store, C: Clock, D: Clock, V: Watcher, W: Write> Turn
             self.server,
             self.waiting,
             &mut self.octets,
+            &mut self.reply,
         ) {
             Ok(shown) => shown,
             Err(KeepFault::Port) => return Turned::Failed(self.port.cause()),
@@ -204,6 +207,7 @@ fn turn_and_moment<P: Port, S: Store, C: Clock>(
     server: &mut Server,
     waiting: &mut Waiting,
     octets: &mut ArrayVec<u8, 2048>,
+    reply: &mut ArrayVec<u8, 576>,
 ) -> Result<Shown, KeepFault>
     requires failure_count { P.failures port.old < 2 ^ 62 }
     requires room { length waiting.old.replies < batch }
@@ -217,7 +221,7 @@ fn turn_and_moment<P: Port, S: Store, C: Clock>(
     ensures room { length waiting.new.replies < batch }
     ensures count { P.failures port.new ≤ P.failures port.old + 1 }
 {
-    let entry = keep_turn(port, clock, store, server, waiting, octets)?;
+    let entry = keep_turn(port, clock, store, server, waiting, octets, reply)?;
     Ok(Shown {
         entry,
         at: clock.now(),

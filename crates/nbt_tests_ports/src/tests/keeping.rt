@@ -223,6 +223,7 @@ fn turn<R: Abort>(
         stage.server,
         stage.waiting,
         octets,
+        &mut ArrayVec::new(),
     )?;
     Ok(())
 }
