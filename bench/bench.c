@@ -142,7 +142,7 @@ static pid_t start_server(const char *program, uint16_t port, int is_logged) {
     pid_t pid = fork();
     if (pid == 0) {
         freopen("/dev/null", "w", stdout);
-        if (is_logged) execl(program, "nbt", "nbns", "--bind", bind_to, "--life", "1s", "--longest", longest, "--log", (char *)NULL);
+        if (is_logged) execl(program, "nbt", "nbns", "--bind", bind_to, "--life", "1s", "--longest", longest, "--rows-per-client", "4096", "--log", (char *)NULL);
         else execl(program, "nbt", "serve", bind_to, "1000", longest, "--forever", (char *)NULL);
         fail(program);
     }

@@ -1,9 +1,11 @@
-/* What keeping the leases costs `nbt nbns`: a server with --state beside one without, in one run, each number the median of five rounds.
+/* What keeping the leases costs `nbt nbns`: a server with --state beside one without, in one run.
  *
  * state PROGRAM FOLDER [PORT]: starts PROGRAM on PORT of 127.0.0.1, and on PORT + 1 with --state FOLDER, which is there and empty. It
- * prints registrations, renewals and queries a second of both, 32 outstanding; the most memory that both had; how long the second
- * one takes from its start with 4,096 leases to its first line and to its first reply, each after SIGKILL; and how long a sync of a
- * line of this folder takes. Each reply's id and flags are checked. It takes about two minutes, the first of which is the silence. */
+ * prints registrations, renewals and queries a second of both, 32 outstanding, from 64 addresses of 64 names each; how much of a
+ * processor a query takes the servers; the most memory that both had; how long the second one takes from its start with 4,096 leases
+ * to its first line and to its first reply, each after SIGKILL; and how long a sync of a line of this folder takes, before and after.
+ * The two servers are asked in turn, so that other work on the machine hits both alike. A number is the median of the rounds, and a
+ * ratio that of their ratios. Each reply's id and flags are checked. It takes a minute and a half, the first of which is the silence. */
 #define _GNU_SOURCE
 #include <arpa/inet.h>
 #include <fcntl.h>
@@ -12,7 +14,7 @@
 #include <stdio.h>
 #include <stdlib.h>
 #include <string.h>
-#include <sys/resource.h>
+#include <sys/prctl.h>
 #include <sys/socket.h>
 #include <sys/time.h>
 #include <sys/wait.h>
@@ -21,11 +23,11 @@
 
 #include "packets.h"
 
-enum { ROUNDS = 5, NAMES = 4096, OUTSTANDING = 32, QUERIES = 40000, LEASE = 60, SYNCS = 200, GRANTED = 0xad80, RELEASED = 0xb400, FOUND = 0x8580 };
-enum measure { REGISTER, RENEW, QUERY, MEASURES };
+enum { NAMES = 4096, CLIENTS = 64, FIRST_CLIENT = 0x7f000101, OUTSTANDING = 32, LEASE = 60, SYNCS = 200 };
+enum { GRANTED = 0xad80, RELEASED = 0xb400, FOUND = 0x8580 };
+enum { ROUNDS = 15, QUERY_ROUNDS = 60, STARTS = 5, MOST_ROUNDS = 60 };
 
-static const char *const LABELS[MEASURES] = {"registrations of 4,096 names", "renewals of 4,096 names", "queries over 4,096 names"};
-static int sockets[OUTSTANDING];
+static int sockets[CLIENTS];
 static unsigned long lost, wrong;
 
 static void fail(const char *what) {
@@ -39,8 +41,9 @@ static double seconds(void) {
     return (double)t.tv_sec + (double)t.tv_nsec / 1e9;
 }
 
-static int udp_socket(void) {
-    struct sockaddr_in own = {.sin_family = AF_INET, .sin_addr.s_addr = htonl(INADDR_LOOPBACK)};
+/* The socket of a client, which has an address of its own: 127.0.1.1 and those after it. */
+static int udp_socket(unsigned client) {
+    struct sockaddr_in own = {.sin_family = AF_INET, .sin_addr.s_addr = htonl(FIRST_CLIENT + client)};
     struct timeval wait = {.tv_usec = 500000};
     int s = socket(AF_INET, SOCK_DGRAM, 0);
     if (s < 0 || bind(s, (struct sockaddr *)&own, sizeof own) < 0) fail("socket");
@@ -51,11 +54,13 @@ static int udp_socket(void) {
 static size_t packet(unsigned char *out, unsigned k, int reply) {
     if (reply == FOUND) return put_query(out, (uint16_t)k, 'N', k % NAMES);
     size_t length = put_registration(out, (uint16_t)k, 'N', k % NAMES, LEASE);
+    put_long(out + ADDRESS_AT, FIRST_CLIENT + k % CLIENTS);
     if (reply == RELEASED) make_release(out);
     return length;
 }
 
-/* Requests a second at that port, OUTSTANDING at a time, from as many sockets; what doesn't come within half a second is lost. */
+/* How many requests a second, at that port, OUTSTANDING at a time, of each client in turn; what doesn't come within half a second is
+ * lost. */
 static double ask(uint16_t port, unsigned count, int reply) {
     struct sockaddr_in server = {.sin_family = AF_INET, .sin_addr.s_addr = htonl(INADDR_LOOPBACK), .sin_port = htons(port)};
     unsigned char out[80], in[600];
@@ -63,12 +68,12 @@ static double ask(uint16_t port, unsigned count, int reply) {
     for (unsigned k = 0; k < count + OUTSTANDING; k++) {
         if (k >= OUTSTANDING) {
             unsigned id = k - OUTSTANDING;
-            if (recv(sockets[id % OUTSTANDING], in, sizeof in, 0) < 0) lost++;
+            if (recv(sockets[id % CLIENTS], in, sizeof in, 0) < 0) lost++;
             else if (word_at(in) != (uint16_t)id || word_at(in + 2) != reply) wrong++;
         }
         if (k < count) {
             size_t length = packet(out, k, reply);
-            if (sendto(sockets[k % OUTSTANDING], out, length, 0, (struct sockaddr *)&server, sizeof server) < 0) fail("sendto");
+            if (sendto(sockets[k % CLIENTS], out, length, 0, (struct sockaddr *)&server, sizeof server) < 0) fail("sendto");
         }
     }
     return count / (seconds() - begun);
@@ -87,6 +92,7 @@ static struct child start(const char *program, uint16_t port, const char *folder
     if (pipe(ends) < 0) fail("pipe");
     pid_t pid = fork();
     if (pid == 0) {
+        prctl(PR_SET_PDEATHSIG, SIGTERM); /* it ends with this program */
         dup2(ends[1], STDOUT_FILENO);
         execl(program, "nbt", "nbns", "--bind", bind_to, "--longest", "60s", folder ? "--state" : (char *)NULL, folder, (char *)NULL);
         fail(program);
@@ -112,6 +118,14 @@ static long most_memory(pid_t pid) {
     while (file && fgets(line, sizeof line, file)) sscanf(line, "VmHWM: %ld", &found);
     if (file) fclose(file);
     return found;
+}
+
+/* How many seconds of a processor a process has had, its own and the system's for it. */
+static double processor(pid_t pid) {
+    clockid_t clock;
+    struct timespec t;
+    if (clock_getcpuclockid(pid, &clock) || clock_gettime(clock, &t)) fail("the processor's time of a server");
+    return (double)t.tv_sec + (double)t.tv_nsec / 1e9;
 }
 
 static int by_size(const void *a, const void *b) {
@@ -141,49 +155,90 @@ static double sync_time(const char *folder) {
     return median(taken, SYNCS);
 }
 
-int main(int count, char **words) {
-    if (count < 3) return fprintf(stderr, "state PROGRAM FOLDER [PORT]\n"), 2;
-    uint16_t port = (uint16_t)(count > 3 ? atoi(words[3]) : 21947), kept_port = (uint16_t)(port + 1);
-    double plain[MEASURES][ROUNDS], kept[MEASURES][ROUNDS], lines[ROUNDS], replies[ROUNDS];
+/* Two servers, of which the second keeps its leases. */
+struct pair {
+    uint16_t ports[2];
+    struct child children[2];
+};
+
+/* What was measured of both, round by round. */
+struct measure {
+    double of[2][MOST_ROUNDS], ratios[MOST_ROUNDS];
+    int count;
+};
+
+/* Asks both servers, the one first in one round and the other in the next. */
+static void ask_both(struct pair *pair, struct measure *measure, unsigned count, int reply) {
+    int round = measure->count++;
+    for (int k = 0; k < 2; k++) {
+        int which = (k + round) % 2;
+        measure->of[which][round] = ask(pair->ports[which], count, reply);
+    }
+    measure->ratios[round] = measure->of[0][round] / measure->of[1][round];
+}
+
+static void tell(const char *label, struct measure *measure) {
+    size_t count = (size_t)measure->count;
+    double ratio = median(measure->ratios, count), plain = median(measure->of[0], count), kept = median(measure->of[1], count);
+    printf("%-38s %9.0f a second, with --state %9.0f: it takes %.3f times as long\n", label, plain, kept, ratio);
+}
+
+/* Tells how much of a processor a query took both servers, the system's work for them included. */
+static void tell_processors(struct pair *pair, const double *before, unsigned long queries) {
+    double spent[2];
+    for (int k = 0; k < 2; k++) spent[k] = (processor(pair->children[k].pid) - before[k]) / (double)queries * 1e6;
+    printf("%-38s %9.2f us, with --state %9.2f us: %.3f times\n", "processor for a query", spent[0], spent[1], spent[1] / spent[0]);
+}
+
+/* Tells how long the server that keeps its leases takes to start with all of them. */
+static void tell_starts(const char *program, const char *folder, struct pair *pair) {
+    struct child *with = &pair->children[1];
+    double lines[STARTS], replies[STARTS];
     char line[256];
-    for (int k = 0; k < OUTSTANDING; k++) sockets[k] = udp_socket();
-    printf("%-38s %9.0f us\n", "a line and its sync in that folder", sync_time(words[2]));
-    struct child without = start(words[1], port, NULL), with = start(words[1], kept_port, words[2]);
-    first_line(&with, line, sizeof line);
-    first_line(&without, line, sizeof line);
-    sleep(LEASE + 1); /* both are silent for the longest lease */
-    for (int round = 0; round < ROUNDS; round++) {
-        plain[REGISTER][round] = ask(port, NAMES, GRANTED);
-        kept[REGISTER][round] = ask(kept_port, NAMES, GRANTED);
-        plain[RENEW][round] = ask(port, NAMES, GRANTED);
-        kept[RENEW][round] = ask(kept_port, NAMES, GRANTED);
-        plain[QUERY][round] = ask(port, QUERIES, FOUND);
-        kept[QUERY][round] = ask(kept_port, QUERIES, FOUND);
-        ask(port, NAMES, RELEASED);
-        ask(kept_port, NAMES, RELEASED);
-    }
-    ask(port, NAMES, GRANTED);
-    ask(kept_port, NAMES, GRANTED);
-    for (int m = 0; m < MEASURES; m++) {
-        double a = median(plain[m], ROUNDS), b = median(kept[m], ROUNDS);
-        printf("%-38s %9.0f a second, with --state %9.0f, ratio %.2f\n", LABELS[m], a, b, b / a);
-    }
-    printf("%-38s %9ld kB, with --state %ld kB\n", "the most memory", most_memory(without.pid), most_memory(with.pid));
-    for (int round = 0; round < ROUNDS; round++) {
-        kill(with.pid, SIGKILL);
-        waitpid(with.pid, NULL, 0);
-        fclose(with.lines);
+    for (int round = 0; round < STARTS; round++) {
+        kill(with->pid, SIGKILL);
+        waitpid(with->pid, NULL, 0);
+        fclose(with->lines);
         double begun = seconds();
-        with = start(words[1], kept_port, words[2]);
-        first_line(&with, line, sizeof line);
+        *with = start(program, pair->ports[1], folder);
+        first_line(with, line, sizeof line);
         lines[round] = (seconds() - begun) * 1e3;
         if (!strstr(line, "with 4096 leases kept")) wrong++;
-        ask(kept_port, 1, FOUND);
+        ask(pair->ports[1], 1, FOUND);
         replies[round] = (seconds() - begun) * 1e3;
     }
-    printf("%-38s %9.1f ms to its first line, %.1f ms to its first reply\n", "a start with 4,096 leases", median(lines, ROUNDS), median(replies, ROUNDS));
+    double to_line = median(lines, STARTS), to_reply = median(replies, STARTS);
+    printf("%-38s %9.1f ms to its first line, %.1f ms to its first reply\n", "a start with 4,096 leases", to_line, to_reply);
+}
+
+int main(int count, char **words) {
+    if (count < 3) return fprintf(stderr, "state PROGRAM FOLDER [PORT]\n"), 2;
+    const char *program = words[1], *folder = words[2];
+    uint16_t port = (uint16_t)(count > 3 ? atoi(words[3]) : 21947);
+    static struct measure registers, renews, queries, releases;
+    double before[2];
+    char line[256];
+    for (unsigned k = 0; k < CLIENTS; k++) sockets[k] = udp_socket(k);
+    printf("%-38s %9.0f us\n", "a line and its sync in that folder", sync_time(folder));
+    struct pair pair = {{port, (uint16_t)(port + 1)}, {start(program, port, NULL), start(program, (uint16_t)(port + 1), folder)}};
+    for (int k = 0; k < 2; k++) first_line(&pair.children[k], line, sizeof line);
+    sleep(LEASE + 1); /* both are silent for the longest lease */
+    for (int round = 0; round < ROUNDS; round++) {
+        if (round) ask_both(&pair, &releases, NAMES, RELEASED);
+        ask_both(&pair, &registers, NAMES, GRANTED);
+        ask_both(&pair, &renews, NAMES, GRANTED);
+    }
+    for (int k = 0; k < 2; k++) before[k] = processor(pair.children[k].pid);
+    for (int round = 0; round < QUERY_ROUNDS; round++) ask_both(&pair, &queries, NAMES, FOUND);
+    tell("registrations of 4,096 names", &registers);
+    tell("renewals of 4,096 names", &renews);
+    tell("releases of 4,096 names", &releases);
+    tell("queries over 4,096 names", &queries);
+    tell_processors(&pair, before, (unsigned long)QUERY_ROUNDS * NAMES);
+    printf("%-38s %9ld kB, with --state %ld kB\n", "the most memory", most_memory(pair.children[0].pid), most_memory(pair.children[1].pid));
+    tell_starts(program, folder, &pair);
+    printf("%-38s %9.0f us\n", "a line and its sync, once more", sync_time(folder));
     printf("lost %lu, wrong %lu\n", lost, wrong);
-    kill(without.pid, SIGTERM);
-    kill(with.pid, SIGTERM);
+    for (int k = 0; k < 2; k++) kill(pair.children[k].pid, SIGTERM);
     return wrong || lost;
 }

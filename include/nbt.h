@@ -67,7 +67,7 @@ enum {
     NBT_OF_NAME = 1,      /* nbt_name_make, nbt_name_any */
     NBT_OF_WORD = 2,      /* nbt_name_read */
     NBT_OF_WIRE = 3,      /* nbt_name_from_wire, nbt_name_in_packet */
-    NBT_OF_START = 4,     /* nbt_node_start, nbt_server_start */
+    NBT_OF_START = 4,     /* nbt_node_start, nbt_node_start_from, nbt_server_start */
     NBT_OF_ASK = 5,       /* nbt_node_ask */
     NBT_OF_RELEASE = 6,   /* nbt_node_release */
     NBT_OF_LOOKUP = 7,    /* nbt_node_resolve, nbt_node_name_status */
@@ -219,6 +219,12 @@ size_t nbt_node_align(void);
 
 /* A node at `own` whose name server is at `server`. NBT_CONFIG_*; NBT_NO_MOMENT. */
 uint8_t nbt_node_start(struct nbt_node *node, struct nbt_addr own, struct nbt_addr server, struct nbt_config config, uint64_t now);
+
+/* The same, but the ids of the node's requests count from `first_id`, and not from 1. Pass one that differs from start to start, as a
+ * random number, or milliseconds of a clock that goes on over a restart: a reply to an earlier life of the node that comes too late is
+ * then not taken for one to this life. */
+uint8_t nbt_node_start_from(struct nbt_node *node, struct nbt_addr own, struct nbt_addr server, struct nbt_config config, uint64_t now,
+                            uint16_t first_id);
 
 /* Why a name isn't registered, released or looked up (our profile). They are tried in this order: CLOCK_BACK, BAD_NAME, BUSY or
  * NOT_HELD, QUIET, FULL. */
@@ -636,7 +642,7 @@ struct nbt_server {
 };
 
 /* A server's memory: what the two functions return, and a type of that size and alignment, so that it can be static. */
-#define NBT_SERVER_SIZE 184
+#define NBT_SERVER_SIZE 192
 #define NBT_SERVER_ALIGN 8
 union nbt_server_memory {
     uint64_t aligned;

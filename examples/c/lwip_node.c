@@ -27,6 +27,7 @@
 #include <stdio.h>
 #include <stdlib.h>
 #include <string.h>
+#include <time.h>
 
 #define NAME_PORT 137
 
@@ -163,11 +164,17 @@ static void hear(void *unused, struct udp_pcb *unused_port, struct pbuf *packet,
     pbuf_free(packet);
 }
 
+/* The ids of this life of the node count from one that differs from start to start, so that a late reply to an earlier life is none
+ * to this one. A device without a time of day takes a random number. */
+static uint16_t first_id(void) {
+    return (uint16_t)((uint64_t)time(0) * 1000);
+}
+
 /* Begins, once the network is up. After another address was given to it, or a sleep in which sys_now stood, a device begins anew. */
 static void begin(void) {
     port = udp_new();
     if (port == 0 || udp_bind(port, IP_ADDR_ANY, NAME_PORT) != ERR_OK
-        || nbt_node_start(&node, own, server, limits, milliseconds()) != NBT_DONE) {
+        || nbt_node_start_from(&node, own, server, limits, milliseconds(), first_id()) != NBT_DONE) {
         printf("port %d can't be had\n", NAME_PORT);
         return;
     }

@@ -47,6 +47,12 @@ static uint64_t milliseconds(void) {
     return (uint64_t)now.tv_sec * 1000 + (uint64_t)now.tv_nsec / 1000000;
 }
 
+/* The ids of this life of the node count from one that differs from start to start, so that a late reply to an earlier life is none
+ * to this one. */
+static uint16_t first_id(void) {
+    return (uint16_t)(milliseconds() + (uint64_t)time(0) * 1000);
+}
+
 static struct sockaddr_in to_system(struct nbt_addr end) {
     struct sockaddr_in out;
     memset(&out, 0, sizeof out);
@@ -217,7 +223,7 @@ int main(int count, char **words) {
         return 1;
     }
     catch_signals();
-    if (nbt_node_start(&node, own, server, limits, milliseconds()) != NBT_DONE)
+    if (nbt_node_start_from(&node, own, server, limits, milliseconds(), first_id()) != NBT_DONE)
         return 1;
     while (!stopped) {
         look();

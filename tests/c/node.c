@@ -245,19 +245,50 @@ static void play_lapse(struct nbt_node *node, const struct nbt_name *name) {
     are_octets("lost, the name", &event.name, name, sizeof *name);
 }
 
+static size_t id_of(const uint8_t *packet) {
+    return (size_t)packet[0] << 8 | packet[1];
+}
+
+/* The ids count from the one that is given, 0 follows 65,535, and a reply with the id of an earlier life is none to this one. */
+static void play_ids(struct nbt_node *node, const struct nbt_name *name, const struct nbt_name *other) {
+    uint8_t out[NBT_PACKET], before[NBT_PACKET], response[NBT_PACKET], lent[1], none;
+    struct nbt_event event;
+    struct nbt_config bad = LIMITS;
+    size_t size, count;
+    bad.life = 0;
+    is_number("from, life", nbt_node_start_from(node, OWN, SERVER, bad, 0, 7), NBT_CONFIG_LIFE);
+    is_number("from, moment", nbt_node_start_from(node, OWN, SERVER, LIMITS, (UINT64_C(1) << 60) + 1, 7), NBT_NO_MOMENT);
+    is_number("from 1", nbt_node_start(node, OWN, SERVER, LIMITS, 0), NBT_DONE);
+    is_number("from 1", nbt_node_ask(node, 10000, name, NBT_UNIQUE, 300, before, &size), NBT_DONE);
+    is_number("from 1", id_of(before), 1);
+    is_number("from 65,535", nbt_node_start_from(node, OWN, SERVER, LIMITS, 20000, 65535), NBT_DONE);
+    is_number("quiet", nbt_node_ask(node, 22004, name, NBT_UNIQUE, 300, out, &size), NBT_ASK_QUIET);
+    is_number("from 65,535", nbt_node_ask(node, 22005, name, NBT_UNIQUE, 300, out, &size), NBT_DONE);
+    is_number("from 65,535", id_of(out), 65535);
+    count = respond(before, 68, 0xAD, 0x80, 300, response);
+    is_number("an old grant", nbt_node_on_datagram(node, 22006, SERVER, response, count, &event, lent, sizeof lent, out, &size), NBT_DONE);
+    is_number("an old grant", event.kind, NBT_EVENT_NOTHING);
+    is_number("an old grant", nbt_node_holds(node, 22006, name, &none), NBT_DONE);
+    is_number("an old grant", none, 0);
+    is_number("0 follows", nbt_node_ask(node, 22007, other, NBT_UNIQUE, 300, out, &size), NBT_DONE);
+    is_number("0 follows", id_of(out), 0);
+}
+
 int main(void) {
-    struct nbt_name name, star;
+    struct nbt_name name, star, other;
     size_t place;
     struct nbt_node node = {aligned_alloc(nbt_node_align(), nbt_node_size())};
     is_number("memory", node.memory != 0, 1);
     is_number("name", nbt_name_read(false, "FILER#20", 8, "", 0, &name, &place), 0);
     is_number("star", nbt_name_any((const uint8_t *)"", 0, &star), 0);
+    is_number("other", nbt_name_read(false, "OTHER#20", 8, "", 0, &other, &place), 0);
     play_start(&node);
     play_asked(&node, &name, &star);
     play_queries(&node, &name, &star);
     play_lookups(&node, &name, &star);
     play_silence(&node, &name);
     play_lapse(&node, &name);
+    play_ids(&node, &name, &other);
     free(node.memory);
     return tell_rows();
 }

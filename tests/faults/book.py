@@ -11,6 +11,8 @@ class Book:
         self.log = open(path, "w", buffering=1)
         self.begun = time.monotonic()
         self.lines, self.answers, self.told = [], [], []
+        self.leases = []  # of a name of nmbd's own: when the server said that one begins, and for how many seconds
+        self.starts = []  # of a server that keeps its leases: when it was begun, when it said so, and how many leases it had
         self.ends = {}  # when each life of each program was over
         self.pauses = defaultdict(list)
         self.counts = Counter()

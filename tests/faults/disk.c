@@ -3,7 +3,7 @@
  * What the program writes to files in the folder DISK_FOLDER stays in memory until it syncs the file, and a renaming until it syncs
  * the folder; now and then some of it is written early, up to any octet, as a system does. If the program is killed, the rest is gone,
  * as where a machine loses its power. A file that is read, sought or truncated, or opened once more, is written first, which a system
- * may do at any time too.
+ * may do at any time too. Where DISK_LIES is set a sync does nothing, so that a run without any shows what is lost then.
  */
 #define _GNU_SOURCE
 #include <dlfcn.h>
@@ -131,6 +131,8 @@ ssize_t __write(int fd, const void *octets, size_t count)
 
 static int sync_one(int fd)
 {
+    if (getenv("DISK_LIES"))
+        return 0;
     put_all(fd);
     if (fd >= 0 && fd < MOST && files[fd].is_folder)
         put_renaming();

@@ -13,6 +13,7 @@ from packets import GROUP
 GRANTED = "granted"
 # What a host prints when it doesn't hold a name any more, or gives it back.
 ENDINGS = ("lost", "lapsed", "given back", "give-back denied", "give-back unconfirmed", "not held")
+GIVEN_BACK = ("given back", "give-back denied", "give-back unconfirmed")
 # How long after an answer the line `lapsed` comes at the latest that shows that the hold was over when it was sent. The host's next
 # turn begins with a look at its names, right after the answer.
 TURN = 0.05
@@ -83,6 +84,32 @@ def spans_of_lines(lines, ends, kind_of, last):
     for key in list(open_spans):
         close(key, last)
     return spans
+
+
+def losses(lines):
+    """The lines by which a host tells that it doesn't hold a name any more that it held and didn't give back. A host that ends says
+    `not held` also of a name that it never had."""
+    held, lost = set(), []
+    for line in lines:
+        key = (line.host, line.life, line.name)
+        if line.event == GRANTED:
+            held.add(key)
+        elif line.event == "slept":
+            own = {other for other in held if other[:2] == key[:2]}
+            held -= own
+            lost.extend(line._replace(name=name) for _, _, name in sorted(own))
+        elif line.event in ENDINGS and key in held:
+            held.discard(key)
+            if line.event not in GIVEN_BACK:
+                lost.append(line)
+    return lost
+
+
+def fewer_leases(starts, spans):
+    """The starts of the server that had fewer leases than holds that were sure before and after them: each is when it was begun, when
+    its first line was read, and how many leases that line tells."""
+    sure = [(begun, read, leases, [s for s in spans if s.begun <= begun and read <= s.sure]) for begun, read, leases in starts]
+    return [(read, leases, len(holds)) for _, read, leases, holds in sure if leases < len(holds)]
 
 
 def with_answers(spans, answers):
@@ -181,6 +208,13 @@ def server_against_hosts(told, spans, address_of):
             if own not in reply.addresses or (span.kind != GROUP and len(reply.addresses) > 1):
                 against.append((reply, span))
     return against
+
+
+def not_told(told, leases, name, address):
+    """What the server told of a name otherwise than that it is this address's, while one of these leases lasted: each is when the server
+    said that it begins, and for how many seconds."""
+    replies = [reply for reply in told if reply.name == name and address not in reply.addresses]
+    return [reply for reply in replies if any(at <= reply.asked and reply.came <= at + seconds for at, seconds in leases)]
 
 
 def seconds_of(pairs):

@@ -2,9 +2,10 @@
 
     main.py RUN NET NBT WORK MINUTES SEED HOSTS RIVAL CONTROL STATE DISK RATE
 
-RIVAL is `nmbd` or empty; CONTROL is 1 where a premise is broken, so that the judge has to see two holders. STATE is empty where the
-server doesn't keep its leases; `all` where it does, and `server` where it alone is killed beside. DISK is empty, or the library by which what wasn't synced is lost when it is killed.
-RATE is how many times a minute a server is killed that keeps its leases.
+RIVAL is `nmbd` or empty; CONTROL is 1 where a premise is broken, which the judge has to see. STATE is empty where the
+server doesn't keep its leases; `all` where it does, beside all other faults, and `server` where it does, beside none. DISK is empty, or
+the library by which what wasn't synced is lost when it is killed. RATE is how many times a minute a server is killed that keeps its
+leases.
 """
 
 import sys
@@ -15,7 +16,7 @@ import judge
 from cases import CASES, wrong_cases
 from packets import GROUP, UNIQUE
 from play import CONTENDED, GROUPS, Play
-from programs import Host
+from programs import Host, Nmbd
 
 SHOWN = 5  # how many of what should not have been are printed
 
@@ -97,19 +98,32 @@ class Report:
         """What holds where the server keeps its leases."""
         starts = self.play.server.life - 1 - self.book.counts["starts cut short"]
         kept = self.book.counts["starts with leases kept"]
-        self.row(f"each of {starts} starts of the server had its leases", [*self.book.wrong["silent"], *self.starts_without(starts, kept)])
+        wrong = [*self.book.wrong["silent"], *self.starts_without(starts, kept), *self.lacking()]
+        self.row(f"each of {starts} starts of the server had its leases", wrong)
         if self.is_calm_beside():
-            endings = [line for line in self.book.lines if line.event in judge.ENDINGS and line.at > self.play.begun]
-            by_itself = [f"{line.host} {line.event} {line.name} at {self.at(line.at)}" for line in endings if not self.gave_back(line)]
-            self.row("no host lost a name", by_itself)
+            self.row("no host lost a name", [f"{line.host} {line.event} {line.name} at {self.at(line.at)}" for line in self.losses()])
+            for nmbd in [host for host in self.play.hosts if isinstance(host, Nmbd)]:
+                self.row_of_nmbd(nmbd)
+
+    def lacking(self):
+        """The starts of the server that lacked leases of holds that were sure."""
+        fewer = judge.fewer_leases(self.book.starts, self.spans)
+        return [f"at {self.at(at)}: {leases} leases, {holds} holds" for at, leases, holds in fewer]
+
+    def losses(self):
+        """The lines by which hosts lost names since faults come."""
+        return [line for line in judge.losses(self.book.lines) if line.at > self.play.begun]
 
     def starts_without(self, starts, kept):
         """What is wrong where fewer starts said that leases were kept than there were."""
         return [] if starts == kept else [f"{kept} of {starts} said so"]
 
-    def gave_back(self, line):
-        """Whether a host gave the name back, since its own time was over."""
-        return line.event in ("given back", "give-back denied", "give-back unconfirmed")
+    def row_of_nmbd(self, nmbd):
+        """The server tells who has nmbd's own name for as long as it granted that. nmbd doesn't repeat a refresh that nobody heard."""
+        told, leases = self.book.told, self.book.leases
+        wrong = judge.not_told(told, leases, nmbd.OWN, nmbd.machine.address)
+        lines = [f"{reply.addresses} at {self.at(reply.asked)}" for reply in wrong]
+        self.row(f"nmbd had {nmbd.OWN} for as long as each of {len(leases)} leases", lines if leases else ["never"])
 
     def names_of_few(self, names):
         """The names that no two hosts held for sure, one after the other."""
@@ -153,6 +167,9 @@ class Report:
         say = self.book.say
         say(f"rival nmbd: it answered for {CONTENDED[0]} {len(self.rivals)} times, for {held:.0f} s in all")
         say(f"rival nmbd: beside a host that held it {len(pairs)} times, for {judge.seconds_of(pairs):.0f} s in all")
+        own = [reply for reply in self.book.told if reply.name == Nmbd.OWN and reply.asked > self.play.begun]
+        found = [reply for reply in own if reply.addresses]
+        say(f"rival nmbd: the server told who has {Nmbd.OWN} in {len(found)} of {len(own)} answers")
         say(f"rival nmbd: meanwhile the server told of another holder, or of none, in {len(apart)} answers")
         for pair in pairs[:SHOWN]:
             say(f"    {self.tell_pair(pair)}")
@@ -161,16 +178,24 @@ class Report:
 def main(run, net, nbt, work, minutes, seed, hosts, rival, control, state, disk, rate):
     """Plays, and judges."""
     folder = f"{work}/state" if state else None
+    silence = control and not state  # a premise is broken: the server's silence is too short
+    lies = control and state  # another is: a sync does nothing
     # Where no host may lose a name, a refresh that comes while the server is down is sent again in time.
-    longest = 20 if control else 60 if state == "server" else 10
-    play = Play(run, net, nbt, work, seed, 2 if control else int(hosts), longest, rival, faults.rates_of(state, float(rate)), folder, disk)
+    longest = 20 if silence else 60 if state == "server" else 10
+    rates = faults.rates_of(state, float(rate))
+    play = Play(run, net, nbt, work, seed, 2 if silence else int(hosts), longest, rival, rates, folder, disk, lies)
     try:
-        play.control() if control else play.run(float(minutes) * 60)
+        play.control() if silence else play.run(float(minutes) * 60)
         report = Report(play)
     finally:
         play.end()
     report.row(f"the judge judges {len(CASES)} runs that were written by hand", wrong_cases())
-    if control:
+    if lies:
+        silent, lacking = report.book.wrong["silent"], report.lacking()
+        report.row("the judge sees that leases are missing where a sync does nothing", [] if silent or lacking else ["none"])
+        starts = f"starts of the server with nothing kept: {len(silent)}, with too few leases: {len(lacking)}"
+        report.book.say(f"{starts}; names that hosts lost: {len(report.losses())}")
+    elif silence:
         report.row("the judge sees two holders where a premise is broken", [] if report.twice else ["none"])
         for pair in report.twice:
             report.book.say(f"    {report.tell_pair(pair)}")

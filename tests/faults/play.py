@@ -28,7 +28,7 @@ QUIET = 90  # for how many seconds the hosts may take to get all free names once
 class Play:
     """The machines, what runs on them, and what is to be done when."""
 
-    def __init__(self, run, net, nbt, work, seed, hosts, longest, rival, rates, state, disk):
+    def __init__(self, run, net, nbt, work, seed, hosts, longest, rival, rates, state, disk, lies):
         self.book = Book(f"{work}/log")
         self.nbt, self.seed, self.longest, self.contended = nbt, seed, longest, [*CONTENDED, MIXED]
         self.poll, self.heard = selectors.DefaultSelector(), {}
@@ -41,7 +41,8 @@ class Play:
             return network.Machine(run, name, net, number)
 
         self.user, self.stranger = machine("user", 2), machine("stranger", 3)
-        self.server = Server(machine("server", 1), self.book, self.poll, nbt, ["--life", LIFE, "--log"], longest, state, disk)
+        limits = ["--life", LIFE, "--log"]
+        self.server = Server(machine("server", 1), self.book, self.poll, nbt, limits, longest, state, disk, lies)
         self.server.on_start = self.ask_server_for_all
         self.hosts = [self.host(machine(f"h{number}", 10 + number)) for number in range(1, hosts + 1)]
         if rival:
@@ -60,7 +61,9 @@ class Play:
         names = CONTENDED if is_group else [*CONTENDED, MIXED]
         groups = [*GROUPS, MIXED] if is_group else GROUPS
         limits = ["--life", LIFE, "--longest", f"{self.longest}s"]
-        return Host(machine, self.book, self.poll, self.nbt, limits, self.server.machine.address, names, groups, self.seed)
+        # Where nothing else takes a name from a host, more of them give theirs back, so that others get them.
+        ending = 0.2 if self.rates.for_each_host else 0.6
+        return Host(machine, self.book, self.poll, self.nbt, limits, self.server.machine.address, names, groups, self.seed, ending)
 
     # What is waited for.
 
@@ -214,14 +217,19 @@ class Play:
 
     # Questions to the server.
 
+    def names(self):
+        """All names that are asked for."""
+        own = [host.OWN for host in self.hosts if isinstance(host, Nmbd)]
+        return [*self.contended, *GROUPS, *own]
+
     def ask_server(self):
         """Has the server asked for the next name."""
-        names = [*self.contended, *GROUPS]
+        names = self.names()
         self.ask_server_for(names[next(self.turns) % len(names)])
 
     def ask_server_for_all(self):
         """Has the server asked for each name at once, as after a start with its leases."""
-        for name in [*self.contended, *GROUPS]:
+        for name in self.names():
             self.ask_server_for(name)
 
     def ask_server_for(self, name):
@@ -274,9 +282,12 @@ class Play:
     # The run.
 
     def begin(self):
-        """Starts all, and the questions."""
+        """Starts all, and the questions. An nmbd that starts while the server is silent gives up, so it waits where that ends."""
         for program in self.programs:
-            program.start()
+            if isinstance(program, Nmbd) and self.server.state:
+                self.after(self.longest + 2, program.start)
+            else:
+                program.start()
         self.every(ASKS_HOSTS, lambda: self.ask_all(self.contended, False))
         self.every(ASKS_GROUPS, lambda: self.ask_all(GROUPS, False))
         self.every(ASKS_PAUSED, lambda: self.ask_all(self.contended, True))
@@ -303,7 +314,7 @@ class Play:
 
     def settles(self):
         """Waits until the last faults are over, and then until all is held, some time at most. Returns whether it is."""
-        self.play_until(self.calm + self.longest + 25)
+        self.play_until(self.calm + (self.longest + 25 if self.rates.for_each_host else 5))
         while not self.is_settled():
             if time.monotonic() > self.calm + QUIET:
                 return False

@@ -14,6 +14,9 @@ from judge import Line
 # How `nbt nbns` begins where it had its leases still, also within the silence of its first start.
 LEASES_KEPT = re.compile(r"^serving \S+, with ([0-9]+) leases? kept(, silent for .*)?$")
 
+# A line of `nbt nbns` about a lease of nmbd's own name.
+OWN_LEASE = re.compile(r"^\S+Z (?:granted|renewed) NMBD#20 \S+ unique ([0-9]+) s$")
+
 # A line of `nbt host` about a name, as docs/PROTOCOL.md has it. Which suffix the name has plays no part.
 ABOUT_A_NAME = re.compile(
     r"^\S+Z (granted|renewed|refused|asks again for|lost|lapsed|given back|give-back denied|give-back unconfirmed|not held)"
@@ -131,21 +134,24 @@ class Program:
 class Server(Program):
     """`nbt nbns`."""
 
-    def __init__(self, machine, book, poll, nbt, limits, longest, state, disk):
+    def __init__(self, machine, book, poll, nbt, limits, longest, state, disk, lies):
         super().__init__(machine, book, poll)
-        self.nbt, self.limits, self.longest, self.state, self.disk = nbt, limits, longest, state, disk
+        self.nbt, self.limits, self.longest, self.state, self.disk, self.lies = nbt, limits, longest, state, disk, lies
         self.on_start, self.has_begun = None, False
+        self.begun = 0.0  # when its last life began
 
     def words(self):
         kept = ["--state", self.state] if self.state else []
         disk = ["env", f"LD_PRELOAD={self.disk}", f"DISK_FOLDER={self.state}"] if self.disk else []
+        disk += ["DISK_LIES=1"] if self.lies else []
         return [*disk, self.nbt, "nbns", "--bind", self.machine.address, *self.limits, "--longest", f"{self.longest}s", *kept]
 
     def silence(self):
         return 0 if self.state and self.life > 1 else self.longest
 
     def start(self):
-        self.has_begun = self.has_begun and self.is_up()
+        if not self.is_up():
+            self.has_begun, self.begun = False, time.monotonic()
         super().start()
 
     def end(self, at):
@@ -154,12 +160,14 @@ class Server(Program):
         return super().end(at)
 
     def read_line(self, at, text):
+        if lease := OWN_LEASE.match(text):
+            self.book.leases.append((at, int(lease[1])))
         if not self.state or not text.startswith("serving "):
             return
         self.has_begun = True
         if kept := LEASES_KEPT.match(text):
             self.book.counts["starts with leases kept"] += 1
-            self.book.counts["leases kept"] += int(kept[1])
+            self.book.starts.append((self.begun, at, int(kept[1])))
         elif self.life > 1:
             self.book.wrong["silent"].append(f"start {self.life}: {text}")
         if self.on_start:
@@ -169,10 +177,10 @@ class Server(Program):
 class Host(Program):
     """`nbt host`, with names of its own alone and groups."""
 
-    def __init__(self, machine, book, poll, nbt, limits, server, names, groups, seed):
+    def __init__(self, machine, book, poll, nbt, limits, server, names, groups, seed, ending):
         super().__init__(machine, book, poll)
         self.nbt, self.limits, self.server = nbt, limits, server
-        self.names, self.groups, self.seed = names, groups, seed
+        self.names, self.groups, self.seed, self.ending = names, groups, seed, ending
 
     def words(self):
         groups = [word for group in self.groups for word in ("--group", group)]
@@ -180,9 +188,9 @@ class Host(Program):
         return [self.nbt, "host", *self.names, *groups, *own]
 
     def time(self):
-        """One start in five is of a host that gives its names back after a while."""
+        """Some starts are of a host that gives its names back after a while."""
         draw = random.Random(f"{self.seed} {self.name} {self.life}")
-        return ["--for", f"{draw.randrange(15, 60)}s"] if draw.random() < 0.2 else []
+        return ["--for", f"{draw.randrange(15, 60)}s"] if draw.random() < self.ending else []
 
     def read_line(self, at, text):
         if " slept, " in text:
@@ -195,7 +203,9 @@ class Host(Program):
 
 
 class Nmbd(Program):
-    """Samba's nmbd, which wants one of the names."""
+    """Samba's nmbd, which wants one of the names, and one more that nobody else wants."""
+
+    OWN = "NMBD"
 
     def __init__(self, machine, book, poll, folder, server, name):
         super().__init__(machine, book, poll)
@@ -204,7 +214,8 @@ class Nmbd(Program):
         places = ["lock directory", "state directory", "cache directory", "private dir", "pid directory"]
         sockets = ["nmbd:socket dir", "ncalrpc dir"]
         with open(f"{folder}/smb.conf", "w") as file:
-            file.write(f"[global]\nnetbios name = {name}\nworkgroup = RIVALS\nwins server = {server}\nlocal master = no\n")
+            file.write(f"[global]\nnetbios name = {name}\nnetbios aliases = {self.OWN}\nworkgroup = RIVALS\n")
+            file.write(f"wins server = {server}\nlocal master = no\n")
             file.write(f"bind interfaces only = yes\ninterfaces = {machine.address}/24\nlog level = 2\n")
             file.writelines(f"{place} = {folder}\n" for place in places)
             file.writelines(f"{place} = {folder}/run\n" for place in sockets)

@@ -1,4 +1,6 @@
 -- What several proofs share; the proof of a function is in the folder of its module and its name.
+mod Addresses
+pub mod Ends
 pub mod Reading
 mod States
 mod Wanting

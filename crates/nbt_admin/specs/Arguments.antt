@@ -1,17 +1,18 @@
 -- The arguments that texts give, and the failures of other texts (our profile).
 use Rattle.std.specs.Prelude.{◌≡◌, ◌⊎◌, ◌≢◌, ◌≤◌, ◌<◌, ◌+◌, ℕ, Bool, List, [], ◌∷◌, ◌++◌, length, Any, ⊤, Option, Some, None}
-use Rattle.nbt_text.specs.Address.{SpellsEnd}
+use Rattle.nbt_text.specs.Address.{SpellsEnd, SpellsSource}
+use Rattle.nbt_client.specs.Questions.{end_of}
 use Rattle.nbt_client.specs.declared.question.Question.{Question}
 use Rattle.nbt_client.specs.declared.question.Question.TheVariants as q
 use Rattle.nbt_args.specs.declared.texts.LookupTexts.{LookupTexts}
+use Rattle.nbt_admin.specs.Binds.{GivesBind, IsBind, BindFails}
 use Rattle.nbt_admin.specs.Failures.{IsUsage, out_of_memory, ComplainsOf}
-use Rattle.nbt_admin.specs.Times.{IsWait, SpellsPatience, IsConfigOf, AreLimits, LimitsFail, SpellsEnding, IsEnding, EndingFails}
-use Rattle.nbt_admin.specs.Texts.{IsAddress, AddressFails, IsPath, PathFails, SpellsAsked, SpellsSought, SpellsOwn, IsOwn, OwnFails, SoughtFails}
+use Rattle.nbt_admin.specs.Times.{IsWait, SpellsPatience, IsConfigOf, AreLimits, LimitsFail, SpellsEnding, IsEnding, EndingFails, SpellsClientRows, ClientRowsFail, AreFitLimits, ShortFails}
+use Rattle.nbt_admin.specs.Texts.{IsAddress, AddressFails, IsPath, PathFails, SpellsAsked, SpellsSought, SpellsOwn, IsOwn, OwnFails, SoughtFails, SourceFails, SpellsPeer, SpellEnds, AreEnds, EndsFail}
 use Rattle.nbt_admin.specs.declared.asking.AskArguments.{AskArguments}
 use Rattle.nbt_admin.specs.declared.failure.Failure.{Failure}
 use Rattle.std.specs.Option.{option_map}
 use Rattle.std.specs.String.{string_bytes}
-use Rattle.nbt_lease.specs.Config.{ConfigValue}
 use Rattle.nbt_nbns.specs.Limits.{judged}
 use Rattle.nbt_keep.specs.declared.arguments.ServerArguments.{ServerArguments}
 use Rattle.nbt_keep.specs.declared.arguments.StateFolder.{StateFolder}
@@ -32,27 +33,27 @@ use Rattle.nbt_admin.specs.declared.failure.ArgumentFault.TheVariants as w
 
 -- A server is asked for who holds a name.
 abbrev pub AsksServer : LookupTexts → Question → Type 0
-AsksServer texts (q.Holders server name) = SpellsEnd texts.to.now server × SpellsSought texts.exact texts.scope.now texts.name.now name
+AsksServer texts (q.Holders server name) = SpellsPeer texts.to.now server × SpellsSought texts.exact texts.scope.now texts.name.now name
 AsksServer texts (q.Names to name) = ⊥
 
 -- A host is asked for its names.
 abbrev pub AsksHost : LookupTexts → Question → Type 0
 AsksHost texts (q.Holders server name) = ⊥
-AsksHost texts (q.Names host name) = SpellsEnd texts.to.now host × SpellsAsked texts.exact texts.scope.now texts.name.now name
+AsksHost texts (q.Names host name) = SpellsPeer texts.to.now host × SpellsAsked texts.exact texts.scope.now texts.name.now name
 
 -- the question comes from the texts too
 pub record AskGiven (Asks : LookupTexts → Question → Type 0) (texts : LookupTexts) (a : AskArguments) : Type 0 where
   pub question : Asks texts a.question
-  pub bind : SpellsEnd texts.bind.now a.bind
+  pub bind : SpellsSource texts.bind.now a.bind
+  pub apart : end_of a.question ≢ a.bind
   pub patience : SpellsPatience texts.tries.now texts.wait.now a.patience
 
 -- A wait beyond its limits comes first, and is wrong usage; then the texts in their order. Memory may be out at any step.
 abbrev pub AskFails : (Failure → Type 0) → LookupTexts → Failure → Type 0
 AskFails NameIsBad texts failure = (failure ≡ out_of_memory)
     ⊎ ((¬ IsWait texts.wait.now × IsUsage failure)
-    ⊎ ((IsWait texts.wait.now × AddressFails texts.to.now failure)
-    ⊎ ((IsWait texts.wait.now × IsAddress texts.to.now × AddressFails texts.bind.now failure)
-    ⊎ (IsWait texts.wait.now × IsAddress texts.to.now × IsAddress texts.bind.now × NameIsBad failure))))
+    ⊎ ((IsWait texts.wait.now × EndsFail SpellsSource SourceFails texts.to.now texts.bind.now failure)
+    ⊎ (IsWait texts.wait.now × AreEnds SpellsSource texts.to.now texts.bind.now × NameIsBad failure)))
 
 -- ---- `nbns`
 
@@ -72,7 +73,7 @@ StateFails (Some text) failure = (failure ≡ out_of_memory) ⊎ ((text.now ≡ 
 
 -- a network can run with these limits
 pub record NbnsGiven (texts : NbnsTexts) (a : ServerArguments) : Type 0 where
-  pub bind : SpellsEnd texts.bind.now a.nbns.bind
+  pub bind : GivesBind texts.binds.items a.nbns.bind
   pub config : IsConfigOf texts.life.now texts.longest.now a.nbns.config
   pub fits : judged a.nbns.config ≢ Short
   pub time : SpellsEnding texts.time a.nbns.time
@@ -81,21 +82,23 @@ pub record NbnsGiven (texts : NbnsTexts) (a : ServerArguments) : Type 0 where
   pub leases_are : option_map string_bytes a.nbns.leases ≡ option_map (λ text. text.now) texts.leases
   pub is_path : IsPath (option_map (λ text. text.now) texts.leases)
   pub strict_is : a.nbns.strict ≡ texts.strict
+  pub client_rows_are : SpellsClientRows texts.rows_per_client a.nbns.rows_per_client
   pub state_is : GivesState texts.state texts.silent_after_boot a.state
 
 -- the limits, with which a network can run
 abbrev pub AreFit : NbnsTexts → Type 0
-AreFit texts = (config : ConfigValue) × IsConfigOf texts.life.now texts.longest.now config × (judged config ≢ Short)
+AreFit texts = AreFitLimits texts.life.now texts.longest.now
 
 -- The first wrong argument is reported; memory may be out at any step.
 abbrev pub NbnsFails : NbnsTexts → Failure → Type 0
 NbnsFails texts failure = (failure ≡ out_of_memory)
     ⊎ (LimitsFail texts.life.now texts.longest.now failure
     ⊎ ((AreLimits texts.life.now texts.longest.now × EndingFails texts.time failure)
-    ⊎ ((IsEnding texts.time × ((config : ConfigValue) × IsConfigOf texts.life.now texts.longest.now config × (judged config ≡ Short) × (failure ≡ Complaint (complaint.Short config))))
-    ⊎ ((IsEnding texts.time × AreFit texts × AddressFails texts.bind.now failure)
-    ⊎ ((IsEnding texts.time × AreFit texts × IsAddress texts.bind.now × StateFails texts.state failure)
-    ⊎ (IsEnding texts.time × AreFit texts × IsAddress texts.bind.now × IsState texts.state × PathFails (option_map (λ text. text.now) texts.leases) failure))))))
+    ⊎ ((IsEnding texts.time × ShortFails texts.life.now texts.longest.now failure)
+    ⊎ ((IsEnding texts.time × AreFit texts × BindFails texts.binds.items failure)
+    ⊎ ((IsEnding texts.time × AreFit texts × IsBind texts.binds.items × StateFails texts.state failure)
+    ⊎ ((IsEnding texts.time × AreFit texts × IsBind texts.binds.items × IsState texts.state × PathFails (option_map (λ text. text.now) texts.leases) failure)
+    ⊎ (IsEnding texts.time × AreFit texts × IsBind texts.binds.items × IsState texts.state × IsPath (option_map (λ text. text.now) texts.leases) × ClientRowsFail texts.rows_per_client failure)))))))
 
 -- ---- `host`
 
@@ -146,9 +149,9 @@ NamesFail texts failure = (failure ≡ out_of_memory)
     × TextsFail texts.exact texts.scope.now Group alone texts.groups.items failure))))
 
 pub record HostGiven (texts : HostTexts) (a : HostArguments) : Type 0 where
-  pub bind : SpellsOwn texts.bind.now a.bind
-  pub server : SpellsEnd texts.server.now a.server
+  pub ends : SpellEnds SpellsOwn texts.server.now texts.bind.now a.server a.bind
   pub config : IsConfigOf texts.life.now texts.longest.now a.config
+  pub fits : judged a.config ≢ Short
   pub wants : SpellWants texts a.wants.items
   pub time : SpellsEnding texts.time a.time
   pub log_is : a.log ≡ texts.log
@@ -158,9 +161,9 @@ abbrev pub HostFails : HostTexts → Failure → Type 0
 HostFails texts failure = (failure ≡ out_of_memory)
     ⊎ (LimitsFail texts.life.now texts.longest.now failure
     ⊎ ((AreLimits texts.life.now texts.longest.now × EndingFails texts.time failure)
-    ⊎ ((AreLimits texts.life.now texts.longest.now × IsEnding texts.time × AddressFails texts.server.now failure)
-    ⊎ ((AreLimits texts.life.now texts.longest.now × IsEnding texts.time × IsAddress texts.server.now × OwnFails texts.bind.now failure)
-    ⊎ (AreLimits texts.life.now texts.longest.now × IsEnding texts.time × IsAddress texts.server.now × IsOwn texts.bind.now × NamesFail texts failure)))))
+    ⊎ ((IsEnding texts.time × ShortFails texts.life.now texts.longest.now failure)
+    ⊎ ((IsEnding texts.time × AreFitLimits texts.life.now texts.longest.now × EndsFail SpellsOwn OwnFails texts.server.now texts.bind.now failure)
+    ⊎ (IsEnding texts.time × AreFitLimits texts.life.now texts.longest.now × AreEnds SpellsOwn texts.server.now texts.bind.now × NamesFail texts failure)))))
 
 -- ---- `release`
 

@@ -1,4 +1,5 @@
 pub mod Arguments
+pub mod Binds
 pub mod Failures
 pub mod Running
 pub mod Texts

@@ -1,11 +1,16 @@
--- The times and limits that texts spell, and the failures of other texts (our profile).
-use Rattle.std.specs.Prelude.{◌≡◌, ◌≤◌, ◌↔◌, ◌⊎◌, ℕ, List, Option, Some, None, codes}
+-- The times, limits and numbers that texts spell, and the failures of other texts (our profile).
+use Rattle.std.specs.Prelude.{◌≡◌, ◌≢◌, ◌≤◌, ◌↔◌, ◌⊎◌, ℕ, List, Option, Some, None, codes}
 use Rattle.std.specs.Borrow.{Bor}
-use Rattle.nbt_lease.specs.Config.{ConfigValue, IsLife, IsLongest, rows_most, milliseconds}
+use Rattle.nbt_lease.specs.Config.{ConfigValue, IsLife, IsLongest, IsRows, rows_most, milliseconds}
 use Rattle.nbt_client.specs.Asking.{patience_of, tries_most}
+use Rattle.nbt_text.specs.Number.{SpellsNumber}
+use Rattle.nbt_nbns.specs.Limits.{judged}
+use Rattle.nbt_nbns.specs.declared.limits.Judged.TheVariants.{Short}
 use Rattle.nbt_text.specs.Times.{SpellsTime}
 use Rattle.nbt_admin.specs.Failures.{ComplainsOf, out_of_memory}
+use Rattle.nbt_admin.specs.declared.failure.Complaint.TheVariants as complaint
 use Rattle.nbt_admin.specs.declared.failure.Failure.{Failure}
+use Rattle.nbt_admin.specs.declared.failure.Failure.TheVariants.{Complaint}
 use Rattle.nbt_admin.specs.declared.failure.ArgumentFault.TheVariants as w
 
 -- ---- how long to wait for a reply
@@ -59,6 +64,14 @@ LimitsFail life longest failure = (failure ≡ out_of_memory)
     ⊎ ((¬ IsLifeText life × ComplainsOf life w.Life failure)
     ⊎ (IsLifeText life × ¬ IsLongestText longest × ComplainsOf longest w.Longest failure))
 
+-- with these limits a network can run
+abbrev pub AreFitLimits : (life longest : List ℕ) → Type 0
+AreFitLimits life longest = (config : ConfigValue) × IsConfigOf life longest config × (judged config ≢ Short)
+
+-- the longest lease is too short for a network
+abbrev pub ShortFails : (life longest : List ℕ) → Failure → Type 0
+ShortFails life longest failure = (config : ConfigValue) × IsConfigOf life longest config × (judged config ≡ Short) × (failure ≡ Complaint (complaint.Short config))
+
 -- ---- how long to run
 
 -- for how many milliseconds; without a text there is no limit
@@ -73,3 +86,21 @@ IsEnding (Some text) = (time : ℕ) × SpellsTime text.now time
 abbrev pub EndingFails : Option (Bor (List ℕ)) → Failure → Type 0
 EndingFails None failure = ⊥
 EndingFails (Some text) failure = (failure ≡ out_of_memory) ⊎ (((time : ℕ) → ¬ SpellsTime text.now time) × ComplainsOf text.now w.Time failure)
+
+-- ---- how many live leases a client of a server may have
+
+-- without a text
+abbrev pub client_rows : ℕ
+client_rows = 64
+
+-- no more than a server has
+abbrev pub SpellsRows : List ℕ → ℕ → Type 0
+SpellsRows text rows = SpellsNumber text rows × IsRows rows
+
+abbrev pub SpellsClientRows : Option (Bor (List ℕ)) → ℕ → Type 0
+SpellsClientRows None rows = rows ≡ client_rows
+SpellsClientRows (Some text) rows = SpellsRows text.now rows
+
+abbrev pub ClientRowsFail : Option (Bor (List ℕ)) → Failure → Type 0
+ClientRowsFail None failure = ⊥
+ClientRowsFail (Some text) failure = (failure ≡ out_of_memory) ⊎ (((rows : ℕ) → ¬ SpellsRows text.now rows) × ComplainsOf text.now w.ClientRows failure)

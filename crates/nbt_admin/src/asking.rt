@@ -5,10 +5,11 @@ ghost use Rattle.nbt_client.specs.Asking.{tries_most};
 ghost use Rattle.nbt_admin.specs.Times.{IsWait, SpellsPatience};
 ghost use Rattle.nbt_admin.specs.Failures.{UsageFails};
 ghost use Rattle.nbt_admin.specs.Arguments.{AskGiven, AsksServer, AsksHost, AskFails};
-ghost use Rattle.nbt_admin.specs.Texts.{SoughtFails, NameFails};
+ghost use Rattle.nbt_text.specs.Address.{SpellsSource};
+ghost use Rattle.nbt_admin.specs.Texts.{SourceFails, SpellEnds, EndsFail, SoughtFails, NameFails};
 
 use crate::failure::Failure;
-use crate::naming::{address_of, name_of, name_to_ask};
+use crate::naming::{apart, name_of, name_to_ask, peer_of, source_of};
 use crate::timing::parse_between;
 use nbt_args::{LimitedArgument, LimitedCommand, LookupTexts};
 use nbt_client::{Question, TRIES_MOST, patience_of};
@@ -23,15 +24,14 @@ pub struct AskArguments {
     pub patience: u32,
 }
 
-/// Reads the arguments of `lookup`. Refused, in this order: a wait beyond its limits, which is wrong usage, the server's address, the own
-/// address, and the name, which doesn't begin with `*`.
+/// Reads the arguments of `lookup`. Refused, in this order: a wait beyond its limits, which is wrong usage, the server's address, which is of
+/// one machine and has a port, the own address, one that is both, and the name, which doesn't begin with `*`.
 pub fn lookup_arguments(alloc: Global, texts: &LookupTexts<'_>) -> Result<AskArguments, Failure>
     ensures given { IfOk result (AskGiven AsksServer texts.now) }
     ensures failure { IfErr result (AskFails (SoughtFails texts.now.exact texts.now.scope.now texts.now.name.now) texts.now) }
 {
     let patience = patience(alloc, LimitedCommand::Lookup, texts.tries, texts.wait)?;
-    let server = address_of(alloc, texts.to)?;
-    let bind = address_of(alloc, texts.bind)?;
+    let (server, bind) = ends_of(alloc, texts.to, texts.bind)?;
     let name = name_to_ask(alloc, texts.exact, texts.name, texts.scope)?;
     let question = Question::Holders(server, name);
     Ok(AskArguments {
@@ -47,8 +47,7 @@ pub fn status_arguments(alloc: Global, texts: &LookupTexts<'_>) -> Result<AskArg
     ensures failure { IfErr result (AskFails (NameFails texts.now.exact texts.now.scope.now texts.now.name.now) texts.now) }
 {
     let patience = patience(alloc, LimitedCommand::Status, texts.tries, texts.wait)?;
-    let host = address_of(alloc, texts.to)?;
-    let bind = address_of(alloc, texts.bind)?;
+    let (host, bind) = ends_of(alloc, texts.to, texts.bind)?;
     let name = name_of(alloc, texts.exact, texts.name, texts.scope)?;
     let question = Question::Names(host, name);
     Ok(AskArguments {
@@ -56,6 +55,18 @@ pub fn status_arguments(alloc: Global, texts: &LookupTexts<'_>) -> Result<AskArg
         question,
         patience,
     })
+}
+
+/// Reads the address that is asked, and the own one, which is another.
+#[tactic(auto, using(crate::proofs::Ends::one_end))]
+fn ends_of(alloc: Global, to: &str, bind: &str) -> Result<(Addr, Addr), Failure>
+    ensures read { IfOk result (λ ends. SpellEnds SpellsSource to.now bind.now ends.0 ends.1) }
+    ensures failure { IfErr result (EndsFail SpellsSource SourceFails to.now bind.now) }
+{
+    let peer = peer_of(alloc, to)?;
+    let own = source_of(alloc, bind)?;
+    apart(alloc, to, peer, own)?;
+    Ok((peer, own))
 }
 
 /// Returns for how many milliseconds a request waits, with its repetitions.

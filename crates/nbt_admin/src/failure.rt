@@ -3,8 +3,9 @@
 ghost use Rattle.std.specs.Prelude.{◌≡◌, ◌⊎◌};
 
 use crate::hosting::NAMES_MOST;
-use nbt_args::{Refusal, Text};
-use nbt_lease::{Config, LIFE_MOST, LONGEST_MOST};
+use crate::reason::why_no_address;
+use nbt_args::{NoUnit, Refusal, Text};
+use nbt_lease::{Config, LIFE_MOST, LONGEST_MOST, ROWS_MOST};
 use nbt_nbns::write_refusal;
 use nbt_port::Fault;
 use std::alloc::{AllocError, AllocFailed, Global};
@@ -16,10 +17,18 @@ use std::{fmt, io};
 pub enum ArgumentFault {
     /// Not an address.
     Address,
-    /// The address 0.0.0.0, at which no other host reaches this machine.
+    /// An address to which requests are sent, and that isn't of one machine.
+    NotOne,
+    /// The same, at port 0.
+    NoPort,
+    /// The own address, to which no request is sent.
+    Itself,
+    /// An address that isn't of one machine, at which no other host reaches this one.
     Anywhere,
     /// An address at port 0, for which the system chooses one.
     AnyPort,
+    /// An address that an earlier argument has too.
+    AddressTwice,
     /// Not a name.
     Name(nbt_text::Fault),
     /// A name that begins with `*`, which is not sent to a server.
@@ -36,19 +45,28 @@ pub enum ArgumentFault {
     Folder,
     /// An empty path.
     NoPath,
+    /// Not a number of live leases for a client.
+    ClientRows,
 }
 
 impl ArgumentFault {
     /// What the argument should be.
     fn what(self) -> &'static str {
         match self {
-            ArgumentFault::Address | ArgumentFault::Anywhere | ArgumentFault::AnyPort => "address",
+            ArgumentFault::Address
+            | ArgumentFault::NotOne
+            | ArgumentFault::NoPort
+            | ArgumentFault::Itself
+            | ArgumentFault::Anywhere
+            | ArgumentFault::AnyPort
+            | ArgumentFault::AddressTwice => "address",
             ArgumentFault::Name(_) | ArgumentFault::Star | ArgumentFault::Twice => "name",
             ArgumentFault::Life => "life",
             ArgumentFault::Longest => "longest lease",
             ArgumentFault::Time => "time",
             ArgumentFault::Folder => "folder",
             ArgumentFault::NoPath => "list of leases",
+            ArgumentFault::ClientRows => "rows per client",
         }
     }
 }
@@ -57,13 +75,16 @@ impl fmt::Display for ArgumentFault {
     fn fmt<W: fmt::Write>(&self, f: &mut fmt::Formatter<W>) -> fmt::Result {
         match self {
             ArgumentFault::Address => f.write_str("no A.B.C.D or A.B.C.D:PORT in decimal"),
+            ArgumentFault::NotOne => f.write_str("an address of one machine is wanted"),
+            ArgumentFault::NoPort => f.write_str("a port from 1 to 65535 is wanted"),
+            ArgumentFault::Itself => f.write_str("that is this host's own address (--bind)"),
             ArgumentFault::Anywhere => {
                 f.write_str("not an address at which others find this machine")
             }
             ArgumentFault::AnyPort => f.write_str("not the port of a host"),
             ArgumentFault::Name(fault) => write!(f, "{fault}"),
             ArgumentFault::Star => f.write_str("no server is asked for a name that begins with *"),
-            ArgumentFault::Twice => f.write_str("given twice"),
+            ArgumentFault::Twice | ArgumentFault::AddressTwice => f.write_str("given twice"),
             ArgumentFault::Life => {
                 let most = LIFE_MOST / 1_000;
                 write!(f, "not a time from 1ms to {most}s")
@@ -75,12 +96,17 @@ impl fmt::Display for ArgumentFault {
             ArgumentFault::Time => f.write_str("not a time, as 1500ms, 300s or 5m"),
             ArgumentFault::Folder => f.write_str("an empty text names no folder"),
             ArgumentFault::NoPath => f.write_str("no path of a file"),
+            ArgumentFault::ClientRows => {
+                let most = ROWS_MOST;
+                write!(f, "not a whole number from 1 to {most}")
+            }
         }
     }
 }
 
 /// An invalid argument, and what is wrong with it. It prints as
-/// `name 'FILESERVER-NUMBER-1': 19 characters, at most 15`.
+/// `name 'FILESERVER-NUMBER-1': 19 characters, at most 15`. Of an address, and of a time without its unit, it has what is wrong with
+/// the text.
 #[derive(Drop)]
 pub struct BadArgument {
     pub text: String,
@@ -92,7 +118,19 @@ impl fmt::Display for BadArgument {
         let what = self.fault.what();
         let text = self.text.as_str();
         let fault = self.fault;
-        write!(f, "{what} '{text}': {fault}")
+        match fault {
+            ArgumentFault::Address => match why_no_address(text) {
+                Some(reason) => write!(f, "{what} '{text}': {reason}"),
+                None => write!(f, "{what} '{text}': {fault}"),
+            },
+            ArgumentFault::Life | ArgumentFault::Longest | ArgumentFault::Time => {
+                match NoUnit::of(text) {
+                    Some(reason) => write!(f, "{what} '{text}': {reason}"),
+                    None => write!(f, "{what} '{text}': {fault}"),
+                }
+            }
+            _ => write!(f, "{what} '{text}': {fault}"),
+        }
     }
 }
 

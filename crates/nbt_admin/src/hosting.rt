@@ -2,31 +2,33 @@
 
 ghost use Rattle.std.specs.Prelude.{◌≡◌, ◌↔◌, ◌++◌, List, Any, IsTrue, IfOk, IfErr, OnOk};
 ghost use Rattle.nbt_client.specs.declared.turning.Want.{Want as Wanted};
+ghost use Rattle.nbt_admin.specs.Texts.{SpellsOwn, OwnFails, SpellEnds, EndsFail};
 ghost use Rattle.nbt_admin.specs.Arguments.{HostGiven, HostFails, ReleaseGiven, ReleaseFails, AreWanted, SpellWants, NamesFail, TextsFail};
 
 use crate::failure::{ArgumentFault, Complaint, Failure};
-use crate::naming::{address_of, name_to_ask, own_of};
-use crate::timing::{config_of, ending_of};
+use crate::naming::{apart, name_to_ask, own_of, peer_of};
+use crate::timing::{config_of, ending_of, fit};
 use nbt_args::HostTexts;
 use nbt_client::Want;
 use nbt_host::HostArguments;
-use nbt_name::{Kind, Name};
+use nbt_name::{Addr, Kind, Name};
 use std::alloc::Global;
 
 /// The greatest number of names of a host, as a node holds (our profile).
 pub const NAMES_MOST: usize = 14;
 
-/// Reads the arguments of `host`. Refused, in this order: the life, the longest lease, the time, the server's address, the own address,
-/// the number of names, and the names, those of groups last, of which none begins with `*` or is repeated. Each name is requested
-/// with TTL 0, for as long as the server allows.
+/// Reads the arguments of `host`. Refused, in this order: the life, the longest lease, the time, a longest lease that is too short for a
+/// network, the server's address, which is of one machine and has a port, the own address, which is of one machine too, one that is
+/// both, the number of names, and the names, those of groups last, of which none begins with `*` or is repeated. Each name is
+/// requested with TTL 0, for as long as the server allows.
 pub fn host_arguments(alloc: Global, texts: &HostTexts<'_>) -> Result<HostArguments, Failure>
     ensures given { IfOk result (HostGiven texts.now) }
     ensures failure { IfErr result (HostFails texts.now) }
 {
     let config = config_of(alloc, texts.life, texts.longest)?;
     let time = ending_of(alloc, texts.time)?;
-    let server = address_of(alloc, texts.server)?;
-    let bind = own_of(alloc, texts.bind)?;
+    fit(config)?;
+    let (server, bind) = ends_of(alloc, texts.server, texts.bind)?;
     let wants = wants_of(alloc, texts)?;
     Ok(HostArguments {
         bind,
@@ -49,6 +51,18 @@ pub fn release_arguments(alloc: Global, texts: &HostTexts<'_>) -> Result<HostArg
         return Err(Failure::of_argument(alloc, texts.bind, ArgumentFault::AnyPort));
     }
     Ok(arguments)
+}
+
+/// Reads the server's address, and the own one, which is another.
+#[tactic(auto, using(crate::proofs::Ends::one_end))]
+fn ends_of(alloc: Global, server: &str, bind: &str) -> Result<(Addr, Addr), Failure>
+    ensures read { IfOk result (λ ends. SpellEnds SpellsOwn server.now bind.now ends.0 ends.1) }
+    ensures failure { IfErr result (EndsFail SpellsOwn OwnFails server.now bind.now) }
+{
+    let peer = peer_of(alloc, server)?;
+    let own = own_of(alloc, bind)?;
+    apart(alloc, server, peer, own)?;
+    Ok((peer, own))
 }
 
 /// Reads the names to hold, if these are not too many.

@@ -4,9 +4,11 @@
 #![tactic(auto)]
 
 mod asking;
+mod binding;
 mod failure;
 mod hosting;
 mod naming;
+mod reason;
 mod running;
 mod serving;
 mod timing;

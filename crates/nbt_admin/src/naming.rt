@@ -1,13 +1,22 @@
 //! Reads addresses and names.
 
-ghost use Rattle.std.specs.Prelude.{◌≡◌, IfOk, IfErr};
-ghost use Rattle.nbt_text.specs.Address.{SpellsEnd};
-ghost use Rattle.nbt_admin.specs.Texts.{case_of, AddressFails, SpellsOwn, OwnFails, SpellsAsked, NameFails, SpellsSought, SoughtFails};
+ghost use Rattle.std.specs.Prelude.{◌≡◌, ◌≢◌, ◌⊎◌, ◌↔◌, IfOk, IfErr, IsTrue};
+ghost use Rattle.nbt_text.specs.Address.{SpellsEnd, SpellsSource};
+ghost use Rattle.nbt_admin.specs.Failures.{ComplainsOf, out_of_memory};
+ghost use Rattle.nbt_admin.specs.Texts.{case_of, AddressFails, SourceFails, IsOfOne, SpellsPeer, PeerFails, SpellsOwn, OwnFails, SpellsAsked, NameFails, SpellsSought, SoughtFails};
 
 use crate::failure::{ArgumentFault, Failure};
 use nbt_name::{Addr, Name};
-use nbt_text::{Case, read_address, read_name};
+use nbt_text::{Case, read_address, read_scoped_name, read_source};
 use std::alloc::Global;
+
+/// The first multicast address, 224.0.0.0, and the first address behind them, 240.0.0.0 (RFC 1112 section 4).
+const MULTICAST_FIRST: u32 = 0xE000_0000;
+
+const MULTICAST_END: u32 = 0xF000_0000;
+
+/// The address 255.255.255.255, which is for all machines of a network (RFC 919 section 7).
+const ALL: u32 = 0xFFFF_FFFF;
 
 /// Reads an address.
 pub fn address_of(alloc: Global, text: &str) -> Result<Addr, Failure>
@@ -20,25 +29,72 @@ pub fn address_of(alloc: Global, text: &str) -> Result<Addr, Failure>
     }
 }
 
-/// Reads an address at which other hosts reach this machine: not 0.0.0.0.
+/// Reads an address from which requests are sent.
+pub fn source_of(alloc: Global, text: &str) -> Result<Addr, Failure>
+    ensures read { IfOk result (SpellsSource text.now) }
+    ensures failure { IfErr result (SourceFails text.now) }
+{
+    match read_source(alloc, text)? {
+        Some(source) => Ok(source),
+        None => Err(Failure::of_argument(alloc, text, ArgumentFault::Address)),
+    }
+}
+
+/// Reads an address to which requests can be sent. Refused, after what is no address: one that isn't of one machine, and port 0.
+#[tactic(auto, using(crate::proofs::Ends::not_of_one, crate::proofs::Ends::at_port_0))]
+pub fn peer_of(alloc: Global, text: &str) -> Result<Addr, Failure>
+    ensures read { IfOk result (SpellsPeer text.now) }
+    ensures failure { IfErr result (PeerFails text.now) }
+{
+    let peer = address_of(alloc, text)?;
+    if !is_of_one(peer.ip) {
+        return Err(Failure::of_argument(alloc, text, ArgumentFault::NotOne));
+    }
+    if peer.port == 0 {
+        return Err(Failure::of_argument(alloc, text, ArgumentFault::NoPort));
+    }
+    Ok(peer)
+}
+
+/// Refuses to send requests to the own address, by the text of the other one.
+pub fn apart(alloc: Global, text: &str, peer: Addr, own: Addr) -> Result<(), Failure>
+    ensures apart { IfOk result (λ _. peer ≢ own) }
+    ensures failure { IfErr result (λ failure. (peer ≡ own) × ((failure ≡ out_of_memory) ⊎ ComplainsOf text.now ArgumentFault.Itself failure)) }
+{
+    if peer == own {
+        return Err(Failure::of_argument(alloc, text, ArgumentFault::Itself));
+    }
+    Ok(())
+}
+
+/// Returns whether an address is of one machine: not 0.0.0.0, no multicast address, and not 255.255.255.255.
+fn is_of_one(ip: u32) -> bool
+    ensures { IsTrue result ↔ IsOfOne ip }
+{
+    let is_multicast = MULTICAST_FIRST <= ip && ip < MULTICAST_END;
+    ip != 0 && !is_multicast && ip != ALL
+}
+
+/// Reads an address at which other hosts reach this machine: that of one machine.
+#[tactic(auto, using(crate::proofs::Ends::found_by_nobody))]
 pub fn own_of(alloc: Global, text: &str) -> Result<Addr, Failure>
     ensures read { IfOk result (SpellsOwn text.now) }
     ensures failure { IfErr result (OwnFails text.now) }
 {
     let own = address_of(alloc, text)?;
-    if own.ip == 0 {
+    if !is_of_one(own.ip) {
         return Err(Failure::of_argument(alloc, text, ArgumentFault::Anywhere));
     }
     Ok(own)
 }
 
-/// Reads a name, with this scope.
+/// Reads a name, with this scope if none stands behind its suffix.
 pub fn name_of(alloc: Global, exact: bool, text: &str, scope: &str) -> Result<Name, Failure>
     ensures read { IfOk result (SpellsAsked exact scope.now text.now) }
     ensures failure { IfErr result (NameFails exact scope.now text.now) }
 {
     let case = case_of(exact);
-    match read_name(case, text.as_bytes(), scope.as_bytes()) {
+    match read_scoped_name(case, text.as_bytes(), scope.as_bytes()) {
         Ok(name) => Ok(name),
         Err(fault) => Err(Failure::of_argument(alloc, text, ArgumentFault::Name(fault))),
     }

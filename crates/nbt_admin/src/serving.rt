@@ -6,16 +6,16 @@ ghost use Rattle.std.specs.String.{string_bytes};
 ghost use Rattle.nbt_admin.specs.Arguments.{NbnsGiven, NbnsFails, GivesState, StateFails};
 ghost use Rattle.nbt_admin.specs.Texts.{IsPath, PathFails};
 
+use crate::binding::bind_of;
 use crate::failure::{ArgumentFault, Failure};
-use crate::naming::address_of;
-use crate::timing::{config_of, ending_of, fit};
+use crate::timing::{client_rows_of, config_of, ending_of, fit};
 use nbt_args::NbnsTexts;
 use nbt_keep::{ServerArguments, StateFolder};
 use nbt_nbns::NbnsArguments;
 use std::alloc::Global;
 
 /// Reads the arguments of `nbns`. Refused, in this order: the life, the longest lease, the time, a longest lease that is too short for
-/// a network, the address, the folder of the state, and an empty path of the list of leases.
+/// a network, the addresses, the folder of the state, an empty path of the list of leases, and the leases of a client.
 pub fn nbns_arguments(alloc: Global, texts: &NbnsTexts<'_>) -> Result<ServerArguments, Failure>
     ensures given { IfOk result (NbnsGiven texts.now) }
     ensures failure { IfErr result (NbnsFails texts.now) }
@@ -23,9 +23,10 @@ pub fn nbns_arguments(alloc: Global, texts: &NbnsTexts<'_>) -> Result<ServerArgu
     let config = config_of(alloc, texts.life, texts.longest)?;
     let time = ending_of(alloc, texts.time)?;
     fit(config)?;
-    let bind = address_of(alloc, texts.bind)?;
+    let bind = bind_of(alloc, &texts.binds)?;
     let state = state_of(alloc, texts.state, texts.silent_after_boot)?;
     let leases = path_of(alloc, texts.leases)?;
+    let rows_per_client = client_rows_of(alloc, texts.rows_per_client)?;
     Ok(ServerArguments {
         nbns: NbnsArguments {
             bind,
@@ -35,6 +36,7 @@ pub fn nbns_arguments(alloc: Global, texts: &NbnsTexts<'_>) -> Result<ServerArgu
             broadcasts: texts.broadcasts,
             leases,
             strict: texts.strict,
+            rows_per_client,
         },
         state,
     })

@@ -1,20 +1,23 @@
-//! Reads times and limits.
+//! Reads times, limits and numbers.
 
 ghost use Rattle.std.specs.Prelude.{◌≡◌, ◌≢◌, ◌≤◌, ◌↔◌, ℕ, IfOk, IfErr, IsSome, IfSome};
-ghost use Rattle.nbt_lease.specs.Config.{IsLongest, milliseconds};
+ghost use Rattle.nbt_lease.specs.Config.{IsLongest, IsRows, milliseconds};
 ghost use Rattle.nbt_nbns.specs.Limits.{judged};
 ghost use Rattle.nbt_nbns.specs.declared.limits.Judged.TheVariants.{Short};
 ghost use Rattle.nbt_text.specs.Times.{SpellsTime};
-ghost use Rattle.nbt_admin.specs.Times.{SpellsLongest, IsLongestText, SpellsEnding, IsEnding, EndingFails, IsConfigOf, AreLimits, LimitsFail};
+ghost use Rattle.nbt_admin.specs.Times.{SpellsRows, SpellsLongest, IsLongestText, SpellsEnding, IsEnding, EndingFails, SpellsClientRows, ClientRowsFail, IsConfigOf, AreLimits, LimitsFail};
 
 use crate::failure::{ArgumentFault, Complaint, Failure};
 use nbt_lease::{Config, LIFE_MOST, LONGEST_MOST, ROWS_MOST};
 use nbt_nbns::{Judged, judge};
-use nbt_text::read_duration;
+use nbt_text::{parse_number, read_duration};
 use std::alloc::Global;
 
 /// The milliseconds of a second.
 const SECOND: u64 = 1_000;
+
+/// How many live leases a client of a server may have, without an argument (our profile).
+const CLIENT_ROWS: u32 = 64;
 
 /// Reads the limits that a server and its hosts share, for the greatest number of leases.
 pub fn config_of(alloc: Global, life: &str, longest: &str) -> Result<Config, Failure>
@@ -54,6 +57,43 @@ pub fn ending_of(alloc: Global, text: Option<&str>) -> Result<Option<u64>, Failu
     match read_duration(text.as_bytes()) {
         Some(time) => Ok(Some(time)),
         None => Err(Failure::of_argument(alloc, text, ArgumentFault::Time)),
+    }
+}
+
+/// Reads how many live leases a client of a server may have: a whole number from 1 to 4,096; without a text 64.
+pub fn client_rows_of(alloc: Global, text: Option<&str>) -> Result<u32, Failure>
+    ensures read { IfOk result (SpellsClientRows text.entry) }
+    ensures failure { IfErr result (ClientRowsFail text.entry) }
+{
+    let Some(text) = text else {
+        return Ok(CLIENT_ROWS);
+    };
+    match parse_rows(text) {
+        Some(rows) => Ok(rows),
+        None => Err(Failure::of_argument(alloc, text, ArgumentFault::ClientRows)),
+    }
+}
+
+/// Reads a number of live leases: from 1 to 4,096.
+fn parse_rows(text: &str) -> Option<u32>
+    ensures read { IfSome result (SpellsRows text.now) }
+    ensures found { ((rows : ℕ) × SpellsRows text.now rows) → IsSome result }
+{
+    match parse_number(text.as_bytes()) {
+        Some(number) => rows_within(number),
+        None => None,
+    }
+}
+
+/// Returns the number if a server can have so many live leases.
+fn rows_within(number: u64) -> Option<u32>
+    ensures found { IsSome result ↔ IsRows number }
+    ensures value { IfSome result (λ rows. rows ≡ number) }
+{
+    if 1 <= number && number <= ROWS_MOST as u64 {
+        Some(number as u32)
+    } else {
+        None
     }
 }
 

@@ -12,7 +12,7 @@ const SCOPE: Argument = Argument {
     name: "scope",
     form: Form::Option("SCOPE"),
     presence: Presence::Optional,
-    help: "The name's scope, as NETBIOS.COM",
+    help: "The scope of a name that is written without one, as NETBIOS.COM",
 };
 
 const EXACT: Argument = Argument {
@@ -47,7 +47,7 @@ const BIND: Argument = Argument {
     name: "bind",
     form: Form::Option("ADDR"),
     presence: Presence::Default("0.0.0.0:0"),
-    help: "The own address, by default at port 137; for port 0 the system chooses one",
+    help: "The own address, by default at port 0, for which the system chooses one",
 };
 
 const LIFE: Argument = Argument {
@@ -93,7 +93,9 @@ Prints one address per line, as `192.0.2.7 unique` or `192.0.2.7 group`, then `c
 NAME, prints `not found: no such name (3)`, with the server's own reason. If no reply comes, prints `no reply`.
 
 NAME is `FILER`, `FILER#20` or `FILER<20>`: 1 to 15 characters and the suffix in two hexadecimal digits, by default 20. Any
-other name is `hex:` and 32 digits. ADDR is A.B.C.D or A.B.C.D:PORT, in decimal with no leading zeros.
+other name is `hex:` and 32 digits. A scope may follow the suffix or the digits, as in `FILER#20.NETBIOS.COM`, and is taken as it
+is written. ADDR is A.B.C.D or A.B.C.D:PORT, in decimal with no leading zeros, and that of --server one machine's. TIME is a
+number and its unit, as 500ms or 5s.
 
 Examples:
   nbt lookup FILER --server 192.0.2.1
@@ -136,8 +138,8 @@ the host, and the suffix's meaning in Microsoft's list, if it is there. A name t
 The last line is `unit id` and six octets, mostly the address of a network card, unless they are zero. If no reply comes, prints
 `no reply`.
 
-ADDR is A.B.C.D or A.B.C.D:PORT, in decimal with no leading zeros. NAME is one of the host's names, or `*` for any of them,
-written as `nbt lookup --help` says.
+ADDR is A.B.C.D or A.B.C.D:PORT, in decimal with no leading zeros. TIME is a number and its unit, as 500ms or 5s. NAME is one of
+the host's names, or `*` for any of them, written as `nbt lookup --help` says.
 
 Examples:
   nbt status 192.0.2.7
@@ -161,9 +163,9 @@ pub static NBNS: Description = Description {
     arguments: &[
         Argument {
             name: "bind",
-            form: Form::Option("ADDR"),
-            presence: Presence::Default("0.0.0.0"),
-            help: "The own address, by default at port 137; for port 0 the system chooses one, which the first line has",
+            form: Form::Options("ADDR"),
+            presence: Presence::Optional,
+            help: "An own address, by default at port 137, and may be repeated; without it, every address of the machine",
         },
         LIFE,
         LONGEST,
@@ -178,7 +180,7 @@ pub static NBNS: Description = Description {
             name: "log-broadcasts",
             form: Form::Flag,
             presence: Presence::Optional,
-            help: "With --log, prints a line for each broadcast of a B node too",
+            help: "With --log, and --bind 0.0.0.0, prints a line for each broadcast of a B node too",
         },
         Argument {
             name: "leases",
@@ -191,6 +193,12 @@ pub static NBNS: Description = Description {
             form: Form::Flag,
             presence: Presence::Optional,
             help: "Doesn't accept the registrations of Samba's programs",
+        },
+        Argument {
+            name: "rows-per-client",
+            form: Form::Option("N"),
+            presence: Presence::Optional,
+            help: "How many live leases a client may have: from 1 to 4096; without it, 64",
         },
         Argument {
             name: STATE,
@@ -206,18 +214,23 @@ pub static NBNS: Description = Description {
         },
     ],
     help: "\
-The first line has its address, and for how long and until when it is silent, as `serving 0.0.0.0:137, silent for 300 s until
-2026-11-24T09:17:03Z`. Without --state it keeps its leases in memory only, so after each start it waits until every lease that it
-may have granted before has expired. Then it serves until a signal or --for ends it; its leases expire by themselves. The
+The first line has its addresses, and for how long and until when it is silent, as `serving 127.0.0.1:137, 192.0.2.1:137, silent
+for 300 s until 2026-11-24T09:17:03Z`. Without --state it keeps its leases in memory only, so after each start it waits until every
+lease that it may have granted before has expired. Then it serves until a signal or --for ends it; its leases expire by themselves. The
 standard port is 137, for which most systems require privileges.
 
 With --state it writes each change of a lease to FOLDER/leases before its reply leaves, and a later start goes on at once: the
-first line is `serving 0.0.0.0:137, with 17 leases kept`. Where it can't go on, the line says why: `silent for 300 s until
+first line is `serving 192.0.2.1:137, with 17 leases kept`. Where it can't go on, the line says why: `silent for 300 s until
 2026-11-24T09:17:03Z, since nothing was kept`. After another boot it goes on too, by the time of day, which nobody may have set
 in between, unless --silent-after-boot. What FOLDER has must be what this server kept last: a copy or an older state may grant a
 name to a second machine. FOLDER must exist, and one server at a time may use it.
 
-ADDR is A.B.C.D or A.B.C.D:PORT. TIME is a number and its unit, as 1500ms, 300s or 5m. The longest lease must be at least 10 s
+A reply leaves from the address at which its request came. Without --bind it serves every IPv4 address of the machine at port 137,
+by a socket for each: standard error says when one comes or goes. --bind 0.0.0.0 is one socket for all, which hears broadcasts too,
+and whose replies leave from the address that the system chooses.
+
+ADDR is A.B.C.D or A.B.C.D:PORT; for port 0 the system chooses one, which the first line has. TIME is a number and its unit, as
+1500ms, 300s or 5m. The longest lease must be at least 10 s
 and at least 20 lives of a datagram, else a hold would lapse before it can be refreshed. If it is above an hour, and without
 --state, standard error says for how long each start is silent.
 
@@ -227,13 +240,16 @@ request: of each kind at most ten per second. --leases writes the list of live l
 it has changed and at most once per second: a first line that says what it is, and one line per lease, as `FILER#20 unique
 192.0.2.7 2026-11-24T09:17:03Z`, with the time of its expiry.
 
+A client is the address that a registration comes from. One with N live leases, unique names and groups together, is refused one
+of a further name, with SRV_ERR; what it has it keeps, and renews. Machines behind one address count as one client.
+
 Samba's nmbd registers its names by OPCODE 15, and joins groups by an overwrite. Such a registration of one address, and such an
 overwrite of a group, are accepted as registrations, unless --strict. A machine that registers two addresses isn't served: its
 second one is refused, and nmbd then drops its names.
 
 Examples:
   nbt nbns
-  nbt nbns --bind 192.0.2.1 --longest 10m --log --leases leases.txt
+  nbt nbns --bind 192.0.2.1 --bind 198.51.100.1 --longest 10m --log --leases leases.txt
   nbt nbns --state /var/lib/nbt
 
 Exit status:
@@ -286,8 +302,9 @@ requests them again after a refusal. Prints one line per event, with its time: a
 lost, or lapsed, since no reply came in time. When its time ends, it releases the names and prints which releases the server
 confirmed. A signal ends it at once, and its leases expire by themselves.
 
-NAME is as `nbt lookup --help` says. --bind is an address at which other hosts reach this machine, and so not 0.0.0.0. --life and
---longest must be those of the server; their defaults are those of `nbt nbns`.
+NAME is as `nbt lookup --help` says. ADDR is A.B.C.D or A.B.C.D:PORT, of one machine and so not 0.0.0.0: --bind is an address at
+which other hosts reach this machine, and not that of --server. TIME is a number and its unit, as 1500ms, 300s or 5m. --life and
+--longest must be those of the server; their defaults and limits are those of `nbt nbns`.
 
 Examples:
   nbt host FILER 'FILER<00>' --group 'WORKGROUP<00>' --server 192.0.2.1 --bind 192.0.2.7

@@ -12,6 +12,7 @@ mod network;
 mod program;
 mod refusal;
 mod texts;
+mod unit;
 
 pub use admin::{ONCE, TWICE};
 pub use limits::{LimitedArgument, LimitedCommand, bad_value};
@@ -22,3 +23,4 @@ pub use texts::{
     AdminLine, AnswerTexts, CommandLine, HostTexts, LookupTexts, NbnsTexts, NodeTexts, ServeTexts,
     ShowTexts, read,
 };
+pub use unit::NoUnit;

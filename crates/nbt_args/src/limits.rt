@@ -7,6 +7,7 @@ ghost use Rattle.nbt_args.specs.Refusal.{IsWrongUsage};
 
 use crate::argument::{Argument, Description, command_of};
 use crate::refusal::Refusal;
+use crate::unit::NoUnit;
 use crate::{admin, bench, network};
 use clap::Error;
 use clap::error::ErrorKind;
@@ -150,9 +151,20 @@ fn bad_value_error(
     ensures { IfOk result (λ e. kind_of e ≡ ErrorKind.ValueValidation) }
 {
     let shown = argument.argument();
-    let message = format!(in alloc; "invalid value '{value}' for '{shown}': not {argument}")?;
+    let message = match no_unit(argument, value) {
+        Some(reason) => format!(in alloc; "invalid value '{value}' for '{shown}': {reason}")?,
+        None => format!(in alloc; "invalid value '{value}' for '{shown}': not {argument}")?,
+    };
     let name = command.name;
     let called = format!(in alloc; "nbt {name}")?;
     let mut command = command_of(alloc, command)?.bin_name(called.as_str())?;
     command.error(ErrorKind::ValueValidation, message.as_str())
+}
+
+/// Returns the value if it is a time without its unit.
+fn no_unit<'a>(argument: LimitedArgument, value: &'a str) -> Option<NoUnit<'a>> {
+    match argument {
+        LimitedArgument::Wait => NoUnit::of(value),
+        _ => None,
+    }
 }

@@ -89,8 +89,8 @@ pub struct LookupTexts<'a> {
 /// The texts of the arguments of `nbns`.
 #[derive(Drop)]
 pub struct NbnsTexts<'a> {
-    /// The own address.
-    pub bind: &'a str,
+    /// The own addresses; none for every address of the machine.
+    pub binds: Vec<&'a str>,
     /// The greatest life of a datagram.
     pub life: &'a str,
     /// The longest lease.
@@ -105,6 +105,8 @@ pub struct NbnsTexts<'a> {
     pub leases: Option<&'a str>,
     /// Whether Samba's registrations are not accepted.
     pub strict: bool,
+    /// How many live leases a client may have; `None` for the default.
+    pub rows_per_client: Option<&'a str>,
     /// The folder that keeps the leases, if any.
     pub state: Option<&'a str>,
     /// Whether it is silent after another boot.
@@ -203,7 +205,7 @@ fn line_of<'a>(
     let line = match name {
         "lookup" => CommandLine::Admin(AdminLine::Lookup(lookup_texts(matches, "server"))),
         "status" => CommandLine::Admin(AdminLine::Status(lookup_texts(matches, "host"))),
-        "nbns" => CommandLine::Admin(AdminLine::Nbns(nbns_texts(matches))),
+        "nbns" => CommandLine::Admin(AdminLine::Nbns(nbns_texts(alloc, matches)?)),
         "host" => CommandLine::Admin(AdminLine::Host(host_texts(alloc, matches)?)),
         "release" => CommandLine::Admin(AdminLine::Release(host_texts(alloc, matches)?)),
         "answer" => CommandLine::Answer(answer_texts(matches)),
@@ -239,20 +241,22 @@ fn lookup_texts<'a>(matches: &ArgMatches<'a>, to: &str) -> LookupTexts<'a>
     }
 }
 
-fn nbns_texts<'a>(matches: &ArgMatches<'a>) -> NbnsTexts<'a>
-    ensures bind { result.bind.now ≡ argument_of matches.now (codes "bind") }
-    ensures life { result.life.now ≡ argument_of matches.now (codes "life") }
-    ensures longest { result.longest.now ≡ argument_of matches.now (codes "longest") }
-    ensures time { option_map (λ text. text.now) result.time ≡ value_of matches.now (codes "for") }
-    ensures logs { Tells matches.now (codes "log") result.log }
-    ensures broadcasts { Tells matches.now (codes "log-broadcasts") result.broadcasts }
-    ensures leases { option_map (λ text. text.now) result.leases ≡ value_of matches.now (codes "leases") }
-    ensures strict { Tells matches.now (codes "strict") result.strict }
-    ensures state { option_map (λ text. text.now) result.state ≡ value_of matches.now (codes "state") }
-    ensures boots { Tells matches.now (codes "silent-after-boot") result.silent_after_boot }
+fn nbns_texts<'a>(alloc: Global, matches: &ArgMatches<'a>) -> Result<NbnsTexts<'a>, AllocError>
+    ensures binds { IfOk result (λ texts. map (λ text. text.now) texts.binds.items ≡ arguments_of matches.now (codes "bind")) }
+    ensures life { IfOk result (λ texts. texts.life.now ≡ argument_of matches.now (codes "life")) }
+    ensures longest { IfOk result (λ texts. texts.longest.now ≡ argument_of matches.now (codes "longest")) }
+    ensures time { IfOk result (λ texts. option_map (λ text. text.now) texts.time ≡ value_of matches.now (codes "for")) }
+    ensures logs { IfOk result (λ texts. Tells matches.now (codes "log") texts.log) }
+    ensures broadcasts { IfOk result (λ texts. Tells matches.now (codes "log-broadcasts") texts.broadcasts) }
+    ensures leases { IfOk result (λ texts. option_map (λ text. text.now) texts.leases ≡ value_of matches.now (codes "leases")) }
+    ensures strict { IfOk result (λ texts. Tells matches.now (codes "strict") texts.strict) }
+    ensures client_rows { IfOk result (λ texts. option_map (λ text. text.now) texts.rows_per_client ≡ value_of matches.now (codes "rows-per-client")) }
+    ensures state { IfOk result (λ texts. option_map (λ text. text.now) texts.state ≡ value_of matches.now (codes "state")) }
+    ensures boots { IfOk result (λ texts. Tells matches.now (codes "silent-after-boot") texts.silent_after_boot) }
 {
-    NbnsTexts {
-        bind: argument(matches, "bind"),
+    let binds = arguments(alloc, matches, "bind")?;
+    Ok(NbnsTexts {
+        binds,
         life: argument(matches, "life"),
         longest: argument(matches, "longest"),
         time: matches.get_str("for"),
@@ -260,9 +264,10 @@ fn nbns_texts<'a>(matches: &ArgMatches<'a>) -> NbnsTexts<'a>
         broadcasts: matches.get_flag("log-broadcasts"),
         leases: matches.get_str("leases"),
         strict: matches.get_flag("strict"),
+        rows_per_client: matches.get_str("rows-per-client"),
         state: matches.get_str("state"),
         silent_after_boot: matches.get_flag("silent-after-boot"),
-    }
+    })
 }
 
 fn host_texts<'a>(alloc: Global, matches: &ArgMatches<'a>) -> Result<HostTexts<'a>, AllocError>

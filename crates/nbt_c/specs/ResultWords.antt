@@ -39,7 +39,7 @@ wire_words result =
     else (if nat_eq result 4 then codes "a pointer leads to no smaller place"
     else (if nat_eq result 5 then codes "the name is longer than 255 octets" else any_words result))))
 
--- of nbt_node_start and nbt_server_start
+-- of nbt_node_start, nbt_node_start_from and nbt_server_start
 abbrev pub config_words : (result : ℕ) → List ℕ
 config_words result =
     if nat_eq result 1 then codes "the life is not 1 to 60,000 ms"

@@ -4,7 +4,7 @@ ghost use Rattle.std.specs.Prelude.{◌≡◌, IsNone, ℕ, List, Some, IsSome};
 ghost use Rattle.nbt_node.specs.Node.{NodeValue};
 ghost use Rattle.nbt_c.specs.Ends.{addr_of, kind_of};
 ghost use Rattle.nbt_c.specs.Sizes.{node_size, object_align};
-ghost use Rattle.nbt_c.specs.Nodes.{Starts, Asks, GivesBack, Resolves, AsksStatus};
+ghost use Rattle.nbt_c.specs.Nodes.{Starts, StartsFrom, Asks, GivesBack, Resolves, AsksStatus};
 ghost use Rattle.nbt_c.specs.Results.{Puts};
 
 use crate::buffer::{Octets, put_packet};
@@ -15,6 +15,9 @@ use crate::results::{NO_KIND, NO_MOMENT, NO_NAME};
 use nbt_lease::{Config, Moment};
 use nbt_name::{Addr, Kind};
 use nbt_node::Node;
+
+/// The id of the first request of a node that isn't given another, as `nbt_node::Node::start` has it.
+const FIRST_ID: u16 = 1;
 
 /// The size of a node's memory in octets.
 #[unsafe(no_mangle)]
@@ -45,6 +48,22 @@ pub extern "C" fn nbt_node_start(
     requires { IsNone node.old.node }
     ensures { Starts (addr_of own) (addr_of server) config now result node.new.node }
 {
+    nbt_node_start_from(node, own, server, config, now, FIRST_ID)
+}
+
+/// `nbt_node::Node::start_from`: the same, but the node's first request has the id `first_id`, where that of `nbt_node_start` has 1.
+#[unsafe(no_mangle)]
+pub extern "C" fn nbt_node_start_from(
+    node: &mut CNode,
+    own: CAddr,
+    server: CAddr,
+    config: CConfig,
+    now: u64,
+    first_id: u16,
+) -> u8
+    requires { IsNone node.old.node }
+    ensures { StartsFrom (addr_of own) (addr_of server) config now first_id result node.new.node }
+{
     let limits = match Config::new(config.life, config.longest, config.rows as usize) {
         Ok(limits) => limits,
         Err(fault) => return fault.number(),
@@ -52,7 +71,7 @@ pub extern "C" fn nbt_node_start(
     let Some(now) = Moment::new(now) else {
         return NO_MOMENT;
     };
-    node.put(Node::start(own.addr(), server.addr(), limits, now));
+    node.put(Node::start_from(own.addr(), server.addr(), limits, now, first_id));
     0
 }
 

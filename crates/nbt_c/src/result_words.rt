@@ -67,7 +67,7 @@ fn wire_words(number: u8) -> &'static str
     }
 }
 
-/// Of `nbt_node_start`, `nbt_server_start`.
+/// Of `nbt_node_start`, `nbt_node_start_from`, `nbt_server_start`.
 fn config_words(number: u8) -> &'static str
     ensures words { result.now ≡ config_words number }
     ensures short { length result.now ≤ 63 }

@@ -3,14 +3,14 @@ use Rattle.std.proofs.Common.{◌≡◌, ℕ, Bool, true, false, List, [], ◌�
 use Rattle.std.specs.Prelude.{Option, if◌then◌else◌}
 use Rattle.nbt_name.specs.declared.addr.Addr.{Addr}
 use Rattle.nbt_node.specs.Node.{NodeValue}
-use Rattle.nbt_node.specs.Calls.{started}
+use Rattle.nbt_node.specs.Calls.{started_from}
 use Rattle.nbt_port.specs.PortCalls.{PortCall, send_failed, receiving}
 use Rattle.nbt_port.proofs.Chains.{chain_one}
 use Rattle.nbt_host.specs.declared.goal.Goal.{Goal}
 use Rattle.nbt_host.specs.declared.news.Notice.{Notice}
 use Rattle.nbt_host.specs.declared.watching.Look.{Look}
 use Rattle.nbt_host.specs.Goals.{anew, heard_by}
-use Rattle.nbt_host.specs.Hosting.{HostValue, Terms, started_again, woken, HostHears, HearsAfter, sleeps, wakes, LosesReply}
+use Rattle.nbt_host.specs.Hosting.{HostValue, Terms, first_id, started_again, woken, HostHears, HearsAfter, sleeps, wakes, LosesReply}
 use Rattle.nbt_host.specs.Sleeping.{with_earlier}
 use Rattle.nbt_host.specs.Releasing.{Releasing}
 use Rattle.nbt_host.specs.Inner.Parts.{Listens, LosesListening, loses_send}
@@ -18,20 +18,20 @@ use Rattle.nbt_host.proofs.Replies.{Heard_by, Lost_by}
 
 -- ---- a look at the clocks
 
-module _ (t : Terms) (now : ℕ) (host : HostValue) (goals : List Goal) (node : NodeValue) where
-  by_sleep : (slept : Bool) → goals ≡ (if slept then map anew host.goals else host.goals) → node ≡ (if slept then started t.slots host.node.addr t.server t.config now else host.node)
-      → ◌≡◌ {A = HostValue} (record { goals = goals; node = node }) (if slept then started_again t now host else host)
+module _ (t : Terms) (look : Look) (host : HostValue) (goals : List Goal) (node : NodeValue) where
+  by_sleep : (slept : Bool) → goals ≡ (if slept then map anew host.goals else host.goals) → node ≡ (if slept then started_from t.slots host.node.addr t.server t.config look.at (first_id look) else host.node)
+      → ◌≡◌ {A = HostValue} (record { goals = goals; node = node }) (if slept then started_again t look host else host)
   by_sleep true g n = rw (g, n) refl
   by_sleep false g n = rw (g, n) refl
 
 -- the host after it, by its names and its node
 pub is_woken : (t : Terms) (look : Look) (host : HostValue) (goals : List Goal) (node : NodeValue) → goals ≡ (if look.slept then map anew host.goals else host.goals)
-    → node ≡ (if look.slept then started t.slots host.node.addr t.server t.config look.at else host.node) → ◌≡◌ {A = HostValue} (record { goals = goals; node = node }) (woken t look host)
-is_woken t look host goals node g n = by_sleep t look.at host goals node look.slept g n
+    → node ≡ (if look.slept then started_from t.slots host.node.addr t.server t.config look.at (first_id look) else host.node) → ◌≡◌ {A = HostValue} (record { goals = goals; node = node }) (woken t look host)
+is_woken t look host goals node g n = by_sleep t look host goals node look.slept g n
 
 -- where the machine didn't sleep it stays as it was
 is_awake : (t : Terms) (look : Look) (host : HostValue) → false ≡ look.slept → woken t look host ≡ host
-is_awake t look host awake = ap (λ (slept : Bool). if slept then started_again t look.at host else host) (sym awake)
+is_awake t look host awake = ap (λ (slept : Bool). if slept then started_again t look host else host) (sym awake)
 
 -- ---- what is made of what came
 
@@ -49,12 +49,12 @@ module _ {P K : Type 0} (does : P → PortCall → P → Type 0) (looks : K → 
     looked = looked;
   }
 
-  pub heard_on : (notice : Option Notice) (new_goals : List Goal) (new : NodeValue) → false ≡ second.slept → given ≡ octets → Heard_by does second.at node (receiving (Ok found) given) notice new q r
+  pub heard_on : (notice : Option Notice) (new_goals : List Goal) (new : NodeValue) → false ≡ second.slept → given ≡ octets → Heard_by does t.server second.at node (receiving (Ok found) given) notice new q r
       → new_goals ≡ map (heard_by t.config new second.at notice) goals → Listens does looks t old (record { port = r; watch = w; last = last; host = record { goals = new_goals; node = new } })
   heard_on notice new_goals new awake same h takes =
       let is : ◌≡◌ {A = HostValue} (record { goals = goals; node = node }) old.host = woke ∙ is_awake t second old.host awake in
       let hearing : List PortCall = receiving (Ok found) given ∷ h.0 in
-      let heard : HostHears second.at old.host.node hearing notice new = subst (λ (x : HostValue). HostHears second.at x.node hearing notice new) is h.1 in
+      let heard : HostHears t.server second.at old.host.node hearing notice new = subst (λ (x : HostValue). HostHears t.server second.at x.node hearing notice new) is h.1 in
       let taken : new_goals ≡ map (heard_by t.config new second.at notice) old.host.goals = takes ∙ ap (λ (x : HostValue). map (heard_by t.config new second.at notice) x.goals) is in
       record {
         second = second;

@@ -20,6 +20,7 @@ quiet_name second name log false (Some (n.Untimed s)) refusal quiet = absurd (fa
 quiet_name second name log false (Some (n.Brief s)) refusal quiet = absurd (false≢true (sym quiet))
 quiet_name second name true false (Some (n.Renewed s)) refusal quiet = absurd (false≢true (sym quiet))
 quiet_name second name false false (Some (n.Renewed s)) refusal quiet = (refl, refl, refl)
+quiet_name second name log false (Some n.Doubted) refusal quiet = absurd (false≢true (sym quiet))
 quiet_name second name log false (Some (n.Refused r)) refusal quiet = absurd (false≢true (sym quiet))
 quiet_name second name log false (Some n.Lost) refusal quiet = absurd (false≢true (sym quiet))
 quiet_name second name log false (Some (n.Freed r)) refusal quiet = (refl, refl, refl)

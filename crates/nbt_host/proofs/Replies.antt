@@ -14,8 +14,8 @@ use Rattle.nbt_port.specs.PortCalls.{PortCall, came, sent, send_failed, sending,
 use Rattle.nbt_port.proofs.Chains.{chain_one}
 use Rattle.nbt_host.specs.declared.news.Notice.{Notice}
 use Rattle.nbt_node.specs.Answering.{own_reply, sent_back}
-use Rattle.nbt_host.specs.Noticing.{notice_of}
-use Rattle.nbt_host.specs.Hosting.{sending_to, HostHears, hears_nothing, hears, hears_back, LosesReply, loses_reply}
+use Rattle.nbt_host.specs.Noticing.{doubted, notice_of}
+use Rattle.nbt_host.specs.Hosting.{sending_to, doubting, HostHears, hears_nothing, hears, hears_back, LosesReply, loses_reply}
 
 -- what is no query is replied to by the node itself, or not at all
 pub sent_back_other : (node : NodeValue) (now : ℕ) (message : Message) (told : Told) (reply : List ℕ) → ((id : ℕ) (name : NameValue) → message ≡ m.Query id name → ⊥)
@@ -46,25 +46,25 @@ back_lost does p q to what out (Err failure) is did = (out, is, did)
 
 -- ---- what is heard
 
-abbrev pub Heard_by : {P : Type 0} → (P → PortCall → P → Type 0) → ℕ → NodeValue → PortCall → Option Notice → NodeValue → P → P → Type 0
-Heard_by does now old hearing notice new p q = (acts : List PortCall) × HostHears now old (hearing ∷ acts) notice new × Chain does p acts q
+abbrev pub Heard_by : {P : Type 0} → (P → PortCall → P → Type 0) → (server : Addr) → ℕ → NodeValue → PortCall → Option Notice → NodeValue → P → P → Type 0
+Heard_by does server now old hearing notice new p q = (acts : List PortCall) × HostHears server now old (hearing ∷ acts) notice new × Chain does p acts q
 
 abbrev pub Lost_by : {P : Type 0} → (P → PortCall → P → Type 0) → ℕ → NodeValue → PortCall → NodeValue → P → P → Type 0
 Lost_by does now old hearing new p q = (to : Addr) × (lost : List ℕ) × LosesReply now old (hearing ∷ send_failed to lost ∷ []) new × does p (send_failed to lost) q
 
-pub heard_none : {P : Type 0} (does : P → PortCall → P → Type 0) (p : P) (now : ℕ) (old : NodeValue) (found : Option Addr) (octets : List ℕ) → found ≡ None → Heard_by does now old (receiving (Ok found) octets) None old p p
-heard_none does p now old found octets none = rw none ([], hears_nothing, refl)
+pub heard_none : {P : Type 0} (does : P → PortCall → P → Type 0) (p : P) (server : Addr) (now : ℕ) (old : NodeValue) (found : Option Addr) (octets : List ℕ) → found ≡ None → Heard_by does server now old (receiving (Ok found) octets) None old p p
+heard_none does p server now old found octets none = rw none ([], hears_nothing, refl)
 
-pub heard_back : {P : Type 0} (does : P → PortCall → P → Type 0) (p : P) (now : ℕ) (old new : NodeValue) (found : Option Addr) (from : Addr) (octets : List ℕ) → found ≡ Some from → now < old.last → new ≡ old
-    → Heard_by does now old (receiving (Ok found) octets) None new p p
-heard_back does p now old new found from octets some back same = rw (some, same) ([], hears_back from octets back, refl)
+pub heard_back : {P : Type 0} (does : P → PortCall → P → Type 0) (p : P) (server : Addr) (now : ℕ) (old new : NodeValue) (found : Option Addr) (from : Addr) (octets : List ℕ) → found ≡ Some from → now < old.last → new ≡ old
+    → Heard_by does server now old (receiving (Ok found) octets) None new p p
+heard_back does p server now old new found from octets some back same = rw (some, same) ([], hears_back from octets back, refl)
 
-pub heard_one : {P : Type 0} (does : P → PortCall → P → Type 0) (p q : P) (now : ℕ) (old new : NodeValue) (found : Option Addr) (from : Addr) (octets reply : List ℕ) (message : Option MessageValue) (told : Told) (notice : Option Notice) → found ≡ Some from
-    → Handles old now from octets new told reply → Says octets message → notice ≡ notice_of message told → Chain does p (sending_to from (sent_back new now message told reply)) q
-    → Heard_by does now old (receiving (Ok found) octets) notice new p q
-heard_one does p q now old new found from octets reply message told notice some handles says is did =
+pub heard_one : {P : Type 0} (does : P → PortCall → P → Type 0) (p q : P) (server : Addr) (now : ℕ) (old new after : NodeValue) (found : Option Addr) (from : Addr) (octets reply : List ℕ) (message : Option MessageValue) (told : Told) (notice : Option Notice)
+    → found ≡ Some from → Handles old now from octets new told reply → Says octets message → after ≡ doubting new (doubted server from message told) → notice ≡ notice_of server from message told
+    → Chain does p (sending_to from (sent_back new now message told reply)) q → Heard_by does server now old (receiving (Ok found) octets) notice after p q
+heard_one does p q server now old new after found from octets reply message told notice some handles says doubts is did =
     let acts = sending_to from (sent_back new now message told reply) in
-    rw some (acts, subst (λ (x : Option Notice). HostHears now old (came from octets ∷ acts) x new) (sym is) (hears from octets reply message told new handles says), did)
+    rw (some, doubts) (acts, subst (λ (x : Option Notice). HostHears server now old (came from octets ∷ acts) x (doubting new (doubted server from message told))) (sym is) (hears from octets reply message told new handles says), did)
 
 pub reply_lost : {P : Type 0} (does : P → PortCall → P → Type 0) (p q : P) (now : ℕ) (old new : NodeValue) (found : Option Addr) (from : Addr) (octets reply : List ℕ) (message : Option MessageValue) (told : Told) → found ≡ Some from
     → Handles old now from octets new told reply → Says octets message → ((lost : List ℕ) × (sent_back new now message told reply ≡ Some lost) × does p (send_failed from lost) q)

@@ -15,12 +15,12 @@ use Rattle.nbt_host.specs.declared.goal.Refusal.{Refusal}
 use Rattle.nbt_host.specs.declared.goal.Stage.{Stage}
 use Rattle.nbt_host.specs.declared.goal.Stage.TheVariants.{Wanted, Leaving, Released, Left, Doubtful}
 use Rattle.nbt_host.specs.declared.news.News.{News}
-use Rattle.nbt_host.specs.declared.news.News.TheVariants.{Granted, Untimed, Brief, Renewed, Refused, Lost, Freed}
+use Rattle.nbt_host.specs.declared.news.News.TheVariants.{Granted, Untimed, Brief, Renewed, Doubted, Refused, Lost, Freed}
 use Rattle.nbt_host.specs.declared.news.Notice.{Notice}
 
 -- a want of which nothing is known
 abbrev pub fresh : Want → Goal
-fresh want = record { want = want; stage = Wanted; left = 0; refusal = None; held = false; brief = false; asked = false; unheard = false; silent = false; lapsed = false; news = None }
+fresh want = record { want = want; stage = Wanted; left = 0; refusal = None; held = false; brief = false; doubted = false; asked = false; unheard = false; silent = false; lapsed = false; news = None }
 
 -- A host asks for a name by its seconds, and never by 0: for the longest lease of its limits where none are wanted, and for no
 -- longer one.
@@ -124,24 +124,29 @@ told_grant false was_brief seconds news = Some news
 
 -- A grant ends the refusals. It is told only where the name is held.
 abbrev pub granted_for : ConfigValue → (is_held : Bool) → (seconds : ℕ) → News → Goal → Goal
-granted_for config false seconds news goal = record goal { refusal = None; held = false; asked = false; unheard = false; news = None }
+granted_for config false seconds news goal = record goal { refusal = None; held = false; doubted = false; asked = false; unheard = false; news = None }
 granted_for config true seconds news goal =
-    record goal { refusal = None; held = true; asked = false; unheard = false; brief = is_brief config seconds; news = told_grant (is_brief config seconds) goal.brief seconds news }
+    record goal { refusal = None; held = true; doubted = false; asked = false; unheard = false; brief = is_brief config seconds; news = told_grant (is_brief config seconds) goal.brief seconds news }
 
 -- The server knows of the release where it confirms it, and where it denies the first request. A denial of a repeated one says nothing:
 -- the one before may have been confirmed, and the name may be another's since.
 abbrev pub freed_stage : (now left rcode : ℕ) → Stage
 freed_stage now left rcode = if nat_eq rcode 0 || nat_lt now (left + retry_timeout) then Left rcode else Doubtful
 
+-- That the server said, unasked, that it isn't held is told once until its refresh is granted.
+abbrev pub doubted_at : (is_held : Bool) → Goal → Goal
+doubted_at is_held goal = if is_held && not goal.doubted then record goal { doubted = true; news = Some Doubted } else goal
+
 -- A renewal is told only where the name is held. A refusal is told once, and again where its RCODE changes.
 abbrev pub heard : ConfigValue → (now : ℕ) → (is_held : Bool) → News → Goal → Goal
 heard config now is_held (Granted seconds) goal = granted_for config is_held seconds (Granted seconds) goal
 heard config now is_held (Untimed seconds) goal = granted_for config is_held seconds (if nat_eq goal.want.ttl 0 then Granted seconds else Untimed seconds) goal
 heard config now is_held (Brief seconds) goal = granted_for config is_held seconds (Brief seconds) goal
-heard config now is_held (Renewed seconds) goal = record goal { asked = false; unheard = false; news = then_some is_held (Renewed seconds) }
+heard config now is_held (Renewed seconds) goal = record goal { doubted = false; asked = false; unheard = false; news = then_some is_held (Renewed seconds) }
 heard config now is_held (Refused rcode) goal =
     record goal { refusal = Some (record { rcode = rcode; times = times_after goal.refusal; at = now }); brief = false; asked = false; unheard = false; news = then_some (not (is_known rcode goal.refusal)) (Refused rcode) }
-heard config now is_held Lost goal = record goal { held = false; brief = false; asked = false; unheard = false; news = Some Lost }
+heard config now is_held Lost goal = record goal { held = false; brief = false; doubted = false; asked = false; unheard = false; news = Some Lost }
+heard config now is_held Doubted goal = doubted_at is_held goal
 heard config now is_held (Freed rcode) goal = record goal { stage = freed_stage now goal.left rcode; news = Some (Freed rcode) }
 
 -- the goals of that name, and every other

@@ -1,13 +1,14 @@
 -- What a host does in a turn over a port and a clock: a node that is to hold the names of a list (our profile).
-use Rattle.std.specs.Prelude.{◌≡◌, ℕ, ◌<◌, Bool, true, false, if◌then◌else◌, List, [], ◌∷◌, ◌++◌, map, Option, Some, None, Ok}
+use Rattle.std.specs.Prelude.{◌≡◌, ℕ, ◌+◌, ◌%◌, ◌<◌, Bool, true, false, if◌then◌else◌, List, [], ◌∷◌, ◌++◌, map, Option, Some, None, Ok}
 use Rattle.nbt_name.specs.declared.addr.Addr.{Addr}
+use Rattle.nbt_name.specs.Wire.{NameValue}
 use Rattle.nbt_lease.specs.Config.{ConfigValue}
 use Rattle.nbt_packet.specs.Message.{MessageValue}
 use Rattle.nbt_node.specs.declared.fault.AskFault.{AskFault}
 use Rattle.nbt_node.specs.declared.fault.ReleaseFault.{ReleaseFault}
 use Rattle.nbt_node.specs.Node.{NodeValue}
 use Rattle.nbt_node.specs.Moves.{give_back, Told}
-use Rattle.nbt_node.specs.Calls.{ask_refusal, release_refusal, Sends, started}
+use Rattle.nbt_node.specs.Calls.{refreshing_soon, ask_refusal, release_refusal, Sends, started_from}
 use Rattle.nbt_node.specs.Datagrams.{Handles, Says}
 use Rattle.nbt_port.specs.PortCalls.{PortCall, nothing_came, came, receive_failed, sent, send_failed, receiving}
 use Rattle.nbt_client.specs.Turning.{AsksFor, PollsAll, BreaksPolls}
@@ -18,7 +19,7 @@ use Rattle.nbt_host.specs.declared.news.Notice.{Notice}
 use Rattle.nbt_host.specs.declared.watching.Look.{Look}
 use Rattle.nbt_host.specs.Goals.{anew, may_ask, seen, heard_by}
 use Rattle.nbt_node.specs.Answering.{sent_back}
-use Rattle.nbt_host.specs.Noticing.{notice_of}
+use Rattle.nbt_host.specs.Noticing.{notice_of, doubted}
 
 -- what is sent to an end, if anything
 abbrev pub sending_to : Addr → Option (List ℕ) → List PortCall
@@ -54,13 +55,19 @@ pub data BreaksRequests (server : Addr) (now : ℕ) (old : NodeValue) : List Goa
 
 -- ---- what is heard
 
--- The node takes what came, if anything, at a moment that doesn't go back, and what there is to say is sent to its sender. A
--- datagram that the node refuses since the clock went back is passed over.
-pub data HostHears (now : ℕ) (old : NodeValue) : List PortCall → Option Notice → NodeValue → Type 0 where
-  hears_nothing : HostHears now old (nothing_came ∷ []) None old
-  hears_back : (from : Addr) (octets : List ℕ) → now < old.last → HostHears now old (came from octets ∷ []) None old
+-- The hold of a name that is doubted is refreshed as soon as it may be, and ends no earlier and no later than before.
+abbrev pub doubting : NodeValue → Option NameValue → NodeValue
+doubting node None = node
+doubting node (Some name) = refreshing_soon node name
+
+-- The node takes what came, if anything, at a moment that doesn't go back, and what there is to say is sent to its sender. Then it
+-- doubts the name of which the server said unasked that it isn't held. A datagram that the node refuses since the clock went back
+-- is passed over.
+pub data HostHears (server : Addr) (now : ℕ) (old : NodeValue) : List PortCall → Option Notice → NodeValue → Type 0 where
+  hears_nothing : HostHears server now old (nothing_came ∷ []) None old
+  hears_back : (from : Addr) (octets : List ℕ) → now < old.last → HostHears server now old (came from octets ∷ []) None old
   hears : (from : Addr) (octets reply : List ℕ) (message : Option MessageValue) (told : Told) (new : NodeValue) → Handles old now from octets new told reply → Says octets message
-      → HostHears now old (came from octets ∷ sending_to from (sent_back new now message told reply)) (notice_of message told) new
+      → HostHears server now old (came from octets ∷ sending_to from (sent_back new now message told reply)) (notice_of server from message told) (doubting new (doubted server from message told))
 
 -- What there is to say is lost.
 pub data LosesReply (now : ℕ) (old : NodeValue) : List PortCall → NodeValue → Type 0 where
@@ -80,13 +87,19 @@ pub record Terms : Type 0 where
   pub server : Addr
   pub config : ConfigValue
 
--- a host whose machine crashed and started at a moment: the node knows nothing, and rests
-abbrev pub started_again : Terms → (now : ℕ) → HostValue → HostValue
-started_again t now host = record { goals = map anew host.goals; node = started t.slots host.node.addr t.server t.config now }
+-- The id of the first request of a life. Both clocks go on between two starts, by 2,000 a second together, and a life needs a few
+-- ids a second: so a life's ids differ from those of the life before, unless it starts a multiple of 32,768 ms after it, or a clock
+-- was set. A clock that begins anew with the machine, or stands, leaves the other.
+abbrev pub first_id : Look → ℕ
+first_id look = (look.at + look.day) % 65536
+
+-- a host whose machine crashed and started at a look: the node knows nothing, and rests
+abbrev pub started_again : Terms → Look → HostValue → HostValue
+started_again t look host = record { goals = map anew host.goals; node = started_from t.slots host.node.addr t.server t.config look.at (first_id look) }
 
 -- What a host is after a look at the clocks. Where the machine slept it starts again at that moment.
 abbrev pub woken : Terms → Look → HostValue → HostValue
-woken t look host = if look.slept then started_again t look.at host else host
+woken t look host = if look.slept then started_again t look host else host
 
 -- a look at each name
 abbrev pub seen_all : (now : ℕ) → HostValue → HostValue
@@ -97,7 +110,7 @@ seen_all now host = record host { goals = map (seen host.node now) host.goals }
 -- What is made of what a receive was, at a look after it. Where the machine slept nothing is made of it.
 pub data HearsAfter (t : Terms) (look : Look) (old : HostValue) : List PortCall → HostValue → Type 0 where
   sleeps : (found : Option Addr) (octets : List ℕ) → look.slept ≡ true → HearsAfter t look old (receiving (Ok found) octets ∷ []) (woken t look old)
-  wakes : (hearing : List PortCall) (notice : Option Notice) (new : NodeValue) → look.slept ≡ false → HostHears look.at old.node hearing notice new
+  wakes : (hearing : List PortCall) (notice : Option Notice) (new : NodeValue) → look.slept ≡ false → HostHears t.server look.at old.node hearing notice new
       → HearsAfter t look old hearing (record { goals = map (heard_by t.config new look.at notice) old.goals; node = new })
 
 -- A look at the clocks, and then at the names; the requests and the polls; one receive, and a look at the clocks after it.

@@ -26,6 +26,7 @@ news_of log (Some (n.Granted seconds)) = Some (e.Granted seconds)
 news_of log (Some (n.Untimed seconds)) = Some (e.Untimed seconds)
 news_of log (Some (n.Brief seconds)) = Some (e.Brief seconds)
 news_of log (Some (n.Renewed seconds)) = then_some log (e.Renewed seconds)
+news_of log (Some n.Doubted) = Some e.Doubted
 news_of log (Some (n.Refused rcode)) = Some (e.Refused rcode)
 news_of log (Some n.Lost) = Some e.Lost
 news_of log (Some (n.Freed rcode)) = None

@@ -20,6 +20,8 @@ pub enum Event {
     Brief(u32),
     /// Its hold was renewed, for these seconds from the first sending of the refresh.
     Renewed(u32),
+    /// The server said, unasked, that it isn't held: it is refreshed before its time.
+    Doubted,
     /// It isn't granted, with this RCODE (RFC 1002 section 4.2.6).
     Refused(u8),
     /// It is requested again, as long as it is refused.
@@ -46,6 +48,7 @@ impl Event {
         match self {
             Event::Granted(_) | Event::Untimed(_) | Event::Brief(_) => " granted ",
             Event::Renewed(_) => " renewed ",
+            Event::Doubted => " refreshes ",
             Event::Refused(_) => " refused ",
             Event::AsksAgain => " asks again for ",
             Event::Lost => " lost ",
@@ -70,6 +73,7 @@ impl Event {
                 out,
             ),
             Event::Renewed(seconds) => write_seconds(seconds, out),
+            Event::Doubted => out.push_str(": the server says that it isn't held\n"),
             Event::Refused(rcode) => write_reason(rcode, out),
             Event::Denied(rcode) => write_reason(rcode, out),
             Event::AsksAgain => out.push_str(" after 5 s, 10 s .. at most 5 min\n"),

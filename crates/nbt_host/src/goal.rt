@@ -1,7 +1,7 @@
 //! A wanted name, and what its host keeps of it.
 
 ghost use Rattle.std.specs.Prelude.{◌≡◌, ◌≤◌, map, false};
-ghost use Rattle.nbt_host.specs.Goals.{fresh, anew, back_off, times_after, may_ask, is_known, is_kept, stage_at, left_at, freed_stage, is_asked, is_asking, is_silent, seen_at, seen, is_brief, told_grant, granted_for, heard, heard_by};
+ghost use Rattle.nbt_host.specs.Goals.{fresh, anew, back_off, times_after, may_ask, is_known, is_kept, stage_at, left_at, freed_stage, is_asked, is_asking, is_silent, seen_at, seen, is_brief, told_grant, granted_for, doubted_at, heard, heard_by};
 
 use crate::news::{News, Notice};
 use nbt_client::Want;
@@ -49,6 +49,8 @@ pub struct Goal {
     pub held: bool,
     /// Whether the last hold that was granted is too short to be renewed in time, which was told.
     pub brief: bool,
+    /// Whether it was told that the server says that it isn't held, and no grant has come since.
+    pub doubted: bool,
     /// Whether its registration was pending when the host looked last, and no reply has come since.
     pub asked: bool,
     /// Whether it was told that no reply has come, and none has come since.
@@ -172,6 +174,7 @@ impl Goal {
             refusal: None,
             held: false,
             brief: false,
+            doubted: false,
             asked: false,
             unheard: false,
             silent: false,
@@ -197,6 +200,7 @@ impl Goal {
         self.refusal = None;
         self.held = false;
         self.brief = false;
+        self.doubted = false;
         self.asked = false;
         self.unheard = false;
         self.silent = false;
@@ -240,11 +244,22 @@ impl Goal {
         self.is_answered();
         self.refusal = None;
         self.held = is_held;
+        self.doubted = false;
         self.news = None;
         if is_held {
             let brief = is_brief(config, seconds);
             self.news = told_grant(brief, self.brief, seconds, news);
             self.brief = brief;
+        }
+    }
+
+    /// The server said, unasked, that the name isn't held.
+    fn doubt(&mut self, is_held: bool)
+        ensures { self.new ≡ doubted_at is_held self.old }
+    {
+        if is_held && !self.doubted {
+            self.doubted = true;
+            self.news = Some(News::Doubted);
         }
     }
 
@@ -261,6 +276,7 @@ impl Goal {
             News::Brief(seconds) => self.grant(config, is_held, seconds, news),
             News::Renewed(_) => {
                 self.is_answered();
+                self.doubted = false;
                 self.news = is_held.then_some(news);
             }
             News::Refused(rcode) => {
@@ -277,8 +293,10 @@ impl Goal {
                 self.is_answered();
                 self.held = false;
                 self.brief = false;
+                self.doubted = false;
                 self.news = Some(news);
             }
+            News::Doubted => self.doubt(is_held),
             News::Freed(rcode) => {
                 self.stage = freed_stage(now, self.left, rcode);
                 self.news = Some(news);

@@ -6,27 +6,30 @@ ghost use Rattle.nbt_packet.specs.Message.{message_if};
 ghost use Rattle.nbt_node.specs.Moves.{told_of};
 ghost use Rattle.nbt_port.specs.PortCalls.{PortCall, send_failed, receiving, Chain, CountsFailure};
 ghost use Rattle.nbt_node.specs.Answering.{sent_back};
-ghost use Rattle.nbt_host.specs.Hosting.{sending_to, HostHears, LosesReply};
+ghost use Rattle.nbt_host.specs.Hosting.{sending_to, doubting, HostHears, LosesReply};
 
-use crate::news::{Notice, notice_of};
+use crate::news::{Notice, doubted, notice_of};
 use arrayvec::ArrayVec;
 use nbt_lease::Moment;
-use nbt_name::Addr;
+use nbt_name::{Addr, Name};
 use nbt_node::{Event, Node, reply_to};
 use nbt_packet::{Message, read};
 use nbt_port::{Device, Port};
 
-/// The node handles a datagram, if one came, and what there is to say is sent to its sender. Returns what it says of a name.
+/// The node handles a datagram, if one came, and what there is to say is sent to its sender. A name of which the server says unasked
+/// that it is refused or released is refreshed as soon as it may be, where it is held: the datagram may be late or forged, so its hold
+/// goes on as it was, and the reply to the refresh decides. Returns what the datagram says of a name.
 pub fn hear<P: Port, const N: usize>(
     port: &mut P,
     node: &mut Node<N>,
+    server: Addr,
     now: Moment,
     from: Option<Addr>,
     octets: &[u8],
     out: &mut ArrayVec<u8, 576>,
 ) -> Result<Option<Notice>, Device>
     requires failure_count { P.failures port.old < 2 ^ 62 }
-    ensures ok { IfOk result (λ notice. (acts : List PortCall) × HostHears now node.old (receiving (Ok from) octets.now ∷ acts) notice node.new × Chain P.does port.old acts port.new) }
+    ensures ok { IfOk result (λ notice. (acts : List PortCall) × HostHears server now node.old (receiving (Ok from) octets.now ∷ acts) notice node.new × Chain P.does port.old acts port.new) }
     ensures err { OnErr result ((to : End) × (lost : List ℕ) × LosesReply now node.old (receiving (Ok from) octets.now ∷ send_failed to lost ∷ []) node.new × P.does port.old (send_failed to lost) port.new) }
     ensures device { CountsFailure (P.failures port.old) (P.failures port.new) result }
 {
@@ -38,7 +41,17 @@ pub fn hear<P: Port, const N: usize>(
         return Ok(None);
     };
     send_back(port, node, now, from, &message, event, out)?;
-    Ok(notice_of(&message, event))
+    doubt(node, &doubted(server, from, &message, event));
+    Ok(notice_of(server, from, &message, event))
+}
+
+/// Has a name refreshed as soon as it may be, if there is one.
+fn doubt<const N: usize>(node: &mut Node<N>, name: &Option<Name>)
+    ensures { node.new ≡ doubting node.old name.now }
+{
+    if let Some(name) = name {
+        node.refresh_soon(name);
+    }
 }
 
 /// Sends what there is to say.

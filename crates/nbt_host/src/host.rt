@@ -162,7 +162,7 @@ impl<K> Host<K> {
 
 impl<K: Watch + Drop> Host<K> {
     /// A host on a machine with these clocks, which knows nothing of its names. It starts at the moment of a first look at them, and
-    /// rests first. Refused where memory is.
+    /// rests first; its ids count from [`Look::first_id`]. Refused where memory is.
     pub fn start(
         alloc: Global,
         mut watch: K,
@@ -172,7 +172,13 @@ impl<K: Watch + Drop> Host<K> {
     {
         let goals = goals_of(alloc, arguments.config, arguments.wants.as_slice())?;
         let last = watch.look();
-        let node = Node::start(arguments.bind, arguments.server, arguments.config, last.at);
+        let node = Node::start_from(
+            arguments.bind,
+            arguments.server,
+            arguments.config,
+            last.at,
+            last.first_id(),
+        );
         Ok(Host {
             alloc,
             watch,

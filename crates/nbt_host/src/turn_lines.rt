@@ -151,6 +151,7 @@ fn news_of(log: bool, news: Option<News>) -> Option<Event>
         News::Untimed(seconds) => Some(Event::Untimed(seconds)),
         News::Brief(seconds) => Some(Event::Brief(seconds)),
         News::Renewed(seconds) => log.then_some(Event::Renewed(seconds)),
+        News::Doubted => Some(Event::Doubted),
         News::Refused(rcode) => Some(Event::Refused(rcode)),
         News::Lost => Some(Event::Lost),
         News::Freed(_) => None,

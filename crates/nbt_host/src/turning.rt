@@ -2,11 +2,11 @@
 
 ghost use Rattle.std.specs.Prelude.{◌≡◌, ◌≤◌, ◌<◌, ◌^◌, List, ℕ, Some, None, Ok, OnOk, OnErr, map, if◌then◌else◌};
 ghost use Rattle.nbt_node.specs.Node.{slots_most};
-ghost use Rattle.nbt_node.specs.Calls.{started};
+ghost use Rattle.nbt_node.specs.Calls.{started_from};
 ghost use Rattle.nbt_port.specs.PortCalls.{PortCall, Chain, CountsFailure};
 ghost use Rattle.nbt_host.specs.Goals.{anew};
 ghost use Rattle.nbt_host.specs.Sleeping.{last_of};
-ghost use Rattle.nbt_host.specs.Hosting.{HostTurn, HostBreaks, woken};
+ghost use Rattle.nbt_host.specs.Hosting.{HostTurn, HostBreaks, first_id, woken};
 ghost use Rattle.nbt_host.specs.Inner.Parts.{Listens, LosesListening};
 ghost use Rattle.nbt_host.specs.declared.watching.Look.{Look as LookValue};
 
@@ -27,11 +27,12 @@ use nbt_port::{Device, Port};
 /// is held or asked for. Each request goes to `server`. Then the node is polled until it has nothing to send, each datagram
 /// going to its destination, the port receives once, the clocks are looked at again, and the node handles what came at that time. A
 /// query for a name that is held then is answered, to whoever sent it, with the node's address and its kind; of the rest the
-/// node itself replies to a status request. What came of the names stands in `goals` afterwards: `lapsed` and `news` are this
-/// turn's.
+/// node itself replies to a status request. A held name of which the server says that it is released or refused, in a reply that
+/// nothing waits for, is refreshed at the next turn, or as soon as more than `Config::quiet()` has passed since the last sending about
+/// it; its hold stays as it is. What came of the names stands in `goals` afterwards: `lapsed` and `news` are this turn's.
 ///
 /// Where a look says that the machine slept, the host is as that of a machine that crashed and starts at that time: the node knows
-/// nothing, has the limits `config`, and rests first, and of each goal what is wanted and its stage alone stay. At the first look
+/// nothing, counts its ids from [`Look::first_id`], has the limits `config`, and rests first, and of each goal what is wanted and its stage alone stay. At the first look
 /// the turn then goes on; at the second nothing is made of what came, and nothing is answered. `last` is then the turn's last look,
 /// with whether any of its looks said so.
 ///
@@ -79,12 +80,12 @@ fn wake<K: Watch, const N: usize>(
     requires slots_at_least { 1 ≤ N }
     requires slots_at_most { N ≤ slots_most }
     ensures looks { K.looks watch.old result watch.new }
-    ensures node { node.new ≡ (if result.slept then started N node.old.addr server config result.at else node.old) }
+    ensures node { node.new ≡ (if result.slept then started_from N node.old.addr server config result.at (first_id result) else node.old) }
     ensures goals { goals.new ≡ (if result.slept then map anew goals.old else goals.old) }
 {
     let look = watch.look();
     if look.slept {
-        *node = Node::start(node.addr(), server, config, look.at);
+        *node = Node::start_from(node.addr(), server, config, look.at, look.first_id());
         forget_all(goals);
     }
     look
@@ -122,7 +123,7 @@ fn listen<P: Port, K: Watch, const N: usize>(
     if slept {
         return Ok(());
     }
-    let notice = hear(port, node, at, from, octets.as_slice(), out)?;
+    let notice = hear(port, node, server, at, from, octets.as_slice(), out)?;
     hear_all(node, config, at, &notice, goals);
     Ok(())
 }

@@ -2,6 +2,7 @@
 
 ghost use Rattle.std.specs.Prelude.{◌≡◌};
 ghost use Rattle.nbt_host.specs.Sleeping.{slept_since, next_anchor, unwatched, with_earlier};
+ghost use Rattle.nbt_host.specs.Hosting.{first_id};
 
 use crate::sleeping::{Clocks, Reading};
 use nbt_lease::Moment;
@@ -18,7 +19,18 @@ pub struct Look {
     pub slept: bool,
 }
 
+/// How many ids there are.
+const IDS: u64 = 0x1_0000;
+
 impl Look {
+    /// The id of the first request of a life that begins at this look, which differs from start to start: the last 16 bits of both
+    /// clocks together (our profile).
+    pub fn first_id(&self) -> u16
+        ensures { result ≡ first_id self.now }
+    {
+        ((self.at.get() + self.day.get()) % IDS) as u16
+    }
+
     /// This look, as the last one of a turn that began with another.
     pub fn with_earlier(self, first: Look) -> Look
         ensures { result ≡ with_earlier first self }

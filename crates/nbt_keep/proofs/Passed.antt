@@ -4,41 +4,63 @@ use Rattle.std.specs.Prelude.{is_some, nat_le, OnOk, OnErr, IfErr}
 use Rattle.std.proofs.lemmas.Bool.{leb-false}
 use Rattle.std.proofs.lemmas.List.{append-nil, length-append}
 use Rattle.nbt_name.specs.declared.addr.Addr.{Addr}
-use Rattle.nbt_port.specs.PortCalls.{PortCall, receive_failed, receiving, Chain}
+use Rattle.nbt_port.specs.Memory.{DatagramValue}
+use Rattle.nbt_port.specs.PortCalls.{PortCall, receive_failed, receiving, send_failed, Chain}
 use Rattle.nbt_port.proofs.Chains.{chain-append}
 use Rattle.nbt_store.specs.declared.change.Change.{Change}
 use Rattle.nbt_store.specs.declared.store.Broken.{Broken}
 use Rattle.nbt_store.specs.Calls.{StoreCall, appending, appended, append_failed}
 use Rattle.nbt_nbns.specs.Serving.{Turn}
 use Rattle.nbt_keep.specs.Devices.{DeviceCall, on_port, on_store, Devices, DeviceDoes}
-use Rattle.nbt_keep.specs.Waiting.{WaitingValue, batch, dropped, leaving}
-use Rattle.nbt_keep.specs.Turning.{Took, receive_in, is_unanswered, appends_of, taking, with_reply, leaves, Passes, waits, all_leave, LeavingFails, sync_fails, send_fails, Fails, leaving_fails, append_fails}
-use Rattle.nbt_keep.specs.Inner.Passing.{is_due, Leaves, still_wait, now_leave}
+use Rattle.nbt_keep.specs.Waiting.{WaitingValue, batch, none_waits, dropped, sends_of, leaving}
+use Rattle.nbt_keep.specs.Turning.{Took, reply_in, receive_in, is_unanswered, appends_of, taking, with_reply, leaves, Passes, waits, all_leave, LeavingFails, sync_fails, send_fails, Fails, leaving_fails, append_fails}
+use Rattle.nbt_keep.specs.Inner.Passing.{is_due, Leaves, still_wait, now_leave, reply_to, behind, with_change}
 use Rattle.nbt_keep.specs.declared.fault.KeepFault.{KeepFault}
 use Rattle.nbt_keep.specs.declared.fault.KeepFault.TheVariants as fault
-use Rattle.nbt_keep.proofs.Leaving.{by_store}
+use Rattle.nbt_keep.proofs.Leaving.{by_port, by_store}
 
 and_false : (b : Bool) → false ≡ (b && false)
 and_false true = refl
 and_false false = refl
 
-and_true : (b : Bool) → b ≡ (b && true)
-and_true true = refl
-and_true false = refl
-
 -- a change is appended
-pub appended_one : {S A : Type 0} (keeps : S → StoreCall → S → Type 0) (s t : S) (change : Change) (old new : WaitingValue) (r : Result A Broken) → keeps s (appending change r) t → OnOk r (new ≡ record old { is_synced = false })
-    → OnOk r (Chain keeps s (appended change ∷ []) t × (new ≡ record old { is_synced = old.is_synced && false }))
-appended_one keeps s t change old new (Ok done) did is = ((t, did, refl), is ∙ ap (λ (b : Bool). record old { is_synced = b }) (and_false old.is_synced))
-appended_one keeps s t change old new (Err broken) did is = tt
+pub appended_one : {S A : Type 0} (keeps : S → StoreCall → S → Type 0) (s t : S) (X : Option Change → Type 0) (change : Change) (old new : WaitingValue) (r : Result A Broken) → X (Some change) → keeps s (appending change r) t → OnOk r (new ≡ record old { is_synced = false })
+    → OnOk r ((c : Option Change) × X c × Chain keeps s (appends_of c) t × (new ≡ with_change c old))
+appended_one keeps s t X change old new (Ok done) x did is = (Some change, x, (t, did, refl), is ∙ ap (λ (b : Bool). record old { is_synced = b }) (and_false old.is_synced))
+appended_one keeps s t X change old new (Err broken) x did is = tt
 
-pub not_appended : {S A : Type 0} (keeps : S → StoreCall → S → Type 0) (s t : S) (change : Change) (new : WaitingValue) (r : Result A Broken) → keeps s (appending change r) t → OnErr r (new ≡ dropped)
-    → OnErr r ((one : Change) × (Some change ≡ Some one) × keeps s (append_failed one) t × (new ≡ dropped))
-not_appended keeps s t change new (Ok done) did is = tt
-not_appended keeps s t change new (Err broken) did is = (change, refl, did, is)
+pub not_appended : {S A : Type 0} (keeps : S → StoreCall → S → Type 0) (s t : S) (X : Option Change → Type 0) (change : Change) (new : WaitingValue) (r : Result A Broken) → X (Some change) → keeps s (appending change r) t → OnErr r (new ≡ dropped)
+    → OnErr r ((one : Change) × X (Some one) × keeps s (append_failed one) t × (new ≡ dropped))
+not_appended keeps s t X change new (Ok done) x did is = tt
+not_appended keeps s t X change new (Err broken) x did is = (change, x, did, is)
 
-pub none_appended : (old : WaitingValue) → old ≡ record old { is_synced = old.is_synced && true }
-none_appended old = ap (λ (b : Bool). record old { is_synced = b }) (and_true old.is_synced)
+-- ---- a reply is sent at once, where none waits
+
+or_true : (b : Bool) → (b || true) ≡ true
+or_true true = refl
+or_true false = refl
+
+module _ {P S : Type 0} (does : P → PortCall → P → Type 0) (keeps : S → StoreCall → S → Type 0) (p q : P) (s : S) (old : WaitingValue) (to : Option Addr) (octets : List ℕ) (clear : old ≡ none_waits) where
+  abbrev Calls : List DeviceCall → Type 0
+  Calls calls = Chain (DeviceDoes does keeps) (record { port = p; store = s }) calls (record { port = q; store = s })
+
+  pub sent_at_once : Chain does p (sends_of (reply_to to octets)) q → (calls : List DeviceCall) × Leaves (not (is_some to)) (behind old to octets) calls old × Calls calls
+  sent_at_once did = rw clear (leaving (behind none_waits to octets), now_leave (or_true (not (is_some to))), by_port does keeps p q s (sends_of (reply_to to octets)) did)
+
+  lost_at_once : (why : KeepFault) → (lost : Addr) × (to ≡ Some lost) × (why ≡ fault.Port) × does p (send_failed lost octets) q
+      → (calls : List DeviceCall) × (is_due (not (is_some to)) (behind old to octets) ≡ true) × LeavingFails (behind old to octets) why calls old × Calls calls
+  lost_at_once why l =
+      rw (clear, l.1, l.2) (
+        on_port (send_failed l.0 octets) ∷ [],
+        refl,
+        send_fails [] (record { addr = l.0; octets = octets }) [] refl,
+        (record { port = q; store = s }, (l.3, refl), refl),
+      )
+
+  pub fails_at_once : {A : Type 0} (r : Result A KeepFault) → IfErr r (λ why. (lost : Addr) × (to ≡ Some lost) × (why ≡ fault.Port) × does p (send_failed lost octets) q)
+      → IfErr r (λ why. (calls : List DeviceCall) × (is_due (not (is_some to)) (behind old to octets) ≡ true) × LeavingFails (behind old to octets) why calls old × Calls calls)
+  fails_at_once (Ok done) l = tt
+  fails_at_once (Err why) l = lost_at_once why l
 
 -- ---- a whole turn
 
@@ -57,6 +79,11 @@ module _ {P S : Type 0} (does : P → PortCall → P → Type 0) (keeps : S → 
 
   pub not_received : does p receive_failed q → Chain (DeviceDoes does keeps) (record { port = p; store = s }) (on_port receive_failed ∷ []) (record { port = q; store = s })
   not_received did = (record { port = q; store = s }, (did, refl), refl)
+
+-- the reply behind the append of the change
+pub joined : (took : Took) (old mid : WaitingValue) (to : Option Addr) (out : List ℕ) → reply_in took.turn ≡ reply_to to out → mid ≡ with_change took.change old → behind mid to out ≡ with_reply took old
+joined took old mid to out is mid_is =
+    ap (λ (w : WaitingValue). behind w to out) mid_is ∙ ap (λ (ds : List DatagramValue). record { replies = old.replies ++ ds; is_synced = old.is_synced && not (is_some took.change) }) (sym is)
 
 -- what waits leaves or still waits, after what was taken
 pub passed_so : (took : Took) (idle : Bool) (old mid new : WaitingValue) (calls : List DeviceCall) → is_unanswered took.turn ≡ idle → mid ≡ with_reply took old → Leaves idle mid calls new → Passes old took (taking took ++ calls) new

@@ -4,18 +4,19 @@ use Rattle.nbt_lease.specs.Lease.{Leases, Rows, is_live, leases_at, IsSound}
 use Rattle.nbt_lease.proofs.Common.{filter, NameValue}
 use Rattle.nbt_lease.proofs.Rows.{later_is, same_leases}
 use Rattle.nbt_server.specs.Serving.{ServerValue}
-use Rattle.nbt_server.specs.Calls.{ServerResumes, kept_server}
+use Rattle.nbt_server.specs.Calls.{ServerResumes, kept_server, limited}
 use Rattle.nbt_keep.specs.Changing.{IsKept}
 use Rattle.nbt_keep.proofs.Told.{KeptAt, kept_at}
 
 pub resumes_kept : (was server : ServerValue) (kept : Leases) (rows : Rows) (last now : ℕ) → IsKept kept was → was.last ≤ now → ((name : NameValue) → leases_at now rows name ≡ filter (is_live now) (kept name))
-    → ServerResumes (kept_server was.table.config was.start last rows) now server → ServerResumes was now server
+    → ServerResumes (kept_server was.table.config was.start last rows) now server → ServerResumes was now (limited was.client_rows server)
 resumes_kept was server kept rows last now k onward same r =
     let at : KeptAt now kept (leases_at now was.table.rows) = kept_at kept was now onward k in
     record {
       leases = r.leases ∙ same_leases (leases_at now rows) (leases_at now was.table.rows) (λ name. same name ∙ at.live name);
       start = r.start;
       config = r.config;
+      limit = refl;
       was_called = onward;
       called = r.called;
     }

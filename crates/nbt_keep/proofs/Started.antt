@@ -1,9 +1,11 @@
 -- A server that keeps its leases begins, over this machine.
-use Rattle.std.proofs.Common.{◌≡◌, ℕ, List, Bool, false, length, Option, refl, subst}
+use Rattle.std.proofs.Common.{◌≡◌, ℕ, List, Bool, false, length, Option, Some, refl, subst}
 use Rattle.std.specs.Io.KnownBytes.{Appends}
 use Rattle.nbt_name.specs.declared.addr.Addr.{Addr}
 use Rattle.nbt_port.specs.Clocks.{MachineTells, SteadyTells, SteadyBegins, SystemShows}
-use Rattle.nbt_port.specs.Udp.{UdpValue}
+use Rattle.nbt_port.specs.Udp.{PortsValue}
+use Rattle.nbt_server.specs.Calls.{limited}
+use Rattle.nbt_server.specs.Serving.{ServerValue}
 use Rattle.nbt_nbns.specs.Logging.{LoggerValue}
 use Rattle.nbt_nbns.specs.Keeping.{KeeperValue}
 use Rattle.nbt_nbns.specs.Places.{FileValue}
@@ -18,21 +20,21 @@ use Rattle.nbt_keep.specs.Waiting.{WaitingValue, none_waits}
 use Rattle.nbt_keep.specs.declared.arguments.StateFolder.{StateFolder}
 use Rattle.nbt_keep.specs.declared.beginning.Begun.{Begun}
 
-pub is_at_first : (a : NbnsArguments) (begun : Begun) (monotonic time : ℕ) (text : Option (List ℕ)) (port : UdpValue) (store : Bool) (clock : ℕ) (waiting : WaitingValue) (day shown moment : ℕ) (log : Option LoggerValue)
-    (leases : Option (KeeperValue FileValue)) → port ≡ record { addr = a.bind; failures = 0 } → store ≡ false → clock ≡ monotonic → waiting ≡ none_waits → day ≡ time → shown ≡ 0 → moment ≡ begun.server.last → log ≡ log_of a.log a.broadcasts
+pub is_at_first : (a : NbnsArguments) (begun : Begun) (monotonic time : ℕ) (text : Option (List ℕ)) (port : PortsValue) (store : Bool) (clock : ℕ) (server : ServerValue) (waiting : WaitingValue) (day shown moment : ℕ) (log : Option LoggerValue)
+    (leases : Option (KeeperValue FileValue)) → port ≡ record { bind = a.bind; failures = 0 } → store ≡ false → clock ≡ monotonic → server ≡ limited (Some a.rows_per_client) begun.server → waiting ≡ none_waits → day ≡ time → shown ≡ 0 → moment ≡ begun.server.last → log ≡ log_of a.log a.broadcasts
     → leases ≡ leases_of a.leases
     → ◌≡◌ {A = KeptNbns} (record {
-      keeping = record { port = port; store = store; clock = record { clock = clock; by = begun.header.ahead }; server = begun.server; waiting = waiting };
+      keeping = record { port = port; store = store; clock = record { clock = clock; by = begun.header.ahead }; server = server; waiting = waiting };
       header = begun.header;
       day = day;
       watcher = record { dates = record { moment = moment; time = time }; day = shown; log = log; leases = leases };
       text = text;
     }) (at_first a begun monotonic time text)
-is_at_first a begun monotonic time text port store clock waiting day shown moment log leases p s c w d j m l k = cc
+is_at_first a begun monotonic time text port store clock server waiting day shown moment log leases p s c v w d j m l k = cc
 
 pub begins : (a : NbnsArguments) (state : StateFolder) (goes : (start : ℕ) → KeptNbns → KeptNbns → Type 0) (old_text begun_text text : Option (List ℕ)) (boot monotonic day time : ℕ) (begun : Begun) (here new : KeptNbns)
     → SteadyBegins SystemShows boot → ((read : ℕ) × SteadyTells SystemShows boot monotonic read) → MachineTells day time time → IsFoundHere a.config monotonic time state.silent_after_boot begun
-    → ((at : Addr) × (line : List ℕ) × IsBegin at (manner_of a.config.longest begun.start (dates_of begun time) (length (live_rows begun.server)) begun.reason) line × Appends old_text begun_text line)
+    → ((at : List Addr) × (line : List ℕ) × IsBegin at (manner_of a.config.longest begun.start (dates_of begun time) (length (live_rows begun.server)) begun.reason) line × Appends old_text begun_text line)
     → here ≡ at_first a begun monotonic time begun_text → new.text ≡ text → goes begun.server.last here new → BeginsKept a state goes old_text text
 begins a state goes old_text begun_text text boot monotonic day time begun here new begun_clock told time_told found is_first is text_is run = record {
   at = is_first.0;

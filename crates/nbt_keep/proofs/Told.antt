@@ -1,6 +1,7 @@
 -- What the server did with a datagram, and the change that it is.
-use Rattle.std.proofs.Common.{◌≡◌, ℕ, ◌<◌, ◌≤◌, not, List, [], ◌∷◌, ◌++◌, Option, Some, None, Ok, Err, refl, sym, ap, ◌∙◌, subst, ⊎_elim, arith}
+use Rattle.std.proofs.Common.{◌≡◌, ℕ, ◌<◌, ◌≤◌, Bool, false, not, List, [], ◌∷◌, ◌++◌, Option, Some, None, Ok, Err, refl, sym, ap, ◌∙◌, subst, ⊎_elim, arith}
 use Rattle.std.specs.Prelude.{nat_eq, is_some}
+use Rattle.std.proofs.lemmas.Bool.{false≢true}
 use Rattle.nbt_lease.specs.declared.lease.Lease.{Lease}
 use Rattle.nbt_lease.specs.declared.lease.Grant.{Grant}
 use Rattle.nbt_lease.specs.declared.lease.Released.{Released}
@@ -16,17 +17,18 @@ use Rattle.nbt_lease.proofs.Others.{here}
 use Rattle.nbt_lease.proofs.Cases.{not_none, one_own}
 use Rattle.nbt_packet.specs.declared.message.Registration.{Registration}
 use Rattle.nbt_packet.specs.Message.{MessageValue}
-use Rattle.nbt_server.specs.Serving.{ServerValue, ServesOctets, Serves, asked_in, registers, refuses, refuses_overwrite, releases, refuses_release, finds, finds_none, passes_over, is_silent, is_no_message, serves}
+use Rattle.nbt_server.specs.Serving.{ServerValue, ServesOctets, Serves, asked_in, registers, refuses, refuses_overwrite, releases, refuses_release, finds, finds_none, passes_over, is_silent, is_no_message, turns_away, serves}
 use Rattle.nbt_server.specs.Calls.{ServerHandles, ServerForgets}
 use Rattle.nbt_server.specs.declared.fault.ServerFault.{ServerFault}
 use Rattle.nbt_server.specs.declared.fault.ServerFault.TheVariants.{ClockBack, OutOfMemory}
 use Rattle.nbt_server.specs.Outcomes.{claim, claim_in, grant_outcome, release_outcome, done_by, IsDone, IsUnanswered, no_message, for_nodes, request}
 use Rattle.nbt_server.specs.declared.outcome.Claim.{Claim}
 use Rattle.nbt_server.specs.declared.outcome.Outcome.{Outcome}
+use Rattle.nbt_server.specs.declared.outcome.Outcome.TheVariants as did
 use Rattle.nbt_store.specs.declared.change.Change.{Change}
 use Rattle.nbt_store.specs.declared.change.Change.TheVariants.{Moved}
 use Rattle.nbt_store.specs.Changes.{without, with_end, after}
-use Rattle.nbt_keep.specs.Changing.{IsKept, after_any, changes_leases}
+use Rattle.nbt_keep.specs.Changing.{IsKept, after_any, changes_leases, IsChange}
 use Rattle.nbt_keep.specs.Inner.Telling.{Tells}
 use Rattle.nbt_keep.proofs.Kept.{began_live, began_apart, released_live, moved_live, moved_apart, apart_filtered, live_later}
 
@@ -135,7 +137,9 @@ told_octets : (server : ServerValue) (now ip : ℕ) (octets : List ℕ) (reply :
     → IsDone does outcome → Tells now new outcome change → KeptAt now kept (leases_at now server.table.rows) → KeptAt now (after_any change kept) new
 told_octets server now ip octets reply new kept outcome change (is_silent early) live done tells k = kept_same now kept new new change (silent_none octets now new outcome change done tells) refl k
 told_octets server now ip octets reply new kept outcome change (is_no_message none) live done tells k = kept_same now kept new new change (subst (λ (o : Outcome). Tells now new o change) done tells) refl k
-told_octets server now ip octets reply new kept outcome change (serves m _ _ speaks spelled does) live done tells k =
+told_octets server now ip octets reply new kept outcome change (turns_away m speaks spelled over) live done tells k =
+    kept_same now kept new new change (subst (λ (o : Outcome). Tells now new o change) done tells) refl k
+told_octets server now ip octets reply new kept outcome change (serves m _ _ speaks spelled room does) live done tells k =
     served server.table now ip m reply new kept change does live (subst (λ (o : Outcome). Tells now new o change) done tells) k
 
 pub told : (old new : ServerValue) (now ip : ℕ) (octets out : List ℕ) (outcome : Outcome) (change : Option Change) → ServerHandles old now ip octets outcome out new → Tells now (leases_at now new.table.rows) outcome change
@@ -180,11 +184,39 @@ some_octets : (server : ServerValue) (now ip : ℕ) (octets : List ℕ) (reply :
     → Tells now new outcome change → is_some change ≡ changes_leases outcome
 some_octets server now ip octets reply new outcome change (is_silent early) done tells = some_silent octets now new outcome change done tells
 some_octets server now ip octets reply new outcome change (is_no_message none) done tells = ap is_some (subst (λ (o : Outcome). Tells now new o change) done tells) ∙ ap changes_leases (sym done)
-some_octets server now ip octets reply new outcome change (serves m _ _ speaks spelled does) done tells =
+some_octets server now ip octets reply new outcome change (turns_away m speaks spelled over) done tells = ap is_some (subst (λ (o : Outcome). Tells now new o change) done tells) ∙ ap changes_leases (sym done)
+some_octets server now ip octets reply new outcome change (serves m _ _ speaks spelled room does) done tells =
     some_served server.table now ip m reply new change does (subst (λ (o : Outcome). Tells now new o change) done tells) ∙ ap changes_leases (sym done)
 
 pub some_told : (old new : ServerValue) (now ip : ℕ) (octets out : List ℕ) (outcome : Outcome) (change : Option Change) → ServerHandles old now ip octets outcome out new → Tells now (leases_at now new.table.rows) outcome change → is_some change ≡ changes_leases outcome
 some_told old new now ip octets out outcome change h tells = some_octets old now ip octets h.reply (leases_at now new.table.rows) outcome change h.takes.serves h.done tells
+
+-- ---- so that change, or none, is what it changed
+
+pub is_change : (outcome : Outcome) (new : ServerValue) (change : Option Change) → Tells new.last (leases_at new.last new.table.rows) outcome change → IsChange outcome new change
+is_change outcome new change tells = record {
+  keeps = λ old now ip octets out h. told old new now ip octets out outcome change h (tells_at now h.takes.last);
+  some = λ old now ip octets out h. some_told old new now ip octets out outcome change h (tells_at now h.takes.last);
+}
+  where
+    tells_at : (now : ℕ) → new.last ≡ now → Tells now (leases_at now new.table.rows) outcome change
+    tells_at now is = subst (λ (n : ℕ). Tells n (leases_at n new.table.rows) outcome change) is tells
+
+tells_none : (now : ℕ) (leases : Leases) (outcome : Outcome) → changes_leases outcome ≡ false → Tells now leases outcome None
+tells_none now leases (did.Granted claim seconds) none = absurd (false≢true (sym none))
+tells_none now leases (did.Renewed claim seconds) none = absurd (false≢true (sym none))
+tells_none now leases (did.Released claim) none = absurd (false≢true (sym none))
+tells_none now leases (did.Refused claim refusal) none = refl
+tells_none now leases (did.NotLeased claim) none = refl
+tells_none now leases (did.NotReleased claim refusal) none = refl
+tells_none now leases (did.Found name) none = refl
+tells_none now leases (did.NotFound name) none = refl
+tells_none now leases (did.Silent name) none = refl
+tells_none now leases did.ForNodes none = refl
+tells_none now leases did.NoMessage none = refl
+
+pub no_change : (outcome : Outcome) (new : ServerValue) → changes_leases outcome ≡ false → IsChange outcome new None
+no_change outcome new none = is_change outcome new None (tells_none new.last (leases_at new.last new.table.rows) outcome none)
 
 -- ---- a refusal
 

@@ -2,9 +2,9 @@
 use Rattle.std.specs.Prelude.{◌≡◌, ℕ, ◌==◌, if◌then◌else◌, List, ◌++◌, codes}
 use Rattle.std.specs.Fmt.{decimal}
 use Rattle.nbt_name.specs.declared.addr.Addr.{Addr}
-use Rattle.nbt_text.specs.Address.{address_text}
 use Rattle.nbt_text.specs.Lines.{newline}
 use Rattle.nbt_log.specs.Dates.{IsTimeText}
+use Rattle.nbt_nbns.specs.Begin.{addresses_text}
 use Rattle.nbt_store.specs.declared.fault.Fault.{Fault}
 use Rattle.nbt_store.specs.declared.fault.Fault.TheVariants.{Empty, Version, Damaged}
 use Rattle.nbt_store.specs.declared.silence.Silence.{Silence}
@@ -51,5 +51,5 @@ IsManner (manner.Waits count silent until) text = (silence : List ℕ) × IsSile
 IsManner (manner.Silent silent until reason) text = (silence : List ℕ) × IsSilence silent until silence × (text ≡ silence ++ codes ", since " ++ reason_text reason)
 
 -- where it serves, and how it begins
-abbrev pub IsBegin : Addr → Manner → List ℕ → Type 0
-IsBegin at manner line = (text : List ℕ) × IsManner manner text × (line ≡ codes "serving " ++ address_text at ++ text ++ newline)
+abbrev pub IsBegin : (at : List Addr) → Manner → List ℕ → Type 0
+IsBegin at manner line = (text : List ℕ) × IsManner manner text × (line ≡ codes "serving " ++ addresses_text at ++ text ++ newline)

@@ -6,11 +6,12 @@ use Rattle.nbt_port.specs.Clocks.{MachineTells, SteadyTells, SteadyBegins, Syste
 use Rattle.nbt_port.specs.Numbers.{forever}
 use Rattle.nbt_port.specs.PortCalls.{PortCall}
 use Rattle.nbt_port.specs.Staying.{StaysUntil, EndsEarly}
-use Rattle.nbt_port.specs.Udp.{UdpValue}
+use Rattle.nbt_port.specs.Udp.{PortsValue}
 use Rattle.nbt_port.specs.Until.{until_of}
 use Rattle.nbt_port.specs.declared.ahead.Ahead.{Ahead}
 use Rattle.nbt_port.specs.declared.fault.Fault.{Fault}
 use Rattle.nbt_log.specs.declared.dates.Dates.{Dates}
+use Rattle.nbt_server.specs.Calls.{limited}
 use Rattle.nbt_nbns.specs.Journaling.{Journals}
 use Rattle.nbt_nbns.specs.Places.{FileValue, Stays}
 use Rattle.nbt_nbns.specs.Running.{PortDoes, RunsNbns, NbnsFails, log_of, leases_of}
@@ -30,16 +31,16 @@ use Rattle.nbt_keep.specs.declared.fault.KeepFault.TheVariants as fault
 
 -- what goes on: a port, a folder, a clock that goes on over boots and a server of this machine, and the journal
 abbrev pub KeptNbns : Type 0
-KeptNbns = Staying UdpValue Bool (Ahead ℕ) ℕ (Journal ℕ FileValue)
+KeptNbns = Staying PortsValue Bool (Ahead ℕ) ℕ (Journal ℕ FileValue)
 
 -- the moment and the time of day at which a server begins
 abbrev pub dates_of : Begun → (time : ℕ) → Dates
 dates_of begun time = record { moment = begun.server.last; time = time }
 
--- what a server is at first that begins so, at this time of the monotonic clock and this time of day
+-- what a server is at first that begins so, at this time of the monotonic clock and this time of day: it limits its clients
 abbrev pub at_first : NbnsArguments → Begun → (monotonic time : ℕ) → Option (List ℕ) → KeptNbns
 at_first a begun monotonic time text = record {
-  keeping = record { port = record { addr = a.bind; failures = 0 }; store = false; clock = record { clock = monotonic; by = begun.header.ahead }; server = begun.server; waiting = none_waits };
+  keeping = record { port = record { bind = a.bind; failures = 0 }; store = false; clock = record { clock = monotonic; by = begun.header.ahead }; server = limited (Some a.rows_per_client) begun.server; waiting = none_waits };
   header = begun.header;
   day = time;
   watcher = record { dates = dates_of begun time; day = 0; log = log_of a.log a.broadcasts; leases = leases_of a.leases };
@@ -48,7 +49,7 @@ at_first a begun monotonic time text = record {
 
 -- The clocks are read, a server begins with what is found, the first line is printed, and the server goes on from there.
 pub record BeginsKept (a : NbnsArguments) (state : StateFolder) (goes : (start : ℕ) → KeptNbns → KeptNbns → Type 0) (old_text text : Option (List ℕ)) : Type 0 where
-  pub at : Addr
+  pub at : List Addr
   pub boot : ℕ
   pub monotonic : ℕ
   pub day : ℕ

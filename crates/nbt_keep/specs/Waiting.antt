@@ -13,11 +13,6 @@ batch = 64
 abbrev pub value_of : Reply → DatagramValue
 value_of reply = record { addr = reply.to; octets = reply.octets.items }
 
--- a reply, where there is one
-abbrev pub reply_where : (is_one : Bool) → Reply → List DatagramValue
-reply_where true reply = value_of reply ∷ []
-reply_where false reply = []
-
 -- the replies that wait, in the order of their datagrams, and whether all changes are durable
 pub record WaitingValue : Type 0 where
   pub replies : List DatagramValue

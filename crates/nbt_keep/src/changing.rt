@@ -1,56 +1,32 @@
 //! What a datagram changes in the leases of a server.
 
-ghost use Rattle.std.specs.Prelude.{◌≡◌, ◌<◌, ◌≤◌, ◌↔◌, [], Some, None, is_some, IfOk, OnErr, IsErrOf, MatchOption};
+ghost use Rattle.std.specs.Prelude.{◌≡◌, ◌≤◌, [], Some};
 ghost use Rattle.nbt_lease.specs.Config.{milliseconds};
-ghost use Rattle.nbt_lease.specs.Lease.{Leases, leases_at, IsSound};
-ghost use Rattle.nbt_server.specs.Calls.{ServerHandles, ServerForgets};
-ghost use Rattle.nbt_keep.specs.Changing.{IsKept, after_any, changes_leases};
+ghost use Rattle.nbt_lease.specs.Lease.{leases_at};
+ghost use Rattle.nbt_keep.specs.Changing.{IsChange, changes_leases};
 ghost use Rattle.nbt_keep.specs.Inner.Telling.{Tells, TellsMove};
 
-use arrayvec::ArrayVec;
 use nbt_lease::{Lease, Moment, Table};
-use nbt_name::Addr;
-use nbt_server::{Claim, Outcome, Server, ServerFault};
+use nbt_server::{Claim, Outcome, Server};
 use nbt_store::Change;
 
-/// What a server did with a datagram, and what it changed.
-#[derive(Debug, PartialEq, Eq, Drop)]
-pub struct Handled {
-    /// What the server did.
-    pub outcome: Outcome,
-    /// What it changed in the leases; `None` if nothing.
-    pub change: Option<Change>,
-}
-
-/// Handles a datagram as [`Server::handle`] does, with the same refusals, and says what it changed in the leases: that a lease
-/// began, that it has this expiry from now on, or that it was released. A renewal is such a change also where the expiry stays.
-/// Whatever was kept of the server's leases has them after that change; after a refusal it has them as it is.
-pub fn handle_telling(
-    server: &mut Server,
-    now: Moment,
-    from: Addr,
-    octets: &[u8],
-    out: &mut ArrayVec<u8, 576>,
-) -> Result<Handled, ServerFault>
-    ensures handled { IfOk result (λ handled. ServerHandles server.old now from.ip octets.now handled.outcome out.new.items server.new) }
-    ensures kept { IfOk result (λ handled. (kept : Leases) → IsKept kept server.old → IsKept (after_any handled.change kept) server.new) }
-    ensures change { IfOk result (λ handled. is_some handled.change ≡ changes_leases handled.outcome) }
-
-    // When it is refused, and what that leaves.
-    ensures clock_back { IsErrOf result ServerFault.ClockBack ↔ (now < server.old.last) }
-    ensures unchanged { IsErrOf result ServerFault.ClockBack → server.new ≡ server.old }
-    ensures memory { IsErrOf result ServerFault.OutOfMemory → ServerForgets server.old now from.ip octets.now server.new }
-    ensures empty { OnErr result (out.new.items ≡ []) }
-    ensures left { OnErr result ((kept : Leases) → IsKept kept server.old → IsKept kept server.new) }
+/// What a server changed in the leases by the datagram that it handled last, by what it did with it: that a lease began, that it has
+/// this expiry from now on, or that it was released; `None` if nothing. A renewal is such a change also where the expiry stays.
+/// Whatever was kept of the server's leases before has them after that change.
+pub fn change_of(server: &Server, outcome: &Outcome) -> Option<Change>
+    ensures { IsChange outcome.now server.now result }
 {
     nbt_lease::laws::later_leases_live_now();
-    let _ = server.last();
-    match server.handle(now, from, octets, out) {
-        Ok(outcome) => {
-            let change = change_by(&outcome, now, server.table());
-            Ok(Handled { outcome, change })
-        }
-        Err(fault) => Err(fault),
+    change_by(outcome, server.last(), server.table())
+}
+
+/// Whether the server changed a lease.
+pub(crate) fn changes_leases(outcome: &Outcome) -> bool
+    ensures { result ≡ changes_leases outcome.now }
+{
+    match outcome {
+        Outcome::Granted(_, _) | Outcome::Renewed(_, _) | Outcome::Released(_) => true,
+        _ => false,
     }
 }
 

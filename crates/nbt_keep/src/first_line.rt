@@ -7,8 +7,9 @@ ghost use Rattle.nbt_keep.specs.Begin.{IsBegin, IsManner, IsSilence, fault_text,
 use crate::resuming::Reason;
 use nbt_log::write_time;
 use nbt_name::Addr;
+use nbt_nbns::write_addresses;
 use nbt_store::{Fault, Silence};
-use nbt_text::{end_line, write_address};
+use nbt_text::end_line;
 use std::alloc::AllocError;
 
 /// How a server begins that keeps its leases. A time is a second since 1970.
@@ -24,11 +25,11 @@ pub enum Manner {
 
 /// Appends where a server serves, and how it begins: as `serving 0.0.0.0:137, with 17 leases kept`, then maybe `, silent for 120 s
 /// until 2026-11-24T09:17:03Z`; or as `serving 0.0.0.0:137, silent for 300 s until 2026-11-24T09:17:03Z, since nothing was kept`.
-pub fn write_begin(at: Addr, manner: Manner, out: &mut String) -> Result<(), AllocError>
-    ensures { OnOk result ((line : List ℕ) × IsBegin at manner line × (string_bytes out.new ≡ string_bytes out.old ++ line)) }
+pub fn write_begin(at: &[Addr], manner: Manner, out: &mut String) -> Result<(), AllocError>
+    ensures { OnOk result ((line : List ℕ) × IsBegin at.now manner line × (string_bytes out.new ≡ string_bytes out.old ++ line)) }
 {
     out.push_str("serving ")?;
-    write_address(at, out)?;
+    write_addresses(at, out)?;
     write_manner(manner, out)?;
     end_line(out)
 }

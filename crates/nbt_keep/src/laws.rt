@@ -4,7 +4,7 @@ ghost use Rattle.std.specs.Prelude.{◌≡◌, ℕ, ◌≤◌, filter};
 ghost use Rattle.nbt_name.specs.Wire.{NameValue};
 ghost use Rattle.nbt_lease.specs.Lease.{Leases, Rows, is_live, leases_at};
 ghost use Rattle.nbt_server.specs.Serving.{ServerValue};
-ghost use Rattle.nbt_server.specs.Calls.{ServerResumes, kept_server};
+ghost use Rattle.nbt_server.specs.Calls.{ServerResumes, kept_server, limited};
 ghost use Rattle.nbt_store.specs.Changes.{after_all, begun_all, no_leases};
 ghost use Rattle.nbt_keep.specs.Changing.{IsKept};
 ghost use Rattle.nbt_keep.specs.Waiting.{batch};
@@ -13,10 +13,11 @@ ghost use Rattle.nbt_keep.specs.Runs.{live_rows, NoReplyPrecedesItsChange, Crash
 use crate::waiting::BATCH;
 
 /// A server that crashed may resume with any rows that have what lives of its kept leases, with its own start and limits, once
-/// its clock reads no less than at its last datagram: the server made of them is one that it resumes as.
+/// its clock reads no less than at its last datagram: the server made of them, with its limit of clients again, is one that it
+/// resumes as.
 pub fn what_is_kept_resumes()
     ensures { (was server : ServerValue) (kept : Leases) (rows : Rows) (last now : ℕ) → IsKept kept was → was.last ≤ now → ((name : NameValue) → leases_at now rows name ≡ filter (is_live now) (kept name))
-        → ServerResumes (kept_server was.table.config was.start last rows) now server → ServerResumes was now server }
+        → ServerResumes (kept_server was.table.config was.start last rows) now server → ServerResumes was now (limited was.client_rows server) }
 {}
 
 /// Whenever a reply of a run is sent, all changes that were appended before are durable: so is what the reply says.

@@ -19,7 +19,7 @@ mod waiting;
 
 pub use arguments::{ServerArguments, StateFolder};
 pub use beginning::{Begun, begin, manner_of};
-pub use changing::{Handled, handle_telling};
+pub use changing::change_of;
 pub use fault::KeepFault;
 pub use first_line::{Manner, write_begin, write_reason};
 pub use folder::FolderStore;

@@ -5,7 +5,7 @@ ghost use Rattle.std.specs.Io.KnownBytes.{Appends};
 ghost use Rattle.nbt_nbns.specs.Running.{NbnsFails, PortDoes};
 ghost use Rattle.nbt_port.specs.Numbers.{forever};
 ghost use Rattle.nbt_port.specs.Staying.{StaysUntil, EndsEarly};
-ghost use Rattle.nbt_port.specs.Udp.{UdpValue};
+ghost use Rattle.nbt_port.specs.Udp.{PortsValue};
 ghost use Rattle.nbt_keep.specs.Begin.{IsBegin};
 ghost use Rattle.nbt_keep.specs.Beginning.{manner_of};
 ghost use Rattle.nbt_keep.specs.Running.{KeptFails, RunsKept, RunsServer};
@@ -26,8 +26,8 @@ use nbt_log::Dates;
 use nbt_name::Addr;
 use nbt_nbns::{Journal, NbnsArguments, SambaPort, Watcher, leases_of, log_of, run_nbns};
 use nbt_port::{
-    Ahead, Clock, Fault, MachineClock, Port, UdpPort, bound_port, local_of, print, readable_clock,
-    steady_clock, tell_end_of, until_of,
+    Ahead, Clock, Fault, MachineClock, Port, UdpPorts, print, readable_clock, steady_clock,
+    tell_end_of, until_of,
 };
 use nbt_server::Server;
 use nbt_store::{Header, Store};
@@ -38,9 +38,9 @@ use std::net::Net;
 use std::rt::Files;
 use std::{io, time};
 
-/// Runs a name server on a UDP port of this system, over the monotonic clock. Without a state it is [`run_nbns`].
+/// Runs a name server on UDP ports of this system, over the monotonic clock. Without a state it is [`run_nbns`].
 ///
-/// With one it binds the port, locks the folder, reads the boot, the clocks and the file, and goes on with what was kept or begins
+/// With one it binds the ports, locks the folder, reads the boot, the clocks and the file, and goes on with what was kept or begins
 /// anew, as [`crate::begin`] decides. It writes the file of its leases, prints where it serves, how many leases were kept, for how
 /// long it is silent and why, and stays up as [`keep_on`] does, by a clock that goes on over boots. Refused as [`run_nbns`]; and
 /// with `Store` where the folder can't be used, read or written at the start, or later: a line in `errors` says why.
@@ -74,9 +74,9 @@ fn run_kept<M: Net + time::Clock + Files<File = File>, W: Write, E: Write>(
     ensures port { result ≡ Err Fault.NoPort → W.contents writer.new ≡ W.contents writer.old }
     ensures clock { result ≡ Err Fault.NoClock → W.contents writer.new ≡ W.contents writer.old }
 {
-    let port = bound_port(machine, arguments.bind, errors)?;
-    let mut clock = steady_clock(machine, arguments.bind, errors)?;
-    let mut day = readable_clock(machine, arguments.bind, errors)?;
+    let port = UdpPorts::bind(machine, alloc, &arguments.bind, errors)?;
+    let mut clock = steady_clock(machine, arguments.bind.first(), errors)?;
+    let mut day = readable_clock(machine, arguments.bind.first(), errors)?;
     let folder = state.path.as_str();
     let disk = open_disk(machine, alloc, folder, errors)?;
     let monotonic = clock.now();
@@ -98,9 +98,10 @@ fn run_kept<M: Net + time::Clock + Files<File = File>, W: Write, E: Write>(
     };
     let leases = leases_of(machine, alloc, &arguments.leases, errors)?;
     let waiting = Waiting::new(alloc)?;
+    let at = port.addresses()?;
     tell_begin(
         alloc,
-        local_of(&port),
+        at.as_slice(),
         arguments.config.longest(),
         &begun,
         &dates,
@@ -115,6 +116,8 @@ fn run_kept<M: Net + time::Clock + Files<File = File>, W: Write, E: Write>(
         leases,
     };
     let until = until_of(dates.moment, arguments.time);
+    let mut server = begun.server;
+    server.limit_clients(arguments.rows_per_client);
     let kept = KeptServer {
         store: opened.store,
         clock: Ahead {
@@ -122,7 +125,7 @@ fn run_kept<M: Net + time::Clock + Files<File = File>, W: Write, E: Write>(
             by: begun.header.ahead,
         },
         day,
-        server: begun.server,
+        server,
         waiting,
         header: begun.header,
         journal,
@@ -143,7 +146,7 @@ fn run_kept<M: Net + time::Clock + Files<File = File>, W: Write, E: Write>(
 /// written, and a line in `errors` says why.
 fn tell_begin<W: Write, E: Write>(
     alloc: Global,
-    at: Addr,
+    at: &[Addr],
     longest: u32,
     begun: &Begun,
     dates: &Dates,
@@ -151,7 +154,7 @@ fn tell_begin<W: Write, E: Write>(
     writer: &mut W,
     errors: &mut E,
 ) -> Result<(), Fault>
-    ensures ok { OnOk result ((line : List ℕ) × IsBegin at (manner_of longest begun.now.start dates.now count begun.now.reason) line × Appends (W.contents writer.old) (W.contents writer.new) line) }
+    ensures ok { OnOk result ((line : List ℕ) × IsBegin at.now (manner_of longest begun.now.start dates.now count begun.now.reason) line × Appends (W.contents writer.old) (W.contents writer.new) line) }
     ensures err { IfErr result (λ fault. (fault ≡ Fault.Output) ⊎ ((fault ≡ Fault.Memory) × (W.contents writer.new ≡ W.contents writer.old))) }
 {
     let manner = manner_of(longest, begun.start, dates, count, begun.reason);
@@ -190,11 +193,11 @@ fn keep_over<
     C: Clock + Drop,
     D: Clock + Drop,
     V: Watcher + Drop,
-    M: time::Clock,
+    M: Net + time::Clock + Files,
     W: Write,
     E: Write,
 >(
-    port: UdpPort,
+    port: UdpPorts<'_, M>,
     strict: bool,
     kept: KeptServer<S, C, D, V>,
     until: Option<Moment>,
@@ -205,12 +208,12 @@ fn keep_over<
 ) -> Result<(), Fault>
     requires failure_count { port.failures ≤ 2 ^ 61 }
     requires room { length kept.waiting.replies < batch }
-    ensures ok { OnOk result ((last_port : UdpValue) × (last : Kept S C D V) × StaysUntil (WatchesOn (PortDoes strict) S.does C.tells D.tells V.sees until)
+    ensures ok { OnOk result ((last_port : PortsValue) × (last : Kept S C D V) × StaysUntil (WatchesOn (PortDoes strict) S.does C.tells D.tells V.sees until)
         (BreaksStaying (PortDoes strict) S.does C.tells D.tells V.sees fault.Port) (WatchesLast (PortDoes strict) S.does C.tells D.tells V.sees until) forever
-        (staying_of port kept (W.contents writer.old)) (staying_of last_port last (W.contents writer.new))) }
-    ensures err { IfErr result (λ why. (last_port : UdpValue) × (last : Kept S C D V) × EndsEarly (WatchesOn (PortDoes strict) S.does C.tells D.tells V.sees until)
+        (staying_of port.entry kept (W.contents writer.old)) (staying_of last_port last (W.contents writer.new))) }
+    ensures err { IfErr result (λ why. (last_port : PortsValue) × (last : Kept S C D V) × EndsEarly (WatchesOn (PortDoes strict) S.does C.tells D.tells V.sees until)
         (BreaksStaying (PortDoes strict) S.does C.tells D.tells V.sees fault.Port) (CutsStaying (PortDoes strict) S.does C.tells D.tells V.sees) forever why
-        (staying_of port kept (W.contents writer.old)) (staying_of last_port last (W.contents writer.new))) }
+        (staying_of port.entry kept (W.contents writer.old)) (staying_of last_port last (W.contents writer.new))) }
 {
     let mut kept = kept;
     if strict {

@@ -25,8 +25,8 @@ use std::io::Write;
 use std::{io, time};
 
 /// The server goes through turns as [`crate::keep_turn`] has them until the moment `until`, if there is one, and no reply waits, and
-/// through 2^61 of them at most. It stays up when the port fails, as [`stay_up`] says. After each turn that went well the clock is
-/// read, the watcher is shown what the turn was, and where no reply waits the store is looked after: the live leases are written anew
+/// through 2^61 of them at most. It stays up when the port fails, as [`stay_up`] says. What changed at the port is said in `errors` after each turn.
+/// After one that went well the clock is read, the watcher is shown what the turn was, and where no reply waits the store is looked after: the live leases are written anew
 /// in place of all changes, where the file has several times as many lines as leases with which it was written, or the time of day that `day` tells
 /// is more than 2,000 ms from what `header` expects, since that clock was set. `header` is that of the file, and has the moment and
 /// the time of day of the last such writing afterwards; `waiting` has no reply at first.
@@ -80,6 +80,7 @@ pub fn keep_on<
         writer,
         rows: &mut rows,
         octets: ArrayVec::new(),
+        reply: ArrayVec::new(),
     };
     stay_up(&mut turn, FOREVER, machine, errors)
 }
@@ -99,6 +100,7 @@ struct KeptTurn<'p, 't, 'c, 'd, 's, 'r, 'h, 'v, 'w, 'b, P, S, C, D, V, W> {
     writer: &'w mut W,
     rows: &'b mut Vec<(Name, Lease)>,
     octets: ArrayVec<u8, 2048>,
+    reply: ArrayVec<u8, 576>,
     ghost room: { length waiting.now.replies < batch },
 }
 
@@ -136,14 +138,19 @@ impl<P: Port, S: Store, C: Clock, D: Clock, V: Watcher, W: Write> Turn
             self.server,
             self.waiting,
             &mut self.octets,
+            &mut self.reply,
         ) {
             Ok(shown) => shown,
-            Err(KeepFault::Port) => return Turned::Failed(self.port.cause()),
+            Err(KeepFault::Port) => {
+                self.port.tell_changes(errors);
+                return Turned::Failed(self.port.cause());
+            }
             Err(KeepFault::Store) => {
                 tell_store(self.store, errors);
                 return Turned::CutOff(Fault::Store);
             }
         };
+        self.port.tell_changes(errors);
         self.watcher.see(self.server, &shown, self.writer, errors);
         after_turn(
             self.store,
@@ -204,6 +211,7 @@ fn turn_and_moment<P: Port, S: Store, C: Clock>(
     server: &mut Server,
     waiting: &mut Waiting,
     octets: &mut ArrayVec<u8, 2048>,
+    reply: &mut ArrayVec<u8, 576>,
 ) -> Result<Shown, KeepFault>
     requires failure_count { P.failures port.old < 2 ^ 62 }
     requires room { length waiting.old.replies < batch }
@@ -217,7 +225,7 @@ fn turn_and_moment<P: Port, S: Store, C: Clock>(
     ensures room { length waiting.new.replies < batch }
     ensures count { P.failures port.new ≤ P.failures port.old + 1 }
 {
-    let entry = keep_turn(port, clock, store, server, waiting, octets)?;
+    let entry = keep_turn(port, clock, store, server, waiting, octets, reply)?;
     Ok(Shown {
         entry,
         at: clock.now(),

@@ -1,31 +1,30 @@
 //! One turn of a server that keeps its leases.
 
-ghost use Rattle.std.specs.Prelude.{◌≡◌, ◌<◌, ◌≤◌, ◌+◌, ◌++◌, ◌^◌, ◌&&◌, not, length, is_some, Ok, IfOk, OnOk, OnErr, IfErr};
-ghost use Rattle.nbt_log.specs.Kinds.{entry_of};
+ghost use Rattle.std.specs.Prelude.{◌≡◌, ◌<◌, ◌≤◌, ◌+◌, ◌^◌, not, length, Option, Some, is_some, Ok, IfOk, OnOk, OnErr, IfErr};
 ghost use Rattle.nbt_port.specs.PortCalls.{came, receiving, CountsFailure, Chain};
-ghost use Rattle.nbt_server.specs.Outcomes.{has_reply};
 ghost use Rattle.nbt_store.specs.Calls.{append_failed};
 ghost use Rattle.nbt_store.specs.declared.change.Change.{Change as ChangeValue};
 ghost use Rattle.nbt_nbns.specs.Serving.{Turn, moments_in, IsLogged};
-ghost use Rattle.nbt_keep.specs.Waiting.{batch, dropped, reply_where};
-ghost use Rattle.nbt_keep.specs.Inner.Passing.{lacks_reply};
-ghost use Rattle.nbt_keep.specs.Turning.{Took, Takes, changes_in, receive_in, is_unanswered, appends_of, with_reply, KeepsTurn, BreaksKeeping};
+ghost use Rattle.nbt_keep.specs.Changing.{IsChange};
+ghost use Rattle.nbt_keep.specs.Waiting.{batch, dropped};
+ghost use Rattle.nbt_keep.specs.Inner.Passing.{goes_to, reply_to, with_change};
+ghost use Rattle.nbt_keep.specs.Turning.{Took, Takes, changes_in, reply_in, receive_in, is_unanswered, appends_of, KeepsTurn, BreaksKeeping};
 
-use crate::changing::{Handled, handle_telling};
+use crate::changing::{change_of, changes_leases};
 use crate::fault::KeepFault;
-use crate::waiting::{Reply, Waiting};
+use crate::waiting::Waiting;
 use arrayvec::ArrayVec;
 use nbt_log::Entry;
 use nbt_name::Addr;
 use nbt_port::{Clock, Device, Port};
-use nbt_server::Server;
-use nbt_store::{Broken, Change, Store};
+use nbt_server::{Outcome, Server};
+use nbt_store::{Broken, Store};
 
 /// The server goes through one turn. It receives a datagram, and waits for it where no reply waits. Where one came, it reads the
 /// clock, handles the datagram at that time, has the store append what that changed, and the reply waits with those before it.
 /// Then all replies leave, where the turn has no reply, or all changes are durable, or 64 wait: changes that aren't durable first become
 /// so. Returns what the server did; `None` where nothing came, and where the datagram was lost as [`nbt_nbns::serve_turns`] says.
-/// `octets` is a buffer of the turn.
+/// `octets` and `reply` are buffers of the turn.
 ///
 /// Refused with `Port` at a receive that fails, and at a send that fails: that reply is lost, and those behind it still wait.
 /// Refused with `Store` at an append or a sync that fails: all replies are dropped, and the caller must end the server.
@@ -36,6 +35,7 @@ pub fn keep_turn<P: Port, C: Clock, S: Store>(
     server: &mut Server,
     waiting: &mut Waiting,
     octets: &mut ArrayVec<u8, 2048>,
+    reply: &mut ArrayVec<u8, 576>,
 ) -> Result<Option<Entry>, KeepFault>
     requires failure_count { P.failures port.old < 2 ^ 62 }
     requires room { length waiting.old.replies < batch }
@@ -49,20 +49,28 @@ pub fn keep_turn<P: Port, C: Clock, S: Store>(
     ensures count { P.failures port.new ≤ P.failures port.old + 1 }
 {
     let came = receive(port, waiting.is_empty(), octets)?;
-    let entry = take_any(clock, store, server, waiting, came, octets.as_slice())?;
-    match waiting.leave_where_due(lacks_reply(&entry), port, store) {
+    let entry = take_any(
+        clock,
+        store,
+        server,
+        waiting,
+        came,
+        octets.as_slice(),
+        reply,
+    )?;
+    match waiting.pass(goes_to(&entry), reply, port, store) {
         Ok(()) => Ok(entry),
         Err(why) => Err(why),
     }
 }
 
-/// Whether there is no reply in a turn of which this is what the server did.
-fn lacks_reply(entry: &Option<Entry>) -> bool
-    ensures { result ≡ lacks_reply entry.now }
+/// To whom the reply of a turn goes, if it has one, by what the server did.
+fn goes_to(entry: &Option<Entry>) -> Option<Addr>
+    ensures { result ≡ goes_to entry.now }
 {
     match entry {
-        Some(entry) => !entry.outcome.has_reply(),
-        None => true,
+        Some(entry) if entry.outcome.has_reply() => Some(entry.from),
+        _ => None,
     }
 }
 
@@ -91,24 +99,23 @@ fn take_any<C: Clock, S: Store>(
     waiting: &mut Waiting,
     came: Option<Addr>,
     octets: &[u8],
+    reply: &mut ArrayVec<u8, 576>,
 ) -> Result<Option<Entry>, Broken>
-    requires room { length waiting.old.replies < batch }
     ensures ok { IfOk result (λ entry. (took : Took) × (takes : Takes server.old took server.new) × IsLogged takes.server entry × (is_some took.change ≡ changes_in entry)
-        × (receive_in took.turn ≡ receiving (Ok came) octets.now) × (is_unanswered took.turn ≡ lacks_reply entry) × Chain S.does store.old (appends_of took.change) store.new × Chain C.tells clock.old (moments_in took.turn) clock.new
-        × (waiting.new ≡ with_reply took waiting.old)) }
+        × (receive_in took.turn ≡ receiving (Ok came) octets.now) × (is_unanswered took.turn ≡ not (is_some (goes_to entry))) × (reply_in took.turn ≡ reply_to (goes_to entry) reply.new.items)
+        × Chain S.does store.old (appends_of took.change) store.new × Chain C.tells clock.old (moments_in took.turn) clock.new × (waiting.new ≡ with_change took.change waiting.old)) }
     ensures err { OnErr result ((turn : Turn) × (change : ChangeValue) × Takes server.old (record { turn = turn; change = Some change }) server.new
         × (receive_in turn ≡ receiving (Ok came) octets.now) × S.does store.old (append_failed change) store.new × Chain C.tells clock.old (moments_in turn) clock.new
         × (waiting.new ≡ dropped)) }
-    ensures few { length waiting.new.replies ≤ batch }
 {
     match came {
-        Some(from) => take(clock, store, server, waiting, from, octets),
+        Some(from) => take(clock, store, server, waiting, from, octets, reply),
         None => Ok(None),
     }
 }
 
-/// Takes a datagram: handles it, has the store append what that changed, and the reply waits. Returns what the server did; `None`
-/// where the datagram was lost. Refused with `Broken` if the store fails: the replies are dropped.
+/// Takes a datagram: handles it, and has the store append what that changed. Returns what the server did; `None` where the datagram was
+/// lost. `reply` then has the reply, if there is one. Refused with `Broken` if the store fails: the replies are dropped.
 fn take<C: Clock, S: Store>(
     clock: &mut C,
     store: &mut S,
@@ -116,69 +123,41 @@ fn take<C: Clock, S: Store>(
     waiting: &mut Waiting,
     from: Addr,
     octets: &[u8],
+    reply: &mut ArrayVec<u8, 576>,
 ) -> Result<Option<Entry>, Broken>
-    requires room { length waiting.old.replies < batch }
     ensures ok { IfOk result (λ entry. (took : Took) × (takes : Takes server.old took server.new) × IsLogged takes.server entry × (is_some took.change ≡ changes_in entry)
-        × (receive_in took.turn ≡ came from octets.now) × (is_unanswered took.turn ≡ lacks_reply entry) × Chain S.does store.old (appends_of took.change) store.new × Chain C.tells clock.old (moments_in took.turn) clock.new
-        × (waiting.new ≡ with_reply took waiting.old)) }
+        × (receive_in took.turn ≡ came from octets.now) × (is_unanswered took.turn ≡ not (is_some (goes_to entry))) × (reply_in took.turn ≡ reply_to (goes_to entry) reply.new.items)
+        × Chain S.does store.old (appends_of took.change) store.new × Chain C.tells clock.old (moments_in took.turn) clock.new × (waiting.new ≡ with_change took.change waiting.old)) }
     ensures err { OnErr result ((turn : Turn) × (change : ChangeValue) × Takes server.old (record { turn = turn; change = Some change }) server.new
         × (receive_in turn ≡ came from octets.now) × S.does store.old (append_failed change) store.new × Chain C.tells clock.old (moments_in turn) clock.new
         × (waiting.new ≡ dropped)) }
-    ensures few { length waiting.new.replies ≤ batch }
 {
     let now = clock.now();
-    let mut reply = Reply {
-        to: from,
-        octets: ArrayVec::new(),
-    };
-    match handle_telling(server, now, from, octets, &mut reply.octets) {
-        Ok(handled) => keep(store, waiting, reply, handled, octets),
+    match server.handle(now, from, octets, reply) {
+        Ok(outcome) => {
+            append_change(store, waiting, server, &outcome)?;
+            Ok(Some(Entry::of(from, octets, outcome)))
+        }
         Err(_) => Ok(None),
     }
 }
 
-/// Has the store append what changed, if something did, and the reply waits, if there is one. Returns what the server did. Refused
-/// with `Broken` if the store fails: the replies are dropped.
-fn keep<S: Store>(
+/// Has the store append what the server changed by the datagram that it handled last, if it changed something. Refused with `Broken` if
+/// the store fails: the replies are dropped.
+fn append_change<S: Store>(
     store: &mut S,
     waiting: &mut Waiting,
-    reply: Reply,
-    handled: Handled,
-    octets: &[u8],
-) -> Result<Option<Entry>, Broken>
-    requires room { length waiting.old.replies < batch }
-    ensures ok { IfOk result (λ entry. (entry ≡ Some (entry_of reply.to octets.now handled.outcome)) × Chain S.does store.old (appends_of handled.change) store.new
-        × (waiting.new ≡ record { replies = waiting.old.replies ++ reply_where (has_reply handled.outcome) reply; is_synced = waiting.old.is_synced && not (is_some handled.change) })) }
-    ensures err { OnErr result ((change : ChangeValue) × (handled.change ≡ Some change) × S.does store.old (append_failed change) store.new × (waiting.new ≡ dropped)) }
-    ensures few { length waiting.new.replies ≤ batch }
-{
-    let from = reply.to;
-    append_any(store, waiting, &handled.change)?;
-    put_where(waiting, handled.outcome.has_reply(), reply);
-    Ok(Some(Entry::of(from, octets, handled.outcome)))
-}
-
-/// Has the store append a change, if there is one. Refused with `Broken` if the store fails: the replies are dropped.
-fn append_any<S: Store>(
-    store: &mut S,
-    waiting: &mut Waiting,
-    change: &Option<Change>,
+    server: &Server,
+    outcome: &Outcome,
 ) -> Result<(), Broken>
-    ensures ok { OnOk result (Chain S.does store.old (appends_of change.now) store.new × (waiting.new ≡ record waiting.old { is_synced = waiting.old.is_synced && not (is_some change.now) })) }
-    ensures err { OnErr result ((one : ChangeValue) × (change.now ≡ Some one) × S.does store.old (append_failed one) store.new × (waiting.new ≡ dropped)) }
+    ensures ok { OnOk result ((change : Option ChangeValue) × IsChange outcome.now server.now change × Chain S.does store.old (appends_of change) store.new × (waiting.new ≡ with_change change waiting.old)) }
+    ensures err { OnErr result ((change : ChangeValue) × IsChange outcome.now server.now (Some change) × S.does store.old (append_failed change) store.new × (waiting.new ≡ dropped)) }
 {
-    match change {
-        Some(change) => waiting.append(store, change),
-        None => Ok(()),
+    if !changes_leases(outcome) {
+        return Ok(());
     }
-}
-
-/// A reply waits, if it is one.
-fn put_where(waiting: &mut Waiting, is_one: bool, reply: Reply)
-    requires room { length waiting.old.replies < batch }
-    ensures { waiting.new ≡ record waiting.old { replies = waiting.old.replies ++ reply_where is_one reply } }
-{
-    if is_one {
-        waiting.put(reply);
+    match change_of(server, outcome) {
+        Some(change) => waiting.append(store, &change),
+        None => Ok(()),
     }
 }

@@ -1,14 +1,16 @@
 //! Replies that wait until the changes that they rest on are durable.
 
-ghost use Rattle.std.specs.Prelude.{◌≡◌, ◌<◌, ◌≤◌, ◌+◌, ◌^◌, ◌↔◌, ◌||◌, ◌++◌, ◌∷◌, [], List, Bool, true, false, nat_le, length, map, IfOk, OnOk, OnErr, IfErr, IsTrue};
+ghost use Rattle.std.specs.Prelude.{◌≡◌, ◌<◌, ◌≤◌, ◌+◌, ◌^◌, ◌↔◌, ◌||◌, ◌++◌, ◌∷◌, [], List, Bool, true, false, not, nat_le, length, map, Some, is_some, IfOk, OnOk, OnErr, IfErr, IsTrue};
 ghost use Rattle.std.specs.VecDeque.{deque_capacity};
+ghost use Rattle.nbt_name.specs.declared.addr.Addr.{Addr as Address};
 ghost use Rattle.nbt_port.specs.Memory.{DatagramValue};
 ghost use Rattle.nbt_port.specs.PortCalls.{CountsFailure, Chain, send_failed};
 ghost use Rattle.nbt_store.specs.Calls.{appending, sync_failed};
 ghost use Rattle.nbt_keep.specs.Devices.{DeviceCall, DeviceDoes};
 ghost use Rattle.nbt_keep.specs.Waiting.{WaitingValue, batch, none_waits, dropped, syncs_of, sends_of, leaving, value_of};
 ghost use Rattle.nbt_keep.specs.Turning.{LeavingFails};
-ghost use Rattle.nbt_keep.specs.Inner.Passing.{is_due, Leaves};
+ghost use Rattle.nbt_keep.specs.Inner.Passing.{is_due, Leaves, reply_to, behind};
+ghost use Rattle.nbt_keep.specs.declared.fault.KeepFault.TheVariants as fault;
 
 use crate::fault::KeepFault;
 use arrayvec::ArrayVec;
@@ -83,18 +85,22 @@ impl Waiting {
     }
 
     /// Whether they leave though more may come: all changes are durable, or as many wait as may.
-    pub(crate) fn is_due(&self) -> bool
+    fn is_due(&self) -> bool
         ensures { result ≡ (self.now.is_synced || nat_le batch (length self.now.replies)) }
     {
         self.is_synced || self.replies.len() >= BATCH
     }
 
-    /// One more reply waits.
-    pub(crate) fn put(&mut self, reply: Reply)
+    /// One more reply waits, if there is one.
+    fn put_any(&mut self, to: Option<Addr>, octets: &ArrayVec<u8, 576>)
         requires room { length self.old.replies < batch }
-        ensures { self.new ≡ record self.old { replies = self.old.replies ++ value_of reply ∷ [] } }
+        ensures { self.new ≡ behind self.old to octets.now.items }
     {
-        self.replies.push_back_reserved(reply);
+        if let Some(to) = to {
+            let octets = copy_of(octets);
+            let reply = Reply { to, octets };
+            self.replies.push_back_reserved(reply);
+        }
     }
 
     /// Has the store append a change, which isn't durable then. Where the store fails, the replies are dropped.
@@ -113,6 +119,31 @@ impl Waiting {
         }
     }
 
+    /// The reply of a turn, if there is one, leaves or waits behind those that wait. All of them leave as [`Waiting::leave`] has it,
+    /// with the same refusals, where there is none, or all changes are durable, or as many wait as may. Where none waits and all
+    /// changes are durable, it is sent as it is, and never copied.
+    pub(crate) fn pass<P: Port, S: Store>(
+        &mut self,
+        to: Option<Addr>,
+        octets: &ArrayVec<u8, 576>,
+        port: &mut P,
+        store: &mut S,
+    ) -> Result<(), KeepFault>
+        requires failure_count { P.failures port.old < 2 ^ 62 }
+        requires room { length self.old.replies < batch }
+        ensures ok { OnOk result ((calls : List DeviceCall) × Leaves (not (is_some to)) (behind self.old to octets.now.items) calls self.new
+            × Chain (DeviceDoes P.does S.does) (record { port = port.old; store = store.old }) calls (record { port = port.new; store = store.new })) }
+        ensures err { IfErr result (λ why. (calls : List DeviceCall) × (is_due (not (is_some to)) (behind self.old to octets.now.items) ≡ true) × LeavingFails (behind self.old to octets.now.items) why calls self.new
+            × Chain (DeviceDoes P.does S.does) (record { port = port.old; store = store.old }) calls (record { port = port.new; store = store.new })) }
+        ensures count { P.failures port.new ≤ P.failures port.old + 1 }
+    {
+        if self.is_clear() {
+            return send_any(to, octets.as_slice(), port);
+        }
+        self.put_any(to, octets);
+        self.leave_where_due(to.is_none(), port, store)
+    }
+
     /// Whether they leave after a turn that has a reply or not.
     fn is_to_leave(&self, unanswered: bool) -> bool
         ensures { result ≡ is_due unanswered self.now }
@@ -122,7 +153,7 @@ impl Waiting {
 
     /// All replies leave as [`Waiting::leave`] has it, with the same refusals, where the turn has no reply, or all changes are
     /// durable, or as many wait as may.
-    pub(crate) fn leave_where_due<P: Port, S: Store>(
+    fn leave_where_due<P: Port, S: Store>(
         &mut self,
         unanswered: bool,
         port: &mut P,
@@ -144,11 +175,7 @@ impl Waiting {
 
     /// All changes become durable, and then all replies leave, in order. Refused with `Store` if the store fails: the replies are
     /// dropped; with `Port` at the first send that fails: the replies behind that one still wait.
-    pub(crate) fn leave<P: Port, S: Store>(
-        &mut self,
-        port: &mut P,
-        store: &mut S,
-    ) -> Result<(), KeepFault>
+    fn leave<P: Port, S: Store>(&mut self, port: &mut P, store: &mut S) -> Result<(), KeepFault>
         requires failure_count { P.failures port.old < 2 ^ 62 }
         ensures ok { OnOk result (Chain (DeviceDoes P.does S.does) (record { port = port.old; store = store.old }) (leaving self.old) (record { port = port.new; store = store.new })
             × (self.new ≡ none_waits)) }
@@ -190,6 +217,28 @@ impl Waiting {
                 Err(broken)
             }
         }
+    }
+}
+
+/// These octets in a list of their own.
+fn copy_of(octets: &ArrayVec<u8, 576>) -> ArrayVec<u8, 576>
+    ensures { result.items ≡ octets.now.items }
+{
+    let mut copy = ArrayVec::new();
+    copy.try_extend_from_slice(octets.as_slice()).unwrap();
+    copy
+}
+
+/// Sends a reply, if there is one. Refused with `Port` where that fails: it is lost.
+fn send_any<P: Port>(to: Option<Addr>, octets: &[u8], port: &mut P) -> Result<(), KeepFault>
+    requires failure_count { P.failures port.old < 2 ^ 62 }
+    ensures ok { OnOk result (Chain P.does port.old (sends_of (reply_to to octets.now)) port.new) }
+    ensures err { IfErr result (λ why. (lost : Address) × (to ≡ Some lost) × (why ≡ fault.Port) × P.does port.old (send_failed lost octets.now) port.new) }
+    ensures count { P.failures port.new ≤ P.failures port.old + 1 }
+{
+    match to {
+        Some(to) => Ok(port.send(to, octets)?),
+        None => Ok(()),
     }
 }
 

@@ -26,7 +26,7 @@ pub use Rattle.nbt_name.specs.Wire.{NameValue, same_name}
 pub use Rattle.nbt_name.specs.declared.addr.Kind.{Kind}
 pub use Rattle.nbt_name.specs.declared.addr.Kind.TheVariants.{Group, Unique}
 pub use Rattle.nbt_lease.specs.Config.{ConfigValue, granted}
-pub use Rattle.nbt_lease.specs.Inner.Index.{Agrees, AreLive, due, Ended, Entries, has_end, if_any, in_set, is_due, IsMember, members_of, Moves, Renewed, rows_of, TakenFrom}
+pub use Rattle.nbt_lease.specs.Inner.Index.{Agrees, AreLive, due, Ended, Entries, has_end, if_any, in_set, is_due, is_live_of, IsMember, members_of, Moves, Renewed, rows_of, TakenFrom}
 pub use Rattle.nbt_lease.specs.Inner.Placing.{HoldsLive, Places}
 pub use Rattle.nbt_lease.specs.Inner.Standing.{HasOne, StandsIn}
 pub use Rattle.nbt_lease.specs.Lease.{AreApart, AreGroup, AreOneKind, AreSound, at_name, group, HasNone, is_live, IsSound, latest_end, Leases, leases_at, live_count, members_most, Rows, TableValue, unique}

@@ -13,3 +13,4 @@ pub mod Agreeing
 pub mod Placing
 pub mod Least
 pub mod Restored
+pub mod Owned

@@ -1,5 +1,5 @@
 -- Leases, and what a table holds of them at a time (our profile).
-use Rattle.std.specs.Prelude.{◌≡◌, ◌≢◌, ℕ, ◌+◌, ◌≤◌, Bool, ◌&&◌, if◌then◌else◌, nat_lt, List, [], ◌∷◌, map, filter, length, ⊤}
+use Rattle.std.specs.Prelude.{◌≡◌, ◌≢◌, ℕ, ◌+◌, ◌≤◌, Bool, ◌&&◌, if◌then◌else◌, nat_eq, nat_lt, List, [], ◌∷◌, map, filter, length, ⊤}
 use Rattle.std.specs.List.{AllByRecursion}
 use Rattle.nbt_name.specs.Wire.{NameValue, same_name}
 use Rattle.nbt_name.specs.declared.addr.Kind.TheVariants.{Unique, Group}
@@ -15,7 +15,7 @@ abbrev pub Leases : Type 0
 Leases = NameValue → List Lease
 
 -- Rows of a name and a lease, those of one name in order of their beginnings. Leases that are over may stand among
--- them, and the order between names says nothing: clauses read rows by `leases_at` and `live_count` alone.
+-- them, and the order between names says nothing: clauses read rows by `leases_at`, `live_count` and `count_of` alone.
 abbrev pub Rows : Type 0
 Rows = List (NameValue × Lease)
 
@@ -32,6 +32,10 @@ leases_at moment rows name = map (λ row. row.1) (filter (λ row. same_name row.
 -- how many leases live at a time, over all names
 unfoldable pub live_count : ℕ → Rows → ℕ
 live_count moment rows = length (filter (λ row. is_live moment row.1) rows)
+
+-- how many leases of this address live at a time, over all names
+unfoldable pub count_of : ℕ → (addr : ℕ) → Rows → ℕ
+count_of moment addr rows = length (filter (λ row. nat_eq row.1.addr addr && is_live moment row.1) rows)
 
 -- the same leases, but these for this name
 abbrev pub at_name : NameValue → List Lease → Leases → Leases

@@ -1,10 +1,11 @@
 //! The leases by name, and their expiries in order.
 
-ghost use Rattle.std.specs.Prelude.{◌≡◌, ◌+◌, ◌<◌, ◌≤◌, IsTrue, [], ◌∷◌, ◌++◌, length, map, filter, IfOk, IfSome, IfNone, OnOk, OnErr, if◌then◌else◌};
+ghost use Rattle.std.specs.Prelude.{◌≡◌, ◌+◌, ◌<◌, ◌≤◌, ◌↔◌, IsTrue, [], ◌∷◌, ◌++◌, length, map, filter, IfOk, IfSome, IfNone, OnOk, OnErr, if◌then◌else◌};
 ghost use Rattle.std.specs.Bool.{OnFalse};
 ghost use Rattle.std.specs.List.{IsDistinct};
 ghost use Rattle.std.specs.Map.{keys_of};
 ghost use Rattle.nbt_name.specs.Wire.{NameValue};
+ghost use Rattle.nbt_lease.specs.Lease.{count_of};
 ghost use Rattle.nbt_lease.specs.Inner.Index.{rows_of};
 
 use crate::both::{begin_in, take_out};
@@ -79,6 +80,17 @@ impl Index {
         ensures { result ≡ length (rows_of self.now) }
     {
         self.ends.count()
+    }
+
+    /// Whether at least `count` members of this address live at `now`, over all names. It reads none if there are fewer leases.
+    /// Takes no memory.
+    pub fn has_at_least(&self, addr: u32, now: u64, count: usize) -> bool
+        ensures { IsTrue result ↔ (count ≤ count_of now addr (rows_of self.now)) }
+    {
+        if self.count() < count {
+            return false;
+        }
+        reaches(&self.members, addr, now, count)
     }
 
     /// Appends each name with each of its members, name after name, those of one name in order of their beginnings. If out of
@@ -168,6 +180,23 @@ impl Index {
     {
         'dues: while self.pop_due(now, looks) {}
     }
+}
+
+/// Whether at least `count` members of this address live at `now`. It reads name after name until it has found so many.
+fn reaches(members: &IndexMap<Name, Named>, addr: u32, now: u64, count: usize) -> bool
+    ensures { IsTrue result ↔ (count ≤ count_of now addr (rows_of members.now.entries)) }
+{
+    let mut rest = members.as_slice();
+    let mut left = count;
+    'names: while let Some(((_, named), others)) = rest.split_first() {
+        let found = named.count_of(addr, now);
+        if left <= found {
+            return true;
+        }
+        left -= found;
+        rest = others;
+    }
+    left == 0
 }
 
 /// Appends each name with each of its members.

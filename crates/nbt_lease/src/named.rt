@@ -4,7 +4,7 @@ ghost use Rattle.std.specs.Prelude.{◌≡◌, ◌≢◌, ◌+◌, ◌<◌, List
 ghost use Rattle.nbt_lease.specs.declared.lease.Lease.{Lease};
 ghost use Rattle.nbt_lease.specs.Lease.{HasNone, is_live};
 ghost use Rattle.nbt_lease.specs.Rules.{IsLeastEnd};
-ghost use Rattle.nbt_lease.specs.Inner.Index.{IsMember};
+ghost use Rattle.nbt_lease.specs.Inner.Index.{IsMember, is_live_of};
 
 use crate::lease::Lease;
 use crate::members::Members;
@@ -54,6 +54,16 @@ impl Named {
         ensures { result ≡ filter (is_live now) self.now }
     {
         Members::new(self.leases.as_slice(), self.least, now)
+    }
+
+    /// How many members of this address live at `now`.
+    pub fn count_of(&self, addr: u32, now: u64) -> usize
+        ensures { result ≡ length (filter (is_live_of addr now) self.now) }
+    {
+        self.leases
+            .iter()
+            .filter(|lease| lease.addr == addr && now < lease.end)
+            .count()
     }
 
     /// Adds a member, which goes last. If out of memory, all is as before.

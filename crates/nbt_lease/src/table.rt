@@ -1,6 +1,6 @@
 //! The table of leases.
 
-ghost use Rattle.std.specs.Prelude.{◌≡◌, ◌≢◌, ℕ, ◌+◌, ◌<◌, ◌≤◌, ◌↔◌, [], ◌++◌, length, filter, IsOk, IfOk, IsErrOf, OnOk, OnErr};
+ghost use Rattle.std.specs.Prelude.{◌≡◌, ◌≢◌, ℕ, ◌+◌, ◌<◌, ◌≤◌, ◌↔◌, [], ◌++◌, length, filter, IsTrue, IsOk, IfOk, IsErrOf, OnOk, OnErr};
 ghost use Rattle.std.specs.List.{IsDistinct};
 ghost use Rattle.std.specs.Map.{keys_of};
 ghost use Rattle.nbt_name.specs.Wire.{NameValue, same_name};
@@ -51,7 +51,7 @@ impl Model for Table {
 }
 
 impl Table {
-    ghost use Rattle.nbt_lease.specs.Lease.{live_count, IsSound};
+    ghost use Rattle.nbt_lease.specs.Lease.{count_of, live_count, IsSound};
     ghost use Rattle.nbt_lease.specs.Rules.{asked, Grants, ChangesLeases, IsLeastEnd};
 
     /// A table without leases, at time 0. Takes no memory.
@@ -183,6 +183,14 @@ impl Table {
         ensures sound { IsSound self.now.config now (leases_at now self.now.rows) }
     {
         self.index.live(name, now.get())
+    }
+
+    /// Whether the address has at least `count` live leases at `now`, over all names. Takes no memory. It reads name after name
+    /// until it has found so many, and none if the table has fewer rows.
+    pub fn has_at_least(&self, now: Moment, addr: u32, count: u32) -> bool
+        ensures { IsTrue result ↔ (count ≤ count_of now addr self.now.rows) }
+    {
+        self.index.has_at_least(addr, now.get(), count as usize)
     }
 
     /// Appends all rows: each name with each of its leases, those of one name in order of their beginnings. Expired leases

@@ -58,6 +58,7 @@ refusal_words why.Overwrite = codes "an overwrite"
 refusal_words (why.Active holder) = codes "another has it: " ++ dotted holder
 refusal_words why.TableFull = codes "the table is full"
 refusal_words why.GroupFull = codes "the group is full"
+refusal_words why.ClientFull = codes "the client has too many names"
 
 abbrev pub why_text : Refusal → List ℕ
 why_text refusal = codes ": " ++ refusal_words refusal ++ (codes " (" ++ decimal (rcode_of refusal) ++ codes ")")

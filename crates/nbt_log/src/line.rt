@@ -138,6 +138,7 @@ fn write_refusal_words(refusal: Refusal, out: &mut String) -> Result<(), AllocEr
         Refusal::Active(holder) => write_holder(holder, out),
         Refusal::TableFull => out.push_str("the table is full"),
         Refusal::GroupFull => out.push_str("the group is full"),
+        Refusal::ClientFull => out.push_str("the client has too many names"),
     }
 }
 

@@ -1,12 +1,12 @@
 -- A name server and its journal begin, over this machine.
-use Rattle.std.proofs.Common.{◌≡◌, ℕ, ◌+◌, List, [], Bool, Option, refl, subst}
+use Rattle.std.proofs.Common.{◌≡◌, ℕ, ◌+◌, List, [], Bool, Option, Some, refl, subst}
 use Rattle.std.specs.Io.KnownBytes.{Appends}
 use Rattle.nbt_name.specs.declared.addr.Addr.{Addr}
 use Rattle.nbt_lease.specs.Config.{milliseconds}
 use Rattle.nbt_server.specs.Serving.{ServerValue}
-use Rattle.nbt_server.specs.Calls.{ServerStarts}
+use Rattle.nbt_server.specs.Calls.{ServerStarts, limited}
 use Rattle.nbt_port.specs.Clocks.{MachineTells, SteadyTells, SteadyBegins, SystemShows}
-use Rattle.nbt_port.specs.Udp.{UdpValue}
+use Rattle.nbt_port.specs.Udp.{PortsValue}
 use Rattle.nbt_log.specs.Dates.{second_at}
 use Rattle.nbt_log.specs.declared.dates.Dates.{Dates}
 use Rattle.nbt_nbns.specs.Begin.{IsBegin}
@@ -19,16 +19,16 @@ use Rattle.nbt_nbns.specs.declared.journal.Journal.{Journal}
 
 -- what a server and its journal are at first
 abbrev pub at_first : NbnsArguments → (start time : ℕ) → ServerValue → Option (List ℕ) → Nbns
-at_first a start time server text = record { port = record { addr = a.bind; failures = 0 }; clock = start; server = server; watcher = record { dates = record { moment = start; time = time }; day = time; log = log_of a.log a.broadcasts; leases = leases_of a.leases }; text = text }
+at_first a start time first text = record { port = record { bind = a.bind; failures = 0 }; clock = start; server = limited (Some a.rows_per_client) first; watcher = record { dates = record { moment = start; time = time }; day = time; log = log_of a.log a.broadcasts; leases = leases_of a.leases }; text = text }
 
-pub is_at_first : (a : NbnsArguments) (start time day clock : ℕ) (port : UdpValue) (server : ServerValue) (log : Option LoggerValue) (leases : Option (KeeperValue FileValue)) (text : Option (List ℕ))
-    → port ≡ record { addr = a.bind; failures = 0 } → clock ≡ start → day ≡ time → log ≡ log_of a.log a.broadcasts → leases ≡ leases_of a.leases
-    → ◌≡◌ {A = Nbns} (record { port = port; clock = clock; server = server; watcher = record { dates = record { moment = start; time = time }; day = day; log = log; leases = leases }; text = text }) (at_first a start time server text)
-is_at_first a start time day clock port server log leases text p c d l k = cc
+pub is_at_first : (a : NbnsArguments) (start time day clock : ℕ) (port : PortsValue) (first server : ServerValue) (log : Option LoggerValue) (leases : Option (KeeperValue FileValue)) (text : Option (List ℕ))
+    → port ≡ record { bind = a.bind; failures = 0 } → clock ≡ start → server ≡ limited (Some a.rows_per_client) first → day ≡ time → log ≡ log_of a.log a.broadcasts → leases ≡ leases_of a.leases
+    → ◌≡◌ {A = Nbns} (record { port = port; clock = clock; server = server; watcher = record { dates = record { moment = start; time = time }; day = day; log = log; leases = leases }; text = text }) (at_first a start time first text)
+is_at_first a start time day clock port first server log leases text p c s d l k = cc
 
 pub begins : (a : NbnsArguments) (goes : (start : ℕ) → Nbns → Nbns → Type 0) (old_text begun_text text : Option (List ℕ)) (boot start day time : ℕ) (first : ServerValue) (here new : Nbns)
     → SteadyBegins SystemShows boot → ((read : ℕ) × SteadyTells SystemShows boot start read) → MachineTells day time time
-    → ((at : Addr) × (line : List ℕ) × IsBegin at a.config.longest (second_at (record { moment = start; time = time }) (start + milliseconds a.config.longest)) line × Appends old_text begun_text line)
+    → ((at : List Addr) × (line : List ℕ) × IsBegin at a.config.longest (second_at (record { moment = start; time = time }) (start + milliseconds a.config.longest)) line × Appends old_text begun_text line)
     → ServerStarts a.config start first → here ≡ at_first a start time first begun_text → new.text ≡ text → goes start here new → Begins a goes old_text text
 begins a goes old_text begun_text text boot start day time first here new begun start_told time_told is_first starts is text_is run = record {
   at = is_first.0;

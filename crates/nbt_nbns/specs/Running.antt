@@ -5,10 +5,10 @@ use Rattle.std.specs.Io.KnownBytes.{Appends}
 use Rattle.nbt_name.specs.declared.addr.Addr.{Addr}
 use Rattle.nbt_lease.specs.Config.{milliseconds}
 use Rattle.nbt_server.specs.Serving.{ServerValue}
-use Rattle.nbt_server.specs.Calls.{ServerStarts}
+use Rattle.nbt_server.specs.Calls.{ServerStarts, limited}
 use Rattle.nbt_port.specs.PortCalls.{PortCall}
 use Rattle.nbt_port.specs.Clocks.{MachineTells, SteadyTells, SteadyBegins, SystemShows}
-use Rattle.nbt_port.specs.Udp.{UdpValue, UdpDoes}
+use Rattle.nbt_port.specs.Udp.{PortsValue, PortsDo}
 use Rattle.nbt_port.specs.Until.{until_of}
 use Rattle.nbt_log.specs.Dates.{second_at}
 use Rattle.nbt_log.specs.declared.dates.Dates.{Dates}
@@ -24,9 +24,9 @@ use Rattle.nbt_nbns.specs.declared.running.NbnsArguments.{NbnsArguments}
 use Rattle.nbt_nbns.specs.declared.journal.Journal.{Journal}
 
 -- the port that the server has: over UDP, or over one on which Samba's registrations come as registrations
-abbrev pub PortDoes : (strict : Bool) → UdpValue → PortCall → UdpValue → Type 0
-PortDoes true = UdpDoes
-PortDoes false = HandsOn UdpDoes
+abbrev pub PortDoes : (strict : Bool) → PortsValue → PortCall → PortsValue → Type 0
+PortDoes true = PortsDo
+PortDoes false = HandsOn PortsDo
 
 -- a log in which no line was printed yet, if there is to be one
 abbrev pub log_of : (log broadcasts : Bool) → Option LoggerValue
@@ -39,11 +39,12 @@ leases_of (Some path) = Some (new_keeper (file_of (string_bytes path)))
 
 -- what goes on: a port, a clock and a server of this machine, and the journal
 abbrev pub Nbns : Type 0
-Nbns = Watching UdpValue ℕ (Journal ℕ FileValue)
+Nbns = Watching PortsValue ℕ (Journal ℕ FileValue)
 
--- The steady clock begins, both clocks are read, the first line is printed, and a server starts, which is watched from then on.
+-- The steady clock begins, both clocks are read, the first line is printed, and a server starts, which limits its clients and
+-- is watched from then on.
 pub record Begins (a : NbnsArguments) (goes : (start : ℕ) → Nbns → Nbns → Type 0) (old_text text : Option (List ℕ)) : Type 0 where
-  pub at : Addr
+  pub at : List Addr
   pub boot : ℕ
   pub start : ℕ
   pub day : ℕ
@@ -51,7 +52,7 @@ pub record Begins (a : NbnsArguments) (goes : (start : ℕ) → Nbns → Nbns �
   pub line : List ℕ
   pub begun_text : Option (List ℕ)
   pub first : ServerValue
-  pub port : UdpValue
+  pub port : PortsValue
   pub clock : ℕ
   pub last : ServerValue
   pub journal : Journal ℕ FileValue
@@ -62,7 +63,7 @@ pub record Begins (a : NbnsArguments) (goes : (start : ℕ) → Nbns → Nbns �
   pub printed : Appends old_text begun_text line
   pub starts : ServerStarts a.config start first
   pub goes_on : goes start
-      (record { port = record { addr = a.bind; failures = 0 }; clock = start; server = first; watcher = record { dates = record { moment = start; time = time }; day = time; log = log_of a.log a.broadcasts; leases = leases_of a.leases }; text = begun_text })
+      (record { port = record { bind = a.bind; failures = 0 }; clock = start; server = limited (Some a.rows_per_client) first; watcher = record { dates = record { moment = start; time = time }; day = time; log = log_of a.log a.broadcasts; leases = leases_of a.leases }; text = begun_text })
       (record { port = port; clock = clock; server = last; watcher = journal; text = text })
 
 -- it stays up, or its time is over

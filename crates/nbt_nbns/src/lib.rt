@@ -23,7 +23,7 @@ mod serving;
 mod standing;
 mod staying;
 
-pub use begin::write_begin;
+pub use begin::{write_addresses, write_begin};
 pub use journal::Journal;
 pub use keeper::{Keeper, Kept};
 pub use limits::{

@@ -3,7 +3,7 @@
 ghost use Rattle.std.specs.Prelude.{◌≡◌, ◌+◌, ◌≤◌, ◌^◌, ◌⊎◌, ℕ, List, Err, OnOk, IfOk, IfErr, OnErr};
 ghost use Rattle.std.specs.Io.KnownBytes.{Appends};
 ghost use Rattle.nbt_lease.specs.Config.{milliseconds};
-ghost use Rattle.nbt_port.specs.Udp.{UdpValue};
+ghost use Rattle.nbt_port.specs.Udp.{PortsValue};
 ghost use Rattle.nbt_log.specs.Dates.{second_at};
 ghost use Rattle.nbt_nbns.specs.Begin.{IsBegin};
 ghost use Rattle.nbt_nbns.specs.Running.{PortDoes, log_of, leases_of, RunsNbns, NbnsFails};
@@ -21,8 +21,7 @@ use nbt_lease::{Config, Moment};
 use nbt_log::Dates;
 use nbt_name::Addr;
 use nbt_port::{
-    Clock, Fault, Port, UdpPort, bound_port, local_of, print, readable_clock, steady_clock,
-    tell_end_of, until_of,
+    Bind, Clock, Fault, Port, UdpPorts, print, readable_clock, steady_clock, tell_end_of, until_of,
 };
 use nbt_server::Server;
 use std::alloc::Global;
@@ -34,8 +33,8 @@ use std::{io, time};
 /// What a name server is to do.
 #[derive(Debug, Drop)]
 pub struct NbnsArguments {
-    /// Its own address and port.
-    pub bind: Addr,
+    /// Its own addresses and ports.
+    pub bind: Bind,
     /// The limits.
     pub config: Config,
     /// After how many milliseconds it ends; `None` where it has no end.
@@ -48,12 +47,14 @@ pub struct NbnsArguments {
     pub leases: Option<String>,
     /// Whether registrations that Samba's programs send are left as they are.
     pub strict: bool,
+    /// How many live leases a client may have.
+    pub rows_per_client: u32,
 }
 
-/// Runs a name server on a UDP port of this system, over the monotonic clock. It first prints where it serves, for how long it
+/// Runs a name server on UDP ports of this system, over the monotonic clock. It first prints where it serves, for how long it
 /// is silent and until when, and then stays up for 2^61 turns or until its time is over, also where the port fails, as
 /// [`watch_on`] does. It logs to `writer`, and keeps the list of its leases in a file, where the arguments say so. Refused:
-/// `NoPort` where the port can't be bound; `NoClock` where a clock can't be read at first; `Memory` where it is out of memory
+/// `NoPort` where a port can't be bound, as [`UdpPorts::bind`] has it; `NoClock` where a clock can't be read at first; `Memory` where it is out of memory
 /// before the first line; `Output` where the list's file is none that may be replaced, and then nothing is printed, or where the
 /// first line can't be written; `Device` at the hundredth turn in a row that fails. Of
 /// each but `Memory` a line in `errors` says what failed, and why. A failure to write to `errors` is ignored.
@@ -70,9 +71,9 @@ pub fn run_nbns<M: Net + time::Clock + Files, W: Write, E: Write>(
     ensures clock { result ≡ Err Fault.NoClock → W.contents writer.new ≡ W.contents writer.old }
     ensures memory { result ≡ Err Fault.Memory → W.contents writer.new ≡ W.contents writer.old }
 {
-    let port = bound_port(machine, arguments.bind, errors)?;
-    let mut clock = steady_clock(machine, arguments.bind, errors)?;
-    let mut day = readable_clock(machine, arguments.bind, errors)?;
+    let port = UdpPorts::bind(machine, alloc, &arguments.bind, errors)?;
+    let mut clock = steady_clock(machine, arguments.bind.first(), errors)?;
+    let mut day = readable_clock(machine, arguments.bind.first(), errors)?;
     let start = clock.now();
     let dates = Dates {
         moment: start,
@@ -84,9 +85,17 @@ pub fn run_nbns<M: Net + time::Clock + Files, W: Write, E: Write>(
         log: log_of(alloc, arguments.log, arguments.broadcasts),
         leases: leases_of(machine, alloc, &arguments.leases, errors)?,
     };
-    let local = local_of(&port);
-    tell_begin(alloc, local, &dates, arguments.config, writer, errors)?;
+    let at = port.addresses()?;
+    tell_begin(
+        alloc,
+        at.as_slice(),
+        &dates,
+        arguments.config,
+        writer,
+        errors,
+    )?;
     let mut server = Server::start(alloc, arguments.config, start);
+    server.limit_clients(arguments.rows_per_client);
     let until = until_of(start, arguments.time);
     watch_over(
         port,
@@ -105,13 +114,13 @@ pub fn run_nbns<M: Net + time::Clock + Files, W: Write, E: Write>(
 /// then nothing is printed; `Output` where the line can't be written, and a line in `errors` says why.
 fn tell_begin<W: Write, E: Write>(
     alloc: Global,
-    at: Addr,
+    at: &[Addr],
     dates: &Dates,
     config: Config,
     writer: &mut W,
     errors: &mut E,
 ) -> Result<(), Fault>
-    ensures ok { OnOk result ((line : List ℕ) × IsBegin at config.longest (second_at dates.now (dates.now.moment + milliseconds config.longest)) line
+    ensures ok { OnOk result ((line : List ℕ) × IsBegin at.now config.longest (second_at dates.now (dates.now.moment + milliseconds config.longest)) line
         × Appends (W.contents writer.old) (W.contents writer.new) line) }
     ensures err { IfErr result (λ fault. (fault ≡ Fault.Output) ⊎ ((fault ≡ Fault.Memory) × (W.contents writer.new ≡ W.contents writer.old))) }
 {
@@ -163,8 +172,8 @@ pub fn leases_of<'a, M: Files, E: Write>(
 
 /// Watches a server until it ends, over this port as it is where that is `strict`, else over one on which Samba's registrations
 /// come as registrations.
-fn watch_over<C: Clock, V: Watcher, M: time::Clock, W: Write, E: Write>(
-    port: UdpPort,
+fn watch_over<C: Clock, V: Watcher, M: Net + time::Clock + Files, W: Write, E: Write>(
+    port: UdpPorts<'_, M>,
     strict: bool,
     clock: &mut C,
     server: &mut Server,
@@ -175,11 +184,11 @@ fn watch_over<C: Clock, V: Watcher, M: time::Clock, W: Write, E: Write>(
     errors: &mut E,
 ) -> Result<(), Fault>
     requires failure_count { port.failures ≤ 2 ^ 61 }
-    ensures ok { OnOk result ((last : UdpValue) × WatchesUntil (PortDoes strict) C.tells V.sees until
-        (record { port = port; clock = clock.old; server = server.old; watcher = watcher.old; text = W.contents writer.old })
+    ensures ok { OnOk result ((last : PortsValue) × WatchesUntil (PortDoes strict) C.tells V.sees until
+        (record { port = port.entry; clock = clock.old; server = server.old; watcher = watcher.old; text = W.contents writer.old })
         (record { port = last; clock = clock.new; server = server.new; watcher = watcher.new; text = W.contents writer.new })) }
-    ensures err { OnErr result ((last : UdpValue) × WatchFails (PortDoes strict) C.tells V.sees until
-        (record { port = port; clock = clock.old; server = server.old; watcher = watcher.old; text = W.contents writer.old })
+    ensures err { OnErr result ((last : PortsValue) × WatchFails (PortDoes strict) C.tells V.sees until
+        (record { port = port.entry; clock = clock.old; server = server.old; watcher = watcher.old; text = W.contents writer.old })
         (record { port = last; clock = clock.new; server = server.new; watcher = watcher.new; text = W.contents writer.new })) }
     ensures fault { IfErr result (λ fault. fault ≡ Fault.Device) }
 {

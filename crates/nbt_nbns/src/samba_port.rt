@@ -8,6 +8,7 @@ use crate::samba::take_registration;
 use arrayvec::ArrayVec;
 use nbt_name::Addr;
 use nbt_port::{Cause, Device, Port};
+use std::io::Write;
 use std::marker::Model;
 
 /// A port over another, which hands on what that one receives and sends what it is given. A datagram that
@@ -69,6 +70,10 @@ impl<P: Port> Port for SambaPort<P> {
 
     fn cause(&self) -> Option<Cause> {
         self.beneath.cause()
+    }
+
+    fn tell_changes<E: Write>(&self, errors: &mut E) {
+        self.beneath.tell_changes(errors)
     }
 }
 

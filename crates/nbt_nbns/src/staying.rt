@@ -45,7 +45,8 @@ pub trait Watcher {
 }
 
 /// The server goes through turns until the moment `until`, if there is one, and through 2^61 of them at most, and stays up when the
-/// port fails, as [`stay_up`] says. After each turn that went well the clock is read, and the watcher is shown what the turn was.
+/// port fails, as [`stay_up`] says. What changed at the port is said in `errors` after
+/// each turn. After one that went well the clock is read, and the watcher is shown what the turn was.
 /// Refused with `Device` at the hundredth failure in a row, at once; it then says in `errors` why the port failed, where the port
 /// knows it. What can't be written to `errors` is passed over.
 pub fn watch_on<P: Port, C: Clock, V: Watcher, M: time::Clock, W: Write, E: Write>(
@@ -125,8 +126,12 @@ impl<P: Port, C: Clock, V: Watcher, W: Write> Turn for WatchedTurn<'_, '_, '_, '
             &mut self.reply,
         ) {
             Ok(shown) => shown,
-            Err(_) => return Turned::Failed(self.port.cause()),
+            Err(_) => {
+                self.port.tell_changes(errors);
+                return Turned::Failed(self.port.cause());
+            }
         };
+        self.port.tell_changes(errors);
         self.watcher.see(self.server, &shown, self.writer, errors);
         if is_over(&self.until, shown.at) {
             return Turned::Last;

@@ -54,6 +54,18 @@ keeps old new count life now xs ys zs name state is old_is new_is settled_is cha
       since = then_is.since;
     }
 
+-- and where a name has another state, without time
+pub puts : (old new : NodeValue) (count : ℕ) (xs zs : List (Option Slot)) (name : NameValue) (state : State) → IsNode count old → old.slots ≡ xs → new.slots ≡ zs → zs ≡ with_state xs name state
+    → new.start ≡ old.start → new.last ≡ old.last → IsNode count new
+puts old new count xs zs name state is old_is new_is changes start_is last_is = record {
+  slots_at_most = is.slots_at_most;
+  slots_at_least = is.slots_at_least;
+  count_is = ap length (new_is ∙ changes) ∙ length-with_state xs name state ∙ ap length (sym old_is) ∙ is.count_is;
+  apart = subst AreDistinct (sym (new_is ∙ changes)) (distinct-with_state xs name state (subst AreDistinct old_is is.apart));
+  awake = subst AreAwake (sym (new_is ∙ changes)) (awake-with_state xs name state (subst AreAwake old_is is.awake));
+  since = rw (start_is, last_is) is.since;
+}
+
 -- ---- what becomes of each name
 
 -- only time has passed

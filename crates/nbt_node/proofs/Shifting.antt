@@ -24,7 +24,7 @@ use Rattle.nbt_node.specs.Node.{NodeValue, Passes, is_in, has_room, state_in, sl
 use Rattle.nbt_node.specs.Transaction.{is_over, is_next, opened, again, put_off, wait_until}
 use Rattle.nbt_node.specs.Settling.{rested, pending_at, settled}
 use Rattle.nbt_node.specs.Moves.{Move, NameEvent, NameMoves, poll, hear, Told, nothing, replied, finds, finds_none, lists, is_due, has_id, matters, granted_by, held_for, asks, gives_back, asks_again, gives_back_again, refreshes_again, refreshes, granted_to, renewed_to, refused_to, loses_asked, loses_held, freed, asking_waits, giving_back_waits, refresh_waits, unmoved}
-use Rattle.nbt_node.specs.Calls.{held_kind, first_due, slot_due, due_lookup, lookup_due, LooksUp, Sends, Opens, Polls, polls_name, polls_lookup, polls_nothing, is_busy, is_quiet}
+use Rattle.nbt_node.specs.Calls.{due_soon, refreshing_soon, held_kind, first_due, slot_due, due_lookup, lookup_due, LooksUp, Sends, Opens, Polls, polls_name, polls_lookup, polls_nothing, is_busy, is_quiet}
 use Rattle.nbt_node.specs.Datagrams.{listed_as, listed, names_listed, is_listed_for, ends, NodeHears, from_server, from_stranger, Lists, lists_names, lists_nothing, Ends, is_answered, is_unanswered, Idles, idles, NodeTakes, NodeTakesOctets, spelled, unspelled}
 use Rattle.nbt_node.specs.Shifted.{shifted_request, shifted_state, shifted_slot, shifted_slots, shifted_lookup, shifted_node, StartsAlike, TellsAlike, DoesAlike}
 
@@ -89,6 +89,10 @@ module _ (more : ℕ) where
   held_kind_shifted : (state : State) → held_kind (shifted_state more state) ≡ held_kind state
   held_kind_shifted Idle = refl
   held_kind_shifted state = refl
+
+  due_soon_shifted : (state : State) → due_soon (shifted_state more state) ≡ shifted_state more (due_soon state)
+  due_soon_shifted Idle = refl
+  due_soon_shifted state = refl
 
   listed_shifted : (scope : List ℕ) (slots : List (Option Slot)) → flat_map (listed scope) (shifted_slots more slots) ≡ flat_map (listed scope) slots
   listed_shifted scope [] = refl
@@ -369,6 +373,12 @@ module _ (more : ℕ) (old : NodeValue) (now : ℕ) where
   back : ltb (now + more) (old.last + more) ≡ ltb now old.last
   back = ltb_shifted now old.last more
 
+  soon_shifted : (name : NameValue) → refreshing_soon (shifted_node more old) name ≡ shifted_node more (refreshing_soon old name)
+  soon_shifted name =
+      let state_is = ap due_soon (state_in_shifted more old.slots name) ∙ due_soon_shifted more (state_in old.slots name) in
+      let slots_are = ap (with_state (shifted_slots more old.slots) name) state_is ∙ with_state_shifted more old.slots name (due_soon (state_in old.slots name)) in
+      ap (λ (xs : List (Option Slot)). let node : NodeValue = record (shifted_node more old) { slots = xs } in node) slots_are
+
   pub tells_alike : (name : NameValue) → TellsAlike more old now name
   tells_alike name =
       let life = old.config.life in
@@ -388,14 +398,15 @@ module _ (more : ℕ) (old : NodeValue) (now : ℕ) where
         release = λ i. cond (gone_back i) (Some release_faults.ClockBack) (cond (is_some (held i)) None (Some release_faults.NotHeld));
         resolve = λ i. cond (gone_back i) (Some lookup_faults.ClockBack) (cond (is_star name) (Some lookup_faults.BadName) (cond (opened_yet i) (Some lookup_faults.Busy) None));
         status = λ i. cond (gone_back i) (Some lookup_faults.ClockBack) (cond (opened_yet i) (Some lookup_faults.Busy) None);
+        soon = soon_shifted name;
       }
 
 -- ---- a start
 
 pub starts_alike : (more : ℕ) → StartsAlike more
-starts_alike more slots addr server config now =
+starts_alike more slots addr server config now first_id =
     let free_slots = free slots in
-    λ i. record { addr = addr; server = server; config = config; start = now + more; last = now + more; next_id = 1; lookup = None; slots = free_slots i }
+    λ i. record { addr = addr; server = server; config = config; start = now + more; last = now + more; next_id = first_id; lookup = None; slots = free_slots i }
   where
     free : (count : ℕ) → replicate count None ≡ shifted_slots more (replicate count None)
     free zero = refl

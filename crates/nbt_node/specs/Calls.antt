@@ -19,13 +19,26 @@ use Rattle.nbt_node.specs.declared.lookup.Wanted.TheVariants.{Entries, Names}
 use Rattle.nbt_node.specs.declared.state.State.{State}
 use Rattle.nbt_node.specs.declared.state.State.TheVariants.{Asking, Held, Releasing, Resting}
 use Rattle.nbt_node.specs.declared.state.Slot.{Slot}
-use Rattle.nbt_node.specs.Node.{NodeValue, has_room, settled_slot, settled_lookup, settled_node, state_at, Passes}
+use Rattle.nbt_node.specs.Node.{NodeValue, has_room, with_state, settled_slot, settled_lookup, settled_node, state_of, state_at, Passes}
 use Rattle.nbt_node.specs.Transaction.{next_due, is_next}
 use Rattle.nbt_node.specs.Moves.{NameEvent, poll, NameMoves, nothing, id_after, is_due}
 
--- a node that knows nothing
+-- a node that knows nothing, and whose first request has this id; or the id 1
+abbrev pub started_from : (slots : ℕ) → Addr → Addr → ConfigValue → ℕ → (first_id : ℕ) → NodeValue
+started_from slots addr server config now first_id =
+    record { addr = addr; server = server; config = config; start = now; last = now; next_id = first_id; lookup = None; slots = replicate slots None }
+
 abbrev pub started : (slots : ℕ) → Addr → Addr → ConfigValue → ℕ → NodeValue
-started slots addr server config now = record { addr = addr; server = server; config = config; start = now; last = now; next_id = 1; lookup = None; slots = replicate slots None }
+started slots addr server config now = started_from slots addr server config now 1
+
+-- ---- a refresh before its time: it is due since the last sending about the name, and so is sent once the name has rested
+
+abbrev pub due_soon : State → State
+due_soon (Held kind ttl until renew last pending) = Held kind ttl until last last pending
+due_soon state = state
+
+abbrev pub refreshing_soon : NodeValue → NameValue → NodeValue
+refreshing_soon node name = record node { slots = with_state node.slots name (due_soon (state_of node name)) }
 
 -- ---- why a call is refused: the first refusal that stands, judged by the settled node
 

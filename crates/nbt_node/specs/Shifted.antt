@@ -14,7 +14,7 @@ use Rattle.nbt_node.specs.declared.state.State.TheVariants.{Idle, Asking, Held, 
 use Rattle.nbt_node.specs.declared.transaction.Transaction.{Transaction}
 use Rattle.nbt_node.specs.Node.{NodeValue, settled_node, holds, lookup_open}
 use Rattle.nbt_node.specs.Moves.{NameEvent, Told, Move}
-use Rattle.nbt_node.specs.Calls.{started, ask_refusal, release_refusal, resolve_refusal, status_refusal, Sends, Opens, Polls}
+use Rattle.nbt_node.specs.Calls.{started_from, refreshing_soon, ask_refusal, release_refusal, resolve_refusal, status_refusal, Sends, Opens, Polls}
 use Rattle.nbt_node.specs.Datagrams.{Handles}
 
 -- ---- all of its times, `more` milliseconds greater
@@ -46,7 +46,8 @@ shifted_node more node =
 
 -- a node starts, and its names and lookup settle
 abbrev pub StartsAlike : (more : ℕ) → Type 0
-StartsAlike more = (slots : ℕ) (addr server : Addr) (config : ConfigValue) (now : ℕ) → started slots addr server config (now + more) ≡ shifted_node more (started slots addr server config now)
+StartsAlike more = (slots : ℕ) (addr server : Addr) (config : ConfigValue) (now first_id : ℕ)
+    → started_from slots addr server config (now + more) first_id ≡ shifted_node more (started_from slots addr server config now first_id)
 
 abbrev pub SettlesAlike : (more : ℕ) → Type 0
 SettlesAlike more = (node : NodeValue) (now : ℕ) → settled_node (shifted_node more node) (now + more) ≡ shifted_node more (settled_node node now)
@@ -56,7 +57,8 @@ abbrev pub MovesAlike : (more : ℕ) → Type 0
 MovesAlike more = (node : NodeValue) (now : ℕ) (name : NameValue) (before : State) (event : NameEvent) (after : State) (sent : Option MessageValue) (told : Told) (next_id : ℕ)
     → Move node now name before event after sent told next_id → Move (shifted_node more node) (now + more) name (shifted_state more before) event (shifted_state more after) sent told next_id
 
--- what a node knows: which names it holds, whether a lookup is open, and why a call is refused
+-- what a node knows: which names it holds, whether a lookup is open, and why a call is refused; and what it is with a refresh due
+-- before its time
 pub record TellsAlike (more : ℕ) (node : NodeValue) (now : ℕ) (name : NameValue) : Type 0 where
   pub held : holds (shifted_node more node) name (now + more) ≡ holds node name now
   pub lookup : lookup_open (shifted_node more node) (now + more) ≡ lookup_open node now
@@ -64,6 +66,7 @@ pub record TellsAlike (more : ℕ) (node : NodeValue) (now : ℕ) (name : NameVa
   pub release : release_refusal (shifted_node more node) (now + more) name ≡ release_refusal node now name
   pub resolve : resolve_refusal (shifted_node more node) (now + more) name ≡ resolve_refusal node now name
   pub status : status_refusal (shifted_node more node) (now + more) ≡ status_refusal node now
+  pub soon : refreshing_soon (shifted_node more node) name ≡ shifted_node more (refreshing_soon node name)
 
 -- what a node does: the same octets are sent to the same endpoint, the same is reported, and the node afterwards is shifted too
 pub record DoesAlike (more : ℕ) (old : NodeValue) (now : ℕ) (new : NodeValue) : Type 0 where

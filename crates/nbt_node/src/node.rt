@@ -22,6 +22,9 @@ use nbt_name::{Addr, Kind, Name};
 use nbt_packet::{Message, read, write};
 use std::marker::Model;
 
+/// The id of the first request of a node that isn't given another (our profile).
+const FIRST_ID: u16 = 1;
+
 /// A node of `N` slots, 1 to 14 (RFC 1001 section 10.2): one for each name that isn't `Idle`.
 #[derive(Debug, Drop)]
 pub struct Node<const N: usize> {
@@ -51,7 +54,7 @@ impl<const N: usize> Node<N> {
     ghost use Rattle.nbt_node.specs.Node.{slots_most, holds, changed, settled_node, state_at, lookup_open, AreDistinct};
     ghost use Rattle.nbt_node.specs.Moves.{Move, ask, give_back, hear, told_of};
     ghost use Rattle.nbt_packet.specs.Spelling.{AreWritten};
-    ghost use Rattle.nbt_node.specs.Calls.{started, ask_refusal, release_refusal, resolve_refusal, status_refusal, Sends, Opens, Polls, slot_due};
+    ghost use Rattle.nbt_node.specs.Calls.{started_from, started, refreshing_soon, ask_refusal, release_refusal, resolve_refusal, status_refusal, Sends, Opens, Polls, slot_due};
     ghost use Rattle.nbt_node.specs.Standing.{standing};
     ghost use Rattle.nbt_node.specs.Waiting.{sends_at, IsFirst};
     ghost use Rattle.nbt_node.specs.Datagrams.{NodeHears, Lists, Ends, NodeTakes, Handles, Says, is_listed_for};
@@ -64,6 +67,23 @@ impl<const N: usize> Node<N> {
         requires slots_at_most { N ≤ slots_most }
         ensures { result ≡ started N addr server config now }
     {
+        Node::start_from(addr, server, config, now, FIRST_ID)
+    }
+
+    /// The same, but its first request has the id `first_id`, where that of [`Node::start`] has 1. A reply that an earlier life of the
+    /// node requested counts in a later one only if it comes later than a datagram lives and has the id of what is pending. So let
+    /// `first_id` differ from start to start.
+    pub fn start_from(
+        addr: Addr,
+        server: Addr,
+        config: Config,
+        now: Moment,
+        first_id: u16,
+    ) -> Node<N>
+        requires slots_at_least { 1 ≤ N }
+        requires slots_at_most { N ≤ slots_most }
+        ensures { result ≡ started_from N addr server config now first_id }
+    {
         let free = |_: usize| -> Option<Slot>
             ensures { result ≡ None }
         { None };
@@ -73,7 +93,7 @@ impl<const N: usize> Node<N> {
             config,
             start: now,
             last: now,
-            next_id: 1,
+            next_id: first_id,
             lookup: None,
             slots: std::array::from_fn(free),
         }
@@ -218,6 +238,17 @@ impl<const N: usize> Node<N> {
         self.change(now, name, &releasing, id_after(id));
         write(&message, out);
         Ok(())
+    }
+
+    /// Has the refresh of a name that is held due before its time: `poll` sends it as soon as more than `Config::quiet()` has passed
+    /// since the last sending about the name, unless a refresh is pending. For a user that doubts whether the server still has the
+    /// lease: only the reply to that refresh decides. The hold ends when it did; nothing else changes, and nothing at all where the
+    /// name isn't held.
+    pub fn refresh_soon(&mut self, name: &Name)
+        ensures { self.new ≡ refreshing_soon self.old name.now }
+    {
+        let state = slots::state_in(&self.slots, name);
+        slots::change(&mut self.slots, name, &state.due_soon());
     }
 
     /// Settles every name and the lookup at `now`.

@@ -38,7 +38,7 @@ pub fn pending_at(pending: Option<Transaction>, now: Moment) -> Option<Transacti
 
 impl State {
     ghost use Rattle.nbt_node.specs.Node.{held_at};
-    ghost use Rattle.nbt_node.specs.Calls.{is_busy, is_quiet, held_kind};
+    ghost use Rattle.nbt_node.specs.Calls.{due_soon, is_busy, is_quiet, held_kind};
 
     /// The state once time alone has done its part at `now`.
     pub fn settled(&self, config: Config, now: Moment) -> State
@@ -65,6 +65,30 @@ impl State {
             },
             State::Resting { last } => rested(*last, config, now),
             State::Idle | State::Asking { .. } | State::Releasing { .. } => *self,
+        }
+    }
+
+    /// The state whose refresh is due since the last sending about the name, where it is held.
+    pub fn due_soon(&self) -> State
+        ensures { result ≡ due_soon self.now }
+    {
+        match self {
+            State::Held {
+                kind,
+                ttl,
+                until,
+                last,
+                pending,
+                ..
+            } => State::Held {
+                kind: *kind,
+                ttl: *ttl,
+                until: *until,
+                renew: last.get(),
+                last: *last,
+                pending: *pending,
+            },
+            _ => *self,
         }
     }
 

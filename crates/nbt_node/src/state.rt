@@ -23,7 +23,7 @@ pub enum State {
         kind: Kind,
         ttl: u32,
         until: u64,
-        /// When the hold is refreshed.
+        /// From when on the hold is refreshed.
         renew: u64,
         last: Moment,
         /// The refresh that no reply has ended.

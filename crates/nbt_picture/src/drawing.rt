@@ -1,10 +1,12 @@
 //! A script as a picture.
 
-ghost use Rattle.std.specs.Prelude.{◌≡◌, ◌++◌, ℕ, List, IfOk, OnOk};
+ghost use Rattle.std.specs.Prelude.{◌≡◌, ◌↔◌, ◌++◌, ℕ, List, None, IfOk, OnOk, IsTrue};
 ghost use Rattle.std.specs.String.{string_bytes};
 ghost use Rattle.nbt_picture.specs.declared.shape.Shape.{Shape};
 ghost use Rattle.nbt_picture.specs.Shapes.{document_text};
 ghost use Rattle.nbt_text.specs.Lines.{lines};
+ghost use Rattle.nbt_text.specs.Texts.{texts};
+ghost use Rattle.nbt_sim.specs.Script.{PlaysLine};
 ghost use Rattle.nbt_picture.specs.Drawing.{EndsAt};
 
 use crate::picture::write_picture;
@@ -39,35 +41,58 @@ fn watch_script(
     ensures { IfOk result (EndsAt (lines script.now)) }
 {
     let lines = lines_of(alloc, script)?;
-    let mut world = None;
+    watch_lines(alloc, lines.as_slice(), &mut None, sketch)
+}
+
+/// Keeps what the lines of a script do, of which none is played yet.
+fn watch_lines(
+    alloc: Global,
+    lines: &[&[u8]],
+    world: &mut Option<World>,
+    sketch: &mut Sketch,
+) -> Result<Option<usize>, AllocError>
+    requires { world.old ≡ None }
+    ensures { IfOk result (EndsAt (texts lines.now)) }
+{
     'lines: for (index, line) in lines.iter().enumerate() {
-        let mut printed = String::new(alloc);
-        let played = play_line(alloc, line, &mut world, &mut printed)?;
-        if let Played::Unreadable = played {
-            finish(sketch, &world)?;
+        if watch_line(alloc, line, world, sketch)? {
+            finish(sketch, world)?;
             return Ok(Some(index + 1));
         }
-        watch(sketch, &played, &world, printed.as_str())?;
     }
-    finish(sketch, &world)?;
+    finish(sketch, world)?;
     Ok(None)
 }
 
-/// Keeps what came of a line that printed this.
+/// Keeps what a line does in a script's world. Returns whether it ends the script.
+fn watch_line(
+    alloc: Global,
+    line: &[u8],
+    world: &mut Option<World>,
+    sketch: &mut Sketch,
+) -> Result<bool, AllocError>
+    ensures { IfOk result (λ is_last. (played : Played) × (text : List ℕ) × PlaysLine world.old line.now played world.new text
+        × (IsTrue is_last ↔ (played ≡ Played.Unreadable))) }
+{
+    let mut printed = String::new(alloc);
+    let played = play_line(alloc, line, world, &mut printed)?;
+    watch(sketch, &played, world, printed.as_str())
+}
+
+/// Keeps what came of a line that printed this. Returns whether the line ends the script.
 fn watch(
     sketch: &mut Sketch,
     played: &Played,
     world: &Option<World>,
     printed: &str,
-) -> Result<(), AllocError> {
-    let Some(world) = world else {
-        return Ok(());
-    };
-    let line = printed.strip_suffix("\n").unwrap_or(printed);
-    match played {
-        Played::Done(instruction, report) => sketch.watch(instruction, report, world, line),
-        _ => Ok(()),
+) -> Result<bool, AllocError>
+    ensures { IfOk result (λ is_last. IsTrue is_last ↔ (played.now ≡ Played.Unreadable)) }
+{
+    if let (Some(world), Played::Done(instruction, report)) = (world, played) {
+        let line = printed.strip_suffix("\n").unwrap_or(printed);
+        sketch.watch(instruction, report, world, line)?;
     }
+    Ok(matches!(played, Played::Unreadable))
 }
 
 /// Keeps what was over by the end of the script.

@@ -3,7 +3,9 @@ pub mod Faults
 pub mod Inner
 pub mod Memory
 pub mod Numbers
+pub mod OwnAddresses
 pub mod PortCalls
+pub mod Routes
 pub mod Staying
 pub mod Udp
 pub mod Until

@@ -16,3 +16,11 @@ failures_most = 100
 -- an end takes so many turns where it has no end: more than any system lives to see
 abbrev pub forever : ℕ
 forever = 2 ^ 61
+
+-- a port over several sockets knows so many routes of replies at most
+abbrev pub routes_most : ℕ
+routes_most = 65
+
+-- so many milliseconds after the last look a port looks for the machine's addresses again
+abbrev pub look_wait : ℕ
+look_wait = 1000

@@ -48,6 +48,11 @@ impl Cause {
         Cause { call, end, error }
     }
 
+    /// Whether the system was out of memory.
+    pub(crate) fn is_of_memory(&self) -> bool {
+        self.error.kind() == io::ErrorKind::OutOfMemory
+    }
+
     /// Prints the line `nbt: `, the text and `more`. A failure to write it is ignored.
     pub fn tell<E: Write>(&self, more: &str, errors: &mut E) {
         let _ = write_line(self, more, errors);

@@ -6,6 +6,7 @@ ghost use Rattle.nbt_port.specs.PortCalls.{PortCall, receiving, sending, CountsF
 use crate::cause::Cause;
 use arrayvec::ArrayVec;
 use nbt_name::Addr;
+use std::io::Write;
 use thiserror::Error;
 
 /// The most octets of a datagram that a port hands out.
@@ -60,4 +61,8 @@ pub trait Port {
     fn lost(&self) -> Option<Cause> {
         None
     }
+
+    /// Says in `errors` which addresses the port has, or hasn't any more, since its last receive but one, where these change. What can't
+    /// be written is passed over.
+    fn tell_changes<E: Write>(&self, _errors: &mut E) {}
 }

@@ -215,7 +215,7 @@ impl Port for UdpPort {
 
 /// What a receive returns, by the system's answer: the sender, with as many octets as it says; nothing, where none came in
 /// time, or the sender has no address of 32 bits; or `Device` at any other error.
-fn received(
+pub(crate) fn received(
     answer: io::Result<(usize, SocketAddr)>,
     buffer: &[u8; MOST],
     octets: &mut ArrayVec<u8, 2048>,
@@ -247,7 +247,7 @@ fn lost_to(to: Addr, error: Option<io::Error>) -> Option<Cause> {
 }
 
 /// What a send returns, by the system's answer: `Device`, but at an error that says that there is no route, if the port isn't strict.
-fn sent(answer: io::Result<usize>, strict: bool) -> Result<(), Device>
+pub(crate) fn sent(answer: io::Result<usize>, strict: bool) -> Result<(), Device>
     ensures { Sent strict answer result }
 {
     match answer {
@@ -284,6 +284,6 @@ fn has_no_way(error: &io::Error) -> bool
 }
 
 /// The address as sockets take it.
-fn socket_addr(addr: Addr) -> SocketAddr {
+pub(crate) fn socket_addr(addr: Addr) -> SocketAddr {
     SocketAddr::new(IpAddr::V4(Ipv4Addr::from_bits(addr.ip)), addr.port)
 }

@@ -13,7 +13,7 @@ use Rattle.nbt_prog.specs.Texts.{IsAddress, IsHexadecimal}
 
 -- a new server: a datagram lives 1,000 ms, a lease at most 60 s, it keeps as many of them as a server may, and it started at 0
 abbrev pub new_server : ServerValue
-new_server = record { start = 0; last = 0; table = record { config = config_of 1000 60 4096; last = 0; rows = [] } }
+new_server = record { start = 0; last = 0; table = record { config = config_of 1000 60 4096; last = 0; rows = [] }; client_rows = None }
 
 -- the reply in hexadecimal, or the word for no reply
 abbrev pub answer_text : Option MessageValue → List ℕ

@@ -1,7 +1,8 @@
 -- Two answers of the server's rules are the same.
 use Rattle.std.proofs.Common.{◌≡◌, ℕ, List, [], Option, Some, None, Result, inl, inr, refl, sym, ap, ◌∙◌, subst, arith}
-use Rattle.nbt_server.proofs.Common.{◌⊎◌, none-some, same_Some, NameValue, Registration, MessageValue, registration, overwrite, refresh, release, query, released, not_found, Spells, GrantFault, Grant, Released, Leases, TableValue, leases_at, Asked, Grants, Releases, IsLeastEnd, by_registration, by_refresh, IsOwn, IsForNodes, asked_in, name_error, refused_error, refusal, grant_reply, release_rcode, found_reply, Serves, registers, refuses, refuses_overwrite, releases, refuses_release, finds, finds_none, passes_over, ServerValue, ServesOctets, is_silent, is_no_message, serves}
+use Rattle.nbt_server.proofs.Common.{◌⊎◌, AsksFor, IsOverLimit, server_error, turns_away, none-some, same_Some, NameValue, Registration, MessageValue, registration, overwrite, refresh, release, query, released, not_found, Spells, GrantFault, Grant, Released, Leases, TableValue, leases_at, Asked, Grants, Releases, IsLeastEnd, by_registration, by_refresh, IsOwn, IsForNodes, asked_in, name_error, refused_error, refusal, grant_reply, release_rcode, found_reply, Serves, registers, refuses, refuses_overwrite, releases, refuses_release, finds, finds_none, passes_over, ServerValue, ServesOctets, is_silent, is_no_message, serves}
 use Rattle.nbt_lease.proofs.Least.{one_least}
+use Rattle.nbt_server.proofs.Rules.{one_requested}
 
 -- ---- a message
 
@@ -81,12 +82,24 @@ module _ (table : TableValue) (now ip : ℕ) (one : OneCase table now) where
 -- ---- octets, which spell one message at most
 
 module _ (server : ServerValue) (now ip : ℕ) (octets : List ℕ) (one : OneCase server.table now) (one_message : (m n : MessageValue) → Spells octets m → Spells octets n → m ≡ n) where
+  -- what is over the limit is so as whichever message the octets spell
+  turned : (m n : MessageValue) → Spells octets m → Spells octets n → IsOverLimit server.client_rows server.table now ip m → IsOverLimit server.client_rows server.table now ip n
+  turned m n is also over = subst (λ (v : MessageValue). IsOverLimit server.client_rows server.table now ip v) (one_message m n is also) over
+
   pub one_reply : (r s : Option MessageValue) (x y : Leases) → ServesOctets server now ip octets r x → ServesOctets server now ip octets s y → (r ≡ s) × (x ≡ y)
-  one_reply _ _ _ _ (is_silent early) (serves m reply after speaks is does) = absurd (omega (arith, early, speaks))
-  one_reply _ _ _ _ (is_no_message none) (serves m reply after speaks is does) = absurd (none m is)
-  one_reply _ _ _ _ (serves m reply after speaks is does) (is_silent early) = absurd (omega (arith, early, speaks))
-  one_reply _ _ _ _ (serves m reply after speaks is does) (is_no_message none) = absurd (none m is)
-  one_reply _ _ _ _ (serves m reply after speaks is does) (serves n other later speaks_too also does_too) =
+  one_reply _ _ _ _ (is_silent early) (serves m reply after speaks is room does) = absurd (omega (arith, early, speaks))
+  one_reply _ _ _ _ (is_silent early) (turns_away m speaks is over) = absurd (omega (arith, early, speaks))
+  one_reply _ _ _ _ (is_no_message none) (serves m reply after speaks is room does) = absurd (none m is)
+  one_reply _ _ _ _ (is_no_message none) (turns_away m speaks is over) = absurd (none m is)
+  one_reply _ _ _ _ (turns_away m speaks is over) (is_silent early) = absurd (omega (arith, early, speaks))
+  one_reply _ _ _ _ (turns_away m speaks is over) (is_no_message none) = absurd (none m is)
+  one_reply _ _ _ _ (turns_away m speaks is over) (serves n other later speaks_too also room does) = absurd (room (turned m n is also over))
+  one_reply _ _ _ _ (turns_away m speaks is over) (turns_away n speaks_too also over_too) =
+      (ap (λ (q : Registration). Some (refusal server_error q)) (one_requested over.asks (subst (λ (v : MessageValue). AsksFor v over_too.r) (one_message n m also is) over_too.asks)), refl)
+  one_reply _ _ _ _ (serves m reply after speaks is room does) (is_silent early) = absurd (omega (arith, early, speaks))
+  one_reply _ _ _ _ (serves m reply after speaks is room does) (is_no_message none) = absurd (none m is)
+  one_reply _ _ _ _ (serves m reply after speaks is room does) (turns_away n speaks_too also over) = absurd (room (turned n m also is over))
+  one_reply _ _ _ _ (serves m reply after speaks is room does) (serves n other later speaks_too also room_too does_too) =
       let first = subst (λ (v : MessageValue). Serves server.table now ip v reply after) (one_message m n is also) does in
       one_got server.table now ip one n reply other after later (gets server.table now ip one n reply after first) (gets server.table now ip one n other later does_too)
   one_reply _ _ _ _ a b = (refl, refl)

@@ -1,7 +1,7 @@
 -- What the code has found, as a line of the server's rules and what was done by it; and that replies have a written form, which
 -- is short.
-use Rattle.std.proofs.Common.{◌≡◌, true, false, ℕ, zero, suc, ◌-◌, ◌++◌, ◌*◌, ◌%◌, ◌<◌, ◌≤◌, List, [], ◌∷◌, take, length, length-append, append_assoc, append-nil, ap, ◌∙◌, Option, Some, Result, Ok, Err, sym, subst, refl, arith}
-use Rattle.nbt_server.proofs.Common.{lt-ltb, le-ltb, length-take, All-contains, All-from_recursion, IfOk, OnErr, Bool, min, nat_lt, nat_eq, is_some, if◌then◌else◌, Kind, NameValue, Message, Registration, MessageValue, message_of, query, registered, release, released, not_found, AreWritten, entry, GrantFault, Grant, Lease, Released, Leases, TableValue, members_most, AreSound, leases_at, Grants, Releases, IsLeastEnd, Claim, Refusal, Outcome, rcode_of, not_own, refusal_by, claim, claim_in, grant_outcome, release_outcome, done_by, Does, has_reply, IsUnanswered, no_message, IsDone, AsksFor, IsOwn, IsForNodes, asked_in, refused_error, name_error, fault_rcode, found_reply, grant_reply, release_rcode, entries, Serves, registers, refuses, releases, refuses_release, finds, finds_none, ServerValue, ServesOctets, is_silent, is_no_message, serves}
+use Rattle.std.proofs.Common.{◌≡◌, true, false, ℕ, zero, suc, ◌-◌, ◌++◌, ◌*◌, ◌%◌, ◌≢◌, ◌<◌, ◌≤◌, List, [], ◌∷◌, take, length, length-append, append_assoc, append-nil, ap, ◌∙◌, Option, Some, None, Result, Ok, Err, sym, subst, refl, arith}
+use Rattle.nbt_server.proofs.Common.{HasNone, IsTrue, ◌↔◌, by_registration, by_refresh, registration, refresh, none-some, same_Some, IsFull, IsOverLimit, turns_away, lt-ltb, le-ltb, length-take, All-contains, All-from_recursion, IfOk, OnErr, Bool, min, nat_lt, nat_eq, is_some, if◌then◌else◌, Kind, NameValue, Message, Registration, MessageValue, message_of, query, registered, release, released, not_found, AreWritten, entry, GrantFault, Grant, Lease, Released, Leases, TableValue, members_most, AreSound, leases_at, Grants, Releases, IsLeastEnd, Claim, Refusal, Outcome, rcode_of, not_own, refusal_by, claim, claim_in, grant_outcome, release_outcome, done_by, Does, has_reply, IsUnanswered, no_message, IsDone, AsksFor, IsOwn, IsForNodes, asked_in, refused_error, name_error, fault_rcode, found_reply, grant_reply, release_rcode, entries, Serves, registers, refuses, releases, refuses_release, finds, finds_none, ServerValue, ServesOctets, is_silent, is_no_message, serves}
 use Rattle.nbt_packet.proofs.Sizes.{length-entry}
 use Rattle.nbt_packet.specs.declared.message.Message.TheVariants as code
 use Rattle.nbt_lease.specs.declared.fault.GrantFault.TheVariants as faults
@@ -73,6 +73,50 @@ module _ (table : TableValue) (now ip id : ℕ) (c : Claim) (outcome : Outcome) 
     subst (λ (n : ℕ). AreWritten (Some (released id n c.name c.kind c.addr)) out) (ap rcode_of by ∙ either_rcode (nat_eq c.addr ip)) written,
   )
 
+-- ---- the limit of a client
+
+-- a message requests one lease
+abbrev requested : MessageValue → Option Registration
+requested (registration r) = Some r
+requested (refresh r) = Some r
+requested _ = None
+
+is_requested : {m : MessageValue} {r : Registration} → AsksFor m r → requested m ≡ Some r
+is_requested (by_registration r) = refl
+is_requested (by_refresh r) = refl
+
+pub one_requested : {m : MessageValue} {r s : Registration} → AsksFor m r → AsksFor m s → r ≡ s
+one_requested {r = r} {s} a b = same_Some r s (sym (is_requested a) ∙ is_requested b)
+
+-- what requests no lease is never over it
+pub within_limit : (client_rows : Option ℕ) (table : TableValue) (now ip : ℕ) (m : MessageValue) → requested m ≡ None → ¬ IsOverLimit client_rows table now ip m
+within_limit client_rows table now ip m none over = none-some over.r (sym none ∙ is_requested over.asks)
+
+pub nodes_request_nothing : (m : MessageValue) → IsForNodes m → requested m ≡ None
+nodes_request_nothing (registration r) nodes = absurd nodes
+nodes_request_nothing (refresh r) nodes = absurd nodes
+nodes_request_nothing m nodes = refl
+
+-- what requests a lease is over it only if it is the sender's own, and the sender is full for it
+pub over_of : (client_rows : Option ℕ) (table : TableValue) (now ip : ℕ) (r : Registration) (m : MessageValue) → AsksFor m r → IsOverLimit client_rows table now ip m → IsOwn ip r.name r.addr × IsFull client_rows table now ip r.name
+over_of client_rows table now ip r m asks over =
+    subst (λ (q : Registration). IsOwn ip q.name q.addr × IsFull client_rows table now ip q.name) (one_requested over.asks asks) (over.own, over.full)
+
+pub not_over : (client_rows : Option ℕ) (table : TableValue) (now ip : ℕ) (r : Registration) (m : MessageValue) → AsksFor m r → IsTrue false ↔ IsFull client_rows table now ip r.name → ¬ IsOverLimit client_rows table now ip m
+not_over client_rows table now ip r m asks is over = let e = is.1 (over_of client_rows table now ip r m asks over).1 in absurd cc
+
+-- a name's leases, looked at one after the other: there is no lease of the address as far as it was looked
+pub none_next : (ip : ℕ) (all old rest : List Lease) (lease : Lease) → old ≡ lease ∷ rest → lease.addr ≢ ip → HasNone ip old ↔ HasNone ip all → HasNone ip rest ↔ HasNone ip all
+none_next ip all old rest lease is other so_far =
+    let now : HasNone ip (lease ∷ rest) ↔ HasNone ip all = subst (λ (ls : List Lease). HasNone ip ls ↔ HasNone ip all) is so_far in
+    (λ none. now.0 (other, none), λ none. (now.1 none).1)
+
+pub one_there : (ip : ℕ) (all old rest : List Lease) (lease : Lease) → old ≡ lease ∷ rest → lease.addr ≡ ip → HasNone ip old ↔ HasNone ip all → ¬ HasNone ip all
+one_there ip all old rest lease is own so_far none = (subst (HasNone ip) is (so_far.1 none)).0 own
+
+pub none_there : (ip : ℕ) (all rest : List Lease) → rest ≡ [] → HasNone ip rest ↔ HasNone ip all → HasNone ip all
+none_there ip all rest is so_far = so_far.0 (subst (HasNone ip) (sym is) tt)
+
 -- ---- whether there is a reply
 
 grant_replies : (renewed : Bool) (c : Claim) (seconds : ℕ) → has_reply (if renewed then o.Renewed c seconds else o.Granted c seconds) ≡ true
@@ -96,7 +140,8 @@ pub replies : {server : ServerValue} {now ip : ℕ} {octets : List ℕ} {reply :
     → IsDone does outcome → has_reply outcome ≡ is_some reply
 replies {octets = octets} (is_silent early) outcome done = unanswered_replies octets outcome done
 replies (is_no_message none) outcome done = ap has_reply done
-replies (serves m reply after speaks spelled does) outcome done = ap has_reply done ∙ message_replies does
+replies (turns_away m speaks spelled over) outcome done = ap has_reply done
+replies (serves m reply after speaks spelled room does) outcome done = ap has_reply done ∙ message_replies does
 
 -- ---- messages
 

@@ -1,6 +1,6 @@
 -- A server by a clock that shows a constant more does the same, with each of its times greater by as much.
 use Rattle.std.proofs.Common.{◌≡◌, ℕ, ◌+◌, ◌-◌, ◌*◌, ◌/◌, ◌≤◌, max, Bool, true, false, cond, ltb, List, [], ◌∷◌, ◌++◌, map, length, take, zero, suc, Option, Some, None, Result, Ok, Err, refl, sym, ap, ◌∙◌, subst, arith, inl, inr, lt-ltb, le-ltb}
-use Rattle.std.specs.Prelude.{nat_lt}
+use Rattle.std.specs.Prelude.{nat_eq, nat_lt, ◌&&◌}
 use Rattle.std.proofs.lemmas.Bool.{cases_Bool}
 use Rattle.std.proofs.lemmas.Bool.Decides.{leb_tells}
 use Rattle.std.proofs.lemmas.List.{length-map, map-append}
@@ -13,10 +13,11 @@ use Rattle.nbt_packet.specs.Message.{MessageValue, query, found}
 use Rattle.nbt_packet.specs.Text.{entry, entries_most}
 use Rattle.nbt_lease.specs.Config.{ConfigValue, granted}
 use Rattle.nbt_lease.proofs.Rows.{row_lives, row_of_other, row_over, count_lives, count_over, none_live, none_count, same_leases}
-use Rattle.nbt_lease.specs.Lease.{Rows, leases_at, live_count, is_live, at_name, HasNone, AreGroup}
+use Rattle.nbt_lease.proofs.Owned.{none_of, row_counts, row_passes}
+use Rattle.nbt_lease.specs.Lease.{Rows, leases_at, live_count, count_of, is_live, at_name, HasNone, AreGroup}
 use Rattle.nbt_lease.specs.Rules.{Asked, IsAllowed, free, member, owner, end_of, grant_until, begun, renewed, GrantCase, active, renews, group_full, table_full, begins, Grants, ReleaseCase, gone, no_lease, of_others, Releases, IsLeastEnd}
 use Rattle.nbt_lease.specs.declared.lease.Released.TheVariants.{Gone, NoLease, OfOthers}
-use Rattle.nbt_server.specs.Serving.{Grant, Lease, Released, GrantFault, Leases, TableValue, ServerValue, speaks_from, seconds_until, entries, listed, found_reply, asked_in, Serves, registers, refuses, refuses_overwrite, releases, refuses_release, finds, finds_none, passes_over, NeedsMemory, ServesOctets, is_silent, is_no_message, serves}
+use Rattle.nbt_server.specs.Serving.{Grant, Lease, Released, GrantFault, Leases, TableValue, ServerValue, speaks_from, seconds_until, entries, listed, found_reply, refusal, server_error, asked_in, Serves, registers, refuses, refuses_overwrite, releases, refuses_release, finds, finds_none, passes_over, NeedsMemory, IsFull, IsOverLimit, ServesOctets, is_silent, is_no_message, turns_away, serves}
 use Rattle.nbt_server.specs.Outcomes.{holder, refusal_by, release_outcome, claim, claim_in, done_by, IsDone}
 use Rattle.nbt_server.specs.Calls.{ServerTakes, ServerHandles, ServerForgets}
 use Rattle.nbt_lease.specs.declared.fault.GrantFault.TheVariants as faults
@@ -77,11 +78,28 @@ module _ (more : ℕ) where
     count_alike [] = none_count (now + more) ∙ sym (none_count now)
     count_alike (row ∷ rows) = counts_alike row rows (count_alike rows)
 
+    -- whether a row counts for an address
+    owned_yet : (addr : ℕ) (lease : Lease) → (nat_eq (shifted_lease more lease).addr addr && is_live (now + more) (shifted_lease more lease)) ≡ (nat_eq lease.addr addr && is_live now lease)
+    owned_yet addr lease = ap (λ (b : Bool). nat_eq lease.addr addr && b) (lives_yet lease)
+
+    owned_alike : (addr : ℕ) (rows : Rows) → count_of (now + more) addr (map shifted_row rows) ≡ count_of now addr rows
+    owned_alike addr [] = none_of (now + more) addr ∙ sym (none_of now addr)
+    owned_alike addr (row ∷ rows) =
+        let rest = owned_alike addr rows in
+        elim (cases_Bool (nat_eq row.1.addr addr && is_live now row.1)) [
+          | inl counts ↦ row_counts (now + more) addr (shifted_row row) (map shifted_row rows) (owned_yet addr row.1 ∙ counts) ∙ ap (λ (n : ℕ). suc n) rest ∙ sym (row_counts now addr row rows counts)
+          | inr passes ↦ row_passes (now + more) addr (shifted_row row) (map shifted_row rows) (owned_yet addr row.1 ∙ passes) ∙ rest ∙ sym (row_passes now addr row rows passes)
+        ]
+
   -- ---- what is said of a name's leases
 
   none_alike : (addr : ℕ) (leases : List Lease) → HasNone addr leases → HasNone addr (shifts leases)
   none_alike addr [] none = tt
   none_alike addr (lease ∷ leases) none = (none.0, none_alike addr leases none.1)
+
+  none_there : (addr : ℕ) (leases : List Lease) → HasNone addr (shifts leases) → HasNone addr leases
+  none_there addr [] none = tt
+  none_there addr (lease ∷ leases) none = (none.0, none_there addr leases none.1)
 
   group_alike : (leases : List Lease) → AreGroup leases → AreGroup (shifts leases)
   group_alike [] group = tt
@@ -289,6 +307,31 @@ module _ (more : ℕ) where
       serves_alike _ _ _ (finds_none id name none) = as_before _ _ _ (finds_none id name (lives_alike now table.rows name ∙ ap shifts none), refl)
       serves_alike m _ _ (passes_over _ nodes) = as_before m _ _ (passes_over m nodes, refl)
 
+-- ---- the limit of a client
+
+module _ (more : ℕ) (client_rows : Option ℕ) (table : TableValue) (now ip : ℕ) where
+  full_alike : (name : NameValue) → IsFull client_rows table now ip name → IsFull client_rows (shifted_table more table) (now + more) ip name
+  full_alike name full = record {
+    most = full.most;
+    most_is = full.most_is;
+    none = subst (HasNone ip) (sym (lives_alike more now table.rows name)) (none_alike more ip (leases_at now table.rows name) full.none);
+    reached = let reached = full.reached in let same = owned_alike more now ip table.rows in omega (arith, reached, same);
+  }
+
+  full_there : (name : NameValue) → IsFull client_rows (shifted_table more table) (now + more) ip name → IsFull client_rows table now ip name
+  full_there name full = record {
+    most = full.most;
+    most_is = full.most_is;
+    none = none_there more ip (leases_at now table.rows name) (subst (HasNone ip) (lives_alike more now table.rows name) full.none);
+    reached = let reached = full.reached in let same = owned_alike more now ip table.rows in omega (arith, reached, same);
+  }
+
+  abbrev over_alike : (m : MessageValue) → IsOverLimit client_rows table now ip m → IsOverLimit client_rows (shifted_table more table) (now + more) ip m
+  over_alike m over = record { r = over.r; asks = over.asks; own = over.own; full = full_alike over.r.name over.full }
+
+  over_there : (m : MessageValue) → IsOverLimit client_rows (shifted_table more table) (now + more) ip m → IsOverLimit client_rows table now ip m
+  over_there m over = record { r = over.r; asks = over.asks; own = over.own; full = full_there over.r.name over.full }
+
 -- ---- a server
 
 module _ (more : ℕ) where
@@ -308,6 +351,7 @@ module _ (more : ℕ) where
     last = ap (λ (n : ℕ). n + more) x.last;
     config_is = x.config_is;
     empty = ap (map (shifted_row more)) x.empty;
+    no_limit = x.no_limit;
   }
 
   module _ (old : ServerValue) (now ip : ℕ) (octets : List ℕ) where
@@ -322,9 +366,12 @@ module _ (more : ℕ) where
     octets_alike _ _ (is_no_message none) =
         subst (λ (then : Leases). Alike None (leases_at now old.table.rows) then (is_no_message none)) (leases_alike more now old.table.rows)
         (is_no_message none, λ outcome done. done)
-    octets_alike _ _ (serves m reply after speaks spelled does) =
+    octets_alike _ _ (turns_away m speaks spelled over) =
+        subst (λ (then : Leases). Alike (Some (refusal server_error over.r)) (leases_at now old.table.rows) then (turns_away m speaks spelled over)) (leases_alike more now old.table.rows)
+        (turns_away m (let later = speaks_alike old in omega (arith, speaks, later)) spelled (over_alike more old.client_rows old.table now ip m over), λ outcome done. done)
+    octets_alike _ _ (serves m reply after speaks spelled room does) =
         let x = serves_alike more old.table now ip m reply after does in
-        (serves m reply (shifted_leases more after) (let later = speaks_alike old in omega (arith, speaks, later)) spelled x.0, λ outcome done. done ∙ sym x.1)
+        (serves m reply (shifted_leases more after) (let later = speaks_alike old in omega (arith, speaks, later)) spelled (λ over. room (over_there more old.client_rows old.table now ip m over)) x.0, λ outcome done. done ∙ sym x.1)
 
     module _ (new : ServerValue) where
       there : (reply : Option MessageValue) (x : ServesOctets old now ip octets reply (leases_at now new.table.rows))
@@ -339,6 +386,7 @@ module _ (more : ℕ) where
         start = ap (λ (n : ℕ). n + more) x.start;
         last = ap (λ (n : ℕ). n + more) x.last;
         config = x.config;
+        limit = x.limit;
       }
 
       handles_alike : (outcome : Outcome) (out : List ℕ) → ServerHandles old now ip octets outcome out new → ServerHandles (shifted_server more old) (now + more) ip octets outcome out (shifted_server more new)
@@ -374,11 +422,13 @@ module _ (more : ℕ) where
         message = x.message;
         speaks = let speaks = x.speaks in let later = speaks_alike old in omega (arith, speaks, later);
         spelled = x.spelled;
+        room = λ over. x.room (over_there more old.client_rows old.table now ip x.message over);
         needs = needs_alike x.message x.needs;
         leases = kept_alike x.leases;
         start = ap (λ (n : ℕ). n + more) x.start;
         last = ap (λ (n : ℕ). n + more) x.last;
         config = x.config;
+        limit = x.limit;
       }
 
       pub does_alike : DoesAlike more old now ip octets new

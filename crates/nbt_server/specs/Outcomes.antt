@@ -9,7 +9,7 @@ use Rattle.nbt_server.specs.declared.outcome.Refusal.{Refusal}
 use Rattle.nbt_server.specs.declared.outcome.Refusal.TheVariants as why
 use Rattle.nbt_server.specs.declared.outcome.Outcome.{Outcome}
 use Rattle.nbt_server.specs.declared.outcome.Outcome.TheVariants as o
-use Rattle.nbt_server.specs.Serving.{Kind, Registration, Spells, GrantFault, Grant, Lease, Released, Gone, NoLease, OfOthers, Leases, TableValue, leases_at, IsForNodes, server_error, refused_error, active_error, Serves, registers, refuses, refuses_overwrite, releases, refuses_release, finds, finds_none, passes_over, ServerValue, ServesOctets, is_silent, is_no_message, serves}
+use Rattle.nbt_server.specs.Serving.{Kind, Registration, Spells, GrantFault, Grant, Lease, Released, Gone, NoLease, OfOthers, Leases, TableValue, leases_at, IsForNodes, server_error, refused_error, active_error, Serves, registers, refuses, refuses_overwrite, releases, refuses_release, finds, finds_none, passes_over, refusal, IsOverLimit, ServerValue, ServesOctets, is_silent, is_no_message, turns_away, serves}
 
 -- ---- refusals
 
@@ -20,6 +20,7 @@ rcode_of why.Overwrite = refused_error
 rcode_of (why.Active holder) = active_error
 rcode_of why.TableFull = server_error
 rcode_of why.GroupFull = server_error
+rcode_of why.ClientFull = server_error
 
 -- a request that isn't the sender's own: of another's address, else of a name that begins with `*`
 abbrev pub not_own : (ip addr : ℕ) → Refusal
@@ -68,6 +69,16 @@ done_by (passes_over m nodes) = o.ForNodes
 abbrev pub Does : (table : TableValue) → (now ip : ℕ) → MessageValue → Outcome → (out : List ℕ) → (after : Leases) → Type 0
 Does table now ip m outcome out after = (reply : Option MessageValue) × (does : Serves table now ip m reply after) × (outcome ≡ done_by does) × AreWritten reply out
 
+-- what it did with a message of a client that is full for it
+abbrev pub turned_away : Registration → Outcome
+turned_away r = o.Refused (claim_in r) why.ClientFull
+
+-- The same, where a client may have so many leases: it turns the client away, or does what the rules say.
+pub data DoesWithin (client_rows : Option ℕ) (table : TableValue) (now ip : ℕ) (m : MessageValue) (outcome : Outcome) (out : List ℕ) (after : Leases) : Type 0 where
+  by_limit : (over : IsOverLimit client_rows table now ip m) → outcome ≡ turned_away over.r → AreWritten (Some (refusal server_error over.r)) out → after ≡ leases_at now table.rows
+      → DoesWithin client_rows table now ip m outcome out after
+  by_rule : ¬ IsOverLimit client_rows table now ip m → Does table now ip m outcome out after → DoesWithin client_rows table now ip m outcome out after
+
 -- ---- a datagram
 
 abbrev pub has_reply : Outcome → Bool
@@ -86,4 +97,5 @@ pub data IsUnanswered (octets : List ℕ) : Outcome → Type 0 where
 abbrev pub IsDone : {server : ServerValue} {now ip : ℕ} {octets : List ℕ} {reply : Option MessageValue} {after : Leases} → ServesOctets server now ip octets reply after → Outcome → Type 0
 IsDone {octets = octets} (is_silent early) outcome = IsUnanswered octets outcome
 IsDone (is_no_message none) outcome = outcome ≡ o.NoMessage
-IsDone (serves m reply after speaks spelled does) outcome = outcome ≡ done_by does
+IsDone (turns_away m speaks spelled over) outcome = outcome ≡ turned_away over.r
+IsDone (serves m reply after speaks spelled room does) outcome = outcome ≡ done_by does

@@ -16,6 +16,7 @@ pub use Rattle.nbt_lease.specs.declared.lease.Released.{Released}
 pub use Rattle.nbt_lease.specs.declared.lease.Released.TheVariants.{Gone, NoLease, OfOthers}
 use Rattle.nbt_lease.specs.Config.{milliseconds}
 pub use Rattle.nbt_lease.specs.Lease.{Leases, TableValue, leases_at}
+use Rattle.nbt_lease.specs.Lease.{count_of, HasNone}
 use Rattle.nbt_lease.specs.Rules.{Asked, asked, Grants, ChangesLeases, Releases, IsLeastEnd}
 
 -- ---- what is requested
@@ -124,22 +125,44 @@ pub record NeedsMemory (table : TableValue) (now ip : ℕ) (m : MessageValue) : 
   pub own : IsOwn ip r.name r.addr
   pub changes : ChangesLeases table now r.name (asked_in r)
 
+-- ---- how many leases a client may have
+
+-- A client is a 32-bit address. It is full for a name if it has no live lease of it, and as many of other names as it may
+-- have.
+pub record IsFull (client_rows : Option ℕ) (table : TableValue) (now ip : ℕ) (name : NameValue) : Type 0 where
+  pub most : ℕ
+  pub most_is : client_rows ≡ Some most
+  pub none : HasNone ip (leases_at now table.rows name)
+  pub reached : most ≤ count_of now ip table.rows
+
+-- a registration or refresh of the sender's own, for a name for which it is full
+pub record IsOverLimit (client_rows : Option ℕ) (table : TableValue) (now ip : ℕ) (m : MessageValue) : Type 0 where
+  pub r : Registration
+  pub asks : AsksFor m r
+  pub own : IsOwn ip r.name r.addr
+  pub full : IsFull client_rows table now ip r.name
+
 -- ---- datagrams
 
--- What contracts see of a server: when it started, the time of the last datagram, and its table.
+-- What contracts see of a server: when it started, the time of the last datagram, its table, and how many live leases a
+-- client may have: any number if there is no limit.
 pub record ServerValue : Type 0 where
   pub start : ℕ
   pub last : ℕ
   pub table : TableValue
+  pub client_rows : Option ℕ
 
 -- A lease that was given before the start may last until then.
 abbrev pub speaks_from : ServerValue → ℕ
 speaks_from server = server.start + milliseconds server.table.config.longest
 
--- What the server does with a datagram: nothing before it speaks, nor with octets that spell no message; else what it
--- does with the message that they spell.
+-- What the server does with a datagram: nothing before it speaks, nor with octets that spell no message; it turns away a
+-- client that is full; else what it does with the message that they spell.
 pub data ServesOctets (server : ServerValue) (now ip : ℕ) (octets : List ℕ) : Option MessageValue → Leases → Type 0 where
   is_silent : now < speaks_from server → ServesOctets server now ip octets None (leases_at now server.table.rows)
   is_no_message : ((m : MessageValue) → ¬ Spells octets m) → ServesOctets server now ip octets None (leases_at now server.table.rows)
-  serves : (m : MessageValue) (reply : Option MessageValue) (after : Leases) → speaks_from server ≤ now → Spells octets m → Serves server.table now ip m reply after
+  turns_away : (m : MessageValue) → speaks_from server ≤ now → Spells octets m → (over : IsOverLimit server.client_rows server.table now ip m)
+      → ServesOctets server now ip octets (Some (refusal server_error over.r)) (leases_at now server.table.rows)
+  serves : (m : MessageValue) (reply : Option MessageValue) (after : Leases) → speaks_from server ≤ now → Spells octets m → ¬ IsOverLimit server.client_rows server.table now ip m
+      → Serves server.table now ip m reply after
       → ServesOctets server now ip octets reply after

@@ -20,7 +20,7 @@ abbrev pub shifted_table : (more : ℕ) → TableValue → TableValue
 shifted_table more table = record table { last = table.last + more; rows = map (λ row. (row.0, shifted_lease more row.1)) table.rows }
 
 abbrev pub shifted_server : (more : ℕ) → ServerValue → ServerValue
-shifted_server more server = record { start = server.start + more; last = server.last + more; table = shifted_table more server.table }
+shifted_server more server = record { start = server.start + more; last = server.last + more; table = shifted_table more server.table; client_rows = server.client_rows }
 
 -- ---- what is the same by both clocks
 

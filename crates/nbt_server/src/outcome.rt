@@ -52,6 +52,8 @@ pub enum Refusal {
     TableFull,
     /// SRV_ERR (2): the group has 1,000 live members.
     GroupFull,
+    /// SRV_ERR (2): the sender has as many live leases as a client may have.
+    ClientFull,
 }
 
 impl Refusal {
@@ -63,7 +65,7 @@ impl Refusal {
         match self {
             Refusal::NotOwn | Refusal::Star | Refusal::Overwrite => REFUSED,
             Refusal::Active(_) => ACTIVE,
-            Refusal::TableFull | Refusal::GroupFull => SERVER_ERROR,
+            Refusal::TableFull | Refusal::GroupFull | Refusal::ClientFull => SERVER_ERROR,
         }
     }
 }

@@ -1,6 +1,6 @@
 //! The name server.
 
-ghost use Rattle.std.specs.Prelude.{◌≡◌, ◌≢◌, ◌+◌, ◌*◌, ◌<◌, ◌≤◌, ◌↔◌, ◌⊎◌, Option, [], IsOk, IfOk, OnErr, IsErrOf, is_some};
+ghost use Rattle.std.specs.Prelude.{◌≡◌, ◌≢◌, ◌+◌, ◌*◌, ◌<◌, ◌≤◌, ◌↔◌, ◌⊎◌, Option, Some, None, [], IsOk, IfOk, OnErr, IsErrOf, is_some};
 ghost use Rattle.nbt_packet.specs.Message.{MessageValue};
 ghost use Rattle.nbt_lease.specs.Config.{IsConfig};
 ghost use Rattle.nbt_lease.specs.Lease.{leases_at, live_count, IsSound};
@@ -15,12 +15,14 @@ use nbt_packet::read;
 use std::alloc::Global;
 use std::marker::Model;
 
-/// A name server (RFC 1001 section 15.1, RFC 1002 section 5.1.4): the leases that it has granted, and the time it started.
+/// A name server (RFC 1001 section 15.1, RFC 1002 section 5.1.4): the leases that it has granted, the time it started, and how
+/// many live leases a client may have.
 #[derive(Drop)]
 pub struct Server {
     start: Moment,
     last: Moment,
     table: Table,
+    client_rows: Option<u32>,
 }
 
 impl Model for Server {
@@ -29,7 +31,7 @@ impl Model for Server {
 
     ghost Value = { ServerValue };
 
-    ghost view = { λ s. record { start = s.start; last = s.last; table = s.table } };
+    ghost view = { λ s. record { start = s.start; last = s.last; table = s.table; client_rows = s.client_rows } };
 
     ghost invariant = { λ s. (s.start ≤ s.last) × (s.table.last ≤ s.last) };
 }
@@ -37,9 +39,9 @@ impl Model for Server {
 impl Server {
     ghost use Rattle.nbt_packet.specs.Spelling.{AreWritten};
     ghost use Rattle.nbt_server.specs.Serving.{ServerValue, speaks_from};
-    ghost use Rattle.nbt_server.specs.Calls.{ServerStarts, ServerResumes, kept_server, ServerTakes, ServerHandles, ServerForgets};
+    ghost use Rattle.nbt_server.specs.Calls.{ServerStarts, ServerResumes, kept_server, limited, ServerTakes, ServerHandles, ServerForgets};
 
-    /// A server without leases, which starts at `now`. It takes no memory.
+    /// A server without leases, which starts at `now`. A client may have any number of leases. It takes no memory.
     pub fn start(alloc: Global, config: Config, now: Moment) -> Server
         ensures { ServerStarts config now result }
     {
@@ -47,13 +49,23 @@ impl Server {
             start: now,
             last: now,
             table: Table::new(alloc, config),
+            client_rows: None,
         }
+    }
+
+    /// Lets each client have `rows` live leases at most, unique names and groups together, from now on (our profile). A client
+    /// is a 32-bit address. What it has it keeps, and may renew, however much that is. 0 lets no client begin one.
+    pub fn limit_clients(&mut self, rows: u32)
+        ensures { self.new ≡ limited (Some rows) self.old }
+    {
+        self.client_rows = Some(rows);
     }
 
     /// A server that goes on with what was kept of it: its limits, its start, its last time, and rows with its leases, those of
     /// a name in order of their beginnings; leases that are over at `now` are left out. Its last time is `now`. It is silent
     /// no longer than it would have been: until the longest lease has passed since `start` (our profile). `last` and the rows
-    /// must be the last state: a lease that was granted after it may be granted to another node.
+    /// must be the last state: a lease that was granted after it may be granted to another node. A client may have any number
+    /// of leases, as after a start.
     ///
     /// Refusals, in this order. `ClockBack` (1): `now` is before `start` or `last`. `TableFull` (2): more of the leases live
     /// than the limits allow. `Unsound` (3): a name's live leases are none that a server has at `now`: two of one address, one
@@ -84,6 +96,7 @@ impl Server {
                 start,
                 last: now,
                 table,
+                client_rows: None,
             }),
             Err(fault) => Err(ResumeFault::of_leases(fault)),
         }
@@ -97,6 +110,8 @@ impl Server {
     /// - A registration or refresh is granted for its TTL, at most the longest lease; a TTL of 0 requests that. It is refused
     ///   with ACT_ERR (6) if other leases conflict, with SRV_ERR (2) if the group has 1,000 live members or the table is
     ///   full, and with RFS_ERR (5) if its address isn't that of `from`, or its name begins with `*` (our profile).
+    /// - Before that, one of a name of which `from` has no lease is refused with SRV_ERR (2) if `from` has as many leases as
+    ///   [`Server::limit_clients`] allows (our profile). Only this looks through the table, name after name.
     /// - A release ends the lease of the sender alone. It is refused with ACT_ERR if others have the name and the sender
     ///   doesn't, and with RFS_ERR like a registration.
     /// - A query is answered with the live leases in order of their beginnings, as many as fit in 576 octets; TC is set if
@@ -133,7 +148,8 @@ impl Server {
         if now.get() < self.speaks_from() {
             return Ok(unanswered(message));
         }
-        match serve(&mut self.table, now, from.ip, message, out) {
+        let limit = self.client_rows;
+        match serve(&mut self.table, limit, now, from.ip, message, out) {
             Ok(outcome) => Ok(outcome),
             Err(_) => Err(ServerFault::OutOfMemory),
         }

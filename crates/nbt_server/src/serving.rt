@@ -1,15 +1,15 @@
 //! What a name server does with a message (RFC 1002 section 5.1.4).
 
-ghost use Rattle.std.specs.Prelude.{◌≡◌, ◌≢◌, ℕ, List, ◌+◌, ◌*◌, ◌<◌, ◌≤◌, ◌↔◌, Option, Some, IfOk, IfSome, IfNone, OnErr, [], length};
+ghost use Rattle.std.specs.Prelude.{◌≡◌, ◌≢◌, ℕ, List, ◌+◌, ◌*◌, ◌<◌, ◌≤◌, ◌↔◌, Option, Some, IsTrue, IfOk, IfSome, IfNone, OnErr, [], length};
 ghost use Rattle.nbt_packet.specs.Message.{MessageValue, message_of, query, release, registered, released};
 ghost use Rattle.nbt_packet.specs.Spelling.{Spells, AreWritten};
 ghost use Rattle.nbt_packet.specs.Text.{entries_most};
 ghost use Rattle.nbt_lease.specs.Config.{IsConfig, milliseconds};
 ghost use Rattle.nbt_lease.specs.declared.config.TheConstants.{LONGEST_MOST};
-ghost use Rattle.nbt_lease.specs.Lease.{leases_at, latest_end, AreSound};
+ghost use Rattle.nbt_lease.specs.Lease.{leases_at, latest_end, AreSound, HasNone};
 ghost use Rattle.nbt_lease.specs.Rules.{IsLeastEnd};
-ghost use Rattle.nbt_server.specs.Outcomes.{rcode_of, claim_in, not_own, holder, refusal_by, grant_outcome, IsUnanswered, Does};
-ghost use Rattle.nbt_server.specs.Serving.{AsksFor, IsOwn, seconds_until, entries, listed, is_cut, NeedsMemory};
+ghost use Rattle.nbt_server.specs.Outcomes.{rcode_of, claim_in, not_own, holder, refusal_by, grant_outcome, IsUnanswered, Does, DoesWithin};
+ghost use Rattle.nbt_server.specs.Serving.{AsksFor, IsOwn, seconds_until, entries, listed, is_cut, IsFull, IsOverLimit, NeedsMemory};
 
 use crate::outcome::{Claim, Outcome, Refusal};
 use arrayvec::ArrayVec;
@@ -25,10 +25,11 @@ const NAME_ERROR: u8 = 3;
 /// 4.2.13).
 const ENTRIES_OCTETS: usize = 516;
 
-/// Handles a message from the address `ip` by the rules, and returns what it did. `out` has the reply, or stays empty if
-/// there is none.
+/// Handles a message from the address `ip` by the rules, and returns what it did. A client may have `client_rows` live leases,
+/// if that is limited. `out` has the reply, or stays empty if there is none.
 pub(crate) fn serve(
     table: &mut Table,
+    client_rows: Option<u32>,
     now: Moment,
     ip: u32,
     message: Message<'_>,
@@ -37,15 +38,16 @@ pub(crate) fn serve(
     requires limits { IsConfig table.old.config }
     requires time { table.old.last ≤ now }
     requires empty { out.old.items ≡ [] }
-    ensures does { IfOk result (λ outcome. Does table.old now ip (message_of message.entry) outcome out.new.items (leases_at now table.new.rows)) }
+    ensures does { IfOk result (λ outcome. DoesWithin client_rows table.old now ip (message_of message.entry) outcome out.new.items (leases_at now table.new.rows)) }
     ensures memory { OnErr result (NeedsMemory table.old now ip (message_of message.entry)) }
+    ensures room { OnErr result (¬ IsOverLimit client_rows table.old now ip (message_of message.entry)) }
     ensures refused { OnErr result ((leases_at now table.new.rows ≡ leases_at now table.old.rows) × (out.new.items ≡ [])) }
     ensures config { table.new.config ≡ table.old.config }
     ensures last { table.new.last ≤ now }
 {
     match message {
-        Message::Registration(asked) => lease(table, now, ip, asked, out),
-        Message::Refresh(asked) => lease(table, now, ip, asked, out),
+        Message::Registration(asked) => lease(table, client_rows, now, ip, asked, out),
+        Message::Refresh(asked) => lease(table, client_rows, now, ip, asked, out),
         Message::Overwrite(asked) => Ok(refuse(asked, Refusal::Overwrite, out)),
         Message::Release {
             id,
@@ -89,20 +91,25 @@ fn refusal_of(ip: u32, name: &Name, addr: u32) -> Option<Refusal>
 /// Grants a registration or a refresh, or refuses it (RFC 1002 section 5.1.4.1).
 fn lease(
     table: &mut Table,
+    client_rows: Option<u32>,
     now: Moment,
     ip: u32,
     asked: Registration,
     out: &mut ArrayVec<u8, 576>,
 ) -> Result<Outcome, AllocError>
     requires { table.old.last ≤ now }
-    ensures does { IfOk result (λ outcome. (m : MessageValue) → AsksFor m asked → Does table.old now ip m outcome out.new.items (leases_at now table.new.rows)) }
+    ensures does { IfOk result (λ outcome. (m : MessageValue) → AsksFor m asked → DoesWithin client_rows table.old now ip m outcome out.new.items (leases_at now table.new.rows)) }
     ensures memory { OnErr result ((m : MessageValue) → AsksFor m asked → NeedsMemory table.old now ip m) }
+    ensures room { OnErr result ((m : MessageValue) → AsksFor m asked → ¬ IsOverLimit client_rows table.old now ip m) }
     ensures refused { OnErr result ((leases_at now table.new.rows ≡ leases_at now table.old.rows) × (out.new.items ≡ out.old.items)) }
     ensures config { table.new.config ≡ table.old.config }
     ensures last { table.new.last ≤ now }
 {
     if let Some(refusal) = refusal_of(ip, &asked.name, asked.addr) {
         return Ok(refuse(asked, refusal, out));
+    }
+    if is_full(client_rows, table, now, ip, &asked.name) {
+        return Ok(refuse(asked, Refusal::ClientFull, out));
     }
     let fault = match table.grant(now, &asked.name, asked.addr, asked.kind, asked.ttl) {
         Ok(grant) => return Ok(accept(asked, grant, out)),
@@ -112,6 +119,31 @@ fn lease(
         return Err(AllocError);
     };
     Ok(refuse(asked, refusal, out))
+}
+
+/// Whether a client is full for a name: it has no lease of it, and as many as it may have. A lease of the name is looked for
+/// first, so only a request that would begin one looks through the table.
+fn is_full(client_rows: Option<u32>, table: &Table, now: Moment, ip: u32, name: &Name) -> bool
+    requires { table.now.last ≤ now }
+    ensures { IsTrue result ↔ IsFull client_rows table.now now ip name.now }
+{
+    let Some(most) = client_rows else {
+        return false;
+    };
+    has_none(table, now, ip, name) && table.has_at_least(now, ip, most)
+}
+
+/// Whether a client has no live lease of a name.
+fn has_none(table: &Table, now: Moment, ip: u32, name: &Name) -> bool
+    requires { table.now.last ≤ now }
+    ensures { IsTrue result ↔ HasNone ip (leases_at now table.now.rows name.now) }
+{
+    for lease in table.members(now, name) {
+        if lease.addr == ip {
+            return false;
+        }
+    }
+    true
 }
 
 /// Why a grant is refused; none if it ran out of memory.

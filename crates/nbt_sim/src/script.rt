@@ -1,8 +1,9 @@
 //! Scripts, line by line.
 
-ghost use Rattle.std.specs.Prelude.{◌≡◌, ◌++◌, ℕ, List, None, MatchOption, IfOk};
+ghost use Rattle.std.specs.Prelude.{◌≡◌, ◌↔◌, ◌++◌, ℕ, List, None, MatchOption, IfOk, IsTrue};
 ghost use Rattle.std.specs.String.{string_bytes};
 ghost use Rattle.nbt_text.specs.Lines.{lines};
+ghost use Rattle.nbt_text.specs.Texts.{texts};
 ghost use Rattle.nbt_sim.specs.Script.{Does, Fits, Plays, PlaysLine};
 
 use crate::instruction::{Instruction, Line, parse_line};
@@ -24,6 +25,15 @@ pub enum Played {
     Unreadable,
 }
 
+impl Played {
+    /// Whether it ends the script.
+    fn is_unreadable(&self) -> bool
+        ensures { IsTrue result ↔ (self.now ≡ Played.Unreadable) }
+    {
+        matches!(self, Played::Unreadable)
+    }
+}
+
 /// Appends what the lines of a script print, in order; the first line that can't be read, or asks for what can't be done,
 /// is named by its number, counted from 1 and with the blank ones among them, and ends the script. Returns whether
 /// there was none. `AllocError` only where out of memory; to a server, out of memory is a datagram lost.
@@ -33,9 +43,21 @@ pub fn play(script: &[u8], out: &mut String) -> Result<bool, AllocError>
 {
     let alloc = *out.allocator();
     let lines = lines_of(alloc, script)?;
-    let mut world = None;
+    play_lines(alloc, lines.as_slice(), &mut None, out)
+}
+
+/// Plays lines as `play` does, in a script's world.
+fn play_lines(
+    alloc: Global,
+    lines: &[&[u8]],
+    world: &mut Option<World>,
+    out: &mut String,
+) -> Result<bool, AllocError>
+    ensures { IfOk result (λ well. (text : List ℕ) × (string_bytes out.new ≡ string_bytes out.old ++ text)
+        × Plays 1 world.old (texts lines.now) well text) }
+{
     'lines: for (index, line) in lines.iter().enumerate() {
-        if let Played::Unreadable = play_line(alloc, line, &mut world, out)? {
+        if play_line(alloc, line, world, out)?.is_unreadable() {
             let number = index + 1;
             writeln!(out, "line {number}: unreadable")?;
             return Ok(false);

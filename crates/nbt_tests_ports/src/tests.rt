@@ -1,5 +1,6 @@
 //! One file for each subject.
 
+mod addresses;
 mod expect;
 mod host;
 mod hosting;

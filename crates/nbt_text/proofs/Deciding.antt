@@ -1,6 +1,6 @@
 -- Digits in hexadecimal, and what is known of an option.
 use Rattle.std.proofs.Common.{◌≡◌, ℕ, ◌*◌, ◌<◌, ◌^◌, List, [], ◌∷◌, length, Option, Some, None, Result, Ok, Err, sym, ◌∙◌, ap, refl, subst, arith}
-use Rattle.std.specs.Prelude.{◌↔◌, IfOk, IfErr, IfSome, IfNone, OnOk}
+use Rattle.std.specs.Prelude.{◌↔◌, IfOk, IfErr, IfSome, IfNone}
 use Rattle.std.specs.Option.{SomeIff}
 use Rattle.std.specs.Result.{result_ok}
 use Rattle.hex.specs.Hex.{decode_of, decode_sized}

@@ -16,6 +16,8 @@ pub mod Words
 pub mod Filling
 -- what is printed of sixteen octets spells them
 pub mod PrintedOctets
+-- a scope behind a name's suffix
+pub mod ScopedWords
 -- digits in hexadecimal, and what is known of an option
 pub mod Deciding
 -- the digits of a time, and the colon of an address

@@ -1,7 +1,7 @@
 -- Names as text: how components end, and what is left to read.
-use Rattle.std.proofs.Common.{◌≡◌, ◌≢◌, ℕ, ◌+◌, ◌-◌, ◌<◌, ◌≤◌, List, [], ◌∷◌, ◌++◌, length, get_or, Option, Some, None, Result, Ok, Err, true, take, sym, ◌∙◌, ap, refl, subst, arith, append_assoc, zero, suc}
-use Rattle.std.specs.Prelude.{◌↔◌, IsOk, OnSome, MatchOption, MatchResult, replicate}
-use Rattle.std.proofs.lemmas.List.{append-nil, length-append, length-replicate, take-append-le}
+use Rattle.std.proofs.Common.{◌≡◌, ◌≢◌, ℕ, ◌+◌, ◌<◌, ◌≤◌, List, [], ◌∷◌, ◌++◌, length, get_or, Option, Some, None, Result, Ok, Err, true, take, sym, ◌∙◌, ap, refl, subst, arith, append_assoc, zero, suc}
+use Rattle.std.specs.Prelude.{◌↔◌, IsOk, OnSome, MatchOption, MatchResult}
+use Rattle.std.proofs.lemmas.List.{append-nil, length-append, take-append-le}
 use Rattle.std.proofs.Math.Seq.{take-length}
 use denote.Ref.{Bor}
 use Rattle.std.specs.Result.{result_ok}
@@ -13,21 +13,21 @@ use Rattle.nbt_name.specs.declared.fault.NameFault.{NameFault}
 use Rattle.nbt_name.specs.Wire.{NameValue, IsName, AreOctets, name_of, wire}
 use Rattle.nbt_name.specs.Reading.{PlainNameAt}
 use Rattle.nbt_text.specs.Lines.{HasNo}
-use Rattle.nbt_text.specs.NameText.{Component, as_it_is, in_digits, Labels, no_label, label, Sixteen, filled_up, in_32_digits, SpellsName, StandsAsItIs, dot, prefix, space}
+use Rattle.nbt_text.specs.NameText.{Component, as_it_is, in_digits, Labels, no_label, label, Sixteen, filled_up, in_32_digits, SpellsName, StandsAsItIs, dot, prefix}
 
 -- ---- components have no dot
 
 HasNo-plain : (octets : List ℕ) → StandsAsItIs octets → HasNo dot octets
 HasNo-plain octets stands k h = (stands.plain k h).2
 
-digit_no_dot : (c : ℕ) → is_hex_digit c ≡ true → c ≢ dot
+pub digit_no_dot : (c : ℕ) → is_hex_digit c ≡ true → c ≢ dot
 digit_no_dot c h e = let bad : is_hex_digit dot ≡ true = subst (λ (x : ℕ). is_hex_digit x ≡ true) e h in absurd cc
 
-HasNo-cons : (x : ℕ) (xs : List ℕ) → x ≢ dot → HasNo dot xs → HasNo dot (x ∷ xs)
+pub HasNo-cons : (x : ℕ) (xs : List ℕ) → x ≢ dot → HasNo dot xs → HasNo dot (x ∷ xs)
 HasNo-cons x xs other none zero h = other
 HasNo-cons x xs other none (suc k) h = none k (omega arith)
 
-HasNo-prefixed : (digits octets : List ℕ) → decode_of digits ≡ Ok octets → HasNo dot (prefix ++ digits)
+pub HasNo-prefixed : (digits octets : List ℕ) → decode_of digits ≡ Ok octets → HasNo dot (prefix ++ digits)
 HasNo-prefixed digits octets decoded =
     let digits_pass = (decode_of-ok digits octets decoded).1 in
     HasNo-cons 104 (101 ∷ 120 ∷ 58 ∷ digits) (λ e. omega arith) (HasNo-cons 101 (120 ∷ 58 ∷ digits) (λ e. omega arith) (HasNo-cons 120 (58 ∷ digits) (λ e. omega arith) (HasNo-cons 58 digits (λ e. omega arith)
@@ -37,7 +37,7 @@ pub HasNo-component : (component octets : List ℕ) → Component component octe
 HasNo-component _ octets (as_it_is _ stands) = HasNo-plain octets stands
 HasNo-component _ octets (in_digits digits _ decoded) = HasNo-prefixed digits octets decoded
 
-take_front : (xs ys : List ℕ) (n : ℕ) → length xs ≡ n → take n (xs ++ ys) ≡ xs
+pub take_front : (xs ys : List ℕ) (n : ℕ) → length xs ≡ n → take n (xs ++ ys) ≡ xs
 take_front xs ys n e = rw (← e, take-append-le (length xs) xs ys (omega arith), take-length xs) refl
 
 -- ---- decoding into a buffer of a number of octets

@@ -9,12 +9,12 @@ use Rattle.nbt_name.specs.Wire.{NameValue, IsName, AreOctets}
 use Rattle.nbt_name.proofs.Scopes.{IsScope-parts}
 use Rattle.nbt_text.specs.NameText.{Component, as_it_is, in_digits, IsTrimmed, Labels, no_label, label, PrintsName, PrintsComponent, PrintsLabels, label_printed, none_printed, Sixteen, filled_up, in_32_digits, SpellsName, space}
 
-AreOctets-front : (xs ys : List ℕ) → AreOctets (xs ++ ys) → AreOctets xs
+pub AreOctets-front : (xs ys : List ℕ) → AreOctets (xs ++ ys) → AreOctets xs
 AreOctets-front [] ys fits k = omega arith
 AreOctets-front (x ∷ xs) ys fits zero = fits zero
 AreOctets-front (x ∷ xs) ys fits (suc k) = AreOctets-front xs ys (λ i. fits (suc i)) k
 
-AreOctets-back : (xs ys : List ℕ) → AreOctets (xs ++ ys) → AreOctets ys
+pub AreOctets-back : (xs ys : List ℕ) → AreOctets (xs ++ ys) → AreOctets ys
 AreOctets-back [] ys fits = fits
 AreOctets-back (x ∷ xs) ys fits = AreOctets-back xs ys (λ i. fits (suc i))
 
@@ -30,7 +30,7 @@ sixteen_spelled octets trimmed text len fits is (inl p) =
 sixteen_spelled octets trimmed text len fits is (inr p) =
     rw p.1 (in_32_digits (encode_lower octets) octets (decode_of-encode_lower octets fits) len)
 
-labels_spelled : (scope text : List ℕ) → PrintsLabels scope text → AreOctets scope → IsScope scope → Labels text scope
+pub labels_spelled : (scope text : List ℕ) → PrintsLabels scope text → AreOctets scope → IsScope scope → Labels text scope
 labels_spelled _ _ none_printed fits is = no_label
 labels_spelled _ _ (label_printed octets scope component rest printed others) fits is =
     let parts = IsScope-parts (length octets ∷ octets ++ scope) (length octets) (octets ++ scope) is refl in

@@ -38,7 +38,7 @@ fifteen_stays Exact front seen = refl
 -- ---- what is printed
 
 -- what begins with `hex:` begins with a small letter
-unprefixed : (front rest : List ℕ) → IsSeen front → ¬ IsPrefixed (front ++ rest)
+pub unprefixed : (front rest : List ℕ) → IsSeen front → ¬ IsPrefixed (front ++ rest)
 unprefixed [] rest seen p = omega (arith, seen.is_front.some)
 unprefixed (x ∷ front) rest seen p =
     let first : x ≡ 104 = ap (λ (z : List ℕ). slice_index z 0) p.1 in
@@ -46,7 +46,7 @@ unprefixed (x ∷ front) rest seen p =
     let folded : to_ascii_uppercase 104 ≡ 104 = rw first at stays in
     omega (arith, folded)
 
-last_fits : (front : List ℕ) (suffix : ℕ) → AreOctets (front ++ suffix ∷ []) → AreOctets (suffix ∷ [])
+pub last_fits : (front : List ℕ) (suffix : ℕ) → AreOctets (front ++ suffix ∷ []) → AreOctets (suffix ∷ [])
 last_fits [] suffix fits = fits
 last_fits (x ∷ front) suffix fits = last_fits front suffix (λ k. fits (suc k))
 

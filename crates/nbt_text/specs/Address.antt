@@ -19,6 +19,14 @@ pub record SpellsAddress (text : List ℕ) (address : Addr) : Type 0 where
   pub port_fits : address.port < 2 ^ 16
   pub text_is : text ≡ address_text address
 
--- As people write it: A.B.C.D:PORT, or A.B.C.D, which is at port 137 (RFC 1002 section 4.2.1)
+-- As people write it: A.B.C.D:PORT, or A.B.C.D, behind which the usual port then stands.
+abbrev pub SpellsUsual : (usual : List ℕ) → List ℕ → Addr → Type 0
+SpellsUsual usual text address = ((¬ HasNo 0x3A text) × SpellsAddress text address) ⊎ (HasNo 0x3A text × SpellsAddress (text ++ usual) address)
+
+-- at port 137 (RFC 1002 section 4.2.1)
 abbrev pub SpellsEnd : List ℕ → Addr → Type 0
-SpellsEnd text address = ((¬ HasNo 0x3A text) × SpellsAddress text address) ⊎ (HasNo 0x3A text × SpellsAddress (text ++ codes ":137") address)
+SpellsEnd text address = SpellsUsual (codes ":137") text address
+
+-- the own address of who asks alone, at port 0, for which the system chooses one
+abbrev pub SpellsSource : List ℕ → Addr → Type 0
+SpellsSource text address = SpellsUsual (codes ":0") text address

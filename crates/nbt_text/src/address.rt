@@ -4,7 +4,7 @@ ghost use Rattle.std.specs.Prelude.{◌≡◌, ℕ, ◌+◌, ◌*◌, ◌<◌, �
 ghost use Rattle.std.specs.Fmt.{decimal};
 ghost use Rattle.std.specs.String.{string_bytes};
 ghost use Rattle.nbt_name.specs.declared.addr.Addr.{Addr as End};
-ghost use Rattle.nbt_text.specs.Address.{SpellsAddress, SpellsEnd, address_text};
+ghost use Rattle.nbt_text.specs.Address.{SpellsAddress, SpellsEnd, SpellsSource, address_text};
 
 use crate::pieces::split_at_first;
 use nbt_name::Addr;
@@ -35,6 +35,21 @@ pub fn read_address(alloc: Global, text: &str) -> Result<Option<Addr>, AllocErro
         Some(_) => Ok(parse_address(text)),
         None => {
             let whole = format!(in alloc; "{text}:137")?;
+            Ok(parse_address(whole.as_str()))
+        }
+    }
+}
+
+/// Reads `A.B.C.D:PORT`, or `A.B.C.D`, which is at port 0: the address from which requests are sent, for which the system chooses the port.
+/// `None` where it is neither.
+pub fn read_source(alloc: Global, text: &str) -> Result<Option<Addr>, AllocError>
+    ensures { IfOk result (λ found. (address : End) → (found ≡ Some address) ↔ SpellsSource text.now address) }
+{
+    let (_, port) = split_at_first(b':', text.as_bytes());
+    match port {
+        Some(_) => Ok(parse_address(text)),
+        None => {
+            let whole = format!(in alloc; "{text}:0")?;
             Ok(parse_address(whole.as_str()))
         }
     }

@@ -2,8 +2,8 @@
 //!
 //! The fixed form is that of the bench's commands: `parse_name`, `parse_address` and `parse_number` read it, and `write_name`
 //! and `write_address` write it. The commands that run a network read and print what people and other tools write:
-//! `read_name`, `read_octets`, `read_address` and `read_duration`, `write_octets` and `suffix_words`. Texts come in as octets
-//! and go out at the end of a `String`.
+//! `read_name`, `read_scoped_name`, `read_octets`, `read_address`, `read_source` and `read_duration`, `write_octets` and
+//! `suffix_words`. Texts come in as octets and go out at the end of a `String`.
 #![tactic(auto)]
 
 mod address;
@@ -17,11 +17,12 @@ mod name_text;
 mod number;
 mod pieces;
 mod scoped_name;
+mod scoped_word;
 mod suffix;
 mod suffixed_printing;
 mod suffixed_reading;
 
-pub use address::{parse_address, read_address, write_address};
+pub use address::{parse_address, read_address, read_source, write_address};
 pub use casing::Case;
 pub use duration::read_duration;
 pub use fault::Fault;
@@ -31,6 +32,7 @@ pub use name_text::{digits_of, parse_name, stands_as_it_is, with_octets, write_n
 pub use number::parse_number;
 pub use pieces::split_at_first;
 pub use scoped_name::read_name;
+pub use scoped_word::read_scoped_name;
 pub use suffix::suffix_words;
 pub use suffixed_printing::{front_of, write_octets};
 pub use suffixed_reading::read_octets;

@@ -40,7 +40,7 @@ fn with_scope(case: Case, word: &[u8], octets: &[u8; 16], scope: &[u8]) -> Resul
 }
 
 /// Some name with the scope that the text spells.
-fn scoped(case: Case, text: &[u8]) -> Option<Name>
+pub(crate) fn scoped(case: Case, text: &[u8]) -> Option<Name>
     ensures read { IfSome result (λ name. SpellsScope case text.now name.scope) }
     ensures none { IfNone result ((scope : List ℕ) → ¬ SpellsScope case text.now scope) }
 {

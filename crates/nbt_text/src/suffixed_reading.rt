@@ -83,7 +83,7 @@ fn is_plain(octet: u8) -> bool
 }
 
 /// The characters before the first mark, and the rest.
-fn cut(word: &[u8]) -> (&[u8], &[u8])
+pub(crate) fn cut(word: &[u8]) -> (&[u8], &[u8])
     ensures { IsCutAt IsMark word.now result.0.now result.1.now }
 {
     let mut count = 0;

@@ -84,6 +84,7 @@ can_begin {config} {w = w} {a} {b} {c} {i} {ms} {name} {y = y} {z} fresh limits 
       speaks = omega arith;
       free = leased.0;
       row = rw (leased.1, fresh.config_is) (omega arith);
+      client_row = λ most addr limit at. absurd (none-some most (sym s.is.no_limit ∙ limit));
       node = node;
       node_up = node_with_here v.ends i (Some node) n.addr n.at;
       rested = rw fresh.config_is (omega arith);

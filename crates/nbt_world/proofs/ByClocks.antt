@@ -60,6 +60,7 @@ module _ (starting : (more : ℕ) → ServerStartsAlike more) (tells : (more : �
         leases = (tells more server now).leases ∙ ap (shifted_leases more) x.leases ∙ sym (tells more was now).leases;
         start = ap (λ (n : ℕ). n + more) x.start;
         config = x.config;
+        limit = x.limit;
         was_called = let called = x.was_called in omega (arith, called);
         called = let called = x.called in omega (arith, called);
       })

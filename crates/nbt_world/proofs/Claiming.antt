@@ -152,7 +152,7 @@ heard_claims (unmoved state message e) is k end c = c
 
 -- ---- one name of one node
 
-claims_as : {longest life clock start : ℕ} {replied : Clocks → MessageValue → Type 0} {s : State} (new : NodeValue) (q : NameValue) → new.start ≡ start → state_of new q ≡ s → NoNewClaim longest life clock replied (knows start s) (known (Some new) q)
+pub claims_as : {longest life clock start : ℕ} {replied : Clocks → MessageValue → Type 0} {s : State} (new : NodeValue) (q : NameValue) → new.start ≡ start → state_of new q ≡ s → NoNewClaim longest life clock replied (knows start s) (known (Some new) q)
 claims_as {longest} {life} {clock} {replied = replied} {s = s} new q e f kind end c =
     subst (λ (x : ℕ). Claims longest life clock replied (knows x s) kind end) e (subst (λ (t : State). Claims longest life clock replied (knows new.start t) kind end) f c)
 

@@ -187,7 +187,8 @@ serves_octets_sound : LeaseLaws → {server : ServerValue} {now ip : ℕ} {octet
     → ServesOctets server now ip octets reply after → IsSound server.table.config now after
 serves_octets_sound laws sound (serving.is_silent early) = sound
 serves_octets_sound laws sound (serving.is_no_message none) = sound
-serves_octets_sound laws sound (serving.serves m p l speaks spells does) = serves_sound laws sound does
+serves_octets_sound laws sound (serving.turns_away m speaks spells over) = sound
+serves_octets_sound laws sound (serving.serves m p l speaks spells room does) = serves_sound laws sound does
 
 -- what a reply says was asked: by a request about the name, or by an overwrite
 pub data Asks (name : NameValue) (k : MessageValue) : Type 0 where
@@ -228,10 +229,12 @@ pub record Draw (octets : List ℕ) (name : NameValue) : Type 0 where
   pub asks : Asks name message
 
 octets_asked : {server : ServerValue} {now ip : ℕ} {octets : List ℕ} {m : MessageValue} {after : Leases} {name : NameValue} → ServesOctets server now ip octets (Some m) after → IsReply name m → Draw octets name
-octets_asked (serving.serves k p l speaks spells does) is = record { message = k; spells = spells; asks = serves_asked does is }
+octets_asked (serving.turns_away k speaks spells over) is = record { message = k; spells = spells; asks = asks_for over.asks is }
+octets_asked (serving.serves k p l speaks spells room does) is = record { message = k; spells = spells; asks = serves_asked does is }
 
 octets_no_overwrite : {server : ServerValue} {now ip : ℕ} {octets : List ℕ} {m : MessageValue} {after : Leases} → ServesOctets server now ip octets (Some m) after → (r : Registration) → m ≡ overwrite r → ⊥
-octets_no_overwrite (serving.serves k p l speaks spells does) = serves_no_overwrite does
+octets_no_overwrite (serving.turns_away k speaks spells over) = λ r e. cc
+octets_no_overwrite (serving.serves k p l speaks spells room does) = serves_no_overwrite does
 
 -- what is among the replies once one more is sent: what was, and that one
 replied_more : OneMessage → {w : WorldValue} {addr : Addr} {d : Datagram} {m : MessageValue} → Sending w addr d m → {server a : Addr} {name : NameValue} {moment : Clocks} {message : MessageValue} → Replied (w.sent ++ d ∷ []) server a name moment message

@@ -15,7 +15,7 @@ use Rattle.nbt_lease.specs.declared.lease.Grant.{Grant}
 use Rattle.nbt_lease.specs.declared.fault.GrantFault.{GrantFault}
 use Rattle.nbt_lease.specs.Config.{ConfigValue, granted}
 use Rattle.nbt_lease.specs.Drift.{hold, quiet}
-use Rattle.nbt_lease.specs.Lease.{TableValue, Leases, leases_at, live_count}
+use Rattle.nbt_lease.specs.Lease.{TableValue, Leases, leases_at, live_count, count_of}
 use Rattle.nbt_lease.specs.Rules.{Asked as Asking_for, GrantCase, active, renews, group_full, table_full, begins, free, grant_until, end_of, Grants}
 use Rattle.nbt_server.specs.Serving.{ServerValue, speaks_from, Serves, ServesOctets}
 use Rattle.nbt_server.specs.Serving as serving
@@ -165,11 +165,13 @@ serves_free star none few (serving.refuses m r (serving.by_registration x) off) 
 serves_free star none few (serving.passes_over m is) = elim is [ ]
 
 octets_free : OneMessage → {server : ServerValue} {now id : ℕ} {name : NameValue} {kind : Kind} {ip ttl : ℕ} {octets : List ℕ} {reply : Option MessageValue} {left : Leases} → Spells octets (registration (wish id name kind ip ttl)) → (IsStar name → ⊥)
-    → speaks_from server ≤ now → leases_at now server.table.rows name ≡ [] → live_count now server.table.rows < server.table.config.rows → ServesOctets server now ip octets reply left
+    → speaks_from server ≤ now → leases_at now server.table.rows name ≡ [] → live_count now server.table.rows < server.table.config.rows → ((most : ℕ) → server.client_rows ≡ Some most → count_of now ip server.table.rows < most)
+    → ServesOctets server now ip octets reply left
     → reply ≡ Some (registered 0 (wish id name kind ip (granted server.table.config.longest ttl)))
-octets_free law spells star speaks none few (serving.is_silent early) = absurd (omega arith)
-octets_free law {id = id} {name} {kind} {ip} {ttl} spells star speaks none few (serving.is_no_message off) = absurd (off (registration (wish id name kind ip ttl)) spells)
-octets_free law {server} {now} {id} {name} {kind} {ip} {ttl} {octets} {reply} {left} spells star speaks none few (serving.serves m p l spoke is does) =
+octets_free law spells star speaks none few room (serving.is_silent early) = absurd (omega arith)
+octets_free law {id = id} {name} {kind} {ip} {ttl} spells star speaks none few room (serving.is_no_message off) = absurd (off (registration (wish id name kind ip ttl)) spells)
+octets_free law spells star speaks none few room (serving.turns_away m spoke is over) = let within = room over.full.most over.full.most_is in let reached = over.full.reached in absurd (omega (arith, within, reached))
+octets_free law {server} {now} {id} {name} {kind} {ip} {ttl} {octets} {reply} {left} spells star speaks none few room (serving.serves m p l spoke is admitted does) =
     serves_free star none few (subst (λ (k : MessageValue). Serves server.table now ip k reply left) (law octets m (registration (wish id name kind ip ttl)) is spells) does)
 
 -- the world once the server has granted the name
@@ -183,9 +185,9 @@ record HasGranted (w : WorldValue) (addr : Addr) (id : ℕ) (name : NameValue) (
 
 taken_granted : OneMessage → {w : WorldValue} {addr : Addr} {id : ℕ} {name : NameValue} {kind : Kind} {ttl : ℕ} {octets : List ℕ} {taken : TakenValue} {ends : Ends} {server : ServerValue} → Spells octets (registration (wish id name kind addr.ip ttl))
     → (IsStar name → ⊥) → w.ends.server ≡ Some server → server.table.config ≡ w.config → speaks_from server ≤ reading w.now 0 → leases_at (reading w.now 0) server.table.rows name ≡ [] → live_count (reading w.now 0) server.table.rows < w.config.rows
-    → (taken ≢ is_lost) → EndTakes (reading w.now 0) w.ends addr octets 0 taken ends → HasGranted w addr id name kind ttl (after_taking w ends w.ends.server_addr addr taken)
-taken_granted law {server = server} spells star up config speaks none few kept (finds_down n down) = absurd (none-some server (sym down ∙ up))
-taken_granted law {w} {addr} {id} {name} {kind} {ttl} {octets} {server = server} spells star up config speaks none few kept (by_server s new taken is does) = go (same_Some server s (sym up ∙ is)) taken does kept
+    → ((most : ℕ) → server.client_rows ≡ Some most → count_of (reading w.now 0) addr.ip server.table.rows < most) → (taken ≢ is_lost) → EndTakes (reading w.now 0) w.ends addr octets 0 taken ends → HasGranted w addr id name kind ttl (after_taking w ends w.ends.server_addr addr taken)
+taken_granted law {server = server} spells star up config speaks none few room kept (finds_down n down) = absurd (none-some server (sym down ∙ up))
+taken_granted law {w} {addr} {id} {name} {kind} {ttl} {octets} {server = server} spells star up config speaks none few room kept (by_server s new taken is does) = go (same_Some server s (sym up ∙ is)) taken does kept
   where
     go : server ≡ s → (taken : TakenValue) → ServerDoes (reading w.now 0) s addr.ip octets taken new → (taken ≢ is_lost) → HasGranted w addr id name kind ttl (after_taking w (with_server w.ends (Some new) w.ends.crashed) w.ends.server_addr addr taken)
     go same taken (server_forgets n forgets) kept = absurd (kept refl)
@@ -196,6 +198,7 @@ taken_granted law {w} {addr} {id} {name} {kind} {ttl} {octets} {server = server}
         (subst (λ (x : ServerValue). speaks_from x ≤ reading w.now 0) same speaks)
         (subst (λ (x : ServerValue). leases_at (reading w.now 0) x.table.rows name ≡ []) same none)
         (subst (λ (x : ServerValue). live_count (reading w.now 0) x.table.rows < x.table.config.rows) same (subst (λ (c : ConfigValue). live_count (reading w.now 0) server.table.rows < c.rows) (sym config) few))
+        (subst (λ (x : ServerValue). (most : ℕ) → x.client_rows ≡ Some most → count_of (reading w.now 0) addr.ip x.table.rows < most) same room)
         t.serves
         ∙ ap (λ (c : ConfigValue). Some (registered 0 (wish id name kind addr.ip (granted c.longest ttl)))) of_config in
         record {
@@ -294,7 +297,7 @@ got_granted law {a} {b} {c} {i} {name} {kind} {ttl} {y} kept can h second memory
     by_hand : HandsOver (asked_world a i h.new h.addr h.octets) 0 h.addr a.ends.server_addr h.octets y c → HasGranted (asked_world a i h.new h.addr h.octets) h.addr h.id name kind ttl c
     by_hand hand =
         subst (λ (u : WorldValue). HasGranted (asked_world a i h.new h.addr h.octets) h.addr h.id name kind ttl u) {x = after_taking (asked_world a i h.new h.addr h.octets) hand.ends a.ends.server_addr h.addr hand.taken} {y = c} (sym hand.new_is)
-        (taken_granted law h.spells can.no_star can.server_up (kept.server can.server (latest-up a.ends can.server can.server_up)).config_is can.speaks can.free can.row
+        (taken_granted law h.spells can.no_star can.server_up (kept.server can.server (latest-up a.ends can.server can.server_up)).config_is can.speaks can.free can.row (λ most limit. can.client_row most h.addr limit h.at)
         (λ e. memory (hand.outcome_is ∙ ap (outcome_of_taking (asked_world a i h.new h.addr h.octets)) e)) hand.takes)
 
 -- the reply is handed to the node, which holds the name then

@@ -121,7 +121,8 @@ pub octets_keep : LeaseLaws → {server : ServerValue} {now ip : ℕ} {octets : 
     → (q : NameValue) {own : ℕ} {kind : Kind} {till : ℕ} → ((m : MessageValue) → Spells octets m → own ≡ ip → IsRequest q m → AsksAs kind m) → IsLeased (leases_at now server.table.rows q) own kind till → IsLeased (after q) own kind till
 octets_keep laws sound (serving.is_silent early) q asked leased = leased
 octets_keep laws sound (serving.is_no_message none) q asked leased = leased
-octets_keep laws sound (serving.serves m p l speaks spells does) q asked leased = serves_keep laws sound does q (asked m spells) leased
+octets_keep laws sound (serving.turns_away m speaks spells over) q asked leased = leased
+octets_keep laws sound (serving.serves m p l speaks spells room does) q asked leased = serves_keep laws sound does q (asked m spells) leased
 
 -- ---- a grant
 
@@ -201,4 +202,5 @@ pub octets_give : LeaseLaws → {server : ServerValue} {now ip : ℕ} {octets : 
     → (speaks_from server ≤ now) × Gives now server.table.config.longest ip x.ttl (leases_at now server.table.rows q) (after q) kind
 octets_give laws sound (serving.is_silent early) e name asked = absurd cc
 octets_give laws sound (serving.is_no_message none) e name asked = absurd cc
-octets_give laws sound (serving.serves m p l speaks spells does) e name asked = (speaks, serves_gives laws sound does e name (asked m spells))
+octets_give laws sound (serving.turns_away m speaks spells over) e name asked = let positive : 2 ≡ 0 = rcode_is 2 0 _ _ e in absurd cc
+octets_give laws sound (serving.serves m p l speaks spells room does) e name asked = (speaks, serves_gives laws sound does e name (asked m spells))

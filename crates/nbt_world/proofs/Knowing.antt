@@ -108,7 +108,7 @@ abbrev pub knows : ℕ → State → Option Known
 knows start state = Some (record { start = start; state = state })
 
 -- requests have ended after time's own moves
-ended-fades : {life number clock now start : ℕ} {asked : Clocks → MessageValue → Type 0} {s t : State} → ArePast life number clock now asked → Fades life now start s t
+pub ended-fades : {life number clock now start : ℕ} {asked : Clocks → MessageValue → Type 0} {s t : State} → ArePast life number clock now asked → Fades life now start s t
     → RequestsEnded life number clock now asked (knows start s) → RequestsEnded life number clock now asked (knows start t)
 ended-fades past (stays same wants opens) kept = record {
   ended = λ moment m a d. rw same (kept.ended moment m a d);
@@ -211,7 +211,7 @@ ended-down past = record { ended = λ moment message a d. past moment message a;
 -- ---- what is open is fresh
 
 -- no reply is left once the node has rested
-fresh-fades : {life number clock now start : ℕ} {asked replied : Clocks → MessageValue → Type 0} {s t : State} → ArePast life number clock now asked → Fades life now start s t
+pub fresh-fades : {life number clock now start : ℕ} {asked replied : Clocks → MessageValue → Type 0} {s t : State} → ArePast life number clock now asked → Fades life now start s t
     → RepliesFresh life number clock now asked replied (knows start s) → RepliesFresh life number clock now asked replied (knows start t)
 fresh-fades past (stays same wants opens) kept = record {
   drawn = λ moment m r d.

@@ -14,6 +14,7 @@ pub mod Naming
 pub mod Granting
 pub mod Served
 pub mod Events
+pub mod Unspoken
 pub mod Deliveries
 pub mod Starting
 pub mod Worlds

@@ -180,11 +180,11 @@ node_moves {w} {i} {node} {new} {sent} at is adds names =
 
 -- ---- one name of the node
 
-known_as : {life number clock now start : ℕ} {asked : Clocks → MessageValue → Type 0} {s : State} (new : NodeValue) (q : NameValue) → new.start ≡ start → state_of new q ≡ s
+pub known_as : {life number clock now start : ℕ} {asked : Clocks → MessageValue → Type 0} {s : State} (new : NodeValue) (q : NameValue) → new.start ≡ start → state_of new q ≡ s
     → RequestsEnded life number clock now asked (knows start s) → RequestsEnded life number clock now asked (known (Some new) q)
 known_as new q e f kept = rw (e, f) kept
 
-fresh_as : {life number clock now start : ℕ} {asked replied : Clocks → MessageValue → Type 0} {s : State} (new : NodeValue) (q : NameValue) → new.start ≡ start → state_of new q ≡ s
+pub fresh_as : {life number clock now start : ℕ} {asked replied : Clocks → MessageValue → Type 0} {s : State} (new : NodeValue) (q : NameValue) → new.start ≡ start → state_of new q ≡ s
     → RepliesFresh life number clock now asked replied (knows start s) → RepliesFresh life number clock now asked replied (known (Some new) q)
 fresh_as new q e f kept = rw (e, f) kept
 

@@ -128,7 +128,7 @@ server_resumed ends down is now past =
     let s = is_there ends.crashed is in
     let on = past s.0 (λ i. option_or (is_nothing ends.server down i) (s.1 i)) in
     subst (λ (o : Option ServerValue). Resumes now ends (with_server ends o None)) (sym s.1)
-    (server_resumes s.0 s.0 (is_nothing ends.server down) s.1 (record { leases = refl; start = refl; config = refl; was_called = on; called = on }))
+    (server_resumes s.0 s.0 (is_nothing ends.server down) s.1 (record { leases = refl; start = refl; config = refl; limit = refl; was_called = on; called = on }))
 
 pub node_crashed : (ends : Ends) (n : ℕ) (ys : List NodeEnd) (r : NodeEnd) (b : Bool) (e : NodeEnd) → Reads ends n ys r
     → MatchBool b (IsSome (get_or ys (n - 1) r).node × (e ≡ record (get_or ys (n - 1) r) { node = None })) (((get_or ys (n - 1) r).node ≡ None) × (e ≡ get_or ys (n - 1) r))

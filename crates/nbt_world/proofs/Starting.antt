@@ -1,19 +1,20 @@
 -- What a world keeps when an end starts, and when one crashes.
-use Rattle.std.proofs.Common.{◌≡◌, ℕ, zero, suc, [], Option, Some, None, refl, sym, subst, ◌∙◌, arith}
+use Rattle.std.proofs.Common.{◌≡◌, ℕ, zero, suc, [], Option, Some, None, refl, sym, ap, subst, ◌∙◌, arith}
 use Rattle.std.specs.Prelude.{replicate}
-use Rattle.std.specs.Option.{option_or}
+use Rattle.std.specs.Option.{option_map, option_or}
 use Rattle.std.proofs.lemmas.Option.{none-some, same_Some}
 use Rattle.nbt_name.specs.Wire.{NameValue}
 use Rattle.nbt_lease.specs.Config.{ConfigValue}
 use Rattle.nbt_lease.specs.Lease.{Leases, Rows, leases_at, AreSound, group, IsSound}
 use Rattle.nbt_server.specs.Serving.{ServerValue}
+use Rattle.nbt_server.specs.Calls.{limited}
 use Rattle.nbt_node.specs.declared.state.State.TheVariants.{Idle}
 use Rattle.nbt_node.specs.Node.{NodeValue, state_in}
 use Rattle.nbt_node.specs.Calls.{started}
 use Rattle.nbt_node.proofs.Known.{distinct-none}
 use Rattle.nbt_world.specs.declared.ends.Ends.{Ends}
 use Rattle.nbt_world.specs.Drift.{reading}
-use Rattle.nbt_world.specs.World.{WorldValue, latest, with_server}
+use Rattle.nbt_world.specs.World.{WorldValue, latest, with_limit, with_server}
 use Rattle.nbt_world.specs.Step.{Starts, server_starts, node_starts, Crashes, server_crashes, node_crashes, Resumes, server_resumes}
 use Rattle.nbt_world.specs.Inner.Kept.{Asked, Replied, known, RequestsEnded, RepliesFresh, IsNodeOf, IsServerOf, Invariant}
 use Rattle.nbt_world.proofs.Knowing.{ended-start, ended-down, fresh-start, fresh-down}
@@ -69,6 +70,20 @@ resumes_kept w ends kept (server_resumes was server down is resumes) =
     as_kept =
         let k = kept.server was there in
         record { config_is = resumes.config ∙ k.config_is; past = resumes.called; sound = subst (λ (l : Leases). IsSound w.config (reading w.now 0) l) (sym resumes.leases) k.sound }
+
+-- a limit of its clients changes no lease
+pub limited_kept : (w : WorldValue) (rows : ℕ) → Invariant w → Invariant (record w { ends = with_limit w.ends rows })
+limited_kept w rows kept = by_server w.ends.server refl
+  where
+    as_kept : (server : ServerValue) → latest w.ends ≡ Some server → IsServerOf w (limited (Some rows) server)
+    as_kept server there = let k = kept.server server there in record { config_is = k.config_is; past = k.past; sound = k.sound }
+
+    by_server : (server : Option ServerValue) → w.ends.server ≡ server → Invariant (record w { ends = with_server w.ends (option_map (limited (Some rows)) server) w.ends.crashed })
+    by_server None is = same_kept w None w.ends.crashed (ap (λ (x : Option ServerValue). option_or x w.ends.crashed) (sym is)) kept
+    by_server (Some server) is =
+        let there : latest w.ends ≡ Some server = ap (λ (x : Option ServerValue). option_or x w.ends.crashed) is in
+        server_changes w (Some (limited (Some rows) server)) w.ends.crashed w.sent kept (λ s e. subst (λ (x : ServerValue). IsServerOf w x) (same_Some (limited (Some rows) server) s e) (as_kept server there))
+        (nothing_new w w.ends.server_addr) kept.replies (λ on. still_claims kept on there refl refl refl)
 
 pub crashes_kept : (w : WorldValue) (number : ℕ) (ends : Ends) → Invariant w → Crashes w.ends number ends → Invariant (record w { ends = ends })
 crashes_kept w number ends kept (server_crashes server up) = same_kept w None (Some server) (sym (latest-up w.ends server up)) kept

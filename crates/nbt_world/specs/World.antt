@@ -4,6 +4,7 @@ use Rattle.std.specs.Option.{option_map, option_or}
 use Rattle.nbt_name.specs.declared.addr.Addr.{Addr}
 use Rattle.nbt_lease.specs.Config.{ConfigValue}
 use Rattle.nbt_server.specs.Serving.{ServerValue}
+use Rattle.nbt_server.specs.Calls.{limited}
 use Rattle.nbt_node.specs.Node.{NodeValue}
 use Rattle.nbt_world.specs.declared.clocks.Clocks.{Clocks}
 use Rattle.nbt_world.specs.declared.clocks.Least.{Least}
@@ -52,6 +53,10 @@ IsOfEnd ends ip = (number : ℕ) × (addr : Addr) × (addr_of ends number ≡ So
 
 abbrev pub with_server : Ends → (server crashed : Option ServerValue) → Ends
 with_server ends server crashed = record ends { server = server; crashed = crashed }
+
+-- the server, where it is up, with so many live leases at most for each client
+abbrev pub with_limit : Ends → (rows : ℕ) → Ends
+with_limit ends rows = record ends { server = option_map (limited (Some rows)) ends.server }
 
 -- the server, or, while it is down, what it was when it crashed
 abbrev pub latest : Ends → Option ServerValue

@@ -1,12 +1,12 @@
 //! The ends of a world: the server and its nodes.
 
-ghost use Rattle.std.specs.Prelude.{◌≡◌, ◌≢◌, ℕ, ◌≤◌, ◌↔◌, length, Some, None, MatchOption, MatchBool, IsTrue, IsSome, IsNone, IfSome, Option};
+ghost use Rattle.std.specs.Prelude.{◌≡◌, ◌≢◌, ℕ, ◌≤◌, ◌↔◌, length, Some, None, MatchOption, MatchBool, IsTrue, IsSome, IsNone, IfSome, Option, is_some};
 ghost use Rattle.nbt_packet.specs.Message.{MessageValue};
 ghost use Rattle.nbt_node.specs.Node.{NodeValue};
 ghost use Rattle.nbt_node.specs.Calls.{started};
 ghost use Rattle.nbt_server.specs.Serving.{ServerValue};
 ghost use Rattle.nbt_name.specs.declared.addr.Addr.{Addr};
-ghost use Rattle.nbt_world.specs.World.{addr_at, IsAmong, AreApart};
+ghost use Rattle.nbt_world.specs.World.{addr_at, IsAmong, AreApart, with_limit};
 ghost use Rattle.nbt_world.specs.Step.{TakenValue, takes, ServerDoes, NodeHandles, IsTaken};
 
 use crate::event::Event;
@@ -186,6 +186,20 @@ impl Ends {
         }
         self.server = self.crashed.take();
         true
+    }
+
+    /// Has the server, where it is up, limit its clients. Returns whether it is up.
+    pub fn limit_clients(&mut self, rows: u32) -> bool
+        ensures up { result ≡ is_some self.old.server }
+        ensures limited { self.new ≡ with_limit self.old rows }
+    {
+        match &mut self.server {
+            Some(server) => {
+                server.limit_clients(rows);
+                true
+            }
+            None => false,
+        }
     }
 
     /// A node does what an event says, where it is there and up: its address, and what it gives.

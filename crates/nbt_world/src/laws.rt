@@ -1,11 +1,13 @@
 //! What holds of every world, whatever the code does: laws over the definitions alone.
 
-ghost use Rattle.std.specs.Prelude.{◌≡◌, ◌≢◌, ℕ, ◌+◌, ◌*◌, ◌^◌, ◌<◌, ◌≤◌, List, Some, IsTrue, length};
+ghost use Rattle.std.specs.Prelude.{◌≡◌, ◌≢◌, ℕ, ◌+◌, ◌*◌, ◌^◌, ◌<◌, ◌≤◌, suc, List, Some, IsTrue, length};
 ghost use Rattle.nbt_name.specs.Wire.{NameValue, IsStar};
 ghost use Rattle.nbt_lease.specs.Config.{ConfigValue, IsConfig};
 ghost use Rattle.nbt_lease.specs.Drift.{KeepsDriftBound, quiet};
 ghost use Rattle.nbt_name.specs.declared.addr.Addr.{Addr};
-ghost use Rattle.nbt_world.specs.World.{WorldValue, addr_of, IsEnd, IsFresh};
+ghost use Rattle.nbt_node.specs.Node.{NodeValue};
+ghost use Rattle.nbt_node.specs.Calls.{refreshing_soon};
+ghost use Rattle.nbt_world.specs.World.{WorldValue, addr_of, node_of, with_node, IsEnd, IsFresh};
 ghost use Rattle.nbt_world.specs.Inner.Kept.{Invariant};
 ghost use Rattle.nbt_world.specs.Inner.Facts.{LeasesAreSound, ClaimsAreCovered, ClaimsAreOfGroups, OpenIsFresh, RequestsHaveEnded};
 ghost use Rattle.nbt_world.specs.Safety.{IsSafe, RunsSafely, holding};
@@ -29,6 +31,18 @@ pub fn facts_of_every_world()
     ensures fresh { (world : WorldValue) → Invariant world → IsTrue world.kept → (number : ℕ) (addr : Addr) (name : NameValue) → addr_of world.ends number ≡ Some addr → OpenIsFresh world number addr name }
     ensures ended { (world : WorldValue) → Invariant world → IsTrue world.kept → (number : ℕ) (addr : Addr) (name : NameValue) → addr_of world.ends number ≡ Some addr → RequestsHaveEnded world number addr name }
     ensures safe { (world : WorldValue) → Invariant world → IsTrue world.kept → IsSafe world }
+{
+    nbt_lease::laws::rest_outlasts_datagrams();
+}
+
+/// The facts that every world keeps, from which its safety follows, speak neither of the id of a node's next request nor of when a
+/// refresh is due. So a world keeps them too where a node of it counts its ids from another one, as a node does that is started by
+/// `Node::start_from`, or has a name refreshed before its time, by `Node::refresh_soon`: neither is an event of a world.
+pub fn ids_and_early_refreshes_keep_the_facts()
+    ensures ids { (world : WorldValue) (index id : ℕ) (node : NodeValue) → Invariant world → node_of world.ends (suc index) ≡ Some node
+        → Invariant (record world { ends = with_node world.ends (suc index) (Some (record node { next_id = id })) }) }
+    ensures refresh { (world : WorldValue) (index : ℕ) (node : NodeValue) (name : NameValue) → Invariant world → node_of world.ends (suc index) ≡ Some node
+        → Invariant (record world { ends = with_node world.ends (suc index) (Some (refreshing_soon node name)) }) }
 {
     nbt_lease::laws::rest_outlasts_datagrams();
 }

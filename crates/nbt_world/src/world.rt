@@ -1,10 +1,10 @@
 //! The world: its events, one at a time and in a row.
 
-ghost use Rattle.std.specs.Prelude.{cond, ◌≡◌, ◌≤◌, ◌<◌, ◌↔◌, ℕ, Some, None, List, length, take, slice_get, slice_index, slice_index_or, IsOk, IsTrue, IfSome, IfOk, OnOk, IfErr, OnErr, MatchResult, Contains};
+ghost use Rattle.std.specs.Prelude.{cond, ◌≡◌, ◌≤◌, ◌<◌, ◌↔◌, ℕ, Some, None, List, length, take, slice_get, slice_index, slice_index_or, IsOk, IsTrue, IfSome, IfOk, OnOk, IfErr, OnErr, MatchResult, Contains, is_some};
 ghost use Rattle.nbt_name.specs.declared.addr.Kind.{Kind as KindValue};
 ghost use Rattle.std.specs.Option.{option_map};
 ghost use Rattle.nbt_world.specs.Drift.{reading as reading_of};
-ghost use Rattle.nbt_world.specs.World.{WorldValue, AreAddrs, IsEnd, IsFresh, addr_of, node_of};
+ghost use Rattle.nbt_world.specs.World.{WorldValue, AreAddrs, IsEnd, IsFresh, addr_of, node_of, with_limit};
 ghost use Rattle.nbt_world.specs.Step.{Advances, Step, number_in, TakesNoMemory};
 ghost use Rattle.nbt_world.specs.Safety.{Run, holding, MayHold, IsSafe, RunsSafely};
 ghost use Rattle.nbt_world.specs.Getting.{CanGet, getting};
@@ -305,7 +305,7 @@ impl World {
     }
 
     /// A node gets a free name, by three events: the node requests it, its datagram is delivered, and then the server's reply.
-    /// The name must be free, the server must be up and past its silence with room for a lease, and the node must be up and
+    /// The name must be free, the server must be up and past its silence with room for a lease, also by its limit of clients, and the node must be up and
     /// rested, with a free slot and the name Idle. On `OutOfMemory`, also where the server was out of memory for the
     /// request, the world is as after the events before.
     pub fn get(&mut self, node: usize, name: Name, kind: Kind, ttl: u32) -> Result<(), OutOfMemory>
@@ -328,6 +328,15 @@ impl World {
         }
         self.step(&Event::Deliver(asked + 1))?;
         Ok(())
+    }
+
+    /// The server, where it is up, lets each client have `rows` live leases at most from now on, as [`Server::limit_clients`]
+    /// does. It keeps that until it starts anew. Returns whether it is up. Takes no memory.
+    pub fn limit_clients(&mut self, rows: u32) -> bool
+        ensures up { result ≡ is_some self.old.ends.server }
+        ensures limited { self.new ≡ record self.old { ends = with_limit self.old.ends rows } }
+    {
+        self.ends.limit_clients(rows)
     }
 
     /// What the facts that every world keeps come to: no two nodes hold one name, unless both as a group, where the drift

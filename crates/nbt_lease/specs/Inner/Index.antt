@@ -5,7 +5,7 @@ use Rattle.std.specs.Map.{lookup, keys_of}
 use Rattle.nbt_name.specs.Wire.{NameValue, same_name}
 use Rattle.nbt_lease.specs.declared.lease.Lease.{Lease}
 use Rattle.nbt_lease.specs.declared.ends.Due.{Due}
-use Rattle.nbt_lease.specs.Lease.{Leases, Rows, at_name, AreApart}
+use Rattle.nbt_lease.specs.Lease.{Leases, Rows, is_live, at_name, AreApart}
 
 -- each name with its members, in order of their beginnings
 abbrev pub Entries : Type 0
@@ -41,6 +41,10 @@ pub record Agrees (entries : Entries) (ends : List Due) : Type 0 where
   pub apart : (name : NameValue) → AreApart (members_of entries name)
   pub once : IsDistinct is_due ends
   pub agree : (d : Due) → in_set ends d ≡ has_end d.end d.addr (members_of entries d.name)
+
+-- whether a lease is of this address, and lives
+abbrev pub is_live_of : ℕ → ℕ → Lease → Bool
+is_live_of addr moment lease = nat_eq lease.addr addr && is_live moment lease
 
 -- none is over at this time
 abbrev pub AreLive : ℕ → List Lease → Type 0

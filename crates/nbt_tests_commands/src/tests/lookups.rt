@@ -17,6 +17,9 @@ const QUERY: &str = "0001_0100_0001_0000_0000_0000_{FRED}_0020_0001";
 const QUERY_AS_IT_STANDS: &str =
     "0001_0100_0001_0000_0000_0000_204747484347464745434143414341434143414341434143414341434143414341036c616200_0020_0001";
 
+const QUERY_IN_A_SCOPE: &str =
+    "0001_0100_0001_0000_0000_0000_204547464345464545434143414341434143414341434143414341434143414341036c616200_0020_0001";
+
 const ASKS_FOR_ALL: &str = "0001_0000_0001_0000_0000_0000_{STAR}_0021_0001";
 
 const ASKS_BY_FRED: &str = "0001_0000_0001_0000_0000_0000_{FRED}_0021_0001";
@@ -32,6 +35,15 @@ const FOUND_AS_IT_STANDS: &str =
     "0001_8580_0000_0001_0000_0000_204747484347464745434143414341434143414341434143414341434143414341036c616200_0020_0001_0000003c_0006_2000_7f2a1603";
 
 const NOT_FOUND: &str = "0001_8583_0000_0001_0000_0000_{FRED}_000a_0001_00000000_0000";
+
+const FOUND_IN_A_SCOPE: &str =
+    "0001_8580_0000_0001_0000_0000_204547464345464545434143414341434143414341434143414341434143414341036c616200_0020_0001_0000003c_0006_2000_7f2a1603";
+
+const ASKS_IN_A_SCOPE: &str =
+    "0001_0000_0001_0000_0000_0000_204547464345464545434143414341434143414341434143414341434143414341036c616200_0021_0001";
+
+const NOT_FOUND_IN_A_SCOPE: &str =
+    "0001_8583_0000_0001_0000_0000_204547464345464545434143414341434143414341434143414341434143414341036c616200_000a_0001_00000000_0000";
 
 const NAMES: &str =
     "0001_8400_0000_0001_0000_0000_{STAR}_0021_0001_00000000_0041_01_46524544202020202020202020202020_2400_005056c00008_00000000000000000000000000000000000000000000000000000000000000000000000000000000";
@@ -66,7 +78,7 @@ const NO_REPLY: Row = Row {
     sent: &[QUERY],
 };
 
-pub static LOOKUPS: [Row; 10] = [
+pub static LOOKUPS: [Row; 11] = [
     Row {
         about: "a name of two ends, where small letters are folded, and another id is passed over",
         words: "nbt lookup fred<20> --server 127.42.22.3:20139 --bind 127.42.22.2:20138",
@@ -92,6 +104,19 @@ pub static LOOKUPS: [Row; 10] = [
         text: "127.42.22.3 unique\n",
         errors: "",
         sent: &[QUERY_AS_IT_STANDS],
+    },
+    Row {
+        about: "a name whose scope stands behind its suffix, and whose small letters alone are folded",
+        words: "nbt lookup fred#20.lab --scope com --server 127.42.22.3:20139 --bind 127.42.22.2:20138",
+        moments: &[1_000_000],
+        sends: &[(4, FOUND_IN_A_SCOPE)],
+        breaks_at: 0,
+        sets: &[],
+        status: 0,
+        readings: 5,
+        text: "127.42.22.3 unique\n",
+        errors: "",
+        sent: &[QUERY_IN_A_SCOPE],
     },
     NOBODY_HAS_IT,
     NO_REPLY,
@@ -188,7 +213,7 @@ const CLOCK_FAILS: Row = Row {
     sent: &[],
 };
 
-pub static STATUSES: [Row; 3] = [
+pub static STATUSES: [Row; 4] = [
     Row {
         about: "the names of a host",
         words: "nbt status 127.42.22.3:20139 --bind 127.42.22.2:20138",
@@ -214,6 +239,19 @@ pub static STATUSES: [Row; 3] = [
         text: "not found: no such name (3)\n",
         errors: "",
         sent: &[ASKS_BY_FRED],
+    },
+    Row {
+        about: "a name whose scope stands behind its suffix",
+        words: "nbt status 127.42.22.3:20139 fred<20>.lab --bind 127.42.22.2:20138",
+        moments: &[1_000_000],
+        sends: &[(4, NOT_FOUND_IN_A_SCOPE)],
+        breaks_at: 0,
+        sets: &[],
+        status: 1,
+        readings: 5,
+        text: "not found: no such name (3)\n",
+        errors: "",
+        sent: &[ASKS_IN_A_SCOPE],
     },
     Row {
         about: "no reply",

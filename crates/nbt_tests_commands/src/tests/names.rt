@@ -2,10 +2,10 @@
 
 use super::expect::{expect, expect_eq};
 use nbt_name::{Kind, Name};
-use nbt_text::laws::{printed_name_is_read, printed_octets_are_read};
+use nbt_text::laws::{printed_name_is_read, printed_octets_are_read, printed_scoped_name_is_read};
 use nbt_text::{
-    Case, parse_name, read_name, suffix_words, with_octets, write_hexadecimal, write_name,
-    write_octets,
+    Case, Fault, parse_name, read_name, read_scoped_name, suffix_words, with_octets,
+    write_hexadecimal, write_name, write_octets,
 };
 use std::process::Abort;
 
@@ -78,6 +78,29 @@ static REFUSED: &[Row] = &[
     ("FILER", ".", "6: the scope can't be read"),
 ];
 
+/// Words with a scope behind their suffix, which isn't folded, and one without, whose scope stands apart.
+static SCOPED_WORDS: &[Row] = &[
+    (
+        "filer#1b.netbios.Com",
+        "lab",
+        "FILER#1B 076e657462696f7303436f6d",
+    ),
+    ("FILER<20>.hex:2e", "", "FILER#20 012e"),
+    (
+        "hex:46494c4552202020202020202020201d.A.B",
+        "",
+        "FILER#1D 01410142",
+    ),
+    ("A.B<00>.C", "", "A.B#00 0143"),
+    ("*#00.A", "", "*#00 0141"),
+    ("filer", "lab", "FILER#20 034c4142"),
+    ("FILER#20.", "", "6: the scope can't be read"),
+    ("FILER#20.A..B", "", "6: the scope can't be read"),
+    ("#20.A", "", "1: no characters, at least 1"),
+    ("FILER#2.A", "", SUFFIX),
+    ("hex:46.A", "", DIGITS),
+];
+
 fn write_read<R: Abort>(rt: &R, name: &Name, text: &mut String) {
     write_octets(name.octets(), text).expect(rt, "memory");
     if !name.scope().is_empty() {
@@ -86,10 +109,10 @@ fn write_read<R: Abort>(rt: &R, name: &Name, text: &mut String) {
     }
 }
 
-fn expect_read<R: Abort>(rt: &R, case: Case, row: &Row, text: &mut String) {
+fn expect_read<R: Abort>(rt: &R, row: &Row, read: Result<Name, Fault>, text: &mut String) {
     let (word, scope, expected) = *row;
     text.clear();
-    match read_name(case, word.as_bytes(), scope.as_bytes()) {
+    match read {
         Ok(name) => write_read(rt, &name, text),
         Err(fault) => {
             let number = fault.number();
@@ -146,6 +169,7 @@ static SUFFIXES: [(u8, Kind, &str); 10] = [
 fn names_as_text(rt: HostRuntime) {
     printed_octets_are_read();
     printed_name_is_read();
+    printed_scoped_name_is_read();
     let mut text = String::new(rt.alloc());
     for (case, rows) in [
         (Case::Folded, FOLDED),
@@ -153,8 +177,15 @@ fn names_as_text(rt: HostRuntime) {
         (Case::Folded, REFUSED),
     ] {
         for row in rows {
-            expect_read(&rt, case, row, &mut text);
+            let (word, scope, _) = *row;
+            let read = read_name(case, word.as_bytes(), scope.as_bytes());
+            expect_read(&rt, row, read, &mut text);
         }
+    }
+    for row in SCOPED_WORDS {
+        let (word, scope, _) = *row;
+        let read = read_scoped_name(Case::Folded, word.as_bytes(), scope.as_bytes());
+        expect_read(&rt, row, read, &mut text);
     }
     for row in &SCOPED {
         expect_printed(&rt, row, &mut text);

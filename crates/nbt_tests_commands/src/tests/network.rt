@@ -138,7 +138,7 @@ static NOT_BOUND: [(&str, &str); 10] = [
 ];
 
 /// Commands that bind a port first, what they print and end with where the machine has no memory for it, and what is said at last.
-static BINDING: [(&str, &str, u8, &[u8]); 6] = [
+static BINDING: [(&str, &str, u8, &[u8]); 7] = [
     (
         "nbt serve 127.42.24.1:22337 1000 60 --forever",
         "device\n",
@@ -157,12 +157,19 @@ static BINDING: [(&str, &str, u8, &[u8]); 6] = [
         4,
         b"nbt: memory was refused\n",
     ),
-    // Without --bind they are at every address of this machine: those that ask at a port that the system chooses, and the server at 137.
+    // Without --bind they are at every address of this machine: those that ask at a port that the system chooses, and the server at 137 of each.
     (
         "nbt lookup FRED --server 127.42.24.2:22337",
         "device\n",
         3,
         b"nbt: 0.0.0.0:0: out of memory\n",
+    ),
+    // An own address without a port is at a port that the system chooses, too.
+    (
+        "nbt lookup FRED --server 127.42.24.1:137 --bind 127.42.24.1",
+        "device\n",
+        3,
+        b"nbt: 127.42.24.1:0: out of memory\n",
     ),
     (
         "nbt status 127.42.24.2:22337",
@@ -174,7 +181,7 @@ static BINDING: [(&str, &str, u8, &[u8]); 6] = [
         "nbt nbns",
         "memory\n",
         4,
-        b"nbt: 0.0.0.0:137: out of memory\nnbt: memory was refused\n",
+        b":137: out of memory\nnbt: memory was refused\n",
     ),
 ];
 

@@ -15,6 +15,8 @@ const FIRST: u32 = 0x7F000002;
 
 const SECOND: u32 = 0x7F000003;
 
+const THIRD: u32 = 0x7F000004;
+
 /// What is asked of a table at a moment, and what has to come of it. A grant gives its seconds and its end, or why not.
 #[derive(Clone, Copy)]
 enum Step<'a> {
@@ -38,6 +40,8 @@ enum Step<'a> {
     LeastEndAfter(u64, usize, Option<u64>),
     /// The addresses and ends of a name's leases.
     Members(u64, &'a [u8; 16], &'a [(u32, u64)]),
+    /// Whether an address has at least so many live leases.
+    HasAtLeast(u64, u32, u32, bool),
 }
 
 /// The addresses and ends of a name's leases.
@@ -139,6 +143,10 @@ fn ask(rt: &impl Abort, place: &Place<'_>, table: &mut Table, step: &Step<'_>) -
             let now = later(rt, table, ms)?;
             let leases = leases(table, now, &name_of(octets)?)?;
             expect_eq_in(rt, place, &leases.as_slice(), &expected);
+        }
+        Step::HasAtLeast(ms, addr, count, expected) => {
+            let has = table.has_at_least(at(ms)?, addr, count);
+            expect_eq_in(rt, place, &has, &expected);
         }
         _ => return Err("a step that grants")?,
     }
@@ -467,6 +475,28 @@ const A_TABLE_OF_ONE_LEASE_HAS_ROOM_ONCE_IT_IS_OVER: &[Step<'static>] = &[
 /// each step of a function that names it.
 type Case = (&'static str, usize, &'static [Step<'static>]);
 
+/// A lease that is over counts no more, also while its row still stands; other addresses count for themselves.
+const LEASES_OF_AN_ADDRESS: &[Step<'static>] = &[
+    Step::HasAtLeast(60_000, FIRST, 0, true),
+    Step::HasAtLeast(60_000, FIRST, 1, false),
+    Step::Grant(60_000, FRED, FIRST, Kind::Unique, 10, Ok((10, 70_000))),
+    Step::Grant(60_000, TEAM, FIRST, Kind::Group, 60, Ok((60, 120_000))),
+    Step::Grant(60_000, TEAM, SECOND, Kind::Group, 60, Ok((60, 120_000))),
+    Step::HasAtLeast(60_000, FIRST, 2, true),
+    Step::HasAtLeast(60_000, FIRST, 3, false),
+    Step::HasAtLeast(60_000, SECOND, 1, true),
+    Step::HasAtLeast(60_000, SECOND, 2, false),
+    Step::HasAtLeast(60_000, THIRD, 1, false),
+    Step::HasAtLeast(69_999, FIRST, 2, true),
+    Step::HasAtLeast(70_000, FIRST, 2, false),
+    Step::HasAtLeast(70_000, FIRST, 1, true),
+    Step::Leave(70_000, SECOND, Released::Gone),
+    Step::HasAtLeast(70_000, SECOND, 1, false),
+    Step::HasAtLeast(119_999, FIRST, 1, true),
+    Step::HasAtLeast(120_000, FIRST, 1, false),
+    Step::HasAtLeast(120_000, FIRST, 0, true),
+];
+
 const CASES: &[Case] = &[
     (
         "FRED belongs to its owner until 120,000",
@@ -499,6 +529,11 @@ const CASES: &[Case] = &[
         "a table of one lease has room once it is over",
         1,
         A_TABLE_OF_ONE_LEASE_HAS_ROOM_ONCE_IT_IS_OVER,
+    ),
+    (
+        "how many live leases an address has",
+        4096,
+        LEASES_OF_AN_ADDRESS,
     ),
 ];
 

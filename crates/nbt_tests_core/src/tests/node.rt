@@ -123,6 +123,8 @@ enum Step<'a> {
     Resolve(u64, Result<&'a [u8], LookupFault>),
     /// The end at the node's own address is asked for the names of FRED's node: what is for it.
     AskNames(u64, &'a [u8]),
+    /// FRED is to be refreshed before its time.
+    RefreshSoon(u64),
     /// What is due for the server.
     Poll(u64, Option<&'a [u8]>),
     /// A poll before the node's last moment.
@@ -158,6 +160,7 @@ fn moment(step: &Step<'_>) -> Result<Moment, Fail> {
         | Step::Release(ms, _)
         | Step::Resolve(ms, _)
         | Step::AskNames(ms, _)
+        | Step::RefreshSoon(ms)
         | Step::Poll(ms, _)
         | Step::PollBack(ms)
         | Step::Respond(ms, _, _, _)
@@ -248,6 +251,7 @@ fn watch(
             expect_eq_in(rt, place, &to, &Ok(expected.map(|_| SERVER)));
             expect_in(rt, place, out.as_slice() == expected.unwrap_or(b""));
         }
+        Step::RefreshSoon(_) => node.refresh_soon(fred),
         Step::PollBack(_) => {
             expect_eq_in(rt, place, &node.poll(now, out), &Err(ClockBack));
         }
@@ -692,6 +696,10 @@ const HOLDS: &[Case] = &[
         A_HOLD_FROM_69_999_AND_ONE_OF_A_SECOND,
     ),
     ("what is due next and how a name stands", WHAT_IS_DUE_NEXT),
+    (
+        "a hold that is doubted is refreshed soon",
+        A_HOLD_THAT_IS_DOUBTED_IS_REFRESHED_SOON,
+    ),
 ];
 
 fn holds() -> &'static [Case] {
@@ -735,6 +743,45 @@ const WHAT_IS_DUE_NEXT: &[Step<'_>] = &[
     Step::NextDue(60_001, None),
     Step::Stands(62_004, Some(Standing::Resting)),
     Step::Stands(62_005, Some(Standing::Idle)),
+];
+
+/// Once it has rested since its last sending, and no refresh is pending. What isn't held isn't refreshed, and the hold lasts as it did.
+const A_HOLD_THAT_IS_DOUBTED_IS_REFRESHED_SOON: &[Step<'_>] = &[
+    Step::RefreshSoon(59_000),
+    Step::Ask(60_000, FRED, Kind::Unique, Ok(REGISTRATION)),
+    Step::RefreshSoon(60_500),
+    Step::NextDue(60_500, Some(65_000)),
+    Step::Respond(
+        60_900,
+        SERVER,
+        Response(1, [0xAD, 0x80], 60),
+        Event::Granted(60),
+    ),
+    Step::NextDue(60_900, Some(90_000)),
+    Step::RefreshSoon(60_900),
+    Step::NextDue(60_900, Some(62_005)),
+    Step::Poll(62_004, None),
+    Step::Poll(62_005, Some(REFRESH)),
+    Step::RefreshSoon(62_005),
+    Step::Poll(67_004, None),
+    Step::Poll(67_005, Some(REFRESH)),
+    Step::Holds(119_877, Some(Kind::Unique)),
+    Step::Holds(119_878, None),
+    Step::Respond(
+        67_100,
+        SERVER,
+        Response(2, [0xAD, 0x80], 60),
+        Event::Renewed(60),
+    ),
+    Step::Holds(121_882, Some(Kind::Unique)),
+    Step::Holds(121_883, None),
+    Step::NextDue(67_100, Some(92_005)),
+    Step::RefreshSoon(67_100),
+    Step::NextDue(67_100, Some(69_010)),
+    Step::Release(68_000, Ok(THIRD_RELEASE)),
+    Step::RefreshSoon(68_000),
+    Step::Poll(72_999, None),
+    Step::Poll(73_000, Some(THIRD_RELEASE)),
 ];
 
 /// Of a name that rests, is lost or is refused.
@@ -833,6 +880,45 @@ fn a_node_step_by_step(rt: HostRuntime) -> Result<(), Fail> {
     play_cases(&rt, rests())?;
     play_cases(&rt, lookups())?;
     play_cases(&rt, cuts())
+}
+
+/// The first id that a node is given, that of its first request, a registration, and that of the next, a query.
+const FIRST_IDS: &[(u16, &[u8; 2], &[u8; 2])] = &[
+    (1, b"\x00\x01", b"\x00\x02"),
+    (0, b"\x00\x00", b"\x00\x01"),
+    (0x12FF, b"\x12\xFF", b"\x13\x00"),
+    (65_535, b"\xFF\xFF", b"\x00\x00"),
+];
+
+/// The ids of two requests of a node that has rested.
+fn expect_ids(
+    rt: &impl Abort,
+    node: &mut Node<1>,
+    first: &[u8; 2],
+    second: &[u8; 2],
+) -> Result<(), Fail> {
+    let mut out = ArrayVec::new();
+    let fred = fred(b"")?;
+    node.ask(at(2_005)?, &fred, Kind::Unique, 60, &mut out)?;
+    expect_in(rt, &first, out.as_slice().starts_with(first));
+    node.resolve(at(2_005)?, &fred, &mut out)?;
+    expect_in(rt, &second, out.as_slice().starts_with(second));
+    Ok(())
+}
+
+fn play_ids(rt: &impl Abort, rows: &[(u16, &[u8; 2], &[u8; 2])]) -> Result<(), Fail> {
+    let config = Config::new(1000, 60, 4096)?;
+    for (first_id, first, second) in rows {
+        let mut node = Node::start_from(OWN, SERVER, config, at(0)?, *first_id);
+        expect_ids(rt, &mut node, first, second)?;
+    }
+    Ok(())
+}
+
+#[test]
+fn ids_count_from_the_one_that_is_given(rt: HostRuntime) -> Result<(), Fail> {
+    play_ids(&rt, FIRST_IDS)?;
+    expect_ids(&rt, &mut start()?, b"\x00\x01", b"\x00\x02")
 }
 
 const ASK_FAULTS: [(AskFault, u8, &str); 5] = [

@@ -365,7 +365,7 @@ fn say_all(rt: &(impl Abort + AllocGlobal), rows: &[Line<'_>]) -> Result<(), Fai
         };
         let manner: Manner = manner_of(60, at(start)?, &dates, count, reason);
         let mut line = String::new(rt.alloc());
-        write_begin(end, manner, &mut line)?;
+        write_begin(&[end], manner, &mut line)?;
         expect_eq_in(rt, row, &line.as_str(), &wanted);
     }
     Ok(())

@@ -4,7 +4,7 @@
 use super::expect::{expect_eq_in, expect_in};
 use super::{FRED, TEAM, at, name_of};
 use arrayvec::ArrayVec;
-use nbt_keep::handle_telling;
+use nbt_keep::change_of;
 use nbt_lease::{Config, Lease, RestoreFault, Table};
 use nbt_name::{Addr, Kind, Name};
 use nbt_server::{ResumeFault, Server, ServerFault};
@@ -319,9 +319,9 @@ fn expect_change<R: Abort + AllocGlobal>(
     let asks = octets(rt, asks)?;
     let from = Addr { ip, port: 137 };
     let mut out = ArrayVec::new();
-    match handle_telling(server, at(now)?, from, asks.as_slice(), &mut out) {
-        Ok(handled) => {
-            let changed = changed_of(&handled.change, &name_of(FRED)?);
+    match server.handle(at(now)?, from, asks.as_slice(), &mut out) {
+        Ok(outcome) => {
+            let changed = changed_of(&change_of(server, &outcome), &name_of(FRED)?);
             expect_eq_in(rt, row, &changed, &wanted);
         }
         Err(fault) => {

@@ -540,6 +540,170 @@ const GROUP_OF_A_UNIQUE_NAME: [Row; 4] = [
     ),
 ];
 
+/// The registration of TEAM as a group by 127.0.0.2, and its positive reply.
+const TEAM_REGISTRATION: &str = "0001 2900 two-parts TEAM NB again NB 60s group 127.0.0.2";
+
+const TEAM_GRANTED: &str = "0001 ad80 reply TEAM NB 60s group 127.0.0.2";
+
+const TEAM_REFUSED: &str = "0001 ad82 reply TEAM NB 0s group 127.0.0.2";
+
+/// What is granted to the address of `RIVAL`.
+const RIVAL_GRANTED: &str = "0001 ad80 reply FRED NB 60s unique 127.0.0.3";
+
+/// The registration of a third name by 127.0.0.2, its positive reply, and the one that says SRV_ERR.
+const THIRD_REGISTRATION: &str =
+    "0001 2900 two-parts TEAM-in-the-longest-scope NB again NB 60s unique 127.0.0.2";
+
+const THIRD_GRANTED: &str = "0001 ad80 reply TEAM-in-the-longest-scope NB 60s unique 127.0.0.2";
+
+const THIRD_REFUSED: &str = "0001 ad82 reply TEAM-in-the-longest-scope NB 0s unique 127.0.0.2";
+
+/// Of two names each. What a client has it renews, whichever way it asks; a further one is refused, also by a refresh. Another client
+/// isn't concerned, until it has as many.
+const TWO_NAMES_EACH: [Row; 12] = [
+    (60_000, FIRST, REGISTRATION, GRANTED),
+    (60_000, FIRST, TEAM_REGISTRATION, TEAM_GRANTED),
+    (60_000, FIRST, THIRD_REGISTRATION, THIRD_REFUSED),
+    (
+        60_000,
+        FIRST,
+        "0001 4000 two-parts TEAM-in-the-longest-scope NB again NB 60s unique 127.0.0.2",
+        THIRD_REFUSED,
+    ),
+    (61_000, FIRST, REFRESH, GRANTED),
+    (61_000, FIRST, REGISTRATION, GRANTED),
+    (61_000, FIRST, TEAM_REGISTRATION, TEAM_GRANTED),
+    (
+        61_000,
+        SECOND,
+        "0001 2900 two-parts TEAM-in-the-longest-scope NB again NB 60s group 127.0.0.3",
+        "0001 ad80 reply TEAM-in-the-longest-scope NB 60s group 127.0.0.3",
+    ),
+    (
+        61_000,
+        SECOND,
+        "0001 2900 two-parts TEAM NB again NB 60s group 127.0.0.3",
+        "0001 ad80 reply TEAM NB 60s group 127.0.0.3",
+    ),
+    // Neither sees the table: one is another's, the other a group that it might join.
+    (
+        61_000,
+        SECOND,
+        RIVAL,
+        "0001 ad82 reply FRED NB 0s unique 127.0.0.3",
+    ),
+    (
+        61_000,
+        FIRST,
+        "0001 2900 two-parts TEAM-in-the-longest-scope NB again NB 60s group 127.0.0.2",
+        "0001 ad82 reply TEAM-in-the-longest-scope NB 0s group 127.0.0.2",
+    ),
+    // FRED is looked up, and is still the first's.
+    (
+        61_500,
+        SECOND,
+        QUERY,
+        "0008 8580 reply FRED NB 60s unique 127.0.0.2",
+    ),
+];
+
+/// What is refused for another reason is refused for that, and what isn't a request of a name is handled.
+const FULL_OTHERWISE: [Row; 7] = [
+    (60_000, FIRST, REGISTRATION, GRANTED),
+    (60_000, FIRST, THIRD_REGISTRATION, THIRD_REFUSED),
+    // The owner of a unique name asks for it as a group.
+    (
+        60_000,
+        FIRST,
+        "0001 2900 two-parts FRED NB again NB 60s group 127.0.0.2",
+        "0001 ad86 reply FRED NB 0s group 127.0.0.2",
+    ),
+    (
+        60_000,
+        FIRST,
+        "0001 2900 two-parts TEAM-in-the-longest-scope NB again NB 60s unique 127.0.0.3",
+        "0001 ad85 reply TEAM-in-the-longest-scope NB 0s unique 127.0.0.3",
+    ),
+    (
+        60_000,
+        FIRST,
+        "0001 2900 two-parts STAR NB again NB 60s unique 127.0.0.2",
+        "0001 ad85 reply STAR NB 0s unique 127.0.0.2",
+    ),
+    (
+        60_000,
+        FIRST,
+        "0001 2800 two-parts TEAM-in-the-longest-scope NB again NB 60s unique 127.0.0.2",
+        "0001 ad85 reply TEAM-in-the-longest-scope NB 0s unique 127.0.0.2",
+    ),
+    (
+        60_000,
+        FIRST,
+        QUERY,
+        "0008 8580 reply FRED NB 60s unique 127.0.0.2",
+    ),
+];
+
+/// A name that is released, or whose lease is over, counts no more: at 119,999 it does.
+const ROOM_AGAIN: [Row; 6] = [
+    (60_000, FIRST, REGISTRATION, GRANTED),
+    (60_000, FIRST, TEAM_REGISTRATION, TEAM_REFUSED),
+    (
+        60_000,
+        FIRST,
+        RELEASE,
+        "0002 b400 reply FRED NB 0s unique 127.0.0.2",
+    ),
+    (60_000, FIRST, TEAM_REGISTRATION, TEAM_GRANTED),
+    (119_999, FIRST, THIRD_REGISTRATION, THIRD_REFUSED),
+    (120_000, FIRST, THIRD_REGISTRATION, THIRD_GRANTED),
+];
+
+/// Before there is a limit.
+const THREE_NAMES: [Row; 3] = [
+    (60_000, FIRST, REGISTRATION, GRANTED),
+    (60_000, FIRST, TEAM_REGISTRATION, TEAM_GRANTED),
+    (60_000, FIRST, THIRD_REGISTRATION, THIRD_GRANTED),
+];
+
+/// A client that has more names than it may keeps them, and gets none back that it gave up.
+const ABOVE_THE_LIMIT: [Row; 6] = [
+    (61_000, FIRST, REFRESH, GRANTED),
+    (61_000, FIRST, TEAM_REGISTRATION, TEAM_GRANTED),
+    (61_000, FIRST, THIRD_REGISTRATION, THIRD_GRANTED),
+    (
+        61_000,
+        FIRST,
+        RELEASE,
+        "0002 b400 reply FRED NB 0s unique 127.0.0.2",
+    ),
+    (
+        61_000,
+        FIRST,
+        REGISTRATION,
+        "0001 ad82 reply FRED NB 0s unique 127.0.0.2",
+    ),
+    (61_000, SECOND, RIVAL, RIVAL_GRANTED),
+];
+
+/// Nobody begins a lease; in the silence there is no reply.
+const NO_NAMES: [Row; 4] = [
+    (59_999, FIRST, REGISTRATION, "-"),
+    (
+        60_000,
+        FIRST,
+        REGISTRATION,
+        "0001 ad82 reply FRED NB 0s unique 127.0.0.2",
+    ),
+    (
+        60_000,
+        SECOND,
+        RIVAL,
+        "0001 ad82 reply FRED NB 0s unique 127.0.0.3",
+    ),
+    (60_000, SECOND, QUERY, NOT_FOUND),
+];
+
 /// A refresh has two opcodes (RFC 1002 section 4.2.4).
 const OPCODE_OF_8: [Row; 1] = [(60_000, FIRST, REFRESH, GRANTED)];
 
@@ -677,6 +841,8 @@ enum Part {
     Back(u64, u64),
     /// The registrations of names of many, from one number to another, and what their replies are made of.
     Many(u16, u16, &'static str, &'static str),
+    /// From now on a client may have so many names.
+    Limit(u32),
 }
 
 fn play_part<R: Abort + AllocGlobal>(
@@ -692,6 +858,10 @@ fn play_part<R: Abort + AllocGlobal>(
         Part::Back(at, last) => expect_back(rt, what, server, at, last),
         Part::Many(first, last, head, tail) => {
             play_many(rt, what, server, (first, last), head, tail)
+        }
+        Part::Limit(rows) => {
+            server.limit_clients(rows);
+            Ok(())
         }
     }
 }
@@ -907,6 +1077,73 @@ fn packets() -> &'static [Case] {
     PACKETS
 }
 
+/// Of clients that may have so many names.
+const CLIENTS: &[Case] = &[
+    (
+        "each client has two names, renews them, and gets no third",
+        4096,
+        0,
+        &[Part::Limit(2), Part::Rows(&TWO_NAMES_EACH)],
+    ),
+    (
+        "a client that is full is refused for another reason first, and is found",
+        4096,
+        0,
+        &[Part::Limit(1), Part::Rows(&FULL_OTHERWISE)],
+    ),
+    (
+        "a name that was released, and a lease that is over, count no more",
+        4096,
+        0,
+        &[
+            Part::Limit(1),
+            Part::Rows(&ROOM_AGAIN),
+            // What was refused was a datagram too.
+            Part::Rows(&[(120_500, FIRST, TEAM_REGISTRATION, TEAM_REFUSED)]),
+            Part::Back(120_499, 120_500),
+        ],
+    ),
+    (
+        "a limit that comes later leaves what a client has",
+        4096,
+        0,
+        &[
+            Part::Rows(&THREE_NAMES),
+            Part::Limit(2),
+            Part::Rows(&ABOVE_THE_LIMIT),
+        ],
+    ),
+    (
+        "a limit of 0 lets nobody begin a lease",
+        4096,
+        0,
+        &[Part::Limit(0), Part::Rows(&NO_NAMES)],
+    ),
+    (
+        "one that the table reaches first changes nothing",
+        1,
+        0,
+        &[Part::Limit(4096), Part::Rows(&ONE_ROW)],
+    ),
+    (
+        "of 65 names the last is refused, where a client may have 64, and others have theirs",
+        4096,
+        0,
+        &[
+            Part::Rows(&[(60_000, SECOND, RIVAL, RIVAL_GRANTED)]),
+            Part::Limit(64),
+            Part::Many(0, 63, "ad80 reply", "00 NB 60s unique 127.0.0.2"),
+            Part::Many(64, 64, "ad82 reply", "00 NB 0s unique 127.0.0.2"),
+            Part::Many(0, 0, "ad80 reply", "00 NB 60s unique 127.0.0.2"),
+            Part::Rows(&[(60_000, SECOND, RIVAL, RIVAL_GRANTED)]),
+        ],
+    ),
+];
+
+fn clients() -> &'static [Case] {
+    CLIENTS
+}
+
 /// A new server plays its part in a case.
 fn play_case<R: Abort + AllocGlobal>(rt: &R, case: &Case) -> Result<(), Fail> {
     let mut server = started(rt, case.1, case.2)?;
@@ -926,6 +1163,7 @@ fn datagrams_and_their_replies(rt: HostRuntime) -> Result<(), Fail> {
     play_cases(&rt, names())?;
     play_cases(&rt, groups())?;
     play_cases(&rt, leases())?;
+    play_cases(&rt, clients())?;
     play_cases(&rt, packets())
 }
 

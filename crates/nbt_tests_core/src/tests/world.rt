@@ -3,7 +3,8 @@
 
 use super::expect::{expect, expect_eq, expect_eq_in};
 use Does::{
-    Advance, Ask, Crash, Deliver, Join, NameStatus, Poll, Release, Resolve, Start, Stranger, Tick,
+    Advance, Ask, Crash, Deliver, Join, NameStatus, Poll, Release, Resolve, Resume, Start,
+    Stranger, Tick,
 };
 use nbt_name::{Addr, Kind, Name};
 use nbt_testing::{EVERY_KIND, REGISTRATION, config, octets, registration_of_many};
@@ -52,6 +53,7 @@ enum Does {
     Advance(u64, [u64; 9]),
     Start(usize),
     Crash(usize),
+    Resume,
     Ask(usize, &'static [u8; 16]),
     Join(usize, &'static [u8; 16]),
     Release(usize, &'static [u8; 16]),
@@ -85,6 +87,7 @@ fn event_of<R: AllocGlobal>(rt: &R, does: Does, name: Name) -> Result<Event, Fai
         Advance(ms, readings) => Event::Advance { ms, readings },
         Start(end) => Event::Start(end),
         Crash(end) => Event::Crash(end),
+        Resume => Event::Resume,
         Ask(node, _) => asks(node, name, Kind::Unique),
         Join(node, _) => asks(node, name, Kind::Group),
         Release(node, _) => Event::Release { node, name },
@@ -484,6 +487,45 @@ const READINGS_OF_ITS_ENDS: [Row; 1] = [(
     Done,
 )];
 
+const UP_WITH_TWO_NODES: [Row; 3] = [(Start(0), Done), (Start(1), Done), (Start(2), Done)];
+
+/// The first node is granted FRED, and refused TEAM, which the second is granted.
+const ONE_NAME_EACH: [Row; 10] = [
+    (Tick(60_000), Done),
+    (Ask(1, FRED), Sent(0)),
+    (Deliver(0), Sent(1)),
+    (Deliver(1), Taken),
+    (Join(1, TEAM), Sent(2)),
+    (Deliver(2), Sent(3)),
+    (Deliver(3), Taken),
+    (Join(2, TEAM), Sent(4)),
+    (Deliver(4), Sent(5)),
+    (Deliver(5), Taken),
+];
+
+/// A server that resumes limits its clients as before.
+const ONE_NAME_STILL: [Row; 6] = [
+    (Crash(0), Done),
+    (Resume, Done),
+    (Tick(2_005), Done),
+    (Join(1, TEAM), Sent(6)),
+    (Deliver(6), Sent(7)),
+    (Deliver(7), Taken),
+];
+
+/// One that starts anew has no limit.
+const NO_LIMIT: [Row; 9] = [
+    (Crash(0), Done),
+    (Start(0), Done),
+    (Tick(60_000), Done),
+    (Ask(1, FRED), Sent(8)),
+    (Join(1, TEAM), Sent(9)),
+    (Deliver(8), Sent(10)),
+    (Deliver(9), Sent(11)),
+    (Deliver(10), Taken),
+    (Deliver(11), Taken),
+];
+
 /// What happens in a world, and what is so after it.
 #[derive(Clone, Copy)]
 enum Part {
@@ -497,6 +539,8 @@ enum Part {
     Clock(u64, bool),
     /// Packets of every kind, cut to each shorter length, come from the stranger 127.0.0.2 to an end.
     Cut(usize),
+    /// From now on a client may have so many names, if the server is up, which is said.
+    Limit(u32, bool),
 }
 
 fn play_held<R: Abort + AllocGlobal>(
@@ -528,6 +572,10 @@ fn play_part<R: Abort + AllocGlobal>(
             Ok(())
         }
         Part::Cut(to) => cut(rt, world, to),
+        Part::Limit(rows, is_up) => {
+            expect_eq_in(rt, &what, &world.limit_clients(rows), &is_up);
+            Ok(())
+        }
     }
 }
 
@@ -629,6 +677,21 @@ const ENDS_AND_STRANGERS: &[Case] = &[
             (&STILL_SILENT, &[]),
             (&HEARD, &[2]),
         ])],
+    ),
+    (
+        "a server that limits its clients gives each one name, until it starts anew",
+        &ENDS,
+        &[
+            Part::Limit(0, false),
+            Part::Rows(&UP_WITH_TWO_NODES),
+            Part::Limit(1, true),
+            Part::Held(&[(&ONE_NAME_EACH, &[1])]),
+            Part::Team(&[2]),
+            Part::Held(&[(&ONE_NAME_STILL, &[1])]),
+            Part::Team(&[2]),
+            Part::Held(&[(&NO_LIMIT, &[1])]),
+            Part::Team(&[1]),
+        ],
     ),
     (
         "nodes that the world has not",

@@ -197,6 +197,19 @@ const REFRESH_2: Row = (
     "0002 4000 two-parts FRED NB again NB 60s unique 127.0.0.2",
 );
 
+const REFRESH_3: Row = (
+    SERVER,
+    "0003 4000 two-parts FRED NB again NB 60s unique 127.0.0.2",
+);
+
+/// After a sleep, which ended at 3,070, at 1,003,276 by the time of day: the last 16 bits of 1,006,346.
+const ASK_ANEW: Row = (
+    SERVER,
+    "5b0a 2900 two-parts FRED NB again NB 60s unique 127.0.0.2",
+);
+
+const GRANTED_ANEW: Row = (SERVER, "5b0a ad80 reply FRED NB 60s unique 127.0.0.2");
+
 const IS_GRANTED: Option<News> = Some(News::Granted(60));
 
 /// It is refused with RCODE 6 twice, which is told once, and with 5, and asked for again after 5, 10 and 20 s.
@@ -291,6 +304,83 @@ const RENEWED: Turns = Turns {
     sent: &[ASK, REFRESH_2],
 };
 
+/// Replies to an earlier life, of the ids 8 and 9: the release was confirmed, and a registration refused.
+const OLD_RELEASE: &str = "0009 b400 reply FRED NB 0s unique 127.0.0.2";
+
+const OLD_REFUSAL: &str = "0008 ad86 reply FRED NB 0s unique 127.0.0.2";
+
+/// One that a stranger sends makes nothing of the hold, nor does an old grant of the server. One of the server has it refreshed in the
+/// next turn, and is told; more of them make nothing while the refresh is pending. It is renewed. The next one waits until the name has
+/// rested for 2,004 ms since the refresh, and the hold is lost where that is refused.
+const DOUBTED: Turns = Turns {
+    turns: &[
+        (3_000, 3_010, GRANTED, false, IS_GRANTED),
+        (3_100, 3_100, (STRANGER, OLD_RELEASE), false, None),
+        (
+            3_200,
+            3_200,
+            (SERVER, "0009 ad80 reply FRED NB 60s unique 127.0.0.2"),
+            false,
+            None,
+        ),
+        (6_000, 6_000, NOTHING, false, None),
+        (
+            6_010,
+            6_010,
+            (SERVER, OLD_RELEASE),
+            false,
+            Some(News::Doubted),
+        ),
+        (6_011, 6_011, (SERVER, OLD_RELEASE), false, None),
+        (6_012, 6_012, (SERVER, OLD_REFUSAL), false, None),
+        (
+            6_020,
+            6_020,
+            (SERVER, "0002 ad80 reply FRED NB 60s unique 127.0.0.2"),
+            false,
+            Some(News::Renewed(60)),
+        ),
+        (
+            6_030,
+            6_030,
+            (SERVER, OLD_REFUSAL),
+            false,
+            Some(News::Doubted),
+        ),
+        (6_031, 6_031, (SERVER, OLD_REFUSAL), false, None),
+        (8_015, 8_015, (SERVER, OLD_REFUSAL), false, None),
+        (
+            8_016,
+            8_016,
+            (SERVER, "0003 ad86 reply FRED NB 0s unique 127.0.0.2"),
+            false,
+            Some(News::Lost),
+        ),
+        (8_017, 8_017, (SERVER, OLD_REFUSAL), false, None),
+    ],
+    sent: &[ASK, REFRESH_2, REFRESH_3],
+};
+
+/// A doubt that no reply to the refresh settles: the hold is as long as it was, which is told where it has lapsed.
+const DOUBTED_IN_VAIN: Turns = Turns {
+    turns: &[
+        (3_000, 3_010, GRANTED, false, IS_GRANTED),
+        (
+            6_010,
+            6_010,
+            (SERVER, OLD_RELEASE),
+            false,
+            Some(News::Doubted),
+        ),
+        (6_011, 6_011, NOTHING, false, None),
+        (11_011, 11_011, (SERVER, OLD_RELEASE), false, None),
+        (16_011, 16_011, NOTHING, false, None),
+        (62_877, 62_877, NOTHING, false, None),
+        (62_878, 62_878, NOTHING, true, None),
+    ],
+    sent: &[ASK, REFRESH_2, REFRESH_2, REFRESH_2, REFRESH_3],
+};
+
 const QUERY: Row = (STRANGER, "0008 0100 one-name FRED NB");
 
 /// R, AA and RD; one answer; FRED; NB, IN; TTL 0; six octets; a unique name of a P node at 127.0.0.2 (RFC 1002 section 4.2.13).
@@ -318,7 +408,16 @@ const ANSWERED: Turns = Turns {
     sent: &[ASK, ANSWER, ANSWER, REFRESH_2],
 };
 
-const ROWS: &[Turns] = &[REFUSED, LAPSED, TOO_LATE, JUST_IN_TIME, RENEWED, ANSWERED];
+const ROWS: &[Turns] = &[
+    REFUSED,
+    LAPSED,
+    TOO_LATE,
+    JUST_IN_TIME,
+    RENEWED,
+    DOUBTED,
+    DOUBTED_IN_VAIN,
+    ANSWERED,
+];
 
 /// The server's replies at 60,000 to what a host sent, as what its port is to hand out.
 fn replies<R: Abort + AllocGlobal>(
@@ -535,14 +634,44 @@ fn a_sleep_is_seen_at_the_last_moments(rt: HostRuntime) -> Result<(), Fail> {
     Ok(())
 }
 
+/// What both clocks tell at a start, and the first id. Of starts that are up to a minute apart no two have one.
+const FIRST_IDS: [(u64, u64, u16); 7] = [
+    (0, 0, 0),
+    (0, 1, 1),
+    (2_000, 2_000, 4_000),
+    (3_070, 1_003_276, 0x5B0A),
+    (32_000, 33_535, 65_535),
+    (60_000, 60_000, 54_464),
+    (1 << 60, (1 << 60) - 1, 65_535),
+];
+
+/// The first id of a host that starts at this look.
+fn first_id(at: u64, day: u64) -> Result<u16, Fail> {
+    let look = Look {
+        at: moment(at)?,
+        day: moment(day)?,
+        slept: false,
+    };
+    Ok(look.first_id())
+}
+
+#[test]
+fn ids_begin_at_the_last_bits_of_both_clocks(rt: HostRuntime) -> Result<(), Fail> {
+    for (at, day, wanted) in &FIRST_IDS {
+        expect_eq_in(&rt, &day, &first_id(*at, *day)?, &*wanted);
+    }
+    Ok(())
+}
+
 /// A turn on a machine that may sleep: what the steady clock tells in it, what the time of day is at its two looks, what comes, and
 /// whether the machine slept.
 type Waking = ([u64; 4], [u64; 2], Row, bool);
 
 /// FRED is granted, and a query answered, the time of day having gone 200 ms beyond the steady clock since the look before. In the
-/// next turn it goes one more, so the host starts at 3,070, answers no query, and asks anew more than 2,004 ms later, with the first
-/// id. A grant comes, and then a query, after a wait in which the machine slept for 201 ms: it isn't answered.
-const WAKING: [Waking; 9] = [
+/// next turn it goes one more, so the host starts at 3,070, when it was 1,003,276, answers no query, and asks anew more than 2,004 ms
+/// later, with the last 16 bits of both times together as its id. The grant to its first life comes once more, and a query, which isn't
+/// answered. A grant comes, and then a query, after a wait in which the machine slept for 201 ms: it isn't answered.
+const WAKING: [Waking; 11] = [
     (
         [2_990, 3_000, 3_000, 3_010],
         [1_002_995, 1_003_005],
@@ -563,6 +692,8 @@ const WAKING: [Waking; 9] = [
     ),
     ([5_074; 4], [1_005_290; 2], NOTHING, false),
     ([5_075; 4], [1_005_291; 2], GRANTED, false),
+    ([5_076; 4], [1_005_292; 2], QUERY, false),
+    ([5_077; 4], [1_005_293; 2], GRANTED_ANEW, false),
     (
         [6_000, 6_000, 6_100, 6_100],
         [1_006_216, 1_006_518],
@@ -606,7 +737,7 @@ fn play_waking<R: Abort + AllocGlobal>(
             expect_in(rt, &days, !goal.lapsed);
         }
     }
-    expect_sent(rt, port, &[ASK, ANSWER, ASK])
+    expect_sent(rt, port, &[ASK, ANSWER, ASK_ANEW])
 }
 
 /// What comes in those turns, what the steady clock tells in them, and the times of day.

@@ -27,7 +27,8 @@ const HOST: Addr = Addr {
     port: 137,
 };
 
-/// The time of day at the moment 0, in milliseconds since 1970.
+/// The time of day at the moment 0, in milliseconds since 1970. Its last 16 bits are ac58: the ids of a host that starts then count
+/// from there. Those of one that starts again at 5,000, with the time of day 201 ms further on, count from d431.
 const DAY: u64 = 1_795_511_463_000;
 
 /// Nothing comes.
@@ -185,37 +186,52 @@ const FRED: (&[u8; 16], Kind) = (b"FRED            ", Kind::Unique);
 
 const ASK: Row = (
     SERVER,
-    "0001 2900 two-parts FRED NB again NB 60s unique 127.0.0.2",
+    "ac58 2900 two-parts FRED NB again NB 60s unique 127.0.0.2",
 );
 
 const ASK_2: Row = (
     SERVER,
-    "0002 2900 two-parts FRED NB again NB 60s unique 127.0.0.2",
+    "ac59 2900 two-parts FRED NB again NB 60s unique 127.0.0.2",
 );
 
 const ASK_3: Row = (
     SERVER,
-    "0003 2900 two-parts FRED NB again NB 60s unique 127.0.0.2",
+    "ac5a 2900 two-parts FRED NB again NB 60s unique 127.0.0.2",
 );
 
 const ASK_4: Row = (
     SERVER,
-    "0004 2900 two-parts FRED NB again NB 60s unique 127.0.0.2",
+    "ac5b 2900 two-parts FRED NB again NB 60s unique 127.0.0.2",
 );
 
-const GRANTED: Row = (SERVER, "0001 ad80 reply FRED NB 60s unique 127.0.0.2");
+const GRANTED: Row = (SERVER, "ac58 ad80 reply FRED NB 60s unique 127.0.0.2");
 
 const REFRESH_2: Row = (
     SERVER,
-    "0002 4000 two-parts FRED NB again NB 60s unique 127.0.0.2",
+    "ac59 4000 two-parts FRED NB again NB 60s unique 127.0.0.2",
 );
 
 const RELEASE_2: Row = (
     SERVER,
-    "0002 3000 two-parts FRED NB again NB 0s unique 127.0.0.2",
+    "ac59 3000 two-parts FRED NB again NB 0s unique 127.0.0.2",
 );
 
-const FREED_2: Row = (SERVER, "0002 b400 reply FRED NB 0s unique 127.0.0.2");
+const FREED_2: Row = (SERVER, "ac59 b400 reply FRED NB 0s unique 127.0.0.2");
+
+/// The same in a second life of the host.
+const ASK_ANEW: Row = (
+    SERVER,
+    "d431 2900 two-parts FRED NB again NB 60s unique 127.0.0.2",
+);
+
+const GRANTED_ANEW: Row = (SERVER, "d431 ad80 reply FRED NB 60s unique 127.0.0.2");
+
+const RELEASE_ANEW: Row = (
+    SERVER,
+    "d432 3000 two-parts FRED NB again NB 0s unique 127.0.0.2",
+);
+
+const FREED_ANEW: Row = (SERVER, "d432 b400 reply FRED NB 0s unique 127.0.0.2");
 
 /// Three names and a group are granted, one a turn, and all are given back in the list's order.
 const ALL: Hosted = Hosted {
@@ -231,27 +247,27 @@ const ALL: Hosted = Hosted {
             3_001,
             3_001,
             0,
-            (SERVER, "0002 ad80 reply NODEB NB 60s unique 127.0.0.2"),
+            (SERVER, "ac59 ad80 reply NODEB NB 60s unique 127.0.0.2"),
         ),
         (
             3_002,
             3_002,
             0,
-            (SERVER, "0003 ad80 reply WINSB NB 60s unique 127.0.0.2"),
+            (SERVER, "ac5a ad80 reply WINSB NB 60s unique 127.0.0.2"),
         ),
         (
             4_000,
             4_000,
             0,
-            (SERVER, "0004 ad80 reply TEAM NB 60s group 127.0.0.2"),
+            (SERVER, "ac5b ad80 reply TEAM NB 60s group 127.0.0.2"),
         ),
     ],
     end: &[],
     given: &[
-        (SERVER, "0006 b400 reply NODEB NB 0s unique 127.0.0.2"),
-        (SERVER, "0005 b400 reply FRED NB 0s unique 127.0.0.2"),
-        (SERVER, "0007 b400 reply WINSB NB 0s unique 127.0.0.2"),
-        (SERVER, "0008 b400 reply TEAM NB 0s group 127.0.0.2"),
+        (SERVER, "ac5d b400 reply NODEB NB 0s unique 127.0.0.2"),
+        (SERVER, "ac5c b400 reply FRED NB 0s unique 127.0.0.2"),
+        (SERVER, "ac5e b400 reply WINSB NB 0s unique 127.0.0.2"),
+        (SERVER, "ac5f b400 reply TEAM NB 0s group 127.0.0.2"),
     ],
     fails_after: None,
     time: 4_000,
@@ -263,31 +279,31 @@ const ALL: Hosted = Hosted {
         ASK,
         (
             SERVER,
-            "0002 2900 two-parts NODEB NB again NB 60s unique 127.0.0.2",
+            "ac59 2900 two-parts NODEB NB again NB 60s unique 127.0.0.2",
         ),
         (
             SERVER,
-            "0003 2900 two-parts WINSB NB again NB 60s unique 127.0.0.2",
+            "ac5a 2900 two-parts WINSB NB again NB 60s unique 127.0.0.2",
         ),
         (
             SERVER,
-            "0004 2900 two-parts TEAM NB again NB 60s group 127.0.0.2",
+            "ac5b 2900 two-parts TEAM NB again NB 60s group 127.0.0.2",
         ),
         (
             SERVER,
-            "0005 3000 two-parts FRED NB again NB 0s unique 127.0.0.2",
+            "ac5c 3000 two-parts FRED NB again NB 0s unique 127.0.0.2",
         ),
         (
             SERVER,
-            "0006 3000 two-parts NODEB NB again NB 0s unique 127.0.0.2",
+            "ac5d 3000 two-parts NODEB NB again NB 0s unique 127.0.0.2",
         ),
         (
             SERVER,
-            "0007 3000 two-parts WINSB NB again NB 0s unique 127.0.0.2",
+            "ac5e 3000 two-parts WINSB NB again NB 0s unique 127.0.0.2",
         ),
         (
             SERVER,
-            "0008 3000 two-parts TEAM NB again NB 0s group 127.0.0.2",
+            "ac5f 3000 two-parts TEAM NB again NB 0s group 127.0.0.2",
         ),
     ],
 };
@@ -299,7 +315,7 @@ const LOST_TURNS: &[Turn] = &[
         33_000,
         33_000,
         0,
-        (SERVER, "0002 ad80 reply FRED NB 60s unique 127.0.0.2"),
+        (SERVER, "ac59 ad80 reply FRED NB 60s unique 127.0.0.2"),
     ),
     (
         33_020,
@@ -345,29 +361,29 @@ const REFUSED: Hosted = Hosted {
             3_000,
             3_000,
             0,
-            (SERVER, "0001 ad86 reply FRED NB 0s unique 127.0.0.2"),
+            (SERVER, "ac58 ad86 reply FRED NB 0s unique 127.0.0.2"),
         ),
         (
             8_000,
             8_000,
             0,
-            (SERVER, "0002 ad86 reply FRED NB 0s unique 127.0.0.2"),
+            (SERVER, "ac59 ad86 reply FRED NB 0s unique 127.0.0.2"),
         ),
         (
             18_000,
             18_000,
             0,
-            (SERVER, "0003 ad85 reply FRED NB 0s unique 127.0.0.2"),
+            (SERVER, "ac5a ad85 reply FRED NB 0s unique 127.0.0.2"),
         ),
         (
             38_000,
             38_000,
             0,
-            (SERVER, "0004 ad80 reply FRED NB 60s unique 127.0.0.2"),
+            (SERVER, "ac5b ad80 reply FRED NB 60s unique 127.0.0.2"),
         ),
     ],
     end: &[],
-    given: &[(SERVER, "0005 b406 reply FRED NB 0s unique 127.0.0.2")],
+    given: &[(SERVER, "ac5c b406 reply FRED NB 0s unique 127.0.0.2")],
     fails_after: None,
     time: 38_000,
     log: false,
@@ -381,7 +397,7 @@ const REFUSED: Hosted = Hosted {
         ASK_4,
         (
             SERVER,
-            "0005 3000 two-parts FRED NB again NB 0s unique 127.0.0.2",
+            "ac5c 3000 two-parts FRED NB again NB 0s unique 127.0.0.2",
         ),
     ],
 };
@@ -447,17 +463,17 @@ const UNTIMED: Hosted = Hosted {
             3_000,
             3_000,
             0,
-            (SERVER, "0001 ad80 reply FRED NB 0s unique 127.0.0.2"),
+            (SERVER, "ac58 ad80 reply FRED NB 0s unique 127.0.0.2"),
         ),
         (
             33_000,
             33_000,
             0,
-            (SERVER, "0002 ad80 reply FRED NB 0s unique 127.0.0.2"),
+            (SERVER, "ac59 ad80 reply FRED NB 0s unique 127.0.0.2"),
         ),
     ],
     end: &[],
-    given: &[(SERVER, "0003 b400 reply FRED NB 0s unique 127.0.0.2")],
+    given: &[(SERVER, "ac5a b400 reply FRED NB 0s unique 127.0.0.2")],
     fails_after: None,
     time: 33_000,
     log: false,
@@ -469,7 +485,7 @@ const UNTIMED: Hosted = Hosted {
         REFRESH_2,
         (
             SERVER,
-            "0003 3000 two-parts FRED NB again NB 0s unique 127.0.0.2",
+            "ac5a 3000 two-parts FRED NB again NB 0s unique 127.0.0.2",
         ),
     ],
 };
@@ -483,45 +499,45 @@ const BRIEF: Hosted = Hosted {
             3_000,
             3_000,
             0,
-            (SERVER, "0001 ad80 reply FRED NB 00000002 unique 127.0.0.2"),
+            (SERVER, "ac58 ad80 reply FRED NB 00000002 unique 127.0.0.2"),
         ),
         (4_994, 4_994, 0, NOTHING),
         (
             6_000,
             6_000,
             0,
-            (SERVER, "0002 ad80 reply FRED NB 1s unique 127.0.0.2"),
+            (SERVER, "ac59 ad80 reply FRED NB 1s unique 127.0.0.2"),
         ),
         (8_000, 8_000, 0, NOTHING),
         (
             9_000,
             9_000,
             0,
-            (SERVER, "0003 ad80 reply FRED NB 00000003 unique 127.0.0.2"),
+            (SERVER, "ac5a ad80 reply FRED NB 00000003 unique 127.0.0.2"),
         ),
         (11_992, 11_992, 0, NOTHING),
         (
             12_500,
             12_500,
             0,
-            (SERVER, "0004 ad80 reply FRED NB 00000002 unique 127.0.0.2"),
+            (SERVER, "ac5b ad80 reply FRED NB 00000002 unique 127.0.0.2"),
         ),
         (13_990, 13_990, 0, NOTHING),
         (
             17_000,
             17_000,
             0,
-            (SERVER, "0005 ad86 reply FRED NB 0s unique 127.0.0.2"),
+            (SERVER, "ac5c ad86 reply FRED NB 0s unique 127.0.0.2"),
         ),
         (
             22_000,
             22_000,
             0,
-            (SERVER, "0006 ad80 reply FRED NB 00000002 unique 127.0.0.2"),
+            (SERVER, "ac5d ad80 reply FRED NB 00000002 unique 127.0.0.2"),
         ),
     ],
     end: &[],
-    given: &[(SERVER, "0007 b400 reply FRED NB 0s unique 127.0.0.2")],
+    given: &[(SERVER, "ac5e b400 reply FRED NB 0s unique 127.0.0.2")],
     fails_after: None,
     time: 22_000,
     log: false,
@@ -535,15 +551,15 @@ const BRIEF: Hosted = Hosted {
         ASK_4,
         (
             SERVER,
-            "0005 2900 two-parts FRED NB again NB 60s unique 127.0.0.2",
+            "ac5c 2900 two-parts FRED NB again NB 60s unique 127.0.0.2",
         ),
         (
             SERVER,
-            "0006 2900 two-parts FRED NB again NB 60s unique 127.0.0.2",
+            "ac5d 2900 two-parts FRED NB again NB 60s unique 127.0.0.2",
         ),
         (
             SERVER,
-            "0007 3000 two-parts FRED NB again NB 0s unique 127.0.0.2",
+            "ac5e 3000 two-parts FRED NB again NB 0s unique 127.0.0.2",
         ),
     ],
 };
@@ -565,7 +581,7 @@ const SILENT: Hosted = Hosted {
             34_000,
             34_000,
             0,
-            (SERVER, "0003 ad80 reply FRED NB 00000003 unique 127.0.0.2"),
+            (SERVER, "ac5a ad80 reply FRED NB 00000003 unique 127.0.0.2"),
         ),
         (40_000, 40_000, 0, NOTHING),
         (45_000, 45_000, 0, NOTHING),
@@ -593,7 +609,7 @@ const SILENT: Hosted = Hosted {
         ASK_4,
         (
             SERVER,
-            "0005 2900 two-parts FRED NB again NB 60s unique 127.0.0.2",
+            "ac5c 2900 two-parts FRED NB again NB 60s unique 127.0.0.2",
         ),
     ],
 };
@@ -607,14 +623,14 @@ const CONFIRMED_FIRST: Hosted = Hosted {
             4_000,
             4_000,
             0,
-            (SERVER, "0002 ad80 reply TEAM NB 60s group 127.0.0.2"),
+            (SERVER, "ac59 ad80 reply TEAM NB 60s group 127.0.0.2"),
         ),
     ],
     end: &[],
     given: &[
-        (SERVER, "0003 b400 reply FRED NB 0s unique 127.0.0.2"),
-        (SERVER, "0003 b406 reply FRED NB 0s unique 127.0.0.2"),
-        (SERVER, "0004 b400 reply TEAM NB 0s group 127.0.0.2"),
+        (SERVER, "ac5a b400 reply FRED NB 0s unique 127.0.0.2"),
+        (SERVER, "ac5a b406 reply FRED NB 0s unique 127.0.0.2"),
+        (SERVER, "ac5b b400 reply TEAM NB 0s group 127.0.0.2"),
     ],
     fails_after: None,
     time: 4_000,
@@ -626,15 +642,15 @@ const CONFIRMED_FIRST: Hosted = Hosted {
         ASK,
         (
             SERVER,
-            "0002 2900 two-parts TEAM NB again NB 60s group 127.0.0.2",
+            "ac59 2900 two-parts TEAM NB again NB 60s group 127.0.0.2",
         ),
         (
             SERVER,
-            "0003 3000 two-parts FRED NB again NB 0s unique 127.0.0.2",
+            "ac5a 3000 two-parts FRED NB again NB 0s unique 127.0.0.2",
         ),
         (
             SERVER,
-            "0004 3000 two-parts TEAM NB again NB 0s group 127.0.0.2",
+            "ac5b 3000 two-parts TEAM NB again NB 0s group 127.0.0.2",
         ),
     ],
 };
@@ -648,7 +664,7 @@ const DENIED_LATE: Hosted = Hosted {
     ],
     given: &[
         NOTHING,
-        (SERVER, "0002 b406 reply FRED NB 0s unique 127.0.0.2"),
+        (SERVER, "ac59 b406 reply FRED NB 0s unique 127.0.0.2"),
     ],
     fails_after: None,
     time: 4_000,
@@ -668,7 +684,7 @@ const DENIED: Hosted = Hosted {
     ],
     given: &[
         NOTHING,
-        (SERVER, "0002 b406 reply FRED NB 0s unique 127.0.0.2"),
+        (SERVER, "ac59 b406 reply FRED NB 0s unique 127.0.0.2"),
     ],
     fails_after: None,
     time: 4_000,
@@ -679,7 +695,8 @@ const DENIED: Hosted = Hosted {
     sent: &[ASK, RELEASE_2],
 };
 
-/// The time of day goes 201 ms beyond the steady clock: the host rests, and asks anew with the first id.
+/// The time of day goes 201 ms beyond the steady clock: the host rests, and asks anew. The grant to its first life, which comes once
+/// more, isn't taken.
 const SLEPT: Hosted = Hosted {
     wants: &[FRED],
     turns: &[
@@ -688,16 +705,17 @@ const SLEPT: Hosted = Hosted {
         (5_000, 5_000, 201, NOTHING),
         (7_004, 7_004, 201, NOTHING),
         (7_005, 7_005, 201, GRANTED),
+        (8_000, 8_000, 201, GRANTED_ANEW),
     ],
     end: &[],
-    given: &[FREED_2],
+    given: &[FREED_ANEW],
     fails_after: None,
-    time: 7_005,
+    time: 8_000,
     log: false,
     all: Ok(true),
-    printed: "host 127.0.0.2:137 asks 127.0.0.1:137 for 1 name\n2026-11-24T09:11:06Z granted FRED#20 60 s\n2026-11-24T09:11:08Z slept, or its clock was set: asks anew\n2026-11-24T09:11:10Z granted FRED#20 60 s\n2026-11-24T09:11:10Z given back FRED#20\n",
+    printed: "host 127.0.0.2:137 asks 127.0.0.1:137 for 1 name\n2026-11-24T09:11:06Z granted FRED#20 60 s\n2026-11-24T09:11:08Z slept, or its clock was set: asks anew\n2026-11-24T09:11:11Z granted FRED#20 60 s\n2026-11-24T09:11:11Z given back FRED#20\n",
     errors: "",
-    sent: &[ASK, ASK, RELEASE_2],
+    sent: &[ASK, ASK_ANEW, RELEASE_ANEW],
 };
 
 /// It sleeps for 190 ms and then for 11 more.
@@ -709,17 +727,46 @@ const SLEPT_TWICE: Hosted = Hosted {
         (4_900, 4_900, 190, NOTHING),
         (5_000, 5_000, 201, NOTHING),
         (7_004, 7_004, 201, NOTHING),
-        (7_005, 7_005, 201, GRANTED),
+        (7_005, 7_005, 201, GRANTED_ANEW),
     ],
     end: &[],
-    given: &[FREED_2],
+    given: &[FREED_ANEW],
     fails_after: None,
     time: 7_005,
     log: false,
     all: Ok(true),
     printed: "host 127.0.0.2:137 asks 127.0.0.1:137 for 1 name\n2026-11-24T09:11:06Z granted FRED#20 60 s\n2026-11-24T09:11:08Z slept, or its clock was set: asks anew\n2026-11-24T09:11:10Z granted FRED#20 60 s\n2026-11-24T09:11:10Z given back FRED#20\n",
     errors: "",
-    sent: &[ASK, ASK, RELEASE_2],
+    sent: &[ASK, ASK_ANEW, RELEASE_ANEW],
+};
+
+/// A reply that nothing waits for says that the name is released: the host tells it, and refreshes its hold, which is refused.
+const DOUBTED: Hosted = Hosted {
+    wants: &[FRED],
+    turns: &[
+        (3_000, 3_000, 0, GRANTED),
+        (
+            6_000,
+            6_000,
+            0,
+            (SERVER, "0007 b400 reply FRED NB 0s unique 127.0.0.2"),
+        ),
+        (
+            6_010,
+            6_010,
+            0,
+            (SERVER, "ac59 ad86 reply FRED NB 0s unique 127.0.0.2"),
+        ),
+    ],
+    end: &[],
+    given: &[],
+    fails_after: None,
+    time: 6_010,
+    log: false,
+    all: Ok(false),
+    printed: "host 127.0.0.2:137 asks 127.0.0.1:137 for 1 name\n2026-11-24T09:11:06Z granted FRED#20 60 s\n2026-11-24T09:11:09Z refreshes FRED#20: the server says that it isn't held\n2026-11-24T09:11:09Z lost FRED#20\n2026-11-24T09:11:09Z not held FRED#20\n",
+    errors: "",
+    sent: &[ASK, REFRESH_2],
 };
 
 /// What is given back is sent three times, 5 s apart, and no reply comes.
@@ -786,7 +833,15 @@ const ROWS: &[Hosted] = &[
 ];
 
 /// What the server doesn't say, says too briefly, or says again.
-const SERVERS: &[Hosted] = &[UNTIMED, BRIEF, SILENT, CONFIRMED_FIRST, DENIED_LATE, DENIED];
+const SERVERS: &[Hosted] = &[
+    UNTIMED,
+    BRIEF,
+    SILENT,
+    CONFIRMED_FIRST,
+    DENIED_LATE,
+    DENIED,
+    DOUBTED,
+];
 
 /// How many octets the output takes, and what stands in it when the next one is refused. The host is the one whose give-back is not
 /// confirmed.
@@ -971,7 +1026,7 @@ fn a_host_whose_port_can_not_be_had(rt: HostRuntime) -> Result<(), Fail> {
 }
 
 /// Each event, at the second at which it was 2026-11-24T09:12:03Z, of a name, and of one in a scope.
-const EVENTS: [(Event, &str); 10] = [
+const EVENTS: [(Event, &str); 11] = [
     (
         Event::Granted(300),
         "2026-11-24T09:12:03Z granted FRED#20 300 s\n",
@@ -979,6 +1034,10 @@ const EVENTS: [(Event, &str); 10] = [
     (
         Event::Renewed(60),
         "2026-11-24T09:12:03Z renewed FRED#20 60 s\n",
+    ),
+    (
+        Event::Doubted,
+        "2026-11-24T09:12:03Z refreshes FRED#20: the server says that it isn't held\n",
     ),
     (
         Event::Refused(7),
@@ -1047,13 +1106,14 @@ fn lines_of_a_turn_and_of_the_end(rt: HostRuntime) -> Result<(), Fail> {
         goal(Stage::Left(1), false, Some(News::Refused(6)), 2)?,
         goal(Stage::Released, true, Some(News::Freed(0)), 1)?,
         goal(Stage::Wanted, false, None, 1)?,
+        goal(Stage::Wanted, false, Some(News::Doubted), 1)?,
     ];
     let mut text = String::new(rt.alloc());
     write_lines(&goals, &mut text)?;
     expect_eq(
         &rt,
         &text.as_str(),
-        &"host 127.0.0.2:137 asks 127.0.0.1:137 for 0 names\n2026-11-24T09:12:03Z slept, or its clock was set: asks anew\n2026-11-24T09:12:03Z lapsed FRED#20\n2026-11-24T09:12:03Z refused FRED#20: held by another (6)\n2026-11-24T09:12:03Z asks again for FRED#20 after 5 s, 10 s .. at most 5 min\n2026-11-24T09:12:03Z refused FRED#20: held by another (6)\n2026-11-24T09:12:03Z lapsed FRED#20\n2026-11-24T09:12:03Z given back FRED#20\n2026-11-24T09:12:03Z give-back denied FRED#20: malformed request (1)\n2026-11-24T09:12:03Z give-back unconfirmed FRED#20\n2026-11-24T09:12:03Z not held FRED#20\n",
+        &"host 127.0.0.2:137 asks 127.0.0.1:137 for 0 names\n2026-11-24T09:12:03Z slept, or its clock was set: asks anew\n2026-11-24T09:12:03Z lapsed FRED#20\n2026-11-24T09:12:03Z refused FRED#20: held by another (6)\n2026-11-24T09:12:03Z asks again for FRED#20 after 5 s, 10 s .. at most 5 min\n2026-11-24T09:12:03Z refused FRED#20: held by another (6)\n2026-11-24T09:12:03Z lapsed FRED#20\n2026-11-24T09:12:03Z refreshes FRED#20: the server says that it isn't held\n2026-11-24T09:12:03Z given back FRED#20\n2026-11-24T09:12:03Z give-back denied FRED#20: malformed request (1)\n2026-11-24T09:12:03Z give-back unconfirmed FRED#20\n2026-11-24T09:12:03Z not held FRED#20\n2026-11-24T09:12:03Z not held FRED#20\n",
     );
     Ok(())
 }

@@ -223,6 +223,7 @@ fn turn<R: Abort>(
         stage.server,
         stage.waiting,
         octets,
+        &mut ArrayVec::new(),
     )?;
     Ok(())
 }
@@ -261,6 +262,45 @@ impl Scene for Kept {
     }
 }
 
+const TEAM: &str = "0001 2900 two-parts TEAM NB again NB 60s unique 127.0.0.2";
+
+const TEAM_REFUSED: &str = "0001 ad82 reply TEAM NB 0s unique 127.0.0.2";
+
+/// A second name of a client that may have one: nothing is appended for it, and its refusal waits for what was before it.
+const A_SECOND_NAME: &Kept = &Kept {
+    name: "the refusal of a client that is full is no change",
+    given: &[(FIRST, REGISTRATION), (FIRST, TEAM), NOTHING, (FIRST, TEAM)],
+    port_fails: None,
+    trouble: None,
+    turns: &[
+        (Ok(()), 0, 4),
+        (Ok(()), 0, 4),
+        (Ok(()), 2, 5),
+        (Ok(()), 3, 5),
+    ],
+    sent: &[
+        (FIRST, GRANTED),
+        (FIRST, TEAM_REFUSED),
+        (FIRST, TEAM_REFUSED),
+    ],
+};
+
+/// The same, at a server at which a client may have one name.
+struct OneNameEach;
+
+impl Scene for OneNameEach {
+    fn play<R: Abort + AllocGlobal + time::Clock>(
+        &self,
+        rt: &R,
+        port: &mut MemoryPort,
+        clock: &mut MemoryClock,
+        server: &mut Server,
+    ) -> Result<(), Fail> {
+        server.limit_clients(1);
+        A_SECOND_NAME.play(rt, port, clock, server)
+    }
+}
+
 fn play_all<R: Abort + AllocGlobal + time::Clock>(rt: &R, rows: &[Kept]) -> Result<(), Fail> {
     for row in rows {
         play_on(rt, row.given, &[60_000], row)?;
@@ -270,7 +310,8 @@ fn play_all<R: Abort + AllocGlobal + time::Clock>(rt: &R, rows: &[Kept]) -> Resu
 
 #[test]
 fn replies_wait_until_their_changes_are_durable(rt: HostRuntime) -> Result<(), Fail> {
-    play_all(&rt, TURNS)
+    play_all(&rt, TURNS)?;
+    play_on(&rt, A_SECOND_NAME.given, &[60_000], &OneNameEach)
 }
 
 /// A port that hands out the registrations of names of these numbers; nothing where the number is `None`.

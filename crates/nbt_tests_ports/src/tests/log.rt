@@ -154,6 +154,13 @@ const CLAIMED: &[Claimed] = &[
         0x7F000002,
         "2026-11-24T09:12:03Z refused TEAM#20 127.0.0.2 group from 192.0.2.9:137: the group is full (2)\n",
     ),
+    (
+        Done::Refused(Refusal::ClientFull),
+        "TEAM",
+        Kind::Group,
+        0x7F000002,
+        "2026-11-24T09:12:03Z refused TEAM#20 127.0.0.2 group from 192.0.2.9:137: the client has too many names (2)\n",
+    ),
     // Releases: of a lease, of none, and one that is refused.
     (
         Done::Released,
@@ -482,6 +489,27 @@ const HANDLED: &[Handled] = &[
     (60_500, OTHER, QUERY, "FRED", OWNER, Done::NotFound),
 ];
 
+/// Datagrams to the same server afterwards, which lets no client begin a lease.
+const HANDLED_BY_A_LIMIT: &[Handled] = &[
+    (
+        60_600,
+        OWNER,
+        REGISTRATION,
+        "FRED",
+        OWNER,
+        Done::Refused(Refusal::ClientFull),
+    ),
+    (
+        60_600,
+        OTHER,
+        REGISTRATION,
+        "FRED",
+        OWNER,
+        Done::Refused(Refusal::NotOwn),
+    ),
+    (60_600, OTHER, QUERY, "FRED", OWNER, Done::NotFound),
+];
+
 fn expect_handled<R: Abort + AllocGlobal>(
     rt: &R,
     server: &mut Server,
@@ -512,7 +540,9 @@ fn expect_all_handled<R: Abort + AllocGlobal>(
 #[test]
 fn what_a_server_did(rt: HostRuntime) -> Result<(), Fail> {
     let mut server = started(&rt, 1, 0)?;
-    expect_all_handled(&rt, &mut server, &mut ArrayVec::new(), HANDLED)
+    expect_all_handled(&rt, &mut server, &mut ArrayVec::new(), HANDLED)?;
+    server.limit_clients(0);
+    expect_all_handled(&rt, &mut server, &mut ArrayVec::new(), HANDLED_BY_A_LIMIT)
 }
 
 fn named(text: &str) -> Result<Name, Fail> {

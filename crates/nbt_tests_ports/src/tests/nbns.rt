@@ -10,7 +10,7 @@ use nbt_nbns::{
     FilePlace, Journal, Judged, Keeper, Logger, MemoryPlace, NbnsArguments, Outbox, Place, judge,
     run_nbns, watch_on, write_begin, write_refusal, write_warning,
 };
-use nbt_port::{Fault, MemoryClock, MemoryPort, Port, UdpPort};
+use nbt_port::{Bind, Fault, MemoryClock, MemoryPort, Port, UdpPort};
 use nbt_server::Server;
 use nbt_testing::{
     GRANTED, QUERY, REFRESH, REFUSED, REGISTRATION, RELEASE, RIVAL, Row, clock, config,
@@ -509,7 +509,7 @@ const BLANK: Paper = Paper {
 
 #[test]
 fn the_first_line_is_flushed(rt: HostRuntime) -> Result<(), Fail> {
-    let arguments = arguments(0, false)?;
+    let arguments = arguments(&rt, 0, false)?;
     let mut paper = BLANK;
     let mut errors = Vec::new(rt.alloc());
     run_nbns(&rt, rt.alloc(), &arguments, &mut paper, &mut errors)?;
@@ -542,6 +542,8 @@ enum Seen {
     FullLog,
     /// All that is printed is flushed.
     Flushed,
+    /// A row, where a client may have so many names.
+    Limited(u32, &'static Watched),
 }
 
 fn see<R: Abort + AllocGlobal + time::Clock>(
@@ -555,6 +557,10 @@ fn see<R: Abort + AllocGlobal + time::Clock>(
         Seen::RefusedLists => see_refused_lists(rt, stage),
         Seen::FullLog => see_full_log(rt, stage),
         Seen::Flushed => see_flushed(rt, stage),
+        Seen::Limited(rows, row) => {
+            stage.server.limit_clients(*rows);
+            expect_watched(rt, *row, stage)
+        }
     }
 }
 
@@ -608,8 +614,45 @@ fn play_watched<R: Abort + AllocGlobal + time::Clock>(
     Ok(())
 }
 
-/// What a watched server can't have, or write; and that it flushes.
+const TEAM: &str = "0001 2900 two-parts TEAM NB again NB 60s unique 127.0.0.2";
+
+/// A client asks for a second name, where it may have one, and renews the first; another one gets it.
+const ONE_NAME_EACH: &[Turn] = &[
+    (60_000, 0, (FIRST, REGISTRATION)),
+    (60_500, 0, (FIRST, TEAM)),
+    (61_000, 0, (FIRST, REFRESH)),
+    (
+        61_500,
+        0,
+        (
+            SECOND,
+            "0001 2900 two-parts TEAM NB again NB 60s unique 127.0.0.3",
+        ),
+    ),
+];
+
+const LIMITED: &Watched = &Watched {
+    turns: ONE_NAME_EACH,
+    until: 61_500,
+    logs: true,
+    printed: "2026-11-24T09:12:03Z granted FRED#20 127.0.0.2 unique 60 s\n2026-11-24T09:12:03Z refused TEAM#20 127.0.0.2 unique from 127.0.0.2:137: the client has too many names (2)\n2026-11-24T09:12:04Z renewed FRED#20 127.0.0.2 unique 60 s\n2026-11-24T09:12:04Z granted TEAM#20 127.0.0.3 unique 60 s\n",
+    lists: &[],
+    sent: &[
+        (FIRST, GRANTED),
+        (FIRST, "0001 ad82 reply TEAM NB 0s unique 127.0.0.2"),
+        (FIRST, GRANTED),
+        (SECOND, "0001 ad80 reply TEAM NB 60s unique 127.0.0.3"),
+    ],
+};
+
+/// What a watched server can't have, or write; that it flushes; and that it limits its clients.
 const OTHERS: &[Watching] = &[
+    Watching {
+        turns: ONE_NAME_EACH,
+        logs: true,
+        lists: false,
+        seen: Seen::Limited(1, LIMITED),
+    },
     Watching {
         turns: EACH,
         logs: true,
@@ -718,19 +761,25 @@ fn a_file_has_one_list_or_the_other(rt: HostRuntime) -> Result<(), Fail> {
     Ok(())
 }
 
+/// Where a server over this machine is.
+fn here(port: u16) -> Addr {
+    Addr {
+        ip: 0x7F2A1703,
+        port,
+    }
+}
+
 /// A server over this machine, at a port that no other test has, which ends after its first turn.
-fn arguments(port: u16, strict: bool) -> Result<NbnsArguments, Fail> {
+fn arguments(rt: &HostRuntime, port: u16, strict: bool) -> Result<NbnsArguments, Fail> {
     Ok(NbnsArguments {
-        bind: Addr {
-            ip: 0x7F2A1703,
-            port,
-        },
+        bind: Bind::To(vec![in rt.alloc(); here(port)]?),
         config: config(16)?,
         time: Some(0),
         log: true,
         broadcasts: false,
         leases: None,
         strict,
+        rows_per_client: 64,
     })
 }
 
@@ -741,7 +790,7 @@ fn arguments_with_leases(
     strict: bool,
     path: &str,
 ) -> Result<NbnsArguments, Fail> {
-    let mut arguments = arguments(port, strict)?;
+    let mut arguments = arguments(rt, port, strict)?;
     arguments.leases = Some(String::from_str(rt.alloc(), path)?);
     Ok(arguments)
 }
@@ -785,7 +834,7 @@ fn a_server_over_this_machine(rt: HostRuntime) -> Result<(), Fail> {
 
 #[test]
 fn a_server_tells_the_port_that_it_got(rt: HostRuntime) -> Result<(), Fail> {
-    let (ended, printed, _) = run(&rt, &arguments(0, false)?);
+    let (ended, printed, _) = run(&rt, &arguments(&rt, 0, false)?);
     expect(&rt, ended.is_ok());
     expect(&rt, printed.as_slice().starts_with(b"serving 127.42.23.3:"));
     expect(
@@ -894,7 +943,7 @@ fn a_first_line_that_can_not_be_written(rt: HostRuntime) -> Result<(), Fail> {
         &run_nbns(
             &rt,
             rt.alloc(),
-            &arguments(0, false)?,
+            &arguments(&rt, 0, false)?,
             &mut short,
             &mut errors,
         ),
@@ -910,8 +959,8 @@ fn a_first_line_that_can_not_be_written(rt: HostRuntime) -> Result<(), Fail> {
 
 #[test]
 fn a_port_that_can_not_be_had(rt: HostRuntime) -> Result<(), Fail> {
-    let arguments = arguments(20_172, false)?;
-    let _taken = UdpPort::bind(&rt, arguments.bind)?;
+    let arguments = arguments(&rt, 20_172, false)?;
+    let _taken = UdpPort::bind(&rt, here(20_172))?;
     let (ended, printed, errors) = run(&rt, &arguments);
     expect_eq(&rt, &ended, &Err(Fault::NoPort));
     expect(&rt, printed.is_empty());
@@ -950,7 +999,8 @@ fn longest_leases_that_are_too_short_or_long(rt: HostRuntime) -> Result<(), Fail
 }
 
 fn write_first(text: &mut String) -> Result<(), Fail> {
-    write_begin(FIRST, 300, 1_795_511_823, text)?;
+    write_begin(&[FIRST], 300, 1_795_511_823, text)?;
+    write_begin(&[FIRST, SECOND], 20, 1_795_511_823, text)?;
     write_refusal(Config::new(1_500, 20, 1)?, text)?;
     text.push_str("\n")?;
     write_warning(Config::new(1_000, 7_200, 1)?, text)?;
@@ -964,7 +1014,7 @@ fn what_is_said_at_first(rt: HostRuntime) -> Result<(), Fail> {
     expect_eq(
         &rt,
         &text.as_str(),
-        &"serving 127.0.0.2:137, silent for 300 s until 2026-11-24T09:17:03Z\nlongest lease 20 s, life of a datagram 1500 ms: it has to be 10 s and 20 lives at least, else a hold would lapse before it can be refreshed\nlongest lease 7200 s: after each start the server is silent for as long",
+        &"serving 127.0.0.2:137, silent for 300 s until 2026-11-24T09:17:03Z\nserving 127.0.0.2:137, 127.0.0.3:1024, silent for 20 s until 2026-11-24T09:17:03Z\nlongest lease 20 s, life of a datagram 1500 ms: it has to be 10 s and 20 lives at least, else a hold would lapse before it can be refreshed\nlongest lease 7200 s: after each start the server is silent for as long",
     );
     Ok(())
 }

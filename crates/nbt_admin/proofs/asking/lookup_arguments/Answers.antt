@@ -2,12 +2,12 @@ use Rattle.std.proofs.Common.{inl, inr}
 use Rattle.std.proofs.lemmas.Result.{err_from_is_err_and}
 use Rattle.nbt_admin.proofs.asking.lookup_arguments.Goals as goal
 
-pub returns-in_err-bind-clause-failure : goal.returns-in_err-bind-clause-failure
-returns-in_err-bind-clause-failure c =
-    let p = err_from_is_err_and c.from_residual-in_err-bind.result c.from_residual-in_err-bind.ensures.1 in
-    rw (p.1, p.2) (inr (inr (inr (inl (c.in_ok-patience.ensures.limits, (c.in_ok-server.server, c.in_ok-server.ensures.read), c.in_err-bind.ensures.failure)))))
+pub returns-in_err-server-clause-failure : goal.returns-in_err-server-clause-failure
+returns-in_err-server-clause-failure c =
+    let p = err_from_is_err_and c.from_residual-in_err-server.result c.from_residual-in_err-server.ensures.1 in
+    rw (p.1, p.2) (inr (inr (inl (c.in_ok-patience.ensures.limits, c.in_err-server.ensures.failure))))
 
 pub returns-in_err-name-clause-failure : goal.returns-in_err-name-clause-failure
 returns-in_err-name-clause-failure c =
     let p = err_from_is_err_and c.from_residual-in_err-name.result c.from_residual-in_err-name.ensures.1 in
-    rw (p.1, p.2) (inr (inr (inr (inr (c.in_ok-patience.ensures.limits, (c.in_ok-server.server, c.in_ok-server.ensures.read), (c.in_ok-bind.bind, c.in_ok-bind.ensures.read), c.in_err-name.ensures.failure)))))
+    rw (p.1, p.2) (inr (inr (inr (c.in_ok-patience.ensures.limits, (_, _, c.in_ok-server.ensures.read), c.in_err-name.ensures.failure))))

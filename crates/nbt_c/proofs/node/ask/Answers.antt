@@ -2,7 +2,6 @@ use Rattle.std.proofs.Common.{◌≡◌, Some, None, refl, sym, ◌∙◌}
 use Rattle.nbt_node.specs.Calls.{ask_refusal, Sends}
 use Rattle.nbt_node.specs.Moves.{ask}
 use Rattle.nbt_c.specs.Nodes.{Asks}
-use Rattle.nbt_c.specs.Ends.{kind_of}
 use Rattle.nbt_c.specs.Nodes as is
 use Rattle.nbt_c.proofs.Calls.{above, moved, given}
 use Rattle.nbt_c.proofs.node.ask.Goals as goal

@@ -1,4 +1,4 @@
-use Rattle.std.specs.Prelude.{◌≡◌, Result, Ok, Err, MatchResult, ⊤}
+use Rattle.std.specs.Prelude.{Result, Ok, Err, MatchResult, ⊤}
 use Rattle.nbt_port.proofs.monotonic.AnyMonotonic.since_boot.Goals as goal
 
 -- whatever a reading is, a contract says nothing of it

@@ -1,5 +1,5 @@
-use Rattle.std.proofs.Common.{◌≡◌, ℕ, ◌≤◌, List, Option, Some, None, refl, subst, arith}
-use Rattle.nbt_server.proofs.Common.{IfSome, MessageValue, message_of, Spells, AreWritten, text, leases_at, Outcome, ServerHandles, Does, ServerValue, speaks_from, ServesOctets, is_silent, is_no_message, serves}
+use Rattle.std.proofs.Common.{◌≡◌, ℕ, ◌≤◌, List, Option, Some, None, refl, sym, subst, arith}
+use Rattle.nbt_server.proofs.Common.{IfSome, MessageValue, message_of, Spells, AreWritten, text, leases_at, Leases, by_limit, by_rule, DoesWithin, IsDone, refusal, server_error, turns_away, Outcome, ServerHandles, ServerValue, speaks_from, ServesOctets, is_silent, is_no_message, serves}
 use Rattle.nbt_server.proofs.Rules.{replies, unanswered_replies}
 use Rattle.nbt_server.proofs.server.Server.handle.Goals as goal
 use Rattle.nbt_server.proofs.server.Server.handle.Goals.{in-Ok, in-Err}
@@ -11,14 +11,26 @@ spelled_by (Some message) octets written = subst (λ (xs : List ℕ). Spells xs 
 
 -- what was done with a message is what was done with the octets that spell it
 handles : (old new : ServerValue) (now ip : ℕ) (octets : List ℕ) (m : MessageValue) (outcome : Outcome) (out : List ℕ) → old.last ≤ now → speaks_from old ≤ now → Spells octets m
-    → new.start ≡ old.start → new.last ≡ now → new.table.config ≡ old.table.config → Does old.table now ip m outcome out (leases_at now new.table.rows) → ServerHandles old now ip octets outcome out new
-handles old new now ip octets m outcome out onward speaks spelled start last config (reply, does, done, written) =
-    let octets_do : ServesOctets old now ip octets reply (leases_at now new.table.rows) = serves m reply (leases_at now new.table.rows) speaks spelled does in
+    → new.start ≡ old.start → new.last ≡ now → new.table.config ≡ old.table.config → new.client_rows ≡ old.client_rows → DoesWithin old.client_rows old.table now ip m outcome out (leases_at now new.table.rows)
+    → ServerHandles old now ip octets outcome out new
+handles old new now ip octets m outcome out onward speaks spelled start last config limit (by_rule room (reply, does, done, written)) =
+    let octets_do : ServesOctets old now ip octets reply (leases_at now new.table.rows) = serves m reply (leases_at now new.table.rows) speaks spelled room does in
     record {
       reply = reply;
-      takes = record { goes_on = onward; serves = octets_do; spelled = spelled_by reply out written; start = start; last = last; config = config };
+      takes = record { goes_on = onward; serves = octets_do; spelled = spelled_by reply out written; start = start; last = last; config = config; limit = limit };
       done = done;
       has_reply_is = replies octets_do outcome done;
+      written = written;
+    }
+handles old new now ip octets m outcome out onward speaks spelled start last config limit (by_limit over is written same) =
+    let reply : Option MessageValue = Some (refusal server_error over.r) in
+    let does : (x : ServesOctets old now ip octets reply (leases_at now new.table.rows)) × IsDone x outcome
+    = subst (λ (after : Leases). (x : ServesOctets old now ip octets reply after) × IsDone x outcome) (sym same) (turns_away m speaks spelled over, is) in
+    record {
+      reply = reply;
+      takes = record { goes_on = onward; serves = does.0; spelled = spelled_by reply out written; start = start; last = last; config = config; limit = limit };
+      done = does.1;
+      has_reply_is = replies does.0 outcome does.1;
       written = written;
     }
 
@@ -26,7 +38,7 @@ pub returns-in_default-clause-handled : goal.returns-in_default-clause-handled
 returns-in_default-clause-handled c =
     rw (← c.self.view_is) (record {
       reply = None;
-      takes = record { goes_on = omega arith; serves = is_no_message (λ m s. let e = (c.in_default.ensures m).1 s in absurd cc); spelled = tt; start = refl; last = refl; config = refl };
+      takes = record { goes_on = omega arith; serves = is_no_message (λ m s. let e = (c.in_default.ensures m).1 s in absurd cc); spelled = tt; start = refl; last = refl; config = refl; limit = refl };
       done = refl;
       has_reply_is = refl;
       written = c.clear.ensures;
@@ -37,7 +49,7 @@ returns-then-get-speaks_from-clause-handled c =
     let done = c.unanswered.ensures c.args.octets.now ((c.in-Some.ensures (message_of c.in-Some.message)).0 refl) in
     rw (← c.self.view_is) (record {
       reply = None;
-      takes = record { goes_on = omega arith; serves = is_silent (omega arith); spelled = tt; start = refl; last = refl; config = refl };
+      takes = record { goes_on = omega arith; serves = is_silent (omega arith); spelled = tt; start = refl; last = refl; config = refl; limit = refl };
       done = done;
       has_reply_is = unanswered_replies c.args.octets.now c.unanswered.result done;
       written = c.clear.ensures;
@@ -49,7 +61,7 @@ returns-clause-handled c =
       | in-Ok w ↦
           let s = w.in-Ok.ensures.does in
           rw (w.result-is, ← c.self.view_is)
-          (handles _ _ _ _ _ _ w.in-Ok.outcome _ (omega arith) (omega arith) ((c.in-Some.ensures (message_of c.in-Some.message)).0 refl) refl refl w.in-Ok.ensures.config s)
+          (handles _ _ _ _ _ _ w.in-Ok.outcome _ (omega arith) (omega arith) ((c.in-Some.ensures (message_of c.in-Some.message)).0 refl) refl refl w.in-Ok.ensures.config refl s)
       | in-Err w ↦ rw w.result-is tt
     ]
 
@@ -63,10 +75,12 @@ returns-clause-memory c = λ is.
             message = message_of c.in-Some.message;
             speaks = omega arith;
             spelled = (c.in-Some.ensures (message_of c.in-Some.message)).0 refl;
+            room = w.in-Err.ensures.room;
             needs = w.in-Err.ensures.memory;
             leases = w.in-Err.ensures.refused.0;
             start = refl;
             last = refl;
             config = w.in-Err.ensures.config;
+            limit = refl;
           })
     ]
