@@ -63,7 +63,7 @@ pub fn program<'a>(alloc: Global) -> Result<Command<'a>, AllocError> {
     Ok(program)
 }
 
-/// Refuses an argument that is not UTF-8, with clap's own text around it; or says that memory is out.
+/// Refuses an argument that is not UTF-8, with clap's own text around it; or is out of memory.
 pub fn no_text(alloc: Global) -> Refusal
     ensures { IsWrongUsage result }
 {
