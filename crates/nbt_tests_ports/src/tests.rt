@@ -2,6 +2,7 @@
 
 mod addresses;
 mod expect;
+mod front;
 mod host;
 mod hosting;
 mod keeping;

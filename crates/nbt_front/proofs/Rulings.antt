@@ -1,0 +1,1 @@
+-- What is done with a message, by what was found of its name.
