@@ -12,8 +12,8 @@ _nbt() {
         word=''
     fi
     case $before in
-    --at | --server | --bind | --scope | --wait | --life | --longest | --for | --rows-per-client | --group) return ;;
-    --leases)
+    --at | --server | --bind | --scope | --wait | --life | --longest | --for | --rows-per-client | --allow | --group) return ;;
+    --leases | --fixed)
         compopt -o filenames 2>/dev/null
         mapfile -t COMPREPLY < <(compgen -f -- "$word")
         return
@@ -41,7 +41,7 @@ _nbt() {
         case ${COMP_WORDS[1]} in
         lookup) words='--server --scope --exact --tries --wait --bind --help' ;;
         status) words='--scope --exact --tries --wait --bind --help' ;;
-        nbns) words='--bind --life --longest --for --log --log-broadcasts --leases --strict --rows-per-client --state --silent-after-boot --help' ;;
+        nbns) words='--bind --life --longest --for --log --log-broadcasts --leases --strict --rows-per-client --allow --fixed --state --silent-after-boot --help' ;;
         host | release) words='--server --bind --group --scope --exact --life --longest --for --log --help' ;;
         answer) words='--at --help' ;;
         show) words='--explain --help' ;;
@@ -56,9 +56,9 @@ _nbt() {
         esac
     fi
 
-    # An option that is given isn't offered again, except --group.
+    # An option that is given isn't offered again, except --group and --allow.
     while IFS= read -r reply; do
-        [[ $reply == --?* && $reply != --group && " ${COMP_WORDS[*]:1:COMP_CWORD-1} " == *" $reply "* ]] || COMPREPLY+=("$reply")
+        [[ $reply == --?* && $reply != --group && $reply != --allow && " ${COMP_WORDS[*]:1:COMP_CWORD-1} " == *" $reply "* ]] || COMPREPLY+=("$reply")
     done < <(compgen -W "$words" -- "$word")
 }
 

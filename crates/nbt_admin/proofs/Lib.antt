@@ -1,6 +1,7 @@
 -- What several proofs share; the proof of a function is in the folder of its module and its name.
 mod Addresses
 pub mod Ends
+mod Networks
 pub mod Reading
 mod States
 mod Wanting

@@ -6,6 +6,7 @@ use Rattle.nbt_client.specs.declared.question.Question.{Question}
 use Rattle.nbt_client.specs.declared.question.Question.TheVariants as q
 use Rattle.nbt_args.specs.declared.texts.LookupTexts.{LookupTexts}
 use Rattle.nbt_admin.specs.Binds.{GivesBind, IsBind, BindFails}
+use Rattle.nbt_admin.specs.Fronts.{AreNetworks, AllowFails}
 use Rattle.nbt_admin.specs.Failures.{IsUsage, out_of_memory, ComplainsOf}
 use Rattle.nbt_admin.specs.Times.{IsWait, SpellsPatience, IsConfigOf, AreLimits, LimitsFail, SpellsEnding, IsEnding, EndingFails, SpellsClientRows, ClientRowsFail, AreFitLimits, ShortFails}
 use Rattle.nbt_admin.specs.Texts.{IsAddress, AddressFails, IsPath, PathFails, SpellsAsked, SpellsSought, SpellsOwn, IsOwn, OwnFails, SoughtFails, SourceFails, SpellsPeer, SpellEnds, AreEnds, EndsFail}
@@ -99,6 +100,17 @@ NbnsFails texts failure = (failure ≡ out_of_memory)
     ⊎ ((IsEnding texts.time × AreFit texts × IsBind texts.binds.items × StateFails texts.state failure)
     ⊎ ((IsEnding texts.time × AreFit texts × IsBind texts.binds.items × IsState texts.state × PathFails (option_map (λ text. text.now) texts.leases) failure)
     ⊎ (IsEnding texts.time × AreFit texts × IsBind texts.binds.items × IsState texts.state × IsPath (option_map (λ text. text.now) texts.leases) × ClientRowsFail texts.rows_per_client failure)))))))
+
+-- The same, and who may register; no name is fixed yet.
+pub record ServerGiven (texts : NbnsTexts) (a : ServerArguments) : Type 0 where
+  pub nbns : NbnsGiven texts a
+  pub allowed : AreNetworks texts.allow.items a.nbns.front.allowed
+  pub none_fixed : a.nbns.front.fixed ≡ []
+  pub longest : a.nbns.front.longest ≡ a.nbns.config.longest
+
+-- the networks are read last
+abbrev pub ServerFails : NbnsTexts → Failure → Type 0
+ServerFails texts failure = NbnsFails texts failure ⊎ AllowFails texts.allow.items failure
 
 -- ---- `host`
 

@@ -5,6 +5,7 @@ ghost use Rattle.std.specs.Prelude.{◌≡◌, ◌⊎◌};
 use crate::hosting::NAMES_MOST;
 use crate::reason::why_no_address;
 use nbt_args::{NoUnit, Refusal, Text};
+use nbt_front::LineFault;
 use nbt_lease::{Config, LIFE_MOST, LONGEST_MOST, ROWS_MOST};
 use nbt_nbns::write_refusal;
 use nbt_port::Fault;
@@ -47,6 +48,8 @@ pub enum ArgumentFault {
     NoPath,
     /// Not a number of live leases for a client.
     ClientRows,
+    /// Not a network.
+    Network,
 }
 
 impl ArgumentFault {
@@ -67,6 +70,7 @@ impl ArgumentFault {
             ArgumentFault::Folder => "folder",
             ArgumentFault::NoPath => "list of leases",
             ArgumentFault::ClientRows => "rows per client",
+            ArgumentFault::Network => "network",
         }
     }
 }
@@ -100,6 +104,9 @@ impl fmt::Display for ArgumentFault {
                 let most = ROWS_MOST;
                 write!(f, "not a whole number from 1 to {most}")
             }
+            ArgumentFault::Network => f.write_str(
+                "no A.B.C.D/BITS or A.B.C.D in decimal, with 0 to 32 bits",
+            ),
         }
     }
 }
@@ -134,11 +141,31 @@ impl fmt::Display for BadArgument {
     }
 }
 
+/// A line of the file of fixed names that can't be taken: the file's path, the line's number from 1 on, and what is wrong with it. It
+/// prints as `printers.txt: line 3: kind: unique or group is wanted`.
+#[derive(Drop)]
+pub struct BadLine {
+    pub path: String,
+    pub number: usize,
+    pub fault: LineFault,
+}
+
+impl fmt::Display for BadLine {
+    fn fmt<W: fmt::Write>(&self, f: &mut fmt::Formatter<W>) -> fmt::Result {
+        let path = self.path.as_str();
+        let number = self.number;
+        let fault = self.fault;
+        write!(f, "{path}: line {number}: {fault}")
+    }
+}
+
 /// What standard error reports of a command's arguments.
 #[derive(Drop)]
 pub enum Complaint {
     /// An argument is invalid.
     Argument(BadArgument),
+    /// A line of the file of fixed names can't be taken.
+    Line(BadLine),
     /// The longest lease is too short, as `nbt_nbns::judge` has it.
     Short(Config),
     /// This number of names is more than a host can hold.
@@ -154,6 +181,7 @@ impl Complaint {
     fn write_line<E: Write>(&self, alloc: Global, errors: &mut E) -> io::Result<()> {
         match self {
             Complaint::Argument(bad) => writeln!(errors, "nbt: {bad}")?,
+            Complaint::Line(bad) => writeln!(errors, "nbt: {bad}")?,
             Complaint::Short(config) => {
                 let mut text = String::new(alloc);
                 write_refusal(*config, &mut text)?;

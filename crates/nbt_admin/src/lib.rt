@@ -6,6 +6,7 @@
 mod asking;
 mod binding;
 mod failure;
+mod fronting;
 mod hosting;
 mod naming;
 mod reason;
@@ -14,6 +15,6 @@ mod serving;
 mod timing;
 
 pub use asking::AskArguments;
-pub use failure::{ArgumentFault, BadArgument, Complaint, Failure};
+pub use failure::{ArgumentFault, BadArgument, BadLine, Complaint, Failure};
 pub use hosting::NAMES_MOST;
 pub use running::{check, run};

@@ -7,8 +7,9 @@ ghost use Rattle.nbt_admin.specs.Running.{Runs, Refuses, Stops, AskedHere, Hoste
 
 use crate::asking::{AskArguments, lookup_arguments, status_arguments};
 use crate::failure::Failure;
+use crate::fronting::fixed_of;
 use crate::hosting::{host_arguments, release_arguments};
-use crate::serving::nbns_arguments;
+use crate::serving::server_arguments;
 use nbt_args::AdminLine;
 use nbt_client::ask_here;
 use nbt_host::{HostArguments, run_host};
@@ -56,7 +57,9 @@ pub fn run<M: Net + time::Clock + Files<File = File>, W: Write, E: Write>(
             Ok(ask(machine, alloc, &status, writer, errors)?)
         }
         AdminLine::Nbns(texts) => {
-            let nbns = nbns_arguments(alloc, texts)?;
+            let mut nbns = server_arguments(alloc, texts)?;
+            let names = fixed_of(machine, alloc, texts.fixed, errors)?;
+            nbns.nbns.front.fix(names);
             serve(machine, alloc, &nbns, writer, errors)?;
             Ok(0)
         }
@@ -83,7 +86,7 @@ pub fn check(alloc: Global, line: &AdminLine<'_>) -> Result<(), Failure>
             status_arguments(alloc, texts)?;
         }
         AdminLine::Nbns(texts) => {
-            nbns_arguments(alloc, texts)?;
+            server_arguments(alloc, texts)?;
         }
         AdminLine::Host(texts) => {
             host_arguments(alloc, texts)?;

@@ -3,20 +3,34 @@
 ghost use Rattle.std.specs.Prelude.{◌≡◌, IfOk, IfErr};
 ghost use Rattle.std.specs.Option.{option_map};
 ghost use Rattle.std.specs.String.{string_bytes};
-ghost use Rattle.nbt_admin.specs.Arguments.{NbnsGiven, NbnsFails, GivesState, StateFails};
+ghost use Rattle.nbt_admin.specs.Arguments.{NbnsGiven, NbnsFails, ServerGiven, ServerFails, GivesState, StateFails};
 ghost use Rattle.nbt_admin.specs.Texts.{IsPath, PathFails};
 
 use crate::binding::bind_of;
 use crate::failure::{ArgumentFault, Failure};
+use crate::fronting::networks_of;
 use crate::timing::{client_rows_of, config_of, ending_of, fit};
 use nbt_args::NbnsTexts;
+use nbt_front::{FixedNames, Front};
 use nbt_keep::{ServerArguments, StateFolder};
 use nbt_nbns::NbnsArguments;
 use std::alloc::Global;
 
-/// Reads the arguments of `nbns`. Refused, in this order: the life, the longest lease, the time, a longest lease that is too short for
+/// Reads the arguments of `nbns`. Refused as [`nbns_arguments`] has it, and then the first text that is no network. No name is fixed yet.
+pub fn server_arguments(alloc: Global, texts: &NbnsTexts<'_>) -> Result<ServerArguments, Failure>
+    ensures given { IfOk result (ServerGiven texts.now) }
+    ensures failure { IfErr result (ServerFails texts.now) }
+{
+    let mut arguments = nbns_arguments(alloc, texts)?;
+    let allowed = networks_of(alloc, texts.allow.as_slice())?;
+    let config = arguments.nbns.config;
+    arguments.nbns.front = Front::new(allowed, FixedNames::none(alloc), config);
+    Ok(arguments)
+}
+
+/// Reads all of them but the networks. Refused, in this order: the life, the longest lease, the time, a longest lease that is too short for
 /// a network, the addresses, the folder of the state, an empty path of the list of leases, and the leases of a client.
-pub fn nbns_arguments(alloc: Global, texts: &NbnsTexts<'_>) -> Result<ServerArguments, Failure>
+fn nbns_arguments(alloc: Global, texts: &NbnsTexts<'_>) -> Result<ServerArguments, Failure>
     ensures given { IfOk result (NbnsGiven texts.now) }
     ensures failure { IfErr result (NbnsFails texts.now) }
 {
@@ -37,6 +51,7 @@ pub fn nbns_arguments(alloc: Global, texts: &NbnsTexts<'_>) -> Result<ServerArgu
             leases,
             strict: texts.strict,
             rows_per_client,
+            front: Front::new(Vec::new(alloc), FixedNames::none(alloc), config),
         },
         state,
     })

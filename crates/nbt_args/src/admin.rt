@@ -201,6 +201,18 @@ pub static NBNS: Description = Description {
             help: "How many live leases a client may have: from 1 to 4096; without it, 64",
         },
         Argument {
+            name: "allow",
+            form: Form::Options("NETWORK"),
+            presence: Presence::Optional,
+            help: "A network whose machines may register, and may be repeated; without it, every machine may",
+        },
+        Argument {
+            name: "fixed",
+            form: Form::Option("FILE"),
+            presence: Presence::Optional,
+            help: "Answers for the names of this file too, which are always there",
+        },
+        Argument {
             name: STATE,
             form: Form::Option("FOLDER"),
             presence: Presence::Optional,
@@ -243,6 +255,13 @@ it has changed and at most once per second: a first line that says what it is, a
 A client is the address that a registration comes from. One with N live leases, unique names and groups together, is refused one
 of a further name, with SRV_ERR; what it has it keeps, and renews. Machines behind one address count as one client.
 
+NETWORK is an address and how many of its first bits the others share, as 192.0.2.0/24, or an address alone. A machine of no NETWORK
+is refused each registration, refresh and overwrite, with RFS_ERR; it may still ask for names. --fixed reads FILE once, at the
+start: lines as `FILER#20 unique 192.0.2.7` and `OFFICE#00 group 192.0.2.9`, of which several of one group are its addresses, up to
+48; up to 1024 names; a line that begins with # is a remark. Such a name is found from the first moment on, with the longest lease
+as its TTL. Its own machine may register, refresh and release it, which changes nothing; nobody else may, with ACT_ERR. Standard
+error says what was refused, as `nbt: refused FILER#20 192.0.2.9: a fixed name`, at most ten lines per second.
+
 Samba's nmbd registers its names by OPCODE 15, and joins groups by an overwrite. Such a registration of one address, and such an
 overwrite of a group, are accepted as registrations, unless --strict. A machine that registers two addresses isn't served: its
 second one is refused, and nmbd then drops its names.
@@ -250,13 +269,13 @@ second one is refused, and nmbd then drops its names.
 Examples:
   nbt nbns
   nbt nbns --bind 192.0.2.1 --bind 198.51.100.1 --longest 10m --log --leases leases.txt
-  nbt nbns --state /var/lib/nbt
+  nbt nbns --state /var/lib/nbt --allow 192.0.2.0/24 --fixed printers.txt
 
 Exit status:
   0  done
-  2  wrong usage, or an invalid argument; standard error says why
-  3  no port or no clock, a socket failed 100 times in a row, FOLDER can't be read or written, or the output failed; prints
-     `device`, unless it was the output
+  2  wrong usage, an invalid argument, or a wrong line in the file of --fixed; standard error says why
+  3  no port or no clock, a socket failed 100 times in a row, FOLDER can't be read or written, the file of --fixed can't be read,
+     or the output failed; prints `device`, unless it was the output
   4  out of memory at the start; prints `memory`",
 };
 

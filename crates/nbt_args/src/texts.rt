@@ -107,6 +107,10 @@ pub struct NbnsTexts<'a> {
     pub strict: bool,
     /// How many live leases a client may have; `None` for the default.
     pub rows_per_client: Option<&'a str>,
+    /// The networks whose machines may register; none for every machine.
+    pub allow: Vec<&'a str>,
+    /// The path of the file of fixed names, if any.
+    pub fixed: Option<&'a str>,
     /// The folder that keeps the leases, if any.
     pub state: Option<&'a str>,
     /// Whether it is silent after another boot.
@@ -251,10 +255,13 @@ fn nbns_texts<'a>(alloc: Global, matches: &ArgMatches<'a>) -> Result<NbnsTexts<'
     ensures leases { IfOk result (λ texts. option_map (λ text. text.now) texts.leases ≡ value_of matches.now (codes "leases")) }
     ensures strict { IfOk result (λ texts. Tells matches.now (codes "strict") texts.strict) }
     ensures client_rows { IfOk result (λ texts. option_map (λ text. text.now) texts.rows_per_client ≡ value_of matches.now (codes "rows-per-client")) }
+    ensures allow { IfOk result (λ texts. map (λ text. text.now) texts.allow.items ≡ arguments_of matches.now (codes "allow")) }
+    ensures fixed { IfOk result (λ texts. option_map (λ text. text.now) texts.fixed ≡ value_of matches.now (codes "fixed")) }
     ensures state { IfOk result (λ texts. option_map (λ text. text.now) texts.state ≡ value_of matches.now (codes "state")) }
     ensures boots { IfOk result (λ texts. Tells matches.now (codes "silent-after-boot") texts.silent_after_boot) }
 {
     let binds = arguments(alloc, matches, "bind")?;
+    let allow = arguments(alloc, matches, "allow")?;
     Ok(NbnsTexts {
         binds,
         life: argument(matches, "life"),
@@ -265,6 +272,8 @@ fn nbns_texts<'a>(alloc: Global, matches: &ArgMatches<'a>) -> Result<NbnsTexts<'
         leases: matches.get_str("leases"),
         strict: matches.get_flag("strict"),
         rows_per_client: matches.get_str("rows-per-client"),
+        allow,
+        fixed: matches.get_str("fixed"),
         state: matches.get_str("state"),
         silent_after_boot: matches.get_flag("silent-after-boot"),
     })

@@ -7,6 +7,7 @@
 #![tactic(auto)]
 
 mod deciding;
+mod desk;
 mod fault;
 mod fixed;
 pub mod laws;
@@ -18,6 +19,7 @@ mod reading;
 mod telling;
 
 pub use deciding::{Decision, Front};
+pub use desk::Desk;
 pub use fault::{FileFault, LineFault};
 pub use fixed::{ADDRS_MOST, Fixed};
 pub use line::FixedLine;

@@ -4,26 +4,20 @@ ghost use Rattle.std.specs.Prelude.{◌≡◌, ◌<◌, ◌^◌, Ok};
 ghost use Rattle.nbt_port.specs.PortCalls.{CountsFailure, receiving};
 ghost use Rattle.nbt_front.specs.FrontPort.{FrontDoes};
 
-use crate::deciding::Front;
-use crate::telling::Notes;
+use crate::desk::Desk;
 use arrayvec::ArrayVec;
 use nbt_name::Addr;
-use nbt_port::{Cause, Clock, Device, Port};
-use std::alloc::Global;
+use nbt_port::{Cause, Clock, Device, OwnReplies, Port};
 use std::io::Write;
 use std::marker::Model;
 
 /// A port over another. It answers each datagram of which the front decides, and hands on every other as it is: so that nothing came is
-/// also said of a datagram that was answered. It sends what it is given. What the front refused it says where changes are told, by
-/// the clock at most ten lines a second of a kind. A contract sees the port beneath and the front.
+/// also said of a datagram that was answered. It sends what it is given. A contract sees the port beneath and the front.
 #[derive(Drop)]
 pub struct FrontPort<'a, P, C> {
     beneath: P,
-    front: &'a Front,
-    clock: C,
-    alloc: Global,
+    desk: Desk<'a, C>,
     reply: ArrayVec<u8, 576>,
-    notes: Notes,
 }
 
 impl<'a, P, C> Model for FrontPort<'a, P, C> {
@@ -31,21 +25,18 @@ impl<'a, P, C> Model for FrontPort<'a, P, C> {
 
     ghost Value = { Fronted P };
 
-    ghost view = { λ p. record { port = p.beneath; front = p.front.now } };
+    ghost view = { λ p. record { port = p.beneath; front = p.desk } };
 }
 
 impl<'a, P, C> FrontPort<'a, P, C> {
     /// A port over this one, before which this front stands.
-    pub fn new(alloc: Global, beneath: P, front: &'a Front, clock: C) -> FrontPort<'a, P, C>
-        ensures { result ≡ record { port = beneath; front = front.now } }
+    pub fn new(beneath: P, desk: Desk<'a, C>) -> FrontPort<'a, P, C>
+        ensures { result ≡ record { port = beneath; front = desk } }
     {
         FrontPort {
             beneath,
-            front,
-            clock,
-            alloc,
+            desk,
             reply: ArrayVec::new(),
-            notes: Notes::new(),
         }
     }
 
@@ -69,20 +60,17 @@ impl<'a, P: Port, C: Clock> FrontPort<'a, P, C> {
             → FrontDoes P.does (record { port = before; front = self.old.front }) (receiving result octets.new.items) self.new }
         ensures count { CountsFailure (P.failures self.old.port) (P.failures self.new.port) result }
     {
-        self.notes.clear();
+        self.desk.clear();
         let Some(sender) = from else {
             return Ok(None);
         };
-        let Some(decision) = self
-            .front
-            .decide(sender, octets.as_slice(), &mut self.reply)
-        else {
+        let front = self.desk.front();
+        let Some(decision) = front.decide(sender, octets.as_slice(), &mut self.reply) else {
             return Ok(Some(sender));
         };
-        let now = self.clock.now();
-        self.notes.note(now, sender.ip, decision);
         octets.clear();
         self.beneath.send(sender, self.reply.as_slice())?;
+        self.desk.note(sender.ip, decision);
         Ok(None)
     }
 }
@@ -120,8 +108,12 @@ impl<P: Port, C: Clock> Port for FrontPort<'_, P, C> {
         self.beneath.lost()
     }
 
+    fn own_replies(&self) -> OwnReplies {
+        self.desk.replied()
+    }
+
     fn tell_changes<E: Write>(&self, errors: &mut E) {
         self.beneath.tell_changes(errors);
-        self.notes.tell(self.alloc, errors);
+        self.desk.tell(errors);
     }
 }

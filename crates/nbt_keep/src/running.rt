@@ -6,6 +6,7 @@ ghost use Rattle.nbt_nbns.specs.Running.{NbnsFails, PortDoes};
 ghost use Rattle.nbt_port.specs.Numbers.{forever};
 ghost use Rattle.nbt_port.specs.Staying.{StaysUntil, EndsEarly};
 ghost use Rattle.nbt_port.specs.Udp.{PortsValue};
+ghost use Rattle.nbt_front.specs.FrontPort.{Fronted};
 ghost use Rattle.nbt_keep.specs.Begin.{IsBegin};
 ghost use Rattle.nbt_keep.specs.Beginning.{manner_of};
 ghost use Rattle.nbt_keep.specs.Running.{KeptFails, RunsKept, RunsServer};
@@ -21,6 +22,7 @@ use crate::first_line::write_begin;
 use crate::opening::{begin_in, open_disk, open_store};
 use crate::staying::keep_on;
 use crate::waiting::Waiting;
+use nbt_front::{Desk, FrontPort};
 use nbt_lease::Moment;
 use nbt_log::Dates;
 use nbt_name::Addr;
@@ -77,6 +79,7 @@ fn run_kept<M: Net + time::Clock + Files<File = File>, W: Write, E: Write>(
     let port = UdpPorts::bind(machine, alloc, &arguments.bind, errors)?;
     let mut clock = steady_clock(machine, arguments.bind.first(), errors)?;
     let mut day = readable_clock(machine, arguments.bind.first(), errors)?;
+    let own = steady_clock(machine, arguments.bind.first(), errors)?;
     let folder = state.path.as_str();
     let disk = open_disk(machine, alloc, folder, errors)?;
     let monotonic = clock.now();
@@ -130,9 +133,11 @@ fn run_kept<M: Net + time::Clock + Files<File = File>, W: Write, E: Write>(
         header: begun.header,
         journal,
     };
+    let desk = Desk::new(alloc, &arguments.front, own);
     keep_over(
         port,
         arguments.strict,
+        desk,
         kept,
         until,
         alloc,
@@ -187,8 +192,9 @@ struct KeptServer<S, C, D, V> {
 }
 
 /// Keeps a server up until it ends, over this port as it is where that is `strict`, else over one on which Samba's registrations
-/// come as registrations.
+/// come as registrations, and behind this front.
 fn keep_over<
+    F: Clock + Drop,
     S: Store + Drop,
     C: Clock + Drop,
     D: Clock + Drop,
@@ -199,6 +205,7 @@ fn keep_over<
 >(
     port: UdpPorts<'_, M>,
     strict: bool,
+    desk: Desk<'_, F>,
     kept: KeptServer<S, C, D, V>,
     until: Option<Moment>,
     alloc: Global,
@@ -208,19 +215,19 @@ fn keep_over<
 ) -> Result<(), Fault>
     requires failure_count { port.failures ≤ 2 ^ 61 }
     requires room { length kept.waiting.replies < batch }
-    ensures ok { OnOk result ((last_port : PortsValue) × (last : Kept S C D V) × StaysUntil (WatchesOn (PortDoes strict) S.does C.tells D.tells V.sees until)
+    ensures ok { OnOk result ((last_port : Fronted PortsValue) × (last : Kept S C D V) × StaysUntil (WatchesOn (PortDoes strict) S.does C.tells D.tells V.sees until)
         (BreaksStaying (PortDoes strict) S.does C.tells D.tells V.sees fault.Port) (WatchesLast (PortDoes strict) S.does C.tells D.tells V.sees until) forever
-        (staying_of port.entry kept (W.contents writer.old)) (staying_of last_port last (W.contents writer.new))) }
-    ensures err { IfErr result (λ why. (last_port : PortsValue) × (last : Kept S C D V) × EndsEarly (WatchesOn (PortDoes strict) S.does C.tells D.tells V.sees until)
+        (staying_of (record { port = port.entry; front = desk.entry }) kept (W.contents writer.old)) (staying_of last_port last (W.contents writer.new))) }
+    ensures err { IfErr result (λ why. (last_port : Fronted PortsValue) × (last : Kept S C D V) × EndsEarly (WatchesOn (PortDoes strict) S.does C.tells D.tells V.sees until)
         (BreaksStaying (PortDoes strict) S.does C.tells D.tells V.sees fault.Port) (CutsStaying (PortDoes strict) S.does C.tells D.tells V.sees) forever why
-        (staying_of port.entry kept (W.contents writer.old)) (staying_of last_port last (W.contents writer.new))) }
+        (staying_of (record { port = port.entry; front = desk.entry }) kept (W.contents writer.old)) (staying_of last_port last (W.contents writer.new))) }
 {
     let mut kept = kept;
     if strict {
-        let mut port = port;
+        let mut port = FrontPort::new(port, desk);
         keep_to_its_end(&mut port, &mut kept, until, alloc, machine, writer, errors)
     } else {
-        let mut port = SambaPort::new(port);
+        let mut port = FrontPort::new(SambaPort::new(port), desk);
         keep_to_its_end(&mut port, &mut kept, until, alloc, machine, writer, errors)
     }
 }

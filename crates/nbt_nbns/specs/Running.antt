@@ -13,6 +13,7 @@ use Rattle.nbt_port.specs.Until.{until_of}
 use Rattle.nbt_log.specs.Dates.{second_at}
 use Rattle.nbt_log.specs.declared.dates.Dates.{Dates}
 use Rattle.nbt_port.specs.Until.{until_of}
+use Rattle.nbt_front.specs.FrontPort.{Fronted, FrontDoes}
 use Rattle.nbt_nbns.specs.SambaPort.{HandsOn}
 use Rattle.nbt_nbns.specs.Begin.{IsBegin}
 use Rattle.nbt_nbns.specs.Journaling.{Journals}
@@ -23,10 +24,14 @@ use Rattle.nbt_nbns.specs.Watching.{Watching, WatchesUntil, WatchFails}
 use Rattle.nbt_nbns.specs.declared.running.NbnsArguments.{NbnsArguments}
 use Rattle.nbt_nbns.specs.declared.journal.Journal.{Journal}
 
--- the port that the server has: over UDP, or over one on which Samba's registrations come as registrations
-abbrev pub PortDoes : (strict : Bool) → PortsValue → PortCall → PortsValue → Type 0
-PortDoes true = PortsDo
-PortDoes false = HandsOn PortsDo
+-- the port beneath the front: over UDP, or over one on which Samba's registrations come as registrations
+abbrev pub BeneathDoes : (strict : Bool) → PortsValue → PortCall → PortsValue → Type 0
+BeneathDoes true = PortsDo
+BeneathDoes false = HandsOn PortsDo
+
+-- the port that the server has, before which its front stands
+abbrev pub PortDoes : (strict : Bool) → Fronted PortsValue → PortCall → Fronted PortsValue → Type 0
+PortDoes strict = FrontDoes (BeneathDoes strict)
 
 -- a log in which no line was printed yet, if there is to be one
 abbrev pub log_of : (log broadcasts : Bool) → Option LoggerValue
@@ -39,7 +44,7 @@ leases_of (Some path) = Some (new_keeper (file_of (string_bytes path)))
 
 -- what goes on: a port, a clock and a server of this machine, and the journal
 abbrev pub Nbns : Type 0
-Nbns = Watching PortsValue ℕ (Journal ℕ FileValue)
+Nbns = Watching (Fronted PortsValue) ℕ (Journal ℕ FileValue)
 
 -- The steady clock begins, both clocks are read, the first line is printed, and a server starts, which limits its clients and
 -- is watched from then on.
@@ -52,7 +57,7 @@ pub record Begins (a : NbnsArguments) (goes : (start : ℕ) → Nbns → Nbns �
   pub line : List ℕ
   pub begun_text : Option (List ℕ)
   pub first : ServerValue
-  pub port : PortsValue
+  pub port : Fronted PortsValue
   pub clock : ℕ
   pub last : ServerValue
   pub journal : Journal ℕ FileValue
@@ -63,7 +68,7 @@ pub record Begins (a : NbnsArguments) (goes : (start : ℕ) → Nbns → Nbns �
   pub printed : Appends old_text begun_text line
   pub starts : ServerStarts a.config start first
   pub goes_on : goes start
-      (record { port = record { bind = a.bind; failures = 0 }; clock = start; server = limited (Some a.rows_per_client) first; watcher = record { dates = record { moment = start; time = time }; day = time; log = log_of a.log a.broadcasts; leases = leases_of a.leases }; text = begun_text })
+      (record { port = record { port = record { bind = a.bind; failures = 0 }; front = a.front }; clock = start; server = limited (Some a.rows_per_client) first; watcher = record { dates = record { moment = start; time = time }; day = time; log = log_of a.log a.broadcasts; leases = leases_of a.leases }; text = begun_text })
       (record { port = port; clock = clock; server = last; watcher = journal; text = text })
 
 -- it stays up, or its time is over

@@ -4,6 +4,7 @@ ghost use Rattle.std.specs.Prelude.{◌≡◌, ◌+◌, ◌≤◌, ◌^◌, ◌�
 ghost use Rattle.std.specs.Io.KnownBytes.{Appends};
 ghost use Rattle.nbt_lease.specs.Config.{milliseconds};
 ghost use Rattle.nbt_port.specs.Udp.{PortsValue};
+ghost use Rattle.nbt_front.specs.FrontPort.{Fronted};
 ghost use Rattle.nbt_log.specs.Dates.{second_at};
 ghost use Rattle.nbt_nbns.specs.Begin.{IsBegin};
 ghost use Rattle.nbt_nbns.specs.Running.{PortDoes, log_of, leases_of, RunsNbns, NbnsFails};
@@ -17,6 +18,7 @@ use crate::logger::Logger;
 use crate::place::FilePlace;
 use crate::samba_port::SambaPort;
 use crate::staying::{Watcher, watch_on};
+use nbt_front::{Desk, Front, FrontPort};
 use nbt_lease::{Config, Moment};
 use nbt_log::Dates;
 use nbt_name::Addr;
@@ -31,7 +33,7 @@ use std::rt::Files;
 use std::{io, time};
 
 /// What a name server is to do.
-#[derive(Debug, Drop)]
+#[derive(Drop)]
 pub struct NbnsArguments {
     /// Its own addresses and ports.
     pub bind: Bind,
@@ -49,6 +51,8 @@ pub struct NbnsArguments {
     pub strict: bool,
     /// How many live leases a client may have.
     pub rows_per_client: u32,
+    /// Who may register, and the names that are fixed.
+    pub front: Front,
 }
 
 /// Runs a name server on UDP ports of this system, over the monotonic clock. It first prints where it serves, for how long it
@@ -74,6 +78,7 @@ pub fn run_nbns<M: Net + time::Clock + Files, W: Write, E: Write>(
     let port = UdpPorts::bind(machine, alloc, &arguments.bind, errors)?;
     let mut clock = steady_clock(machine, arguments.bind.first(), errors)?;
     let mut day = readable_clock(machine, arguments.bind.first(), errors)?;
+    let own = steady_clock(machine, arguments.bind.first(), errors)?;
     let start = clock.now();
     let dates = Dates {
         moment: start,
@@ -97,9 +102,11 @@ pub fn run_nbns<M: Net + time::Clock + Files, W: Write, E: Write>(
     let mut server = Server::start(alloc, arguments.config, start);
     server.limit_clients(arguments.rows_per_client);
     let until = until_of(start, arguments.time);
+    let desk = Desk::new(alloc, &arguments.front, own);
     watch_over(
         port,
         arguments.strict,
+        desk,
         &mut clock,
         &mut server,
         &mut journal,
@@ -171,10 +178,18 @@ pub fn leases_of<'a, M: Files, E: Write>(
 }
 
 /// Watches a server until it ends, over this port as it is where that is `strict`, else over one on which Samba's registrations
-/// come as registrations.
-fn watch_over<C: Clock, V: Watcher, M: Net + time::Clock + Files, W: Write, E: Write>(
+/// come as registrations, and behind this front.
+fn watch_over<
+    F: Clock + Drop,
+    C: Clock,
+    V: Watcher,
+    M: Net + time::Clock + Files,
+    W: Write,
+    E: Write,
+>(
     port: UdpPorts<'_, M>,
     strict: bool,
+    desk: Desk<'_, F>,
     clock: &mut C,
     server: &mut Server,
     watcher: &mut V,
@@ -184,21 +199,21 @@ fn watch_over<C: Clock, V: Watcher, M: Net + time::Clock + Files, W: Write, E: W
     errors: &mut E,
 ) -> Result<(), Fault>
     requires failure_count { port.failures ≤ 2 ^ 61 }
-    ensures ok { OnOk result ((last : PortsValue) × WatchesUntil (PortDoes strict) C.tells V.sees until
-        (record { port = port.entry; clock = clock.old; server = server.old; watcher = watcher.old; text = W.contents writer.old })
+    ensures ok { OnOk result ((last : Fronted PortsValue) × WatchesUntil (PortDoes strict) C.tells V.sees until
+        (record { port = record { port = port.entry; front = desk.entry }; clock = clock.old; server = server.old; watcher = watcher.old; text = W.contents writer.old })
         (record { port = last; clock = clock.new; server = server.new; watcher = watcher.new; text = W.contents writer.new })) }
-    ensures err { OnErr result ((last : PortsValue) × WatchFails (PortDoes strict) C.tells V.sees until
-        (record { port = port.entry; clock = clock.old; server = server.old; watcher = watcher.old; text = W.contents writer.old })
+    ensures err { OnErr result ((last : Fronted PortsValue) × WatchFails (PortDoes strict) C.tells V.sees until
+        (record { port = record { port = port.entry; front = desk.entry }; clock = clock.old; server = server.old; watcher = watcher.old; text = W.contents writer.old })
         (record { port = last; clock = clock.new; server = server.new; watcher = watcher.new; text = W.contents writer.new })) }
     ensures fault { IfErr result (λ fault. fault ≡ Fault.Device) }
 {
     if strict {
-        let mut port = port;
+        let mut port = FrontPort::new(port, desk);
         watch_to_its_end(
             &mut port, clock, server, watcher, until, machine, writer, errors,
         )
     } else {
-        let mut port = SambaPort::new(port);
+        let mut port = FrontPort::new(SambaPort::new(port), desk);
         watch_to_its_end(
             &mut port, clock, server, watcher, until, machine, writer, errors,
         )

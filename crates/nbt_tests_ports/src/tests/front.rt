@@ -4,7 +4,7 @@
 use super::expect::{expect, expect_eq, expect_eq_in, expect_in};
 use super::stage::{Scene, play_on};
 use arrayvec::ArrayVec;
-use nbt_front::{FileFault, FixedNames, Front, FrontPort, Network, read_fixed, read_network};
+use nbt_front::{Desk, FileFault, FixedNames, Front, FrontPort, Network, read_fixed, read_network};
 use nbt_name::{Addr, Kind};
 use nbt_nbns::{Counts, serve_turns};
 use nbt_port::{Device, MemoryClock, MemoryPort, Port};
@@ -640,6 +640,15 @@ fn front_of<R: AllocGlobal>(rt: &R) -> Result<Front, Fail> {
     Ok(Front::new(allowed, fixed, config(4096)?))
 }
 
+/// This front at work, by a clock that tells these moments.
+fn desk_of<'a, R: AllocGlobal>(
+    rt: &R,
+    front: &'a Front,
+    moments: &[u64],
+) -> Result<Desk<'a, MemoryClock>, Fail> {
+    Ok(Desk::new(rt.alloc(), front, clock_of(rt, moments)?))
+}
+
 /// `serve_turns` at a port of which few calls have failed.
 fn serve<R: Abort, P: Port>(
     rt: &R,
@@ -670,7 +679,7 @@ impl Scene for Behind<'_> {
         server: &mut Server,
     ) -> Result<(), Fail> {
         let beneath = mem::replace(port, port_of(rt, &[])?);
-        let mut over = FrontPort::new(rt.alloc(), beneath, self.front, clock_of(rt, &[])?);
+        let mut over = FrontPort::new(beneath, desk_of(rt, self.front, &[])?);
         let counts = serve(rt, &mut over, clock, server, self.turns)?;
         expect_eq(rt, &counts.receives, &self.turns);
         expect_eq(rt, &counts.replies, &self.by_the_server);
@@ -835,7 +844,7 @@ impl Scene for Says<'_> {
         _server: &mut Server,
     ) -> Result<(), Fail> {
         let beneath = mem::replace(port, port_of(rt, &[])?);
-        let mut over = FrontPort::new(rt.alloc(), beneath, self.front, clock_of(rt, &[])?);
+        let mut over = FrontPort::new(beneath, desk_of(rt, self.front, &[])?);
         let mut octets = ArrayVec::new();
         for said in [
             "",
@@ -867,7 +876,7 @@ impl Scene for SaysFew<'_> {
     ) -> Result<(), Fail> {
         let beneath = mem::replace(port, port_of(rt, &[])?);
         let times = [0, 0, 0, 0, 0, 0, 0, 0, 0, 0, 0, 0, 0, 999, 1_000];
-        let mut over = FrontPort::new(rt.alloc(), beneath, self.front, clock_of(rt, &times)?);
+        let mut over = FrontPort::new(beneath, desk_of(rt, self.front, &times)?);
         let mut octets = ArrayVec::new();
         for place in 0..15 {
             let said = match place {
@@ -904,7 +913,7 @@ impl Scene for Fails<'_> {
     ) -> Result<(), Fail> {
         port.fail_after(self.call);
         let beneath = mem::replace(port, port_of(rt, &[])?);
-        let mut over = FrontPort::new(rt.alloc(), beneath, self.front, clock_of(rt, &[])?);
+        let mut over = FrontPort::new(beneath, desk_of(rt, self.front, &[])?);
         let served = serve(rt, &mut over, clock, server, 5);
         expect_eq_in(rt, &self.call, &served, &Err(Device));
         expect_eq_in(rt, &self.call, &over.failures(), &1);

@@ -23,8 +23,8 @@ returns-clause-ok g c =
     (g.W.Write.contents w.new.writer) c.in_ok-clock.clock c.now-start.result c.in_ok-day.day c.now.result c.start-server.result
     _ (record { port = run.0; clock = w.new.clock; server = w.new.server; watcher = w.new.watcher; text = g.W.Write.contents w.new.writer })
     c.in_ok-clock.ensures.ok (c.now-start.new.self, c.now-start.ensures) (refl, c.now.ensures.1) (c.as_slice.result.now, first.0, first.1, first.2) c.start-server.ensures
-    (is_at_first a c.now-start.result c.now.result c.now.new.self c.now-start.new.self c.in_ok-port.port c.start-server.result c.limit_clients.new.self c.log_of.result c.in_ok-leases_of.field-0 (g.W.Write.contents c.tell_begin.new.writer)
-    c.in_ok-port.ensures.ok c.now-start.ensures.keeps c.limit_clients.ensures c.now.ensures.0 c.log_of.ensures c.in_ok-leases_of.ensures.ok)
+    (is_at_first a c.now-start.result c.now.result c.now.new.self c.now-start.new.self c.in_ok-port.port c.new-desk.result c.start-server.result c.limit_clients.new.self c.log_of.result c.in_ok-leases_of.field-0 (g.W.Write.contents c.tell_begin.new.writer)
+    c.in_ok-port.ensures.ok c.new-desk.ensures c.now-start.ensures.keeps c.limit_clients.ensures c.now.ensures.0 c.log_of.ensures c.in_ok-leases_of.ensures.ok)
     refl (rw c.until_of-until.ensures at run.1))
 
 pub returns-clause-device : goal.returns-clause-device
@@ -37,6 +37,6 @@ returns-clause-device g c = λ failed.
     (g.W.Write.contents w.new.writer) c.in_ok-clock.clock c.now-start.result c.in_ok-day.day c.now.result c.start-server.result
     _ (record { port = run.0; clock = w.new.clock; server = w.new.server; watcher = w.new.watcher; text = g.W.Write.contents w.new.writer })
     c.in_ok-clock.ensures.ok (c.now-start.new.self, c.now-start.ensures) (refl, c.now.ensures.1) (c.as_slice.result.now, first.0, first.1, first.2) c.start-server.ensures
-    (is_at_first a c.now-start.result c.now.result c.now.new.self c.now-start.new.self c.in_ok-port.port c.start-server.result c.limit_clients.new.self c.log_of.result c.in_ok-leases_of.field-0 (g.W.Write.contents c.tell_begin.new.writer)
-    c.in_ok-port.ensures.ok c.now-start.ensures.keeps c.limit_clients.ensures c.now.ensures.0 c.log_of.ensures c.in_ok-leases_of.ensures.ok)
+    (is_at_first a c.now-start.result c.now.result c.now.new.self c.now-start.new.self c.in_ok-port.port c.new-desk.result c.start-server.result c.limit_clients.new.self c.log_of.result c.in_ok-leases_of.field-0 (g.W.Write.contents c.tell_begin.new.writer)
+    c.in_ok-port.ensures.ok c.new-desk.ensures c.now-start.ensures.keeps c.limit_clients.ensures c.now.ensures.0 c.log_of.ensures c.in_ok-leases_of.ensures.ok)
     refl (rw c.until_of-until.ensures at run.1))
