@@ -1,5 +1,5 @@
 -- Of which messages a front decides.
-use Rattle.std.proofs.Common.{◌≡◌, ℕ, List, [], Option, Some, None, inl, inr, refl, sym, ap, ◌∙◌}
+use Rattle.std.proofs.Common.{◌≡◌, ℕ, ◌<◌, List, [], ◌∷◌, length, Option, Some, None, inl, inr, refl, sym, ap, ◌∙◌, arith, slice_index_or}
 use Rattle.std.specs.Prelude.{◌⊎◌, Contains}
 use Rattle.std.proofs.lemmas.Bool.{cases_eq}
 use Rattle.nbt_name.specs.Wire.{NameValue}
@@ -15,12 +15,18 @@ use Rattle.nbt_front.specs.declared.deciding.Decision.{Decision}
 
 -- ---- a claim is of a holder, or not
 
-has_or_not : (addrs : List ℕ) (addr : ℕ) → Contains addrs addr ⊎ ¬ Contains addrs addr
-has_or_not addrs addr = has_by addrs addr (list_any (λ y. nat_eq y addr) addrs) refl
+neither : (y addr : ℕ) (ys : List ℕ) → ¬ (y ≡ addr) → ¬ Contains ys addr → (k : ℕ) → k < length (y ∷ ys) → slice_index_or (y ∷ ys) k addr ≡ addr → ⊥
+neither y addr ys not none zero h e = not e
+neither y addr ys not none (suc k) h e = none (k, omega arith, e)
 
-has_by : (addrs : List ℕ) (addr : ℕ) (there : Bool) → list_any (λ y. nat_eq y addr) addrs ≡ there → Contains addrs addr ⊎ ¬ Contains addrs addr
-has_by addrs addr true is = ?
-has_by addrs addr false is = ?
+has_cons : (y addr : ℕ) (ys : List ℕ) → (y ≡ addr) ⊎ ¬ (y ≡ addr) → Contains ys addr ⊎ ¬ Contains ys addr → Contains (y ∷ ys) addr ⊎ ¬ Contains (y ∷ ys) addr
+has_cons y addr ys (inl e) b = inl (0, omega arith, e)
+has_cons y addr ys (inr not) (inl c) = inl (suc c.0, omega (arith, c.1), c.2)
+has_cons y addr ys (inr not) (inr none) = inr (λ c. neither y addr ys not none c.0 c.1 c.2)
+
+has_or_not : (addrs : List ℕ) (addr : ℕ) → Contains addrs addr ⊎ ¬ Contains addrs addr
+has_or_not [] addr = inr (λ c. absurd (omega (arith, c.1)))
+has_or_not (y ∷ ys) addr = has_cons y addr ys (cases_eq y addr) (has_or_not ys addr)
 
 kind_or_not : (a b : Kind) → (a ≡ b) ⊎ ¬ (a ≡ b)
 kind_or_not Unique Unique = inl refl

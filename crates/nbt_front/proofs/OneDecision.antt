@@ -13,30 +13,30 @@ use Rattle.nbt_front.specs.Deciding.{FrontValue, Claims, by_request, by_overwrit
 use Rattle.nbt_front.specs.declared.deciding.Decision.{Decision}
 use Rattle.nbt_front.specs.declared.deciding.Decision.TheVariants.{NotAllowed, FixedRefused, FixedConfirmed, FixedFound}
 
-same_fixed : {found : Option FixedValue} {a b : FixedValue} → found ≡ Some a → found ≡ Some b → a ≡ b
+pub same_fixed : {found : Option FixedValue} {a b : FixedValue} → found ≡ Some a → found ≡ Some b → a ≡ b
 same_fixed e f = cc
 
-not_both : {found : Option FixedValue} {a : FixedValue} → found ≡ Some a → found ≡ None → ⊥
+pub not_both : {found : Option FixedValue} {a : FixedValue} → found ≡ Some a → found ≡ None → ⊥
 not_both e f = cc
 
 module _ (front : FrontValue) (ip : ℕ) where
   -- what becomes of a registration or a refresh, of an overwrite, and of each message
-  abbrev Confirmed : Registration → Decision → MessageValue → Type 0
+  abbrev pub Confirmed : Registration → Decision → MessageValue → Type 0
   Confirmed r d reply = (fixed : FixedValue) × (fixed_of front.fixed r.name ≡ Some fixed) × IsHolder ip r.kind r.addr fixed × (d ≡ FixedConfirmed) × (reply ≡ registered 0 (record r { ttl = granted front.longest r.ttl }))
 
-  abbrev Refused : Registration → Decision → MessageValue → Type 0
+  abbrev pub Refused : Registration → Decision → MessageValue → Type 0
   Refused r d reply = (fixed : FixedValue) × (fixed_of front.fixed r.name ≡ Some fixed) × (¬ IsHolder ip r.kind r.addr fixed) × (d ≡ FixedRefused r.name) × (reply ≡ refusal active_error r)
 
-  abbrev TurnedAway : Registration → Decision → MessageValue → Type 0
-  TurnedAway r d reply = (fixed_of front.fixed r.name ≡ None) × (d ≡ NotAllowed r.name) × (reply ≡ refusal refused_error r)
+  abbrev pub TurnedAway : Registration → Decision → MessageValue → Type 0
+  TurnedAway r d reply = (fixed_of front.fixed r.name ≡ None) × (¬ IsAllowed front.allowed ip) × (d ≡ NotAllowed r.name) × (reply ≡ refusal refused_error r)
 
-  abbrev Asked : Registration → Decision → MessageValue → Type 0
+  abbrev pub Asked : Registration → Decision → MessageValue → Type 0
   Asked r d reply = Confirmed r d reply ⊎ (Refused r d reply ⊎ TurnedAway r d reply)
 
-  abbrev Overwritten : Registration → Decision → MessageValue → Type 0
+  abbrev pub Overwritten : Registration → Decision → MessageValue → Type 0
   Overwritten r d reply = ((fixed : FixedValue) × (fixed_of front.fixed r.name ≡ Some fixed) × (d ≡ FixedRefused r.name) × (reply ≡ refusal active_error r)) ⊎ TurnedAway r d reply
 
-  abbrev Gets : MessageValue → Decision → MessageValue → Type 0
+  abbrev pub Gets : MessageValue → Decision → MessageValue → Type 0
   Gets (registration r) d reply = Asked r d reply
   Gets (refresh r) d reply = Asked r d reply
   Gets (overwrite r) d reply = Overwritten r d reply
@@ -55,9 +55,9 @@ module _ (front : FrontValue) (ip : ℕ) where
   gets _ _ _ (confirms_release id name kind addr fixed is holds) = inl (fixed, is, holds, refl, refl)
   gets _ _ _ (refuses_release id name kind addr fixed is not) = inr (fixed, is, not, refl, refl)
   gets _ _ _ (finds id name fixed is) = (fixed, is, refl, refl)
-  gets _ _ _ (turns_away _ _ (by_request _ _ (by_registration r)) free not) = inr (inr (free, refl, refl))
-  gets _ _ _ (turns_away _ _ (by_request _ _ (by_refresh r)) free not) = inr (inr (free, refl, refl))
-  gets _ _ _ (turns_away _ _ (by_overwrite r) free not) = inr (free, refl, refl)
+  gets _ _ _ (turns_away _ _ (by_request _ _ (by_registration r)) free not) = inr (inr (free, not, refl, refl))
+  gets _ _ _ (turns_away _ _ (by_request _ _ (by_refresh r)) free not) = inr (inr (free, not, refl, refl))
+  gets _ _ _ (turns_away _ _ (by_overwrite r) free not) = inr (free, not, refl, refl)
 
   holds_both : {fixed other : FixedValue} {kind : Kind} {addr : ℕ} → fixed ≡ other → IsHolder ip kind addr fixed → ¬ IsHolder ip kind addr other → ⊥
   holds_both e holds not = not (rw (← e) holds)
@@ -71,7 +71,7 @@ module _ (front : FrontValue) (ip : ℕ) where
   one_asked q c d r s (inr (inl a)) (inr (inr b)) = absurd (not_both a.1 b.0)
   one_asked q c d r s (inr (inr a)) (inl b) = absurd (not_both b.1 a.0)
   one_asked q c d r s (inr (inr a)) (inr (inl b)) = absurd (not_both b.1 a.0)
-  one_asked q c d r s (inr (inr a)) (inr (inr b)) = (a.1 ∙ sym b.1, a.2 ∙ sym b.2)
+  one_asked q c d r s (inr (inr a)) (inr (inr b)) = (a.2 ∙ sym b.2, a.3 ∙ sym b.3)
 
   one_got : (m : MessageValue) (c d : Decision) (r s : MessageValue) → Gets m c r → Gets m d s → (c ≡ d) × (r ≡ s)
   one_got (registration q) c d r s a b = one_asked q c d r s a b
@@ -79,7 +79,7 @@ module _ (front : FrontValue) (ip : ℕ) where
   one_got (overwrite q) c d r s (inl a) (inl b) = (a.2 ∙ sym b.2, a.3 ∙ sym b.3)
   one_got (overwrite q) c d r s (inl a) (inr b) = absurd (not_both a.1 b.0)
   one_got (overwrite q) c d r s (inr a) (inl b) = absurd (not_both b.1 a.0)
-  one_got (overwrite q) c d r s (inr a) (inr b) = (a.1 ∙ sym b.1, a.2 ∙ sym b.2)
+  one_got (overwrite q) c d r s (inr a) (inr b) = (a.2 ∙ sym b.2, a.3 ∙ sym b.3)
   one_got (release id name kind addr) c d r s (inl a) (inl b) = (a.3 ∙ sym b.3, a.4 ∙ sym b.4)
   one_got (release id name kind addr) c d r s (inl a) (inr b) = absurd (holds_both (same_fixed a.1 b.1) a.2 b.2)
   one_got (release id name kind addr) c d r s (inr a) (inl b) = absurd (holds_both (same_fixed b.1 a.1) b.2 a.2)

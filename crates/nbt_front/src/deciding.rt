@@ -14,7 +14,7 @@ use crate::network::{Network, is_in_any};
 use arrayvec::ArrayVec;
 use nbt_lease::Config;
 use nbt_name::{Addr, Kind, Name};
-use nbt_packet::{Message, Registration, read, write};
+use nbt_packet::{Message, Registration, entries_most, read, write};
 use std::marker::Model;
 
 /// RCODE RFS_ERR: the server refuses the sender (RFC 1002 section 4.2.6).
@@ -267,6 +267,8 @@ fn respond_found(id: u16, name: Name, ttl: u32, fixed: &Fixed, reply: &mut Array
     ensures { AreWritten (Some (found id name ttl (entries_of fixed.now) false)) reply.new.items }
 {
     let entries = fixed.entries();
+    let all_fit = fixed.addrs().len() <= entries_most(&name);
+    prove!(all_fit);
     let message = Message::Found {
         id,
         name,

@@ -1,6 +1,6 @@
 //! What is fixed of a name.
 
-ghost use Rattle.std.specs.Prelude.{◌≡◌, ◌↔◌, ◌<◌, ◌≤◌, Some, None, IsTrue, Contains, length, IfOk, IfErr};
+ghost use Rattle.std.specs.Prelude.{◌≡◌, ◌↔◌, ℕ, ◌<◌, ◌≤◌, Some, None, IsTrue, Contains, length, IfOk, IfErr};
 ghost use Rattle.nbt_front.specs.Files.{IsBarred, Joins};
 ghost use Rattle.nbt_front.specs.Deciding.{IsHolder, entries_of};
 ghost use Rattle.nbt_front.specs.Numbers.{addrs_most};
@@ -51,7 +51,7 @@ impl Fixed {
     /// What a further line makes of it. Refused as [`LineFault`] has it.
     pub(crate) fn with(&self, line: &FixedLine) -> Result<Fixed, LineFault>
         ensures ok { IfOk result (Joins (Some self.now) line.now) }
-        ensures err { IfErr result (λ fault. IsBarred 0 (Some self.now) line.now fault) }
+        ensures err { IfErr result (λ fault. (count : ℕ) → IsBarred count (Some self.now) line.now fault) }
     {
         if self.kind != line.kind {
             return Err(LineFault::Kinds);

@@ -1,8 +1,9 @@
 //! The names that are fixed.
 
-ghost use Rattle.std.specs.Prelude.{◌≡◌, ◌↔◌, Some, None, [], IsTrue, IfSome, IfNone, OnOk, IfErr, length};
+ghost use Rattle.std.specs.Prelude.{◌≡◌, ◌↔◌, ◌<◌, Some, None, [], IsTrue, IfSome, IfNone, OnOk, IfOk, IfErr, length};
 ghost use Rattle.nbt_front.specs.FixedNames.{fixed_of};
-ghost use Rattle.nbt_front.specs.Files.{Adds, IsBarred};
+ghost use Rattle.nbt_front.specs.Files.{Adds, IsBarred, Joins};
+ghost use Rattle.nbt_front.specs.Numbers.{names_most};
 ghost use Rattle.nbt_front.specs.Inner.Refusals.{IsRefusedBy};
 
 use crate::fault::{LineFault, Refused};
@@ -67,19 +68,28 @@ impl FixedNames {
         ensures ok { OnOk result (Adds self.old line self.new) }
         ensures err { IfErr result (IsRefusedBy (IsBarred (length self.old) (fixed_of self.old line.name) line)) }
     {
-        let fixed = match self.names.get(&line.name) {
-            Some(fixed) => match fixed.with(&line) {
-                Ok(fixed) => fixed,
-                Err(fault) => return Err(Refused::Line(fault)),
-            },
-            None => {
-                if self.names.len() >= NAMES_MOST {
-                    return Err(Refused::Line(LineFault::Full));
-                }
-                Fixed::first(&line)
-            }
+        let fixed = match self.joined(&line) {
+            Ok(fixed) => fixed,
+            Err(fault) => return Err(Refused::Line(fault)),
         };
         self.names.insert(line.name, fixed)?;
         Ok(())
+    }
+
+    /// What a line makes of its name.
+    fn joined(&self, line: &FixedLine) -> Result<Fixed, LineFault>
+        ensures ok { IfOk result (Joins (fixed_of self.now line.now.name) line.now) }
+        ensures room { OnOk result (fixed_of self.now line.now.name ≡ None → length self.now < names_most) }
+        ensures err { IfErr result (IsBarred (length self.now) (fixed_of self.now line.now.name) line.now) }
+    {
+        match self.get(&line.name) {
+            Some(fixed) => fixed.with(line),
+            None => {
+                if self.len() >= NAMES_MOST {
+                    return Err(LineFault::Full);
+                }
+                Ok(Fixed::first(line))
+            }
+        }
     }
 }

@@ -2,7 +2,8 @@
 
 ghost use Rattle.std.specs.Prelude.{◌≡◌, ◌↔◌, ℕ, ◌≤◌, List, IsTrue, IfSome, IfNone, Any};
 ghost use Rattle.nbt_text.specs.Number.{SpellsNumber};
-ghost use Rattle.nbt_front.specs.Networks.{IsIn, NetworkValue, SpellsIp, SpellsNetwork};
+ghost use Rattle.nbt_front.specs.Networks.{IsIn, NetworkValue, SpellsBits, SpellsIp, SpellsNetwork};
+ghost use Rattle.nbt_front.specs.Inner.Tails.{tail_of};
 
 use nbt_text::{parse_number, split_at_first};
 use std::marker::Model;
@@ -58,12 +59,20 @@ pub fn read_network(text: &[u8]) -> Option<Network>
     ensures none { IfNone result ((network : NetworkValue) → ¬ SpellsNetwork text.now network) }
 {
     let (front, rest) = split_at_first(SLASH, text);
-    let bits = match rest {
-        Some(digits) => bits_in(digits)?,
-        None => BITS,
-    };
+    let bits = bits_behind(rest)?;
     let ip = ip_in(front)?;
     Some(Network { ip, bits })
+}
+
+/// How many bits are shared, by the digits behind the slash, if there is one.
+fn bits_behind(rest: Option<&[u8]>) -> Option<u32>
+    ensures found { IfSome result (SpellsBits (tail_of rest.entry)) }
+    ensures none { IfNone result ((bits : ℕ) → ¬ SpellsBits (tail_of rest.entry) bits) }
+{
+    match rest {
+        Some(digits) => bits_in(digits),
+        None => Some(BITS),
+    }
 }
 
 /// How many bits these digits say, 0 to 32.

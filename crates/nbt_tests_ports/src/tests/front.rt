@@ -7,7 +7,7 @@ use arrayvec::ArrayVec;
 use nbt_front::{Desk, FileFault, FixedNames, Front, FrontPort, Network, read_fixed, read_network};
 use nbt_name::{Addr, Kind};
 use nbt_nbns::{Counts, serve_turns};
-use nbt_port::{Device, MemoryClock, MemoryPort, Port};
+use nbt_port::{Device, MemoryClock, MemoryPort, OwnReplies, Port};
 use nbt_server::Server;
 use nbt_testing::{Row, clock as clock_of, config, expect_sent, port as port_of};
 use nbt_text::{Case, read_name};
@@ -856,6 +856,13 @@ impl Scene for Says<'_> {
         ] {
             receive_and_tell(rt, &mut over, &mut octets, said)?;
         }
+        let replied = OwnReplies {
+            not_allowed: 1,
+            fixed_refused: 1,
+            fixed_confirmed: 1,
+            fixed_found: 1,
+        };
+        expect_eq(rt, &over.own_replies(), &replied);
         Ok(())
     }
 }

@@ -3,6 +3,7 @@
 
 use super::expect::{expect, expect_eq, expect_eq_in};
 use super::stage::{Scene, play_on};
+use nbt_front::{FixedNames, Front};
 use nbt_lease::Config;
 use nbt_log::Dates;
 use nbt_name::Addr;
@@ -769,6 +770,12 @@ fn here(port: u16) -> Addr {
     }
 }
 
+/// A front without networks and names.
+fn open_front(rt: &HostRuntime) -> Result<Front, Fail> {
+    let none = FixedNames::none(rt.alloc());
+    Ok(Front::new(Vec::new(rt.alloc()), none, config(16)?))
+}
+
 /// A server over this machine, at a port that no other test has, which ends after its first turn.
 fn arguments(rt: &HostRuntime, port: u16, strict: bool) -> Result<NbnsArguments, Fail> {
     Ok(NbnsArguments {
@@ -780,6 +787,7 @@ fn arguments(rt: &HostRuntime, port: u16, strict: bool) -> Result<NbnsArguments,
         leases: None,
         strict,
         rows_per_client: 64,
+        front: open_front(rt)?,
     })
 }
 
