@@ -72,8 +72,18 @@ impl<'a, C: Clock> Desk<'a, C> {
         ensures { self.new ≡ self.old }
     {
         count(&mut self.replied, &decision);
-        let now = self.clock.now();
-        self.notes.note(now, ip, decision);
+        if is_refusal(&decision) {
+            let now = self.clock.now();
+            self.notes.note(now, ip, decision);
+        }
+    }
+}
+
+/// Whether a request was refused.
+fn is_refusal(decision: &Decision) -> bool {
+    match decision {
+        Decision::NotAllowed(_) | Decision::FixedRefused(_) => true,
+        Decision::FixedConfirmed | Decision::FixedFound => false,
     }
 }
 

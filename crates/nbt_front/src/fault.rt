@@ -6,41 +6,58 @@ ghost use Rattle.nbt_front.specs.declared.fault.Refused.TheVariants.{Memory};
 use crate::fixed::ADDRS_MOST;
 use crate::names::NAMES_MOST;
 use std::alloc::{AllocError, AllocFailed};
-use thiserror::Error;
+use std::fmt;
 
-/// What is wrong with a line of the file (our profile's words). The first of them is reported, in this order.
-#[derive(Clone, Copy, Debug, PartialEq, Eq, Error)]
+/// What is wrong with a line of the file. The first of them is reported, in this order (our profile).
+#[derive(Clone, Copy, Debug, PartialEq, Eq)]
 pub enum LineFault {
     /// It hasn't three words.
-    #[error("a name, its kind and an address are wanted, as FILER#20 unique 192.0.2.7")]
     Words,
     /// The name can't be read.
-    #[error("name: {0}")]
     Name(nbt_text::Fault),
     /// The name begins with `*`, and is no node's (RFC 1001 section 5.2).
-    #[error("name: no name that begins with * is fixed")]
     Star,
     /// The kind is neither `unique` nor `group`.
-    #[error("kind: unique or group is wanted")]
     Kind,
     /// The address is none.
-    #[error("address: no A.B.C.D in decimal")]
     Address,
     /// The address isn't of one machine.
-    #[error("address: an address of one machine is wanted")]
     NotOne,
     /// The name would be one more than there may be.
-    #[error("more than {NAMES_MOST} names")]
     Full,
     /// An earlier line has the name as another kind.
-    #[error("an earlier line has this name as another kind")]
     Kinds,
     /// A unique name would have a second address, or a group an address twice.
-    #[error("an earlier line has this name: a unique name has one address, and a group each address once")]
     Twice,
     /// A group would have more addresses than it may have.
-    #[error("more than {ADDRS_MOST} addresses of one group")]
     Many,
+}
+
+impl fmt::Display for LineFault {
+    fn fmt<W: fmt::Write>(&self, f: &mut fmt::Formatter<W>) -> fmt::Result {
+        match self {
+            LineFault::Words => f.write_str(
+                "a name, its kind and an address are wanted, as FILER#20 unique 192.0.2.7",
+            ),
+            LineFault::Name(fault) => write!(f, "name: {fault}"),
+            LineFault::Star => f.write_str("name: no name that begins with * is fixed"),
+            LineFault::Kind => f.write_str("kind: unique or group is wanted"),
+            LineFault::Address => f.write_str("address: no A.B.C.D in decimal"),
+            LineFault::NotOne => f.write_str("address: an address of one machine is wanted"),
+            LineFault::Full => {
+                let most = NAMES_MOST;
+                write!(f, "more than {most} names")
+            }
+            LineFault::Kinds => f.write_str("an earlier line has this name as another kind"),
+            LineFault::Twice => f.write_str(
+                "an earlier line has this name: a unique name has one address, and a group each address once",
+            ),
+            LineFault::Many => {
+                let most = ADDRS_MOST;
+                write!(f, "more than {most} addresses of one group")
+            }
+        }
+    }
 }
 
 /// Why a file of fixed names isn't read.

@@ -41,6 +41,7 @@ struct Note {
 #[derive(Debug, Drop)]
 pub(crate) struct Notes {
     last: Option<Note>,
+    at: Moment,
     not_allowed: Limiter,
     fixed: Limiter,
 }
@@ -50,6 +51,7 @@ impl Notes {
     pub fn new() -> Notes {
         Notes {
             last: None,
+            at: Moment::zero(),
             not_allowed: Limiter::new(),
             fixed: Limiter::new(),
         }
@@ -60,8 +62,14 @@ impl Notes {
         self.last = None;
     }
 
-    /// Notes what was decided of a datagram from this address, where that was to refuse it, and a line may be said of it.
+    /// Notes what was decided of a datagram from this address, where that was to refuse it, and a line may be said of it. Where the
+    /// time went back, the lines of before don't count.
     pub fn note(&mut self, now: Moment, ip: u32, decision: Decision) {
+        if now < self.at {
+            self.not_allowed = Limiter::new();
+            self.fixed = Limiter::new();
+        }
+        self.at = now;
         self.last = match decision {
             Decision::NotAllowed(name) => {
                 note_of(self.not_allowed.take(now), name, ip, Why::NotAllowed)

@@ -79,7 +79,6 @@ fn run_kept<M: Net + time::Clock + Files<File = File>, W: Write, E: Write>(
     let port = UdpPorts::bind(machine, alloc, &arguments.bind, errors)?;
     let mut clock = steady_clock(machine, arguments.bind.first(), errors)?;
     let mut day = readable_clock(machine, arguments.bind.first(), errors)?;
-    let own = steady_clock(machine, arguments.bind.first(), errors)?;
     let folder = state.path.as_str();
     let disk = open_disk(machine, alloc, folder, errors)?;
     let monotonic = clock.now();
@@ -133,7 +132,7 @@ fn run_kept<M: Net + time::Clock + Files<File = File>, W: Write, E: Write>(
         header: begun.header,
         journal,
     };
-    let desk = Desk::new(alloc, &arguments.front, own);
+    let desk = Desk::new(alloc, &arguments.front, MachineClock::new(machine));
     keep_over(
         port,
         arguments.strict,

@@ -23,7 +23,8 @@ use nbt_lease::{Config, Moment};
 use nbt_log::Dates;
 use nbt_name::Addr;
 use nbt_port::{
-    Bind, Clock, Fault, Port, UdpPorts, print, readable_clock, steady_clock, tell_end_of, until_of,
+    Bind, Clock, Fault, MachineClock, Port, UdpPorts, print, readable_clock, steady_clock,
+    tell_end_of, until_of,
 };
 use nbt_server::Server;
 use std::alloc::Global;
@@ -78,7 +79,6 @@ pub fn run_nbns<M: Net + time::Clock + Files, W: Write, E: Write>(
     let port = UdpPorts::bind(machine, alloc, &arguments.bind, errors)?;
     let mut clock = steady_clock(machine, arguments.bind.first(), errors)?;
     let mut day = readable_clock(machine, arguments.bind.first(), errors)?;
-    let own = steady_clock(machine, arguments.bind.first(), errors)?;
     let start = clock.now();
     let dates = Dates {
         moment: start,
@@ -102,7 +102,7 @@ pub fn run_nbns<M: Net + time::Clock + Files, W: Write, E: Write>(
     let mut server = Server::start(alloc, arguments.config, start);
     server.limit_clients(arguments.rows_per_client);
     let until = until_of(start, arguments.time);
-    let desk = Desk::new(alloc, &arguments.front, own);
+    let desk = Desk::new(alloc, &arguments.front, MachineClock::new(machine));
     watch_over(
         port,
         arguments.strict,
