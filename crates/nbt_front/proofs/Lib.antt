@@ -5,5 +5,7 @@ pub mod OneDecision
 pub mod Decided
 -- what is done with a message, by what was found of its name
 pub mod Rulings
+-- what becomes of a receive beneath a front
+pub mod Passing
 -- the network that a text spells
 pub mod Splits

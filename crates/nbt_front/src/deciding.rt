@@ -153,11 +153,13 @@ impl Front {
         ensures passed { IfNone result (Passes self.now ip (overwrite claim)) }
         ensures left { IfNone result (reply.new.items ≡ reply.old.items) }
     {
-        if self.fixed.get(&claim.name).is_none() {
-            return self.turn_away(ip, claim, reply);
+        match self.fixed.get(&claim.name) {
+            Some(_) => {
+                let name = respond(claim, ACTIVE, 0, reply);
+                Some(Decision::FixedRefused(name))
+            }
+            None => self.turn_away(ip, claim, reply),
         }
-        let name = respond(claim, ACTIVE, 0, reply);
-        Some(Decision::FixedRefused(name))
     }
 
     /// Refuses the claim of a name that isn't fixed, where its sender may not register.

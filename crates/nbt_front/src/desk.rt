@@ -89,11 +89,14 @@ fn is_refusal(decision: &Decision) -> bool {
 
 /// Counts a reply by what was decided.
 fn count(replied: &mut OwnReplies, decision: &Decision) {
-    let count = match decision {
-        Decision::NotAllowed(_) => &mut replied.not_allowed,
-        Decision::FixedRefused(_) => &mut replied.fixed_refused,
-        Decision::FixedConfirmed => &mut replied.fixed_confirmed,
-        Decision::FixedFound => &mut replied.fixed_found,
-    };
-    *count = count.saturating_add(1);
+    match decision {
+        Decision::NotAllowed(_) => replied.not_allowed = replied.not_allowed.saturating_add(1),
+        Decision::FixedRefused(_) => replied.fixed_refused = replied
+            .fixed_refused
+            .saturating_add(1),
+        Decision::FixedConfirmed => replied.fixed_confirmed = replied
+            .fixed_confirmed
+            .saturating_add(1),
+        Decision::FixedFound => replied.fixed_found = replied.fixed_found.saturating_add(1),
+    }
 }
