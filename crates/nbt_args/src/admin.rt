@@ -165,7 +165,7 @@ pub static NBNS: Description = Description {
             name: "bind",
             form: Form::Options("ADDR"),
             presence: Presence::Optional,
-            help: "An own address, by default at port 137, and may be repeated; without it, every address of the machine",
+            help: "An address to serve at, by default at port 137; may be repeated; without it, every address of the machine",
         },
         LIFE,
         LONGEST,
@@ -216,20 +216,20 @@ pub static NBNS: Description = Description {
             name: STATE,
             form: Form::Option("FOLDER"),
             presence: Presence::Optional,
-            help: "Keeps the leases in this folder, and goes on with those that it kept there",
+            help: "Keeps the leases in this folder, and goes on with them after a restart",
         },
         Argument {
             name: "silent-after-boot",
             form: Form::Flag,
             presence: Presence::With(STATE),
-            help: "Goes on with kept leases in the same boot of the machine alone",
+            help: "With --state, doesn't go on with the leases after a boot of the machine",
         },
     ],
     help: "\
 The first line has its addresses, and for how long and until when it is silent, as `serving 127.0.0.1:137, 192.0.2.1:137, silent
-for 300 s until 2026-11-24T09:17:03Z`. Without --state it keeps its leases in memory only, so after each start it waits until every
-lease that it may have granted before has expired. Then it serves until a signal or --for ends it; its leases expire by themselves. The
-standard port is 137, for which most systems require privileges.
+for 300 s until 2026-11-24T09:17:03Z`. Without --state it keeps its leases in memory only, so after each start it waits until
+every lease that it may have granted before has expired. Then it serves until a signal or --for ends it; its leases expire by
+themselves. The standard port is 137, for which most systems require privileges.
 
 With --state it writes each change of a lease to FOLDER/leases before its reply leaves, and a later start goes on at once: the
 first line is `serving 192.0.2.1:137, with 17 leases kept`. Where it can't go on, the line says why: `silent for 300 s until
@@ -242,9 +242,8 @@ by a socket for each: standard error says when one comes or goes. --bind 0.0.0.0
 and whose replies leave from the address that the system chooses.
 
 ADDR is A.B.C.D or A.B.C.D:PORT; for port 0 the system chooses one, which the first line has. TIME is a number and its unit, as
-1500ms, 300s or 5m. The longest lease must be at least 10 s
-and at least 20 lives of a datagram, else a hold would lapse before it can be refreshed. If it is above an hour, and without
---state, standard error says for how long each start is silent.
+1500ms, 300s or 5m. The longest lease must be at least 10 s and at least 20 lives of a datagram, else a hold would lapse before it
+can be refreshed. If it is above an hour, and without --state, standard error says for how long each start is silent.
 
 --log prints lines as `2026-11-24T09:12:03Z granted FILER#20 192.0.2.7 unique 300 s`; `renewed`, `refused` with the sender and
 the reason, `released`, `unanswered` for a request during the silence, and `malformed` or `foreign` for a packet that is no
@@ -339,7 +338,7 @@ Exit status:
 
 pub static RELEASE: Description = Description {
     name: "release",
-    about: "Gives back names that a host of this machine left at a name server",
+    about: "Releases names that a host of this machine left at a name server",
     arguments: &[
         Argument {
             name: "name",
@@ -369,7 +368,7 @@ pub static RELEASE: Description = Description {
             name: "log",
             form: Form::Flag,
             presence: Presence::Optional,
-            help: "As `nbt host` has it",
+            help: "Has no effect",
         },
     ],
     help: "\
