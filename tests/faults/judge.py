@@ -11,7 +11,7 @@ from typing import NamedTuple
 from packets import GROUP
 
 GRANTED = "granted"
-# What a host prints when it doesn't hold a name any more, or gives it back.
+# What a host prints when it doesn't hold a name any more, or releases it.
 ENDINGS = ("lost", "lapsed", "given back", "give-back denied", "give-back unconfirmed", "not held")
 GIVEN_BACK = ("given back", "give-back denied", "give-back unconfirmed")
 # How long after an answer the line `lapsed` comes at the latest that shows that the hold was over when it was sent. The host's next

@@ -61,7 +61,7 @@ class Play:
         names = CONTENDED if is_group else [*CONTENDED, MIXED]
         groups = [*GROUPS, MIXED] if is_group else GROUPS
         limits = ["--life", LIFE, "--longest", f"{self.longest}s"]
-        # Where nothing else takes a name from a host, more of them give theirs back, so that others get them.
+        # Where nothing else takes a name from a host, more of them release theirs, so that others get them.
         ending = 0.2 if self.rates.for_each_host else 0.6
         return Host(machine, self.book, self.poll, self.nbt, limits, self.server.machine.address, names, groups, self.seed, ending)
 
