@@ -13,7 +13,7 @@ _nbt() {
     fi
     case $before in
     --at | --server | --bind | --scope | --wait | --life | --longest | --for | --rows-per-client | --allow | --group) return ;;
-    --leases | --fixed)
+    --leases | --hosts | --stats | --fixed)
         compopt -o filenames 2>/dev/null
         mapfile -t COMPREPLY < <(compgen -f -- "$word")
         return
@@ -41,7 +41,7 @@ _nbt() {
         case ${COMP_WORDS[1]} in
         lookup) words='--server --scope --exact --tries --wait --bind --help' ;;
         status) words='--scope --exact --tries --wait --bind --help' ;;
-        nbns) words='--bind --life --longest --for --log --log-broadcasts --leases --strict --rows-per-client --allow --fixed --state --silent-after-boot --help' ;;
+        nbns) words='--bind --life --longest --for --log --log-broadcasts --leases --hosts --stats --strict --rows-per-client --allow --fixed --state --silent-after-boot --help' ;;
         host | release) words='--server --bind --group --scope --exact --life --longest --for --log --help' ;;
         answer) words='--at --help' ;;
         show) words='--explain --help' ;;

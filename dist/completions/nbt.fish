@@ -57,6 +57,8 @@ complete -c nbt -n '__nbt_takes for nbns host release' -l for -x -d 'End after t
 complete -c nbt -n '__nbt_takes log nbns' -l log -d 'Print a line per grant, renewal, refusal and release'
 complete -c nbt -n '__nbt_takes log-broadcasts nbns' -l log-broadcasts -d 'Print broadcasts of B nodes too'
 complete -c nbt -n '__nbt_takes leases nbns' -l leases -r -F -d 'Keep the list of live leases in a file'
+complete -c nbt -n '__nbt_takes hosts nbns' -l hosts -r -F -d 'Keep the hosts in a file'
+complete -c nbt -n '__nbt_takes stats nbns' -l stats -r -F -d 'Keep statistics in a file'
 complete -c nbt -n '__nbt_takes strict nbns' -l strict -d 'Refuse the registrations of Samba'
 complete -c nbt -n '__nbt_takes rows-per-client nbns' -l rows-per-client -x -d 'How many live leases a client may have'
 complete -c nbt -n '__nbt_is nbns' -l allow -x -d 'Let the machines of a network register'

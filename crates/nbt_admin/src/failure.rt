@@ -44,8 +44,14 @@ pub enum ArgumentFault {
     Time,
     /// Empty, and so no folder.
     Folder,
-    /// An empty path.
+    /// An empty path of the list of leases.
     NoPath,
+    /// An empty path of the hosts.
+    NoHosts,
+    /// An empty path of the statistics.
+    NoStats,
+    /// A path that an earlier argument has too.
+    PathTwice,
     /// Not a number of live leases for a client.
     ClientRows,
     /// Not a network.
@@ -69,6 +75,9 @@ impl ArgumentFault {
             ArgumentFault::Time => "time",
             ArgumentFault::Folder => "folder",
             ArgumentFault::NoPath => "list of leases",
+            ArgumentFault::NoHosts => "hosts",
+            ArgumentFault::NoStats => "statistics",
+            ArgumentFault::PathTwice => "file",
             ArgumentFault::ClientRows => "rows per client",
             ArgumentFault::Network => "network",
         }
@@ -88,7 +97,9 @@ impl fmt::Display for ArgumentFault {
             ArgumentFault::AnyPort => f.write_str("not the port of a host"),
             ArgumentFault::Name(fault) => write!(f, "{fault}"),
             ArgumentFault::Star => f.write_str("no server is asked for a name that begins with *"),
-            ArgumentFault::Twice | ArgumentFault::AddressTwice => f.write_str("given twice"),
+            ArgumentFault::Twice | ArgumentFault::AddressTwice | ArgumentFault::PathTwice => {
+                f.write_str("given twice")
+            }
             ArgumentFault::Life => {
                 let most = LIFE_MOST / 1_000;
                 write!(f, "not a time from 1ms to {most}s")
@@ -99,7 +110,9 @@ impl fmt::Display for ArgumentFault {
             }
             ArgumentFault::Time => f.write_str("not a time, as 1500ms, 300s or 5m"),
             ArgumentFault::Folder => f.write_str("an empty text names no folder"),
-            ArgumentFault::NoPath => f.write_str("no path of a file"),
+            ArgumentFault::NoPath | ArgumentFault::NoHosts | ArgumentFault::NoStats => {
+                f.write_str("no path of a file")
+            }
             ArgumentFault::ClientRows => {
                 let most = ROWS_MOST;
                 write!(f, "not a whole number from 1 to {most}")

@@ -189,6 +189,18 @@ pub static NBNS: Description = Description {
             help: "Keeps the list of live leases in this file, which is replaced only if it is such a list, or empty",
         },
         Argument {
+            name: "hosts",
+            form: Form::Option("FILE"),
+            presence: Presence::Optional,
+            help: "Keeps its file servers as lines of /etc/hosts in this file, for a resolver, as --leases does",
+        },
+        Argument {
+            name: "stats",
+            form: Form::Option("FILE"),
+            presence: Presence::Optional,
+            help: "Keeps its statistics in this file, for Prometheus, as --leases does",
+        },
+        Argument {
             name: "strict",
             form: Form::Flag,
             presence: Presence::Optional,
@@ -250,6 +262,10 @@ the reason, `released`, `unanswered` for a request during the silence, and `malf
 request: of each kind at most ten per second. --leases writes the list of live leases to FILE.new and renames that to FILE, when
 it has changed and at most once per second: a first line that says what it is, and one line per lease, as `FILER#20 unique
 192.0.2.7 2026-11-24T09:17:03Z`, with the time of its expiry.
+
+--hosts keeps a FILE likewise, with one line per live lease of a file server, as `192.0.2.7 FILER`: of a unique name of suffix 20,
+without a scope, of letters, digits and inner hyphens. --stats keeps one with its statistics, in Prometheus' text format for the
+node exporter's textfile collector. The three files must differ.
 
 A client is the address that a registration comes from. One with N live leases, unique names and groups together, is refused one
 of a further name, with SRV_ERR; what it has it keeps, and renews. Machines behind one address count as one client.

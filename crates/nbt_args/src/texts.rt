@@ -103,6 +103,10 @@ pub struct NbnsTexts<'a> {
     pub broadcasts: bool,
     /// The path of the list of leases, if any.
     pub leases: Option<&'a str>,
+    /// The path of the hosts, if any.
+    pub hosts: Option<&'a str>,
+    /// The path of the statistics, if any.
+    pub stats: Option<&'a str>,
     /// Whether Samba's registrations are not accepted.
     pub strict: bool,
     /// How many live leases a client may have; `None` for the default.
@@ -253,6 +257,8 @@ fn nbns_texts<'a>(alloc: Global, matches: &ArgMatches<'a>) -> Result<NbnsTexts<'
     ensures logs { IfOk result (λ texts. Tells matches.now (codes "log") texts.log) }
     ensures broadcasts { IfOk result (λ texts. Tells matches.now (codes "log-broadcasts") texts.broadcasts) }
     ensures leases { IfOk result (λ texts. option_map (λ text. text.now) texts.leases ≡ value_of matches.now (codes "leases")) }
+    ensures hosts { IfOk result (λ texts. option_map (λ text. text.now) texts.hosts ≡ value_of matches.now (codes "hosts")) }
+    ensures stats { IfOk result (λ texts. option_map (λ text. text.now) texts.stats ≡ value_of matches.now (codes "stats")) }
     ensures strict { IfOk result (λ texts. Tells matches.now (codes "strict") texts.strict) }
     ensures client_rows { IfOk result (λ texts. option_map (λ text. text.now) texts.rows_per_client ≡ value_of matches.now (codes "rows-per-client")) }
     ensures allow { IfOk result (λ texts. map (λ text. text.now) texts.allow.items ≡ arguments_of matches.now (codes "allow")) }
@@ -270,6 +276,8 @@ fn nbns_texts<'a>(alloc: Global, matches: &ArgMatches<'a>) -> Result<NbnsTexts<'
         log: matches.get_flag("log"),
         broadcasts: matches.get_flag("log-broadcasts"),
         leases: matches.get_str("leases"),
+        hosts: matches.get_str("hosts"),
+        stats: matches.get_str("stats"),
         strict: matches.get_flag("strict"),
         rows_per_client: matches.get_str("rows-per-client"),
         allow,

@@ -16,9 +16,9 @@ use nbt_port::Fault;
 use nbt_store::{Boot, Fault as FileFault, SystemDisk, this_boot};
 use std::alloc::Global;
 use std::fs::File;
-use std::io;
 use std::io::{ErrorKind, Write};
 use std::rt::Files;
+use std::{io, time};
 
 /// A store that was opened, and how many leases it has.
 #[derive(Drop)]
@@ -111,7 +111,7 @@ fn boot_here<M: Files, E: Write>(
 
 /// Opens the store of a folder with the leases of a server that begins. A file that is damaged or of another version is set aside
 /// before. Refused with `Memory` or `Store`.
-pub(crate) fn open_store<'a, M: Files<File = File>, E: Write>(
+pub(crate) fn open_store<'a, M: Files<File = File> + time::Clock, E: Write>(
     disk: SystemDisk<'a, M>,
     alloc: Global,
     folder: &str,

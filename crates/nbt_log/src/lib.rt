@@ -19,9 +19,9 @@ mod word;
 
 pub use dates::Dates;
 pub use entry::{Entry, LineKind};
-pub use leases::{LIST_HEAD, may_become_list, write_list};
+pub use leases::{LIST_HEAD, may_replace, write_list};
 pub use limiter::{LINES_MOST, Limiter};
 pub use limiters::Limiters;
 pub use line::{write_entry, write_reason, write_seconds};
 pub use time::write_time;
-pub use word::write_word;
+pub use word::{write_dotted, write_word};

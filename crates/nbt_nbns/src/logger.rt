@@ -46,6 +46,13 @@ impl Logger {
         }
     }
 
+    /// How many lines were dropped that no note in the log tells of yet.
+    pub fn dropped(&self) -> u64
+        ensures { result ≡ self.now.outbox.dropped }
+    {
+        self.outbox.dropped()
+    }
+
     /// Prints the line of what a server did with a datagram, at once, where it may be printed, and what waits of the lines before
     /// it. Where the reader of the log is slow, a line waits or is dropped, as [`Outbox::send`] says. Returns whether that was
     /// done: not where it was out of memory or the log can't be written, which is said in `errors`, the first time of a row, as is

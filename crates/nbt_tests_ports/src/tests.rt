@@ -11,6 +11,7 @@ mod lookups;
 mod nbns;
 mod ports;
 mod releases;
+mod reports;
 mod samba;
 mod stage;
 mod turns;

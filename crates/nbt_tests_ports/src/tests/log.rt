@@ -5,7 +5,7 @@ use super::expect::{expect_eq, expect_eq_in};
 use arrayvec::ArrayVec;
 use nbt_lease::{Lease, Moment};
 use nbt_log::{
-    Dates, Entry, LIST_HEAD, Limiter, Limiters, LineKind, may_become_list, write_entry, write_list,
+    Dates, Entry, LIST_HEAD, Limiter, Limiters, LineKind, may_replace, write_entry, write_list,
     write_time,
 };
 use nbt_name::{Addr, Kind, Name};
@@ -57,7 +57,7 @@ fn times_of_day(rt: HostRuntime) -> Result<(), Fail> {
 
 /// What a server did with a datagram, without whose claim it is.
 #[derive(Clone, Copy)]
-enum Done {
+pub enum Done {
     Granted(u32),
     Renewed(u32),
     Refused(Refusal),
@@ -71,7 +71,7 @@ enum Done {
     NoMessage,
 }
 
-fn outcome_of(done: Done, claim: Claim) -> Outcome {
+pub fn outcome_of(done: Done, claim: Claim) -> Outcome {
     match done {
         Done::Granted(seconds) => Outcome::Granted(claim, seconds),
         Done::Renewed(seconds) => Outcome::Renewed(claim, seconds),
@@ -232,7 +232,7 @@ fn a_line_says_how_many_were_left_out(rt: HostRuntime) -> Result<(), Fail> {
     Ok(())
 }
 
-fn claim_of(name: &str, kind: Kind, addr: u32) -> Result<Claim, Fail> {
+pub fn claim_of(name: &str, kind: Kind, addr: u32) -> Result<Claim, Fail> {
     Ok(Claim {
         name: named(name)?,
         kind,
@@ -240,7 +240,7 @@ fn claim_of(name: &str, kind: Kind, addr: u32) -> Result<Claim, Fail> {
     })
 }
 
-fn entry_of(count: usize, is_broadcast: bool, outcome: Outcome) -> Entry {
+pub fn entry_of(count: usize, is_broadcast: bool, outcome: Outcome) -> Entry {
     Entry {
         from: FROM,
         count,
@@ -623,7 +623,12 @@ const FIRSTS: [(&str, bool); 6] = [
 #[test]
 fn what_a_list_may_be_put_in_place_of(rt: HostRuntime) -> Result<(), Fail> {
     for (first, expected) in FIRSTS {
-        expect_eq_in(&rt, &first, &may_become_list(first.as_bytes()), &expected);
+        expect_eq_in(
+            &rt,
+            &first,
+            &may_replace(LIST_HEAD, first.as_bytes()),
+            &expected,
+        );
     }
     Ok(())
 }
