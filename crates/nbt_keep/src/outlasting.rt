@@ -60,7 +60,7 @@ fn outlasts_by_time(found: &Found<'_>, loaded: &Loaded) -> bool
     let day = found.day.get();
     match why_silent(&header, found.config, found.boot, monotonic, day, false) {
         Ok(ahead) => has_after(loaded.rows.as_slice(), speaks_anew(found, loaded, ahead)),
-        Err(_) => false,
+        Err(_why) => false,
     }
 }
 
