@@ -7,5 +7,7 @@ pub mod Decided
 pub mod Rulings
 -- what becomes of a receive beneath a front
 pub mod Passing
+-- a file of fixed names, line by line
+pub mod LineByLine
 -- the network that a text spells
 pub mod Splits

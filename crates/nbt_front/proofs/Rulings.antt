@@ -1,5 +1,5 @@
 -- What is done with a message, by what was found of its name.
-use Rattle.std.proofs.Common.{◌≡◌, ℕ, List, [], Option, Some, None, inl, inr, refl}
+use Rattle.std.proofs.Common.{◌≡◌, ℕ, List, [], Bool, true, false, Option, Some, None, inl, inr, refl}
 use Rattle.std.specs.Prelude.{◌↔◌, ◌⊎◌, IfSome, IfNone}
 use Rattle.nbt_name.specs.Wire.{NameValue}
 use Rattle.nbt_name.specs.declared.addr.Kind.{Kind}
@@ -18,6 +18,15 @@ use Rattle.nbt_front.proofs.OneDecision.{Asked, Overwritten, Gets, gets, not_bot
 pub if_some : {X : Type 0} {P Q : X → Type 0} (found : Option X) → ((x : X) → P x → Q x) → IfSome found P → IfSome found Q
 if_some None more was = tt
 if_some (Some x) more was = more x was
+
+-- it holds, so also where nothing is found
+pub at_none : {X P : Type 0} (found : Option X) → P → IfNone found P
+at_none None holds = holds
+at_none (Some x) holds = tt
+
+-- what would be so is denied
+pub denied : {P : Type 0} (answer : Bool) → (P → answer ≡ true) → answer ≡ false → ¬ P
+denied answer told is p = let e = told p in absurd cc
 
 pub if_none : {X P Q : Type 0} (found : Option X) → (P → Q) → IfNone found P → IfNone found Q
 if_none None more was = more was

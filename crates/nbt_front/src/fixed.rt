@@ -56,13 +56,17 @@ impl Fixed {
         if self.kind != line.kind {
             return Err(LineFault::Kinds);
         }
-        if self.kind == Kind::Unique || self.has(line.addr) {
+        if self.kind == Kind::Unique {
+            return Err(LineFault::Twice);
+        }
+        if self.has(line.addr) {
             return Err(LineFault::Twice);
         }
         if self.addrs.is_full() {
             return Err(LineFault::Many);
         }
-        let mut addrs = self.addrs.clone();
+        let mut addrs = ArrayVec::new();
+        addrs.try_extend_from_slice(self.addrs.as_slice()).unwrap();
         addrs.push(line.addr);
         Ok(Fixed {
             kind: self.kind,

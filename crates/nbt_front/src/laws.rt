@@ -1,6 +1,6 @@
 //! What holds of a front, whatever the code does: laws over the definitions alone; and that the code's numbers are theirs.
 
-ghost use Rattle.std.specs.Prelude.{◌≡◌, ◌×◌, ◌⊎◌, ℕ, []};
+ghost use Rattle.std.specs.Prelude.{◌≡◌, ◌⊎◌, ℕ, []};
 ghost use Rattle.nbt_packet.specs.Message.{MessageValue};
 ghost use Rattle.nbt_front.specs.Deciding.{Decides, FrontValue, IsOfFixed, IsUnallowed, Passes};
 ghost use Rattle.nbt_front.specs.declared.deciding.Decision.{Decision};

@@ -34,7 +34,7 @@ pub struct FixedLine {
     pub addr: u32,
 }
 
-/// Takes a line of the file. If it is refused, the names are as before.
+/// Takes a line of the file.
 pub(crate) fn take_line(alloc: Global, text: &[u8], names: &mut FixedNames) -> Result<(), Refused>
     ensures ok { OnOk result (Takes names.old text.now names.new) }
     ensures err { IfErr result (IsRefusedBy (LineFails names.old text.now)) }

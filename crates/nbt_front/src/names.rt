@@ -63,7 +63,7 @@ impl FixedNames {
         self.names.get(name)
     }
 
-    /// Adds what a line says. If it is refused, all is as before.
+    /// Adds what a line says.
     pub(crate) fn add(&mut self, line: FixedLine) -> Result<(), Refused>
         ensures ok { OnOk result (Adds self.old line self.new) }
         ensures err { IfErr result (IsRefusedBy (IsBarred (length self.old) (fixed_of self.old line.name) line)) }

@@ -31,7 +31,7 @@ impl<'a, P, C> Model for FrontPort<'a, P, C> {
 impl<'a, P, C> FrontPort<'a, P, C> {
     /// A port over this one, before which this front stands.
     pub fn new(beneath: P, desk: Desk<'a, C>) -> FrontPort<'a, P, C>
-        ensures { result ≡ record { port = beneath; front = desk } }
+        ensures { result ≡ record { port = beneath; front = desk.entry } }
     {
         FrontPort {
             beneath,

@@ -1,7 +1,8 @@
 //! The file of fixed names.
 
-ghost use Rattle.std.specs.Prelude.{IfOk, IfErr};
+ghost use Rattle.std.specs.Prelude.{◌≡◌, IfOk, IfErr};
 ghost use Rattle.nbt_front.specs.Files.{FileFails, IsFile};
+ghost use Rattle.nbt_front.specs.Inner.Refusals.{fault_at};
 
 use crate::fault::{FileFault, Refused};
 use crate::line::take_line;
@@ -23,9 +24,18 @@ pub fn read_fixed(alloc: Global, text: &[u8]) -> Result<FixedNames, FileFault>
     'lines: for place in 0..lines.len() {
         match take_line(alloc, lines[place], &mut names) {
             Ok(()) => {}
-            Err(Refused::Line(fault)) => return Err(FileFault::Line(place + 1, fault)),
-            Err(Refused::Memory) => return Err(FileFault::Memory),
+            Err(refused) => return Err(fault_at(place + 1, refused)),
         }
     }
     Ok(names)
+}
+
+/// Why a file isn't read whose line of this number isn't taken.
+fn fault_at(number: usize, refused: Refused) -> FileFault
+    ensures { result ≡ fault_at number refused }
+{
+    match refused {
+        Refused::Line(fault) => FileFault::Line(number, fault),
+        Refused::Memory => FileFault::Memory,
+    }
 }
