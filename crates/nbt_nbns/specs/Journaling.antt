@@ -6,9 +6,10 @@ use Rattle.nbt_log.specs.declared.dates.Dates.{Dates}
 use Rattle.nbt_report.specs.Tallies.{counted}
 use Rattle.nbt_nbns.specs.Keeping.{KeeperValue, Keeps}
 use Rattle.nbt_nbns.specs.Logging.{LoggerValue, Prints}
-use Rattle.nbt_nbns.specs.Reports.{ListsHosts, ListsLeases, SaysStats}
+use Rattle.nbt_nbns.specs.Reports.{Lists, SaysStats}
 use Rattle.nbt_nbns.specs.declared.journal.Journal.{Journal}
 use Rattle.nbt_nbns.specs.declared.keeper.Kept.{Kept}
+use Rattle.nbt_nbns.specs.declared.report.Listing.TheVariants as listing
 use Rattle.nbt_nbns.specs.declared.staying.Shown.{Shown}
 
 -- Where there is a log, it has the line of what is shown now, if that is printed. Where memory was refused, or the log can't be
@@ -38,6 +39,6 @@ pub record Journals {D L : Type 0} (tells : D → ℕ → D → Type 0) (puts : 
   pub logs : LogsIn new.dates shown old_text old.log new.log text
   pub tally_is : new.tally ≡ counted shown.entry (dropped_of new.log - dropped_of old.log) old.tally
   pub origin_is : new.origin ≡ old.origin
-  pub leases_kept : KeepsIn puts (ListsLeases server new.dates shown.at) shown.at old.leases new.leases
-  pub hosts_kept : KeepsIn puts (ListsHosts server new.dates shown.at) shown.at old.hosts new.hosts
+  pub leases_kept : KeepsIn puts (Lists listing.Leases server new.dates shown.at) shown.at old.leases new.leases
+  pub hosts_kept : KeepsIn puts (Lists listing.Hosts server new.dates shown.at) shown.at old.hosts new.hosts
   pub stats_kept : KeepsIn puts (SaysStats (record { tally = new.tally; health = shown.health; origin = new.origin }) server new.dates shown.at) shown.at old.stats new.stats

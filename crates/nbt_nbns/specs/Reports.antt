@@ -8,13 +8,14 @@ use Rattle.nbt_report.specs.Hosts.{IsHosts}
 use Rattle.nbt_report.specs.Stats.{stats_text}
 use Rattle.nbt_report.specs.declared.stats.Figures.{Figures}
 use Rattle.nbt_server.specs.Serving.{ServerValue}
+use Rattle.nbt_nbns.specs.declared.report.Listing.{Listing}
+use Rattle.nbt_nbns.specs.declared.report.Listing.TheVariants.{Leases, Hosts}
 use Rattle.nbt_nbns.specs.declared.report.StatsReport.{StatsReport}
 
-abbrev pub ListsLeases : ServerValue → Dates → (now : ℕ) → List ℕ → Type 0
-ListsLeases server dates now text = IsList dates now server.table.rows text
-
-abbrev pub ListsHosts : ServerValue → Dates → (now : ℕ) → List ℕ → Type 0
-ListsHosts server dates now text = IsHosts now server.table.rows text
+-- the live leases, or the hosts
+abbrev pub Lists : Listing → ServerValue → Dates → (now : ℕ) → List ℕ → Type 0
+Lists Leases server dates now text = IsList dates now server.table.rows text
+Lists Hosts server dates now text = IsHosts now server.table.rows text
 
 -- what the statistics say of a server at a moment
 abbrev pub figures_of : StatsReport → ServerValue → Dates → (now : ℕ) → Figures

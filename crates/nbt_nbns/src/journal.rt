@@ -6,7 +6,7 @@ ghost use Rattle.nbt_nbns.specs.Journaling.{LogsIn, KeepsIn, dropped_of};
 use crate::keeper::Keeper;
 use crate::logger::Logger;
 use crate::place::Place;
-use crate::report::{HostReport, LeaseReport, Report, StatsReport};
+use crate::report::{Listing, Report, StatsReport};
 use crate::staying::{Shown, Watcher};
 use nbt_lease::Moment;
 use nbt_log::Dates;
@@ -51,9 +51,8 @@ impl<D: Clock, L: Place> Watcher for Journal<D, L> {
     ) {
         let time = self.day.now();
         self.dates.follow(shown.at, time);
-        let (dates, at) = (self.dates, shown.at);
         let before = dropped_of(&self.log);
-        log_in(&mut self.log, dates, shown, writer, errors);
+        log_in(&mut self.log, self.dates, shown, writer, errors);
         let dropped = dropped_of(&self.log).saturating_sub(before);
         self.tally.count(&shown.entry, dropped);
         let stats = StatsReport {
@@ -61,9 +60,32 @@ impl<D: Clock, L: Place> Watcher for Journal<D, L> {
             health: shown.health,
             origin: self.origin,
         };
-        keep_in(&mut self.leases, &LeaseReport, server, dates, at, errors);
-        keep_in(&mut self.hosts, &HostReport, server, dates, at, errors);
-        keep_in(&mut self.stats, &stats, server, dates, at, errors);
+        let leases = Listing::Leases;
+        keep_in(
+            &mut self.leases,
+            &leases,
+            server,
+            self.dates,
+            shown.at,
+            errors,
+        );
+        let hosts = Listing::Hosts;
+        keep_in(
+            &mut self.hosts,
+            &hosts,
+            server,
+            self.dates,
+            shown.at,
+            errors,
+        );
+        keep_in(
+            &mut self.stats,
+            &stats,
+            server,
+            self.dates,
+            shown.at,
+            errors,
+        );
     }
 }
 

@@ -36,7 +36,7 @@ pub use limits::{
 pub use logger::Logger;
 pub use outbox::Outbox;
 pub use place::{FilePlace, MemoryPlace, Place};
-pub use report::{HostReport, LeaseReport, Report, StatsReport};
+pub use report::{Listing, Report, StatsReport};
 pub use running::{NbnsArguments, journal_of, run_nbns};
 pub use samba::take_registration;
 pub use samba_port::SambaPort;

@@ -31,14 +31,19 @@ pub trait Report {
         ensures { OnOk result ((text : List ℕ) × says self.now server.now dates.now now text × (string_bytes out.new ≡ string_bytes out.old ++ text)) };
 }
 
-/// The list of live leases, as [`write_list`] has it.
+/// What of a server's rows is listed.
 #[derive(Clone, Copy, Debug, PartialEq, Eq)]
-pub struct LeaseReport;
+pub enum Listing {
+    /// The live leases, as [`write_list`] has them.
+    Leases,
+    /// The hosts, as [`write_hosts`] has them.
+    Hosts,
+}
 
-impl Report for LeaseReport {
-    ghost use Rattle.nbt_nbns.specs.Reports.{ListsLeases};
+impl Report for Listing {
+    ghost use Rattle.nbt_nbns.specs.Reports.{Lists};
 
-    ghost says = { λ _. ListsLeases };
+    ghost says = { Lists };
 
     fn write(
         &self,
@@ -49,29 +54,10 @@ impl Report for LeaseReport {
         out: &mut String,
     ) -> Result<(), AllocError> {
         let rows = rows_of(alloc, server)?;
-        write_list(dates, now, rows.as_slice(), out)
-    }
-}
-
-/// The hosts, as [`write_hosts`] has them.
-#[derive(Clone, Copy, Debug, PartialEq, Eq)]
-pub struct HostReport;
-
-impl Report for HostReport {
-    ghost use Rattle.nbt_nbns.specs.Reports.{ListsHosts};
-
-    ghost says = { λ _. ListsHosts };
-
-    fn write(
-        &self,
-        alloc: Global,
-        server: &Server,
-        _dates: &Dates,
-        now: Moment,
-        out: &mut String,
-    ) -> Result<(), AllocError> {
-        let rows = rows_of(alloc, server)?;
-        write_hosts(now, rows.as_slice(), out)
+        match self {
+            Listing::Leases => write_list(dates, now, rows.as_slice(), out),
+            Listing::Hosts => write_hosts(now, rows.as_slice(), out),
+        }
     }
 }
 
