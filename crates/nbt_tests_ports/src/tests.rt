@@ -11,5 +11,6 @@ mod nbns;
 mod ports;
 mod releases;
 mod samba;
+mod scans;
 mod stage;
 mod turns;
