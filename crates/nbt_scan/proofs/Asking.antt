@@ -2,7 +2,6 @@
 use Rattle.std.proofs.Common.{◌≡◌, ℕ, Bool, true, false, List, [], ◌∷◌, Some, Result, sym, subst, ap, ◌∙◌}
 use Rattle.std.specs.List.{slice_get}
 use Rattle.std.specs.Prelude.{slice_index}
-use Rattle.nbt_name.specs.declared.addr.Addr.{Addr}
 use Rattle.nbt_port.specs.declared.port.Device.{Device}
 use Rattle.nbt_port.specs.PortCalls.{PortCall, sending}
 use Rattle.nbt_scan.specs.declared.plan.Plan.{Plan}

@@ -17,3 +17,6 @@ pub mod Turns
 pub mod Sizes
 pub mod Joins
 pub mod Parts
+-- what texts spell, and what is taken of it
+pub mod Spelling
+pub mod Taking

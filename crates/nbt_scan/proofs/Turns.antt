@@ -1,5 +1,5 @@
 -- What a turn does, and turns up to the end.
-use Rattle.std.proofs.Common.{◌≡◌, ℕ, ◌+◌, ◌<◌, true, false, List, [], ◌∷◌, ◌++◌, length, Option, sym, subst, ◌∙◌, arith, length-append, refl}
+use Rattle.std.proofs.Common.{◌≡◌, ℕ, ◌+◌, true, false, List, [], ◌∷◌, ◌++◌, Option, sym, subst, ◌∙◌, arith, length-append, refl}
 use Rattle.nbt_port.specs.PortCalls.{PortCall}
 use Rattle.nbt_port.proofs.Chains.{chain_on}
 use Rattle.nbt_scan.specs.declared.form.Layout.{Layout}
@@ -7,7 +7,7 @@ use Rattle.nbt_scan.specs.declared.plan.Plan.{Plan}
 use Rattle.nbt_scan.specs.declared.scan.Scan.{Scan}
 use Rattle.nbt_scan.specs.declared.sheet.Kept.{Kept}
 use Rattle.nbt_scan.specs.Progressing.{step_at, is_over}
-use Rattle.nbt_scan.specs.Scanning.{Scanning, Turn, Timed, Takes, ends_over, ends_spent, turns_most, Scans}
+use Rattle.nbt_scan.specs.Scanning.{Scanning, Timed, Takes, ends_over, ends_spent, turns_most, Scans}
 use Rattle.nbt_scan.specs.Inner.Steps.{Acted, WasHeard, Went, Passed}
 
 -- ---- the calls of a turn

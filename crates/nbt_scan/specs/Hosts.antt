@@ -1,5 +1,5 @@
 -- What a node's names say of its host (RFC 1002 section 4.2.18; Microsoft's suffixes).
-use Rattle.std.specs.Prelude.{◌≡◌, ◌<◌, ℕ, Bool, true, false, not, ◌&&◌, ◌||◌, nat_eq, nat_lt, if◌then◌else◌, List, [], ◌∷◌, ◌++◌, length, take, replicate, slice_index, Option, Some, None}
+use Rattle.std.specs.Prelude.{◌≡◌, ◌<◌, ℕ, Bool, true, false, not, ◌&&◌, ◌||◌, nat_eq, nat_lt, if◌then◌else◌, List, ◌++◌, length, take, replicate, slice_index, Option, Some, None}
 use Rattle.std.specs.Str.{bytes_eq}
 use Rattle.nbt_scan.specs.declared.host.Host.{Host}
 use Rattle.nbt_scan.specs.declared.host.Wanted.{Wanted}

@@ -10,3 +10,4 @@ pub mod Scanning
 pub mod Sheets
 pub mod Spans
 pub mod Statuses
+pub mod Words

@@ -1,5 +1,5 @@
 -- Runs of addresses (our profile).
-use Rattle.std.specs.Prelude.{◌≡◌, ℕ, ◌+◌, ◌-◌, ◌≤◌, ◌↔◌, List, length, map}
+use Rattle.std.specs.Prelude.{ℕ, ◌+◌, ◌-◌, ◌≤◌, ◌↔◌, List, length, map}
 use Rattle.std.specs.List.{Contains, flat_map, range_with_len, sum_by}
 use Rattle.nbt_scan.specs.declared.span.Span.{Span}
 use Rattle.nbt_scan.specs.Plans.{AreAscending, addresses_most}

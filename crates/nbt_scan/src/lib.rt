@@ -31,6 +31,7 @@ mod sheet;
 mod span;
 mod spans;
 mod status;
+mod words;
 
 pub use addresses::{ADDRESSES_MOST, are_ascending, place_of};
 pub use form::{Form, Layout};
@@ -45,3 +46,4 @@ pub use sheet::{Kept, write_kept};
 pub use span::Span;
 pub use spans::{addresses_of, are_few};
 pub use status::{Status, status_in};
+pub use words::{SpanFault, number_within, span_of};

@@ -6,7 +6,7 @@ use Rattle.nbt_scan.specs.declared.hearing.Heard.{Heard}
 use Rattle.nbt_scan.specs.declared.plan.Plan.{Plan}
 use Rattle.nbt_scan.specs.declared.progress.Step.{Step}
 use Rattle.nbt_scan.specs.Scanning.{Scanning, Acts, Hears, Turn, Goes, Timed, Takes}
-use Rattle.nbt_scan.specs.Sheets.{Reply, Sheet, TellsIf}
+use Rattle.nbt_scan.specs.Sheets.{Reply, TellsIf}
 
 -- what was heard, without where its octets lie in memory
 abbrev pub reply_of : Heard → Reply

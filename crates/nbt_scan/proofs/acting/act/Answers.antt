@@ -2,7 +2,6 @@ use Rattle.std.proofs.Common.{[], sym, subst, ⊎_elim}
 use Rattle.nbt_scan.specs.declared.progress.Step.{Step}
 use Rattle.nbt_scan.specs.Inner.Steps.{Acted}
 use Rattle.nbt_scan.specs.Scanning.{Scanning, waits, is_done}
-use Rattle.nbt_scan.specs.Sheets.{Sheet}
 use Rattle.nbt_scan.proofs.Asking.{began_again}
 use Rattle.nbt_scan.proofs.acting.act.Goals as goal
 

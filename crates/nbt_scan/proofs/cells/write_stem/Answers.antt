@@ -1,4 +1,4 @@
-use Rattle.std.proofs.Common.{◌++◌, ◌∷◌, [], List, ℕ, sym, ◌∙◌, subst, append_assoc}
+use Rattle.std.proofs.Common.{◌++◌, List, ℕ, sym, ◌∙◌, subst, append_assoc}
 use Rattle.std.specs.Prelude.{slice_index}
 use Rattle.std.specs.String.{string_bytes}
 use Rattle.hex.specs.Hex.{encode_lower}

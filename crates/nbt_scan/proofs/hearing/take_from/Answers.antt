@@ -1,7 +1,5 @@
-use Rattle.std.proofs.Common.{◌≡◌, Some, None, Ok, sym, subst, ap, ◌∙◌, Option}
-use Rattle.nbt_name.specs.declared.addr.Addr.{Addr}
-use Rattle.nbt_port.specs.PortCalls.{receiving}
-use Rattle.nbt_scan.specs.Scanning.{Hears, hears_nothing, hears_stranger, hears_again, hears_other, hears_reply}
+use Rattle.std.proofs.Common.{Some, ap, ◌∙◌}
+use Rattle.nbt_scan.specs.Scanning.{hears_nothing, hears_stranger, hears_again, hears_other, hears_reply}
 use Rattle.nbt_scan.proofs.hearing.take_from.Goals as goal
 
 pub returns-in_default-clause-hears : goal.returns-in_default-clause-hears

@@ -1,4 +1,4 @@
-use Rattle.std.proofs.Common.{◌∙◌, sym}
+use Rattle.std.proofs.Common.{◌∙◌}
 use Rattle.std.specs.String.{string_bytes}
 use Rattle.nbt_text.proofs.Joining.{OnOk-map}
 use Rattle.nbt_scan.proofs.HostNames.{not_named, is_named}

@@ -1,4 +1,4 @@
-use Rattle.std.proofs.Common.{◌≡◌, ◌∙◌, ◌%◌, ◌^◌, ap, sym, refl, [], ℕ}
+use Rattle.std.proofs.Common.{◌≡◌, ◌∙◌, ◌%◌, ◌^◌, ap, [], ℕ}
 use Rattle.nbt_scan.specs.Requests.{request_text}
 use Rattle.nbt_scan.specs.Running.{first_scan}
 use Rattle.nbt_scan.specs.Scanning.{Timed}

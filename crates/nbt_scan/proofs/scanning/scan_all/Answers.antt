@@ -1,4 +1,4 @@
-use Rattle.std.proofs.Common.{◌≡◌, ◌∙◌, [], ◌∷◌, refl, sym, arith}
+use Rattle.std.proofs.Common.{◌∙◌, [], refl, sym, arith}
 use Rattle.nbt_scan.specs.Scanning.{Scanning, Timed}
 use Rattle.nbt_scan.proofs.Turns.{passed_on, over_at_last, spent_at_last}
 use Rattle.nbt_scan.proofs.scanning.scan_all.Goals as goal

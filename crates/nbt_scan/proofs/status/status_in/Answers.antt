@@ -1,6 +1,6 @@
-use Rattle.std.proofs.Common.{◌≡◌, ℕ, List, Ok, Err, Some, refl, sym, subst, ◌∙◌}
+use Rattle.std.proofs.Common.{refl, sym, subst}
 use Rattle.std.proofs.lemmas.Option.{IfSome_then, same_Some, none-some}
-use Rattle.nbt_packet.specs.Message.{MessageValue, MessageIs, message_of, status}
+use Rattle.nbt_packet.specs.Message.{MessageIs, message_of, status}
 use Rattle.nbt_packet.specs.Packet.{PacketValue, PacketIs, packet_of}
 use Rattle.nbt_scan.proofs.Answering.{is_status, is_none, one_packet, none_then}
 use Rattle.nbt_scan.proofs.status.status_in.Goals as goal

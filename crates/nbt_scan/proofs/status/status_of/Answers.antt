@@ -1,4 +1,4 @@
-use Rattle.std.proofs.Common.{◌≡◌, refl}
+use Rattle.std.proofs.Common.{refl}
 use Rattle.nbt_packet.specs.Message.{MessageIs, status, internet_record, nbstat}
 use Rattle.nbt_packet.specs.Packet.{packet_of}
 use Rattle.nbt_scan.proofs.status.status_of.Goals as goal

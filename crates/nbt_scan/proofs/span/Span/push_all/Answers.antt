@@ -1,4 +1,4 @@
-use Rattle.std.proofs.Common.{◌≡◌, ◌+◌, ◌++◌, ◌∷◌, [], List, ℕ, map, ap, ◌∙◌, sym, append_assoc, arith, refl}
+use Rattle.std.proofs.Common.{◌≡◌, ◌+◌, ℕ, append_assoc, arith}
 use Rattle.std.proofs.lemmas.List.FromFn.{map-range_with_len_more}
 use Rattle.nbt_scan.proofs.span.Span.push_all.Goals as goal
 
