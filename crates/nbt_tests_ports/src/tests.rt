@@ -13,5 +13,6 @@ mod ports;
 mod releases;
 mod reports;
 mod samba;
+mod scans;
 mod stage;
 mod turns;

@@ -1,0 +1,512 @@
+//! Scans of hosts from 192.0.2.7 to 192.0.2.9, over a port in memory and over this machine.
+
+use super::expect::{expect, expect_eq, expect_eq_in};
+use super::stage::{Scene, play_on};
+use nbt_name::Addr;
+use nbt_port::{Fault, MemoryClock, MemoryPort, Port, UdpPort};
+use nbt_scan::{Form, Layout, Plan, are_ascending, place_of, run_scan, scan_over};
+use nbt_server::Server;
+use nbt_testing::{Row, expect_sent};
+use std::process::Abort;
+use std::test::Fail;
+use std::time;
+
+const SEVEN: Addr = Addr {
+    ip: 0xC0000207,
+    port: 137,
+};
+
+const EIGHT: Addr = Addr {
+    ip: 0xC0000208,
+    port: 137,
+};
+
+const NINE: Addr = Addr {
+    ip: 0xC0000209,
+    port: 137,
+};
+
+/// The same host at another port.
+const EIGHT_ELSEWHERE: Addr = Addr {
+    ip: 0xC0000208,
+    port: 40_000,
+};
+
+const STRANGER: Addr = Addr {
+    ip: 0xC0000205,
+    port: 137,
+};
+
+const ALL: &[u32] = &[0xC0000207, 0xC0000208, 0xC0000209];
+
+/// The request, whose id is the clock's first reading.
+const REQUEST: &str = "0001 0000 one-name STAR NBSTAT";
+
+/// A file server in a workgroup, where FRED is logged in: FILER#00, FILER#03, FRED#03, FILER#20, and OFFICE#00 as a group, with its unit id.
+const FILER: &str = "0001 8400 reply STAR NBSTAT 0s 0061 05 46494c45522020202020202020202000 0400 46494c45522020202020202020202003 0400 46524544202020202020202020202003 0400 46494c45522020202020202020202020 0400 4f464649434520202020202020202000 8400 005056c00008";
+
+const FILER_LINE: &str = "192.0.2.7        FILER            OFFICE           FRED             server  00:50:56:c0:00:08\n";
+
+/// A host with one name, DESK#00, and nothing behind it.
+const DESK: &str = "0001 8400 reply STAR NBSTAT 0s 0013 01 4445534b202020202020202020202000 0400";
+
+const DESK_LINE: &str = "192.0.2.8        DESK             -                -                -       -\n";
+
+/// A host without names, whose unit id is zero.
+const NAMELESS: &str = "0001 8400 reply STAR NBSTAT 0s 002f 00 statistics";
+
+const NAMELESS_LINE: &str = "192.0.2.9        -                -                -                -       -\n";
+
+/// A host whose name has a space, MY PC#00, and serves files as DESK-#20.
+const ODD: &str = "0001 8400 reply STAR NBSTAT 0s 0025 02 4d592050432020202020202020202000 0400 4445534b2d2020202020202020202020 0400";
+
+const ODD_LINE: &str = "192.0.2.7        hex:4d592050432020202020202020202000  -                -                server  -\n";
+
+const AT_ONCE: Layout = Layout {
+    form: Form::Plain,
+    sorted: false,
+};
+
+const SORTED: Layout = Layout {
+    form: Form::Plain,
+    sorted: true,
+};
+
+const LONG: Layout = Layout {
+    form: Form::Long,
+    sorted: false,
+};
+
+const HOSTS: Layout = Layout {
+    form: Form::Hosts,
+    sorted: false,
+};
+
+/// A scan with 500 requests a second and a wait of 1,000 ms: the addresses, the most passes, how it prints, the times that the clock tells, what
+/// the port hands out, the call of the port that fails, whether any replied, what is printed, and what was sent.
+struct Scanned {
+    ips: &'static [u32],
+    tries: u32,
+    layout: Layout,
+    moments: &'static [u64],
+    given: &'static [Row],
+    fails_after: Option<u64>,
+    any: Result<bool, Fault>,
+    printed: &'static str,
+    sent: &'static [Row],
+}
+
+fn see_scanned<R: Abort + AllocGlobal>(
+    rt: &R,
+    port: &mut MemoryPort,
+    clock: &mut MemoryClock,
+    plan: &Plan,
+    row: &Scanned,
+) -> Result<(), Fail> {
+    expect(rt, plan.is_sound());
+    let mut printed = Vec::new(rt.alloc());
+    expect(rt, port.failures() < 1 << 61);
+    let any = scan_over(port, clock, rt.alloc(), plan, row.layout, &mut printed);
+    expect_eq(rt, &str::from_utf8(printed.as_slice())?, &row.printed);
+    expect_eq_in(rt, &row.printed, &any, &row.any);
+    expect_sent(rt, port, row.sent)
+}
+
+impl Scene for Scanned {
+    fn play<R: Abort + AllocGlobal + time::Clock>(
+        &self,
+        rt: &R,
+        port: &mut MemoryPort,
+        clock: &mut MemoryClock,
+        _: &mut Server,
+    ) -> Result<(), Fail> {
+        if let Some(calls) = self.fails_after {
+            port.fail_after(calls);
+        }
+        let plan = Plan {
+            ips: Vec::from_slice(rt.alloc(), self.ips)?,
+            port: 137,
+            rate: 500,
+            tries: self.tries,
+            wait: 1_000,
+        };
+        see_scanned(rt, port, clock, &plan, self)
+    }
+}
+
+/// Hosts that reply.
+const REPLIED: &[Scanned] = &[
+    // It ends with the last reply.
+    Scanned {
+        ips: &[0xC0000207],
+        tries: 2,
+        layout: AT_ONCE,
+        moments: &[1, 1, 2, 3],
+        given: &[(SEVEN, FILER), (SEVEN, "")],
+        fails_after: None,
+        any: Ok(true),
+        printed: FILER_LINE,
+        sent: &[(SEVEN, REQUEST)],
+    },
+    // Each is asked when it is due, 2 ms after the one before it, and its line is printed as its reply comes.
+    Scanned {
+        ips: ALL,
+        tries: 1,
+        layout: AT_ONCE,
+        moments: &[1, 1, 2, 3, 4, 5, 6, 7],
+        given: &[
+            (NINE, ""),
+            (NINE, NAMELESS),
+            (NINE, ""),
+            (EIGHT, DESK),
+            (NINE, ""),
+            (SEVEN, FILER),
+        ],
+        fails_after: None,
+        any: Ok(true),
+        printed: "192.0.2.9        -                -                -                -       -\n192.0.2.8        DESK             -                -                -       -\n192.0.2.7        FILER            OFFICE           FRED             server  00:50:56:c0:00:08\n",
+        sent: &[(SEVEN, REQUEST), (EIGHT, REQUEST)],
+    },
+    // By address, at the end.
+    Scanned {
+        ips: ALL,
+        tries: 1,
+        layout: SORTED,
+        moments: &[1, 1, 3, 5, 6],
+        given: &[(NINE, NAMELESS), (EIGHT, DESK), (SEVEN, FILER)],
+        fails_after: None,
+        any: Ok(true),
+        printed: "192.0.2.7        FILER            OFFICE           FRED             server  00:50:56:c0:00:08\n192.0.2.8        DESK             -                -                -       -\n192.0.2.9        -                -                -                -       -\n",
+        sent: &[(SEVEN, REQUEST), (EIGHT, REQUEST)],
+    },
+    // The first reply of a host counts, from whatever port. Another id, another message, another host and no message don't count.
+    Scanned {
+        ips: &[0xC0000207, 0xC0000208],
+        tries: 1,
+        layout: AT_ONCE,
+        moments: &[1, 1, 1, 1, 1, 1, 3, 4, 5],
+        given: &[
+            (SEVEN, "0002 8400 reply STAR NBSTAT 0s 0013 01 4445534b202020202020202020202000 0400"),
+            (SEVEN, "0001 0000 one-name STAR NBSTAT"),
+            (STRANGER, FILER),
+            (SEVEN, "0001"),
+            (SEVEN, FILER),
+            (SEVEN, ODD),
+            (EIGHT_ELSEWHERE, DESK),
+        ],
+        fails_after: None,
+        any: Ok(true),
+        printed: "192.0.2.7        FILER            OFFICE           FRED             server  00:50:56:c0:00:08\n192.0.2.8        DESK             -                -                -       -\n",
+        sent: &[(SEVEN, REQUEST), (EIGHT, REQUEST)],
+    },
+];
+
+/// Hosts that don't, and those that reply late.
+const SILENT: &[Scanned] = &[
+    // Two passes, each with its wait: what comes then isn't received.
+    Scanned {
+        ips: &[0xC0000207, 0xC0000208],
+        tries: 2,
+        layout: AT_ONCE,
+        moments: &[1, 1, 2, 3, 1_002, 1_003, 1_003, 1_004, 1_005, 2_004, 2_005],
+        given: &[
+            (EIGHT, ""),
+            (EIGHT, ""),
+            (EIGHT, ""),
+            (EIGHT, ""),
+            (EIGHT, ""),
+            (EIGHT, ""),
+            (EIGHT, ""),
+            (EIGHT, ""),
+            (EIGHT, ""),
+            (EIGHT, DESK),
+        ],
+        fails_after: None,
+        any: Ok(false),
+        printed: "",
+        sent: &[(SEVEN, REQUEST), (EIGHT, REQUEST), (SEVEN, REQUEST), (EIGHT, REQUEST)],
+    },
+    // The last moment at which a reply counts.
+    Scanned {
+        ips: &[0xC0000207, 0xC0000208],
+        tries: 2,
+        layout: AT_ONCE,
+        moments: &[1, 1, 2, 3, 1_002, 1_003, 1_003, 1_004, 1_005, 2_004, 2_005],
+        given: &[
+            (EIGHT, ""),
+            (EIGHT, ""),
+            (EIGHT, ""),
+            (EIGHT, ""),
+            (EIGHT, ""),
+            (EIGHT, ""),
+            (EIGHT, ""),
+            (EIGHT, ""),
+            (EIGHT, DESK),
+        ],
+        fails_after: None,
+        any: Ok(true),
+        printed: DESK_LINE,
+        sent: &[(SEVEN, REQUEST), (EIGHT, REQUEST), (SEVEN, REQUEST), (EIGHT, REQUEST)],
+    },
+    // One that replied isn't asked again, and keeps its place.
+    Scanned {
+        ips: &[0xC0000207, 0xC0000208],
+        tries: 2,
+        layout: AT_ONCE,
+        moments: &[1, 1, 3, 1_003, 1_003, 1_004, 1_005, 2_005],
+        given: &[(SEVEN, FILER)],
+        fails_after: None,
+        any: Ok(true),
+        printed: FILER_LINE,
+        sent: &[(SEVEN, REQUEST), (EIGHT, REQUEST), (EIGHT, REQUEST)],
+    },
+    Scanned {
+        ips: &[0xC0000207],
+        tries: 1,
+        layout: SORTED,
+        moments: &[1, 1, 1_000, 1_001],
+        given: &[],
+        fails_after: None,
+        any: Ok(false),
+        printed: "",
+        sent: &[(SEVEN, REQUEST)],
+    },
+    Scanned {
+        ips: &[],
+        tries: 3,
+        layout: AT_ONCE,
+        moments: &[1, 1],
+        given: &[],
+        fails_after: None,
+        any: Ok(false),
+        printed: "",
+        sent: &[],
+    },
+    // A request that the port fails to send is lost, and sent again in the next pass.
+    Scanned {
+        ips: &[0xC0000207],
+        tries: 2,
+        layout: AT_ONCE,
+        moments: &[1, 1, 1_001, 1_001, 1_002],
+        given: &[(SEVEN, ""), (SEVEN, ""), (SEVEN, FILER)],
+        fails_after: Some(0),
+        any: Ok(true),
+        printed: FILER_LINE,
+        sent: &[(SEVEN, REQUEST)],
+    },
+    // Where one was, and no host replies, the port failed.
+    Scanned {
+        ips: &[0xC0000207],
+        tries: 1,
+        layout: AT_ONCE,
+        moments: &[1, 1, 1_001],
+        given: &[],
+        fails_after: Some(0),
+        any: Err(Fault::Device),
+        printed: "",
+        sent: &[],
+    },
+    // A receive that fails ends it.
+    Scanned {
+        ips: &[0xC0000207],
+        tries: 2,
+        layout: AT_ONCE,
+        moments: &[1],
+        given: &[(SEVEN, FILER)],
+        fails_after: Some(1),
+        any: Err(Fault::Device),
+        printed: "",
+        sent: &[(SEVEN, REQUEST)],
+    },
+    Scanned {
+        ips: &[0xC0000207, 0xC0000208],
+        tries: 2,
+        layout: AT_ONCE,
+        moments: &[1, 1, 3],
+        given: &[(SEVEN, FILER)],
+        fails_after: Some(3),
+        any: Err(Fault::Device),
+        printed: FILER_LINE,
+        sent: &[(SEVEN, REQUEST), (EIGHT, REQUEST)],
+    },
+];
+
+/// What is printed of a host in each form.
+const PRINTED: &[Scanned] = &[
+    Scanned {
+        ips: &[0xC0000207],
+        tries: 1,
+        layout: AT_ONCE,
+        moments: &[1, 1],
+        given: &[(SEVEN, ODD)],
+        fails_after: None,
+        any: Ok(true),
+        printed: ODD_LINE,
+        sent: &[(SEVEN, REQUEST)],
+    },
+    Scanned {
+        ips: &[0xC0000209],
+        tries: 1,
+        layout: AT_ONCE,
+        moments: &[1, 1],
+        given: &[(NINE, NAMELESS)],
+        fails_after: None,
+        any: Ok(true),
+        printed: NAMELESS_LINE,
+        sent: &[(NINE, REQUEST)],
+    },
+    Scanned {
+        ips: &[0xC0000208],
+        tries: 1,
+        layout: LONG,
+        moments: &[1, 1],
+        given: &[(EIGHT, DESK)],
+        fails_after: None,
+        any: Ok(true),
+        printed: "192.0.2.8        DESK             -                -                -       -\n  DESK#00 unique active  workstation\n",
+        sent: &[(EIGHT, REQUEST)],
+    },
+    // The file server's name, or the computer's; none that isn't a host's.
+    Scanned {
+        ips: ALL,
+        tries: 1,
+        layout: HOSTS,
+        moments: &[1, 1, 3, 5],
+        given: &[(SEVEN, FILER), (EIGHT, DESK), (NINE, NAMELESS)],
+        fails_after: None,
+        any: Ok(true),
+        printed: "192.0.2.7 FILER\n192.0.2.8 DESK\n",
+        sent: &[(SEVEN, REQUEST), (EIGHT, REQUEST), (NINE, REQUEST)],
+    },
+    Scanned {
+        ips: &[0xC0000207],
+        tries: 1,
+        layout: HOSTS,
+        moments: &[1, 1],
+        given: &[(SEVEN, ODD)],
+        fails_after: None,
+        any: Ok(true),
+        printed: "",
+        sent: &[(SEVEN, REQUEST)],
+    },
+];
+
+fn play_scanned<R: Abort + AllocGlobal + time::Clock>(
+    rt: &R,
+    rows: &[Scanned],
+) -> Result<(), Fail> {
+    for row in rows {
+        play_on(rt, row.given, row.moments, row)?;
+    }
+    Ok(())
+}
+
+#[test]
+fn scans(rt: HostRuntime) -> Result<(), Fail> {
+    play_scanned(&rt, REPLIED)?;
+    play_scanned(&rt, SILENT)?;
+    play_scanned(&rt, PRINTED)
+}
+
+/// Ascending lists, addresses, and their places.
+const PLACES: &[(&[u32], u32, Option<usize>)] = &[
+    (&[], 7, None),
+    (&[7], 7, Some(0)),
+    (&[7], 6, None),
+    (&[7], 8, None),
+    (&[1, 3, 5, 7], 1, Some(0)),
+    (&[1, 3, 5, 7], 3, Some(1)),
+    (&[1, 3, 5, 7], 5, Some(2)),
+    (&[1, 3, 5, 7], 7, Some(3)),
+    (&[1, 3, 5, 7], 4, None),
+    (&[1, 3, 5, 7], 0xFFFF_FFFF, None),
+];
+
+fn see_places<R: Abort>(
+    rt: &R,
+    places: &[(&'static [u32], u32, Option<usize>)],
+) -> Result<(), Fail> {
+    for (ips, ip, place) in places {
+        expect(rt, are_ascending(ips));
+        expect_eq_in(rt, ip, &place_of(ips, *ip), place);
+    }
+    Ok(())
+}
+
+#[test]
+fn places_of_addresses(rt: HostRuntime) -> Result<(), Fail> {
+    see_places(&rt, PLACES)
+}
+
+/// What a scan can't do: addresses that aren't ascending, or twice the same; a rate of 0; no pass.
+#[test]
+fn plans_that_no_scan_does(rt: HostRuntime) -> Result<(), Fail> {
+    let mut plan = Plan {
+        ips: Vec::from_slice(rt.alloc(), ALL)?,
+        port: 137,
+        rate: 1,
+        tries: 1,
+        wait: 0,
+    };
+    expect(&rt, plan.is_sound());
+    plan.rate = 0;
+    expect(&rt, !plan.is_sound());
+    plan.rate = 1;
+    plan.tries = 0;
+    expect(&rt, !plan.is_sound());
+    expect(&rt, !are_ascending(&[1, 3, 2]));
+    expect(&rt, !are_ascending(&[3, 3]));
+    Ok(())
+}
+
+/// A socket of this machine at 127.42.23.5, where nobody listens at 127.42.23.6.
+#[test]
+fn a_scan_over_this_machine(rt: HostRuntime) -> Result<(), Fail> {
+    let plan = Plan {
+        ips: Vec::from_slice(rt.alloc(), &[0x7F2A1706])?,
+        port: 20_192,
+        rate: 500,
+        tries: 2,
+        wait: 50,
+    };
+    expect(&rt, plan.is_sound());
+    let here = Addr {
+        ip: 0x7F2A1705,
+        port: 20_192,
+    };
+    let mut printed = Vec::new(rt.alloc());
+    let mut errors = Vec::new(rt.alloc());
+    let any = run_scan(&rt, rt.alloc(), here, &plan, AT_ONCE, &mut printed, &mut errors);
+    expect_eq(&rt, &any, &Ok(false));
+    expect(&rt, printed.is_empty());
+    expect(&rt, errors.is_empty());
+    Ok(())
+}
+
+#[test]
+fn a_scan_from_an_address_in_use(rt: HostRuntime) -> Result<(), Fail> {
+    let plan = Plan {
+        ips: Vec::from_slice(rt.alloc(), &[0x7F2A1706])?,
+        port: 20_193,
+        rate: 500,
+        tries: 1,
+        wait: 50,
+    };
+    expect(&rt, plan.is_sound());
+    let here = Addr {
+        ip: 0x7F2A1705,
+        port: 20_193,
+    };
+    let _taken = UdpPort::bind(&rt, here)?;
+    let mut printed = Vec::new(rt.alloc());
+    let mut errors = Vec::new(rt.alloc());
+    let any = run_scan(&rt, rt.alloc(), here, &plan, AT_ONCE, &mut printed, &mut errors);
+    expect_eq(&rt, &any, &Err(Fault::NoPort));
+    expect(&rt, printed.is_empty());
+    expect_eq(
+        &rt,
+        &str::from_utf8(errors.as_slice())?,
+        &"nbt: 127.42.23.5:20193: Address already in use (os error 98)\n",
+    );
+    Ok(())
+}
