@@ -17,3 +17,5 @@ pub mod Turns
 pub mod Sizes
 pub mod Joins
 pub mod Parts
+-- a list of names in an object of JSON
+pub mod Objects
