@@ -20,3 +20,5 @@ pub mod Parts
 -- what texts spell, and what is taken of it
 pub mod Spelling
 pub mod Taking
+-- a list of names in an object of JSON
+pub mod Objects

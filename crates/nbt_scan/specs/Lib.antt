@@ -1,6 +1,7 @@
 pub mod Cells
 pub mod Hosts
 pub mod Inner
+pub mod Json
 pub mod Lines
 pub mod Plans
 pub mod Progressing

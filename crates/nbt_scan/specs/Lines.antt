@@ -6,10 +6,11 @@ use Rattle.nbt_text.specs.Lines.{newline}
 use Rattle.nbt_show.specs.NodeStatus.{IsNameLine}
 use Rattle.nbt_show.specs.Rows.{PrintsRows}
 use Rattle.nbt_scan.specs.declared.form.Form.{Form}
-use Rattle.nbt_scan.specs.declared.form.Form.TheVariants.{Plain, Long, Hosts}
+use Rattle.nbt_scan.specs.declared.form.Form.TheVariants.{Plain, Long, Hosts, Json}
 use Rattle.nbt_scan.specs.declared.host.Host.{Host}
 use Rattle.nbt_scan.specs.Cells.{PrintsName, server_word, unit_word, column}
 use Rattle.nbt_scan.specs.Hosts.{IsHost}
+use Rattle.nbt_scan.specs.Json.{IsObject}
 
 -- ---- a line of columns
 
@@ -55,3 +56,4 @@ abbrev pub PrintsHost : Form → (ip : ℕ) → (names statistics lines : List �
 PrintsHost Plain ip names statistics lines = (host : Host) × IsHost names statistics host × IsColumns ip host lines
 PrintsHost Long ip names statistics lines = (host : Host) × IsHost names statistics host × (line : List ℕ) × IsColumns ip host line × (below : List ℕ) × PrintsRows 18 IsNameBelow names below × (lines ≡ line ++ below)
 PrintsHost Hosts ip names statistics lines = (host : Host) × IsHost names statistics host × IsHostsLine ip host lines
+PrintsHost Json ip names statistics lines = (host : Host) × IsHost names statistics host × IsObject ip host names lines

@@ -24,7 +24,7 @@ pub fn write_name(name: Option<[u8; 18]>, out: &mut String) -> Result<(), AllocE
 }
 
 /// Appends sixteen octets without their suffix.
-fn write_stem(octets: &[u8; 16], out: &mut String) -> Result<(), AllocError>
+pub fn write_stem(octets: &[u8; 16], out: &mut String) -> Result<(), AllocError>
     ensures { OnOk result ((word : List ℕ) × PrintsStem octets.now word × (string_bytes out.new ≡ string_bytes out.old ++ word)) }
 {
     match front_of(octets) {
@@ -68,7 +68,7 @@ pub fn write_unit(unit: Option<[u8; 6]>, out: &mut String) -> Result<(), AllocEr
 }
 
 /// Appends the pairs of digits of a unit id.
-fn write_digits(unit: &[u8; 6], out: &mut String) -> Result<(), AllocError>
+pub fn write_digits(unit: &[u8; 6], out: &mut String) -> Result<(), AllocError>
     ensures { OnOk result (string_bytes out.new ≡ string_bytes out.old ++ unit_digits unit.now) }
 {
     write_hexadecimal(&[unit[0]], out)?;

@@ -9,6 +9,8 @@ pub enum Form {
     Long,
     /// A line of /etc/hosts.
     Hosts,
+    /// An object of JSON.
+    Json,
 }
 
 /// How the hosts that replied are printed.

@@ -10,6 +10,7 @@ use crate::form::Form;
 use crate::hearing::Heard;
 use crate::host::Host;
 use crate::hosts_line::write_hosts_line;
+use crate::json::write_object;
 use crate::names_below::write_names_below;
 use std::alloc::AllocError;
 
@@ -22,6 +23,7 @@ pub fn write_host(form: Form, heard: &Heard<'_>, out: &mut String) -> Result<(),
         Form::Plain => write_columns(heard.ip, &host, out),
         Form::Long => write_long(heard.ip, &host, heard.names, out),
         Form::Hosts => write_hosts_line(heard.ip, &host, out),
+        Form::Json => write_object(heard.ip, &host, heard.names, out),
     }
 }
 
