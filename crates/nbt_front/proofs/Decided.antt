@@ -1,5 +1,5 @@
 -- Of which messages a front decides.
-use Rattle.std.proofs.Common.{◌≡◌, ℕ, ◌<◌, List, [], ◌∷◌, length, zero, suc, Option, Some, None, inl, inr, refl, sym, ap, ◌∙◌, arith, slice_index_or}
+use Rattle.std.proofs.Common.{◌≡◌, ℕ, ◌<◌, List, [], ◌∷◌, length, zero, suc, Option, Some, None, inl, inr, refl, arith, slice_index_or}
 use Rattle.std.specs.Prelude.{◌⊎◌, Contains}
 use Rattle.std.proofs.lemmas.Bool.{cases_eq}
 use Rattle.nbt_name.specs.Wire.{NameValue}
@@ -8,7 +8,7 @@ use Rattle.nbt_name.specs.declared.addr.Kind.TheVariants.{Unique, Group}
 use Rattle.nbt_packet.specs.declared.message.Registration.{Registration}
 use Rattle.nbt_packet.specs.Message.{MessageValue, release}
 use Rattle.nbt_server.specs.Serving.{AsksFor}
-use Rattle.nbt_front.specs.FixedNames.{FixedNames, FixedValue, fixed_of}
+use Rattle.nbt_front.specs.FixedNames.{FixedValue, fixed_of}
 use Rattle.nbt_front.specs.Networks.{IsAllowed}
 use Rattle.nbt_front.specs.Deciding.{FrontValue, Claims, by_request, by_overwrite, IsHolder, Decides, confirms, refuses, refuses_overwrite, confirms_release, refuses_release, finds, turns_away, Passes, IsAbout, claims_it, releases_it, queries_it, IsOfFixed, IsUnallowed}
 use Rattle.nbt_front.specs.declared.deciding.Decision.{Decision}

@@ -1,5 +1,5 @@
 -- A file of fixed names, line by line.
-use Rattle.std.proofs.Common.{◌≡◌, ◌∙◌, ℕ, ◌+◌, ◌<◌, List, [], ◌∷◌, length, drop, sym, ap, subst, arith, slice_index_or, Bor}
+use Rattle.std.proofs.Common.{◌≡◌, ℕ, ◌+◌, ◌<◌, List, [], length, drop, sym, ap, subst, arith, slice_index_or, Bor}
 use Rattle.std.proofs.lemmas.List.{drop_more}
 use Rattle.nbt_text.specs.Texts.{texts}
 use Rattle.nbt_text.specs.Lines.{lines}

@@ -1,15 +1,14 @@
 -- A front decides of a message in one way, and with one reply.
 use Rattle.std.proofs.Common.{◌≡◌, ℕ, Option, Some, None, inl, inr, refl, sym, ap, ◌∙◌, false}
 use Rattle.std.specs.Prelude.{◌⊎◌}
-use Rattle.nbt_name.specs.Wire.{NameValue}
 use Rattle.nbt_name.specs.declared.addr.Kind.{Kind}
 use Rattle.nbt_packet.specs.declared.message.Registration.{Registration}
 use Rattle.nbt_packet.specs.Message.{MessageValue, registration, overwrite, refresh, release, query, registered, released, found}
 use Rattle.nbt_lease.specs.Config.{granted}
-use Rattle.nbt_server.specs.Serving.{AsksFor, by_registration, by_refresh, refusal, refused_error, active_error}
+use Rattle.nbt_server.specs.Serving.{by_registration, by_refresh, refusal, refused_error, active_error}
 use Rattle.nbt_front.specs.FixedNames.{FixedValue, fixed_of}
 use Rattle.nbt_front.specs.Networks.{IsAllowed}
-use Rattle.nbt_front.specs.Deciding.{FrontValue, Claims, by_request, by_overwrite, IsHolder, entries_of, Decides, confirms, refuses, refuses_overwrite, confirms_release, refuses_release, finds, turns_away}
+use Rattle.nbt_front.specs.Deciding.{FrontValue, by_request, by_overwrite, IsHolder, entries_of, Decides, confirms, refuses, refuses_overwrite, confirms_release, refuses_release, finds, turns_away}
 use Rattle.nbt_front.specs.declared.deciding.Decision.{Decision}
 use Rattle.nbt_front.specs.declared.deciding.Decision.TheVariants.{NotAllowed, FixedRefused, FixedConfirmed, FixedFound}
 

@@ -1,12 +1,11 @@
 -- What becomes of a receive beneath a front.
-use Rattle.std.proofs.Common.{◌≡◌, ℕ, List, Option, Some, None, Result, Ok, Err, refl, sym, subst}
+use Rattle.std.proofs.Common.{◌≡◌, ℕ, List, Option, Some, None, Result, Ok, Err, sym, subst}
 use Rattle.nbt_name.specs.declared.addr.Addr.{Addr}
 use Rattle.nbt_packet.specs.Message.{MessageValue}
 use Rattle.nbt_packet.specs.Spelling.{Spells, AreWritten}
-use Rattle.nbt_packet.specs.Text.{text}
 use Rattle.nbt_port.specs.PortCalls.{PortCall, nothing_came, came, receive_failed, sent, send_failed, receiving, sending}
 use Rattle.nbt_port.specs.declared.port.Device.{Device}
-use Rattle.nbt_front.specs.Deciding.{FrontValue, Decides, DecidesOctets, Passes}
+use Rattle.nbt_front.specs.Deciding.{FrontValue, Decides, Passes}
 use Rattle.nbt_front.specs.FrontPort.{Fronted, IsOther, FrontDoes, hands_on, answers, can_not_answer}
 use Rattle.nbt_front.specs.declared.deciding.Decision.{Decision}
 

@@ -1,6 +1,6 @@
 -- What is done with a message, by what was found of its name.
-use Rattle.std.proofs.Common.{◌≡◌, ℕ, List, [], Bool, true, false, Option, Some, None, inl, inr, refl}
-use Rattle.std.specs.Prelude.{◌↔◌, ◌⊎◌, IfSome, IfNone}
+use Rattle.std.proofs.Common.{◌≡◌, ℕ, List, Bool, true, false, Option, Some, None, inl, inr, refl}
+use Rattle.std.specs.Prelude.{◌↔◌, IfSome, IfNone}
 use Rattle.nbt_name.specs.Wire.{NameValue}
 use Rattle.nbt_name.specs.declared.addr.Kind.{Kind}
 use Rattle.nbt_packet.specs.declared.message.Message.{Message}
@@ -8,10 +8,10 @@ use Rattle.nbt_packet.specs.declared.message.Message.TheVariants as code
 use Rattle.nbt_packet.specs.declared.message.Registration.{Registration}
 use Rattle.nbt_packet.specs.Message.{MessageValue, message_of, message_if, registration, overwrite, refresh, release, query}
 use Rattle.nbt_packet.specs.Spelling.{Spells}
-use Rattle.nbt_server.specs.Serving.{AsksFor, by_registration, by_refresh}
+use Rattle.nbt_server.specs.Serving.{by_registration, by_refresh}
 use Rattle.nbt_front.specs.FixedNames.{fixed_of}
 use Rattle.nbt_front.specs.Networks.{IsAllowed}
-use Rattle.nbt_front.specs.Deciding.{FrontValue, Claims, by_request, by_overwrite, Decides, Passes}
+use Rattle.nbt_front.specs.Deciding.{FrontValue, Claims, by_request, by_overwrite, Passes}
 use Rattle.nbt_front.specs.declared.deciding.Decision.{Decision}
 use Rattle.nbt_front.proofs.OneDecision.{Asked, Overwritten, Gets, gets, not_both}
 

@@ -1,11 +1,11 @@
 -- What a front does with a message before a server sees it (our profile; the replies are those of RFC 1002 sections 4.2.5, 4.2.6, 4.2.10,
 -- 4.2.11 and 4.2.13).
-use Rattle.std.specs.Prelude.{◌≡◌, ℕ, ◌⊎◌, false, List, [], Option, Some, None, Contains}
+use Rattle.std.specs.Prelude.{◌≡◌, ℕ, false, List, Some, None, Contains}
 use Rattle.std.specs.List.{flat_map}
 use Rattle.nbt_name.specs.Wire.{NameValue}
 use Rattle.nbt_name.specs.declared.addr.Kind.{Kind}
 use Rattle.nbt_packet.specs.declared.message.Registration.{Registration}
-use Rattle.nbt_packet.specs.Message.{MessageValue, registration, overwrite, refresh, release, query, registered, released, found}
+use Rattle.nbt_packet.specs.Message.{MessageValue, overwrite, release, query, registered, released, found}
 use Rattle.nbt_packet.specs.Spelling.{Spells}
 use Rattle.nbt_packet.specs.Text.{entry}
 use Rattle.nbt_lease.specs.Config.{granted}

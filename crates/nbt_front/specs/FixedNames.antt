@@ -1,5 +1,5 @@
 -- Names that are always there (our profile).
-use Rattle.std.specs.Prelude.{◌≡◌, ℕ, ◌<◌, ◌≤◌, List, length, Option}
+use Rattle.std.specs.Prelude.{ℕ, ◌<◌, ◌≤◌, List, length, Option}
 use Rattle.std.specs.Map.{lookup}
 use Rattle.nbt_name.specs.Wire.{NameValue, same_name}
 use Rattle.nbt_name.specs.declared.addr.Kind.{Kind}

@@ -3,7 +3,6 @@ use Rattle.std.specs.List.{flat_map}
 use Rattle.nbt_name.specs.declared.addr.Kind.{Kind}
 use Rattle.nbt_packet.specs.Text.{entry}
 use Rattle.nbt_packet.proofs.Sizes.{length-entry}
-use Rattle.nbt_front.specs.Deciding.{entries_of}
 use Rattle.nbt_front.proofs.deciding.respond_found.Goals as goal
 
 -- each entry has six octets

@@ -1,4 +1,4 @@
-use Rattle.std.proofs.Common.{◌≡◌, ℕ, Some, arith}
+use Rattle.std.proofs.Common.{◌≡◌, Some, arith}
 use Rattle.nbt_front.proofs.Rulings.{at_none}
 use Rattle.nbt_front.proofs.network.bits_in.Goals as goal
 

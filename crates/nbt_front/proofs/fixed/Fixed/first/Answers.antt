@@ -1,4 +1,4 @@
-use Rattle.std.proofs.Common.{◌≡◌, ℕ, List, [], ◌∷◌, ◌++◌, refl, None}
+use Rattle.std.proofs.Common.{◌≡◌, ℕ, List, [], ◌∷◌, refl, None}
 use Rattle.nbt_front.specs.Files.{Joins, first}
 use Rattle.nbt_front.specs.declared.line.FixedLine.{FixedLine}
 use Rattle.nbt_front.proofs.fixed.Fixed.first.Goals as goal

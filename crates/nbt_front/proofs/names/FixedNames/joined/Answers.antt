@@ -1,4 +1,4 @@
-use Rattle.std.proofs.Common.{◌≤◌, length, arith, rules}
+use Rattle.std.proofs.Common.{◌≤◌, length, rules}
 use Rattle.nbt_front.specs.Files.{full}
 use Rattle.nbt_front.specs.Numbers.{names_most}
 use Rattle.nbt_front.proofs.names.FixedNames.joined.Goals as goal

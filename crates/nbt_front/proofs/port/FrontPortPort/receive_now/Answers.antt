@@ -1,4 +1,4 @@
-use Rattle.std.proofs.Common.{Ok, Err}
+use Rattle.std.proofs.Common.{Err}
 use Rattle.std.proofs.lemmas.Result.{err_from_is_err_and}
 use Rattle.nbt_port.specs.PortCalls.{receiving}
 use Rattle.nbt_front.specs.FrontPort.{hands_on}
