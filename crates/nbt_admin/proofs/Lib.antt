@@ -3,4 +3,5 @@ mod Addresses
 pub mod Ends
 pub mod Reading
 mod States
+mod Runs
 mod Wanting

@@ -8,6 +8,7 @@ use nbt_args::{NoUnit, Refusal, Text};
 use nbt_lease::{Config, LIFE_MOST, LONGEST_MOST, ROWS_MOST};
 use nbt_nbns::write_refusal;
 use nbt_port::Fault;
+use nbt_scan::ADDRESSES_MOST;
 use std::alloc::{AllocError, AllocFailed, Global};
 use std::io::Write;
 use std::{fmt, io};
@@ -47,6 +48,18 @@ pub enum ArgumentFault {
     NoPath,
     /// Not a number of live leases for a client.
     ClientRows,
+    /// No network, range or address.
+    Addresses,
+    /// A network of too few or too many bits.
+    Bits,
+    /// A range whose last address is before its first.
+    Backwards,
+    /// Not a number of requests in a second.
+    Rate,
+    /// Not a time to wait for replies.
+    Wait,
+    /// Not a port.
+    Port,
 }
 
 impl ArgumentFault {
@@ -67,6 +80,12 @@ impl ArgumentFault {
             ArgumentFault::Folder => "folder",
             ArgumentFault::NoPath => "list of leases",
             ArgumentFault::ClientRows => "rows per client",
+            ArgumentFault::Addresses => "address",
+            ArgumentFault::Bits => "network",
+            ArgumentFault::Backwards => "range",
+            ArgumentFault::Rate => "rate",
+            ArgumentFault::Wait => "wait",
+            ArgumentFault::Port => "port",
         }
     }
 }
@@ -100,6 +119,14 @@ impl fmt::Display for ArgumentFault {
                 let most = ROWS_MOST;
                 write!(f, "not a whole number from 1 to {most}")
             }
+            ArgumentFault::Addresses => f.write_str(
+                "no A.B.C.D/BITS, A.B.C.D-A.B.C.D, A.B.C.D-D or A.B.C.D in decimal",
+            ),
+            ArgumentFault::Bits => f.write_str("not from /16 to /32"),
+            ArgumentFault::Backwards => f.write_str("its last address is before its first"),
+            ArgumentFault::Rate => f.write_str("not a whole number from 1 to 10000"),
+            ArgumentFault::Wait => f.write_str("not a time from 1ms to 5s"),
+            ArgumentFault::Port => f.write_str("not a whole number from 1 to 65535"),
         }
     }
 }
@@ -123,7 +150,10 @@ impl fmt::Display for BadArgument {
                 Some(reason) => write!(f, "{what} '{text}': {reason}"),
                 None => write!(f, "{what} '{text}': {fault}"),
             },
-            ArgumentFault::Life | ArgumentFault::Longest | ArgumentFault::Time => {
+            ArgumentFault::Life
+            | ArgumentFault::Longest
+            | ArgumentFault::Time
+            | ArgumentFault::Wait => {
                 match NoUnit::of(text) {
                     Some(reason) => write!(f, "{what} '{text}': {reason}"),
                     None => write!(f, "{what} '{text}': {fault}"),
@@ -143,6 +173,8 @@ pub enum Complaint {
     Short(Config),
     /// This number of names is more than a host can hold.
     Many(usize),
+    /// More addresses are given than a scan asks.
+    ManyAddresses,
 }
 
 impl Complaint {
@@ -162,6 +194,10 @@ impl Complaint {
             Complaint::Many(count) => {
                 let most = NAMES_MOST;
                 writeln!(errors, "nbt: {count} names, at most {most}")?;
+            }
+            Complaint::ManyAddresses => {
+                let most = ADDRESSES_MOST;
+                writeln!(errors, "nbt: too many addresses, at most {most}")?;
             }
         }
         errors.flush()

@@ -6,7 +6,7 @@ ghost use Rattle.nbt_args.specs.Refusal.{IsWrongUsage};
 
 use crate::argument::command_of;
 use crate::refusal::Refusal;
-use crate::{admin, bench, network};
+use crate::{admin, bench, network, scan};
 use clap::error::ErrorKind;
 use clap::{Command, Error};
 use std::alloc::{AllocError, Global};
@@ -15,7 +15,7 @@ const ABOUT: &str =
     "NetBIOS over TCP and UDP, as RFC 1001 and RFC 1002 specify it: names, and the packets of the name service";
 
 const HELP: &str = "\
-`lookup`, `status`, `nbns`, `host` and `release` are for people who run a network. The others are a bench on which the protocol
+`lookup`, `status`, `nbns`, `host`, `release` and `scan` are for people who run a network. The others are a bench on which the protocol
 is tried: their words and texts are fixed.
 
 Examples:
@@ -25,7 +25,7 @@ Examples:
 Exit status:
   0  done
   1  an address, a hexadecimal text or the input can't be read (prints `unreadable`), or octets are refused; of `lookup` and
-     `status`: not found; of `release`: a name was not released
+     `status`: not found; of `release`: a name was not released; of `scan`: no host replied
   2  wrong usage; of the commands for people also a word that can't be read
   3  input or output failed; prints `device` where it can
   4  an allocation was refused; prints `memory`
@@ -39,6 +39,7 @@ pub fn program<'a>(alloc: Global) -> Result<Command<'a>, AllocError> {
         &admin::NBNS,
         &admin::HOST,
         &admin::RELEASE,
+        &scan::SCAN,
         &bench::ANSWER,
         &bench::SHOW,
         &bench::CHECK,
