@@ -2,7 +2,7 @@
 
 _nbt() {
     local word=${COMP_WORDS[COMP_CWORD]} before=${COMP_WORDS[COMP_CWORD - 1]} given words='' reply
-    local commands='lookup status nbns host release answer show check sim serve node loop help' arguments=0
+    local commands='lookup status nbns host release scan answer show check sim serve node loop help' arguments=0
     COMPREPLY=()
 
     # bash has `--leases=file` as three words.
@@ -12,7 +12,7 @@ _nbt() {
         word=''
     fi
     case $before in
-    --at | --server | --bind | --scope | --wait | --life | --longest | --for | --rows-per-client | --allow | --group) return ;;
+    --at | --rate | --port | --server | --bind | --scope | --wait | --life | --longest | --for | --rows-per-client | --allow | --group) return ;;
     --leases | --hosts | --stats | --fixed)
         compopt -o filenames 2>/dev/null
         mapfile -t COMPREPLY < <(compgen -f -- "$word")
@@ -43,6 +43,7 @@ _nbt() {
         status) words='--scope --exact --tries --wait --bind --help' ;;
         nbns) words='--bind --life --longest --for --log --log-broadcasts --leases --hosts --stats --strict --rows-per-client --allow --fixed --state --silent-after-boot --help' ;;
         host | release) words='--server --bind --group --scope --exact --life --longest --for --log --help' ;;
+        scan) words='--rate --tries --wait --port --bind --sorted --long --hosts --help' ;;
         answer) words='--at --help' ;;
         show) words='--explain --help' ;;
         serve | node) words='--forever --help' ;;

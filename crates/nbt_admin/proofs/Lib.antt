@@ -4,4 +4,5 @@ pub mod Ends
 mod Networks
 pub mod Reading
 mod States
+mod Runs
 mod Wanting

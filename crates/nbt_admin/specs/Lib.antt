@@ -4,5 +4,6 @@ pub mod Failures
 pub mod Files
 pub mod Fronts
 pub mod Running
+pub mod Scans
 pub mod Texts
 pub mod Times

@@ -2,7 +2,7 @@
 use Rattle.std.specs.Prelude.{◌≡◌, ◌⊎◌, ℕ, Bool, if◌then◌else◌, List, Option}
 use Rattle.std.specs.Io.KnownBytes.{Appends}
 use Rattle.nbt_args.specs.declared.texts.AdminLine.{AdminLine}
-use Rattle.nbt_args.specs.declared.texts.AdminLine.TheVariants.{Lookup, Status, Nbns, Host, Release}
+use Rattle.nbt_args.specs.declared.texts.AdminLine.TheVariants.{Lookup, Status, Nbns, Host, Release, Scan}
 use Rattle.nbt_client.specs.Answers.{answer_status}
 use Rattle.nbt_client.specs.Asking.{AsksHere}
 use Rattle.nbt_client.specs.declared.answer.Answer.{Answer}
@@ -15,6 +15,9 @@ use Rattle.nbt_admin.specs.Fronts.{GivesFixed, FixedFails}
 use Rattle.nbt_front.specs.FixedNames.{FixedNames}
 use Rattle.nbt_release.specs.Running.{ReleasesHere}
 use Rattle.nbt_admin.specs.Failures.{IsFault}
+use Rattle.nbt_admin.specs.Scans.{ScanGiven, ScanFails}
+use Rattle.nbt_admin.specs.declared.scanning.ScanArguments.{ScanArguments}
+use Rattle.nbt_scan.specs.Running.{ScansHere}
 use Rattle.nbt_admin.specs.Texts.{NameFails, SoughtFails}
 use Rattle.nbt_admin.specs.declared.asking.AskArguments.{AskArguments}
 use Rattle.nbt_admin.specs.declared.failure.Failure.{Failure}
@@ -43,6 +46,12 @@ pub record ReleasedHere (a : HostArguments) (status : ℕ) (old_text text : Opti
 abbrev pub with_fixed : FixedNames → ServerArguments → ServerArguments
 with_fixed names a = record a { nbns = record a.nbns { front = record a.nbns.front { fixed = names } } }
 
+-- The addresses were asked, and the status says whether any replied.
+pub record ScannedHere (a : ScanArguments) (status : ℕ) (old_text text : Option (List ℕ)) : Type 0 where
+  pub any : Bool
+  pub scans : ScansHere a.bind a.plan a.layout any old_text text
+  pub status_is : status ≡ (if any then 0 else 1)
+
 -- the command ran with the arguments that its texts give
 abbrev pub Runs : AdminLine → (status : ℕ) → (old_text text : Option (List ℕ)) → Type 0
 Runs (Lookup texts) status old_text text = (a : AskArguments) × AskGiven AsksServer texts a × AskedHere a status old_text text
@@ -50,6 +59,7 @@ Runs (Status texts) status old_text text = (a : AskArguments) × AskGiven AsksHo
 Runs (Nbns texts) status old_text text = (a : ServerArguments) × ServerGiven texts a × (names : FixedNames) × GivesFixed texts.fixed names × (status ≡ 0) × RunsServer (with_fixed names a) old_text text
 Runs (Host texts) status old_text text = (a : HostArguments) × HostGiven texts a × HostedHere a status old_text text
 Runs (Release texts) status old_text text = (a : HostArguments) × ReleaseGiven texts a × ReleasedHere a status old_text text
+Runs (Scan texts) status old_text text = (a : ScanArguments) × ScanGiven texts a × ScannedHere a status old_text text
 
 -- the first argument that is wrong is reported
 abbrev pub Refuses : AdminLine → Failure → Type 0
@@ -58,6 +68,7 @@ Refuses (Status texts) failure = AskFails (NameFails texts.exact texts.scope.now
 Refuses (Nbns texts) failure = ServerFails texts failure
 Refuses (Host texts) failure = HostFails texts failure
 Refuses (Release texts) failure = ReleaseFails texts failure
+Refuses (Scan texts) failure = ScanFails texts failure
 
 -- a line of the file of fixed names is wrong
 abbrev pub RefusesFile : AdminLine → Failure → Type 0

@@ -83,7 +83,7 @@ fn patience(alloc: Global, command: LimitedCommand, tries: &str, wait: &str) -> 
 }
 
 /// Returns the number of requests that TRIES names.
-fn tries_of(text: &str) -> u32
+pub(crate) fn tries_of(text: &str) -> u32
     ensures once { (result ≡ 1) ↔ (text.now ≡ codes "1") }
     ensures twice { (result ≡ 2) ↔ (text.now ≡ codes "2") }
     ensures tries_at_least { 1 ≤ result }

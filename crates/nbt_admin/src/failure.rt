@@ -9,6 +9,7 @@ use nbt_front::LineFault;
 use nbt_lease::{Config, LIFE_MOST, LONGEST_MOST, ROWS_MOST};
 use nbt_nbns::write_refusal;
 use nbt_port::Fault;
+use nbt_scan::ADDRESSES_MOST;
 use std::alloc::{AllocError, AllocFailed, Global};
 use std::io::Write;
 use std::{fmt, io};
@@ -56,6 +57,18 @@ pub enum ArgumentFault {
     ClientRows,
     /// Not a network.
     Network,
+    /// No network, range or address.
+    Addresses,
+    /// A network of too few or too many bits.
+    Bits,
+    /// A range whose last address is before its first.
+    Backwards,
+    /// Not a number of requests in a second.
+    Rate,
+    /// Not a time to wait for replies.
+    Wait,
+    /// Not a port.
+    Port,
 }
 
 impl ArgumentFault {
@@ -80,6 +93,12 @@ impl ArgumentFault {
             ArgumentFault::PathTwice => "file",
             ArgumentFault::ClientRows => "rows per client",
             ArgumentFault::Network => "network",
+            ArgumentFault::Addresses => "address",
+            ArgumentFault::Bits => "network",
+            ArgumentFault::Backwards => "range",
+            ArgumentFault::Rate => "rate",
+            ArgumentFault::Wait => "wait",
+            ArgumentFault::Port => "port",
         }
     }
 }
@@ -120,6 +139,14 @@ impl fmt::Display for ArgumentFault {
             ArgumentFault::Network => f.write_str(
                 "no A.B.C.D/BITS or A.B.C.D in decimal, with 0 to 32 bits",
             ),
+            ArgumentFault::Addresses => f.write_str(
+                "no A.B.C.D/BITS, A.B.C.D-A.B.C.D, A.B.C.D-D or A.B.C.D in decimal",
+            ),
+            ArgumentFault::Bits => f.write_str("not from /16 to /32"),
+            ArgumentFault::Backwards => f.write_str("its last address is before its first"),
+            ArgumentFault::Rate => f.write_str("not a whole number from 1 to 10000"),
+            ArgumentFault::Wait => f.write_str("not a time from 1ms to 5s"),
+            ArgumentFault::Port => f.write_str("not a whole number from 1 to 65535"),
         }
     }
 }
@@ -143,7 +170,10 @@ impl fmt::Display for BadArgument {
                 Some(reason) => write!(f, "{what} '{text}': {reason}"),
                 None => write!(f, "{what} '{text}': {fault}"),
             },
-            ArgumentFault::Life | ArgumentFault::Longest | ArgumentFault::Time => {
+            ArgumentFault::Life
+            | ArgumentFault::Longest
+            | ArgumentFault::Time
+            | ArgumentFault::Wait => {
                 match NoUnit::of(text) {
                     Some(reason) => write!(f, "{what} '{text}': {reason}"),
                     None => write!(f, "{what} '{text}': {fault}"),
@@ -183,6 +213,8 @@ pub enum Complaint {
     Short(Config),
     /// This number of names is more than a host can hold.
     Many(usize),
+    /// More addresses are given than a scan asks.
+    ManyAddresses,
 }
 
 impl Complaint {
@@ -203,6 +235,10 @@ impl Complaint {
             Complaint::Many(count) => {
                 let most = NAMES_MOST;
                 writeln!(errors, "nbt: {count} names, at most {most}")?;
+            }
+            Complaint::ManyAddresses => {
+                let most = ADDRESSES_MOST;
+                writeln!(errors, "nbt: too many addresses, at most {most}")?;
             }
         }
         errors.flush()

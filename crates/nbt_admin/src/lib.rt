@@ -1,4 +1,4 @@
-//! The commands for people who run a network, `lookup`, `status`, `nbns`, `host` and `release` (our profile).
+//! The commands for people who run a network, `lookup`, `status`, `nbns`, `host`, `release` and `scan` (our profile).
 //!
 //! [`run`] reads the arguments whose texts `nbt_args` found, runs the command on this machine, prints its output, and returns the status.
 #![tactic(auto)]
@@ -11,7 +11,9 @@ mod hosting;
 mod naming;
 mod reason;
 mod running;
+mod scanning;
 mod serving;
+mod spans;
 mod timing;
 
 pub use asking::AskArguments;

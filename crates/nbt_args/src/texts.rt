@@ -6,6 +6,7 @@ ghost use Rattle.nbt_args.specs.Inner.Matches.{IsFlag, Tells, TellsTurns, argume
 
 use crate::program::program;
 use crate::refusal::Refusal;
+use crate::scan::{ScanTexts, scan_texts};
 use clap::error::ErrorKind;
 use clap::{ArgMatches, Command};
 use std::alloc::{AllocError, Global};
@@ -154,6 +155,7 @@ pub enum AdminLine<'a> {
     Nbns(NbnsTexts<'a>),
     Host(HostTexts<'a>),
     Release(HostTexts<'a>),
+    Scan(ScanTexts<'a>),
 }
 
 /// A command, with the texts of its arguments.
@@ -216,6 +218,7 @@ fn line_of<'a>(
         "nbns" => CommandLine::Admin(AdminLine::Nbns(nbns_texts(alloc, matches)?)),
         "host" => CommandLine::Admin(AdminLine::Host(host_texts(alloc, matches)?)),
         "release" => CommandLine::Admin(AdminLine::Release(host_texts(alloc, matches)?)),
+        "scan" => CommandLine::Admin(AdminLine::Scan(scan_texts(alloc, matches)?)),
         "answer" => CommandLine::Answer(answer_texts(matches)),
         "show" => CommandLine::Show(show_texts(matches)),
         "check" => CommandLine::Check,
@@ -316,7 +319,7 @@ fn host_texts<'a>(alloc: Global, matches: &ArgMatches<'a>) -> Result<HostTexts<'
 }
 
 /// Returns the texts of an argument that may be repeated, in order.
-fn arguments<'a>(
+pub(crate) fn arguments<'a>(
     alloc: Global,
     matches: &ArgMatches<'a>,
     name: &str,
@@ -412,7 +415,7 @@ fn turns<'a>(matches: &ArgMatches<'a>) -> Option<&'a str>
 }
 
 /// Returns the text of an argument. Each is required or has a default, except a scope, which is empty if it isn't given.
-fn argument<'a>(matches: &ArgMatches<'a>, name: &str) -> &'a str
+pub(crate) fn argument<'a>(matches: &ArgMatches<'a>, name: &str) -> &'a str
     ensures { result.now ≡ argument_of matches.now name.now }
 {
     match matches.get_str(name) {

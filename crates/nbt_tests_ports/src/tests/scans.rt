@@ -4,7 +4,10 @@ use super::expect::{expect, expect_eq, expect_eq_in};
 use super::stage::{Scene, play_on};
 use nbt_name::Addr;
 use nbt_port::{Fault, MemoryClock, MemoryPort, Port, UdpPort};
-use nbt_scan::{Form, Layout, Plan, are_ascending, place_of, run_scan, scan_over};
+use nbt_scan::{
+    Form, Layout, Plan, Span, SpanFault, addresses_of, are_ascending, are_few, place_of, run_scan,
+    scan_over, span_of,
+};
 use nbt_server::Server;
 use nbt_testing::{Row, expect_sent};
 use std::process::Abort;
@@ -43,24 +46,30 @@ const ALL: &[u32] = &[0xC0000207, 0xC0000208, 0xC0000209];
 const REQUEST: &str = "0001 0000 one-name STAR NBSTAT";
 
 /// A file server in a workgroup, where FRED is logged in: FILER#00, FILER#03, FRED#03, FILER#20, and OFFICE#00 as a group, with its unit id.
-const FILER: &str = "0001 8400 reply STAR NBSTAT 0s 0061 05 46494c45522020202020202020202000 0400 46494c45522020202020202020202003 0400 46524544202020202020202020202003 0400 46494c45522020202020202020202020 0400 4f464649434520202020202020202000 8400 005056c00008";
+const FILER: &str =
+    "0001 8400 reply STAR NBSTAT 0s 0061 05 46494c45522020202020202020202000 0400 46494c45522020202020202020202003 0400 46524544202020202020202020202003 0400 46494c45522020202020202020202020 0400 4f464649434520202020202020202000 8400 005056c00008";
 
-const FILER_LINE: &str = "192.0.2.7        FILER            OFFICE           FRED             server  00:50:56:c0:00:08\n";
+const FILER_LINE: &str =
+    "192.0.2.7        FILER            OFFICE           FRED             server  00:50:56:c0:00:08\n";
 
 /// A host with one name, DESK#00, and nothing behind it.
 const DESK: &str = "0001 8400 reply STAR NBSTAT 0s 0013 01 4445534b202020202020202020202000 0400";
 
-const DESK_LINE: &str = "192.0.2.8        DESK             -                -                -       -\n";
+const DESK_LINE: &str =
+    "192.0.2.8        DESK             -                -                -       -\n";
 
 /// A host without names, whose unit id is zero.
 const NAMELESS: &str = "0001 8400 reply STAR NBSTAT 0s 002f 00 statistics";
 
-const NAMELESS_LINE: &str = "192.0.2.9        -                -                -                -       -\n";
+const NAMELESS_LINE: &str =
+    "192.0.2.9        -                -                -                -       -\n";
 
 /// A host whose name has a space, MY PC#00, and serves files as DESK-#20.
-const ODD: &str = "0001 8400 reply STAR NBSTAT 0s 0025 02 4d592050432020202020202020202000 0400 4445534b2d2020202020202020202020 0400";
+const ODD: &str =
+    "0001 8400 reply STAR NBSTAT 0s 0025 02 4d592050432020202020202020202000 0400 4445534b2d2020202020202020202020 0400";
 
-const ODD_LINE: &str = "192.0.2.7        hex:4d592050432020202020202020202000  -                -                server  -\n";
+const ODD_LINE: &str =
+    "192.0.2.7        hex:4d592050432020202020202020202000  -                -                server  -\n";
 
 const AT_ONCE: Layout = Layout {
     form: Form::Plain,
@@ -186,7 +195,10 @@ const REPLIED: &[Scanned] = &[
         layout: AT_ONCE,
         moments: &[1, 1, 1, 1, 1, 1, 3, 4, 5],
         given: &[
-            (SEVEN, "0002 8400 reply STAR NBSTAT 0s 0013 01 4445534b202020202020202020202000 0400"),
+            (
+                SEVEN,
+                "0002 8400 reply STAR NBSTAT 0s 0013 01 4445534b202020202020202020202000 0400",
+            ),
             (SEVEN, "0001 0000 one-name STAR NBSTAT"),
             (STRANGER, FILER),
             (SEVEN, "0001"),
@@ -224,7 +236,12 @@ const SILENT: &[Scanned] = &[
         fails_after: None,
         any: Ok(false),
         printed: "",
-        sent: &[(SEVEN, REQUEST), (EIGHT, REQUEST), (SEVEN, REQUEST), (EIGHT, REQUEST)],
+        sent: &[
+            (SEVEN, REQUEST),
+            (EIGHT, REQUEST),
+            (SEVEN, REQUEST),
+            (EIGHT, REQUEST),
+        ],
     },
     // The last moment at which a reply counts.
     Scanned {
@@ -246,7 +263,12 @@ const SILENT: &[Scanned] = &[
         fails_after: None,
         any: Ok(true),
         printed: DESK_LINE,
-        sent: &[(SEVEN, REQUEST), (EIGHT, REQUEST), (SEVEN, REQUEST), (EIGHT, REQUEST)],
+        sent: &[
+            (SEVEN, REQUEST),
+            (EIGHT, REQUEST),
+            (SEVEN, REQUEST),
+            (EIGHT, REQUEST),
+        ],
     },
     // One that replied isn't asked again, and keeps its place.
     Scanned {
@@ -438,6 +460,60 @@ fn places_of_addresses(rt: HostRuntime) -> Result<(), Fail> {
     see_places(&rt, PLACES)
 }
 
+/// Texts, with the first and the last address that they spell, or 0 and what is wrong with them.
+const SPANS: &[(&str, u32, u32, &str)] = &[
+    ("192.0.2.7", 0xC0000207, 0xC0000207, ""),
+    ("192.0.2.7-9", 0xC0000207, 0xC0000209, ""),
+    ("192.0.2.7-192.0.3.9", 0xC0000207, 0xC0000309, ""),
+    ("192.0.2.7-7", 0xC0000207, 0xC0000207, ""),
+    // The first and the last address of a network are no host's, where it has more than two.
+    ("192.0.2.0/24", 0xC0000201, 0xC00002FE, ""),
+    ("192.0.2.77/24", 0xC0000201, 0xC00002FE, ""),
+    ("192.0.2.4/30", 0xC0000205, 0xC0000206, ""),
+    ("192.0.2.4/31", 0xC0000204, 0xC0000205, ""),
+    ("192.0.2.4/32", 0xC0000204, 0xC0000204, ""),
+    ("255.255.255.255/16", 0xFFFF0001, 0xFFFFFFFE, ""),
+    ("0.0.0.0/16", 0x00000001, 0x0000FFFE, ""),
+    ("192.0.2.0/15", 0, 0, "bits"),
+    ("192.0.2.0/33", 0, 0, "bits"),
+    ("192.0.2.0/", 0, 0, "bits"),
+    ("192.0.2.0/2a", 0, 0, "bits"),
+    ("192.0.2/24", 0, 0, "address"),
+    ("192.0.2.0-9/24", 0, 0, "address"),
+    ("192.0.2.9-8", 0, 0, "backwards"),
+    ("192.0.2.9-192.0.1.10", 0, 0, "backwards"),
+    ("192.0.2.9-256", 0, 0, "address"),
+    ("192.0.2.9-", 0, 0, "address"),
+    ("192.0.2.9-1.2", 0, 0, "address"),
+    ("192.0.2.256", 0, 0, "address"),
+    ("192.0.2.07", 0, 0, "address"),
+    ("192.0.2.7:137", 0, 0, "address"),
+    ("", 0, 0, "address"),
+];
+
+fn told(span: Result<Span, SpanFault>) -> (u32, u32, &'static str) {
+    match span {
+        Ok(span) => (span.first, span.last, ""),
+        Err(SpanFault::Address) => (0, 0, "address"),
+        Err(SpanFault::Bits) => (0, 0, "bits"),
+        Err(SpanFault::Backwards) => (0, 0, "backwards"),
+    }
+}
+
+fn see_spans<R: Abort>(rt: &R, spans: &[(&'static str, u32, u32, &'static str)]) {
+    for (text, first, last, fault) in spans {
+        let (begins, ends, wrong) = told(span_of(text));
+        expect_eq_in(rt, text, &begins, first);
+        expect_eq_in(rt, text, &ends, last);
+        expect_eq_in(rt, text, &wrong, fault);
+    }
+}
+
+#[test]
+fn networks_ranges_and_addresses(rt: HostRuntime) {
+    see_spans(&rt, SPANS);
+}
+
 /// What a scan can't do: addresses that aren't ascending, or twice the same; a rate of 0; no pass.
 #[test]
 fn plans_that_no_scan_does(rt: HostRuntime) -> Result<(), Fail> {
@@ -476,7 +552,15 @@ fn a_scan_over_this_machine(rt: HostRuntime) -> Result<(), Fail> {
     };
     let mut printed = Vec::new(rt.alloc());
     let mut errors = Vec::new(rt.alloc());
-    let any = run_scan(&rt, rt.alloc(), here, &plan, AT_ONCE, &mut printed, &mut errors);
+    let any = run_scan(
+        &rt,
+        rt.alloc(),
+        here,
+        &plan,
+        AT_ONCE,
+        &mut printed,
+        &mut errors,
+    );
     expect_eq(&rt, &any, &Ok(false));
     expect(&rt, printed.is_empty());
     expect(&rt, errors.is_empty());
@@ -500,13 +584,59 @@ fn a_scan_from_an_address_in_use(rt: HostRuntime) -> Result<(), Fail> {
     let _taken = UdpPort::bind(&rt, here)?;
     let mut printed = Vec::new(rt.alloc());
     let mut errors = Vec::new(rt.alloc());
-    let any = run_scan(&rt, rt.alloc(), here, &plan, AT_ONCE, &mut printed, &mut errors);
+    let any = run_scan(
+        &rt,
+        rt.alloc(),
+        here,
+        &plan,
+        AT_ONCE,
+        &mut printed,
+        &mut errors,
+    );
     expect_eq(&rt, &any, &Err(Fault::NoPort));
     expect(&rt, printed.is_empty());
     expect_eq(
         &rt,
         &str::from_utf8(errors.as_slice())?,
         &"nbt: 127.42.23.5:20193: Address already in use (os error 98)\n",
+    );
+    Ok(())
+}
+
+/// Runs of addresses that overlap: each address once, in order. And how many there may be.
+#[test]
+fn addresses_of_runs(rt: HostRuntime) -> Result<(), Fail> {
+    let runs = [
+        Span { first: 7, last: 9 },
+        Span { first: 1, last: 2 },
+        Span { first: 8, last: 10 },
+    ];
+    expect(&rt, are_few(&runs));
+    let ips = addresses_of(rt.alloc(), &runs)?;
+    expect_eq(&rt, &ips.as_slice(), &[1, 2, 7, 8, 9, 10].as_slice());
+    expect(
+        &rt,
+        are_few(&[Span {
+            first: 0,
+            last: 0xFFFF,
+        }]),
+    );
+    expect(
+        &rt,
+        !are_few(&[
+            Span {
+                first: 0,
+                last: 0xFFFF,
+            },
+            Span { first: 0, last: 0 },
+        ]),
+    );
+    expect(
+        &rt,
+        !are_few(&[Span {
+            first: 0,
+            last: 0xFFFF_FFFF,
+        }]),
     );
     Ok(())
 }
