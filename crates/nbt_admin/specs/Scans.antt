@@ -3,7 +3,7 @@ use Rattle.std.specs.Prelude.{◌≡◌, ◌⊎◌, ℕ, ◌≤◌, ◌↔◌, B
 use Rattle.std.specs.Borrow.{Bor}
 use Rattle.nbt_text.specs.Address.{SpellsSource}
 use Rattle.nbt_scan.specs.declared.form.Form.{Form}
-use Rattle.nbt_scan.specs.declared.form.Form.TheVariants.{Plain, Long, Hosts}
+use Rattle.nbt_scan.specs.declared.form.Form.TheVariants.{Plain, Long, Hosts, Json}
 use Rattle.nbt_scan.specs.declared.span.Span.{Span}
 use Rattle.nbt_scan.specs.Spans.{AreFew, AreOf}
 use Rattle.nbt_scan.specs.Words.{SpellsSpan, SpellsWithin, IsWithin}
@@ -43,10 +43,11 @@ rate_most = 10000
 abbrev pub port_most : ℕ
 port_most = 65535
 
-abbrev pub form_of : (long hosts : Bool) → Form
-form_of long true = Hosts
-form_of true false = Long
-form_of false false = Plain
+abbrev pub form_of : (long hosts json : Bool) → Form
+form_of long hosts true = Json
+form_of long true false = Hosts
+form_of true false false = Long
+form_of false false false = Plain
 
 pub record ScanGiven (texts : ScanTexts) (a : ScanArguments) : Type 0 where
   pub spans : List Span
@@ -61,7 +62,7 @@ pub record ScanGiven (texts : ScanTexts) (a : ScanArguments) : Type 0 where
   pub wait_is : SpellsWait texts.wait.now a.plan.wait
   pub port_is : SpellsWithin 1 port_most texts.port.now a.plan.port
   pub bind_is : SpellsSource texts.bind.now a.bind
-  pub form_is : a.layout.form ≡ form_of texts.long texts.hosts
+  pub form_is : a.layout.form ≡ form_of texts.long texts.hosts texts.json
   pub sorted_is : a.layout.sorted ≡ texts.sorted
 
 abbrev pub WaitFails : List ℕ → Failure → Type 0

@@ -58,7 +58,7 @@ pub fn scan_arguments(alloc: Global, texts: &ScanTexts<'_>) -> Result<ScanArgume
         wait,
     };
     let layout = Layout {
-        form: form_of(texts.long, texts.hosts),
+        form: form_of(texts.long, texts.hosts, texts.json),
         sorted: texts.sorted,
     };
     Ok(ScanArguments { bind, plan, layout })
@@ -88,9 +88,12 @@ fn wait_of(alloc: Global, text: &str) -> Result<u32, Failure>
 }
 
 /// Returns how a host is printed.
-fn form_of(long: bool, hosts: bool) -> Form
-    ensures { result ≡ form_of long hosts }
+fn form_of(long: bool, hosts: bool, json: bool) -> Form
+    ensures { result ≡ form_of long hosts json }
 {
+    if json {
+        return Form::Json;
+    }
     if hosts {
         return Form::Hosts;
     }

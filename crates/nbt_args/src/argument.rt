@@ -37,6 +37,8 @@ pub enum Presence {
     With(&'static str),
     /// Optional, and not beside the argument of this name.
     Apart(&'static str),
+    /// Optional, and beside neither of the arguments of these names.
+    ApartFrom(&'static str, &'static str),
     /// Either this argument is required or the argument of this name, and not both.
     InsteadOf(&'static str),
 }
@@ -98,6 +100,7 @@ fn arg_of<'a>(alloc: Global, argument: &Argument) -> Result<Arg<'a>, AllocError>
         Presence::Default(value) => Ok(arg.default_value(value)),
         Presence::With(other) => arg.requires_arg(other),
         Presence::Apart(other) => arg.conflicts_with(other),
+        Presence::ApartFrom(one, other) => arg.conflicts_with(one)?.conflicts_with(other),
         Presence::Unless(other) => arg.required_unless_present(other),
         Presence::InsteadOf(other) => arg.conflicts_with(other)?.required_unless_present(other),
     }

@@ -14,6 +14,9 @@ const LONG: &str = "long";
 /// The option that prints lines for /etc/hosts.
 const HOSTS: &str = "hosts";
 
+/// The option that prints objects of JSON.
+const JSON: &str = "json";
+
 pub static SCAN: Description = Description {
     name: "scan",
     about: "Asks the hosts of a network for their names",
@@ -72,6 +75,12 @@ pub static SCAN: Description = Description {
             presence: Presence::Apart(LONG),
             help: "Prints lines for /etc/hosts instead",
         },
+        Argument {
+            name: JSON,
+            form: Form::Flag,
+            presence: Presence::ApartFrom(LONG, HOSTS),
+            help: "Prints an object of JSON for each host instead",
+        },
     ],
     help: "\
 Prints one line per host that replies: its address, its name, its workgroup or domain, who is logged in, `server` if it serves
@@ -84,7 +93,8 @@ than 31; a range as 192.0.2.10-192.0.2.20 or 192.0.2.10-20; or A.B.C.D: in decim
 all. Each is asked once, also if it is given twice. TIME is a number and its unit, as 500ms or 2s.
 
 --hosts prints `192.0.2.7 FILER`, with the name of the file server, or else of the computer. A name that isn't a host's, of
-letters, digits and hyphens, is left out.
+letters, digits and hyphens, is left out. --json prints `{"address":"192.0.2.7","computer":"FILER","workgroup":"OFFICE","user":null,
+"server":true,"unit_id":"00:50:56:c0:00:08","names":["FILER#00","FILER#20"]}`, in one line.
 
 Examples:
   nbt scan 192.0.2.0/24
@@ -119,6 +129,8 @@ pub struct ScanTexts<'a> {
     pub long: bool,
     /// Whether lines for /etc/hosts are printed.
     pub hosts: bool,
+    /// Whether objects of JSON are printed.
+    pub json: bool,
 }
 
 pub(crate) fn scan_texts<'a>(
@@ -134,6 +146,7 @@ pub(crate) fn scan_texts<'a>(
     ensures sorts { IfOk result (λ texts. Tells matches.now (codes "sorted") texts.sorted) }
     ensures names { IfOk result (λ texts. Tells matches.now (codes "long") texts.long) }
     ensures lines { IfOk result (λ texts. Tells matches.now (codes "hosts") texts.hosts) }
+    ensures objects { IfOk result (λ texts. Tells matches.now (codes "json") texts.json) }
 {
     let addresses = arguments(alloc, matches, "addresses")?;
     Ok(ScanTexts {
@@ -146,5 +159,6 @@ pub(crate) fn scan_texts<'a>(
         sorted: matches.get_flag("sorted"),
         long: matches.get_flag(LONG),
         hosts: matches.get_flag(HOSTS),
+        json: matches.get_flag(JSON),
     })
 }

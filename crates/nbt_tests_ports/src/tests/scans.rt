@@ -91,6 +91,20 @@ const HOSTS: Layout = Layout {
     sorted: false,
 };
 
+const JSON: Layout = Layout {
+    form: Form::Json,
+    sorted: false,
+};
+
+/// A host of the name A"B\\C#00.
+const QUOTED: &str = "0001 8400 reply STAR NBSTAT 0s 0013 01 4122425c432020202020202020202000 0400";
+
+const FILER_OBJECT: &str = "{\"address\":\"192.0.2.7\",\"computer\":\"FILER\",\"workgroup\":\"OFFICE\",\"user\":\"FRED\",\"server\":true,\"unit_id\":\"00:50:56:c0:00:08\",\"names\":[\"FILER#00\",\"FILER#03\",\"FRED#03\",\"FILER#20\",\"OFFICE#00\"]}\n";
+
+const QUOTED_OBJECT: &str = "{\"address\":\"192.0.2.8\",\"computer\":\"A\\\"B\\\\C\",\"workgroup\":null,\"user\":null,\"server\":false,\"unit_id\":null,\"names\":[\"A\\\"B\\\\C#00\"]}\n";
+
+const NAMELESS_OBJECT: &str = "{\"address\":\"192.0.2.9\",\"computer\":null,\"workgroup\":null,\"user\":null,\"server\":false,\"unit_id\":null,\"names\":[]}\n";
+
 /// A scan with 500 requests a second and a wait of 1,000 ms: the addresses, the most passes, how it prints, the times that the clock tells, what
 /// the port hands out, the call of the port that fails, whether any replied, what is printed, and what was sent.
 struct Scanned {
@@ -410,6 +424,40 @@ const PRINTED: &[Scanned] = &[
         any: Ok(true),
         printed: "",
         sent: &[(SEVEN, REQUEST)],
+    },
+    // An object of JSON; a name with a quotation mark and a backslash; a host without names.
+    Scanned {
+        ips: &[0xC0000207],
+        tries: 1,
+        layout: JSON,
+        moments: &[1, 1],
+        given: &[(SEVEN, FILER)],
+        fails_after: None,
+        any: Ok(true),
+        printed: FILER_OBJECT,
+        sent: &[(SEVEN, REQUEST)],
+    },
+    Scanned {
+        ips: &[0xC0000208],
+        tries: 1,
+        layout: JSON,
+        moments: &[1, 1],
+        given: &[(EIGHT, QUOTED)],
+        fails_after: None,
+        any: Ok(true),
+        printed: QUOTED_OBJECT,
+        sent: &[(EIGHT, REQUEST)],
+    },
+    Scanned {
+        ips: &[0xC0000209],
+        tries: 1,
+        layout: JSON,
+        moments: &[1, 1],
+        given: &[(NINE, NAMELESS)],
+        fails_after: None,
+        any: Ok(true),
+        printed: NAMELESS_OBJECT,
+        sent: &[(NINE, REQUEST)],
     },
 ];
 
