@@ -93,8 +93,8 @@ than 31; a range as 192.0.2.10-192.0.2.20 or 192.0.2.10-20; or A.B.C.D: in decim
 all. Each is asked once, also if it is given twice. TIME is a number and its unit, as 500ms or 2s.
 
 --hosts prints `192.0.2.7 FILER`, with the name of the file server, or else of the computer. A name that isn't a host's, of
-letters, digits and hyphens, is left out. --json prints `{"address":"192.0.2.7","computer":"FILER","workgroup":"OFFICE","user":null,
-"server":true,"unit_id":"00:50:56:c0:00:08","names":["FILER#00","FILER#20"]}`, in one line.
+letters, digits and hyphens, is left out. --json prints an object with the members address, computer, workgroup, user, server,
+unit_id and names; what a host doesn't tell is null.
 
 Examples:
   nbt scan 192.0.2.0/24
