@@ -831,6 +831,7 @@ fn receive_and_tell<R: Abort + AllocGlobal, P: Port>(
 }
 
 /// What is said of each: of what is refused a line, and of nothing else.
+#[derive(Drop)]
 struct Says<'a> {
     front: &'a Front,
 }
@@ -869,6 +870,7 @@ impl Scene for Says<'_> {
 
 /// Ten lines of a kind in a second: of 13 that are refused at 0, ten are said; at 999 still none, and at 1,000 the three, and the one
 /// at 999, are counted.
+#[derive(Drop)]
 struct SaysFew<'a> {
     front: &'a Front,
 }
@@ -905,6 +907,7 @@ fn what_is_refused_is_said_ten_times_a_second(rt: HostRuntime) -> Result<(), Fai
 }
 
 /// A call that fails: the receive, and the send of the front's own reply. Nothing was sent, and one failure is counted.
+#[derive(Drop)]
 struct Fails<'a> {
     front: &'a Front,
     call: u64,
