@@ -306,15 +306,7 @@ const SHORTER: &[Shorter<'static>] = &[
         0,
         false,
     ),
-    (
-        "no lease",
-        1,
-        File::Ends(&[]),
-        true,
-        70,
-        0,
-        false,
-    ),
+    ("no lease", 1, File::Ends(&[]), true, 70, 0, false),
     (
         "the same longest lease, and a lease that is longer than any",
         60,

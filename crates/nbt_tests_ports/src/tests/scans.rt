@@ -99,11 +99,14 @@ const JSON: Layout = Layout {
 /// A host of the name A"B\\C#00.
 const QUOTED: &str = "0001 8400 reply STAR NBSTAT 0s 0013 01 4122425c432020202020202020202000 0400";
 
-const FILER_OBJECT: &str = "{\"address\":\"192.0.2.7\",\"computer\":\"FILER\",\"workgroup\":\"OFFICE\",\"user\":\"FRED\",\"server\":true,\"unit_id\":\"00:50:56:c0:00:08\",\"names\":[\"FILER#00\",\"FILER#03\",\"FRED#03\",\"FILER#20\",\"OFFICE#00\"]}\n";
+const FILER_OBJECT: &str =
+    "{\"address\":\"192.0.2.7\",\"computer\":\"FILER\",\"workgroup\":\"OFFICE\",\"user\":\"FRED\",\"server\":true,\"unit_id\":\"00:50:56:c0:00:08\",\"names\":[\"FILER#00\",\"FILER#03\",\"FRED#03\",\"FILER#20\",\"OFFICE#00\"]}\n";
 
-const QUOTED_OBJECT: &str = "{\"address\":\"192.0.2.8\",\"computer\":\"A\\\"B\\\\C\",\"workgroup\":null,\"user\":null,\"server\":false,\"unit_id\":null,\"names\":[\"A\\\"B\\\\C#00\"]}\n";
+const QUOTED_OBJECT: &str =
+    "{\"address\":\"192.0.2.8\",\"computer\":\"A\\\"B\\\\C\",\"workgroup\":null,\"user\":null,\"server\":false,\"unit_id\":null,\"names\":[\"A\\\"B\\\\C#00\"]}\n";
 
-const NAMELESS_OBJECT: &str = "{\"address\":\"192.0.2.9\",\"computer\":null,\"workgroup\":null,\"user\":null,\"server\":false,\"unit_id\":null,\"names\":[]}\n";
+const NAMELESS_OBJECT: &str =
+    "{\"address\":\"192.0.2.9\",\"computer\":null,\"workgroup\":null,\"user\":null,\"server\":false,\"unit_id\":null,\"names\":[]}\n";
 
 /// A scan with 500 requests a second and a wait of 1,000 ms: the addresses, the most passes, how it prints, the times that the clock tells, what
 /// the port hands out, the call of the port that fails, whether any replied, what is printed, and what was sent.

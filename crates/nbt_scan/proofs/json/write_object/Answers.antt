@@ -17,7 +17,7 @@ returns c =
     let list = c.in_ok-write_names.ensures in
     let address = member (codes "{") (codes "address") (string (dotted c.args.ip)) in
     let line = address ++ next (codes "computer") computer.0 ++ next (codes "workgroup") group.0 ++ next (codes "user") user.0 ++ next (codes "server") (server_value host.server) ++ next (codes "unit_id") (unit_value host.unit) ++ next (codes "names") list.0
-        ++ codes "}" ++ newline in
+    ++ codes "}" ++ newline in
     OnOk-map c.end_line.result c.end_line.ensures (λ e. (
       line,
       record { computer = computer.0; group = group.0; user = user.0; list = list.0; computer_is = computer.1; group_is = group.1; user_is = user.1; list_is = list.1; line_is = refl },
