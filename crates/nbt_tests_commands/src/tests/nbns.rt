@@ -346,19 +346,20 @@ fn fixed_names_and_networks(rt: HostRuntime) {
 }
 
 /// Servers over one state, whose folder is the last word: the first grants two leases, the second goes on with them, and the third has
-/// another limit.
+/// another limit. Each sync reads the clock twice: at the start there is one, and one for the first two leases.
 static STATES: [Row; 3] = [
     Row {
         about: "nothing was kept",
         words: "nbt nbns --bind 127.42.22.2:20138 --longest 60s --for 60001ms --state",
         moments: &[
-            START, START, START, START, OPEN, OPEN, OPEN, OPEN, OPEN, OPEN, END,
+            START, START, START, START, START, START, OPEN, OPEN, OPEN, OPEN, OPEN, OPEN, OPEN,
+            OPEN, END,
         ],
         sends: &[(1, ASKS), (1, JOINS)],
         breaks_at: 0,
         sets: &[],
         status: 0,
-        readings: 13,
+        readings: 17,
         text: "serving 127.42.22.2:20138, silent for 60 s until 2026-11-24T09:12:03Z, since nothing was kept\n",
         errors: "",
         sent: &[GRANTED, JOINED],
@@ -371,7 +372,7 @@ static STATES: [Row; 3] = [
         breaks_at: 0,
         sets: &[],
         status: 0,
-        readings: 8,
+        readings: 10,
         text: "serving 127.42.22.2:20138, with 2 leases kept\n",
         errors: "",
         sent: &[FOUND],
@@ -384,7 +385,7 @@ static STATES: [Row; 3] = [
         breaks_at: 0,
         sets: &[],
         status: 0,
-        readings: 7,
+        readings: 9,
         text: "serving 127.42.22.2:20138, silent for 61 s until 2026-11-24T09:13:04Z, since another LONGEST\n",
         errors: "",
         sent: &[],
