@@ -20,8 +20,16 @@ when_refused f octets why (Err e) kept refused told = tt
 
 pub in_time : (f : Found) (h judged : Header) (rows seen : Rows) (monotonic day ahead time : ℕ) (is : Bool) → f.config.longest < h.longest → judged ≡ with_limits f.config h → monotonic ≡ f.monotonic → day ≡ f.day
     → going_on judged f.config f.boot.now monotonic day false ≡ Ok ahead → time ≡ speaks_anew f ahead → seen ≡ rows → IsTrue is ↔ Any (λ row. time < row.1.end) seen → OutlastsWith f h rows is
-in_time f h judged rows seen monotonic day ahead time is longer j m d going t s told = known ahead is longer (rw (← j, ← m, ← d) going) (rw (← t, ← s) told)
+in_time f h judged rows seen monotonic day ahead time is longer j m d going t s told =
+    let by_limits = subst (λ (x : Header). going_on x f.config f.boot.now monotonic day false ≡ Ok ahead) j going in
+    let by_clock = subst (λ (x : ℕ). going_on (with_limits f.config h) f.config f.boot.now x day false ≡ Ok ahead) m by_limits in
+    let by_day = subst (λ (x : ℕ). going_on (with_limits f.config h) f.config f.boot.now f.monotonic x false ≡ Ok ahead) d by_clock in
+    let at_time = subst (λ (x : ℕ). IsTrue is ↔ Any (λ row. x < row.1.end) seen) t told in
+    known ahead is longer by_day (subst (λ (x : Rows). IsTrue is ↔ Any (λ row. speaks_anew f ahead < row.1.end) x) s at_time)
 
 pub no_time : (f : Found) (h judged : Header) (rows : Rows) (monotonic day : ℕ) (why : Silence) → f.config.longest < h.longest → judged ≡ with_limits f.config h → monotonic ≡ f.monotonic → day ≡ f.day
     → going_on judged f.config f.boot.now monotonic day false ≡ Err why → OutlastsWith f h rows false
-no_time f h judged rows monotonic day why longer j m d going = not_known why longer (rw (← j, ← m, ← d) going)
+no_time f h judged rows monotonic day why longer j m d going =
+    let by_limits = subst (λ (x : Header). going_on x f.config f.boot.now monotonic day false ≡ Err why) j going in
+    let by_clock = subst (λ (x : ℕ). going_on (with_limits f.config h) f.config f.boot.now x day false ≡ Err why) m by_limits in
+    not_known why longer (subst (λ (x : ℕ). going_on (with_limits f.config h) f.config f.boot.now f.monotonic x false ≡ Err why) d by_clock)
