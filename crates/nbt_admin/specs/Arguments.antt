@@ -7,6 +7,7 @@ use Rattle.nbt_client.specs.declared.question.Question.TheVariants as q
 use Rattle.nbt_args.specs.declared.texts.LookupTexts.{LookupTexts}
 use Rattle.nbt_admin.specs.Binds.{GivesBind, IsBind, BindFails}
 use Rattle.nbt_admin.specs.Fronts.{AreNetworks, AllowFails}
+use Rattle.nbt_front.specs.Networks.{NetworkValue}
 use Rattle.nbt_admin.specs.Files.{AreFiles, FilesFail, GivesFiles}
 use Rattle.nbt_admin.specs.Failures.{IsUsage, out_of_memory, ComplainsOf}
 use Rattle.nbt_admin.specs.Times.{IsWait, SpellsPatience, IsConfigOf, AreLimits, LimitsFail, SpellsEnding, IsEnding, EndingFails, SpellsClientRows, ClientRowsFail, AreFitLimits, ShortFails}
@@ -107,9 +108,12 @@ pub record ServerGiven (texts : NbnsTexts) (a : ServerArguments) : Type 0 where
   pub none_fixed : a.nbns.front.fixed ≡ []
   pub longest : a.nbns.front.longest ≡ a.nbns.config.longest
 
--- the networks are read last
+-- the networks are read first
+abbrev pub AreAllowed : NbnsTexts → Type 0
+AreAllowed texts = (networks : List NetworkValue) × AreNetworks texts.allow.items networks
+
 abbrev pub ServerFails : NbnsTexts → Failure → Type 0
-ServerFails texts failure = NbnsFails texts failure ⊎ AllowFails texts.allow.items failure
+ServerFails texts failure = AllowFails texts.allow.items failure ⊎ (AreAllowed texts × NbnsFails texts failure)
 
 -- ---- `host`
 

@@ -1,6 +1,6 @@
 //! Reads the arguments of `nbns`.
 
-ghost use Rattle.std.specs.Prelude.{◌≡◌, IfOk, IfErr, OnOk};
+ghost use Rattle.std.specs.Prelude.{◌≡◌, [], IfOk, IfErr, OnOk};
 ghost use Rattle.std.specs.Option.{option_map};
 ghost use Rattle.std.specs.String.{string_bytes};
 ghost use Rattle.nbt_admin.specs.Arguments.{NbnsGiven, NbnsFails, ServerGiven, ServerFails, GivesState, StateFails};
@@ -12,27 +12,29 @@ use crate::failure::{ArgumentFault, Failure};
 use crate::fronting::networks_of;
 use crate::timing::{client_rows_of, config_of, ending_of, fit};
 use nbt_args::NbnsTexts;
-use nbt_front::{FixedNames, Front};
+use nbt_front::{FixedNames, Front, Network};
 use nbt_keep::{ServerArguments, StateFolder};
 use nbt_nbns::NbnsArguments;
 use std::alloc::Global;
 
-/// Reads the arguments of `nbns`. Refused as [`nbns_arguments`] has it, and then the first text that is no network. No name is fixed yet.
+/// Reads the arguments of `nbns`. Refused: the first text that is no network; and then as [`nbns_arguments`] has it. No name is fixed yet.
 pub fn server_arguments(alloc: Global, texts: &NbnsTexts<'_>) -> Result<ServerArguments, Failure>
     ensures given { IfOk result (ServerGiven texts.now) }
     ensures failure { IfErr result (ServerFails texts.now) }
 {
-    let mut arguments = nbns_arguments(alloc, texts)?;
     let allowed = networks_of(alloc, texts.allow.as_slice())?;
-    let config = arguments.nbns.config;
-    arguments.nbns.front = Front::new(allowed, FixedNames::none(alloc), config);
-    Ok(arguments)
+    nbns_arguments(alloc, texts, allowed)
 }
 
-/// Reads all of them but the networks. Refused, in this order: the life, the longest lease, the time, a longest lease that is too short for
-/// a network, the addresses, the folder of the state, the files as [`files_of`] has them, and the leases of a client.
-fn nbns_arguments(alloc: Global, texts: &NbnsTexts<'_>) -> Result<ServerArguments, Failure>
+/// Reads all of them but the networks, which these are. Refused, in this order: the life, the longest lease, the time, a longest lease that is
+/// too short for a network, the addresses, the folder of the state, the files as [`files_of`] has them, and the leases of a client.
+fn nbns_arguments(
+    alloc: Global,
+    texts: &NbnsTexts<'_>,
+    allowed: Vec<Network>,
+) -> Result<ServerArguments, Failure>
     ensures given { IfOk result (NbnsGiven texts.now) }
+    ensures front { IfOk result (λ a. a.nbns.front ≡ record { allowed = allowed.items; fixed = []; longest = a.nbns.config.longest }) }
     ensures failure { IfErr result (NbnsFails texts.now) }
 {
     let config = config_of(alloc, texts.life, texts.longest)?;
@@ -54,7 +56,7 @@ fn nbns_arguments(alloc: Global, texts: &NbnsTexts<'_>) -> Result<ServerArgument
             stats: files.stats,
             strict: texts.strict,
             rows_per_client,
-            front: Front::new(Vec::new(alloc), FixedNames::none(alloc), config),
+            front: Front::new(allowed, FixedNames::none(alloc), config),
         },
         state,
     })
