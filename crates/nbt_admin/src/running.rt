@@ -225,6 +225,7 @@ fn scan<M: Net + time::Clock, W: Write, E: Write>(
         arguments.bind,
         plan,
         arguments.layout,
+        arguments.progress,
         writer,
         errors,
     )?;
