@@ -29,12 +29,39 @@ fn is_server(arguments: &[String]) -> bool {
     }
 }
 
+/// The option of `scan` that says how far it is.
+const PROGRESS: &str = "--progress";
+
+/// Whether the arguments name `scan`, without that option.
+fn is_silent_scan(arguments: &[String]) -> bool {
+    match arguments.get(1) {
+        Some(command) if command.as_str() == "scan" => {
+            !arguments
+                .iter()
+                .any(|argument| argument.as_str() == PROGRESS)
+        }
+        _ => false,
+    }
+}
+
+/// Has a scan say how far it is. Where memory is out it doesn't.
+fn say_progress(rt: &impl AllocGlobal, arguments: &mut Vec<String>) {
+    if is_silent_scan(arguments.as_slice()) && arguments.len() >= 2 {
+        if let Ok(option) = String::from_str(rt.alloc(), PROGRESS) {
+            let _ = arguments.insert(2, option);
+        }
+    }
+}
+
 fn main(rt: HostRuntime) -> ExitCode {
     let mut writer = io::writer(&rt);
     ExitCode::from(match arguments(&rt) {
-        Ok(arguments) => {
-            let arguments = arguments.as_slice();
+        Ok(mut arguments) => {
             let mut errors = rt.stderr();
+            if errors.is_terminal() {
+                say_progress(&rt, &mut arguments);
+            }
+            let arguments = arguments.as_slice();
             if is_server(arguments) {
                 let _ = never_wait(&rt.stdout());
                 let _ = never_wait(&errors);
