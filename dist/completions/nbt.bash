@@ -43,7 +43,7 @@ _nbt() {
         status) words='--scope --exact --tries --wait --bind --help' ;;
         nbns) words='--bind --life --longest --for --log --log-broadcasts --leases --hosts --stats --strict --rows-per-client --allow --fixed --state --silent-after-boot --help' ;;
         host | release) words='--server --bind --group --scope --exact --life --longest --for --log --help' ;;
-        scan) words='--rate --tries --wait --port --bind --sorted --long --hosts --json --help' ;;
+        scan) words='--rate --tries --wait --port --bind --sorted --long --hosts --json --progress --help' ;;
         answer) words='--at --help' ;;
         show) words='--explain --help' ;;
         serve | node) words='--forever --help' ;;

@@ -76,6 +76,7 @@ complete -c nbt -n '__nbt_takes sorted scan' -l sorted -d 'Print the hosts by ad
 complete -c nbt -n '__nbt_takes long scan; and not contains -- --hosts (commandline -opc)' -l long -d 'Print each name of a host too'
 complete -c nbt -n '__nbt_takes hosts scan; and not contains -- --long (commandline -opc)' -l hosts -d 'Print lines for /etc/hosts'
 complete -c nbt -n '__nbt_takes json scan; and not contains -- --long (commandline -opc); and not contains -- --hosts (commandline -opc)' -l json -d 'Print objects of JSON'
+complete -c nbt -n '__nbt_takes progress scan' -l progress -d 'Say on standard error how far it is'
 complete -c nbt -n '__nbt_takes at answer' -l at -x -d 'The time since the start of the server, in milliseconds'
 complete -c nbt -n '__nbt_takes explain show' -l explain -d 'Say the same in the words of Wireshark'
 complete -c nbt -n '__nbt_is show; and __nbt_has 2' -a 'name dgram session'
