@@ -21,6 +21,26 @@ fn word_of(arguments: &[String]) -> &str {
     }
 }
 
+/// The option of `scan` that says how far it is.
+const PROGRESS: &str = "--progress";
+
+/// Whether the arguments name `scan`, without that option.
+fn is_silent_scan(arguments: &[String]) -> bool {
+    word_of(arguments) == "scan"
+        && !arguments
+            .iter()
+            .any(|argument| argument.as_str() == PROGRESS)
+}
+
+/// Has a scan say how far it is. Where memory is out it doesn't.
+fn say_progress(rt: &impl AllocGlobal, arguments: &mut Vec<String>) {
+    if is_silent_scan(arguments.as_slice()) && arguments.len() >= 2 {
+        if let Ok(option) = String::from_str(rt.alloc(), PROGRESS) {
+            let _ = arguments.insert(2, option);
+        }
+    }
+}
+
 /// Has what this stream is open on refuse a write that would wait for its reader. A terminal stays as it is: a shell has it open too.
 fn never_wait<S: AsFd + IsTerminal>(stream: &S) -> io::Result<()> {
     if stream.is_terminal() {
@@ -46,13 +66,16 @@ fn run_on<W: Write>(rt: &HostRuntime, arguments: &[String], writer: &mut W) -> u
 
 fn main(rt: HostRuntime) -> ExitCode {
     let mut writer = io::writer(&rt);
-    let arguments = match arguments(&rt) {
+    let mut arguments = match arguments(&rt) {
         Ok(arguments) => arguments,
         Err(error) => {
             let status = nbt_prog::command_without_words(rt.alloc(), error, &mut writer);
             return ExitCode::from(status);
         }
     };
+    if rt.stderr().is_terminal() {
+        say_progress(&rt, &mut arguments);
+    }
     let arguments = arguments.as_slice();
     let status = match word_of(arguments) {
         // Its log drops lines itself.

@@ -5,5 +5,6 @@ pub mod Files
 pub mod Fronts
 pub mod Running
 pub mod Scans
+pub mod Statuses
 pub mod Texts
 pub mod Times

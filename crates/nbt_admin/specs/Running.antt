@@ -1,5 +1,5 @@
 -- What a command for people who run a network does on this machine, what it prints, its status, and how it fails (our profile).
-use Rattle.std.specs.Prelude.{◌≡◌, ◌⊎◌, ℕ, Bool, if◌then◌else◌, List, Option}
+use Rattle.std.specs.Prelude.{◌≡◌, ◌⊎◌, ℕ, nat_lt, Bool, if◌then◌else◌, List, length, Option}
 use Rattle.std.specs.Io.KnownBytes.{Appends}
 use Rattle.nbt_args.specs.declared.texts.AdminLine.{AdminLine}
 use Rattle.nbt_args.specs.declared.texts.AdminLine.TheVariants.{Lookup, Status, Nbns, Host, Release, Scan}
@@ -10,7 +10,7 @@ use Rattle.nbt_host.specs.Running.{HostsHere}
 use Rattle.nbt_host.specs.declared.arguments.HostArguments.{HostArguments}
 use Rattle.nbt_keep.specs.Running.{RunsServer}
 use Rattle.nbt_keep.specs.declared.arguments.ServerArguments.{ServerArguments}
-use Rattle.nbt_admin.specs.Arguments.{AskGiven, AsksServer, AsksHost, AskFails, HostGiven, HostFails, ReleaseGiven, ReleaseFails, ServerGiven, ServerFails}
+use Rattle.nbt_admin.specs.Arguments.{AskGiven, AsksServer, AskFails, HostGiven, HostFails, ReleaseGiven, ReleaseFails, ServerGiven, ServerFails}
 use Rattle.nbt_admin.specs.Fronts.{GivesFixed, FixedFails}
 use Rattle.nbt_front.specs.FixedNames.{FixedNames}
 use Rattle.nbt_release.specs.Running.{ReleasesHere}
@@ -18,8 +18,10 @@ use Rattle.nbt_admin.specs.Failures.{IsFault}
 use Rattle.nbt_admin.specs.Scans.{ScanGiven, ScanFails}
 use Rattle.nbt_admin.specs.declared.scanning.ScanArguments.{ScanArguments}
 use Rattle.nbt_scan.specs.Running.{ScansHere}
-use Rattle.nbt_admin.specs.Texts.{NameFails, SoughtFails}
+use Rattle.nbt_admin.specs.Statuses.{StatusGiven, StatusFails, AskedInTurn}
+use Rattle.nbt_admin.specs.Texts.{SoughtFails}
 use Rattle.nbt_admin.specs.declared.asking.AskArguments.{AskArguments}
+use Rattle.nbt_admin.specs.declared.asking.HostAsked.{HostAsked}
 use Rattle.nbt_admin.specs.declared.failure.Failure.{Failure}
 
 -- The request was made, the text of its answer was appended, and the status is the answer's.
@@ -55,7 +57,7 @@ pub record ScannedHere (a : ScanArguments) (status : ℕ) (old_text text : Optio
 -- the command ran with the arguments that its texts give
 abbrev pub Runs : AdminLine → (status : ℕ) → (old_text text : Option (List ℕ)) → Type 0
 Runs (Lookup texts) status old_text text = (a : AskArguments) × AskGiven AsksServer texts a × AskedHere a status old_text text
-Runs (Status texts) status old_text text = (a : AskArguments) × AskGiven AsksHost texts a × AskedHere a status old_text text
+Runs (Status texts) status old_text text = (requests : List HostAsked) × StatusGiven texts requests × AskedInTurn (nat_lt 1 (length requests)) requests status old_text text
 Runs (Nbns texts) status old_text text = (a : ServerArguments) × ServerGiven texts a × (names : FixedNames) × GivesFixed texts.fixed names × (status ≡ 0) × RunsServer (with_fixed names a) old_text text
 Runs (Host texts) status old_text text = (a : HostArguments) × HostGiven texts a × HostedHere a status old_text text
 Runs (Release texts) status old_text text = (a : HostArguments) × ReleaseGiven texts a × ReleasedHere a status old_text text
@@ -64,7 +66,7 @@ Runs (Scan texts) status old_text text = (a : ScanArguments) × ScanGiven texts 
 -- the first argument that is wrong is reported
 abbrev pub Refuses : AdminLine → Failure → Type 0
 Refuses (Lookup texts) failure = AskFails (SoughtFails texts.exact texts.scope.now texts.name.now) texts failure
-Refuses (Status texts) failure = AskFails (NameFails texts.exact texts.scope.now texts.name.now) texts failure
+Refuses (Status texts) failure = StatusFails texts failure
 Refuses (Nbns texts) failure = ServerFails texts failure
 Refuses (Host texts) failure = HostFails texts failure
 Refuses (Release texts) failure = ReleaseFails texts failure

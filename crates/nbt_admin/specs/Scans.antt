@@ -64,6 +64,7 @@ pub record ScanGiven (texts : ScanTexts) (a : ScanArguments) : Type 0 where
   pub bind_is : SpellsSource texts.bind.now a.bind
   pub form_is : a.layout.form ≡ form_of texts.long texts.hosts texts.json
   pub sorted_is : a.layout.sorted ≡ texts.sorted
+  pub progress_is : a.progress ≡ texts.progress
 
 abbrev pub WaitFails : List ℕ → Failure → Type 0
 WaitFails text failure = (failure ≡ out_of_memory) ⊎ (¬ IsWait text × ComplainsOf text w.Wait failure)

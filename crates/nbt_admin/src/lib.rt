@@ -15,9 +15,10 @@ mod running;
 mod scanning;
 mod serving;
 mod spans;
+mod statuses;
 mod timing;
 
-pub use asking::AskArguments;
+pub use asking::{AskArguments, HostAsked};
 pub use failure::{ArgumentFault, BadArgument, BadLine, Complaint, Failure};
 pub use hosting::NAMES_MOST;
 pub use lossy::LossyWriter;

@@ -6,12 +6,13 @@ ghost use Rattle.nbt_keep.specs.Running.{RunsServer};
 ghost use Rattle.nbt_scan.specs.Plans.{IsPlan};
 ghost use Rattle.nbt_admin.specs.Running.{Runs, Refuses, Stops, AskedHere, HostedHere, ReleasedHere, ScannedHere};
 
-use crate::asking::{AskArguments, lookup_arguments, status_arguments};
+use crate::asking::{AskArguments, lookup_arguments, status_requests};
 use crate::failure::Failure;
 use crate::fronting::fixed_of;
 use crate::hosting::{host_arguments, release_arguments};
 use crate::scanning::{ScanArguments, scan_arguments};
 use crate::serving::server_arguments;
+use crate::statuses::ask_all;
 use nbt_args::AdminLine;
 use nbt_client::ask_here;
 use nbt_host::{HostArguments, run_host};
@@ -38,7 +39,7 @@ const NONE_REPLIED: u8 = 1;
 const NOT_RELEASED: u8 = 1;
 
 /// Runs a command over this machine's UDP, clocks and files, prints its output, and returns the status: of a lookup or a status request 0, 1
-/// or 5, as its answer has it; of a name server 0; of a host 0 if it held all its names at its end, else 5; of releases 0 if all were
+/// or 5, as its answer has it, and of several requests the greatest; of a name server 0; of a host 0 if it held all its names at its end, else 5; of releases 0 if all were
 /// confirmed, else 1; of a scan 0 if a host replied, else 1. The first invalid argument is refused before anything is done. Then it fails as `ask_here`, `run_server`,
 /// `run_host` and `run_release` do, and with `Output` if an answer can't be printed. If the longest lease of a name server that keeps
 /// no leases is above an hour, a line in `errors` says for how long the server is silent.
@@ -59,8 +60,9 @@ pub fn run<M: Net + time::Clock + Files<File = File>, W: Write, E: Write>(
             Ok(ask(machine, alloc, &lookup, writer, errors)?)
         }
         AdminLine::Status(texts) => {
-            let status = status_arguments(alloc, texts)?;
-            Ok(ask(machine, alloc, &status, writer, errors)?)
+            let requests = status_requests(alloc, texts)?;
+            let status = ask_all(machine, alloc, requests.as_slice(), writer, errors)?;
+            Ok(status)
         }
         AdminLine::Nbns(texts) => {
             let mut nbns = server_arguments(alloc, texts)?;
@@ -93,7 +95,7 @@ pub fn check(alloc: Global, line: &AdminLine<'_>) -> Result<(), Failure>
             lookup_arguments(alloc, texts)?;
         }
         AdminLine::Status(texts) => {
-            status_arguments(alloc, texts)?;
+            status_requests(alloc, texts)?;
         }
         AdminLine::Nbns(texts) => {
             server_arguments(alloc, texts)?;
@@ -225,6 +227,7 @@ fn scan<M: Net + time::Clock, W: Write, E: Write>(
         arguments.bind,
         plan,
         arguments.layout,
+        arguments.progress,
         writer,
         errors,
     )?;

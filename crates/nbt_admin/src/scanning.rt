@@ -25,12 +25,13 @@ const WAIT_MOST: u64 = 5_000;
 /// The greatest port.
 const PORT_MOST: u64 = 65_535;
 
-/// The arguments of a scan: the own address, what it is to do, and how it prints.
+/// The arguments of a scan: the own address, what it is to do, how it prints, and whether it says how far it is.
 #[derive(Drop)]
 pub struct ScanArguments {
     pub bind: Addr,
     pub plan: Plan,
     pub layout: Layout,
+    pub progress: bool,
 }
 
 /// Reads the arguments of `scan`. Refused, in this order: the rate, the wait, the port, the own address, the networks, ranges and addresses,
@@ -61,7 +62,12 @@ pub fn scan_arguments(alloc: Global, texts: &ScanTexts<'_>) -> Result<ScanArgume
         form: form_of(texts.long, texts.hosts, texts.json),
         sorted: texts.sorted,
     };
-    Ok(ScanArguments { bind, plan, layout })
+    Ok(ScanArguments {
+        bind,
+        plan,
+        layout,
+        progress: texts.progress,
+    })
 }
 
 /// Reads a whole number from 1 to `most`.

@@ -126,6 +126,12 @@ pub static STATUS: Description = Description {
             presence: Presence::Default("*"),
             help: "The name to which the request is sent",
         },
+        Argument {
+            name: "also",
+            form: Form::Options("ADDR"),
+            presence: Presence::Optional,
+            help: "Another host, asked next; may be repeated; each line then begins with its host's address",
+        },
         SCOPE,
         EXACT,
         TRIES,
@@ -141,9 +147,13 @@ The last line is `unit id` and six octets, mostly the address of a network card,
 ADDR is A.B.C.D or A.B.C.D:PORT, in decimal with no leading zeros. TIME is a number and its unit, as 500ms or 5s. NAME is one of
 the host's names, or `*` for any of them, written as `nbt lookup --help` says.
 
+With --also the hosts are asked one after the other, in the order given. Each line begins with the address of its host as it was
+given, and a space. The exit status is the greatest of theirs.
+
 Examples:
   nbt status 192.0.2.7
   nbt status 192.0.2.7 FILER --tries 1 --wait 500ms
+  nbt status 192.0.2.7 --also 192.0.2.8 --also 192.0.2.9
 
 Exit status:
   0  done

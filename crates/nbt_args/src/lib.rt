@@ -23,6 +23,6 @@ pub use refusal::{Refusal, Text};
 pub use scan::ScanTexts;
 pub use texts::{
     AdminLine, AnswerTexts, CommandLine, HostTexts, LookupTexts, NbnsTexts, NodeTexts, ServeTexts,
-    ShowTexts, read,
+    ShowTexts, StatusTexts, read,
 };
 pub use unit::NoUnit;

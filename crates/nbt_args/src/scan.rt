@@ -81,6 +81,12 @@ pub static SCAN: Description = Description {
             presence: Presence::ApartFrom(LONG, HOSTS),
             help: "Prints an object of JSON for each host instead",
         },
+        Argument {
+            name: "progress",
+            form: Form::Flag,
+            presence: Presence::Optional,
+            help: "Says on standard error how far it is; given by itself where that is a terminal",
+        },
     ],
     help: "\
 Prints one line per host that replies: its address, its name, its workgroup or domain, who is logged in, `server` if it serves
@@ -95,6 +101,9 @@ all. Each is asked once, also if it is given twice. TIME is a number and its uni
 --hosts prints `192.0.2.7 FILER`, with the name of the file server, or else of the computer. A name that isn't a host's, of
 letters, digits and hyphens, is left out. --json prints an object with the members address, computer, workgroup, user, server,
 unit_id and names; what a host doesn't tell is null.
+
+--progress says once a second `nbt: asked 1500 of 65534 addresses, pass 1 of 2, 12 replied` on standard error, in one line, which
+is hidden at the end.
 
 Examples:
   nbt scan 192.0.2.0/24
@@ -131,6 +140,8 @@ pub struct ScanTexts<'a> {
     pub hosts: bool,
     /// Whether objects of JSON are printed.
     pub json: bool,
+    /// Whether it says how far it is.
+    pub progress: bool,
 }
 
 pub(crate) fn scan_texts<'a>(
@@ -147,6 +158,7 @@ pub(crate) fn scan_texts<'a>(
     ensures names { IfOk result (λ texts. Tells matches.now (codes "long") texts.long) }
     ensures lines { IfOk result (λ texts. Tells matches.now (codes "hosts") texts.hosts) }
     ensures objects { IfOk result (λ texts. Tells matches.now (codes "json") texts.json) }
+    ensures progress { IfOk result (λ texts. Tells matches.now (codes "progress") texts.progress) }
 {
     let addresses = arguments(alloc, matches, "addresses")?;
     Ok(ScanTexts {
@@ -160,5 +172,6 @@ pub(crate) fn scan_texts<'a>(
         long: matches.get_flag(LONG),
         hosts: matches.get_flag(HOSTS),
         json: matches.get_flag(JSON),
+        progress: matches.get_flag("progress"),
     })
 }

@@ -68,8 +68,8 @@ pub struct NodeTexts<'a> {
     pub turns: Option<&'a str>,
 }
 
-/// The texts of the arguments of `lookup`, or of `status`.
-#[derive(Drop)]
+/// The texts of the arguments of `lookup`, or of a status request to one host.
+#[derive(Clone, Copy)]
 pub struct LookupTexts<'a> {
     /// The address of the name server, or of the host.
     pub to: &'a str,
@@ -85,6 +85,15 @@ pub struct LookupTexts<'a> {
     pub wait: &'a str,
     /// The own address.
     pub bind: &'a str,
+}
+
+/// The texts of the arguments of `status`.
+#[derive(Drop)]
+pub struct StatusTexts<'a> {
+    /// Those of the request to the first host.
+    pub first: LookupTexts<'a>,
+    /// The addresses of the other hosts, which are sent the same.
+    pub others: Vec<&'a str>,
 }
 
 /// The texts of the arguments of `nbns`.
@@ -151,7 +160,7 @@ pub struct HostTexts<'a> {
 #[derive(Drop)]
 pub enum AdminLine<'a> {
     Lookup(LookupTexts<'a>),
-    Status(LookupTexts<'a>),
+    Status(StatusTexts<'a>),
     Nbns(NbnsTexts<'a>),
     Host(HostTexts<'a>),
     Release(HostTexts<'a>),
@@ -214,7 +223,7 @@ fn line_of<'a>(
 ) -> Result<Option<CommandLine<'a>>, AllocError> {
     let line = match name {
         "lookup" => CommandLine::Admin(AdminLine::Lookup(lookup_texts(matches, "server"))),
-        "status" => CommandLine::Admin(AdminLine::Status(lookup_texts(matches, "host"))),
+        "status" => CommandLine::Admin(AdminLine::Status(status_texts(alloc, matches)?)),
         "nbns" => CommandLine::Admin(AdminLine::Nbns(nbns_texts(alloc, matches)?)),
         "host" => CommandLine::Admin(AdminLine::Host(host_texts(alloc, matches)?)),
         "release" => CommandLine::Admin(AdminLine::Release(host_texts(alloc, matches)?)),
@@ -250,6 +259,23 @@ fn lookup_texts<'a>(matches: &ArgMatches<'a>, to: &str) -> LookupTexts<'a>
         wait: argument(matches, "wait"),
         bind: argument(matches, "bind"),
     }
+}
+
+fn status_texts<'a>(alloc: Global, matches: &ArgMatches<'a>) -> Result<StatusTexts<'a>, AllocError>
+    ensures to { IfOk result (λ texts. texts.first.to.now ≡ argument_of matches.now (codes "host")) }
+    ensures name { IfOk result (λ texts. texts.first.name.now ≡ argument_of matches.now (codes "name")) }
+    ensures scope { IfOk result (λ texts. texts.first.scope.now ≡ argument_of matches.now (codes "scope")) }
+    ensures exact { IfOk result (λ texts. Tells matches.now (codes "exact") texts.first.exact) }
+    ensures tries { IfOk result (λ texts. texts.first.tries.now ≡ argument_of matches.now (codes "tries")) }
+    ensures wait { IfOk result (λ texts. texts.first.wait.now ≡ argument_of matches.now (codes "wait")) }
+    ensures bind { IfOk result (λ texts. texts.first.bind.now ≡ argument_of matches.now (codes "bind")) }
+    ensures others { IfOk result (λ texts. map (λ text. text.now) texts.others.items ≡ arguments_of matches.now (codes "also")) }
+{
+    let others = arguments(alloc, matches, "also")?;
+    Ok(StatusTexts {
+        first: lookup_texts(matches, "host"),
+        others,
+    })
 }
 
 fn nbns_texts<'a>(alloc: Global, matches: &ArgMatches<'a>) -> Result<NbnsTexts<'a>, AllocError>

@@ -23,3 +23,9 @@ none_missing (false ∷ flags) = ap (λ (n : ℕ). nat_eq n 0) (sum_by-cons (λ 
   where
     some_missing : (n : ℕ) → nat_eq (1 + n) 0 ≡ false
     some_missing n = grind (arith, nat_tests)
+
+-- each has replied or hasn't
+pub missing_and_not : (flags : List Bool) → count_by not flags + count_by (λ reply. reply) flags ≡ length flags
+missing_and_not [] = refl
+missing_and_not (true ∷ flags) = omega (arith, sum_by-cons (λ (x : Bool). cond (not x) 1 0) true flags, sum_by-cons (λ (x : Bool). cond x 1 0) true flags, missing_and_not flags)
+missing_and_not (false ∷ flags) = omega (arith, sum_by-cons (λ (x : Bool). cond (not x) 1 0) false flags, sum_by-cons (λ (x : Bool). cond x 1 0) false flags, missing_and_not flags)

@@ -59,6 +59,13 @@ impl Replied {
         self.missing == 0
     }
 
+    /// How many have.
+    pub fn count(&self) -> usize
+        ensures { result ≡ count_by (λ reply. reply) self.now }
+    {
+        self.flags.len() - self.missing
+    }
+
     /// Whether one has.
     pub fn is_any(&self) -> bool
         ensures { result ≡ list_any (λ reply. reply) self.now }

@@ -7,6 +7,7 @@ ghost use Rattle.nbt_scan.specs.Running.{ScansOver, ScansHere};
 ghost use Rattle.nbt_scan.specs.Sheets.{PrintsKept};
 
 use crate::form::Layout;
+use crate::meter::Meter;
 use crate::plan::Plan;
 use crate::request::write_request;
 use crate::scan::Scan;
@@ -24,7 +25,8 @@ use std::{io, time};
 const IDS: u64 = 0x1_0000;
 
 /// Asks the addresses of a plan from a UDP port of this system, over its monotonic clock, and prints the hosts that reply. `bind` is the
-/// own address; for 0.0.0.0:0 the system chooses both. Returns whether any host replied. A request that has no route, or that
+/// own address; for 0.0.0.0:0 the system chooses both. Where `shows`, a line in `errors` says once a second how far it is, and is hidden
+/// at the end. Returns whether any host replied. A request that has no route, or that
 /// the system refuses to send, is lost; of the latter a line in `errors` says how many there were, and why the last was. Refused:
 /// `NoPort` where the port can't be bound; then `NoClock` where the clock can't be read; then as [`scan_over`] is. Of each but `Memory` and
 /// `Output` a line in `errors` says which call of the system failed, for which address, and why; a failure to write it is ignored.
@@ -34,6 +36,7 @@ pub fn run_scan<M: Net + time::Clock, W: Write, E: Write>(
     bind: Addr,
     plan: &Plan,
     layout: Layout,
+    shows: bool,
     writer: &mut W,
     errors: &mut E,
 ) -> Result<bool, Fault>
@@ -42,7 +45,11 @@ pub fn run_scan<M: Net + time::Clock, W: Write, E: Write>(
 {
     let mut port = bound_port(machine, bind, errors)?;
     let mut clock = steady_clock(machine, bind, errors)?;
-    let scanned = scan_over(&mut port, &mut clock, alloc, plan, layout, writer);
+    let mut meter = Meter::new(shows);
+    let scanned = scan_over(
+        &mut port, &mut clock, alloc, plan, layout, writer, &mut meter, errors,
+    );
+    meter.hide(errors);
     tell_end_of(scanned.err(), port.cause(), errors);
     if scanned.is_ok() {
         tell_lost(port.failures(), port.cause(), errors);
@@ -67,14 +74,16 @@ fn write_lost<E: Write>(count: u64, cause: Cause, errors: &mut E) -> io::Result<
 
 /// Asks the addresses of a plan over a port and a clock, and prints the hosts that reply: each at once, or at the end by address. The id of
 /// all requests is the last 16 bits of the clock's first reading. Returns whether any host replied. A request that the port fails to send is
-/// lost. Refused with `Device` at the first receive that fails, and at the end where no host replied and a request was lost so; with `Output` where a line can't be written; with `Memory` where it is out of memory.
-pub fn scan_over<P: Port, C: Clock, W: Write>(
+/// lost. `meter` says in `errors` how far it is. Refused with `Device` at the first receive that fails, and at the end where no host replied and a request was lost so; with `Output` where a line can't be written; with `Memory` where it is out of memory.
+pub fn scan_over<P: Port, C: Clock, W: Write, E: Write>(
     port: &mut P,
     clock: &mut C,
     alloc: Global,
     plan: &Plan,
     layout: Layout,
     writer: &mut W,
+    meter: &mut Meter,
+    errors: &mut E,
 ) -> Result<bool, Fault>
     requires failure_count { P.failures port.old < 2 ^ 61 }
     requires plan { IsPlan plan.now }
@@ -100,7 +109,10 @@ pub fn scan_over<P: Port, C: Clock, W: Write>(
         &mut scan,
         &mut kept,
         writer,
+        meter,
+        errors,
     )?;
+    meter.hide(errors);
     print_kept(alloc, &mut kept, writer)?;
     let any = scan.replied.is_any();
     if !any && failures < port.failures() {

@@ -8,6 +8,7 @@ ghost use Rattle.nbt_scan.specs.Inner.Steps.{WasHeard, Went};
 use crate::acting::act;
 use crate::form::Layout;
 use crate::hearing::{receive, take_from};
+use crate::meter::Meter;
 use crate::plan::Plan;
 use crate::progress::Step;
 use crate::scan::Scan;
@@ -25,8 +26,8 @@ pub const TURNS_MOST: u64 = 1 << 40;
 /// status response of this id from each address counts, whatever its port: it is printed, or kept. It is over where all have replied, or the wait of
 /// the last pass is over. A request that the port fails to send is lost. Refused
 /// with `Device` at the first receive that fails; with `Output` where a line can't be written;
-/// with `Memory` where it is out of memory.
-pub fn scan_all<P: Port, C: Clock, W: Write>(
+/// with `Memory` where it is out of memory. `meter` says in `errors` how far it is; a line that is printed has the place of its own.
+pub fn scan_all<P: Port, C: Clock, W: Write, E: Write>(
     port: &mut P,
     clock: &mut C,
     plan: &Plan,
@@ -36,6 +37,8 @@ pub fn scan_all<P: Port, C: Clock, W: Write>(
     scan: &mut Scan,
     kept: &mut Vec<Kept>,
     writer: &mut W,
+    meter: &mut Meter,
+    errors: &mut E,
 ) -> Result<(), Fault>
     requires failure_count { P.failures port.old < 2 ^ 61 }
     requires plan { IsPlan plan.now }
@@ -52,13 +55,16 @@ pub fn scan_all<P: Port, C: Clock, W: Write>(
         if scan.is_over(plan, now) {
             return Ok(());
         }
-        turn(port, plan, id, request, layout, now, scan, kept, writer)?;
+        meter.say(plan, scan, now, errors);
+        turn(
+            port, plan, id, request, layout, now, scan, kept, writer, meter, errors,
+        )?;
     }
     Ok(())
 }
 
 /// The calls of one turn.
-fn turn<P: Port, W: Write>(
+fn turn<P: Port, W: Write, E: Write>(
     port: &mut P,
     plan: &Plan,
     id: u16,
@@ -68,6 +74,8 @@ fn turn<P: Port, W: Write>(
     scan: &mut Scan,
     kept: &mut Vec<Kept>,
     writer: &mut W,
+    meter: &mut Meter,
+    errors: &mut E,
 ) -> Result<(), Fault>
     requires failure_count { P.failures port.old < 2 ^ 61 + 2 ^ 60 }
     requires plan { IsPlan plan.now }
@@ -82,7 +90,18 @@ fn turn<P: Port, W: Write>(
 {
     let step = scan.progress.step_at(plan, now);
     act(port, step, plan, request, now, scan);
-    hear(port, waits(step), plan, id, layout, scan, kept, writer)
+    hear(
+        port,
+        waits(step),
+        plan,
+        id,
+        layout,
+        scan,
+        kept,
+        writer,
+        meter,
+        errors,
+    )
 }
 
 /// Whether nothing is to be done yet, so that a receive may wait.
@@ -93,7 +112,7 @@ fn waits(step: Step) -> bool
 }
 
 /// Receives once, and tells the reply that came, if one did.
-fn hear<P: Port, W: Write>(
+fn hear<P: Port, W: Write, E: Write>(
     port: &mut P,
     waits: bool,
     plan: &Plan,
@@ -102,6 +121,8 @@ fn hear<P: Port, W: Write>(
     scan: &mut Scan,
     kept: &mut Vec<Kept>,
     writer: &mut W,
+    meter: &mut Meter,
+    errors: &mut E,
 ) -> Result<(), Fault>
     requires failure_count { P.failures port.old < 2 ^ 62 }
     requires plan { IsPlan plan.now }
@@ -118,7 +139,10 @@ fn hear<P: Port, W: Write>(
     let from = receive(port, waits, &mut octets)?;
     let replied = &mut scan.replied;
     match take_from(plan.ips.as_slice(), id, from, octets.as_slice(), replied) {
-        Some(heard) => tell(layout, &heard, kept, writer),
+        Some(heard) => {
+            meter.hide(errors);
+            tell(layout, &heard, kept, writer)
+        }
         None => Ok(()),
     }
 }

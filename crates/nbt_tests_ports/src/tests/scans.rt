@@ -5,8 +5,8 @@ use super::stage::{Scene, play_on};
 use nbt_name::Addr;
 use nbt_port::{Fault, MemoryClock, MemoryPort, Port, UdpPort};
 use nbt_scan::{
-    Form, Layout, Plan, Span, SpanFault, addresses_of, are_ascending, are_few, place_of, run_scan,
-    scan_over, span_of,
+    Form, Layout, Meter, Plan, Span, SpanFault, addresses_of, are_ascending, are_few, place_of,
+    run_scan, scan_over, span_of,
 };
 use nbt_server::Server;
 use nbt_testing::{Row, expect_sent};
@@ -132,9 +132,21 @@ fn see_scanned<R: Abort + AllocGlobal>(
     expect(rt, plan.is_sound());
     let mut printed = Vec::new(rt.alloc());
     expect(rt, port.failures() < 1 << 61);
-    let any = scan_over(port, clock, rt.alloc(), plan, row.layout, &mut printed);
+    let mut errors = Vec::new(rt.alloc());
+    let mut meter = Meter::new(false);
+    let any = scan_over(
+        port,
+        clock,
+        rt.alloc(),
+        plan,
+        row.layout,
+        &mut printed,
+        &mut meter,
+        &mut errors,
+    );
     expect_eq(rt, &str::from_utf8(printed.as_slice())?, &row.printed);
     expect_eq_in(rt, &row.printed, &any, &row.any);
+    expect(rt, errors.is_empty());
     expect_sent(rt, port, row.sent)
 }
 
@@ -481,6 +493,129 @@ fn scans(rt: HostRuntime) -> Result<(), Fail> {
     play_scanned(&rt, PRINTED)
 }
 
+/// A scan of [`ALL`] as above, which says how far it is: the most passes, the times that the clock tells, what the port hands out, whether any
+/// replied, what is printed, and what is said, each part of which hides the one before it.
+struct Shown {
+    tries: u32,
+    moments: &'static [u64],
+    given: &'static [Row],
+    any: Result<bool, Fault>,
+    printed: &'static str,
+    said: &'static [&'static str],
+}
+
+fn see_shown<R: Abort + AllocGlobal>(
+    rt: &R,
+    port: &mut MemoryPort,
+    clock: &mut MemoryClock,
+    plan: &Plan,
+    row: &Shown,
+) -> Result<(), Fail> {
+    expect(rt, plan.is_sound());
+    let mut printed = Vec::new(rt.alloc());
+    let mut errors = Vec::new(rt.alloc());
+    expect(rt, port.failures() < 1 << 61);
+    let mut meter = Meter::new(true);
+    let any = scan_over(
+        port,
+        clock,
+        rt.alloc(),
+        plan,
+        AT_ONCE,
+        &mut printed,
+        &mut meter,
+        &mut errors,
+    );
+    expect_eq(rt, &str::from_utf8(printed.as_slice())?, &row.printed);
+    expect_eq_in(rt, &row.printed, &any, &row.any);
+    let mut said = String::new(rt.alloc());
+    for part in row.said {
+        said.push_str(HIDES)?;
+        said.push_str(part)?;
+    }
+    expect_eq(rt, &str::from_utf8(errors.as_slice())?, &said.as_str());
+    Ok(())
+}
+
+/// What hides a line that stands there.
+const HIDES: &str = "\r                                                               \r";
+
+impl Scene for Shown {
+    fn play<R: Abort + AllocGlobal + time::Clock>(
+        &self,
+        rt: &R,
+        port: &mut MemoryPort,
+        clock: &mut MemoryClock,
+        _: &mut Server,
+    ) -> Result<(), Fail> {
+        let plan = Plan {
+            ips: Vec::from_slice(rt.alloc(), ALL)?,
+            port: 137,
+            rate: 500,
+            tries: self.tries,
+            wait: 1_000,
+        };
+        see_shown(rt, port, clock, &plan, self)
+    }
+}
+
+/// What a scan says of how far it is.
+const SHOWN: &[Shown] = &[
+    // Once a second, from a second after its first look on. A host's line has the place of its own.
+    Shown {
+        tries: 2,
+        moments: &[1, 1, 3, 5, 1_001, 1_005, 1_005, 2_001, 2_002, 2_003],
+        given: &[
+            (NINE, ""),
+            (NINE, ""),
+            (NINE, ""),
+            (SEVEN, FILER),
+            (NINE, ""),
+            (NINE, ""),
+            (EIGHT, DESK),
+            (NINE, NAMELESS),
+        ],
+        any: Ok(true),
+        printed: "192.0.2.7        FILER            OFFICE           FRED             server  00:50:56:c0:00:08\n192.0.2.8        DESK             -                -                -       -\n192.0.2.9        -                -                -                -       -\n",
+        said: &[
+            "nbt: asked 3 of 3 addresses, pass 1 of 2, 0 replied",
+            "",
+            "nbt: asked 1 of 3 addresses, pass 2 of 2, 1 replied",
+            "",
+        ],
+    },
+    // Nothing is left of it at the end.
+    Shown {
+        tries: 1,
+        moments: &[1, 1, 3, 5, 1_000, 1_001, 1_004, 1_005],
+        given: &[],
+        any: Ok(false),
+        printed: "",
+        said: &["nbt: asked 3 of 3 addresses, pass 1 of 1, 0 replied", ""],
+    },
+    // A scan of less than a second says nothing.
+    Shown {
+        tries: 1,
+        moments: &[1, 1, 3, 5, 1_000, 1_005],
+        given: &[],
+        any: Ok(false),
+        printed: "",
+        said: &[],
+    },
+];
+
+fn play_shown<R: Abort + AllocGlobal + time::Clock>(rt: &R, rows: &[Shown]) -> Result<(), Fail> {
+    for row in rows {
+        play_on(rt, row.given, row.moments, row)?;
+    }
+    Ok(())
+}
+
+#[test]
+fn scans_that_say_how_far_they_are(rt: HostRuntime) -> Result<(), Fail> {
+    play_shown(&rt, SHOWN)
+}
+
 /// Ascending lists, addresses, and their places.
 const PLACES: &[(&[u32], u32, Option<usize>)] = &[
     (&[], 7, None),
@@ -609,6 +744,7 @@ fn a_scan_over_this_machine(rt: HostRuntime) -> Result<(), Fail> {
         here,
         &plan,
         AT_ONCE,
+        false,
         &mut printed,
         &mut errors,
     );
@@ -641,6 +777,7 @@ fn a_scan_from_an_address_in_use(rt: HostRuntime) -> Result<(), Fail> {
         here,
         &plan,
         AT_ONCE,
+        false,
         &mut printed,
         &mut errors,
     );

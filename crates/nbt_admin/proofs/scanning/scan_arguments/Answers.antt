@@ -18,6 +18,7 @@ returns-clause-given c = record {
   bind_is = c.in_ok-bind.ensures.read;
   form_is = c.form_of.ensures;
   sorted_is = refl;
+  progress_is = refl;
 }
 
 pub returns-clause-sound : goal.returns-clause-sound

@@ -1,4 +1,4 @@
-use Rattle.std.proofs.Common.{◌++◌, arith, List, ℕ}
+use Rattle.std.proofs.Common.{◌++◌, arith}
 use Rattle.std.specs.Prelude.{codes}
 use Rattle.std.specs.String.{string_bytes}
 use Rattle.nbt_text.proofs.Joining.{OnOk-map}
