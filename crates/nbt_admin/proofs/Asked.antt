@@ -1,6 +1,6 @@
 -- The hosts of a status request, one after the other, and what is printed of their answers.
-use Rattle.std.proofs.Common.{◌≡◌, ℕ, ◌+◌, ◌<◌, max, Bool, true, List, [], ◌∷◌, ◌++◌, length, take, drop, get_or, Option, refl, sym, subst, ap, ◌∙◌, inl, inr, arith}
-use Rattle.std.specs.Prelude.{◌⊎◌, nat_eq}
+use Rattle.std.proofs.Common.{◌≡◌, ℕ, ◌+◌, ◌<◌, max, Bool, List, [], ◌∷◌, ◌++◌, length, take, get_or, Option, refl, sym, subst, ap, ◌∙◌, inr, arith}
+use Rattle.std.specs.Prelude.{nat_eq}
 use Rattle.std.specs.Borrow.{Bor}
 use Rattle.std.proofs.lemmas.List.{append-nil, append_assoc, take_more, take_all}
 use Rattle.nbt_args.specs.declared.texts.LookupTexts.{LookupTexts}
@@ -45,11 +45,11 @@ next_fails first hosts rest others host old requests failure parts x fails =
 -- ---- the answers
 
 -- one more request
-pub asked_on : (many : Bool) (requests : List HostAsked) (i : ℕ) (r : HostAsked) (status one : ℕ) (old mid text : Option (List ℕ)) → i < length requests → r ≡ get_or requests i r
-    → AskedInTurn many (take i requests) status old mid → AskedOf many r one mid text → AskedInTurn many (take (i + 1) requests) (max status one) old text
-asked_on many requests i r status one old mid text lt is x y =
-    subst (λ (rs : List HostAsked). AskedInTurn many rs (max status one) old text) (ap (λ (z : HostAsked). take i requests ++ z ∷ []) is ∙ sym (take_more requests i r lt))
-    (asked_next (take i requests) r status one old mid text x y)
+pub asked_on : (many : Bool) (requests : List HostAsked) (i : ℕ) (d : HostAsked) (status one : ℕ) (old mid text : Option (List ℕ)) → i < length requests
+    → AskedInTurn many (take i requests) status old mid → AskedOf many (get_or requests i d) one mid text → AskedInTurn many (take (i + 1) requests) (max status one) old text
+asked_on many requests i d status one old mid text lt x y =
+    subst (λ (rs : List HostAsked). AskedInTurn many rs (max status one) old text) (sym (take_more requests i d lt))
+    (asked_next (take i requests) (get_or requests i d) status one old mid text x y)
 
 pub asked_all : (many : Bool) (requests : List HostAsked) (i status : ℕ) (old text : Option (List ℕ)) → i ≡ length requests → AskedInTurn many (take i requests) status old text → AskedInTurn many requests status old text
 asked_all many requests i status old text end x = subst (λ (rs : List HostAsked). AskedInTurn many rs status old text) (take_all i requests (omega (arith, end))) x

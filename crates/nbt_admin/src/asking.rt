@@ -63,22 +63,25 @@ pub fn status_requests<'a>(
     let host = texts.first.to;
     let mut requests = Vec::new(alloc);
     requests.push(HostAsked { host, arguments })?;
-    add_requests(alloc, texts.first, texts.others.as_slice(), &mut requests)?;
+    add_requests(alloc, &texts.first, texts.others.as_slice(), &mut requests)?;
     Ok(requests)
 }
 
 /// Reads the addresses of further hosts, and appends the requests to them, which are sent what the first host is.
 fn add_requests<'a>(
     alloc: Global,
-    first: LookupTexts<'a>,
+    first: &LookupTexts<'a>,
     hosts: &[&'a str],
     requests: &mut Vec<HostAsked<'a>>,
 ) -> Result<(), Failure>
-    ensures added { OnOk result ((added : List Asked) × AreAsked first hosts.now added × (requests.new.items ≡ requests.old.items ++ added)) }
-    ensures failure { IfErr result (OthersFail first hosts.now) }
+    ensures added { OnOk result ((added : List Asked) × AreAsked first.now hosts.now added × (requests.new.items ≡ requests.old.items ++ added)) }
+    ensures failure { IfErr result (OthersFail first.now hosts.now) }
 {
     for host in hosts {
-        let texts = LookupTexts { to: *host, ..first };
+        let texts = LookupTexts {
+            to: *host,
+            ..*first
+        };
         let arguments = status_arguments(alloc, &texts)?;
         requests.push(HostAsked {
             host: *host,

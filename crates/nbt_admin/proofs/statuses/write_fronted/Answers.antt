@@ -11,7 +11,7 @@ pub loop-octet-preserved : goal.loop-octet-preserved
 loop-octet-preserved c =
     let i = c.loop-octet.octet-index in
     let text = c.args.text.now in
-    rw c.is_line_feed.ensures
+    rw c.is_line_feed-begins.ensures
     (fronted_on c.args.host.now c.loop-octet.begins (get_or text i 0) (drop i text) (drop (i + 1) text) c.args.out.now.items c.loop-octet.out.items c.write_octet.new.out.items (fronted c.args.host.now true text)
     (drop_more text i 0 c.loop-octet-test.true) c.in_ok-write_octet.ensures c.loop-octet.invariant)
 
