@@ -2,7 +2,7 @@
 
 _nbt() {
     local word=${COMP_WORDS[COMP_CWORD]} before=${COMP_WORDS[COMP_CWORD - 1]} given words='' reply
-    local commands='lookup status nbns host release answer show check sim serve node loop help' arguments=0
+    local commands='lookup status nbns host release scan answer show check sim serve node loop help' arguments=0
     COMPREPLY=()
 
     # bash has `--leases=file` as three words.
@@ -12,8 +12,8 @@ _nbt() {
         word=''
     fi
     case $before in
-    --at | --server | --bind | --scope | --wait | --life | --longest | --for | --rows-per-client | --group) return ;;
-    --leases)
+    --at | --rate | --port | --server | --bind | --scope | --wait | --life | --longest | --for | --rows-per-client | --allow | --group | --also) return ;;
+    --leases | --hosts | --stats | --fixed)
         compopt -o filenames 2>/dev/null
         mapfile -t COMPREPLY < <(compgen -f -- "$word")
         return
@@ -40,9 +40,10 @@ _nbt() {
     else
         case ${COMP_WORDS[1]} in
         lookup) words='--server --scope --exact --tries --wait --bind --help' ;;
-        status) words='--scope --exact --tries --wait --bind --help' ;;
-        nbns) words='--bind --life --longest --for --log --log-broadcasts --leases --strict --rows-per-client --state --silent-after-boot --help' ;;
+        status) words='--also --scope --exact --tries --wait --bind --help' ;;
+        nbns) words='--bind --life --longest --for --log --log-broadcasts --leases --hosts --stats --strict --rows-per-client --allow --fixed --state --silent-after-boot --help' ;;
         host | release) words='--server --bind --group --scope --exact --life --longest --for --log --help' ;;
+        scan) words='--rate --tries --wait --port --bind --sorted --long --hosts --json --progress --help' ;;
         answer) words='--at --help' ;;
         show) words='--explain --help' ;;
         serve | node) words='--forever --help' ;;
@@ -56,9 +57,9 @@ _nbt() {
         esac
     fi
 
-    # An option that is given isn't offered again, except --group.
+    # An option that is given isn't offered again, except --group, --allow and --also.
     while IFS= read -r reply; do
-        [[ $reply == --?* && $reply != --group && " ${COMP_WORDS[*]:1:COMP_CWORD-1} " == *" $reply "* ]] || COMPREPLY+=("$reply")
+        [[ $reply == --?* && $reply != --group && $reply != --allow && $reply != --also && " ${COMP_WORDS[*]:1:COMP_CWORD-1} " == *" $reply "* ]] || COMPREPLY+=("$reply")
     done < <(compgen -W "$words" -- "$word")
 }
 

@@ -1,8 +1,9 @@
 //! Runs one command of `nbt`, with the program's arguments and over its standard input, output and error.
 #![tactic(auto)]
 
+use nbt_admin::LossyWriter;
 use std::env::Env;
-use std::io::IsTerminal;
+use std::io::{IsTerminal, Write};
 use std::os::fd::AsFd;
 use std::os::unix::net::UnixStream;
 use std::process::ExitCode;
@@ -10,6 +11,34 @@ use std::{env, io};
 
 fn arguments(rt: &(impl Env + AllocGlobal)) -> io::Result<Vec<String>> {
     Ok(env::args(rt)?.collect(rt.alloc())?)
+}
+
+/// The word of the command.
+fn word_of(arguments: &[String]) -> &str {
+    match arguments.get(1) {
+        Some(word) => word.as_str(),
+        None => "",
+    }
+}
+
+/// The option of `scan` that says how far it is.
+const PROGRESS: &str = "--progress";
+
+/// Whether the arguments name `scan`, without that option.
+fn is_silent_scan(arguments: &[String]) -> bool {
+    word_of(arguments) == "scan"
+        && !arguments
+            .iter()
+            .any(|argument| argument.as_str() == PROGRESS)
+}
+
+/// Has a scan say how far it is. Where memory is out it doesn't.
+fn say_progress(rt: &impl AllocGlobal, arguments: &mut Vec<String>) {
+    if is_silent_scan(arguments.as_slice()) && arguments.len() >= 2 {
+        if let Ok(option) = String::from_str(rt.alloc(), PROGRESS) {
+            let _ = arguments.insert(2, option);
+        }
+    }
 }
 
 /// Has what this stream is open on refuse a write that would wait for its reader. A terminal stays as it is: a shell has it open too.
@@ -21,33 +50,38 @@ fn never_wait<S: AsFd + IsTerminal>(stream: &S) -> io::Result<()> {
     UnixStream::from(same).set_nonblocking(true)
 }
 
-/// Whether the arguments name `nbns`, which serves on while the reader of its log is slow.
-fn is_server(arguments: &[String]) -> bool {
-    match arguments.get(1) {
-        Some(command) => command.as_str() == "nbns",
-        None => false,
-    }
+/// Runs the command, and prints its output here.
+fn run<W: Write>(rt: &HostRuntime, arguments: &[String], writer: &mut W) -> u8 {
+    let mut reader = rt.reader();
+    let mut errors = rt.stderr();
+    nbt_prog::command_telling(rt, rt.alloc(), arguments, &mut reader, writer, &mut errors)
+}
+
+/// The same of a command that goes on while the reader of what it prints is slow.
+fn run_on<W: Write>(rt: &HostRuntime, arguments: &[String], writer: &mut W) -> u8 {
+    let _ = never_wait(&rt.stdout());
+    let _ = never_wait(&rt.stderr());
+    run(rt, arguments, writer)
 }
 
 fn main(rt: HostRuntime) -> ExitCode {
     let mut writer = io::writer(&rt);
-    ExitCode::from(match arguments(&rt) {
-        Ok(arguments) => {
-            let arguments = arguments.as_slice();
-            let mut errors = rt.stderr();
-            if is_server(arguments) {
-                let _ = never_wait(&rt.stdout());
-                let _ = never_wait(&errors);
-            }
-            nbt_prog::command_telling(
-                &rt,
-                rt.alloc(),
-                arguments,
-                &mut rt.reader(),
-                &mut writer,
-                &mut errors,
-            )
+    let mut arguments = match arguments(&rt) {
+        Ok(arguments) => arguments,
+        Err(error) => {
+            let status = nbt_prog::command_without_words(rt.alloc(), error, &mut writer);
+            return ExitCode::from(status);
         }
-        Err(error) => nbt_prog::command_without_words(rt.alloc(), error, &mut writer),
-    })
+    };
+    if rt.stderr().is_terminal() {
+        say_progress(&rt, &mut arguments);
+    }
+    let arguments = arguments.as_slice();
+    let status = match word_of(arguments) {
+        // Its log drops lines itself.
+        "nbns" => run_on(&rt, arguments, &mut writer),
+        "host" => run_on(&rt, arguments, &mut LossyWriter::new(rt.alloc(), writer)),
+        _ => run(&rt, arguments, &mut writer),
+    };
+    ExitCode::from(status)
 }

@@ -6,12 +6,14 @@ use Rattle.nbt_client.specs.declared.question.Question.{Question}
 use Rattle.nbt_client.specs.declared.question.Question.TheVariants as q
 use Rattle.nbt_args.specs.declared.texts.LookupTexts.{LookupTexts}
 use Rattle.nbt_admin.specs.Binds.{GivesBind, IsBind, BindFails}
+use Rattle.nbt_admin.specs.Fronts.{AreNetworks, AllowFails}
+use Rattle.nbt_front.specs.Networks.{NetworkValue}
+use Rattle.nbt_admin.specs.Files.{AreFiles, FilesFail, GivesFiles}
 use Rattle.nbt_admin.specs.Failures.{IsUsage, out_of_memory, ComplainsOf}
 use Rattle.nbt_admin.specs.Times.{IsWait, SpellsPatience, IsConfigOf, AreLimits, LimitsFail, SpellsEnding, IsEnding, EndingFails, SpellsClientRows, ClientRowsFail, AreFitLimits, ShortFails}
-use Rattle.nbt_admin.specs.Texts.{IsAddress, AddressFails, IsPath, PathFails, SpellsAsked, SpellsSought, SpellsOwn, IsOwn, OwnFails, SoughtFails, SourceFails, SpellsPeer, SpellEnds, AreEnds, EndsFail}
+use Rattle.nbt_admin.specs.Texts.{IsAddress, AddressFails, SpellsAsked, SpellsSought, SpellsOwn, IsOwn, OwnFails, SoughtFails, SourceFails, SpellsPeer, SpellEnds, AreEnds, EndsFail}
 use Rattle.nbt_admin.specs.declared.asking.AskArguments.{AskArguments}
 use Rattle.nbt_admin.specs.declared.failure.Failure.{Failure}
-use Rattle.std.specs.Option.{option_map}
 use Rattle.std.specs.String.{string_bytes}
 use Rattle.nbt_nbns.specs.Limits.{judged}
 use Rattle.nbt_keep.specs.declared.arguments.ServerArguments.{ServerArguments}
@@ -79,8 +81,7 @@ pub record NbnsGiven (texts : NbnsTexts) (a : ServerArguments) : Type 0 where
   pub time : SpellsEnding texts.time a.nbns.time
   pub log_is : a.nbns.log ≡ texts.log
   pub broadcasts_are : a.nbns.broadcasts ≡ texts.broadcasts
-  pub leases_are : option_map string_bytes a.nbns.leases ≡ option_map (λ text. text.now) texts.leases
-  pub is_path : IsPath (option_map (λ text. text.now) texts.leases)
+  pub files_are : GivesFiles texts a.nbns.leases a.nbns.hosts a.nbns.stats
   pub strict_is : a.nbns.strict ≡ texts.strict
   pub client_rows_are : SpellsClientRows texts.rows_per_client a.nbns.rows_per_client
   pub state_is : GivesState texts.state texts.silent_after_boot a.state
@@ -97,8 +98,22 @@ NbnsFails texts failure = (failure ≡ out_of_memory)
     ⊎ ((IsEnding texts.time × ShortFails texts.life.now texts.longest.now failure)
     ⊎ ((IsEnding texts.time × AreFit texts × BindFails texts.binds.items failure)
     ⊎ ((IsEnding texts.time × AreFit texts × IsBind texts.binds.items × StateFails texts.state failure)
-    ⊎ ((IsEnding texts.time × AreFit texts × IsBind texts.binds.items × IsState texts.state × PathFails (option_map (λ text. text.now) texts.leases) failure)
-    ⊎ (IsEnding texts.time × AreFit texts × IsBind texts.binds.items × IsState texts.state × IsPath (option_map (λ text. text.now) texts.leases) × ClientRowsFail texts.rows_per_client failure)))))))
+    ⊎ ((IsEnding texts.time × AreFit texts × IsBind texts.binds.items × IsState texts.state × FilesFail texts failure)
+    ⊎ (IsEnding texts.time × AreFit texts × IsBind texts.binds.items × IsState texts.state × AreFiles texts × ClientRowsFail texts.rows_per_client failure)))))))
+
+-- The same, and who may register; no name is fixed yet.
+pub record ServerGiven (texts : NbnsTexts) (a : ServerArguments) : Type 0 where
+  pub nbns : NbnsGiven texts a
+  pub allowed : AreNetworks texts.allow.items a.nbns.front.allowed
+  pub none_fixed : a.nbns.front.fixed ≡ []
+  pub longest : a.nbns.front.longest ≡ a.nbns.config.longest
+
+-- the networks are read first
+abbrev pub AreAllowed : NbnsTexts → Type 0
+AreAllowed texts = (networks : List NetworkValue) × AreNetworks texts.allow.items networks
+
+abbrev pub ServerFails : NbnsTexts → Failure → Type 0
+ServerFails texts failure = AllowFails texts.allow.items failure ⊎ (AreAllowed texts × NbnsFails texts failure)
 
 -- ---- `host`
 

@@ -1,4 +1,4 @@
--- The addresses that a name server is told to serve (our profile).
+-- The addresses that a name server is to serve (our profile).
 use Rattle.std.specs.Prelude.{◌≡◌, ◌≢◌, ◌⊎◌, ℕ, List, [], ◌∷◌, ◌++◌, Any}
 use Rattle.std.specs.Borrow.{Bor}
 use Rattle.std.specs.Global.{Vec}

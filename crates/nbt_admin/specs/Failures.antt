@@ -24,12 +24,12 @@ abbrev pub IsUsage : Failure → Type 0
 IsUsage (Usage text) = Unit {0}
 IsUsage _ = ⊥
 
--- a port, a clock, a socket or the output failed, or memory is out
+-- a port, a clock, a socket or the output failed, or it is out of memory
 abbrev pub IsFault : Failure → Type 0
 IsFault (Fault f) = Unit {0}
 IsFault _ = ⊥
 
--- The texts don't hold what they must, which is wrong usage; or memory is out.
+-- The texts don't hold what they must, which is wrong usage; or it is out of memory.
 abbrev pub UsageFails : (Holds : Type 0) → Failure → Type 0
 UsageFails Holds failure = (failure ≡ out_of_memory) ⊎ (¬ Holds × IsUsage failure)
 

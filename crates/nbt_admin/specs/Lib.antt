@@ -1,6 +1,10 @@
 pub mod Arguments
 pub mod Binds
 pub mod Failures
+pub mod Files
+pub mod Fronts
 pub mod Running
+pub mod Scans
+pub mod Statuses
 pub mod Texts
 pub mod Times

@@ -1,8 +1,8 @@
 -- What a command for people who run a network does on this machine, what it prints, its status, and how it fails (our profile).
-use Rattle.std.specs.Prelude.{◌≡◌, ◌⊎◌, ℕ, Bool, if◌then◌else◌, List, Option}
+use Rattle.std.specs.Prelude.{◌≡◌, ◌⊎◌, ℕ, nat_lt, Bool, if◌then◌else◌, List, length, Option}
 use Rattle.std.specs.Io.KnownBytes.{Appends}
 use Rattle.nbt_args.specs.declared.texts.AdminLine.{AdminLine}
-use Rattle.nbt_args.specs.declared.texts.AdminLine.TheVariants.{Lookup, Status, Nbns, Host, Release}
+use Rattle.nbt_args.specs.declared.texts.AdminLine.TheVariants.{Lookup, Status, Nbns, Host, Release, Scan}
 use Rattle.nbt_client.specs.Answers.{answer_status}
 use Rattle.nbt_client.specs.Asking.{AsksHere}
 use Rattle.nbt_client.specs.declared.answer.Answer.{Answer}
@@ -10,11 +10,18 @@ use Rattle.nbt_host.specs.Running.{HostsHere}
 use Rattle.nbt_host.specs.declared.arguments.HostArguments.{HostArguments}
 use Rattle.nbt_keep.specs.Running.{RunsServer}
 use Rattle.nbt_keep.specs.declared.arguments.ServerArguments.{ServerArguments}
-use Rattle.nbt_admin.specs.Arguments.{AskGiven, AsksServer, AsksHost, AskFails, HostGiven, HostFails, ReleaseGiven, ReleaseFails, NbnsGiven, NbnsFails}
+use Rattle.nbt_admin.specs.Arguments.{AskGiven, AsksServer, AskFails, HostGiven, HostFails, ReleaseGiven, ReleaseFails, ServerGiven, ServerFails}
+use Rattle.nbt_admin.specs.Fronts.{GivesFixed, FixedFails}
+use Rattle.nbt_front.specs.FixedNames.{FixedNames}
 use Rattle.nbt_release.specs.Running.{ReleasesHere}
 use Rattle.nbt_admin.specs.Failures.{IsFault}
-use Rattle.nbt_admin.specs.Texts.{NameFails, SoughtFails}
+use Rattle.nbt_admin.specs.Scans.{ScanGiven, ScanFails}
+use Rattle.nbt_admin.specs.declared.scanning.ScanArguments.{ScanArguments}
+use Rattle.nbt_scan.specs.Running.{ScansHere}
+use Rattle.nbt_admin.specs.Statuses.{StatusGiven, StatusFails, AskedInTurn}
+use Rattle.nbt_admin.specs.Texts.{SoughtFails}
 use Rattle.nbt_admin.specs.declared.asking.AskArguments.{AskArguments}
+use Rattle.nbt_admin.specs.declared.asking.HostAsked.{HostAsked}
 use Rattle.nbt_admin.specs.declared.failure.Failure.{Failure}
 
 -- The request was made, the text of its answer was appended, and the status is the answer's.
@@ -37,22 +44,39 @@ pub record ReleasedHere (a : HostArguments) (status : ℕ) (old_text text : Opti
   pub releases : ReleasesHere a.bind a.server a.wants.items all old_text text
   pub status_is : status ≡ (if all then 0 else 1)
 
+-- a server for which these names are fixed
+abbrev pub with_fixed : FixedNames → ServerArguments → ServerArguments
+with_fixed names a = record a { nbns = record a.nbns { front = record a.nbns.front { fixed = names } } }
+
+-- The addresses were asked, and the status says whether any replied.
+pub record ScannedHere (a : ScanArguments) (status : ℕ) (old_text text : Option (List ℕ)) : Type 0 where
+  pub any : Bool
+  pub scans : ScansHere a.bind a.plan a.layout any old_text text
+  pub status_is : status ≡ (if any then 0 else 1)
+
 -- the command ran with the arguments that its texts give
 abbrev pub Runs : AdminLine → (status : ℕ) → (old_text text : Option (List ℕ)) → Type 0
 Runs (Lookup texts) status old_text text = (a : AskArguments) × AskGiven AsksServer texts a × AskedHere a status old_text text
-Runs (Status texts) status old_text text = (a : AskArguments) × AskGiven AsksHost texts a × AskedHere a status old_text text
-Runs (Nbns texts) status old_text text = (a : ServerArguments) × NbnsGiven texts a × (status ≡ 0) × RunsServer a old_text text
+Runs (Status texts) status old_text text = (requests : List HostAsked) × StatusGiven texts requests × AskedInTurn (nat_lt 1 (length requests)) requests status old_text text
+Runs (Nbns texts) status old_text text = (a : ServerArguments) × ServerGiven texts a × (names : FixedNames) × GivesFixed texts.fixed names × (status ≡ 0) × RunsServer (with_fixed names a) old_text text
 Runs (Host texts) status old_text text = (a : HostArguments) × HostGiven texts a × HostedHere a status old_text text
 Runs (Release texts) status old_text text = (a : HostArguments) × ReleaseGiven texts a × ReleasedHere a status old_text text
+Runs (Scan texts) status old_text text = (a : ScanArguments) × ScanGiven texts a × ScannedHere a status old_text text
 
 -- the first argument that is wrong is reported
 abbrev pub Refuses : AdminLine → Failure → Type 0
 Refuses (Lookup texts) failure = AskFails (SoughtFails texts.exact texts.scope.now texts.name.now) texts failure
-Refuses (Status texts) failure = AskFails (NameFails texts.exact texts.scope.now texts.name.now) texts failure
-Refuses (Nbns texts) failure = NbnsFails texts failure
+Refuses (Status texts) failure = StatusFails texts failure
+Refuses (Nbns texts) failure = ServerFails texts failure
 Refuses (Host texts) failure = HostFails texts failure
 Refuses (Release texts) failure = ReleaseFails texts failure
+Refuses (Scan texts) failure = ScanFails texts failure
 
--- an argument is wrong, or a port, a clock, a socket or the output failed, or memory is out
+-- a line of the file of fixed names is wrong
+abbrev pub RefusesFile : AdminLine → Failure → Type 0
+RefusesFile (Nbns texts) failure = FixedFails texts.fixed failure
+RefusesFile _ failure = ⊥
+
+-- an argument is wrong, or a line of a file, or a port, a clock, a socket, a file or the output failed, or memory is out
 abbrev pub Stops : AdminLine → Failure → Type 0
-Stops line failure = IsFault failure ⊎ Refuses line failure
+Stops line failure = IsFault failure ⊎ (Refuses line failure ⊎ RefusesFile line failure)

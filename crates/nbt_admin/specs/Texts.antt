@@ -9,6 +9,7 @@ use Rattle.nbt_text.specs.ScopedNames.{SpellsScopedName, MisspellsScopedName}
 use Rattle.nbt_text.specs.Address.{SpellsEnd, SpellsSource}
 use Rattle.nbt_admin.specs.Failures.{ComplainsOf, out_of_memory}
 use Rattle.nbt_admin.specs.declared.failure.Failure.{Failure}
+use Rattle.nbt_admin.specs.declared.failure.ArgumentFault.{ArgumentFault}
 use Rattle.nbt_admin.specs.declared.failure.ArgumentFault.TheVariants as w
 
 -- ---- addresses
@@ -98,5 +99,5 @@ SoughtFails exact scope text failure = NameFails exact scope text failure
 abbrev pub IsPath : Option (List ℕ) → Type 0
 IsPath path = path ≢ Some []
 
-abbrev pub PathFails : Option (List ℕ) → Failure → Type 0
-PathFails path failure = (failure ≡ out_of_memory) ⊎ ((path ≡ Some []) × ComplainsOf [] w.NoPath failure)
+abbrev pub PathFails : ArgumentFault → Option (List ℕ) → Failure → Type 0
+PathFails fault path failure = (failure ≡ out_of_memory) ⊎ ((path ≡ Some []) × ComplainsOf [] fault failure)

@@ -1,17 +1,19 @@
 //! Reads the arguments of `lookup` and `status`.
 
-ghost use Rattle.std.specs.Prelude.{◌≡◌, ◌≤◌, ◌↔◌, IfOk, IfErr, codes};
+ghost use Rattle.std.specs.Prelude.{◌≡◌, ◌≤◌, ◌↔◌, ◌++◌, List, OnOk, IfOk, IfErr, codes};
 ghost use Rattle.nbt_client.specs.Asking.{tries_most};
 ghost use Rattle.nbt_admin.specs.Times.{IsWait, SpellsPatience};
 ghost use Rattle.nbt_admin.specs.Failures.{UsageFails};
 ghost use Rattle.nbt_admin.specs.Arguments.{AskGiven, AsksServer, AsksHost, AskFails};
+ghost use Rattle.nbt_admin.specs.Statuses.{AreAsked, OthersFail, StatusGiven, StatusFails};
+ghost use Rattle.nbt_admin.specs.declared.asking.HostAsked.{HostAsked as Asked};
 ghost use Rattle.nbt_text.specs.Address.{SpellsSource};
 ghost use Rattle.nbt_admin.specs.Texts.{SourceFails, SpellEnds, EndsFail, SoughtFails, NameFails};
 
 use crate::failure::Failure;
 use crate::naming::{apart, name_of, name_to_ask, peer_of, source_of};
 use crate::timing::parse_between;
-use nbt_args::{LimitedArgument, LimitedCommand, LookupTexts};
+use nbt_args::{LimitedArgument, LimitedCommand, LookupTexts, StatusTexts};
 use nbt_client::{Question, TRIES_MOST, patience_of};
 use nbt_name::Addr;
 use std::alloc::Global;
@@ -22,6 +24,13 @@ pub struct AskArguments {
     pub bind: Addr,
     pub question: Question,
     pub patience: u32,
+}
+
+/// A status request: the host's address as it was given, and the arguments.
+#[derive(Drop)]
+pub struct HostAsked<'a> {
+    pub host: &'a str,
+    pub arguments: AskArguments,
 }
 
 /// Reads the arguments of `lookup`. Refused, in this order: a wait beyond its limits, which is wrong usage, the server's address, which is of
@@ -41,8 +50,50 @@ pub fn lookup_arguments(alloc: Global, texts: &LookupTexts<'_>) -> Result<AskArg
     })
 }
 
-/// Reads the arguments of `status`. Refused likewise, with the host's address in place of the server's. Any name is valid.
-pub fn status_arguments(alloc: Global, texts: &LookupTexts<'_>) -> Result<AskArguments, Failure>
+/// Reads the arguments of `status`: a request for each host. Refused as the first host's arguments are, and then as those of the others in
+/// their order.
+pub fn status_requests<'a>(
+    alloc: Global,
+    texts: &StatusTexts<'a>,
+) -> Result<Vec<HostAsked<'a>>, Failure>
+    ensures given { IfOk result (λ requests. StatusGiven texts.now requests.items) }
+    ensures failure { IfErr result (StatusFails texts.now) }
+{
+    let arguments = status_arguments(alloc, &texts.first)?;
+    let host = texts.first.to;
+    let mut requests = Vec::new(alloc);
+    requests.push(HostAsked { host, arguments })?;
+    add_requests(alloc, &texts.first, texts.others.as_slice(), &mut requests)?;
+    Ok(requests)
+}
+
+/// Reads the addresses of further hosts, and appends the requests to them, which are sent what the first host is.
+fn add_requests<'a>(
+    alloc: Global,
+    first: &LookupTexts<'a>,
+    hosts: &[&'a str],
+    requests: &mut Vec<HostAsked<'a>>,
+) -> Result<(), Failure>
+    ensures added { OnOk result ((added : List Asked) × AreAsked first.now hosts.now added × (requests.new.items ≡ requests.old.items ++ added)) }
+    ensures failure { IfErr result (OthersFail first.now hosts.now) }
+{
+    for host in hosts {
+        let texts = LookupTexts {
+            to: *host,
+            ..*first
+        };
+        let arguments = status_arguments(alloc, &texts)?;
+        requests.push(HostAsked {
+            host: *host,
+            arguments,
+        })?;
+    }
+    Ok(())
+}
+
+/// Reads the arguments of a status request to one host. Refused as those of `lookup` are, with the host's address in place of the server's. Any
+/// name is valid.
+fn status_arguments(alloc: Global, texts: &LookupTexts<'_>) -> Result<AskArguments, Failure>
     ensures given { IfOk result (AskGiven AsksHost texts.now) }
     ensures failure { IfErr result (AskFails (NameFails texts.now.exact texts.now.scope.now texts.now.name.now) texts.now) }
 {
@@ -83,7 +134,7 @@ fn patience(alloc: Global, command: LimitedCommand, tries: &str, wait: &str) -> 
 }
 
 /// Returns the number of requests that TRIES names.
-fn tries_of(text: &str) -> u32
+pub(crate) fn tries_of(text: &str) -> u32
     ensures once { (result ≡ 1) ↔ (text.now ≡ codes "1") }
     ensures twice { (result ≡ 2) ↔ (text.now ≡ codes "2") }
     ensures tries_at_least { 1 ≤ result }

@@ -1,4 +1,4 @@
-//! Reads the addresses that a name server is told to serve.
+//! Reads the addresses that a name server is to serve.
 
 ghost use Rattle.std.specs.Prelude.{◌≡◌, ◌↔◌, IsTrue, IfOk, IfErr};
 ghost use Rattle.nbt_admin.specs.Binds.{AreAddresses, BindFails, GivesBind, IsAmong, name_port};

@@ -5,9 +5,11 @@ ghost use Rattle.std.specs.Prelude.{◌≡◌, ◌⊎◌};
 use crate::hosting::NAMES_MOST;
 use crate::reason::why_no_address;
 use nbt_args::{NoUnit, Refusal, Text};
+use nbt_front::LineFault;
 use nbt_lease::{Config, LIFE_MOST, LONGEST_MOST, ROWS_MOST};
 use nbt_nbns::write_refusal;
 use nbt_port::Fault;
+use nbt_scan::ADDRESSES_MOST;
 use std::alloc::{AllocError, AllocFailed, Global};
 use std::io::Write;
 use std::{fmt, io};
@@ -43,10 +45,30 @@ pub enum ArgumentFault {
     Time,
     /// Empty, and so no folder.
     Folder,
-    /// An empty path.
+    /// An empty path of the list of leases.
     NoPath,
+    /// An empty path of the hosts.
+    NoHosts,
+    /// An empty path of the statistics.
+    NoStats,
+    /// A path that an earlier argument has too.
+    PathTwice,
     /// Not a number of live leases for a client.
     ClientRows,
+    /// Not a network.
+    Network,
+    /// No network, range or address.
+    Addresses,
+    /// A network of too few or too many bits.
+    Bits,
+    /// A range whose last address is before its first.
+    Backwards,
+    /// Not a number of requests in a second.
+    Rate,
+    /// Not a time to wait for replies.
+    Wait,
+    /// Not a port.
+    Port,
 }
 
 impl ArgumentFault {
@@ -66,7 +88,17 @@ impl ArgumentFault {
             ArgumentFault::Time => "time",
             ArgumentFault::Folder => "folder",
             ArgumentFault::NoPath => "list of leases",
+            ArgumentFault::NoHosts => "hosts",
+            ArgumentFault::NoStats => "statistics",
+            ArgumentFault::PathTwice => "file",
             ArgumentFault::ClientRows => "rows per client",
+            ArgumentFault::Network => "network",
+            ArgumentFault::Addresses => "address",
+            ArgumentFault::Bits => "network",
+            ArgumentFault::Backwards => "range",
+            ArgumentFault::Rate => "rate",
+            ArgumentFault::Wait => "wait",
+            ArgumentFault::Port => "port",
         }
     }
 }
@@ -84,7 +116,9 @@ impl fmt::Display for ArgumentFault {
             ArgumentFault::AnyPort => f.write_str("not the port of a host"),
             ArgumentFault::Name(fault) => write!(f, "{fault}"),
             ArgumentFault::Star => f.write_str("no server is asked for a name that begins with *"),
-            ArgumentFault::Twice | ArgumentFault::AddressTwice => f.write_str("given twice"),
+            ArgumentFault::Twice | ArgumentFault::AddressTwice | ArgumentFault::PathTwice => {
+                f.write_str("given twice")
+            }
             ArgumentFault::Life => {
                 let most = LIFE_MOST / 1_000;
                 write!(f, "not a time from 1ms to {most}s")
@@ -95,11 +129,24 @@ impl fmt::Display for ArgumentFault {
             }
             ArgumentFault::Time => f.write_str("not a time, as 1500ms, 300s or 5m"),
             ArgumentFault::Folder => f.write_str("an empty text names no folder"),
-            ArgumentFault::NoPath => f.write_str("no path of a file"),
+            ArgumentFault::NoPath | ArgumentFault::NoHosts | ArgumentFault::NoStats => {
+                f.write_str("no path of a file")
+            }
             ArgumentFault::ClientRows => {
                 let most = ROWS_MOST;
                 write!(f, "not a whole number from 1 to {most}")
             }
+            ArgumentFault::Network => f.write_str(
+                "no A.B.C.D/BITS or A.B.C.D in decimal, with 0 to 32 bits",
+            ),
+            ArgumentFault::Addresses => f.write_str(
+                "no A.B.C.D/BITS, A.B.C.D-A.B.C.D, A.B.C.D-D or A.B.C.D in decimal",
+            ),
+            ArgumentFault::Bits => f.write_str("not from /16 to /32"),
+            ArgumentFault::Backwards => f.write_str("its last address is before its first"),
+            ArgumentFault::Rate => f.write_str("not a whole number from 1 to 10000"),
+            ArgumentFault::Wait => f.write_str("not a time from 1ms to 5s"),
+            ArgumentFault::Port => f.write_str("not a whole number from 1 to 65535"),
         }
     }
 }
@@ -123,7 +170,10 @@ impl fmt::Display for BadArgument {
                 Some(reason) => write!(f, "{what} '{text}': {reason}"),
                 None => write!(f, "{what} '{text}': {fault}"),
             },
-            ArgumentFault::Life | ArgumentFault::Longest | ArgumentFault::Time => {
+            ArgumentFault::Life
+            | ArgumentFault::Longest
+            | ArgumentFault::Time
+            | ArgumentFault::Wait => {
                 match NoUnit::of(text) {
                     Some(reason) => write!(f, "{what} '{text}': {reason}"),
                     None => write!(f, "{what} '{text}': {fault}"),
@@ -134,15 +184,37 @@ impl fmt::Display for BadArgument {
     }
 }
 
+/// A line of the file of fixed names that can't be taken: the file's path, the line's number from 1 on, and what is wrong with it. It
+/// prints as `printers.txt: line 3: kind: unique or group is wanted`.
+#[derive(Drop)]
+pub struct BadLine {
+    pub path: String,
+    pub number: usize,
+    pub fault: LineFault,
+}
+
+impl fmt::Display for BadLine {
+    fn fmt<W: fmt::Write>(&self, f: &mut fmt::Formatter<W>) -> fmt::Result {
+        let path = self.path.as_str();
+        let number = self.number;
+        let fault = self.fault;
+        write!(f, "{path}: line {number}: {fault}")
+    }
+}
+
 /// What standard error reports of a command's arguments.
 #[derive(Drop)]
 pub enum Complaint {
     /// An argument is invalid.
     Argument(BadArgument),
+    /// A line of the file of fixed names can't be taken.
+    Line(BadLine),
     /// The longest lease is too short, as `nbt_nbns::judge` has it.
     Short(Config),
     /// This number of names is more than a host can hold.
     Many(usize),
+    /// More addresses are given than a scan asks.
+    ManyAddresses,
 }
 
 impl Complaint {
@@ -154,6 +226,7 @@ impl Complaint {
     fn write_line<E: Write>(&self, alloc: Global, errors: &mut E) -> io::Result<()> {
         match self {
             Complaint::Argument(bad) => writeln!(errors, "nbt: {bad}")?,
+            Complaint::Line(bad) => writeln!(errors, "nbt: {bad}")?,
             Complaint::Short(config) => {
                 let mut text = String::new(alloc);
                 write_refusal(*config, &mut text)?;
@@ -162,6 +235,10 @@ impl Complaint {
             Complaint::Many(count) => {
                 let most = NAMES_MOST;
                 writeln!(errors, "nbt: {count} names, at most {most}")?;
+            }
+            Complaint::ManyAddresses => {
+                let most = ADDRESSES_MOST;
+                writeln!(errors, "nbt: too many addresses, at most {most}")?;
             }
         }
         errors.flush()

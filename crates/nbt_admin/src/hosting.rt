@@ -20,7 +20,7 @@ pub const NAMES_MOST: usize = 14;
 /// Reads the arguments of `host`. Refused, in this order: the life, the longest lease, the time, a longest lease that is too short for a
 /// network, the server's address, which is of one machine and has a port, the own address, which is of one machine too, one that is
 /// both, the number of names, and the names, those of groups last, of which none begins with `*` or is repeated. Each name is
-/// requested with TTL 0, for as long as the server allows.
+/// wanted with TTL 0, which stands for the longest lease: a host requests it by its seconds.
 pub fn host_arguments(alloc: Global, texts: &HostTexts<'_>) -> Result<HostArguments, Failure>
     ensures given { IfOk result (HostGiven texts.now) }
     ensures failure { IfErr result (HostFails texts.now) }

@@ -1,4 +1,4 @@
-//! The commands for people who run a network, `lookup`, `status`, `nbns`, `host` and `release` (our profile).
+//! The commands for people who run a network, `lookup`, `status`, `nbns`, `host`, `release` and `scan` (our profile).
 //!
 //! [`run`] reads the arguments whose texts `nbt_args` found, runs the command on this machine, prints its output, and returns the status.
 #![tactic(auto)]
@@ -6,14 +6,20 @@
 mod asking;
 mod binding;
 mod failure;
+mod fronting;
 mod hosting;
+mod lossy;
 mod naming;
 mod reason;
 mod running;
+mod scanning;
 mod serving;
+mod spans;
+mod statuses;
 mod timing;
 
-pub use asking::AskArguments;
-pub use failure::{ArgumentFault, BadArgument, Complaint, Failure};
+pub use asking::{AskArguments, HostAsked};
+pub use failure::{ArgumentFault, BadArgument, BadLine, Complaint, Failure};
 pub use hosting::NAMES_MOST;
+pub use lossy::LossyWriter;
 pub use running::{check, run};

@@ -3,12 +3,16 @@
 ghost use Rattle.std.specs.Prelude.{◌≡◌, ◌≤◌, IfOk, OnOk, IfErr};
 ghost use Rattle.std.specs.Io.KnownBytes.{Appends};
 ghost use Rattle.nbt_keep.specs.Running.{RunsServer};
-ghost use Rattle.nbt_admin.specs.Running.{Runs, Refuses, Stops, AskedHere, HostedHere, ReleasedHere};
+ghost use Rattle.nbt_scan.specs.Plans.{IsPlan};
+ghost use Rattle.nbt_admin.specs.Running.{Runs, Refuses, Stops, AskedHere, HostedHere, ReleasedHere, ScannedHere};
 
-use crate::asking::{AskArguments, lookup_arguments, status_arguments};
+use crate::asking::{AskArguments, lookup_arguments, status_requests};
 use crate::failure::Failure;
+use crate::fronting::fixed_of;
 use crate::hosting::{host_arguments, release_arguments};
-use crate::serving::nbns_arguments;
+use crate::scanning::{ScanArguments, scan_arguments};
+use crate::serving::server_arguments;
+use crate::statuses::ask_all;
 use nbt_args::AdminLine;
 use nbt_client::ask_here;
 use nbt_host::{HostArguments, run_host};
@@ -17,6 +21,7 @@ use nbt_lease::Config;
 use nbt_nbns::{Judged, judge, write_warning};
 use nbt_port::Fault;
 use nbt_release::run_release;
+use nbt_scan::run_scan;
 use std::alloc::Global;
 use std::fs::File;
 use std::io::Write;
@@ -27,12 +32,15 @@ use std::{io, time};
 /// The status of a host that didn't hold all its names at its end (our profile).
 const NOT_HELD: u8 = 5;
 
+/// The status of a scan to which no host replied (our profile).
+const NONE_REPLIED: u8 = 1;
+
 /// The status of releases of which one wasn't confirmed (our profile).
 const NOT_RELEASED: u8 = 1;
 
 /// Runs a command over this machine's UDP, clocks and files, prints its output, and returns the status: of a lookup or a status request 0, 1
-/// or 5, as its answer has it; of a name server 0; of a host 0 if it held all its names at its end, else 5; of releases 0 if all were
-/// confirmed, else 1. The first invalid argument is refused before anything is done. Then it fails as `ask_here`, `run_server`,
+/// or 5, as its answer has it, and of several requests the greatest; of a name server 0; of a host 0 if it held all its names at its end, else 5; of releases 0 if all were
+/// confirmed, else 1; of a scan 0 if a host replied, else 1. The first invalid argument is refused before anything is done. Then it fails as `ask_here`, `run_server`,
 /// `run_host` and `run_release` do, and with `Output` if an answer can't be printed. If the longest lease of a name server that keeps
 /// no leases is above an hour, a line in `errors` says for how long the server is silent.
 pub fn run<M: Net + time::Clock + Files<File = File>, W: Write, E: Write>(
@@ -52,11 +60,14 @@ pub fn run<M: Net + time::Clock + Files<File = File>, W: Write, E: Write>(
             Ok(ask(machine, alloc, &lookup, writer, errors)?)
         }
         AdminLine::Status(texts) => {
-            let status = status_arguments(alloc, texts)?;
-            Ok(ask(machine, alloc, &status, writer, errors)?)
+            let requests = status_requests(alloc, texts)?;
+            let status = ask_all(machine, alloc, requests.as_slice(), writer, errors)?;
+            Ok(status)
         }
         AdminLine::Nbns(texts) => {
-            let nbns = nbns_arguments(alloc, texts)?;
+            let mut nbns = server_arguments(alloc, texts)?;
+            let names = fixed_of(machine, alloc, texts.fixed, errors)?;
+            nbns.nbns.front.fix(names);
             serve(machine, alloc, &nbns, writer, errors)?;
             Ok(0)
         }
@@ -67,6 +78,10 @@ pub fn run<M: Net + time::Clock + Files<File = File>, W: Write, E: Write>(
         AdminLine::Release(texts) => {
             let host = release_arguments(alloc, texts)?;
             Ok(release(machine, alloc, &host, writer, errors)?)
+        }
+        AdminLine::Scan(texts) => {
+            let arguments = scan_arguments(alloc, texts)?;
+            Ok(scan(machine, alloc, &arguments, writer, errors)?)
         }
     }
 }
@@ -80,16 +95,19 @@ pub fn check(alloc: Global, line: &AdminLine<'_>) -> Result<(), Failure>
             lookup_arguments(alloc, texts)?;
         }
         AdminLine::Status(texts) => {
-            status_arguments(alloc, texts)?;
+            status_requests(alloc, texts)?;
         }
         AdminLine::Nbns(texts) => {
-            nbns_arguments(alloc, texts)?;
+            server_arguments(alloc, texts)?;
         }
         AdminLine::Host(texts) => {
             host_arguments(alloc, texts)?;
         }
         AdminLine::Release(texts) => {
             release_arguments(alloc, texts)?;
+        }
+        AdminLine::Scan(texts) => {
+            scan_arguments(alloc, texts)?;
         }
     }
     Ok(())
@@ -188,4 +206,30 @@ fn release<M: Net + time::Clock, W: Write, E: Write>(
         errors,
     )?;
     Ok(if all { 0 } else { NOT_RELEASED })
+}
+
+/// Asks the hosts of a network for their names, and returns the status.
+fn scan<M: Net + time::Clock, W: Write, E: Write>(
+    machine: &M,
+    alloc: Global,
+    arguments: &ScanArguments,
+    writer: &mut W,
+    errors: &mut E,
+) -> Result<u8, Fault>
+    requires { IsPlan arguments.now.plan }
+    ensures done { IfOk result (λ status. ScannedHere arguments.now status (W.contents writer.old) (W.contents writer.new)) }
+    ensures bound { IfOk result (λ status. status ≤ 5) }
+{
+    let plan = &arguments.plan;
+    let any = run_scan(
+        machine,
+        alloc,
+        arguments.bind,
+        plan,
+        arguments.layout,
+        arguments.progress,
+        writer,
+        errors,
+    )?;
+    Ok(if any { 0 } else { NONE_REPLIED })
 }

@@ -1,23 +1,40 @@
 //! Reads the arguments of `nbns`.
 
-ghost use Rattle.std.specs.Prelude.{◌≡◌, IfOk, IfErr};
+ghost use Rattle.std.specs.Prelude.{◌≡◌, [], IfOk, IfErr, OnOk};
 ghost use Rattle.std.specs.Option.{option_map};
 ghost use Rattle.std.specs.String.{string_bytes};
-ghost use Rattle.nbt_admin.specs.Arguments.{NbnsGiven, NbnsFails, GivesState, StateFails};
+ghost use Rattle.nbt_admin.specs.Arguments.{NbnsGiven, NbnsFails, ServerGiven, ServerFails, GivesState, StateFails};
 ghost use Rattle.nbt_admin.specs.Texts.{IsPath, PathFails};
+ghost use Rattle.nbt_admin.specs.Files.{GivesFiles, FilesFail, AreApart, TwiceFails};
 
 use crate::binding::bind_of;
 use crate::failure::{ArgumentFault, Failure};
+use crate::fronting::networks_of;
 use crate::timing::{client_rows_of, config_of, ending_of, fit};
 use nbt_args::NbnsTexts;
+use nbt_front::{FixedNames, Front, Network};
 use nbt_keep::{ServerArguments, StateFolder};
 use nbt_nbns::NbnsArguments;
 use std::alloc::Global;
 
-/// Reads the arguments of `nbns`. Refused, in this order: the life, the longest lease, the time, a longest lease that is too short for
-/// a network, the addresses, the folder of the state, an empty path of the list of leases, and the leases of a client.
-pub fn nbns_arguments(alloc: Global, texts: &NbnsTexts<'_>) -> Result<ServerArguments, Failure>
+/// Reads the arguments of `nbns`. Refused: the first text that is no network; and then as [`nbns_arguments`] has it. No name is fixed yet.
+pub fn server_arguments(alloc: Global, texts: &NbnsTexts<'_>) -> Result<ServerArguments, Failure>
+    ensures given { IfOk result (ServerGiven texts.now) }
+    ensures failure { IfErr result (ServerFails texts.now) }
+{
+    let allowed = networks_of(alloc, texts.allow.as_slice())?;
+    nbns_arguments(alloc, texts, allowed)
+}
+
+/// Reads all of them but the networks, which these are. Refused, in this order: the life, the longest lease, the time, a longest lease that is
+/// too short for a network, the addresses, the folder of the state, the files as [`files_of`] has them, and the leases of a client.
+fn nbns_arguments(
+    alloc: Global,
+    texts: &NbnsTexts<'_>,
+    allowed: Vec<Network>,
+) -> Result<ServerArguments, Failure>
     ensures given { IfOk result (NbnsGiven texts.now) }
+    ensures front { IfOk result (λ a. a.nbns.front ≡ record { allowed = allowed.items; fixed = []; longest = a.nbns.config.longest }) }
     ensures failure { IfErr result (NbnsFails texts.now) }
 {
     let config = config_of(alloc, texts.life, texts.longest)?;
@@ -25,7 +42,7 @@ pub fn nbns_arguments(alloc: Global, texts: &NbnsTexts<'_>) -> Result<ServerArgu
     fit(config)?;
     let bind = bind_of(alloc, &texts.binds)?;
     let state = state_of(alloc, texts.state, texts.silent_after_boot)?;
-    let leases = path_of(alloc, texts.leases)?;
+    let files = files_of(alloc, texts)?;
     let rows_per_client = client_rows_of(alloc, texts.rows_per_client)?;
     Ok(ServerArguments {
         nbns: NbnsArguments {
@@ -34,9 +51,12 @@ pub fn nbns_arguments(alloc: Global, texts: &NbnsTexts<'_>) -> Result<ServerArgu
             time,
             log: texts.log,
             broadcasts: texts.broadcasts,
-            leases,
+            leases: files.leases,
+            hosts: files.hosts,
+            stats: files.stats,
             strict: texts.strict,
             rows_per_client,
+            front: Front::new(allowed, FixedNames::none(alloc), config),
         },
         state,
     })
@@ -64,16 +84,60 @@ fn state_of(
     }))
 }
 
-/// Copies the path of a file, if there is one. Refused where it is empty.
-fn path_of(alloc: Global, text: Option<&str>) -> Result<Option<String>, Failure>
+/// The paths of the files that a server keeps, if any.
+#[derive(Drop)]
+struct Files {
+    leases: Option<String>,
+    hosts: Option<String>,
+    stats: Option<String>,
+}
+
+/// Reads which files a server keeps. Refused, in this order: an empty path of the list of leases, of the hosts, of the statistics; and
+/// the first path that an earlier one of them is too.
+fn files_of(alloc: Global, texts: &NbnsTexts<'_>) -> Result<Files, Failure>
+    ensures given { IfOk result (λ files. GivesFiles texts.now files.leases files.hosts files.stats) }
+    ensures failure { IfErr result (FilesFail texts.now) }
+{
+    let leases = path_of(alloc, texts.leases, ArgumentFault::NoPath)?;
+    let hosts = path_of(alloc, texts.hosts, ArgumentFault::NoHosts)?;
+    let stats = path_of(alloc, texts.stats, ArgumentFault::NoStats)?;
+    apart(alloc, texts.leases, texts.hosts)?;
+    apart(alloc, texts.leases, texts.stats)?;
+    apart(alloc, texts.hosts, texts.stats)?;
+    Ok(Files {
+        leases,
+        hosts,
+        stats,
+    })
+}
+
+/// Refused where both paths are given, and are the same.
+fn apart(alloc: Global, one: Option<&str>, other: Option<&str>) -> Result<(), Failure>
+    ensures ok { OnOk result (AreApart (option_map (λ t. t.now) one.entry) (option_map (λ t. t.now) other.entry)) }
+    ensures failure { IfErr result (TwiceFails (option_map (λ t. t.now) one.entry) (option_map (λ t. t.now) other.entry)) }
+{
+    match (one, other) {
+        (Some(one), Some(other)) if one == other => {
+            Err(Failure::of_argument(alloc, other, ArgumentFault::PathTwice))
+        }
+        _ => Ok(()),
+    }
+}
+
+/// Copies the path of a file, if there is one. Refused with this fault where it is empty.
+fn path_of(
+    alloc: Global,
+    text: Option<&str>,
+    fault: ArgumentFault,
+) -> Result<Option<String>, Failure>
     ensures path { IfOk result (λ path. (option_map string_bytes path ≡ option_map (λ t. t.now) text.entry) × IsPath (option_map (λ t. t.now) text.entry)) }
-    ensures failure { IfErr result (PathFails (option_map (λ t. t.now) text.entry)) }
+    ensures failure { IfErr result (PathFails fault (option_map (λ t. t.now) text.entry)) }
 {
     let Some(text) = text else {
         return Ok(None);
     };
     if text.is_empty() {
-        return Err(Failure::of_argument(alloc, text, ArgumentFault::NoPath));
+        return Err(Failure::of_argument(alloc, text, fault));
     }
     Ok(Some(String::from_str(alloc, text)?))
 }

@@ -126,6 +126,12 @@ pub static STATUS: Description = Description {
             presence: Presence::Default("*"),
             help: "The name to which the request is sent",
         },
+        Argument {
+            name: "also",
+            form: Form::Options("ADDR"),
+            presence: Presence::Optional,
+            help: "Another host, asked next; may be repeated; each line then begins with its host's address",
+        },
         SCOPE,
         EXACT,
         TRIES,
@@ -141,9 +147,13 @@ The last line is `unit id` and six octets, mostly the address of a network card,
 ADDR is A.B.C.D or A.B.C.D:PORT, in decimal with no leading zeros. TIME is a number and its unit, as 500ms or 5s. NAME is one of
 the host's names, or `*` for any of them, written as `nbt lookup --help` says.
 
+With --also the hosts are asked one after the other, in the order given. Each line begins with the address of its host as it was
+given, and a space. The exit status is the greatest of theirs.
+
 Examples:
   nbt status 192.0.2.7
   nbt status 192.0.2.7 FILER --tries 1 --wait 500ms
+  nbt status 192.0.2.7 --also 192.0.2.8 --also 192.0.2.9
 
 Exit status:
   0  done
@@ -165,7 +175,7 @@ pub static NBNS: Description = Description {
             name: "bind",
             form: Form::Options("ADDR"),
             presence: Presence::Optional,
-            help: "An own address, by default at port 137, and may be repeated; without it, every address of the machine",
+            help: "An address to serve at, by default at port 137; may be repeated; without it, every address of the machine",
         },
         LIFE,
         LONGEST,
@@ -189,6 +199,18 @@ pub static NBNS: Description = Description {
             help: "Keeps the list of live leases in this file, which is replaced only if it is such a list, or empty",
         },
         Argument {
+            name: "hosts",
+            form: Form::Option("FILE"),
+            presence: Presence::Optional,
+            help: "Keeps its file servers as lines of /etc/hosts in this file, for a resolver, as --leases does",
+        },
+        Argument {
+            name: "stats",
+            form: Form::Option("FILE"),
+            presence: Presence::Optional,
+            help: "Keeps its statistics in this file, for Prometheus, as --leases does",
+        },
+        Argument {
             name: "strict",
             form: Form::Flag,
             presence: Presence::Optional,
@@ -201,23 +223,35 @@ pub static NBNS: Description = Description {
             help: "How many live leases a client may have: from 1 to 4096; without it, 64",
         },
         Argument {
+            name: "allow",
+            form: Form::Options("NETWORK"),
+            presence: Presence::Optional,
+            help: "A network whose machines may register, and may be repeated; without it, every machine may",
+        },
+        Argument {
+            name: "fixed",
+            form: Form::Option("FILE"),
+            presence: Presence::Optional,
+            help: "Answers for the names of this file too, which are always there",
+        },
+        Argument {
             name: STATE,
             form: Form::Option("FOLDER"),
             presence: Presence::Optional,
-            help: "Keeps the leases in this folder, and goes on with those that it kept there",
+            help: "Keeps the leases in this folder, and goes on with them after a restart",
         },
         Argument {
             name: "silent-after-boot",
             form: Form::Flag,
             presence: Presence::With(STATE),
-            help: "Goes on with kept leases in the same boot of the machine alone",
+            help: "With --state, doesn't go on with the leases after a boot of the machine",
         },
     ],
     help: "\
 The first line has its addresses, and for how long and until when it is silent, as `serving 127.0.0.1:137, 192.0.2.1:137, silent
-for 300 s until 2026-11-24T09:17:03Z`. Without --state it keeps its leases in memory only, so after each start it waits until every
-lease that it may have granted before has expired. Then it serves until a signal or --for ends it; its leases expire by themselves. The
-standard port is 137, for which most systems require privileges.
+for 300 s until 2026-11-24T09:17:03Z`. Without --state it keeps its leases in memory only, so after each start it waits until
+every lease that it may have granted before has expired. Then it serves until a signal or --for ends it; its leases expire by
+themselves. The standard port is 137, for which most systems require privileges.
 
 With --state it writes each change of a lease to FOLDER/leases before its reply leaves, and a later start goes on at once: the
 first line is `serving 192.0.2.1:137, with 17 leases kept`. Where it can't go on, the line says why: `silent for 300 s until
@@ -230,9 +264,8 @@ by a socket for each: standard error says when one comes or goes. --bind 0.0.0.0
 and whose replies leave from the address that the system chooses.
 
 ADDR is A.B.C.D or A.B.C.D:PORT; for port 0 the system chooses one, which the first line has. TIME is a number and its unit, as
-1500ms, 300s or 5m. The longest lease must be at least 10 s
-and at least 20 lives of a datagram, else a hold would lapse before it can be refreshed. If it is above an hour, and without
---state, standard error says for how long each start is silent.
+1500ms, 300s or 5m. The longest lease must be at least 10 s and at least 20 lives of a datagram, else a hold would lapse before it
+can be refreshed. If it is above an hour, and without --state, standard error says for how long each start is silent.
 
 --log prints lines as `2026-11-24T09:12:03Z granted FILER#20 192.0.2.7 unique 300 s`; `renewed`, `refused` with the sender and
 the reason, `released`, `unanswered` for a request during the silence, and `malformed` or `foreign` for a packet that is no
@@ -240,8 +273,19 @@ request: of each kind at most ten per second. --leases writes the list of live l
 it has changed and at most once per second: a first line that says what it is, and one line per lease, as `FILER#20 unique
 192.0.2.7 2026-11-24T09:17:03Z`, with the time of its expiry.
 
+--hosts keeps a FILE likewise, with one line per live lease of a file server, as `192.0.2.7 FILER`: of a unique name of suffix 20,
+without a scope, of letters, digits and inner hyphens. --stats keeps one with its statistics, in Prometheus' text format for the
+node exporter's textfile collector. The three files must differ.
+
 A client is the address that a registration comes from. One with N live leases, unique names and groups together, is refused one
 of a further name, with SRV_ERR; what it has it keeps, and renews. Machines behind one address count as one client.
+
+NETWORK is an address and how many of its first bits the others share, as 192.0.2.0/24, or an address alone. A machine of no NETWORK
+is refused each registration, refresh and overwrite, with RFS_ERR; it may still ask for names. --fixed reads FILE once, at the
+start: lines as `FILER#20 unique 192.0.2.7` and `OFFICE#00 group 192.0.2.9`, of which several of one group are its addresses, up to
+48; up to 1024 names; a line that begins with # is a remark. Such a name is found from the first moment on, with the longest lease
+as its TTL. Its own machine may register, refresh and release it, which changes nothing; nobody else may, with ACT_ERR. Standard
+error says what was refused, as `nbt: refused FILER#20 192.0.2.9: a fixed name`, at most ten lines per second.
 
 Samba's nmbd registers its names by OPCODE 15, and joins groups by an overwrite. Such a registration of one address, and such an
 overwrite of a group, are accepted as registrations, unless --strict. A machine that registers two addresses isn't served: its
@@ -250,13 +294,13 @@ second one is refused, and nmbd then drops its names.
 Examples:
   nbt nbns
   nbt nbns --bind 192.0.2.1 --bind 198.51.100.1 --longest 10m --log --leases leases.txt
-  nbt nbns --state /var/lib/nbt
+  nbt nbns --state /var/lib/nbt --allow 192.0.2.0/24 --fixed printers.txt
 
 Exit status:
   0  done
-  2  wrong usage, or an invalid argument; standard error says why
-  3  no port or no clock, a socket failed 100 times in a row, FOLDER can't be read or written, or the output failed; prints
-     `device`, unless it was the output
+  2  wrong usage, an invalid argument, or a wrong line in the file of --fixed; standard error says why
+  3  no port or no clock, a socket failed 100 times in a row, FOLDER can't be read or written, the file of --fixed can't be read,
+     or the output failed; prints `device`, unless it was the output
   4  out of memory at the start; prints `memory`",
 };
 
@@ -320,7 +364,7 @@ Exit status:
 
 pub static RELEASE: Description = Description {
     name: "release",
-    about: "Gives back names that a host of this machine left at a name server",
+    about: "Releases names that a host of this machine left at a name server",
     arguments: &[
         Argument {
             name: "name",
@@ -350,7 +394,7 @@ pub static RELEASE: Description = Description {
             name: "log",
             form: Form::Flag,
             presence: Presence::Optional,
-            help: "As `nbt host` has it",
+            help: "Has no effect",
         },
     ],
     help: "\

@@ -35,6 +35,10 @@ pub enum Presence {
     Unless(&'static str),
     /// Optional, and only beside the argument of this name.
     With(&'static str),
+    /// Optional, and not beside the argument of this name.
+    Apart(&'static str),
+    /// Optional, and beside neither of the arguments of these names.
+    ApartFrom(&'static str, &'static str),
     /// Either this argument is required or the argument of this name, and not both.
     InsteadOf(&'static str),
 }
@@ -95,6 +99,8 @@ fn arg_of<'a>(alloc: Global, argument: &Argument) -> Result<Arg<'a>, AllocError>
         Presence::Optional => Ok(arg),
         Presence::Default(value) => Ok(arg.default_value(value)),
         Presence::With(other) => arg.requires_arg(other),
+        Presence::Apart(other) => arg.conflicts_with(other),
+        Presence::ApartFrom(one, other) => arg.conflicts_with(one)?.conflicts_with(other),
         Presence::Unless(other) => arg.required_unless_present(other),
         Presence::InsteadOf(other) => arg.conflicts_with(other)?.required_unless_present(other),
     }

@@ -11,6 +11,7 @@ mod limits;
 mod network;
 mod program;
 mod refusal;
+mod scan;
 mod texts;
 mod unit;
 
@@ -19,8 +20,9 @@ pub use limits::{LimitedArgument, LimitedCommand, bad_value};
 pub use network::GROUP;
 pub use program::no_text;
 pub use refusal::{Refusal, Text};
+pub use scan::ScanTexts;
 pub use texts::{
     AdminLine, AnswerTexts, CommandLine, HostTexts, LookupTexts, NbnsTexts, NodeTexts, ServeTexts,
-    ShowTexts, read,
+    ShowTexts, StatusTexts, read,
 };
 pub use unit::NoUnit;

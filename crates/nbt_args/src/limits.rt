@@ -15,7 +15,7 @@ use nbt_lease::{LIFE_MOST, LONGEST_MOST};
 use std::alloc::{AllocError, Global};
 use std::fmt;
 
-/// The greatest time of a server, in milliseconds: the last moment of a clock.
+/// The greatest time of a server, in milliseconds: the last time of a clock.
 const AT_MOST: u64 = 1 << 60;
 
 /// The longest wait for a reply after the last request, in milliseconds (our profile).
@@ -127,7 +127,7 @@ impl fmt::Display for LimitedArgument {
     }
 }
 
-/// Refuses a value beyond the limits of this command's argument, with clap's own text around it; or says that memory is out.
+/// Refuses a value beyond the limits of this command's argument, with clap's own text around it; or is out of memory.
 pub fn bad_value(
     alloc: Global,
     command: LimitedCommand,

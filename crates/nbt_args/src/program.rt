@@ -6,7 +6,7 @@ ghost use Rattle.nbt_args.specs.Refusal.{IsWrongUsage};
 
 use crate::argument::command_of;
 use crate::refusal::Refusal;
-use crate::{admin, bench, network};
+use crate::{admin, bench, network, scan};
 use clap::error::ErrorKind;
 use clap::{Command, Error};
 use std::alloc::{AllocError, Global};
@@ -15,20 +15,23 @@ const ABOUT: &str =
     "NetBIOS over TCP and UDP, as RFC 1001 and RFC 1002 specify it: names, and the packets of the name service";
 
 const HELP: &str = "\
-`lookup`, `status`, `nbns`, `host` and `release` are for people who run a network. The others are a bench on which the protocol
-is tried: their words and texts are fixed.
+`lookup`, `status`, `scan`, `nbns`, `host` and `release` are for people who run a network. The others are a bench on which the
+protocol is tried: their arguments and texts are fixed. `nbt COMMAND --help` has the arguments of each.
 
 Examples:
   nbt lookup FILER --server 192.0.2.1
-  nbt answer 127.0.0.2:137 0001290000010000000000012045474643454645454341434143414341434143414341434143414341434143410000200001c00c002000010000003c000620007f000002
+  nbt status 192.0.2.7
+  nbt nbns --bind 192.0.2.1 --log
+  nbt host FILER --server 192.0.2.1 --bind 192.0.2.7
+  nbt show --explain session '85:00:00:00'
 
 Exit status:
   0  done
-  1  an address, a hexadecimal text or the input can't be read (prints `unreadable`), or octets are refused; of `lookup` and
-     `status`: not found; of `release`: a name was not released
-  2  wrong usage; of the commands for people also a word that can't be read
-  3  input or output failed; prints `device` where it can
-  4  an allocation was refused; prints `memory`
+  1  of `lookup` and `status`: not found; of `release`: a name was not released; of `scan`: no host replied; of the bench: octets
+     are refused, or an address, a hexadecimal text or the input can't be read (prints `unreadable`)
+  2  wrong usage, or an invalid argument of a command for people; standard error says why
+  3  a port, a clock, a socket, the input or the output failed; prints `device` where it can
+  4  out of memory; prints `memory`
   5  of `lookup` and `status`: no reply; of `host`: a name wasn't held at the end";
 
 /// Makes the program with its commands, in the order of the help.
@@ -39,6 +42,7 @@ pub fn program<'a>(alloc: Global) -> Result<Command<'a>, AllocError> {
         &admin::NBNS,
         &admin::HOST,
         &admin::RELEASE,
+        &scan::SCAN,
         &bench::ANSWER,
         &bench::SHOW,
         &bench::CHECK,
@@ -60,7 +64,7 @@ pub fn program<'a>(alloc: Global) -> Result<Command<'a>, AllocError> {
     Ok(program)
 }
 
-/// Refuses an argument that is not UTF-8, with clap's own text around it; or says that memory is out.
+/// Refuses an argument that is not UTF-8, with clap's own text around it; or is out of memory.
 pub fn no_text(alloc: Global) -> Refusal
     ensures { IsWrongUsage result }
 {

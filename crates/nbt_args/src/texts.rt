@@ -6,6 +6,7 @@ ghost use Rattle.nbt_args.specs.Inner.Matches.{IsFlag, Tells, TellsTurns, argume
 
 use crate::program::program;
 use crate::refusal::Refusal;
+use crate::scan::{ScanTexts, scan_texts};
 use clap::error::ErrorKind;
 use clap::{ArgMatches, Command};
 use std::alloc::{AllocError, Global};
@@ -67,8 +68,8 @@ pub struct NodeTexts<'a> {
     pub turns: Option<&'a str>,
 }
 
-/// The texts of the arguments of `lookup`, or of `status`.
-#[derive(Drop)]
+/// The texts of the arguments of `lookup`, or of a status request to one host.
+#[derive(Clone, Copy)]
 pub struct LookupTexts<'a> {
     /// The address of the name server, or of the host.
     pub to: &'a str,
@@ -84,6 +85,15 @@ pub struct LookupTexts<'a> {
     pub wait: &'a str,
     /// The own address.
     pub bind: &'a str,
+}
+
+/// The texts of the arguments of `status`.
+#[derive(Drop)]
+pub struct StatusTexts<'a> {
+    /// Those of the request to the first host.
+    pub first: LookupTexts<'a>,
+    /// The addresses of the other hosts, which are sent the same.
+    pub others: Vec<&'a str>,
 }
 
 /// The texts of the arguments of `nbns`.
@@ -103,10 +113,18 @@ pub struct NbnsTexts<'a> {
     pub broadcasts: bool,
     /// The path of the list of leases, if any.
     pub leases: Option<&'a str>,
+    /// The path of the hosts, if any.
+    pub hosts: Option<&'a str>,
+    /// The path of the statistics, if any.
+    pub stats: Option<&'a str>,
     /// Whether Samba's registrations are not accepted.
     pub strict: bool,
     /// How many live leases a client may have; `None` for the default.
     pub rows_per_client: Option<&'a str>,
+    /// The networks whose machines may register; none for every machine.
+    pub allow: Vec<&'a str>,
+    /// The path of the file of fixed names, if any.
+    pub fixed: Option<&'a str>,
     /// The folder that keeps the leases, if any.
     pub state: Option<&'a str>,
     /// Whether it is silent after another boot.
@@ -142,10 +160,11 @@ pub struct HostTexts<'a> {
 #[derive(Drop)]
 pub enum AdminLine<'a> {
     Lookup(LookupTexts<'a>),
-    Status(LookupTexts<'a>),
+    Status(StatusTexts<'a>),
     Nbns(NbnsTexts<'a>),
     Host(HostTexts<'a>),
     Release(HostTexts<'a>),
+    Scan(ScanTexts<'a>),
 }
 
 /// A command, with the texts of its arguments.
@@ -204,10 +223,11 @@ fn line_of<'a>(
 ) -> Result<Option<CommandLine<'a>>, AllocError> {
     let line = match name {
         "lookup" => CommandLine::Admin(AdminLine::Lookup(lookup_texts(matches, "server"))),
-        "status" => CommandLine::Admin(AdminLine::Status(lookup_texts(matches, "host"))),
+        "status" => CommandLine::Admin(AdminLine::Status(status_texts(alloc, matches)?)),
         "nbns" => CommandLine::Admin(AdminLine::Nbns(nbns_texts(alloc, matches)?)),
         "host" => CommandLine::Admin(AdminLine::Host(host_texts(alloc, matches)?)),
         "release" => CommandLine::Admin(AdminLine::Release(host_texts(alloc, matches)?)),
+        "scan" => CommandLine::Admin(AdminLine::Scan(scan_texts(alloc, matches)?)),
         "answer" => CommandLine::Answer(answer_texts(matches)),
         "show" => CommandLine::Show(show_texts(matches)),
         "check" => CommandLine::Check,
@@ -241,6 +261,23 @@ fn lookup_texts<'a>(matches: &ArgMatches<'a>, to: &str) -> LookupTexts<'a>
     }
 }
 
+fn status_texts<'a>(alloc: Global, matches: &ArgMatches<'a>) -> Result<StatusTexts<'a>, AllocError>
+    ensures to { IfOk result (λ texts. texts.first.to.now ≡ argument_of matches.now (codes "host")) }
+    ensures name { IfOk result (λ texts. texts.first.name.now ≡ argument_of matches.now (codes "name")) }
+    ensures scope { IfOk result (λ texts. texts.first.scope.now ≡ argument_of matches.now (codes "scope")) }
+    ensures exact { IfOk result (λ texts. Tells matches.now (codes "exact") texts.first.exact) }
+    ensures tries { IfOk result (λ texts. texts.first.tries.now ≡ argument_of matches.now (codes "tries")) }
+    ensures wait { IfOk result (λ texts. texts.first.wait.now ≡ argument_of matches.now (codes "wait")) }
+    ensures bind { IfOk result (λ texts. texts.first.bind.now ≡ argument_of matches.now (codes "bind")) }
+    ensures others { IfOk result (λ texts. map (λ text. text.now) texts.others.items ≡ arguments_of matches.now (codes "also")) }
+{
+    let others = arguments(alloc, matches, "also")?;
+    Ok(StatusTexts {
+        first: lookup_texts(matches, "host"),
+        others,
+    })
+}
+
 fn nbns_texts<'a>(alloc: Global, matches: &ArgMatches<'a>) -> Result<NbnsTexts<'a>, AllocError>
     ensures binds { IfOk result (λ texts. map (λ text. text.now) texts.binds.items ≡ arguments_of matches.now (codes "bind")) }
     ensures life { IfOk result (λ texts. texts.life.now ≡ argument_of matches.now (codes "life")) }
@@ -249,12 +286,17 @@ fn nbns_texts<'a>(alloc: Global, matches: &ArgMatches<'a>) -> Result<NbnsTexts<'
     ensures logs { IfOk result (λ texts. Tells matches.now (codes "log") texts.log) }
     ensures broadcasts { IfOk result (λ texts. Tells matches.now (codes "log-broadcasts") texts.broadcasts) }
     ensures leases { IfOk result (λ texts. option_map (λ text. text.now) texts.leases ≡ value_of matches.now (codes "leases")) }
+    ensures hosts { IfOk result (λ texts. option_map (λ text. text.now) texts.hosts ≡ value_of matches.now (codes "hosts")) }
+    ensures stats { IfOk result (λ texts. option_map (λ text. text.now) texts.stats ≡ value_of matches.now (codes "stats")) }
     ensures strict { IfOk result (λ texts. Tells matches.now (codes "strict") texts.strict) }
     ensures client_rows { IfOk result (λ texts. option_map (λ text. text.now) texts.rows_per_client ≡ value_of matches.now (codes "rows-per-client")) }
+    ensures allow { IfOk result (λ texts. map (λ text. text.now) texts.allow.items ≡ arguments_of matches.now (codes "allow")) }
+    ensures fixed { IfOk result (λ texts. option_map (λ text. text.now) texts.fixed ≡ value_of matches.now (codes "fixed")) }
     ensures state { IfOk result (λ texts. option_map (λ text. text.now) texts.state ≡ value_of matches.now (codes "state")) }
     ensures boots { IfOk result (λ texts. Tells matches.now (codes "silent-after-boot") texts.silent_after_boot) }
 {
     let binds = arguments(alloc, matches, "bind")?;
+    let allow = arguments(alloc, matches, "allow")?;
     Ok(NbnsTexts {
         binds,
         life: argument(matches, "life"),
@@ -263,8 +305,12 @@ fn nbns_texts<'a>(alloc: Global, matches: &ArgMatches<'a>) -> Result<NbnsTexts<'
         log: matches.get_flag("log"),
         broadcasts: matches.get_flag("log-broadcasts"),
         leases: matches.get_str("leases"),
+        hosts: matches.get_str("hosts"),
+        stats: matches.get_str("stats"),
         strict: matches.get_flag("strict"),
         rows_per_client: matches.get_str("rows-per-client"),
+        allow,
+        fixed: matches.get_str("fixed"),
         state: matches.get_str("state"),
         silent_after_boot: matches.get_flag("silent-after-boot"),
     })
@@ -299,7 +345,7 @@ fn host_texts<'a>(alloc: Global, matches: &ArgMatches<'a>) -> Result<HostTexts<'
 }
 
 /// Returns the texts of an argument that may be repeated, in order.
-fn arguments<'a>(
+pub(crate) fn arguments<'a>(
     alloc: Global,
     matches: &ArgMatches<'a>,
     name: &str,
@@ -395,7 +441,7 @@ fn turns<'a>(matches: &ArgMatches<'a>) -> Option<&'a str>
 }
 
 /// Returns the text of an argument. Each is required or has a default, except a scope, which is empty if it isn't given.
-fn argument<'a>(matches: &ArgMatches<'a>, name: &str) -> &'a str
+pub(crate) fn argument<'a>(matches: &ArgMatches<'a>, name: &str) -> &'a str
     ensures { result.now ≡ argument_of matches.now name.now }
 {
     match matches.get_str(name) {

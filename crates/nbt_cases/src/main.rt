@@ -1,5 +1,5 @@
 //! Plays what `nbt` prints: cases that read like a terminal, from the files of `data/` whose names end with `.txt`, or from those
-//! that the program's words name. A case ends at a blank line. Its lines:
+//! that the program's arguments name. A case ends at a blank line. Its lines:
 //!
 //! - `# TEXT`: what the case shows, which is its name.
 //! - `$ nbt WORD ..`: the command, with one space between words; `''` is an empty word. `< FILE` after it: its standard input is
@@ -31,7 +31,7 @@ use text::Names;
 /// The file whose cases have to fail.
 const WRONG: &str = "wrong.txt";
 
-/// The files that the program's words name, or else those of this folder, in order.
+/// The files that the program's arguments name, or else those of this folder, in order.
 fn files(rt: &HostRuntime) -> io::Result<Vec<String>> {
     let mut names: Vec<String> = env::args(rt)?.skip(1).collect(rt.alloc())?;
     if names.is_empty() {

@@ -23,7 +23,7 @@ pub const GIVING_BACK: u64 = 15_000;
 /// released at once, its request being sent again by the node's own rule, three times in all and 5 s apart. It is over after a
 /// turn at which no reply to a release is waited for, or at the end of which 15 s have passed since that time, or after `most`
 /// turns. The stages of the goals then say how each came out: `Left(0)` is confirmed, any other `Left` is denied with that
-/// RCODE, `Released` has no reply, and `Leaving` was not held. A name whose grant comes meanwhile is released in the next turn,
+/// RCODE, `Doubtful` is denied after its request was sent again, `Released` has no reply, and `Leaving` was not held. A name whose grant comes meanwhile is released in the next turn,
 /// if there is one. Where the machine slept, the host starts again, and waits on: its names aren't held any more. Refused with `Device`
 /// at the first call of the port that fails. The caller must ensure that `N` is 1 to 14.
 pub fn give_back<P: Port, K: Clock + Watch, const N: usize>(

@@ -23,3 +23,5 @@ mod WholeRuns
 pub mod Deciding
 -- such a server begins, over this machine
 mod Started
+-- whether a lease that was kept outlasts its silence
+mod Outlasted

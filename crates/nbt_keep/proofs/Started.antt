@@ -6,10 +6,10 @@ use Rattle.nbt_port.specs.Clocks.{MachineTells, SteadyTells, SteadyBegins, Syste
 use Rattle.nbt_port.specs.Udp.{PortsValue}
 use Rattle.nbt_server.specs.Calls.{limited}
 use Rattle.nbt_server.specs.Serving.{ServerValue}
-use Rattle.nbt_nbns.specs.Logging.{LoggerValue}
-use Rattle.nbt_nbns.specs.Keeping.{KeeperValue}
+use Rattle.nbt_front.specs.Deciding.{FrontValue}
 use Rattle.nbt_nbns.specs.Places.{FileValue}
-use Rattle.nbt_nbns.specs.Running.{log_of, leases_of}
+use Rattle.nbt_nbns.specs.Running.{new_journal}
+use Rattle.nbt_nbns.specs.declared.journal.Journal.{Journal}
 use Rattle.nbt_nbns.specs.declared.running.NbnsArguments.{NbnsArguments}
 use Rattle.nbt_keep.specs.Begin.{IsBegin}
 use Rattle.nbt_keep.specs.Beginning.{manner_of}
@@ -20,17 +20,17 @@ use Rattle.nbt_keep.specs.Waiting.{WaitingValue, none_waits}
 use Rattle.nbt_keep.specs.declared.arguments.StateFolder.{StateFolder}
 use Rattle.nbt_keep.specs.declared.beginning.Begun.{Begun}
 
-pub is_at_first : (a : NbnsArguments) (begun : Begun) (monotonic time : ℕ) (text : Option (List ℕ)) (port : PortsValue) (store : Bool) (clock : ℕ) (server : ServerValue) (waiting : WaitingValue) (day shown moment : ℕ) (log : Option LoggerValue)
-    (leases : Option (KeeperValue FileValue)) → port ≡ record { bind = a.bind; failures = 0 } → store ≡ false → clock ≡ monotonic → server ≡ limited (Some a.rows_per_client) begun.server → waiting ≡ none_waits → day ≡ time → shown ≡ 0 → moment ≡ begun.server.last → log ≡ log_of a.log a.broadcasts
-    → leases ≡ leases_of a.leases
+pub is_at_first : (a : NbnsArguments) (begun : Begun) (monotonic time : ℕ) (text : Option (List ℕ)) (port : PortsValue) (front : FrontValue) (store : Bool) (clock : ℕ) (server : ServerValue) (waiting : WaitingValue) (day shown moment : ℕ) (journal : Journal ℕ FileValue)
+    → port ≡ record { bind = a.bind; failures = 0 } → front ≡ a.front → store ≡ false → clock ≡ monotonic → server ≡ limited (Some a.rows_per_client) begun.server → waiting ≡ none_waits → day ≡ time → shown ≡ 0 → moment ≡ begun.server.last
+    → journal ≡ new_journal a (record { moment = moment; time = time }) shown begun.start
     → ◌≡◌ {A = KeptNbns} (record {
-      keeping = record { port = port; store = store; clock = record { clock = clock; by = begun.header.ahead }; server = server; waiting = waiting };
+      keeping = record { port = record { port = port; front = front }; store = store; clock = record { clock = clock; by = begun.header.ahead }; server = server; waiting = waiting };
       header = begun.header;
       day = day;
-      watcher = record { dates = record { moment = moment; time = time }; day = shown; log = log; leases = leases };
+      watcher = journal;
       text = text;
     }) (at_first a begun monotonic time text)
-is_at_first a begun monotonic time text port store clock server waiting day shown moment log leases p s c v w d j m l k = cc
+is_at_first a begun monotonic time text port front store clock server waiting day shown moment journal p f s c v w d n m j = cc
 
 pub begins : (a : NbnsArguments) (state : StateFolder) (goes : (start : ℕ) → KeptNbns → KeptNbns → Type 0) (old_text begun_text text : Option (List ℕ)) (boot monotonic day time : ℕ) (begun : Begun) (here new : KeptNbns)
     → SteadyBegins SystemShows boot → ((read : ℕ) × SteadyTells SystemShows boot monotonic read) → MachineTells day time time → IsFoundHere a.config monotonic time state.silent_after_boot begun

@@ -27,13 +27,13 @@ looked_so keeps days server waiting until at store day header new_store new_day 
 not_device : (why : Fault) → why ≡ f.Store → why ≢ f.Device
 not_device why is = λ other. let same : f.Store ≡ f.Device = sym is ∙ other in absurd cc
 
-module _ {P S C D V : Type 0} (does : P → PortCall → P → Type 0) (keeps : S → StoreCall → S → Type 0) (tells : C → ℕ → C → Type 0) (days : D → ℕ → D → Type 0) (sees : Sight V) (until : Option ℕ) where
-  pub came_to : (r : Turned) (old : Staying P S C D V) (mid : Keeping P S C) (new : Staying P S C D V) (shown : Shown) → ShowsKeeping does keeps tells days sees old shown mid new → new.keeping ≡ record mid { store = new.keeping.store }
+module _ {P S C D V : Type 0} (does : P → PortCall → P → Type 0) (failures : P → ℕ) (keeps : S → StoreCall → S → Type 0) (tells : C → ℕ → C → Type 0) (days : D → ℕ → D → Type 0) (sees : Sight V) (until : Option ℕ) where
+  pub came_to : (r : Turned) (old : Staying P S C D V) (mid : Keeping P S C) (new : Staying P S C D V) (shown : Shown) → ShowsKeeping does failures keeps tells days sees old shown mid new → new.keeping ≡ record mid { store = new.keeping.store }
       → ComesTo keeps days mid.server mid.waiting until shown.at mid.store old.day old.header new.keeping.store new.day new.header r
-      → Takes (WatchesOn does keeps tells days sees until) (BreaksStaying does keeps tells days sees fault.Port) (WatchesLast does keeps tells days sees until) (CutsStaying does keeps tells days sees) r old new
+      → Takes (WatchesOn does failures keeps tells days sees until) (BreaksStaying does failures keeps tells days sees fault.Port) (WatchesLast does failures keeps tells days sees until) (CutsStaying does failures keeps tells days sees) r old new
   came_to t.Well old mid new shown shows same e =
       (shown, (record { mid = mid; shows = shows; looks = e.0; keeping_is = same }, λ over none. e.1 over (sym (ap (λ (k : Keeping P S C). k.waiting) same) ∙ none)))
   came_to t.Last old mid new shown shows same e = (shown, record { mid = mid; shows = shows; looks = e.0; keeping_is = same }, e.1.0, ap (λ (k : Keeping P S C). k.waiting) same ∙ e.1.1)
   came_to (t.Failed cause) old mid new shown shows same e = absurd e.1
   came_to (t.CutOff why) old mid new shown shows same e =
-      (not_device why e.0, subst (λ (x : Fault). CutsStaying does keeps tells days sees x old new) (sym e.0) (after_turn shown mid shows e.1 same))
+      (not_device why e.0, subst (λ (x : Fault). CutsStaying does failures keeps tells days sees x old new) (sym e.0) (after_turn shown mid shows e.1 same))

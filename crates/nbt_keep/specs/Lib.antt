@@ -4,6 +4,7 @@ pub mod Changing
 pub mod Devices
 pub mod Folders
 pub mod Opening
+pub mod Outlasting
 pub mod Waiting
 pub mod Turning
 pub mod Resuming

@@ -12,9 +12,10 @@ use Rattle.nbt_port.specs.declared.ahead.Ahead.{Ahead}
 use Rattle.nbt_port.specs.declared.fault.Fault.{Fault}
 use Rattle.nbt_log.specs.declared.dates.Dates.{Dates}
 use Rattle.nbt_server.specs.Calls.{limited}
+use Rattle.nbt_front.specs.FrontPort.{Fronted}
 use Rattle.nbt_nbns.specs.Journaling.{Journals}
 use Rattle.nbt_nbns.specs.Places.{FileValue, Stays}
-use Rattle.nbt_nbns.specs.Running.{PortDoes, RunsNbns, NbnsFails, log_of, leases_of}
+use Rattle.nbt_nbns.specs.Running.{PortDoes, PortFailures, RunsNbns, NbnsFails, new_journal}
 use Rattle.nbt_nbns.specs.declared.journal.Journal.{Journal}
 use Rattle.nbt_nbns.specs.declared.running.NbnsArguments.{NbnsArguments}
 use Rattle.nbt_keep.specs.Begin.{IsBegin}
@@ -31,7 +32,7 @@ use Rattle.nbt_keep.specs.declared.fault.KeepFault.TheVariants as fault
 
 -- what goes on: a port, a folder, a clock that goes on over boots and a server of this machine, and the journal
 abbrev pub KeptNbns : Type 0
-KeptNbns = Staying PortsValue Bool (Ahead ℕ) ℕ (Journal ℕ FileValue)
+KeptNbns = Staying (Fronted PortsValue) Bool (Ahead ℕ) ℕ (Journal ℕ FileValue)
 
 -- the moment and the time of day at which a server begins
 abbrev pub dates_of : Begun → (time : ℕ) → Dates
@@ -40,10 +41,10 @@ dates_of begun time = record { moment = begun.server.last; time = time }
 -- what a server is at first that begins so, at this time of the monotonic clock and this time of day: it limits its clients
 abbrev pub at_first : NbnsArguments → Begun → (monotonic time : ℕ) → Option (List ℕ) → KeptNbns
 at_first a begun monotonic time text = record {
-  keeping = record { port = record { bind = a.bind; failures = 0 }; store = false; clock = record { clock = monotonic; by = begun.header.ahead }; server = limited (Some a.rows_per_client) begun.server; waiting = none_waits };
+  keeping = record { port = record { port = record { bind = a.bind; failures = 0 }; front = a.front }; store = false; clock = record { clock = monotonic; by = begun.header.ahead }; server = limited (Some a.rows_per_client) begun.server; waiting = none_waits };
   header = begun.header;
   day = time;
-  watcher = record { dates = dates_of begun time; day = 0; log = log_of a.log a.broadcasts; leases = leases_of a.leases };
+  watcher = new_journal a (dates_of begun time) 0 begun.start;
   text = text;
 }
 
@@ -71,16 +72,16 @@ module _ (strict : Bool) (until : Option ℕ) where
   -- It stays up for good, or until its time is over.
   abbrev pub KeepsUntil : KeptNbns → KeptNbns → Type 0
   KeepsUntil old new =
-      StaysUntil (WatchesOn (PortDoes strict) FolderDoes (TellsAhead (SteadyTells SystemShows)) MachineTells (Journals MachineTells Stays) until)
-      (BreaksStaying (PortDoes strict) FolderDoes (TellsAhead (SteadyTells SystemShows)) MachineTells (Journals MachineTells Stays) fault.Port)
-      (WatchesLast (PortDoes strict) FolderDoes (TellsAhead (SteadyTells SystemShows)) MachineTells (Journals MachineTells Stays) until) forever old new
+      StaysUntil (WatchesOn (PortDoes strict) PortFailures FolderDoes (TellsAhead (SteadyTells SystemShows)) MachineTells (Journals MachineTells Stays) until)
+      (BreaksStaying (PortDoes strict) PortFailures FolderDoes (TellsAhead (SteadyTells SystemShows)) MachineTells (Journals MachineTells Stays) fault.Port)
+      (WatchesLast (PortDoes strict) PortFailures FolderDoes (TellsAhead (SteadyTells SystemShows)) MachineTells (Journals MachineTells Stays) until) forever old new
 
   -- It ends before that: for the device it gives up, and the folder's failure cuts it off.
   abbrev pub KeepsNot : Fault → KeptNbns → KeptNbns → Type 0
   KeepsNot why old new =
-      EndsEarly (WatchesOn (PortDoes strict) FolderDoes (TellsAhead (SteadyTells SystemShows)) MachineTells (Journals MachineTells Stays) until)
-      (BreaksStaying (PortDoes strict) FolderDoes (TellsAhead (SteadyTells SystemShows)) MachineTells (Journals MachineTells Stays) fault.Port)
-      (CutsStaying (PortDoes strict) FolderDoes (TellsAhead (SteadyTells SystemShows)) MachineTells (Journals MachineTells Stays)) forever why old new
+      EndsEarly (WatchesOn (PortDoes strict) PortFailures FolderDoes (TellsAhead (SteadyTells SystemShows)) MachineTells (Journals MachineTells Stays) until)
+      (BreaksStaying (PortDoes strict) PortFailures FolderDoes (TellsAhead (SteadyTells SystemShows)) MachineTells (Journals MachineTells Stays) fault.Port)
+      (CutsStaying (PortDoes strict) PortFailures FolderDoes (TellsAhead (SteadyTells SystemShows)) MachineTells (Journals MachineTells Stays)) forever why old new
 
 abbrev pub RunsKept : NbnsArguments → StateFolder → (old_text text : Option (List ℕ)) → Type 0
 RunsKept a state old_text text = BeginsKept a state (λ start. KeepsUntil a.strict (until_of start a.time)) old_text text

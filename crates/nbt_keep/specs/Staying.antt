@@ -54,12 +54,13 @@ pub record FailsToLook {S D : Type 0} (keeps : S → StoreCall → S → Type 0)
   pub header_is : new ≡ header_at old at time
   pub failed : keeps old_store (renew_failed new (live_rows server)) store
 
-module _ {P S C D V : Type 0} (does : P → PortCall → P → Type 0) (keeps : S → StoreCall → S → Type 0) (tells : C → ℕ → C → Type 0) (days : D → ℕ → D → Type 0) (sees : Sight V) where
-  -- A turn goes well, the clock is read after it, and the watcher is shown the turn.
+module _ {P S C D V : Type 0} (does : P → PortCall → P → Type 0) (failures : P → ℕ) (keeps : S → StoreCall → S → Type 0) (tells : C → ℕ → C → Type 0) (days : D → ℕ → D → Type 0) (sees : Sight V) where
+  -- A turn goes well, the clock is read after it, and the watcher is shown the turn, with how many calls of the port failed by then.
   pub record ShowsKeeping (old : Staying P S C D V) (shown : Shown) (mid : Keeping P S C) (new : Staying P S C D V) : Type 0 where
     pub turn_clock : C
     pub turn : KeepsTurn does keeps tells old.keeping shown.entry (record mid { clock = turn_clock })
     pub now_told : tells turn_clock shown.at mid.clock
+    pub failures_are : shown.health.failures ≡ failures mid.port
     pub seen : sees old.watcher mid.server shown old.text new.watcher new.text
 
   -- Then the file is looked after.

@@ -12,7 +12,7 @@ pub struct StateFolder {
 }
 
 /// What a name server is to do, and where it keeps its leases, if anywhere.
-#[derive(Debug, Drop)]
+#[derive(Drop)]
 pub struct ServerArguments {
     /// What it is to do.
     pub nbns: NbnsArguments,

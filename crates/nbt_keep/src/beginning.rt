@@ -70,7 +70,7 @@ fn begun_of(alloc: Global, found: &Found<'_>, decided: Decided) -> Begun
 }
 
 /// The same boot.
-fn copy_of(boot: &Boot) -> Boot
+pub(crate) fn copy_of(boot: &Boot) -> Boot
     ensures { result ≡ boot.now }
 {
     Boot::new(boot.octets()).unwrap()

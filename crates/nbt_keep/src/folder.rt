@@ -4,11 +4,11 @@ ghost use Rattle.std.specs.Prelude.{◌≡◌, false, IfOk};
 
 use nbt_lease::Lease;
 use nbt_name::Name;
-use nbt_store::{Broken, Change, DiskStore, Header, Store, SystemDisk};
+use nbt_store::{Broken, Change, DiskStore, Header, Store, Syncs, SystemDisk};
 use std::alloc::Global;
-use std::io;
 use std::marker::Model;
 use std::rt::Files;
+use std::{io, time};
 
 /// A store in a folder of the system. What its files keep no contract can say: one sees whether the store is broken.
 #[derive(Drop)]
@@ -25,7 +25,7 @@ impl<'a, M: Files> Model for FolderStore<'a, M> {
     ghost view = { λ f. is_broken f.store };
 }
 
-impl<'a, M: Files> FolderStore<'a, M> {
+impl<'a, M: Files + time::Clock> FolderStore<'a, M> {
     /// Opens the store of a folder with these leases, as [`DiskStore::open`] does.
     pub fn open(
         disk: SystemDisk<'a, M>,
@@ -40,7 +40,7 @@ impl<'a, M: Files> FolderStore<'a, M> {
     }
 }
 
-impl<M: Files> Store for FolderStore<'_, M> {
+impl<M: Files + time::Clock> Store for FolderStore<'_, M> {
     ghost use Rattle.nbt_keep.specs.Folders.{FolderDoes};
 
     ghost does = { FolderDoes };
@@ -63,5 +63,9 @@ impl<M: Files> Store for FolderStore<'_, M> {
 
     fn error(&self) -> Option<&io::Error> {
         self.store.error()
+    }
+
+    fn syncs(&self) -> Syncs {
+        self.store.syncs()
     }
 }

@@ -9,15 +9,16 @@ use crate::arguments::StateFolder;
 use crate::beginning::{Begun, begin};
 use crate::folder::FolderStore;
 use crate::looking::list_live;
+use crate::outlasting::outlasts;
 use crate::resuming::{Found, Reason};
 use nbt_lease::{Config, Moment};
 use nbt_port::Fault;
 use nbt_store::{Boot, Fault as FileFault, SystemDisk, this_boot};
 use std::alloc::Global;
 use std::fs::File;
-use std::io;
 use std::io::{ErrorKind, Write};
 use std::rt::Files;
+use std::{io, time};
 
 /// A store that was opened, and how many leases it has.
 #[derive(Drop)]
@@ -47,8 +48,9 @@ pub(crate) fn open_disk<'a, M: Files<File = File>, E: Write>(
     }
 }
 
-/// Reads the boot and the file of a folder, and a server begins with what is found, at these times. Refused with `Memory` or
-/// `Store`.
+/// Reads the boot and the file of a folder, and a server begins with what is found, at these times. Refused with `Memory`; with
+/// `Store` where they can't be read, and where a lease that was kept outlasts the silence of a server that begins anew, as [`outlasts`]
+/// says: a line in `errors` says which.
 pub(crate) fn begin_in<M: Files<File = File>, E: Write>(
     machine: &M,
     alloc: Global,
@@ -76,6 +78,10 @@ pub(crate) fn begin_in<M: Files<File = File>, E: Write>(
         day,
         silent_after_boot: state.silent_after_boot,
     };
+    if outlasts(alloc, &found)? {
+        let _ = tell_outlasted(folder, config, errors);
+        return Err(Fault::Store);
+    }
     Ok(begin(alloc, &found)?)
 }
 
@@ -105,7 +111,7 @@ fn boot_here<M: Files, E: Write>(
 
 /// Opens the store of a folder with the leases of a server that begins. A file that is damaged or of another version is set aside
 /// before. Refused with `Memory` or `Store`.
-pub(crate) fn open_store<'a, M: Files<File = File>, E: Write>(
+pub(crate) fn open_store<'a, M: Files<File = File> + time::Clock, E: Write>(
     disk: SystemDisk<'a, M>,
     alloc: Global,
     folder: &str,
@@ -155,6 +161,15 @@ fn refused<E: Write>(what: &str, folder: &str, error: io::Error, errors: &mut E)
 
 fn tell<E: Write>(what: &str, folder: &str, error: io::Error, errors: &mut E) -> io::Result<()> {
     writeln!(errors, "nbt: {folder}: {what}: {error}")?;
+    errors.flush()
+}
+
+fn tell_outlasted<E: Write>(folder: &str, config: Config, errors: &mut E) -> io::Result<()> {
+    let silent = config.longest();
+    writeln!(
+        errors,
+        "nbt: {folder}: a lease that was kept under a longer LONGEST outlasts a silence of {silent} s: start again when it is over"
+    )?;
     errors.flush()
 }
 

@@ -2,10 +2,11 @@
 
 ghost use Rattle.std.specs.Prelude.{◌≡◌, ◌≤◌, ◌<◌, ◌^◌, ◌⊎◌, ℕ, List, length, Err, OnOk, OnErr, IfErr};
 ghost use Rattle.std.specs.Io.KnownBytes.{Appends};
-ghost use Rattle.nbt_nbns.specs.Running.{NbnsFails, PortDoes};
+ghost use Rattle.nbt_nbns.specs.Running.{NbnsFails, PortDoes, PortFailures};
 ghost use Rattle.nbt_port.specs.Numbers.{forever};
 ghost use Rattle.nbt_port.specs.Staying.{StaysUntil, EndsEarly};
 ghost use Rattle.nbt_port.specs.Udp.{PortsValue};
+ghost use Rattle.nbt_front.specs.FrontPort.{Fronted};
 ghost use Rattle.nbt_keep.specs.Begin.{IsBegin};
 ghost use Rattle.nbt_keep.specs.Beginning.{manner_of};
 ghost use Rattle.nbt_keep.specs.Running.{KeptFails, RunsKept, RunsServer};
@@ -21,10 +22,11 @@ use crate::first_line::write_begin;
 use crate::opening::{begin_in, open_disk, open_store};
 use crate::staying::keep_on;
 use crate::waiting::Waiting;
+use nbt_front::{Desk, FrontPort};
 use nbt_lease::Moment;
 use nbt_log::Dates;
 use nbt_name::Addr;
-use nbt_nbns::{Journal, NbnsArguments, SambaPort, Watcher, leases_of, log_of, run_nbns};
+use nbt_nbns::{NbnsArguments, SambaPort, Watcher, journal_of, run_nbns};
 use nbt_port::{
     Ahead, Clock, Fault, MachineClock, Port, UdpPorts, print, readable_clock, steady_clock,
     tell_end_of, until_of,
@@ -96,7 +98,16 @@ fn run_kept<M: Net + time::Clock + Files<File = File>, W: Write, E: Write>(
         moment: begun.server.last(),
         time,
     };
-    let leases = leases_of(machine, alloc, &arguments.leases, errors)?;
+    let at_day = MachineClock::new(machine);
+    let journal = journal_of(
+        machine,
+        alloc,
+        arguments,
+        dates,
+        at_day,
+        begun.start,
+        errors,
+    )?;
     let waiting = Waiting::new(alloc)?;
     let at = port.addresses()?;
     tell_begin(
@@ -109,12 +120,6 @@ fn run_kept<M: Net + time::Clock + Files<File = File>, W: Write, E: Write>(
         writer,
         errors,
     )?;
-    let journal = Journal {
-        dates,
-        day: MachineClock::new(machine),
-        log: log_of(alloc, arguments.log, arguments.broadcasts),
-        leases,
-    };
     let until = until_of(dates.moment, arguments.time);
     let mut server = begun.server;
     server.limit_clients(arguments.rows_per_client);
@@ -130,9 +135,11 @@ fn run_kept<M: Net + time::Clock + Files<File = File>, W: Write, E: Write>(
         header: begun.header,
         journal,
     };
+    let desk = Desk::new(alloc, &arguments.front, MachineClock::new(machine));
     keep_over(
         port,
         arguments.strict,
+        desk,
         kept,
         until,
         alloc,
@@ -187,8 +194,9 @@ struct KeptServer<S, C, D, V> {
 }
 
 /// Keeps a server up until it ends, over this port as it is where that is `strict`, else over one on which Samba's registrations
-/// come as registrations.
+/// come as registrations, and behind this front.
 fn keep_over<
+    F: Clock + Drop,
     S: Store + Drop,
     C: Clock + Drop,
     D: Clock + Drop,
@@ -199,6 +207,7 @@ fn keep_over<
 >(
     port: UdpPorts<'_, M>,
     strict: bool,
+    desk: Desk<'_, F>,
     kept: KeptServer<S, C, D, V>,
     until: Option<Moment>,
     alloc: Global,
@@ -208,19 +217,19 @@ fn keep_over<
 ) -> Result<(), Fault>
     requires failure_count { port.failures ≤ 2 ^ 61 }
     requires room { length kept.waiting.replies < batch }
-    ensures ok { OnOk result ((last_port : PortsValue) × (last : Kept S C D V) × StaysUntil (WatchesOn (PortDoes strict) S.does C.tells D.tells V.sees until)
-        (BreaksStaying (PortDoes strict) S.does C.tells D.tells V.sees fault.Port) (WatchesLast (PortDoes strict) S.does C.tells D.tells V.sees until) forever
-        (staying_of port.entry kept (W.contents writer.old)) (staying_of last_port last (W.contents writer.new))) }
-    ensures err { IfErr result (λ why. (last_port : PortsValue) × (last : Kept S C D V) × EndsEarly (WatchesOn (PortDoes strict) S.does C.tells D.tells V.sees until)
-        (BreaksStaying (PortDoes strict) S.does C.tells D.tells V.sees fault.Port) (CutsStaying (PortDoes strict) S.does C.tells D.tells V.sees) forever why
-        (staying_of port.entry kept (W.contents writer.old)) (staying_of last_port last (W.contents writer.new))) }
+    ensures ok { OnOk result ((last_port : Fronted PortsValue) × (last : Kept S C D V) × StaysUntil (WatchesOn (PortDoes strict) PortFailures S.does C.tells D.tells V.sees until)
+        (BreaksStaying (PortDoes strict) PortFailures S.does C.tells D.tells V.sees fault.Port) (WatchesLast (PortDoes strict) PortFailures S.does C.tells D.tells V.sees until) forever
+        (staying_of (record { port = port.entry; front = desk.entry }) kept (W.contents writer.old)) (staying_of last_port last (W.contents writer.new))) }
+    ensures err { IfErr result (λ why. (last_port : Fronted PortsValue) × (last : Kept S C D V) × EndsEarly (WatchesOn (PortDoes strict) PortFailures S.does C.tells D.tells V.sees until)
+        (BreaksStaying (PortDoes strict) PortFailures S.does C.tells D.tells V.sees fault.Port) (CutsStaying (PortDoes strict) PortFailures S.does C.tells D.tells V.sees) forever why
+        (staying_of (record { port = port.entry; front = desk.entry }) kept (W.contents writer.old)) (staying_of last_port last (W.contents writer.new))) }
 {
     let mut kept = kept;
     if strict {
-        let mut port = port;
+        let mut port = FrontPort::new(port, desk);
         keep_to_its_end(&mut port, &mut kept, until, alloc, machine, writer, errors)
     } else {
-        let mut port = SambaPort::new(port);
+        let mut port = FrontPort::new(SambaPort::new(port), desk);
         keep_to_its_end(&mut port, &mut kept, until, alloc, machine, writer, errors)
     }
 }
@@ -246,10 +255,10 @@ fn keep_to_its_end<
 ) -> Result<(), Fault>
     requires failure_count { P.failures port.old ≤ 2 ^ 61 }
     requires room { length kept.old.waiting.replies < batch }
-    ensures ok { OnOk result (StaysUntil (WatchesOn P.does S.does C.tells D.tells V.sees until) (BreaksStaying P.does S.does C.tells D.tells V.sees fault.Port)
-        (WatchesLast P.does S.does C.tells D.tells V.sees until) forever (staying_of port.old kept.old (W.contents writer.old)) (staying_of port.new kept.new (W.contents writer.new))) }
-    ensures err { IfErr result (λ why. EndsEarly (WatchesOn P.does S.does C.tells D.tells V.sees until) (BreaksStaying P.does S.does C.tells D.tells V.sees fault.Port)
-        (CutsStaying P.does S.does C.tells D.tells V.sees) forever why (staying_of port.old kept.old (W.contents writer.old)) (staying_of port.new kept.new (W.contents writer.new))) }
+    ensures ok { OnOk result (StaysUntil (WatchesOn P.does P.failures S.does C.tells D.tells V.sees until) (BreaksStaying P.does P.failures S.does C.tells D.tells V.sees fault.Port)
+        (WatchesLast P.does P.failures S.does C.tells D.tells V.sees until) forever (staying_of port.old kept.old (W.contents writer.old)) (staying_of port.new kept.new (W.contents writer.new))) }
+    ensures err { IfErr result (λ why. EndsEarly (WatchesOn P.does P.failures S.does C.tells D.tells V.sees until) (BreaksStaying P.does P.failures S.does C.tells D.tells V.sees fault.Port)
+        (CutsStaying P.does P.failures S.does C.tells D.tells V.sees) forever why (staying_of port.old kept.old (W.contents writer.old)) (staying_of port.new kept.new (W.contents writer.new))) }
 {
     let ended = keep_on(
         port,

@@ -1,6 +1,6 @@
 //! A server that keeps its leases, stays up, and is watched.
 
-ghost use Rattle.std.specs.Prelude.{◌<◌, ◌≤◌, ◌+◌, ◌^◌, ℕ, List, length, Option, IfOk, IfErr, OnOk};
+ghost use Rattle.std.specs.Prelude.{◌≡◌, ◌<◌, ◌≤◌, ◌+◌, ◌^◌, ℕ, List, length, Option, IfOk, IfErr, OnOk};
 ghost use Rattle.nbt_port.specs.Numbers.{forever};
 ghost use Rattle.nbt_port.specs.Staying.{StaysUntil, EndsEarly};
 ghost use Rattle.nbt_keep.specs.Waiting.{batch};
@@ -18,6 +18,7 @@ use nbt_lease::{Lease, Moment};
 use nbt_name::Name;
 use nbt_nbns::{Shown, Watcher};
 use nbt_port::{Clock, FOREVER, Fault, Port, Turn, Turned, is_over, stay_up};
+use nbt_report::Health;
 use nbt_server::Server;
 use nbt_store::{Header, Store};
 use std::alloc::Global;
@@ -59,10 +60,10 @@ pub fn keep_on<
 ) -> Result<(), Fault>
     requires failure_count { P.failures port.old ≤ 2 ^ 61 }
     requires room { length waiting.old.replies < batch }
-    ensures ok { OnOk result (StaysUntil (WatchesOn P.does S.does C.tells D.tells V.sees until) (BreaksStaying P.does S.does C.tells D.tells V.sees fault.Port) (WatchesLast P.does S.does C.tells D.tells V.sees until) forever
+    ensures ok { OnOk result (StaysUntil (WatchesOn P.does P.failures S.does C.tells D.tells V.sees until) (BreaksStaying P.does P.failures S.does C.tells D.tells V.sees fault.Port) (WatchesLast P.does P.failures S.does C.tells D.tells V.sees until) forever
         (record { keeping = record { port = port.old; store = store.old; clock = clock.old; server = server.old; waiting = waiting.old }; header = header.old; day = day.old; watcher = watcher.old; text = W.contents writer.old })
         (record { keeping = record { port = port.new; store = store.new; clock = clock.new; server = server.new; waiting = waiting.new }; header = header.new; day = day.new; watcher = watcher.new; text = W.contents writer.new })) }
-    ensures err { IfErr result (λ why. EndsEarly (WatchesOn P.does S.does C.tells D.tells V.sees until) (BreaksStaying P.does S.does C.tells D.tells V.sees fault.Port) (CutsStaying P.does S.does C.tells D.tells V.sees) forever why
+    ensures err { IfErr result (λ why. EndsEarly (WatchesOn P.does P.failures S.does C.tells D.tells V.sees until) (BreaksStaying P.does P.failures S.does C.tells D.tells V.sees fault.Port) (CutsStaying P.does P.failures S.does C.tells D.tells V.sees) forever why
         (record { keeping = record { port = port.old; store = store.old; clock = clock.old; server = server.old; waiting = waiting.old }; header = header.old; day = day.old; watcher = watcher.old; text = W.contents writer.old })
         (record { keeping = record { port = port.new; store = store.new; clock = clock.new; server = server.new; waiting = waiting.new }; header = header.new; day = day.new; watcher = watcher.new; text = W.contents writer.new })) }
 {
@@ -122,13 +123,13 @@ impl<P: Port, S: Store, C: Clock, D: Clock, V: Watcher, W: Write> Turn
 
     ghost failures = { λ t. P.failures t.port.now };
 
-    ghost turns = { λ f. WatchesOn P.does S.does C.tells D.tells V.sees f.0 };
+    ghost turns = { λ f. WatchesOn P.does P.failures S.does C.tells D.tells V.sees f.0 };
 
-    ghost breaks = { λ _. BreaksStaying P.does S.does C.tells D.tells V.sees fault.Port };
+    ghost breaks = { λ _. BreaksStaying P.does P.failures S.does C.tells D.tells V.sees fault.Port };
 
-    ghost last = { λ f. WatchesLast P.does S.does C.tells D.tells V.sees f.0 };
+    ghost last = { λ f. WatchesLast P.does P.failures S.does C.tells D.tells V.sees f.0 };
 
-    ghost cuts = { λ _. CutsStaying P.does S.does C.tells D.tells V.sees };
+    ghost cuts = { λ _. CutsStaying P.does P.failures S.does C.tells D.tells V.sees };
 
     fn take<E: Write>(&mut self, errors: &mut E) -> Turned {
         let shown = match turn_and_moment(
@@ -218,7 +219,7 @@ fn turn_and_moment<P: Port, S: Store, C: Clock>(
     ensures ok { IfOk result (λ shown. (turned : C) × KeepsTurn P.does S.does C.tells
         (record { port = port.old; store = store.old; clock = clock.old; server = server.old; waiting = waiting.old }) shown.entry
         (record { port = port.new; store = store.new; clock = turned; server = server.new; waiting = waiting.new })
-        × C.tells turned shown.at clock.new) }
+        × C.tells turned shown.at clock.new × (shown.health.failures ≡ P.failures port.new)) }
     ensures err { IfErr result (λ why. BreaksKeeping P.does S.does C.tells why
         (record { port = port.old; store = store.old; clock = clock.old; server = server.old; waiting = waiting.old })
         (record { port = port.new; store = store.new; clock = clock.new; server = server.new; waiting = waiting.new })) }
@@ -229,7 +230,21 @@ fn turn_and_moment<P: Port, S: Store, C: Clock>(
     Ok(Shown {
         entry,
         at: clock.now(),
+        health: health_of(port, store),
     })
+}
+
+/// How the port and the store are.
+fn health_of<P: Port, S: Store>(port: &P, store: &S) -> Health
+    ensures { result.failures ≡ P.failures port.now }
+{
+    let syncs = store.syncs();
+    Health {
+        failures: port.failures(),
+        own: port.own_replies(),
+        syncs: syncs.count,
+        sync_milliseconds: syncs.milliseconds(),
+    }
 }
 
 /// Says why the store failed, where it knows it.

@@ -4,3 +4,5 @@
 mod Listing
 -- which line may be printed
 mod Remembering
+-- which kind is due
+mod Summing

@@ -40,6 +40,6 @@ list_head = codes "# live leases of nbt nbns" ++ newline
 abbrev pub IsList : Dates → ℕ → Rows → List ℕ → Type 0
 IsList dates now rows text = (lines : List ℕ) × PrintsLeases dates now rows lines × (text ≡ list_head ++ lines)
 
--- A list may be put in place of a file that has no octet, and of one whose first octets are the first line of a list.
-abbrev pub MayBecomeList : (first : List ℕ) → Type 0
-MayBecomeList first = (first ≡ []) ⊎ (first ≡ list_head)
+-- A text with this first line may be put in place of a file that has no octet, and of one whose first octets are that line.
+abbrev pub MayReplace : (head first : List ℕ) → Type 0
+MayReplace head first = (first ≡ []) ⊎ (first ≡ head)

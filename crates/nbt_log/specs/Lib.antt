@@ -3,3 +3,4 @@ pub mod Kinds
 pub mod Leases
 pub mod Limiting
 pub mod Lines
+pub mod Summary

@@ -2,7 +2,7 @@
 
 ghost use Rattle.std.specs.Prelude.{◌≡◌, ◌++◌, ◌↔◌, ℕ, List, OnOk, IsTrue};
 ghost use Rattle.std.specs.String.{string_bytes};
-ghost use Rattle.nbt_log.specs.Leases.{IsLeaseText, PrintsRow, PrintsLeases, IsList, MayBecomeList, machine};
+ghost use Rattle.nbt_log.specs.Leases.{IsLeaseText, PrintsRow, PrintsLeases, IsList, MayReplace, machine};
 
 use crate::dates::Dates;
 use crate::time::write_time;
@@ -16,12 +16,12 @@ use std::alloc::AllocError;
 /// The first line of a list of leases, with its end, which says what a file is (our profile).
 pub const LIST_HEAD: &str = "# live leases of nbt nbns\n";
 
-/// Whether a list may be put in place of a file that begins with these octets, the first ones of it, as many as [`LIST_HEAD`]
-/// has, or all: where there are none, or they are that line.
-pub fn may_become_list(first: &[u8]) -> bool
-    ensures { IsTrue result ↔ MayBecomeList first.now }
+/// Whether a text whose first line is `head`, as [`LIST_HEAD`], may be put in place of a file that begins with these octets, the
+/// first ones of it, as many as `head` has, or all: where there are none, or they are that line.
+pub fn may_replace(head: &str, first: &[u8]) -> bool
+    ensures { IsTrue result ↔ MayReplace head.now first.now }
 {
-    first.is_empty() || first == LIST_HEAD.as_bytes()
+    first.is_empty() || first == head.as_bytes()
 }
 
 /// Appends the list of the leases that live at `now`: the line [`LIST_HEAD`], and then a line for each of the rows whose lease

@@ -5,6 +5,7 @@
 //! 2026-11-24T09:12:03Z granted FILER#20 192.0.2.7 unique 300 s
 //! 2026-11-24T09:12:04Z refused FILER#20 192.0.2.8 unique from 192.0.2.8:137: another has it: 192.0.2.7 (6)
 //! 2026-11-24T09:12:05Z malformed from 192.0.2.9:137: 12 octets
+//! 2026-11-24T09:12:06Z .. 37 more malformed
 //! ```
 #![tactic(auto)]
 
@@ -14,14 +15,16 @@ mod leases;
 mod limiter;
 mod limiters;
 mod line;
+mod summary;
 mod time;
 mod word;
 
 pub use dates::Dates;
 pub use entry::{Entry, LineKind};
-pub use leases::{LIST_HEAD, may_become_list, write_list};
+pub use leases::{LIST_HEAD, may_replace, write_list};
 pub use limiter::{LINES_MOST, Limiter};
 pub use limiters::Limiters;
 pub use line::{write_entry, write_reason, write_seconds};
+pub use summary::write_summary;
 pub use time::write_time;
-pub use word::write_word;
+pub use word::{write_dotted, write_word};

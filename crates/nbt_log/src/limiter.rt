@@ -2,6 +2,7 @@
 
 ghost use Rattle.std.specs.Prelude.{◌≡◌, ◌<◌, [], length};
 ghost use Rattle.nbt_log.specs.Limiting.{Limits, lines_most, told_at};
+ghost use Rattle.nbt_log.specs.Summary.{is_due};
 
 use arrayvec::ArrayVec;
 use nbt_lease::Moment;
@@ -54,6 +55,19 @@ impl Limiter {
         }
         self.told.remove(0);
         Some(self.tell(now))
+    }
+
+    /// Whether lines were left out and one may be printed at `now`: then [`Limiter::take`] returns how many.
+    pub fn is_due(&self, now: Moment) -> bool
+        ensures { result ≡ is_due self.now now }
+    {
+        if self.left_out == 0 {
+            return false;
+        }
+        if !self.told.is_full() {
+            return true;
+        }
+        self.told.as_slice()[0].saturating_add(SECOND) <= now.get()
     }
 
     /// Records a printed line. Returns how many were left out since the one before.

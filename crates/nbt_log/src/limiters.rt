@@ -2,6 +2,7 @@
 
 ghost use Rattle.std.specs.Prelude.{◌≡◌};
 ghost use Rattle.nbt_log.specs.Limiting.{LimitsKind, new_limiters};
+ghost use Rattle.nbt_log.specs.Summary.{first_due, kinds};
 
 use crate::entry::LineKind;
 use crate::limiter::Limiter;
@@ -63,5 +64,39 @@ impl Limiters {
             LineKind::Malformed => self.malformed.take(now),
             LineKind::Broadcast => self.broadcast.take(now),
         }
+    }
+
+    /// The first kind of which lines were left out and one may be printed at `now`, if there is one.
+    pub fn due(&self, now: Moment) -> Option<LineKind>
+        ensures { result ≡ first_due self.now now kinds }
+    {
+        if self.granted.is_due(now) {
+            return Some(LineKind::Granted);
+        }
+        if self.renewed.is_due(now) {
+            return Some(LineKind::Renewed);
+        }
+        if self.refused.is_due(now) {
+            return Some(LineKind::Refused);
+        }
+        if self.released.is_due(now) {
+            return Some(LineKind::Released);
+        }
+        if self.not_released.is_due(now) {
+            return Some(LineKind::NotReleased);
+        }
+        if self.unanswered.is_due(now) {
+            return Some(LineKind::Unanswered);
+        }
+        if self.foreign.is_due(now) {
+            return Some(LineKind::Foreign);
+        }
+        if self.malformed.is_due(now) {
+            return Some(LineKind::Malformed);
+        }
+        if self.broadcast.is_due(now) {
+            return Some(LineKind::Broadcast);
+        }
+        None
     }
 }

@@ -51,7 +51,7 @@ fn write_label(label: &[u8], out: &mut String) -> Result<(), AllocError>
 }
 
 /// Appends a 32-bit address as `192.0.2.7`.
-pub(crate) fn write_dotted(ip: u32, out: &mut String) -> Result<(), AllocError>
+pub fn write_dotted(ip: u32, out: &mut String) -> Result<(), AllocError>
     ensures { OnOk result (string_bytes out.new ≡ string_bytes out.old ++ dotted ip) }
 {
     let first = ip / 0x0100_0000;

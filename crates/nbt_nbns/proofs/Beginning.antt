@@ -9,22 +9,21 @@ use Rattle.nbt_port.specs.Clocks.{MachineTells, SteadyTells, SteadyBegins, Syste
 use Rattle.nbt_port.specs.Udp.{PortsValue}
 use Rattle.nbt_log.specs.Dates.{second_at}
 use Rattle.nbt_log.specs.declared.dates.Dates.{Dates}
+use Rattle.nbt_front.specs.Deciding.{FrontValue}
 use Rattle.nbt_nbns.specs.Begin.{IsBegin}
-use Rattle.nbt_nbns.specs.Running.{Nbns, Begins, log_of, leases_of}
-use Rattle.nbt_nbns.specs.Keeping.{KeeperValue}
-use Rattle.nbt_nbns.specs.Logging.{LoggerValue}
+use Rattle.nbt_nbns.specs.Running.{Nbns, Begins, new_journal}
 use Rattle.nbt_nbns.specs.Places.{FileValue}
 use Rattle.nbt_nbns.specs.declared.running.NbnsArguments.{NbnsArguments}
 use Rattle.nbt_nbns.specs.declared.journal.Journal.{Journal}
 
 -- what a server and its journal are at first
 abbrev pub at_first : NbnsArguments → (start time : ℕ) → ServerValue → Option (List ℕ) → Nbns
-at_first a start time first text = record { port = record { bind = a.bind; failures = 0 }; clock = start; server = limited (Some a.rows_per_client) first; watcher = record { dates = record { moment = start; time = time }; day = time; log = log_of a.log a.broadcasts; leases = leases_of a.leases }; text = text }
+at_first a start time first text = record { port = record { port = record { bind = a.bind; failures = 0 }; front = a.front }; clock = start; server = limited (Some a.rows_per_client) first; watcher = new_journal a (record { moment = start; time = time }) time start; text = text }
 
-pub is_at_first : (a : NbnsArguments) (start time day clock : ℕ) (port : PortsValue) (first server : ServerValue) (log : Option LoggerValue) (leases : Option (KeeperValue FileValue)) (text : Option (List ℕ))
-    → port ≡ record { bind = a.bind; failures = 0 } → clock ≡ start → server ≡ limited (Some a.rows_per_client) first → day ≡ time → log ≡ log_of a.log a.broadcasts → leases ≡ leases_of a.leases
-    → ◌≡◌ {A = Nbns} (record { port = port; clock = clock; server = server; watcher = record { dates = record { moment = start; time = time }; day = day; log = log; leases = leases }; text = text }) (at_first a start time first text)
-is_at_first a start time day clock port first server log leases text p c s d l k = cc
+pub is_at_first : (a : NbnsArguments) (start time day clock : ℕ) (port : PortsValue) (front : FrontValue) (first server : ServerValue) (journal : Journal ℕ FileValue) (text : Option (List ℕ))
+    → port ≡ record { bind = a.bind; failures = 0 } → front ≡ a.front → clock ≡ start → server ≡ limited (Some a.rows_per_client) first → day ≡ time → journal ≡ new_journal a (record { moment = start; time = time }) day start
+    → ◌≡◌ {A = Nbns} (record { port = record { port = port; front = front }; clock = clock; server = server; watcher = journal; text = text }) (at_first a start time first text)
+is_at_first a start time day clock port front first server journal text p f c s d j = cc
 
 pub begins : (a : NbnsArguments) (goes : (start : ℕ) → Nbns → Nbns → Type 0) (old_text begun_text text : Option (List ℕ)) (boot start day time : ℕ) (first : ServerValue) (here new : Nbns)
     → SteadyBegins SystemShows boot → ((read : ℕ) × SteadyTells SystemShows boot start read) → MachineTells day time time

@@ -1,13 +1,15 @@
--- The log and the list of live leases of a server that is watched (our profile).
-use Rattle.std.specs.Prelude.{◌≡◌, ℕ, List, Option, Some, None}
-use Rattle.nbt_lease.specs.Lease.{Rows}
+-- The log of a server that is watched, and the files about it (our profile).
+use Rattle.std.specs.Prelude.{◌≡◌, ℕ, ◌-◌, List, Option, Some, None}
 use Rattle.nbt_server.specs.Serving.{ServerValue}
 use Rattle.nbt_log.specs.Dates.{followed}
 use Rattle.nbt_log.specs.declared.dates.Dates.{Dates}
+use Rattle.nbt_report.specs.Tallies.{counted}
 use Rattle.nbt_nbns.specs.Keeping.{KeeperValue, Keeps}
 use Rattle.nbt_nbns.specs.Logging.{LoggerValue, Prints}
+use Rattle.nbt_nbns.specs.Reports.{Lists, SaysStats}
 use Rattle.nbt_nbns.specs.declared.journal.Journal.{Journal}
 use Rattle.nbt_nbns.specs.declared.keeper.Kept.{Kept}
+use Rattle.nbt_nbns.specs.declared.report.Listing.TheVariants as listing
 use Rattle.nbt_nbns.specs.declared.staying.Shown.{Shown}
 
 -- Where there is a log, it has the line of what is shown now, if that is printed. Where memory was refused, or the log can't be
@@ -17,16 +19,26 @@ pub data LogsIn (dates : Dates) (shown : Shown) (old_text : Option (List ℕ)) :
   logged : (old new : LoggerValue) (text : Option (List ℕ)) → Prints old dates shown.at shown.entry old_text new text → LogsIn dates shown old_text (Some old) (Some new) text
   not_logged : (old new : LoggerValue) (text : Option (List ℕ)) → LogsIn dates shown old_text (Some old) (Some new) text
 
--- Where the list is kept, the leases are looked at.
-pub data KeepsIn {L : Type 0} (puts : L → List ℕ → L → Type 0) (dates : Dates) (now : ℕ) (rows : Rows) : (old new : Option (KeeperValue L)) → Type 0 where
-  not_kept : KeepsIn puts dates now rows None None
-  looked : (old : KeeperValue L) (kept : Kept) (new : KeeperValue L) → Keeps puts dates now rows old kept new → KeepsIn puts dates now rows (Some old) (Some new)
+-- Where a text is kept, of which `IsText` says what it is, it is looked at.
+pub data KeepsIn {L : Type 0} (puts : L → List ℕ → L → Type 0) (IsText : List ℕ → Type 0) (now : ℕ) : (old new : Option (KeeperValue L)) → Type 0 where
+  not_kept : KeepsIn puts IsText now None None
+  looked : (old : KeeperValue L) (kept : Kept) (new : KeeperValue L) → Keeps puts IsText now old kept new → KeepsIn puts IsText now (Some old) (Some new)
 
--- The time of day is read, and moments are dated by it. Then both are done, the log first.
+-- how many lines a log dropped of which no note tells yet
+abbrev pub dropped_of : Option LoggerValue → ℕ
+dropped_of None = 0
+dropped_of (Some logger) = logger.outbox.dropped
+
+-- The time of day is read, and moments are dated by it. The turn is logged and counted, with the lines that the log dropped in it, and then
+-- the list of leases, the hosts and the statistics are kept.
 pub record Journals {D L : Type 0} (tells : D → ℕ → D → Type 0) (puts : L → List ℕ → L → Type 0)
     (old : Journal D L) (server : ServerValue) (shown : Shown) (old_text : Option (List ℕ)) (new : Journal D L) (text : Option (List ℕ)) : Type 0 where
   pub time : ℕ
   pub day_told : tells old.day time new.day
   pub dates_are : new.dates ≡ followed old.dates shown.at time
   pub logs : LogsIn new.dates shown old_text old.log new.log text
-  pub keeps : KeepsIn puts new.dates shown.at server.table.rows old.leases new.leases
+  pub tally_is : new.tally ≡ counted shown.entry (dropped_of new.log - dropped_of old.log) old.tally
+  pub origin_is : new.origin ≡ old.origin
+  pub leases_kept : KeepsIn puts (Lists listing.Leases server new.dates shown.at) shown.at old.leases new.leases
+  pub hosts_kept : KeepsIn puts (Lists listing.Hosts server new.dates shown.at) shown.at old.hosts new.hosts
+  pub stats_kept : KeepsIn puts (SaysStats (record { tally = new.tally; health = shown.health; origin = new.origin }) server new.dates shown.at) shown.at old.stats new.stats

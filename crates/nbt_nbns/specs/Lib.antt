@@ -1,4 +1,5 @@
 pub mod Begin
+pub mod Contents
 pub mod Inner
 pub mod Journaling
 pub mod Keeping
@@ -7,6 +8,7 @@ pub mod Logging
 pub mod OneAnswer
 pub mod Outboxes
 pub mod Places
+pub mod Reports
 pub mod Running
 pub mod Samba
 pub mod SambaPort

@@ -4,6 +4,7 @@ use Rattle.nbt_log.specs.Dates.{second_at}
 use Rattle.nbt_log.specs.Kinds.{told_kind}
 use Rattle.nbt_log.specs.Limiting.{LimitersValue, LimitsKind, new_limiters}
 use Rattle.nbt_log.specs.Lines.{IsLine}
+use Rattle.nbt_log.specs.Summary.{SumsUp}
 use Rattle.nbt_log.specs.declared.dates.Dates.{Dates}
 use Rattle.nbt_log.specs.declared.entry.Entry.{Entry}
 use Rattle.nbt_log.specs.declared.entry.LineKind.{LineKind}
@@ -18,11 +19,11 @@ pub record LoggerValue : Type 0 where
 abbrev pub new_logger : (broadcasts : Bool) → LoggerValue
 new_logger broadcasts = record { broadcasts = broadcasts; limiters = new_limiters; outbox = new_outbox }
 
--- Of a turn in which nothing was done, and of what has no kind, no line is printed. Every other line is printed as the limit of its
--- kind allows, with the count of those that were left out.
+-- A turn in which nothing was done, and what has no kind, have no line; then those that were left out before are summed up. Every
+-- other line is printed as the limit of its kind allows, with the count of those that were left out.
 pub data Logs (broadcasts : Bool) (old : LimitersValue) (dates : Dates) (now : ℕ) : Option Entry → List ℕ → LimitersValue → Type 0 where
-  nothing : Logs broadcasts old dates now None [] old
-  untold : (entry : Entry) → told_kind broadcasts entry ≡ None → Logs broadcasts old dates now (Some entry) [] old
+  nothing : (line : List ℕ) (new : LimitersValue) → SumsUp (second_at dates now) old now line new → Logs broadcasts old dates now None line new
+  untold : (entry : Entry) (line : List ℕ) (new : LimitersValue) → told_kind broadcasts entry ≡ None → SumsUp (second_at dates now) old now line new → Logs broadcasts old dates now (Some entry) line new
   told : (entry : Entry) (kind : LineKind) (left_out : ℕ) (line : List ℕ) (new : LimitersValue) → told_kind broadcasts entry ≡ Some kind → LimitsKind old kind now (Some left_out) new
       → IsLine (second_at dates now) left_out entry line → Logs broadcasts old dates now (Some entry) line new
   left_out : (entry : Entry) (kind : LineKind) (new : LimitersValue) → told_kind broadcasts entry ≡ Some kind → LimitsKind old kind now None new → Logs broadcasts old dates now (Some entry) [] new

@@ -1,19 +1,22 @@
-//! The log and the list of leases of a name server, turn by turn.
+//! The log of a name server, and the files about it, turn by turn.
 
-ghost use Rattle.nbt_nbns.specs.Journaling.{LogsIn, KeepsIn};
+ghost use Rattle.std.specs.Prelude.{◌≡◌};
+ghost use Rattle.nbt_nbns.specs.Journaling.{LogsIn, KeepsIn, dropped_of};
 
 use crate::keeper::Keeper;
 use crate::logger::Logger;
 use crate::place::Place;
+use crate::report::{Listing, Report, StatsReport};
 use crate::staying::{Shown, Watcher};
 use nbt_lease::Moment;
 use nbt_log::Dates;
 use nbt_port::Clock;
+use nbt_report::{Origin, Tally};
 use nbt_server::Server;
 use std::io::Write;
 
-/// Logs what each turn of a server was, and keeps the list of its leases in a place, each where it is wanted. It dates times by
-/// the time of day, and anew where that clock was set.
+/// Logs what each turn of a server was, counts it, and keeps the list of its leases, its hosts and its statistics, each in a place and
+/// where it is wanted. It dates times by the time of day, and anew where that clock was set.
 #[derive(Drop)]
 pub struct Journal<D, L> {
     /// What dates the times of the monotonic clock.
@@ -24,6 +27,14 @@ pub struct Journal<D, L> {
     pub log: Option<Logger>,
     /// The list of live leases, if it is kept.
     pub leases: Option<Keeper<L>>,
+    /// The hosts, if they are kept.
+    pub hosts: Option<Keeper<L>>,
+    /// The statistics, if they are kept.
+    pub stats: Option<Keeper<L>>,
+    /// What the server has done.
+    pub tally: Tally,
+    /// When it began.
+    pub origin: Origin,
 }
 
 impl<D: Clock, L: Place> Watcher for Journal<D, L> {
@@ -40,8 +51,51 @@ impl<D: Clock, L: Place> Watcher for Journal<D, L> {
     ) {
         let time = self.day.now();
         self.dates.follow(shown.at, time);
+        let before = dropped_of(&self.log);
         log_in(&mut self.log, self.dates, shown, writer, errors);
-        keep_in(&mut self.leases, self.dates, server, shown.at, errors);
+        let dropped = dropped_of(&self.log).saturating_sub(before);
+        self.tally.count(&shown.entry, dropped);
+        let stats = StatsReport {
+            tally: self.tally,
+            health: shown.health,
+            origin: self.origin,
+        };
+        let leases = Listing::Leases;
+        keep_in(
+            &mut self.leases,
+            &leases,
+            server,
+            self.dates,
+            shown.at,
+            errors,
+        );
+        let hosts = Listing::Hosts;
+        keep_in(
+            &mut self.hosts,
+            &hosts,
+            server,
+            self.dates,
+            shown.at,
+            errors,
+        );
+        keep_in(
+            &mut self.stats,
+            &stats,
+            server,
+            self.dates,
+            shown.at,
+            errors,
+        );
+    }
+}
+
+/// How many lines a log dropped of which no note tells yet, if there is a log.
+fn dropped_of(log: &Option<Logger>) -> u64
+    ensures { result ≡ dropped_of log.now }
+{
+    match log {
+        Some(logger) => logger.dropped(),
+        None => 0,
     }
 }
 
@@ -60,17 +114,18 @@ fn log_in<W: Write, E: Write>(
     }
 }
 
-/// Looks at the leases, if their list is kept.
-fn keep_in<L: Place, E: Write>(
-    leases: &mut Option<Keeper<L>>,
-    dates: Dates,
+/// Looks at what there is to report, if its text is kept.
+fn keep_in<T: Report, L: Place, E: Write>(
+    kept: &mut Option<Keeper<L>>,
+    report: &T,
     server: &Server,
+    dates: Dates,
     now: Moment,
     errors: &mut E,
 )
-    ensures { KeepsIn L.puts dates now server.now.table.rows leases.old leases.new }
+    ensures { KeepsIn L.puts (T.says report.now server.now dates now) now kept.old kept.new }
 {
-    if let Some(keeper) = leases {
-        keeper.keep(server, &dates, now, errors);
+    if let Some(keeper) = kept {
+        keeper.keep(report, server, &dates, now, errors);
     }
 }

@@ -1,39 +1,37 @@
-//! The list of live leases, kept in a place.
+//! A text about a name server, kept in a place.
 
 ghost use Rattle.std.specs.Prelude.{◌≡◌, ◌↔◌, Some, IsTrue, IfOk, MatchResult};
 ghost use Rattle.std.specs.String.{string_bytes};
-ghost use Rattle.nbt_log.specs.Leases.{IsList};
 ghost use Rattle.nbt_nbns.specs.Keeping.{IsDue, Keeps, new_keeper, text_of};
 
 use crate::complaint::Complaint;
 use crate::place::Place;
-use nbt_lease::{Lease, Moment};
-use nbt_log::{Dates, write_list};
-use nbt_name::Name;
+use crate::report::Report;
+use nbt_lease::Moment;
+use nbt_log::Dates;
 use nbt_server::Server;
 use std::alloc::{AllocError, Global};
 use std::io;
 use std::io::Write;
 use std::marker::Model;
 
-/// How long it is from one look at the leases to the next, in milliseconds (our profile).
+/// How long it is from one look to the next, in milliseconds (our profile).
 const SECOND: u64 = 1_000;
 
-/// What became of a look at the leases.
+/// What became of a look.
 #[derive(Clone, Copy, Debug, PartialEq, Eq)]
 pub enum Kept {
     /// The last one was less than a second ago.
     Early,
-    /// The list is the one that the place has.
+    /// The text is the one that the place has.
     Same,
-    /// The place has the list now.
+    /// The place has the text now.
     Written,
     /// Memory was refused, or the place refused it.
     Failed,
 }
 
-/// Keeps the list of live leases in a place. A contract sees when it looked at the leases last, which list the place has, if it was
-/// given one, and the place.
+/// Keeps a text in a place. A contract sees when it looked last, which text the place has, if it was given one, and the place.
 #[derive(Drop)]
 pub struct Keeper<L> {
     alloc: Global,
@@ -52,7 +50,7 @@ impl<L> Model for Keeper<L> {
 }
 
 impl<L> Keeper<L> {
-    /// It looked at no leases yet, and gave this place none.
+    /// It didn't look yet, and gave this place no text.
     pub fn new(alloc: Global, place: L) -> Keeper<L>
         ensures { result ≡ new_keeper place }
     {
@@ -74,22 +72,23 @@ impl<L> Keeper<L> {
 }
 
 impl<L: Place> Keeper<L> {
-    /// Looks at the leases that live at `now`, at most once in a second, and gives the place their list where it has another one.
+    /// Looks at what there is to report at `now`, at most once in a second, and gives the place its text where it has another one.
     /// Where that can't be done, that is said in `errors`, by the name of the place, the first time of a row, and the next look
     /// tries again; that it can be done again is said too.
-    pub fn keep<E: Write>(
+    pub fn keep<T: Report, E: Write>(
         &mut self,
+        report: &T,
         server: &Server,
         dates: &Dates,
         now: Moment,
         errors: &mut E,
     ) -> Kept
-        ensures { Keeps L.puts dates.now now server.now.table.rows self.old result self.new }
+        ensures { Keeps L.puts (T.says report.now server.now dates.now now) now self.old result self.new }
     {
         if !is_due(self.looked, now) {
             return Kept::Early;
         }
-        match self.look(server, dates, now) {
+        match self.look(report, server, dates, now) {
             Ok(kept) => {
                 self.complaint.end(self.place.name(), errors);
                 kept
@@ -101,14 +100,20 @@ impl<L: Place> Keeper<L> {
         }
     }
 
-    /// Looks at the leases that live at `now`, and gives the place their list where it has another one.
-    fn look(&mut self, server: &Server, dates: &Dates, now: Moment) -> io::Result<Kept>
+    /// Looks at what there is to report at `now`, and gives the place its text where it has another one.
+    fn look<T: Report>(
+        &mut self,
+        report: &T,
+        server: &Server,
+        dates: &Dates,
+        now: Moment,
+    ) -> io::Result<Kept>
         requires due { IsDue self.old.looked now }
-        ensures { MatchResult result (λ kept. Keeps L.puts dates.now now server.now.table.rows self.old kept self.new)
-            (λ error. Keeps L.puts dates.now now server.now.table.rows self.old Kept.Failed self.new) }
+        ensures { MatchResult result (λ kept. Keeps L.puts (T.says report.now server.now dates.now now) now self.old kept self.new)
+            (λ error. Keeps L.puts (T.says report.now server.now dates.now now) now self.old Kept.Failed self.new) }
     {
         self.looked = Some(now);
-        let text = listed(self.alloc, server, dates, now)?;
+        let text = reported(self.alloc, report, server, dates, now)?;
         if has(&self.text, text.as_str()) {
             return Ok(Kept::Same);
         }
@@ -128,23 +133,27 @@ fn is_due(looked: Option<Moment>, now: Moment) -> bool
     }
 }
 
-/// Whether the place has this list.
-fn has(text: &Option<String>, list: &str) -> bool
-    ensures { IsTrue result ↔ (text_of text.now ≡ Some list.now) }
+/// Whether the place has this text.
+fn has(text: &Option<String>, other: &str) -> bool
+    ensures { IsTrue result ↔ (text_of text.now ≡ Some other.now) }
 {
     match text {
-        Some(text) => text.as_str() == list,
+        Some(text) => text.as_str() == other,
         None => false,
     }
 }
 
-/// The list of the leases that live at `now`.
-fn listed(alloc: Global, server: &Server, dates: &Dates, now: Moment) -> Result<String, AllocError>
-    ensures { IfOk result (λ text. IsList dates.now now server.now.table.rows (string_bytes text)) }
+/// The text of what there is to report at `now`.
+fn reported<T: Report>(
+    alloc: Global,
+    report: &T,
+    server: &Server,
+    dates: &Dates,
+    now: Moment,
+) -> Result<String, AllocError>
+    ensures { IfOk result (λ text. T.says report.now server.now dates.now now (string_bytes text)) }
 {
-    let mut rows: Vec<(Name, Lease)> = Vec::new(alloc);
-    server.table().list_rows(&mut rows)?;
     let mut text = String::new(alloc);
-    write_list(dates, now, rows.as_slice(), &mut text)?;
+    report.write(alloc, server, dates, now, &mut text)?;
     Ok(text)
 }

@@ -7,7 +7,7 @@ ghost use Rattle.nbt_nbns.specs.Logging.{Logs, Prints, new_logger};
 use crate::complaint::Complaint;
 use crate::outbox::Outbox;
 use crate::staying::Shown;
-use nbt_log::{Dates, Limiters, write_entry};
+use nbt_log::{Dates, Limiters, write_entry, write_summary};
 use std::alloc::{AllocError, Global};
 use std::io;
 use std::io::Write;
@@ -46,8 +46,15 @@ impl Logger {
         }
     }
 
+    /// How many lines were dropped that no note in the log tells of yet.
+    pub fn dropped(&self) -> u64
+        ensures { result ≡ self.now.outbox.dropped }
+    {
+        self.outbox.dropped()
+    }
+
     /// Prints the line of what a server did with a datagram, at once, where it may be printed, and what waits of the lines before
-    /// it. Where the reader of the log is slow, a line waits or is dropped, as [`Outbox::send`] says. Returns whether that was
+    /// it. Of a turn that has no line it prints how many of a kind were left out, if a line of that kind may be printed. Where the reader of the log is slow, a line waits or is dropped, as [`Outbox::send`] says. Returns whether that was
     /// done: not where it was out of memory or the log can't be written, which is said in `errors`, the first time of a row, as is
     /// that it can be written again.
     pub fn log<W: Write, E: Write>(
@@ -94,7 +101,8 @@ impl Logger {
     }
 }
 
-/// Appends the line, where it may be printed.
+/// Appends the line, where it may be printed. Of a turn that has none it appends how many lines of a kind were left out, as
+/// [`write_summary`] says.
 fn write_limited(
     limiters: &mut Limiters,
     broadcasts: bool,
@@ -105,10 +113,10 @@ fn write_limited(
     ensures { OnOk result ((line : List ℕ) × Logs broadcasts limiters.old dates.now shown.now.at shown.now.entry line limiters.new × (string_bytes out.new ≡ string_bytes out.old ++ line)) }
 {
     let Some(entry) = &shown.entry else {
-        return Ok(());
+        return write_summary(limiters, dates, shown.at, out);
     };
     let Some(kind) = entry.told_kind(broadcasts) else {
-        return Ok(());
+        return write_summary(limiters, dates, shown.at, out);
     };
     match limiters.take(kind, shown.at) {
         Some(left_out) => {

@@ -50,6 +50,13 @@ impl Outbox {
         self.start == self.text.as_bytes().len()
     }
 
+    /// How many lines were dropped that no note tells of yet.
+    pub fn dropped(&self) -> u64
+        ensures { result ≡ self.now.dropped }
+    {
+        self.dropped
+    }
+
     /// Hands what waits to the writer, as much as it takes without waiting. Refused where the writer fails otherwise; what it took
     /// no longer waits.
     pub fn push_out<W: Write>(&mut self, writer: &mut W) -> io::Result<()>

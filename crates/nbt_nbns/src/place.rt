@@ -1,9 +1,10 @@
-//! Where the list of leases is kept.
+//! Where a text is kept, as the list of leases.
 
 ghost use Rattle.std.specs.Prelude.{◌≡◌, ℕ, List, [], IfOk, OnOk, map};
 ghost use Rattle.std.specs.String.{string_bytes};
 ghost use Rattle.nbt_nbns.specs.Places.{file_of};
 
+use crate::content::Content;
 use crate::standing::check_place;
 use std::alloc::{AllocError, Global};
 use std::fs::OpenOptions;
@@ -90,12 +91,13 @@ impl Place for MemoryPlace {
     }
 }
 
-/// A file of this system that has a list of leases. The text is written to a new file beside it, which is then renamed over it.
+/// A file of this system that has a text of one kind. The text is written to a new file beside it, which is then renamed over it.
 /// Both are refused where something else stands at their paths, as [`check_place`] says, and nothing of it changes. A contract
-/// sees the two paths.
+/// sees the kind and the two paths.
 #[derive(Drop)]
 pub struct FilePlace<'a, R: Files> {
     machine: &'a R,
+    content: Content,
     path: String,
     beside: String,
 }
@@ -106,29 +108,35 @@ impl<'a, R: Files> Model for FilePlace<'a, R> {
 
     ghost Value = { FileValue };
 
-    ghost view = { λ p. record { path = string_bytes p.path; beside = string_bytes p.beside } };
+    ghost view = { λ p. record { content = p.content; path = string_bytes p.path; beside = string_bytes p.beside } };
 }
 
 impl<'a, R: Files> FilePlace<'a, R> {
-    /// The file of this path. The new file beside it has the same path with `.new` after it.
-    pub fn new(machine: &'a R, alloc: Global, path: &str) -> Result<FilePlace<'a, R>, AllocError>
-        ensures { IfOk result (λ place. place ≡ file_of path.now) }
+    /// The file of this path, which is to have this. The new file beside it has the same path with `.new` after it.
+    pub fn new(
+        machine: &'a R,
+        alloc: Global,
+        content: Content,
+        path: &str,
+    ) -> Result<FilePlace<'a, R>, AllocError>
+        ensures { IfOk result (λ place. place ≡ file_of content path.now) }
     {
         let beside = format!(in alloc; "{path}.new")?;
         let path = String::from_str(alloc, path)?;
         Ok(FilePlace {
             machine,
+            content,
             path,
             beside,
         })
     }
 
-    /// The first of both paths at which something stands that may not be replaced by a list, and why; `None` where both are free.
+    /// The first of both paths at which something stands that may not be replaced, and why; `None` where both are free.
     pub fn taken(&self) -> Option<(&str, io::Error)> {
-        match check_place(self.machine, self.path.as_str()) {
+        match check_place(self.machine, self.path.as_str(), self.content) {
             Err(error) => Some((self.path.as_str(), error)),
             Ok(()) => {
-                let error = check_place(self.machine, self.beside.as_str()).err()?;
+                let error = check_place(self.machine, self.beside.as_str(), self.content).err()?;
                 Some((self.beside.as_str(), error))
             }
         }

@@ -7,7 +7,7 @@ ghost use Rattle.nbt_nbns.specs.SambaPort.{Becomes};
 use crate::samba::take_registration;
 use arrayvec::ArrayVec;
 use nbt_name::Addr;
-use nbt_port::{Cause, Device, Port};
+use nbt_port::{Cause, Device, OwnReplies, Port};
 use std::io::Write;
 use std::marker::Model;
 
@@ -70,6 +70,10 @@ impl<P: Port> Port for SambaPort<P> {
 
     fn cause(&self) -> Option<Cause> {
         self.beneath.cause()
+    }
+
+    fn own_replies(&self) -> OwnReplies {
+        self.beneath.own_replies()
     }
 
     fn tell_changes<E: Write>(&self, errors: &mut E) {

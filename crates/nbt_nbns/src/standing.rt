@@ -1,30 +1,45 @@
-//! What stands at the path of a list of leases.
+//! What stands at the path of a file that is to be kept.
 
 ghost use Rattle.std.specs.Prelude.{◌≤◌, IfOk, length};
 
-use nbt_log::{LIST_HEAD, may_become_list};
+use crate::content::Content;
+use nbt_log::may_replace;
 use std::fs::Metadata;
 use std::io::{ErrorKind, Read};
 use std::rt::Files;
 use std::{fs, io};
 
-/// Looks at what stands at a path. Passed where nothing does, an empty file, or one whose first line is [`LIST_HEAD`]: a list of
-/// leases may be put in place of it. Refused at all else: a link, a folder, a device, a pipe, a socket, and a file with another
-/// first line; and where the system refuses to look. Nothing there changes.
-pub(crate) fn check_place<R: Files>(machine: &R, path: &str) -> io::Result<()> {
+/// The most octets of a first line that are looked at, which are more than any kept file's has.
+const HEAD_MOST: usize = 64;
+
+/// Looks at what stands at a path. Passed where nothing does, an empty file, or one whose first line is that of what the file is to
+/// have. Refused at all else: a link, a folder, a device, a pipe, a socket, and a file with another first line; and where the
+/// system refuses to look. Nothing there changes.
+pub(crate) fn check_place<R: Files>(machine: &R, path: &str, content: Content) -> io::Result<()> {
     match fs::symlink_metadata(machine, path) {
         Ok(metadata) => check_kind(&metadata)?,
         Err(error) if error.kind() == ErrorKind::NotFound => return Ok(()),
         Err(error) => return Err(error),
     }
-    let mut octets = [0; LIST_HEAD.len()];
-    let count = read_first(&mut fs::open(machine, path)?, &mut octets)?;
-    if may_become_list(&octets[..count]) {
+    let head = content.head();
+    let mut octets = [0; HEAD_MOST];
+    let most = head.len().min(HEAD_MOST);
+    let count = read_first(&mut fs::open(machine, path)?, &mut octets[..most])?;
+    if may_replace(head, &octets[..count]) {
         Ok(())
     } else {
-        Err(io::Error::other(
-            "its first line isn't '# live leases of nbt nbns': remove that file first",
-        ))
+        Err(io::Error::other(why_not(content)))
+    }
+}
+
+/// Why a file with another first line stays.
+fn why_not(content: Content) -> &'static str {
+    match content {
+        Content::Leases => {
+            "its first line isn't '# live leases of nbt nbns': remove that file first"
+        }
+        Content::Hosts => "its first line isn't '# hosts of nbt nbns': remove that file first",
+        Content::Stats => "its first line isn't '# statistics of nbt nbns': remove that file first",
     }
 }
 

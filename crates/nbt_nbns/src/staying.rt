@@ -14,6 +14,7 @@ use arrayvec::ArrayVec;
 use nbt_lease::Moment;
 use nbt_log::Entry;
 use nbt_port::{Clock, Device, FOREVER, Fault, Port, Turn, Turned, is_over, stay_up};
+use nbt_report::Health;
 use nbt_server::Server;
 use std::io::Write;
 use std::time;
@@ -25,6 +26,8 @@ pub struct Shown {
     pub entry: Option<Entry>,
     /// The moment after it.
     pub at: Moment,
+    /// How the devices of the server are after it.
+    pub health: Health,
 }
 
 /// What watches a server: it is shown what each turn was.
@@ -60,10 +63,10 @@ pub fn watch_on<P: Port, C: Clock, V: Watcher, M: time::Clock, W: Write, E: Writ
     errors: &mut E,
 ) -> Result<(), Fault>
     requires failure_count { P.failures port.old ≤ 2 ^ 61 }
-    ensures ok { OnOk result (StaysUntil (WatchesOn P.does C.tells V.sees until) (BreaksWatching P.does C.tells) (WatchesLast P.does C.tells V.sees until) forever
+    ensures ok { OnOk result (StaysUntil (WatchesOn P.does P.failures C.tells V.sees until) (BreaksWatching P.does C.tells) (WatchesLast P.does P.failures C.tells V.sees until) forever
         (record { port = port.old; clock = clock.old; server = server.old; watcher = watcher.old; text = W.contents writer.old })
         (record { port = port.new; clock = clock.new; server = server.new; watcher = watcher.new; text = W.contents writer.new })) }
-    ensures err { IfErr result (λ fault. EndsEarly (WatchesOn P.does C.tells V.sees until) (BreaksWatching P.does C.tells) (λ _ _ _. ⊥) forever fault
+    ensures err { IfErr result (λ fault. EndsEarly (WatchesOn P.does P.failures C.tells V.sees until) (BreaksWatching P.does C.tells) (λ _ _ _. ⊥) forever fault
         (record { port = port.old; clock = clock.old; server = server.old; watcher = watcher.old; text = W.contents writer.old })
         (record { port = port.new; clock = clock.new; server = server.new; watcher = watcher.new; text = W.contents writer.new })) }
 {
@@ -109,11 +112,11 @@ impl<P: Port, C: Clock, V: Watcher, W: Write> Turn for WatchedTurn<'_, '_, '_, '
 
     ghost failures = { λ t. P.failures t.port.now };
 
-    ghost turns = { λ f. WatchesOn P.does C.tells V.sees f.0 };
+    ghost turns = { λ f. WatchesOn P.does P.failures C.tells V.sees f.0 };
 
     ghost breaks = { λ _. BreaksWatching P.does C.tells };
 
-    ghost last = { λ f. WatchesLast P.does C.tells V.sees f.0 };
+    ghost last = { λ f. WatchesLast P.does P.failures C.tells V.sees f.0 };
 
     ghost cuts = { λ _ _ _ _. ⊥ };
 
@@ -149,13 +152,20 @@ fn turn_and_moment<P: Port, C: Clock>(
     reply: &mut ArrayVec<u8, 576>,
 ) -> Result<Shown, Device>
     requires failure_count { P.failures port.old < 2 ^ 62 }
-    ensures ok { IfOk result (λ shown. ShowsTurn P.does C.tells port.old clock.old server.old shown port.new clock.new server.new) }
+    ensures ok { IfOk result (λ shown. ShowsTurn P.does P.failures C.tells port.old clock.old server.old shown port.new clock.new server.new) }
     ensures err { OnErr result (Breaks P.does C.tells 1 port.old clock.old server.old port.new clock.new server.new) }
     ensures device { CountsFailure (P.failures port.old) (P.failures port.new) result }
 {
     let turned = serve_turn(port, clock, server, octets, reply)?;
+    let health = Health {
+        failures: port.failures(),
+        own: port.own_replies(),
+        syncs: 0,
+        sync_milliseconds: 0,
+    };
     Ok(Shown {
         entry: turned.entry,
         at: clock.now(),
+        health,
     })
 }

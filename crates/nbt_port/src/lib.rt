@@ -36,7 +36,7 @@ pub use limits::{FOREVER, MOST_FAILURES};
 pub use machine_addresses::own_addresses;
 pub use memory::{Datagram, MemoryClock, MemoryPort};
 pub use monotonic::{Monotonic, SteadyClock, steady_clock};
-pub use port::{Device, Port};
+pub use port::{Device, OwnReplies, Port};
 pub use printing::{not_printed, print};
 pub use routes::{ROUTES, Route, Routes};
 pub use staying::{Turn, Turned, stay_up, tell_end_of};

@@ -17,6 +17,29 @@ pub const MOST: usize = 2048;
 #[error("device")]
 pub struct Device;
 
+/// What a port replied by itself, in place of the server over it, since it was made.
+#[derive(Clone, Copy, Debug, PartialEq, Eq)]
+pub struct OwnReplies {
+    /// Requests refused since their sender may not register.
+    pub not_allowed: u64,
+    /// Requests refused since the name is a fixed one of another address.
+    pub fixed_refused: u64,
+    /// Registrations, refreshes and releases of a fixed name by its own address.
+    pub fixed_confirmed: u64,
+    /// Queries for a fixed name.
+    pub fixed_found: u64,
+}
+
+impl OwnReplies {
+    /// None yet.
+    pub const NONE: OwnReplies = OwnReplies {
+        not_allowed: 0,
+        fixed_refused: 0,
+        fixed_confirmed: 0,
+        fixed_found: 0,
+    };
+}
+
 /// A port for datagrams, as UDP has (RFC 768).
 pub trait Port {
     /// What a call of it is: the port before, what the call did, and the port afterwards.
@@ -60,6 +83,11 @@ pub trait Port {
     /// device is well.
     fn lost(&self) -> Option<Cause> {
         None
+    }
+
+    /// What the port replied by itself, in place of the server over it: nothing, but for a port that replies itself.
+    fn own_replies(&self) -> OwnReplies {
+        OwnReplies::NONE
     }
 
     /// Says in `errors` which addresses the port has, or hasn't any more, since its last receive but one, where these change. What can't

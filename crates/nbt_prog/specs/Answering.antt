@@ -24,7 +24,7 @@ answer_text None = one_line (codes "none")
 abbrev pub AnswerArguments : (from hex : List ℕ) → Type 0
 AnswerArguments from hex = IsAddress from × IsHexadecimal hex
 
--- what is printed: the reply of a new server to the octets that HEX spells, from the address that FROM spells, at this moment
+-- what is printed: the reply of a new server to the octets that HEX spells, from the address that FROM spells, at this time
 pub record Answers (from hex : List ℕ) (at : ℕ) (printed : List ℕ) : Type 0 where
   pub sender : Addr
   pub octets : List ℕ

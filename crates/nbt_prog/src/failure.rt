@@ -18,7 +18,7 @@ pub enum Failure {
     Unreadable,
     /// An argument of a command for people who run a network is invalid; standard error says why.
     Complaint,
-    /// A port, a clock, a socket, the input or the output failed, or memory is out.
+    /// A port, a clock, a socket, the input or the output failed, or it is out of memory.
     Fault(Fault),
 }
 

@@ -31,7 +31,7 @@ use std::net::Net;
 use std::rt::Files;
 use std::{io, time};
 
-/// The line in standard error when memory is out.
+/// The line on standard error if the command is out of memory.
 const OUT_OF_MEMORY: &str = "nbt: memory was refused\n";
 
 /// Runs the command that `arguments` name, the first of which is the program's own name, and returns the exit status. All output goes to

@@ -2,6 +2,7 @@
 
 ghost use Rattle.nbt_store.specs.DiskCalls.{DiskCall, creating, adding, flushing, installing};
 
+use crate::syncs::Syncs;
 use std::io;
 
 /// What a store needs of a folder of a disk, call by call: the file, and a new file beside it.
@@ -24,4 +25,9 @@ pub trait Disk {
     /// Puts the new file in the place of the file, and makes that durable. A crash leaves the old file or the new one.
     fn install(&mut self) -> io::Result<()>
         ensures { does self.old (installing result) self.new };
+
+    /// How often [`Disk::sync`] went well, and how long that took, where the disk knows it.
+    fn syncs(&self) -> Syncs {
+        Syncs::NONE
+    }
 }

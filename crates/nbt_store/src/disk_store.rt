@@ -10,6 +10,7 @@ use crate::change::Change;
 use crate::disk::Disk;
 use crate::header::Header;
 use crate::store::{Broken, Store};
+use crate::syncs::Syncs;
 use crate::writing::{write_change, write_file};
 use nbt_lease::Lease;
 use nbt_name::Name;
@@ -150,5 +151,10 @@ impl<D: Disk> Store for DiskStore<D> {
         ensures { is_some result ≡ is_broken self.now }
     {
         self.error.as_ref()
+    }
+
+    /// What the disk says of it.
+    fn syncs(&self) -> Syncs {
+        self.disk.syncs()
     }
 }

@@ -4,6 +4,7 @@ ghost use Rattle.nbt_store.specs.Calls.{StoreCall, appending, renewing, syncing}
 
 use crate::change::Change;
 use crate::header::Header;
+use crate::syncs::Syncs;
 use nbt_lease::Lease;
 use nbt_name::Name;
 use std::io;
@@ -39,4 +40,9 @@ pub trait Store {
 
     /// Why the first call that failed did, for people; `None` where none did.
     fn error(&self) -> Option<&io::Error>;
+
+    /// How often changes were made durable, and how long that took, where the store knows it.
+    fn syncs(&self) -> Syncs {
+        Syncs::NONE
+    }
 }

@@ -6,11 +6,12 @@ ghost use Rattle.std.specs.Prelude.{⊤};
 
 use crate::boot::Boot;
 use crate::disk::Disk;
+use crate::syncs::Syncs;
 use std::alloc::Global;
 use std::fs::{File, OpenFile};
 use std::io::{ErrorKind, Read, Write};
 use std::rt::Files;
-use std::{fs, io};
+use std::{fs, io, time};
 
 /// Where Linux has the id of the boot.
 const BOOT_ID: &str = "/proc/sys/kernel/random/boot_id";
@@ -36,6 +37,7 @@ pub struct SystemDisk<'a, R: Files> {
     bad_path: String,
     _lock: File,
     open: Option<R::File>,
+    syncs: Syncs,
 }
 
 impl<'a, R: Files<File = File>> SystemDisk<'a, R> {
@@ -56,6 +58,7 @@ impl<'a, R: Files<File = File>> SystemDisk<'a, R> {
             bad_path: format!(in alloc; "{folder}/leases.bad")?,
             _lock: lock,
             open: None,
+            syncs: Syncs::NONE,
         })
     }
 
@@ -102,7 +105,7 @@ fn opened<F>(file: &mut Option<F>) -> io::Result<&mut F> {
     file.as_mut().ok_or(io::Error::from(ErrorKind::NotFound))
 }
 
-impl<'a, R: Files> Disk for SystemDisk<'a, R> {
+impl<'a, R: Files + time::Clock> Disk for SystemDisk<'a, R> {
     ghost does = { λ _ _ _. ⊤ };
 
     fn create(&mut self, octets: &[u8]) -> io::Result<()> {
@@ -117,11 +120,18 @@ impl<'a, R: Files> Disk for SystemDisk<'a, R> {
     }
 
     fn sync(&mut self) -> io::Result<()> {
-        opened(&mut self.open)?.sync_data()
+        let before = self.machine.monotonic();
+        opened(&mut self.open)?.sync_data()?;
+        self.syncs.add(before, self.machine.monotonic());
+        Ok(())
     }
 
     fn install(&mut self) -> io::Result<()> {
         fs::rename(self.machine, self.new_path.as_str(), self.path.as_str())?;
         sync_folder(self.machine, self.folder)
+    }
+
+    fn syncs(&self) -> Syncs {
+        self.syncs
     }
 }

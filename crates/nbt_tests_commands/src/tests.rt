@@ -12,6 +12,7 @@ mod hosts;
 mod long;
 mod lookups;
 mod looping;
+mod lossy;
 mod machine;
 mod names;
 mod nbns;

@@ -2,6 +2,7 @@
 
 mod addresses;
 mod expect;
+mod front;
 mod host;
 mod hosting;
 mod keeping;
@@ -10,6 +11,8 @@ mod lookups;
 mod nbns;
 mod ports;
 mod releases;
+mod reports;
 mod samba;
+mod scans;
 mod stage;
 mod turns;

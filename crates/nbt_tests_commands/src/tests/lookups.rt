@@ -213,7 +213,7 @@ const CLOCK_FAILS: Row = Row {
     sent: &[],
 };
 
-pub static STATUSES: [Row; 4] = [
+pub static STATUSES: [Row; 6] = [
     Row {
         about: "the names of a host",
         words: "nbt status 127.42.22.3:20139 --bind 127.42.22.2:20138",
@@ -267,6 +267,34 @@ pub static STATUSES: [Row; 4] = [
         text: "no reply\n",
         errors: "",
         sent: &[ASKS_FOR_ALL],
+    },
+    Row {
+        about: "the names of two hosts, the second of which is the first again: each line begins with its host's address",
+        words: "nbt status 127.42.22.3:20139 --also 127.42.22.3:20139 --bind 127.42.22.2:20138",
+        moments: &[1_000_000],
+        sends: &[(4, NAMES), (9, NAMES)],
+        breaks_at: 0,
+        sets: &[],
+        status: 0,
+        readings: 10,
+        text: "127.42.22.3:20139 FRED#20 unique active  file server\n127.42.22.3:20139 unit id 00:50:56:c0:00:08\n127.42.22.3:20139 FRED#20 unique active  file server\n127.42.22.3:20139 unit id 00:50:56:c0:00:08\n",
+        errors: "",
+        sent: &[ASKS_FOR_ALL, ASKS_FOR_ALL],
+    },
+    Row {
+        about: "no reply of the first: the second is asked, and the status is the greatest",
+        words: "nbt status 127.42.22.3:20139 --also 127.42.22.3:20139 --bind 127.42.22.2:20138 --tries 1 --wait 1ms",
+        moments: &[
+            1_000_000, 1_000_000, 1_000_000, 1_000_000, 1_000_000, 1_000_001,
+        ],
+        sends: &[(10, NAMES)],
+        breaks_at: 0,
+        sets: &[],
+        status: 5,
+        readings: 11,
+        text: "127.42.22.3:20139 no reply\n127.42.22.3:20139 FRED#20 unique active  file server\n127.42.22.3:20139 unit id 00:50:56:c0:00:08\n",
+        errors: "",
+        sent: &[ASKS_FOR_ALL, ASKS_FOR_ALL],
     },
 ];
 

@@ -33,6 +33,19 @@ const REFUSED: &str = "0005_ad85_0000_0001_0000_0000_{FRED}_0020_0001_00000000_0
 
 const NOT_FOUND: &str = "0004_8583_0000_0001_0000_0000_{FRED}_000a_0001_00000000_0000";
 
+/// The replies about FRED where it is fixed for 127.42.22.4, and to who asks for TEAM, and may not register.
+const FOUND_FIXED: &str =
+    "0004_8580_0000_0001_0000_0000_{FRED}_0020_0001_0000003c_0006_2000_7f2a1604";
+
+const REFUSED_FIXED: &str =
+    "0001_ad86_0000_0001_0000_0000_{FRED}_0020_0001_00000000_0006_2000_7f2a1603";
+
+const ASKS_FOR_TEAM: &str =
+    "0006_2900_0001_0000_0000_0001_{TEAM}_0020_0001_c00c_0020_0001_00000000_0006_a000_7f2a1603";
+
+const NOT_ALLOWED: &str =
+    "0006_ad85_0000_0001_0000_0000_{TEAM}_0020_0001_00000000_0006_a000_7f2a1603";
+
 /// As nmbd registers its names (captured, with FRED for its name), and the reply; and as a domain controller joins a group.
 const ASKS_AS_NMBD: &str =
     "60f4_7900_0001_0000_0000_0001_{FRED}_0020_0001_c00c_0020_0001_00000014_0006_6000_7f2a1603";
@@ -255,20 +268,98 @@ fn a_list_of_leases(rt: HostRuntime) {
     fs::remove_file(&rt, path.as_str()).expect(&rt, "the list of leases");
 }
 
+/// Servers with a file of fixed names, whose path is the last word: a query and a registration while it is silent, by a machine that may
+/// not register, and by another than the name's.
+static FIXED: [Row; 2] = [
+    Row {
+        about: "a fixed name is found while the server is silent, and another machine is refused it",
+        words: "nbt nbns --bind 127.42.22.2:20138 --longest 60s --for 60001ms --fixed",
+        moments: &[START, START, START, START, SILENT, SILENT, SILENT, END],
+        sends: &[(1, QUERIES), (1, ASKS)],
+        breaks_at: 0,
+        sets: &[],
+        status: 0,
+        readings: 9,
+        text: "serving 127.42.22.2:20138, silent for 60 s until 2026-11-24T09:12:03Z\n",
+        errors: "nbt: refused FRED#20 127.42.22.3: a fixed name\n",
+        sent: &[FOUND_FIXED, REFUSED_FIXED],
+    },
+    Row {
+        about: "a machine of no network is refused each name, and one that is fixed is found",
+        words: "nbt nbns --bind 127.42.22.2:20138 --longest 60s --for 60001ms --allow 127.42.22.2 --allow 127.42.22.4/31 --strict --fixed",
+        moments: &[START, START, START, START, SILENT, SILENT, SILENT, END],
+        sends: &[(1, QUERIES), (1, ASKS_FOR_TEAM)],
+        breaks_at: 0,
+        sets: &[],
+        status: 0,
+        readings: 9,
+        text: "serving 127.42.22.2:20138, silent for 60 s until 2026-11-24T09:12:03Z\n",
+        errors: "nbt: refused TEAM#20 127.42.22.3: not allowed\n",
+        sent: &[FOUND_FIXED, NOT_ALLOWED],
+    },
+];
+
+/// Files that aren't read: no such file, and one whose first line has more words than three.
+static NOT_FIXED: [Row; 2] = [
+    Row {
+        about: "a file that isn't there",
+        words: "nbt nbns --bind 127.42.22.2:20138 --fixed",
+        moments: &[START],
+        sends: &[],
+        breaks_at: 0,
+        sets: &[],
+        status: 3,
+        readings: 0,
+        text: "device\n",
+        errors: "nbt: /proc/no-such-file: No such file or directory (os error 2)\n",
+        sent: &[],
+    },
+    Row {
+        about: "a file with a wrong first line",
+        words: "nbt nbns --bind 127.42.22.2:20138 --fixed",
+        moments: &[START],
+        sends: &[],
+        breaks_at: 0,
+        sets: &[],
+        status: 2,
+        readings: 0,
+        text: "",
+        errors: "nbt: /proc/version: line 1: a name, its kind and an address are wanted, as FILER#20 unique 192.0.2.7\n",
+        sent: &[],
+    },
+];
+
+/// The file is in the folder for temporary files, where no other run of the tests has one.
+#[test]
+fn fixed_names_and_networks(rt: HostRuntime) {
+    let folder = env::temp_dir(&rt).expect(&rt, "a folder for temporary files");
+    let folder = folder.as_path().to_str().expect(&rt, "a folder as text");
+    let id = process::id(rt.process());
+    let path = format!(in rt.alloc(); "{folder}/nbt-tests-{id}-fixed").expect(&rt, "memory");
+    fs::write(&rt, path.as_str(), "# one\n\nfred unique 127.42.22.4\n").expect(&rt, "a file");
+    for row in &FIXED {
+        expect_row(&rt, row, path.as_str(), 0);
+    }
+    fs::remove_file(&rt, path.as_str()).expect(&rt, "the file");
+    expect_row(&rt, &NOT_FIXED[0], "/proc/no-such-file", 0);
+    expect_row(&rt, &NOT_FIXED[1], "/proc/version", 0);
+}
+
 /// Servers over one state, whose folder is the last word: the first grants two leases, the second goes on with them, and the third has
-/// another limit.
+/// another limit. Each sync reads the clock twice: at the start there is one, and one for the first two leases.
 static STATES: [Row; 3] = [
     Row {
         about: "nothing was kept",
         words: "nbt nbns --bind 127.42.22.2:20138 --longest 60s --for 60001ms --state",
         moments: &[
-            START, START, START, START, OPEN, OPEN, OPEN, OPEN, OPEN, OPEN, END,
+            START, START, START, START, START, START, OPEN, OPEN, OPEN, OPEN, OPEN, OPEN, OPEN,
+            OPEN, END,
         ],
         sends: &[(1, ASKS), (1, JOINS)],
         breaks_at: 0,
         sets: &[],
         status: 0,
-        readings: 13,
+        readings: 17,
         text: "serving 127.42.22.2:20138, silent for 60 s until 2026-11-24T09:12:03Z, since nothing was kept\n",
         errors: "",
         sent: &[GRANTED, JOINED],
@@ -281,7 +372,7 @@ static STATES: [Row; 3] = [
         breaks_at: 0,
         sets: &[],
         status: 0,
-        readings: 8,
+        readings: 10,
         text: "serving 127.42.22.2:20138, with 2 leases kept\n",
         errors: "",
         sent: &[FOUND],
@@ -294,7 +385,7 @@ static STATES: [Row; 3] = [
         breaks_at: 0,
         sets: &[],
         status: 0,
-        readings: 7,
+        readings: 9,
         text: "serving 127.42.22.2:20138, silent for 61 s until 2026-11-24T09:13:04Z, since another LONGEST\n",
         errors: "",
         sent: &[],

@@ -2,7 +2,7 @@
 
 use super::at;
 use super::expect::expect_eq_in;
-use nbt_keep::{Found, Manner, Reason, begin, manner_of, write_begin};
+use nbt_keep::{Found, Manner, Reason, begin, manner_of, outlasts, write_begin};
 use nbt_lease::{Config, Lease};
 use nbt_log::Dates;
 use nbt_name::{Addr, Kind, Name};
@@ -272,6 +272,129 @@ fn begin_all(rt: &(impl Abort + AllocGlobal), rows: &[Start<'_>]) -> Result<(), 
 #[test]
 fn servers_that_start_over_a_state(rt: HostRuntime) -> Result<(), Fail> {
     begin_all(&rt, STARTS)
+}
+
+/// Which case it is, the longest lease now, what is found, whether in the same boot, what the clock reads and how much the time of day
+/// is later; and whether a lease outlasts the silence of a server that begins then. The file is of a longest lease of 60 s.
+type Shorter<'a> = (&'a str, u32, File<'a>, bool, u64, u64, bool);
+
+const SHORTER: &[Shorter<'static>] = &[
+    (
+        "a second less, at once",
+        59,
+        File::Ends(&[20_000, 60_077]),
+        true,
+        70,
+        0,
+        true,
+    ),
+    (
+        "a millisecond before it is over",
+        59,
+        File::Ends(&[60_077]),
+        true,
+        1_069,
+        0,
+        true,
+    ),
+    (
+        "when it is over",
+        59,
+        File::Ends(&[60_077]),
+        true,
+        1_070,
+        0,
+        false,
+    ),
+    ("no lease", 1, File::Ends(&[]), true, 70, 0, false),
+    (
+        "the same longest lease, and a lease that is longer than any",
+        60,
+        File::Ends(&[60_078]),
+        true,
+        70,
+        0,
+        false,
+    ),
+    (
+        "a longer one",
+        61,
+        File::Ends(&[3_600_000]),
+        true,
+        70,
+        0,
+        false,
+    ),
+    (
+        "another boot, a millisecond before",
+        59,
+        File::Ends(&[60_077]),
+        false,
+        100,
+        999,
+        true,
+    ),
+    (
+        "another boot, when it is over",
+        59,
+        File::Ends(&[60_077]),
+        false,
+        100,
+        1_000,
+        false,
+    ),
+    (
+        "a clock that went back",
+        1,
+        File::Ends(&[60_077]),
+        true,
+        69,
+        0,
+        false,
+    ),
+    ("no file", 1, File::None, true, 70, 0, false),
+    (
+        "another version",
+        1,
+        File::Octets("nbt leases, version 2\n"),
+        true,
+        70,
+        0,
+        false,
+    ),
+];
+
+/// A lease outlasts the silence, or doesn't, as the row says; whatever else there is to say of a start then.
+fn outlast_as(rt: &(impl Abort + AllocGlobal), row: &Shorter<'_>) -> Result<(), Fail> {
+    let (_, longest, file, same, monotonic, later, wanted) = *row;
+    let mut text = String::new(rt.alloc());
+    write_found(rt.alloc(), Config::new(1000, 60, 4)?, file, &mut text)?;
+    let boot = boot_of(same)?;
+    let found = Found {
+        kept: match file {
+            File::None => None,
+            _ => Some(text.as_bytes()),
+        },
+        config: Config::new(999, longest, 8)?,
+        boot: &boot,
+        monotonic: at(monotonic)?,
+        day: at(DAY.saturating_add(later))?,
+        silent_after_boot: true,
+    };
+    expect_eq_in(rt, row, &outlasts(rt.alloc(), &found)?, &wanted);
+    Ok(())
+}
+
+fn outlast_all(rt: &(impl Abort + AllocGlobal), rows: &[Shorter<'_>]) -> Result<(), Fail> {
+    for row in rows {
+        outlast_as(rt, row)?;
+    }
+    Ok(())
+}
+
+#[test]
+fn leases_that_outlast_a_shorter_silence(rt: HostRuntime) -> Result<(), Fail> {
+    outlast_all(&rt, SHORTER)
 }
 
 /// When a server began first, the time now, how many leases it has, why it begins anew, and its first line. The time of day is

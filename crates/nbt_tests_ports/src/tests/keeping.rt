@@ -10,6 +10,7 @@ use nbt_log::Dates;
 use nbt_name::{Addr, Name};
 use nbt_nbns::{Journal, MemoryPlace};
 use nbt_port::{Datagram, Fault, MemoryClock, MemoryPort, Port};
+use nbt_report::{Origin, Tally};
 use nbt_server::Server;
 use nbt_store::{Boot, DiskStore, Header, MemoryDisk, Trouble, load};
 use nbt_testing::{
@@ -193,7 +194,7 @@ struct Stage<'a> {
 }
 
 /// The header of a server that starts at 0.
-fn header() -> Result<Header, Fail> {
+pub fn header() -> Result<Header, Fail> {
     let boot = Boot::new(b"boot").ok_or("no boot")?;
     Ok(Header::new(config(4096)?, boot, 0, moment(0)?, moment(0)?, 0))
 }
@@ -540,6 +541,13 @@ fn journal<R: AllocGlobal>(rt: &R) -> Result<Journal<MemoryClock, MemoryPlace>, 
         day: clock(rt, &[0])?,
         log: None,
         leases: None,
+        hosts: None,
+        stats: None,
+        tally: Tally::new(),
+        origin: Origin {
+            since: 0,
+            speaks: 0,
+        },
     })
 }
 

@@ -5,8 +5,8 @@ use super::expect::{expect_eq, expect_eq_in};
 use arrayvec::ArrayVec;
 use nbt_lease::{Lease, Moment};
 use nbt_log::{
-    Dates, Entry, LIST_HEAD, Limiter, Limiters, LineKind, may_become_list, write_entry, write_list,
-    write_time,
+    Dates, Entry, LIST_HEAD, Limiter, Limiters, LineKind, may_replace, write_entry, write_list,
+    write_summary, write_time,
 };
 use nbt_name::{Addr, Kind, Name};
 use nbt_server::{Claim, Outcome, Refusal, Server};
@@ -57,7 +57,7 @@ fn times_of_day(rt: HostRuntime) -> Result<(), Fail> {
 
 /// What a server did with a datagram, without whose claim it is.
 #[derive(Clone, Copy)]
-enum Done {
+pub enum Done {
     Granted(u32),
     Renewed(u32),
     Refused(Refusal),
@@ -71,7 +71,7 @@ enum Done {
     NoMessage,
 }
 
-fn outcome_of(done: Done, claim: Claim) -> Outcome {
+pub fn outcome_of(done: Done, claim: Claim) -> Outcome {
     match done {
         Done::Granted(seconds) => Outcome::Granted(claim, seconds),
         Done::Renewed(seconds) => Outcome::Renewed(claim, seconds),
@@ -232,7 +232,7 @@ fn a_line_says_how_many_were_left_out(rt: HostRuntime) -> Result<(), Fail> {
     Ok(())
 }
 
-fn claim_of(name: &str, kind: Kind, addr: u32) -> Result<Claim, Fail> {
+pub fn claim_of(name: &str, kind: Kind, addr: u32) -> Result<Claim, Fail> {
     Ok(Claim {
         name: named(name)?,
         kind,
@@ -240,7 +240,7 @@ fn claim_of(name: &str, kind: Kind, addr: u32) -> Result<Claim, Fail> {
     })
 }
 
-fn entry_of(count: usize, is_broadcast: bool, outcome: Outcome) -> Entry {
+pub fn entry_of(count: usize, is_broadcast: bool, outcome: Outcome) -> Entry {
     Entry {
         from: FROM,
         count,
@@ -610,6 +610,132 @@ fn lines_of_each_kind_are_limited_by_themselves(rt: HostRuntime) -> Result<(), F
     Ok(())
 }
 
+/// A kind, how many lines of it are asked for at 5,000 ms, and what is printed a second later of those that were left out.
+type Flooded = (LineKind, u32, &'static str);
+
+const FLOODED: &[Flooded] = &[
+    (
+        LineKind::Granted,
+        11,
+        "2026-11-24T23:59:54Z .. 1 more granted\n",
+    ),
+    (
+        LineKind::Renewed,
+        12,
+        "2026-11-24T23:59:54Z .. 2 more renewed\n",
+    ),
+    (
+        LineKind::Refused,
+        1_210,
+        "2026-11-24T23:59:54Z .. 1200 more refused\n",
+    ),
+    (
+        LineKind::Released,
+        13,
+        "2026-11-24T23:59:54Z .. 3 more released\n",
+    ),
+    (
+        LineKind::NotReleased,
+        14,
+        "2026-11-24T23:59:54Z .. 4 more release refused\n",
+    ),
+    (
+        LineKind::Unanswered,
+        15,
+        "2026-11-24T23:59:54Z .. 5 more unanswered\n",
+    ),
+    (
+        LineKind::Foreign,
+        16,
+        "2026-11-24T23:59:54Z .. 6 more foreign\n",
+    ),
+    (
+        LineKind::Malformed,
+        17,
+        "2026-11-24T23:59:54Z .. 7 more malformed\n",
+    ),
+    (
+        LineKind::Broadcast,
+        18,
+        "2026-11-24T23:59:54Z .. 8 more broadcast\n",
+    ),
+];
+
+/// So many lines of a kind are asked for at a moment.
+fn ask(limiters: &mut Limiters, kind: LineKind, count: u32, at: u64) -> Result<(), Fail> {
+    for _ in 0..count {
+        limiters.take(kind, moment(at)?);
+    }
+    Ok(())
+}
+
+/// This is printed at a moment of what was left out.
+fn expect_summary<R: Abort + AllocGlobal>(
+    rt: &R,
+    limiters: &mut Limiters,
+    at: u64,
+    expected: &str,
+) -> Result<(), Fail> {
+    let mut text = String::from_str(rt.alloc(), "> ")?;
+    write_summary(limiters, &dates()?, moment(at)?, &mut text)?;
+    expect_eq_in(rt, &at, &text.as_str().strip_prefix("> "), &Some(expected));
+    Ok(())
+}
+
+fn expect_flooded<R: Abort + AllocGlobal>(
+    rt: &R,
+    limiters: &mut Limiters,
+    rows: &[Flooded],
+) -> Result<(), Fail> {
+    expect_summary(rt, limiters, 5_000, "")?;
+    for (kind, count, _) in rows.iter().rev() {
+        ask(limiters, *kind, *count, 5_000)?;
+    }
+    expect_summary(rt, limiters, 5_999, "")?;
+    for (_, _, expected) in rows {
+        expect_summary(rt, limiters, 6_000, expected)?;
+    }
+    expect_summary(rt, limiters, 6_000, "")
+}
+
+#[test]
+fn what_was_left_out_of_each_kind_is_told_once(rt: HostRuntime) -> Result<(), Fail> {
+    expect_flooded(&rt, &mut Limiters::new(), FLOODED)
+}
+
+fn expect_summary_is_a_line<R: Abort + AllocGlobal>(
+    rt: &R,
+    limiters: &mut Limiters,
+) -> Result<(), Fail> {
+    ask(limiters, LineKind::Foreign, 12, 5_000)?;
+    expect_summary(
+        rt,
+        limiters,
+        6_000,
+        "2026-11-24T23:59:54Z .. 2 more foreign\n",
+    )?;
+    for _ in 0..9 {
+        expect_eq(
+            rt,
+            &limiters.take(LineKind::Foreign, moment(6_000)?),
+            &Some(0),
+        );
+    }
+    expect_eq(rt, &limiters.take(LineKind::Foreign, moment(6_000)?), &None);
+    expect_summary(rt, limiters, 6_999, "")?;
+    expect_summary(
+        rt,
+        limiters,
+        7_000,
+        "2026-11-24T23:59:55Z .. 1 more foreign\n",
+    )
+}
+
+#[test]
+fn a_summary_is_one_of_the_ten_lines(rt: HostRuntime) -> Result<(), Fail> {
+    expect_summary_is_a_line(&rt, &mut Limiters::new())
+}
+
 /// The first octets of a file, and whether a list may be put in place of it.
 const FIRSTS: [(&str, bool); 6] = [
     ("", true),
@@ -623,7 +749,12 @@ const FIRSTS: [(&str, bool); 6] = [
 #[test]
 fn what_a_list_may_be_put_in_place_of(rt: HostRuntime) -> Result<(), Fail> {
     for (first, expected) in FIRSTS {
-        expect_eq_in(&rt, &first, &may_become_list(first.as_bytes()), &expected);
+        expect_eq_in(
+            &rt,
+            &first,
+            &may_replace(LIST_HEAD, first.as_bytes()),
+            &expected,
+        );
     }
     Ok(())
 }

@@ -1,16 +1,18 @@
 //! A name server that is watched, over a port in memory: the life of a datagram is 1,000 ms, the longest lease 60 s, and it started
 //! at 0. At its moment 60,000 it was 2026-11-24T09:12:03Z.
 
-use super::expect::{expect, expect_eq, expect_eq_in};
+use super::expect::{expect, expect_eq, expect_eq_in, expect_in};
 use super::stage::{Scene, play_on};
+use nbt_front::{FixedNames, Front};
 use nbt_lease::Config;
 use nbt_log::Dates;
 use nbt_name::Addr;
 use nbt_nbns::{
-    FilePlace, Journal, Judged, Keeper, Logger, MemoryPlace, NbnsArguments, Outbox, Place, judge,
-    run_nbns, watch_on, write_begin, write_refusal, write_warning,
+    Content, FilePlace, Journal, Judged, Keeper, Logger, MemoryPlace, NbnsArguments, Outbox, Place,
+    judge, run_nbns, watch_on, write_begin, write_refusal, write_warning,
 };
 use nbt_port::{Bind, Fault, MemoryClock, MemoryPort, Port, UdpPort};
+use nbt_report::{Origin, Tally};
 use nbt_server::Server;
 use nbt_testing::{
     GRANTED, QUERY, REFRESH, REFUSED, REGISTRATION, RELEASE, RIVAL, Row, clock, config,
@@ -113,6 +115,13 @@ fn journal_of<R: AllocGlobal>(
         day,
         log,
         leases,
+        hosts: None,
+        stats: None,
+        tally: Tally::new(),
+        origin: Origin {
+            since: DAY / 1_000,
+            speaks: 60_000,
+        },
     })
 }
 
@@ -337,6 +346,77 @@ const WATCHED: &[Watched] = &[
         lists: &[],
         sent: &[],
     },
+    // A flood ends: how many were left out is told once, in the first turn without a datagram in which a line may be printed.
+    Watched {
+        turns: &[
+            (60_000, 0, (FIRST, "01")),
+            (60_000, 0, (FIRST, "01")),
+            (60_000, 0, (FIRST, "01")),
+            (60_000, 0, (FIRST, "01")),
+            (60_000, 0, (FIRST, "01")),
+            (60_000, 0, (FIRST, "01")),
+            (60_000, 0, (FIRST, "01")),
+            (60_000, 0, (FIRST, "01")),
+            (60_000, 0, (FIRST, "01")),
+            (60_000, 0, (FIRST, "01")),
+            (60_000, 0, (FIRST, "01")),
+            (60_000, 0, (FIRST, "01")),
+            (60_900, 0, (FIRST, "")),
+            (60_999, 0, (FIRST, "")),
+            (61_000, 0, (FIRST, "")),
+            (61_001, 0, (FIRST, "")),
+            (61_100, 0, (SECOND, "0102")),
+            (62_000, 0, (FIRST, "")),
+        ],
+        until: 62_000,
+        logs: true,
+        printed: "2026-11-24T09:12:03Z malformed from 127.0.0.2:137: 1 octets\n2026-11-24T09:12:03Z malformed from 127.0.0.2:137: 1 octets\n2026-11-24T09:12:03Z malformed from 127.0.0.2:137: 1 octets\n2026-11-24T09:12:03Z malformed from 127.0.0.2:137: 1 octets\n2026-11-24T09:12:03Z malformed from 127.0.0.2:137: 1 octets\n2026-11-24T09:12:03Z malformed from 127.0.0.2:137: 1 octets\n2026-11-24T09:12:03Z malformed from 127.0.0.2:137: 1 octets\n2026-11-24T09:12:03Z malformed from 127.0.0.2:137: 1 octets\n2026-11-24T09:12:03Z malformed from 127.0.0.2:137: 1 octets\n2026-11-24T09:12:03Z malformed from 127.0.0.2:137: 1 octets\n2026-11-24T09:12:04Z .. 2 more malformed\n2026-11-24T09:12:04Z malformed from 127.0.0.3:1024: 2 octets\n",
+        lists: &[],
+        sent: &[],
+    },
+    // A flood goes on beside queries, which have no line: the count is told in the turn of one. It is one of the ten lines of its kind.
+    Watched {
+        turns: &[
+            (60_000, 0, (FIRST, REGISTRATION)),
+            (60_000, 0, (FIRST, "01")),
+            (60_000, 0, (FIRST, "01")),
+            (60_000, 0, (FIRST, "01")),
+            (60_000, 0, (FIRST, "01")),
+            (60_000, 0, (FIRST, "01")),
+            (60_000, 0, (FIRST, "01")),
+            (60_000, 0, (FIRST, "01")),
+            (60_000, 0, (FIRST, "01")),
+            (60_000, 0, (FIRST, "01")),
+            (60_000, 0, (FIRST, "01")),
+            (60_000, 0, (FIRST, "01")),
+            (60_000, 0, (FIRST, "01")),
+            (60_000, 0, (SECOND, QUERY)),
+            (60_999, 0, (FIRST, "01")),
+            (61_000, 0, (SECOND, QUERY)),
+            (61_000, 0, (FIRST, "0102")),
+            (61_000, 0, (FIRST, "0102")),
+            (61_000, 0, (FIRST, "0102")),
+            (61_000, 0, (FIRST, "0102")),
+            (61_000, 0, (FIRST, "0102")),
+            (61_000, 0, (FIRST, "0102")),
+            (61_000, 0, (FIRST, "0102")),
+            (61_000, 0, (FIRST, "0102")),
+            (61_000, 0, (FIRST, "0102")),
+            (61_000, 0, (FIRST, "0102")),
+            (61_999, 0, (FIRST, "")),
+            (62_000, 0, (SECOND, QUERY)),
+        ],
+        until: 62_000,
+        logs: true,
+        printed: "2026-11-24T09:12:03Z granted FRED#20 127.0.0.2 unique 60 s\n2026-11-24T09:12:03Z malformed from 127.0.0.2:137: 1 octets\n2026-11-24T09:12:03Z malformed from 127.0.0.2:137: 1 octets\n2026-11-24T09:12:03Z malformed from 127.0.0.2:137: 1 octets\n2026-11-24T09:12:03Z malformed from 127.0.0.2:137: 1 octets\n2026-11-24T09:12:03Z malformed from 127.0.0.2:137: 1 octets\n2026-11-24T09:12:03Z malformed from 127.0.0.2:137: 1 octets\n2026-11-24T09:12:03Z malformed from 127.0.0.2:137: 1 octets\n2026-11-24T09:12:03Z malformed from 127.0.0.2:137: 1 octets\n2026-11-24T09:12:03Z malformed from 127.0.0.2:137: 1 octets\n2026-11-24T09:12:03Z malformed from 127.0.0.2:137: 1 octets\n2026-11-24T09:12:04Z .. 3 more malformed\n2026-11-24T09:12:04Z malformed from 127.0.0.2:137: 2 octets\n2026-11-24T09:12:04Z malformed from 127.0.0.2:137: 2 octets\n2026-11-24T09:12:04Z malformed from 127.0.0.2:137: 2 octets\n2026-11-24T09:12:04Z malformed from 127.0.0.2:137: 2 octets\n2026-11-24T09:12:04Z malformed from 127.0.0.2:137: 2 octets\n2026-11-24T09:12:04Z malformed from 127.0.0.2:137: 2 octets\n2026-11-24T09:12:04Z malformed from 127.0.0.2:137: 2 octets\n2026-11-24T09:12:04Z malformed from 127.0.0.2:137: 2 octets\n2026-11-24T09:12:04Z malformed from 127.0.0.2:137: 2 octets\n2026-11-24T09:12:05Z .. 1 more malformed\n",
+        lists: &[],
+        sent: &[
+            (FIRST, GRANTED),
+            (SECOND, "0008 8580 reply FRED NB 0000003c unique 127.0.0.2"),
+            (SECOND, FOUND),
+            (SECOND, "0008 8580 reply FRED NB 0000003a unique 127.0.0.2"),
+        ],
+    },
 ];
 
 /// Goes on up to a moment, and this is printed, and said of errors.
@@ -530,6 +610,164 @@ fn see_flushed<R: Abort + AllocGlobal + time::Clock>(
     Ok(())
 }
 
+/// The journal keeps hosts and statistics too, in places that refuse the first text of each where that is wanted.
+fn keep_reports<R: AllocGlobal>(
+    rt: &R,
+    journal: &mut Journal<MemoryClock, MemoryPlace>,
+    refused: u64,
+) {
+    let mut hosts = MemoryPlace::new(rt.alloc());
+    hosts.refuse(refused);
+    journal.hosts = Some(Keeper::new(rt.alloc(), hosts));
+    let mut stats = MemoryPlace::new(rt.alloc());
+    stats.refuse(refused);
+    journal.stats = Some(Keeper::new(rt.alloc(), stats));
+}
+
+/// The texts that a place was given.
+fn texts_of(kept: &Option<Keeper<MemoryPlace>>) -> Result<&[String], Fail> {
+    Ok(kept.as_ref().ok_or("not kept")?.place().texts())
+}
+
+/// The place of the hosts was given these texts, in order.
+fn expect_hosts<R: Abort>(
+    rt: &R,
+    journal: &Journal<MemoryClock, MemoryPlace>,
+    hosts: &[&str],
+) -> Result<(), Fail> {
+    let texts = texts_of(&journal.hosts)?;
+    expect_eq(rt, &texts.len(), &hosts.len());
+    for (got, expected) in texts.iter().zip(hosts) {
+        expect_eq(rt, &got.as_str(), &*expected);
+    }
+    Ok(())
+}
+
+/// The place of the statistics was given so many texts, and the last has each of these lines.
+fn expect_stats<R: Abort>(
+    rt: &R,
+    journal: &Journal<MemoryClock, MemoryPlace>,
+    count: usize,
+    lines: &[&str],
+) -> Result<(), Fail> {
+    let texts = texts_of(&journal.stats)?;
+    expect_eq(rt, &texts.len(), &count);
+    let last = texts.last().ok_or("no statistics")?;
+    for line in lines {
+        let is_there = last.as_str().split('\n').any(|one| one == *line);
+        expect_eq_in(rt, line, &is_there, &true);
+    }
+    Ok(())
+}
+
+/// What the statistics have after a datagram of each outcome, four seconds after the first.
+const COUNTED: &[&str] = &[
+    "# statistics of nbt nbns",
+    "nbt_nbns_requests_total{kind=\"registration\",result=\"granted\"} 1",
+    "nbt_nbns_requests_total{kind=\"registration\",result=\"renewed\"} 1",
+    "nbt_nbns_requests_total{kind=\"registration\",result=\"refused\"} 1",
+    "nbt_nbns_requests_total{kind=\"release\",result=\"released\"} 1",
+    "nbt_nbns_requests_total{kind=\"release\",result=\"not_leased\"} 1",
+    "nbt_nbns_requests_total{kind=\"release\",result=\"refused\"} 0",
+    "nbt_nbns_requests_total{kind=\"query\",result=\"found\"} 1",
+    "nbt_nbns_requests_total{kind=\"query\",result=\"not_found\"} 0",
+    "nbt_nbns_unanswered_requests_total 0",
+    "nbt_nbns_other_datagrams_total{kind=\"foreign\"} 1",
+    "nbt_nbns_other_datagrams_total{kind=\"malformed\"} 1",
+    "nbt_nbns_other_datagrams_total{kind=\"broadcast\"} 0",
+    "nbt_nbns_refusals_total{reason=\"active\"} 1",
+    "nbt_nbns_refusals_total{reason=\"not_own\"} 0",
+    "nbt_nbns_own_replies_total{result=\"not_allowed\"} 0",
+    "nbt_nbns_leases{kind=\"unique\"} 0",
+    "nbt_nbns_leases{kind=\"group\"} 0",
+    "nbt_nbns_rows_free 4096",
+    "nbt_nbns_lease_least_left_seconds 0.000",
+    "nbt_nbns_lease_greatest_left_seconds 0.000",
+    "nbt_nbns_start_time_seconds 1795511463",
+    "nbt_nbns_silence_left_seconds 0.000",
+    "nbt_nbns_written_timestamp_seconds 1795511527",
+    "nbt_nbns_port_failures_total 0",
+    "nbt_nbns_log_lines_dropped_total 0",
+    "nbt_nbns_state_syncs_total 0",
+    "nbt_nbns_state_sync_seconds_total 0.000",
+];
+
+const NO_HOSTS: &str = "# hosts of nbt nbns\n";
+
+const FRED: &str = "# hosts of nbt nbns\n127.0.0.2 FRED\n";
+
+/// Of the nine turns five are a second after the last look; the hosts change in two of them.
+fn see_reports<R: Abort + AllocGlobal + time::Clock>(
+    rt: &R,
+    stage: &mut Stage,
+) -> Result<(), Fail> {
+    keep_reports(rt, stage.journal, 0);
+    let (_, errors) = go_on(rt, stage, 62_100)?;
+    expect(rt, errors.is_empty());
+    expect_hosts(rt, stage.journal, &[FRED])?;
+    let lines = [
+        "nbt_nbns_leases{kind=\"unique\"} 1",
+        "nbt_nbns_rows_free 4095",
+        "nbt_nbns_lease_least_left_seconds 59.000",
+        "nbt_nbns_lease_greatest_left_seconds 59.000",
+        "nbt_nbns_written_timestamp_seconds 1795511525",
+    ];
+    expect_stats(rt, stage.journal, 3, &lines)?;
+    let (_, errors) = go_on(rt, stage, 64_000)?;
+    expect(rt, errors.is_empty());
+    expect_hosts(rt, stage.journal, &[FRED, NO_HOSTS])?;
+    expect_stats(rt, stage.journal, 5, COUNTED)
+}
+
+/// Each place refuses its first text: that is said, and a second later that it is well again.
+fn see_refused_reports<R: Abort + AllocGlobal + time::Clock>(
+    rt: &R,
+    stage: &mut Stage,
+) -> Result<(), Fail> {
+    keep_reports(rt, stage.journal, 1);
+    let said =
+        "nbt: the list of leases can't be written: the place is full\nnbt: the list of leases can't be written: the place is full\n";
+    expect_said(rt, stage, 60_500, "", said)?;
+    expect_hosts(rt, stage.journal, &[])?;
+    let said =
+        "nbt: the list of leases is written again\nnbt: the list of leases is written again\n";
+    expect_said(rt, stage, 61_000, "", said)?;
+    expect_hosts(rt, stage.journal, &[FRED])?;
+    let lines = ["nbt_nbns_requests_total{kind=\"registration\",result=\"renewed\"} 1"];
+    expect_stats(rt, stage.journal, 1, &lines)
+}
+
+/// A call of the port fails, and later one more.
+fn see_failures<R: Abort + AllocGlobal + time::Clock>(
+    rt: &R,
+    stage: &mut Stage,
+) -> Result<(), Fail> {
+    keep_reports(rt, stage.journal, 0);
+    stage.port.fail_after(0);
+    go_on(rt, stage, 60_000)?;
+    expect_stats(rt, stage.journal, 1, &["nbt_nbns_port_failures_total 1"])?;
+    stage.port.fail_after(1);
+    go_on(rt, stage, 62_000)?;
+    expect_stats(rt, stage.journal, 3, &["nbt_nbns_port_failures_total 2"])
+}
+
+/// The reader of the log is slow: of three lines the first waits, and the others are dropped. Then it reads on, which changes nothing of
+/// what was counted.
+fn see_dropped_lines<R: Abort + AllocGlobal + time::Clock>(
+    rt: &R,
+    stage: &mut Stage,
+    pipe: &mut Pipe,
+) -> Result<(), Fail> {
+    keep_reports(rt, stage.journal, 0);
+    let mut errors = Vec::new(rt.alloc());
+    watch(rt, stage, 62_000, pipe, &mut errors)?;
+    let lines = ["nbt_nbns_log_lines_dropped_total 2"];
+    expect_stats(rt, stage.journal, 3, &lines)?;
+    pipe.room = 1_000;
+    watch(rt, stage, 64_000, pipe, &mut errors)?;
+    expect_stats(rt, stage.journal, 5, &lines)
+}
+
 /// What is seen of a watched server.
 #[derive(Drop)]
 enum Seen {
@@ -544,6 +782,14 @@ enum Seen {
     Flushed,
     /// A row, where a client may have so many names.
     Limited(u32, &'static Watched),
+    /// Hosts and statistics are kept.
+    Reports,
+    /// Hosts and statistics that can't be written are said once, and tried again.
+    RefusedReports,
+    /// The statistics have how often the port failed.
+    Failures,
+    /// The statistics have how many lines of the log were dropped.
+    DroppedLines,
 }
 
 fn see<R: Abort + AllocGlobal + time::Clock>(
@@ -560,6 +806,16 @@ fn see<R: Abort + AllocGlobal + time::Clock>(
         Seen::Limited(rows, row) => {
             stage.server.limit_clients(*rows);
             expect_watched(rt, *row, stage)
+        }
+        Seen::Reports => see_reports(rt, stage),
+        Seen::RefusedReports => see_refused_reports(rt, stage),
+        Seen::Failures => see_failures(rt, stage),
+        Seen::DroppedLines => {
+            let mut pipe = Pipe {
+                room: 0,
+                text: Vec::new(rt.alloc()),
+            };
+            see_dropped_lines(rt, stage, &mut pipe)
         }
     }
 }
@@ -677,6 +933,30 @@ const OTHERS: &[Watching] = &[
         lists: false,
         seen: Seen::Flushed,
     },
+    Watching {
+        turns: EACH,
+        logs: false,
+        lists: false,
+        seen: Seen::Reports,
+    },
+    Watching {
+        turns: EACH,
+        logs: false,
+        lists: false,
+        seen: Seen::RefusedReports,
+    },
+    Watching {
+        turns: EACH,
+        logs: false,
+        lists: false,
+        seen: Seen::Failures,
+    },
+    Watching {
+        turns: EACH,
+        logs: true,
+        lists: false,
+        seen: Seen::DroppedLines,
+    },
 ];
 
 fn play_others<R: Abort + AllocGlobal + time::Clock>(
@@ -712,7 +992,7 @@ fn a_place_in_memory_keeps_each_text(rt: HostRuntime) -> Result<(), Fail> {
 }
 
 /// A path in the folder for temporary files that no other test has.
-fn path_for(rt: &HostRuntime, name: &str) -> Result<String, Fail> {
+pub fn path_for(rt: &HostRuntime, name: &str) -> Result<String, Fail> {
     let folder = env::temp_dir(rt)?;
     let folder = folder.as_path().to_str().ok_or("no text")?;
     let id = process::id(rt.process());
@@ -721,7 +1001,7 @@ fn path_for(rt: &HostRuntime, name: &str) -> Result<String, Fail> {
 
 /// Replaces a file's text. Returns the one that it has then, and the one that is read by who had it open before.
 fn replaced(rt: &HostRuntime, path: &str) -> Result<(String, String), Fail> {
-    let mut place = FilePlace::new(rt, rt.alloc(), path)?;
+    let mut place = FilePlace::new(rt, rt.alloc(), Content::Leases, path)?;
     place.replace("# live leases of nbt nbns\none\n")?;
     let before = fs::open(rt, path)?;
     place.replace("# live leases of nbt nbns\ntwo\n")?;
@@ -738,7 +1018,7 @@ fn is_there(rt: &HostRuntime, path: &str, end: &str) -> Result<bool, Fail> {
 /// Whether a file of the path with this behind it can have a text.
 fn can_be_replaced(rt: &HostRuntime, path: &str, end: &str) -> Result<bool, Fail> {
     let path = format!(in rt.alloc(); "{path}{end}")?;
-    let mut place = FilePlace::new(rt, rt.alloc(), path.as_str())?;
+    let mut place = FilePlace::new(rt, rt.alloc(), Content::Leases, path.as_str())?;
     Ok(place.replace("one\n").is_ok())
 }
 
@@ -769,6 +1049,12 @@ fn here(port: u16) -> Addr {
     }
 }
 
+/// A front without networks and names.
+fn open_front(rt: &HostRuntime) -> Result<Front, Fail> {
+    let none = FixedNames::none(rt.alloc());
+    Ok(Front::new(Vec::new(rt.alloc()), none, config(16)?))
+}
+
 /// A server over this machine, at a port that no other test has, which ends after its first turn.
 fn arguments(rt: &HostRuntime, port: u16, strict: bool) -> Result<NbnsArguments, Fail> {
     Ok(NbnsArguments {
@@ -778,8 +1064,11 @@ fn arguments(rt: &HostRuntime, port: u16, strict: bool) -> Result<NbnsArguments,
         log: true,
         broadcasts: false,
         leases: None,
+        hosts: None,
+        stats: None,
         strict,
         rows_per_client: 64,
+        front: open_front(rt)?,
     })
 }
 
@@ -792,6 +1081,18 @@ fn arguments_with_leases(
 ) -> Result<NbnsArguments, Fail> {
     let mut arguments = arguments(rt, port, strict)?;
     arguments.leases = Some(String::from_str(rt.alloc(), path)?);
+    Ok(arguments)
+}
+
+/// The same, with what it keeps in the file of this path.
+fn arguments_with(rt: &HostRuntime, content: Content, path: &str) -> Result<NbnsArguments, Fail> {
+    let mut arguments = arguments(rt, 0, false)?;
+    let path = Some(String::from_str(rt.alloc(), path)?);
+    match content {
+        Content::Leases => arguments.leases = path,
+        Content::Hosts => arguments.hosts = path,
+        Content::Stats => arguments.stats = path,
+    }
     Ok(arguments)
 }
 
@@ -859,7 +1160,18 @@ fn a_list_whose_file_can_not_be_had(rt: HostRuntime) -> Result<(), Fail> {
 
 /// Whether a list at this path is refused before anything is served, for what stands at the path with this behind it.
 fn is_refused(rt: &HostRuntime, path: &str, end: &str, why: &str) -> Result<bool, Fail> {
-    let arguments = arguments_with_leases(rt, 0, false, path)?;
+    is_content_refused(rt, Content::Leases, path, end, why)
+}
+
+/// The same of another file that is kept.
+fn is_content_refused(
+    rt: &HostRuntime,
+    content: Content,
+    path: &str,
+    end: &str,
+    why: &str,
+) -> Result<bool, Fail> {
+    let arguments = arguments_with(rt, content, path)?;
     let (ended, printed, errors) = run(rt, &arguments);
     let expected = format!(in rt.alloc(); "nbt: {path}{end} can't be written: {why}\n")?;
     Ok(
@@ -904,6 +1216,56 @@ fn a_list_replaces_nothing_but_a_list(rt: HostRuntime) -> Result<(), Fail> {
     expect(&rt, cut);
     let beside = stays(&rt, "beside", ".new", "not mine")?;
     expect(&rt, beside);
+    Ok(())
+}
+
+/// A kept file, its first line, one of another, and why that one is not replaced.
+const FIRST_LINES: [(Content, &str, &str, &str); 3] = [
+    (
+        Content::Leases,
+        "# live leases of nbt nbns\n",
+        "# hosts of nbt nbns\n",
+        "its first line isn't '# live leases of nbt nbns': remove that file first",
+    ),
+    (
+        Content::Hosts,
+        "# hosts of nbt nbns\n",
+        "# live leases of nbt nbns\n",
+        "its first line isn't '# hosts of nbt nbns': remove that file first",
+    ),
+    (
+        Content::Stats,
+        "# statistics of nbt nbns\n",
+        "# hosts of nbt nbns\n192.0.2.7 FILER\n",
+        "its first line isn't '# statistics of nbt nbns': remove that file first",
+    ),
+];
+
+/// Whether a file is put in place of one of its own first line, and of no other.
+fn replaces_its_own(
+    rt: &HostRuntime,
+    path: &str,
+    row: &(Content, &str, &str, &str),
+) -> Result<bool, Fail> {
+    let (content, own, other, why) = row;
+    fs::write(rt, path, *other)?;
+    let refused = is_content_refused(rt, *content, path, "", why)?;
+    let stays = fs::read_to_string(rt, path)?.as_str() == *other;
+    let old = format!(in rt.alloc(); "{own}old\n")?;
+    fs::write(rt, path, old.as_str())?;
+    let (ended, _, errors) = run(rt, &arguments_with(rt, *content, path)?);
+    let text = fs::read_to_string(rt, path)?;
+    let is_new = text.as_str().starts_with(*own) && text.as_str() != old.as_str();
+    fs::remove_file(rt, path)?;
+    Ok(refused && stays && ended.is_ok() && errors.is_empty() && is_new)
+}
+
+#[test]
+fn each_file_replaces_its_own_kind_alone(rt: HostRuntime) -> Result<(), Fail> {
+    let path = path_for(&rt, "own-kind")?;
+    for row in &FIRST_LINES {
+        expect_in(&rt, &row.1, replaces_its_own(&rt, path.as_str(), row)?);
+    }
     Ok(())
 }
 

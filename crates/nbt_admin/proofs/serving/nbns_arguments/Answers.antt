@@ -13,14 +13,14 @@ returns-in_err-state-clause-failure c =
     let p = err_from_is_err_and c.from_residual-in_err-state.result c.from_residual-in_err-state.ensures.1 in
     rw (p.1, p.2) (inr (inr (inr (inr (inr (inl (c.in_ok-time.ensures.ends, (c.in_ok-config.config, c.in_ok-config.ensures.read, c.in_ok-fit.ensures.fits), (c.in_ok-bind.bind, c.in_ok-bind.ensures.read), c.in_err-state.ensures.failure)))))))
 
-pub returns-in_err-leases-clause-failure : goal.returns-in_err-leases-clause-failure
-returns-in_err-leases-clause-failure c =
-    let p = err_from_is_err_and c.from_residual-in_err-leases.result c.from_residual-in_err-leases.ensures.1 in
+pub returns-in_err-files-clause-failure : goal.returns-in_err-files-clause-failure
+returns-in_err-files-clause-failure c =
+    let p = err_from_is_err_and c.from_residual-in_err-files.result c.from_residual-in_err-files.ensures.1 in
     rw (p.1, p.2)
-    (inr (inr (inr (inr (inr (inr (inl (c.in_ok-time.ensures.ends, (c.in_ok-config.config, c.in_ok-config.ensures.read, c.in_ok-fit.ensures.fits), (c.in_ok-bind.bind, c.in_ok-bind.ensures.read), is_state c.args.texts.now.state c.args.texts.now.silent_after_boot c.in_ok-state.state c.in_ok-state.ensures.given, c.in_err-leases.ensures.failure))))))))
+    (inr (inr (inr (inr (inr (inr (inl (c.in_ok-time.ensures.ends, (c.in_ok-config.config, c.in_ok-config.ensures.read, c.in_ok-fit.ensures.fits), (c.in_ok-bind.bind, c.in_ok-bind.ensures.read), is_state c.args.texts.now.state c.args.texts.now.silent_after_boot c.in_ok-state.state c.in_ok-state.ensures.given, c.in_err-files.ensures.failure))))))))
 
 pub returns-in_err-rows_per_client-clause-failure : goal.returns-in_err-rows_per_client-clause-failure
 returns-in_err-rows_per_client-clause-failure c =
     let p = err_from_is_err_and c.from_residual-in_err-rows_per_client.result c.from_residual-in_err-rows_per_client.ensures.1 in
     rw (p.1, p.2)
-    (inr (inr (inr (inr (inr (inr (inr (c.in_ok-time.ensures.ends, (c.in_ok-config.config, c.in_ok-config.ensures.read, c.in_ok-fit.ensures.fits), (c.in_ok-bind.bind, c.in_ok-bind.ensures.read), is_state c.args.texts.now.state c.args.texts.now.silent_after_boot c.in_ok-state.state c.in_ok-state.ensures.given, c.in_ok-leases.ensures.path.1, c.in_err-rows_per_client.ensures.failure))))))))
+    (inr (inr (inr (inr (inr (inr (inr (c.in_ok-time.ensures.ends, (c.in_ok-config.config, c.in_ok-config.ensures.read, c.in_ok-fit.ensures.fits), (c.in_ok-bind.bind, c.in_ok-bind.ensures.read), is_state c.args.texts.now.state c.args.texts.now.silent_after_boot c.in_ok-state.state c.in_ok-state.ensures.given, c.in_ok-files.ensures.given.files, c.in_err-rows_per_client.ensures.failure))))))))

@@ -18,18 +18,18 @@ returns-clause-ok g c =
     let begun = c.in_ok-begun.begun in
     let first = c.in_ok-tell_begin.ensures.ok in
     let here : KeptNbns = record {
-      keeping = record { port = c.in_ok-port.port; store = c.in_ok-opened.opened.store; clock = record { clock = c.now-monotonic.new.self; by = begun.header.ahead }; server = c.limit_clients.new.self; waiting = c.in_ok-waiting.waiting };
+      keeping = record { port = record { port = c.in_ok-port.port; front = c.new-desk.result }; store = c.in_ok-opened.opened.store; clock = record { clock = c.now-monotonic.new.self; by = begun.header.ahead }; server = c.limit_clients.new.self; waiting = c.in_ok-waiting.waiting };
       header = begun.header;
       day = c.now-time.new.self;
-      watcher = record { dates = record { moment = c.last.result; time = c.now-time.result }; day = c.new-2.result; log = c.log_of.result; leases = c.in_ok-leases.leases };
+      watcher = c.in_ok-journal.journal;
       text = g.W.Write.contents c.tell_begin.new.writer;
     } in
     on_ok_weaker w.result (λ run. begins a c.args.state.now (λ start. KeepsUntil a.strict (until_of start a.time)) (g.W.Write.contents c.args.writer.now) (g.W.Write.contents c.tell_begin.new.writer) (g.W.Write.contents w.new.writer)
     c.in_ok-clock.clock c.now-monotonic.result c.in_ok-day.day c.now-time.result begun here (staying_of run.0 run.1 (g.W.Write.contents w.new.writer))
     c.in_ok-clock.ensures.ok (c.now-monotonic.new.self, c.now-monotonic.ensures) (refl, c.now-time.ensures.1) c.in_ok-begun.ensures.ok
     (c.as_slice.result.now, first.0, rw (← c.in_ok-opened.ensures.count, ← c.longest.ensures.value, ← c.last.ensures.last) first.1, first.2)
-    (is_at_first a begun c.now-monotonic.result c.now-time.result (g.W.Write.contents c.tell_begin.new.writer) c.in_ok-port.port c.in_ok-opened.opened.store c.now-monotonic.new.self c.limit_clients.new.self c.in_ok-waiting.waiting c.now-time.new.self c.new-2.result
-    c.last.result c.log_of.result c.in_ok-leases.leases c.in_ok-port.ensures.ok c.in_ok-opened.ensures.store c.now-monotonic.ensures.keeps c.limit_clients.ensures c.in_ok-waiting.ensures c.now-time.ensures.0 c.new-2.ensures c.last.ensures.last c.log_of.ensures c.in_ok-leases.ensures.ok)
+    (is_at_first a begun c.now-monotonic.result c.now-time.result (g.W.Write.contents c.tell_begin.new.writer) c.in_ok-port.port c.new-desk.result c.in_ok-opened.opened.store c.now-monotonic.new.self c.limit_clients.new.self c.in_ok-waiting.waiting c.now-time.new.self c.new-at_day.result
+    c.last.result c.in_ok-journal.journal c.in_ok-port.ensures.ok c.new-desk.ensures c.in_ok-opened.ensures.store c.now-monotonic.ensures.keeps c.limit_clients.ensures c.in_ok-waiting.ensures c.now-time.ensures.0 c.new-at_day.ensures c.last.ensures.last c.in_ok-journal.ensures.ok)
     refl (subst (λ (u : Option ℕ). KeepsUntil a.strict u here (staying_of run.0 run.1 (g.W.Write.contents w.new.writer))) (c.until_of-until.ensures ∙ ap (λ (n : ℕ). until_of n a.time) c.last.ensures.last) run.2)) w.ensures.ok
 
 pub returns-clause-store : goal.returns-clause-store
@@ -39,10 +39,10 @@ returns-clause-store g c = λ failed.
     let begun = c.in_ok-begun.begun in
     let first = c.in_ok-tell_begin.ensures.ok in
     let here : KeptNbns = record {
-      keeping = record { port = c.in_ok-port.port; store = c.in_ok-opened.opened.store; clock = record { clock = c.now-monotonic.new.self; by = begun.header.ahead }; server = c.limit_clients.new.self; waiting = c.in_ok-waiting.waiting };
+      keeping = record { port = record { port = c.in_ok-port.port; front = c.new-desk.result }; store = c.in_ok-opened.opened.store; clock = record { clock = c.now-monotonic.new.self; by = begun.header.ahead }; server = c.limit_clients.new.self; waiting = c.in_ok-waiting.waiting };
       header = begun.header;
       day = c.now-time.new.self;
-      watcher = record { dates = record { moment = c.last.result; time = c.now-time.result }; day = c.new-2.result; log = c.log_of.result; leases = c.in_ok-leases.leases };
+      watcher = c.in_ok-journal.journal;
       text = g.W.Write.contents c.tell_begin.new.writer;
     } in
     let run = of_err _ w.result f.Store failed w.ensures.err in
@@ -50,8 +50,8 @@ returns-clause-store g c = λ failed.
     c.in_ok-clock.clock c.now-monotonic.result c.in_ok-day.day c.now-time.result begun here (staying_of run.0 run.1 (g.W.Write.contents w.new.writer))
     c.in_ok-clock.ensures.ok (c.now-monotonic.new.self, c.now-monotonic.ensures) (refl, c.now-time.ensures.1) c.in_ok-begun.ensures.ok
     (c.as_slice.result.now, first.0, rw (← c.in_ok-opened.ensures.count, ← c.longest.ensures.value, ← c.last.ensures.last) first.1, first.2)
-    (is_at_first a begun c.now-monotonic.result c.now-time.result (g.W.Write.contents c.tell_begin.new.writer) c.in_ok-port.port c.in_ok-opened.opened.store c.now-monotonic.new.self c.limit_clients.new.self c.in_ok-waiting.waiting c.now-time.new.self c.new-2.result
-    c.last.result c.log_of.result c.in_ok-leases.leases c.in_ok-port.ensures.ok c.in_ok-opened.ensures.store c.now-monotonic.ensures.keeps c.limit_clients.ensures c.in_ok-waiting.ensures c.now-time.ensures.0 c.new-2.ensures c.last.ensures.last c.log_of.ensures c.in_ok-leases.ensures.ok)
+    (is_at_first a begun c.now-monotonic.result c.now-time.result (g.W.Write.contents c.tell_begin.new.writer) c.in_ok-port.port c.new-desk.result c.in_ok-opened.opened.store c.now-monotonic.new.self c.limit_clients.new.self c.in_ok-waiting.waiting c.now-time.new.self c.new-at_day.result
+    c.last.result c.in_ok-journal.journal c.in_ok-port.ensures.ok c.new-desk.ensures c.in_ok-opened.ensures.store c.now-monotonic.ensures.keeps c.limit_clients.ensures c.in_ok-waiting.ensures c.now-time.ensures.0 c.new-at_day.ensures c.last.ensures.last c.in_ok-journal.ensures.ok)
     refl (subst (λ (u : Option ℕ). KeepsNot a.strict u f.Store here (staying_of run.0 run.1 (g.W.Write.contents w.new.writer))) (c.until_of-until.ensures ∙ ap (λ (n : ℕ). until_of n a.time) c.last.ensures.last) run.2))
 
 pub returns-clause-device : goal.returns-clause-device
@@ -61,10 +61,10 @@ returns-clause-device g c = λ failed.
     let begun = c.in_ok-begun.begun in
     let first = c.in_ok-tell_begin.ensures.ok in
     let here : KeptNbns = record {
-      keeping = record { port = c.in_ok-port.port; store = c.in_ok-opened.opened.store; clock = record { clock = c.now-monotonic.new.self; by = begun.header.ahead }; server = c.limit_clients.new.self; waiting = c.in_ok-waiting.waiting };
+      keeping = record { port = record { port = c.in_ok-port.port; front = c.new-desk.result }; store = c.in_ok-opened.opened.store; clock = record { clock = c.now-monotonic.new.self; by = begun.header.ahead }; server = c.limit_clients.new.self; waiting = c.in_ok-waiting.waiting };
       header = begun.header;
       day = c.now-time.new.self;
-      watcher = record { dates = record { moment = c.last.result; time = c.now-time.result }; day = c.new-2.result; log = c.log_of.result; leases = c.in_ok-leases.leases };
+      watcher = c.in_ok-journal.journal;
       text = g.W.Write.contents c.tell_begin.new.writer;
     } in
     let run = of_err _ w.result f.Device failed w.ensures.err in
@@ -72,6 +72,6 @@ returns-clause-device g c = λ failed.
     c.in_ok-clock.clock c.now-monotonic.result c.in_ok-day.day c.now-time.result begun here (staying_of run.0 run.1 (g.W.Write.contents w.new.writer))
     c.in_ok-clock.ensures.ok (c.now-monotonic.new.self, c.now-monotonic.ensures) (refl, c.now-time.ensures.1) c.in_ok-begun.ensures.ok
     (c.as_slice.result.now, first.0, rw (← c.in_ok-opened.ensures.count, ← c.longest.ensures.value, ← c.last.ensures.last) first.1, first.2)
-    (is_at_first a begun c.now-monotonic.result c.now-time.result (g.W.Write.contents c.tell_begin.new.writer) c.in_ok-port.port c.in_ok-opened.opened.store c.now-monotonic.new.self c.limit_clients.new.self c.in_ok-waiting.waiting c.now-time.new.self c.new-2.result
-    c.last.result c.log_of.result c.in_ok-leases.leases c.in_ok-port.ensures.ok c.in_ok-opened.ensures.store c.now-monotonic.ensures.keeps c.limit_clients.ensures c.in_ok-waiting.ensures c.now-time.ensures.0 c.new-2.ensures c.last.ensures.last c.log_of.ensures c.in_ok-leases.ensures.ok)
+    (is_at_first a begun c.now-monotonic.result c.now-time.result (g.W.Write.contents c.tell_begin.new.writer) c.in_ok-port.port c.new-desk.result c.in_ok-opened.opened.store c.now-monotonic.new.self c.limit_clients.new.self c.in_ok-waiting.waiting c.now-time.new.self c.new-at_day.result
+    c.last.result c.in_ok-journal.journal c.in_ok-port.ensures.ok c.new-desk.ensures c.in_ok-opened.ensures.store c.now-monotonic.ensures.keeps c.limit_clients.ensures c.in_ok-waiting.ensures c.now-time.ensures.0 c.new-at_day.ensures c.last.ensures.last c.in_ok-journal.ensures.ok)
     refl (subst (λ (u : Option ℕ). KeepsNot a.strict u f.Device here (staying_of run.0 run.1 (g.W.Write.contents w.new.writer))) (c.until_of-until.ensures ∙ ap (λ (n : ℕ). until_of n a.time) c.last.ensures.last) run.2)

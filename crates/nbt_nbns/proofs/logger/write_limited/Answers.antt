@@ -7,10 +7,13 @@ use Rattle.nbt_nbns.specs.Logging.{nothing, untold, told, left_out}
 use Rattle.nbt_nbns.proofs.logger.write_limited.Goals as goal
 
 pub returns-in_default : goal.returns-in_default
-returns-in_default c = rw c.in_default.is ([], nothing, sym (append-nil (string_bytes c.args.out.now)))
+returns-in_default c = rw c.in_default.is (OnOk-map c.write_summary.result c.write_summary.ensures (λ line. (line.0, nothing line.0 c.write_summary.new.limiters line.1, line.2)))
 
 pub returns-in_default-told_kind : goal.returns-in_default-told_kind
-returns-in_default-told_kind c = rw c.in-Some.is ([], untold c.in-Some.entry (sym c.in_default-told_kind.ensures), sym (append-nil (string_bytes c.args.out.now)))
+returns-in_default-told_kind c =
+    rw c.in-Some.is
+    (OnOk-map c.write_summary-in_default-told_kind.result c.write_summary-in_default-told_kind.ensures
+    (λ line. (line.0, untold c.in-Some.entry line.0 c.write_summary-in_default-told_kind.new.limiters (sym c.in_default-told_kind.ensures) line.1, line.2)))
 
 pub returns-in-Some-take : goal.returns-in-Some-take
 returns-in-Some-take c =

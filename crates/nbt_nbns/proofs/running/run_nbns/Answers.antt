@@ -3,7 +3,7 @@ use Rattle.nbt_port.specs.Clocks.{MachineTells, SteadyTells, SystemShows}
 use Rattle.nbt_port.proofs.Printed.{on_ok}
 use Rattle.nbt_port.specs.Until.{until_of}
 use Rattle.nbt_port.specs.declared.fault.Fault.TheVariants as f
-use Rattle.nbt_nbns.specs.Running.{Nbns, PortDoes}
+use Rattle.nbt_nbns.specs.Running.{Nbns, PortDoes, PortFailures}
 use Rattle.nbt_nbns.specs.Journaling.{Journals}
 use Rattle.nbt_nbns.specs.Places.{Stays}
 use Rattle.nbt_nbns.specs.Watching.{WatchesUntil, WatchFails}
@@ -19,12 +19,12 @@ returns-clause-ok g c =
     let w = c.watch_over in
     let first = c.in_ok-tell_begin.ensures.ok in
     on_ok w.result w.result refl w.ensures.ok
-    (λ run. begins a (λ start. WatchesUntil (PortDoes a.strict) (SteadyTells SystemShows) (Journals MachineTells Stays) (until_of start a.time)) (g.W.Write.contents c.args.writer.now) (g.W.Write.contents c.tell_begin.new.writer)
+    (λ run. begins a (λ start. WatchesUntil (PortDoes a.strict) PortFailures (SteadyTells SystemShows) (Journals MachineTells Stays) (until_of start a.time)) (g.W.Write.contents c.args.writer.now) (g.W.Write.contents c.tell_begin.new.writer)
     (g.W.Write.contents w.new.writer) c.in_ok-clock.clock c.now-start.result c.in_ok-day.day c.now.result c.start-server.result
     _ (record { port = run.0; clock = w.new.clock; server = w.new.server; watcher = w.new.watcher; text = g.W.Write.contents w.new.writer })
     c.in_ok-clock.ensures.ok (c.now-start.new.self, c.now-start.ensures) (refl, c.now.ensures.1) (c.as_slice.result.now, first.0, first.1, first.2) c.start-server.ensures
-    (is_at_first a c.now-start.result c.now.result c.now.new.self c.now-start.new.self c.in_ok-port.port c.start-server.result c.limit_clients.new.self c.log_of.result c.in_ok-leases_of.field-0 (g.W.Write.contents c.tell_begin.new.writer)
-    c.in_ok-port.ensures.ok c.now-start.ensures.keeps c.limit_clients.ensures c.now.ensures.0 c.log_of.ensures c.in_ok-leases_of.ensures.ok)
+    (is_at_first a c.now-start.result c.now.result c.now.new.self c.now-start.new.self c.in_ok-port.port c.new-desk.result c.start-server.result c.limit_clients.new.self c.in_ok-journal.journal (g.W.Write.contents c.tell_begin.new.writer)
+    c.in_ok-port.ensures.ok c.new-desk.ensures c.now-start.ensures.keeps c.limit_clients.ensures c.now.ensures.0 c.in_ok-journal.ensures.ok)
     refl (rw c.until_of-until.ensures at run.1))
 
 pub returns-clause-device : goal.returns-clause-device
@@ -33,10 +33,10 @@ returns-clause-device g c = λ failed.
     let w = c.watch_over in
     let first = c.in_ok-tell_begin.ensures.ok in
     on_err w.result f.Device failed w.ensures.err
-    (λ run. begins a (λ start. WatchFails (PortDoes a.strict) (SteadyTells SystemShows) (Journals MachineTells Stays) (until_of start a.time)) (g.W.Write.contents c.args.writer.now) (g.W.Write.contents c.tell_begin.new.writer)
+    (λ run. begins a (λ start. WatchFails (PortDoes a.strict) PortFailures (SteadyTells SystemShows) (Journals MachineTells Stays) (until_of start a.time)) (g.W.Write.contents c.args.writer.now) (g.W.Write.contents c.tell_begin.new.writer)
     (g.W.Write.contents w.new.writer) c.in_ok-clock.clock c.now-start.result c.in_ok-day.day c.now.result c.start-server.result
     _ (record { port = run.0; clock = w.new.clock; server = w.new.server; watcher = w.new.watcher; text = g.W.Write.contents w.new.writer })
     c.in_ok-clock.ensures.ok (c.now-start.new.self, c.now-start.ensures) (refl, c.now.ensures.1) (c.as_slice.result.now, first.0, first.1, first.2) c.start-server.ensures
-    (is_at_first a c.now-start.result c.now.result c.now.new.self c.now-start.new.self c.in_ok-port.port c.start-server.result c.limit_clients.new.self c.log_of.result c.in_ok-leases_of.field-0 (g.W.Write.contents c.tell_begin.new.writer)
-    c.in_ok-port.ensures.ok c.now-start.ensures.keeps c.limit_clients.ensures c.now.ensures.0 c.log_of.ensures c.in_ok-leases_of.ensures.ok)
+    (is_at_first a c.now-start.result c.now.result c.now.new.self c.now-start.new.self c.in_ok-port.port c.new-desk.result c.start-server.result c.limit_clients.new.self c.in_ok-journal.journal (g.W.Write.contents c.tell_begin.new.writer)
+    c.in_ok-port.ensures.ok c.new-desk.ensures c.now-start.ensures.keeps c.limit_clients.ensures c.now.ensures.0 c.in_ok-journal.ensures.ok)
     refl (rw c.until_of-until.ensures at run.1))

@@ -6,13 +6,13 @@ use Rattle.nbt_nbns.proofs.running.watch_to_its_end.Goals as goal
 pub returns-clause-err : goal.returns-clause-err
 returns-clause-err g c =
     let w = c.watch_on-watched in
-    (gives_up (WatchesOn g.P.Port.does g.C.Clock.tells g.V.Watcher.sees c.args.until) (BreaksWatching g.P.Port.does g.C.Clock.tells) forever
+    (gives_up (WatchesOn g.P.Port.does g.P.Port.failures g.C.Clock.tells g.V.Watcher.sees c.args.until) (BreaksWatching g.P.Port.does g.C.Clock.tells) forever
     (record { port = c.args.port.now; clock = c.args.clock.now; server = c.args.server.now; watcher = c.args.watcher.now; text = g.W.Write.contents c.args.writer.now })
     (record { port = w.new.port; clock = w.new.clock; server = w.new.server; watcher = w.new.watcher; text = g.W.Write.contents w.new.writer }) w.result w.ensures.err).0
 
 pub returns-clause-fault : goal.returns-clause-fault
 returns-clause-fault g c =
     let w = c.watch_on-watched in
-    (gives_up (WatchesOn g.P.Port.does g.C.Clock.tells g.V.Watcher.sees c.args.until) (BreaksWatching g.P.Port.does g.C.Clock.tells) forever
+    (gives_up (WatchesOn g.P.Port.does g.P.Port.failures g.C.Clock.tells g.V.Watcher.sees c.args.until) (BreaksWatching g.P.Port.does g.C.Clock.tells) forever
     (record { port = c.args.port.now; clock = c.args.clock.now; server = c.args.server.now; watcher = c.args.watcher.now; text = g.W.Write.contents c.args.writer.now })
     (record { port = w.new.port; clock = w.new.clock; server = w.new.server; watcher = w.new.watcher; text = g.W.Write.contents w.new.writer }) w.result w.ensures.err).1

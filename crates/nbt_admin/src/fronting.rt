@@ -1,0 +1,91 @@
+//! Reads what stands before a name server: the networks whose machines may register, and the file of fixed names.
+
+ghost use Rattle.std.specs.Prelude.{◌⊎◌, IfOk, IfErr};
+ghost use Rattle.nbt_admin.specs.Failures.{IsFault};
+ghost use Rattle.nbt_admin.specs.Fronts.{AllowFails, AreNetworks, FixedFails, GivesFixed, NetworkFails};
+ghost use Rattle.nbt_front.specs.Networks.{SpellsNetwork};
+
+use crate::failure::{ArgumentFault, BadLine, Complaint, Failure};
+use nbt_front::{FileFault, FixedNames, Network, read_fixed, read_network};
+use nbt_port::Fault;
+use std::alloc::Global;
+use std::fs::{File, OpenFile};
+use std::io;
+use std::io::{Read, Write};
+use std::rt::Files;
+
+/// The most octets of a file of fixed names (our profile).
+const FILE_MOST: u64 = 1 << 22;
+
+/// Reads networks. Refused at the first text that is none.
+pub(crate) fn networks_of(alloc: Global, texts: &[&str]) -> Result<Vec<Network>, Failure>
+    ensures read { IfOk result (λ found. AreNetworks texts.now found.items) }
+    ensures failure { IfErr result (AllowFails texts.now) }
+{
+    let mut networks = Vec::new(alloc);
+    for text in texts {
+        let network = network_of(alloc, text)?;
+        networks.push(network)?;
+    }
+    Ok(networks)
+}
+
+/// Reads a network.
+fn network_of(alloc: Global, text: &str) -> Result<Network, Failure>
+    ensures read { IfOk result (SpellsNetwork text.now) }
+    ensures failure { IfErr result (NetworkFails text.now) }
+{
+    match read_network(text.as_bytes()) {
+        Some(network) => Ok(network),
+        None => Err(Failure::of_argument(alloc, text, ArgumentFault::Network)),
+    }
+}
+
+/// The names that are fixed by the file of this path; none without a path. Refused at the first line that can't be taken; and with
+/// `Store` where the file can't be read, or has 4 MiB or more: a line in `errors` then says why.
+pub(crate) fn fixed_of<M: Files, E: Write>(
+    machine: &M,
+    alloc: Global,
+    path: Option<&str>,
+    errors: &mut E,
+) -> Result<FixedNames, Failure>
+    ensures given { IfOk result (GivesFixed path.entry) }
+    ensures failure { IfErr result (λ failure. IsFault failure ⊎ FixedFails path.entry failure) }
+{
+    let Some(path) = path else {
+        return Ok(FixedNames::none(alloc));
+    };
+    let octets = match octets_in(machine, alloc, path) {
+        Ok(octets) => octets,
+        Err(error) => {
+            let _ = complain(path, error, errors);
+            return Err(Failure::Fault(Fault::Store));
+        }
+    };
+    match read_fixed(alloc, octets.as_slice()) {
+        Ok(names) => Ok(names),
+        Err(FileFault::Line(number, fault)) => Err(Failure::Complaint(Complaint::Line(BadLine {
+            path: String::from_str(alloc, path)?,
+            number,
+            fault,
+        }))),
+        Err(FileFault::Memory) => Err(Failure::Fault(Fault::Memory)),
+    }
+}
+
+/// The octets of the file of this path.
+fn octets_in<M: Files>(machine: &M, alloc: Global, path: &str) -> io::Result<Vec<u8>> {
+    let mut octets = Vec::new(alloc);
+    File::open(machine, path)?
+        .take(FILE_MOST)
+        .read_to_end(&mut octets)?;
+    if octets.len() as u64 >= FILE_MOST {
+        return Err(io::Error::other("it is too long"));
+    }
+    Ok(octets)
+}
+
+fn complain<E: Write>(path: &str, error: io::Error, errors: &mut E) -> io::Result<()> {
+    writeln!(errors, "nbt: {path}: {error}")?;
+    errors.flush()
+}

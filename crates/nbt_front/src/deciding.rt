@@ -1,0 +1,282 @@
+//! What a front decides of a datagram.
+
+ghost use Rattle.std.specs.Prelude.{◌≡◌, ◌↔◌, ◌≤◌, ℕ, false, [], Some, None, IsTrue, IfSome, IfNone};
+ghost use Rattle.nbt_packet.specs.Message.{MessageValue, found, message_of, overwrite, query, registered, release, released};
+ghost use Rattle.nbt_packet.specs.Spelling.{AreWritten, Spells};
+ghost use Rattle.nbt_server.specs.Serving.{AsksFor};
+ghost use Rattle.nbt_front.specs.FixedNames.{fixed_of};
+ghost use Rattle.nbt_front.specs.Networks.{IsAllowed};
+ghost use Rattle.nbt_front.specs.Deciding.{Claims, Decides, entries_of, Passes};
+
+use crate::fixed::Fixed;
+use crate::names::FixedNames;
+use crate::network::{Network, is_in_any};
+use arrayvec::ArrayVec;
+use nbt_lease::Config;
+use nbt_name::{Addr, Kind, Name};
+use nbt_packet::{Message, Registration, entries_most, read, write};
+use std::marker::Model;
+
+/// RCODE RFS_ERR: the server refuses the sender (RFC 1002 section 4.2.6).
+const REFUSED: u8 = 5;
+
+/// RCODE ACT_ERR: another node has the name (RFC 1002 sections 4.2.6 and 4.2.11).
+const ACTIVE: u8 = 6;
+
+/// What a front decided of a datagram.
+#[derive(Debug, PartialEq, Eq, Drop)]
+pub enum Decision {
+    /// A claim of this name was refused, since its sender may not register (RCODE 5).
+    NotAllowed(Name),
+    /// A claim or a release of this name was refused, since the name is fixed, and not the sender's (RCODE 6).
+    FixedRefused(Name),
+    /// A registration, a refresh or a release of a fixed name by one of its addresses was confirmed. It changes nothing.
+    FixedConfirmed,
+    /// A query for a fixed name was answered.
+    FixedFound,
+}
+
+/// Who may register, and the names that are fixed. A contract sees these, and the longest lease.
+#[derive(Drop)]
+pub struct Front {
+    allowed: Vec<Network>,
+    fixed: FixedNames,
+    config: Config,
+}
+
+impl Model for Front {
+    ghost use Rattle.nbt_front.specs.Deciding.{FrontValue};
+
+    ghost Value = { FrontValue };
+
+    ghost view = { λ f. record { allowed = f.allowed.items; fixed = f.fixed; longest = f.config.longest } };
+}
+
+impl Front {
+    /// A front of these networks and names. Without a network every sender may register.
+    pub fn new(allowed: Vec<Network>, fixed: FixedNames, config: Config) -> Front
+        ensures { result ≡ record { allowed = allowed.items; fixed = fixed; longest = config.longest } }
+    {
+        Front {
+            allowed,
+            fixed,
+            config,
+        }
+    }
+
+    /// The same with these names fixed.
+    pub fn fix(&mut self, fixed: FixedNames)
+        ensures { self.new ≡ record self.old { fixed = fixed } }
+    {
+        self.fixed = fixed;
+    }
+
+    /// What it decides of a datagram from an address, and in `reply` the reply; `None` where it leaves the datagram to the server, and
+    /// then `reply` is as it was.
+    pub fn decide(
+        &self,
+        from: Addr,
+        octets: &[u8],
+        reply: &mut ArrayVec<u8, 576>,
+    ) -> Option<Decision>
+        ensures decided { IfSome result (λ decision. (m : MessageValue) × (r : MessageValue) × Spells octets.now m × Decides self.now from.ip m decision r
+            × AreWritten (Some r) reply.new.items) }
+        ensures passed { IfNone result ((m : MessageValue) → Spells octets.now m → Passes self.now from.ip m) }
+        ensures left { IfNone result (reply.new.items ≡ reply.old.items) }
+    {
+        if self.is_open() {
+            return None;
+        }
+        let message = read(octets)?;
+        self.decide_message(from.ip, message, reply)
+    }
+
+    /// Whether it has neither networks nor names, so that it decides nothing.
+    fn is_open(&self) -> bool
+        ensures { IsTrue result ↔ ((self.now.allowed ≡ []) × (self.now.fixed ≡ [])) }
+    {
+        self.allowed.is_empty() && self.fixed.is_empty()
+    }
+
+    /// The same of a message.
+    fn decide_message(
+        &self,
+        ip: u32,
+        message: Message<'_>,
+        reply: &mut ArrayVec<u8, 576>,
+    ) -> Option<Decision>
+        ensures decided { IfSome result (λ decision. (r : MessageValue) × Decides self.now ip (message_of message.entry) decision r × AreWritten (Some r) reply.new.items) }
+        ensures passed { IfNone result (Passes self.now ip (message_of message.entry)) }
+        ensures left { IfNone result (reply.new.items ≡ reply.old.items) }
+    {
+        match message {
+            Message::Registration(claim) => self.claim(ip, claim, reply),
+            Message::Refresh(claim) => self.claim(ip, claim, reply),
+            Message::Overwrite(claim) => self.overwrite(ip, claim, reply),
+            Message::Release {
+                id,
+                name,
+                kind,
+                addr,
+            } => self.release(ip, id, name, kind, addr, reply),
+            Message::Query { id, name } => self.find(id, name, reply),
+            _ => None,
+        }
+    }
+
+    /// Decides of a registration or a refresh.
+    fn claim(&self, ip: u32, claim: Registration, reply: &mut ArrayVec<u8, 576>) -> Option<Decision>
+        ensures decided { IfSome result (λ decision. (m : MessageValue) → AsksFor m claim → (r : MessageValue) × Decides self.now ip m decision r × AreWritten (Some r) reply.new.items) }
+        ensures passed { IfNone result ((m : MessageValue) → AsksFor m claim → Passes self.now ip m) }
+        ensures left { IfNone result (reply.new.items ≡ reply.old.items) }
+    {
+        let Some(fixed) = self.fixed.get(&claim.name) else {
+            return self.turn_away(ip, claim, reply);
+        };
+        if fixed.is_held_by(ip, claim.kind, claim.addr) {
+            let seconds = self.config.granted(claim.ttl);
+            respond(claim, 0, seconds, reply);
+            return Some(Decision::FixedConfirmed);
+        }
+        let name = respond(claim, ACTIVE, 0, reply);
+        Some(Decision::FixedRefused(name))
+    }
+
+    /// Decides of an overwrite.
+    fn overwrite(
+        &self,
+        ip: u32,
+        claim: Registration,
+        reply: &mut ArrayVec<u8, 576>,
+    ) -> Option<Decision>
+        ensures decided { IfSome result (λ decision. (r : MessageValue) × Decides self.now ip (overwrite claim) decision r × AreWritten (Some r) reply.new.items) }
+        ensures passed { IfNone result (Passes self.now ip (overwrite claim)) }
+        ensures left { IfNone result (reply.new.items ≡ reply.old.items) }
+    {
+        match self.fixed.get(&claim.name) {
+            Some(_) => {
+                let name = respond(claim, ACTIVE, 0, reply);
+                Some(Decision::FixedRefused(name))
+            }
+            None => self.turn_away(ip, claim, reply),
+        }
+    }
+
+    /// Refuses the claim of a name that isn't fixed, where its sender may not register.
+    fn turn_away(
+        &self,
+        ip: u32,
+        claim: Registration,
+        reply: &mut ArrayVec<u8, 576>,
+    ) -> Option<Decision>
+        requires free { fixed_of self.now.fixed claim.name ≡ None }
+        ensures decided { IfSome result (λ decision. (m : MessageValue) → Claims m claim → (r : MessageValue) × Decides self.now ip m decision r × AreWritten (Some r) reply.new.items) }
+        ensures passed { IfNone result ((m : MessageValue) → Claims m claim → Passes self.now ip m) }
+        ensures left { IfNone result (reply.new.items ≡ reply.old.items) }
+    {
+        if self.allows(ip) {
+            return None;
+        }
+        let name = respond(claim, REFUSED, 0, reply);
+        Some(Decision::NotAllowed(name))
+    }
+
+    /// Whether this sender may register.
+    fn allows(&self, ip: u32) -> bool
+        ensures { IsTrue result ↔ IsAllowed self.now.allowed ip }
+    {
+        self.allowed.is_empty() || is_in_any(self.allowed.as_slice(), ip)
+    }
+
+    /// Decides of a release.
+    fn release(
+        &self,
+        ip: u32,
+        id: u16,
+        name: Name,
+        kind: Kind,
+        addr: u32,
+        reply: &mut ArrayVec<u8, 576>,
+    ) -> Option<Decision>
+        ensures decided { IfSome result (λ decision. (r : MessageValue) × Decides self.now ip (release id name kind addr) decision r × AreWritten (Some r) reply.new.items) }
+        ensures passed { IfNone result (Passes self.now ip (release id name kind addr)) }
+        ensures left { IfNone result (reply.new.items ≡ reply.old.items) }
+    {
+        let fixed = self.fixed.get(&name)?;
+        if fixed.is_held_by(ip, kind, addr) {
+            respond_release(id, 0, name, kind, addr, reply);
+            return Some(Decision::FixedConfirmed);
+        }
+        respond_release(id, ACTIVE, name.copy(), kind, addr, reply);
+        Some(Decision::FixedRefused(name))
+    }
+
+    /// Answers a query for a fixed name with its addresses, which all fit, and the longest lease as their TTL.
+    fn find(&self, id: u16, name: Name, reply: &mut ArrayVec<u8, 576>) -> Option<Decision>
+        ensures decided { (ip : ℕ) → IfSome result (λ decision. (r : MessageValue) × Decides self.now ip (query id name) decision r × AreWritten (Some r) reply.new.items) }
+        ensures passed { (ip : ℕ) → IfNone result (Passes self.now ip (query id name)) }
+        ensures left { IfNone result (reply.new.items ≡ reply.old.items) }
+    {
+        let fixed = self.fixed.get(&name)?;
+        respond_found(id, name, self.config.longest(), fixed, reply);
+        Some(Decision::FixedFound)
+    }
+}
+
+/// Leaves in `reply` the response to a registration, a refresh or an overwrite (RFC 1002 sections 4.2.5 and 4.2.6). Returns the claim's
+/// name.
+fn respond(claim: Registration, rcode: u8, ttl: u32, reply: &mut ArrayVec<u8, 576>) -> Name
+    requires { rcode ≤ 15 }
+    ensures name { result ≡ claim.name }
+    ensures written { AreWritten (Some (registered rcode (record claim { ttl = ttl }))) reply.new.items }
+{
+    let name = claim.name.copy();
+    let registration = Registration { ttl, ..claim };
+    write(
+        &Message::Registered {
+            rcode,
+            registration,
+        },
+        reply,
+    );
+    name
+}
+
+/// Leaves in `reply` the response to a release (RFC 1002 sections 4.2.10 and 4.2.11).
+fn respond_release(
+    id: u16,
+    rcode: u8,
+    name: Name,
+    kind: Kind,
+    addr: u32,
+    reply: &mut ArrayVec<u8, 576>,
+)
+    requires { rcode ≤ 15 }
+    ensures { AreWritten (Some (released id rcode name kind addr)) reply.new.items }
+{
+    let message = Message::Released {
+        id,
+        rcode,
+        name,
+        kind,
+        addr,
+    };
+    write(&message, reply);
+}
+
+/// Leaves in `reply` the positive response to a query for a fixed name (RFC 1002 section 4.2.13).
+fn respond_found(id: u16, name: Name, ttl: u32, fixed: &Fixed, reply: &mut ArrayVec<u8, 576>)
+    ensures { AreWritten (Some (found id name ttl (entries_of fixed.now) false)) reply.new.items }
+{
+    let entries = fixed.entries();
+    let all_fit = fixed.addrs().len() <= entries_most(&name);
+    prove!(all_fit);
+    let message = Message::Found {
+        id,
+        name,
+        ttl,
+        entries: entries.as_slice(),
+        cut: false,
+    };
+    write(&message, reply);
+}

@@ -1,0 +1,95 @@
+//! The names that are fixed.
+
+ghost use Rattle.std.specs.Prelude.{◌≡◌, ◌↔◌, ◌<◌, Some, None, [], IsTrue, IfSome, IfNone, OnOk, IfOk, IfErr, length};
+ghost use Rattle.nbt_front.specs.FixedNames.{fixed_of};
+ghost use Rattle.nbt_front.specs.Files.{Adds, IsBarred, Joins};
+ghost use Rattle.nbt_front.specs.Numbers.{names_most};
+ghost use Rattle.nbt_front.specs.Inner.Refusals.{IsRefusedBy};
+
+use crate::fault::{LineFault, Refused};
+use crate::fixed::Fixed;
+use crate::line::FixedLine;
+use indexmap::IndexMap;
+use nbt_name::Name;
+use std::alloc::Global;
+use std::marker::Model;
+
+/// How many names may be fixed (our profile).
+pub const NAMES_MOST: usize = 1_024;
+
+/// The names that are fixed, each with its kind and its addresses. One is found by one look-up.
+#[derive(Drop)]
+pub struct FixedNames {
+    names: IndexMap<Name, Fixed>,
+}
+
+impl Model for FixedNames {
+    ghost use Rattle.nbt_front.specs.FixedNames.{FixedNames as FixedNamesValue};
+
+    ghost Value = { FixedNamesValue };
+
+    ghost view = { λ f. f.names.entries };
+}
+
+impl FixedNames {
+    /// No name is fixed. Takes no memory.
+    pub fn none(alloc: Global) -> FixedNames
+        ensures { result ≡ [] }
+    {
+        FixedNames {
+            names: IndexMap::new(alloc),
+        }
+    }
+
+    /// How many names there are.
+    pub fn len(&self) -> usize
+        ensures { result ≡ length self.now }
+    {
+        self.names.len()
+    }
+
+    /// Whether no name is fixed.
+    pub fn is_empty(&self) -> bool
+        ensures { IsTrue result ↔ (self.now ≡ []) }
+    {
+        self.names.is_empty()
+    }
+
+    /// What is fixed of a name, if it is among them.
+    pub fn get(&self, name: &Name) -> Option<&Fixed>
+        ensures found { IfSome result (λ fixed. fixed_of self.now name.now ≡ Some fixed.now) }
+        ensures none { IfNone result (fixed_of self.now name.now ≡ None) }
+    {
+        self.names.get(name)
+    }
+
+    /// Adds what a line says.
+    pub(crate) fn add(&mut self, line: FixedLine) -> Result<(), Refused>
+        ensures ok { OnOk result (Adds self.old line self.new) }
+        ensures err { IfErr result (IsRefusedBy (IsBarred (length self.old) (fixed_of self.old line.name) line)) }
+    {
+        let fixed = match self.joined(&line) {
+            Ok(fixed) => fixed,
+            Err(fault) => return Err(Refused::Line(fault)),
+        };
+        self.names.insert(line.name, fixed)?;
+        Ok(())
+    }
+
+    /// What a line makes of its name.
+    fn joined(&self, line: &FixedLine) -> Result<Fixed, LineFault>
+        ensures ok { IfOk result (Joins (fixed_of self.now line.now.name) line.now) }
+        ensures room { OnOk result (fixed_of self.now line.now.name ≡ None → length self.now < names_most) }
+        ensures err { IfErr result (IsBarred (length self.now) (fixed_of self.now line.now.name) line.now) }
+    {
+        match self.get(&line.name) {
+            Some(fixed) => fixed.with(line),
+            None => {
+                if self.len() >= NAMES_MOST {
+                    return Err(LineFault::Full);
+                }
+                Ok(Fixed::first(line))
+            }
+        }
+    }
+}

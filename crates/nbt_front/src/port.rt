@@ -1,0 +1,119 @@
+//! A port before which a front stands.
+
+ghost use Rattle.std.specs.Prelude.{◌≡◌, ◌<◌, ◌^◌, Ok};
+ghost use Rattle.nbt_port.specs.PortCalls.{CountsFailure, receiving};
+ghost use Rattle.nbt_front.specs.FrontPort.{FrontDoes};
+
+use crate::desk::Desk;
+use arrayvec::ArrayVec;
+use nbt_name::Addr;
+use nbt_port::{Cause, Clock, Device, OwnReplies, Port};
+use std::io::Write;
+use std::marker::Model;
+
+/// A port over another. It answers each datagram of which the front decides, and hands on every other as it is: so that nothing came is
+/// also said of a datagram that was answered. It sends what it is given. A contract sees the port beneath and the front.
+#[derive(Drop)]
+pub struct FrontPort<'a, P, C> {
+    beneath: P,
+    desk: Desk<'a, C>,
+    reply: ArrayVec<u8, 576>,
+}
+
+impl<'a, P, C> Model for FrontPort<'a, P, C> {
+    ghost use Rattle.nbt_front.specs.FrontPort.{Fronted};
+
+    ghost Value = { Fronted P };
+
+    ghost view = { λ p. record { port = p.beneath; front = p.desk } };
+}
+
+impl<'a, P, C> FrontPort<'a, P, C> {
+    /// A port over this one, before which this front stands.
+    pub fn new(beneath: P, desk: Desk<'a, C>) -> FrontPort<'a, P, C>
+        ensures { result ≡ record { port = beneath; front = desk.entry } }
+    {
+        FrontPort {
+            beneath,
+            desk,
+            reply: ArrayVec::new(),
+        }
+    }
+
+    /// The port beneath.
+    pub fn beneath(&self) -> &P
+        ensures { result.now ≡ self.now.port }
+    {
+        &self.beneath
+    }
+}
+
+impl<'a, P: Port, C: Clock> FrontPort<'a, P, C> {
+    /// Answers what came beneath, where the front decides of it; else hands it on. Refused with `Device` where the reply can't be sent.
+    fn pass(
+        &mut self,
+        from: Option<Addr>,
+        octets: &mut ArrayVec<u8, 2048>,
+    ) -> Result<Option<Addr>, Device>
+        requires failure_count { P.failures self.old.port < 2 ^ 62 }
+        ensures does { (before : P) → P.does before (receiving (Ok from) octets.old.items) self.old.port
+            → FrontDoes P.does (record { port = before; front = self.old.front }) (receiving result octets.new.items) self.new }
+        ensures count { CountsFailure (P.failures self.old.port) (P.failures self.new.port) result }
+    {
+        self.desk.clear();
+        let Some(sender) = from else {
+            return Ok(None);
+        };
+        let front = self.desk.front();
+        let Some(decision) = front.decide(sender, octets.as_slice(), &mut self.reply) else {
+            return Ok(Some(sender));
+        };
+        octets.clear();
+        self.beneath.send(sender, self.reply.as_slice())?;
+        self.desk.note(sender.ip, decision);
+        Ok(None)
+    }
+}
+
+impl<P: Port, C: Clock> Port for FrontPort<'_, P, C> {
+    ghost use Rattle.nbt_front.specs.FrontPort.{FrontDoes};
+
+    ghost does = { FrontDoes P.does };
+
+    ghost failures = { λ p. P.failures p.port };
+
+    fn receive(&mut self, octets: &mut ArrayVec<u8, 2048>) -> Result<Option<Addr>, Device> {
+        let from = self.beneath.receive(octets)?;
+        self.pass(from, octets)
+    }
+
+    fn receive_now(&mut self, octets: &mut ArrayVec<u8, 2048>) -> Result<Option<Addr>, Device> {
+        let from = self.beneath.receive_now(octets)?;
+        self.pass(from, octets)
+    }
+
+    fn send(&mut self, to: Addr, octets: &[u8]) -> Result<(), Device> {
+        self.beneath.send(to, octets)
+    }
+
+    fn failures(&self) -> u64 {
+        self.beneath.failures()
+    }
+
+    fn cause(&self) -> Option<Cause> {
+        self.beneath.cause()
+    }
+
+    fn lost(&self) -> Option<Cause> {
+        self.beneath.lost()
+    }
+
+    fn own_replies(&self) -> OwnReplies {
+        self.desk.replied()
+    }
+
+    fn tell_changes<E: Write>(&self, errors: &mut E) {
+        self.beneath.tell_changes(errors);
+        self.desk.tell(errors);
+    }
+}

@@ -1,0 +1,5 @@
+pub mod Gauges
+pub mod Hosts
+pub mod Metrics
+pub mod Stats
+pub mod Tallies

@@ -1,0 +1,31 @@
+-- How many addresses haven't replied.
+use Rattle.std.proofs.Common.{◌≡◌, ℕ, ◌+◌, ◌<◌, Bool, true, false, not, cond, List, [], ◌∷◌, length, get_or, refl, ap, ◌∙◌, arith, zero-add, Some, count_by}
+use Rattle.std.proofs.Math.ListN.{set}
+use Rattle.std.proofs.lemmas.List.Sums.{sum_by-set, sum_by-cons}
+use Rattle.std.proofs.lemmas.Option.{slice_get_within, get_or_from_slice_get}
+use Rattle.std.proofs.lemmas.Bool.Decides.{nat_tests}
+use Rattle.std.specs.List.{list_all, slice_get}
+use Rattle.std.specs.Prelude.{nat_eq}
+
+-- one that hadn't replied has
+pub one_less : (flags : List Bool) (i : ℕ) → slice_get flags i ≡ Some false → count_by not (set flags i true) + 1 ≡ count_by not flags
+one_less flags i is =
+    let within : i < length flags = slice_get_within flags i false is in
+    let at : get_or flags i false ≡ false = get_or_from_slice_get flags i false false is in
+    let e = rw at at (sum_by-set (λ (x : Bool). cond (not x) 1 0) flags i true false within) in
+    omega (arith, e)
+
+-- none is missing where all have replied
+pub none_missing : (flags : List Bool) → nat_eq (count_by not flags) 0 ≡ list_all (λ reply. reply) flags
+none_missing [] = refl
+none_missing (true ∷ flags) = ap (λ (n : ℕ). nat_eq n 0) (sum_by-cons (λ (x : Bool). cond (not x) 1 0) true flags ∙ zero-add (count_by not flags)) ∙ none_missing flags
+none_missing (false ∷ flags) = ap (λ (n : ℕ). nat_eq n 0) (sum_by-cons (λ (x : Bool). cond (not x) 1 0) false flags) ∙ some_missing (count_by not flags)
+  where
+    some_missing : (n : ℕ) → nat_eq (1 + n) 0 ≡ false
+    some_missing n = grind (arith, nat_tests)
+
+-- each has replied or hasn't
+pub missing_and_not : (flags : List Bool) → count_by not flags + count_by (λ reply. reply) flags ≡ length flags
+missing_and_not [] = refl
+missing_and_not (true ∷ flags) = omega (arith, sum_by-cons (λ (x : Bool). cond (not x) 1 0) true flags, sum_by-cons (λ (x : Bool). cond x 1 0) true flags, missing_and_not flags)
+missing_and_not (false ∷ flags) = omega (arith, sum_by-cons (λ (x : Bool). cond (not x) 1 0) false flags, sum_by-cons (λ (x : Bool). cond x 1 0) false flags, missing_and_not flags)

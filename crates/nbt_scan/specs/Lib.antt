@@ -1,0 +1,14 @@
+pub mod Cells
+pub mod Hosts
+pub mod Inner
+pub mod Json
+pub mod Lines
+pub mod Plans
+pub mod Progressing
+pub mod Requests
+pub mod Running
+pub mod Scanning
+pub mod Sheets
+pub mod Spans
+pub mod Statuses
+pub mod Words

@@ -1,0 +1,74 @@
+//! The replies to a scan.
+
+ghost use Rattle.std.specs.Prelude.{◌≡◌, ◌≢◌, ◌<◌, ◌^◌, Ok, Err, OnOk, length};
+ghost use Rattle.nbt_port.specs.PortCalls.{receiving, CountsFailure};
+ghost use Rattle.nbt_scan.specs.Plans.{AreAscending};
+ghost use Rattle.nbt_scan.specs.Scanning.{Hears};
+ghost use Rattle.nbt_scan.specs.Inner.Steps.{reply_in};
+
+use crate::addresses::place_of;
+use crate::replied::Replied;
+use crate::status::status_in;
+use arrayvec::ArrayVec;
+use nbt_name::Addr;
+use nbt_port::{Device, Port};
+
+/// A reply: whose, its names, and the statistics behind them.
+#[derive(Clone, Copy)]
+pub struct Heard<'a> {
+    /// The address.
+    pub ip: u32,
+    /// The names of 18 octets each.
+    pub names: &'a [u8],
+    /// The statistics.
+    pub statistics: &'a [u8],
+}
+
+/// Receives once: waits for a datagram, or takes one that has come already.
+pub fn receive<P: Port>(
+    port: &mut P,
+    waits: bool,
+    octets: &mut ArrayVec<u8, 2048>,
+) -> Result<Option<Addr>, Device>
+    requires failure_count { P.failures port.old < 2 ^ 62 }
+    ensures does { P.does port.old (receiving result octets.new.items) port.new }
+    ensures device { CountsFailure (P.failures port.old) (P.failures port.new) result }
+{
+    if waits {
+        return port.receive(octets);
+    }
+    port.receive_now(octets)
+}
+
+/// Takes a datagram, if one came: the first reply of this id from each address of the list counts.
+pub fn take_from<'a>(
+    ips: &[u32],
+    id: u16,
+    from: Option<Addr>,
+    octets: &'a [u8],
+    replied: &mut Replied,
+) -> Option<Heard<'a>>
+    requires ascending { AreAscending ips.now }
+    requires flags { length replied.old ≡ length ips.now }
+    ensures hears { Hears ips.now id replied.old (receiving (Ok from) octets.now) (reply_in result) replied.new }
+    ensures flags { length replied.new ≡ length replied.old }
+{
+    let Some(from) = from else {
+        return None;
+    };
+    let Some(place) = place_of(ips, from.ip) else {
+        return None;
+    };
+    if replied.has(place) {
+        return None;
+    }
+    let Some(status) = status_in(octets, id) else {
+        return None;
+    };
+    replied.mark(place);
+    Some(Heard {
+        ip: from.ip,
+        names: status.names,
+        statistics: status.statistics,
+    })
+}
