@@ -2,7 +2,7 @@
 use Rattle.std.proofs.Common.{Bool, Option, Some, None}
 use Rattle.std.specs.Prelude.{List, ℕ}
 use Rattle.std.specs.Borrow.{Bor}
-use Rattle.nbt_keep.specs.declared.arguments.StateFolder.{StateFolder}
+use Rattle.nbt_state.specs.declared.arguments.StateFolder.{StateFolder}
 use Rattle.nbt_admin.specs.Arguments.{GivesState, IsState}
 
 pub is_state : (text : Option (Bor (List ℕ))) (silent_after_boot : Bool) (state : Option StateFolder) → GivesState text silent_after_boot state → IsState text

@@ -16,8 +16,8 @@ use Rattle.nbt_admin.specs.declared.asking.AskArguments.{AskArguments}
 use Rattle.nbt_admin.specs.declared.failure.Failure.{Failure}
 use Rattle.std.specs.String.{string_bytes}
 use Rattle.nbt_nbns.specs.Limits.{judged}
-use Rattle.nbt_keep.specs.declared.arguments.ServerArguments.{ServerArguments}
-use Rattle.nbt_keep.specs.declared.arguments.StateFolder.{StateFolder}
+use Rattle.nbt_state.specs.declared.arguments.ServerArguments.{ServerArguments}
+use Rattle.nbt_state.specs.declared.arguments.StateFolder.{StateFolder}
 use Rattle.nbt_nbns.specs.declared.limits.Judged.TheVariants.{Short}
 use Rattle.nbt_args.specs.declared.texts.NbnsTexts.{NbnsTexts}
 use Rattle.nbt_admin.specs.declared.failure.Complaint.TheVariants as complaint

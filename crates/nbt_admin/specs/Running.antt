@@ -8,8 +8,8 @@ use Rattle.nbt_client.specs.Asking.{AsksHere}
 use Rattle.nbt_client.specs.declared.answer.Answer.{Answer}
 use Rattle.nbt_host.specs.Running.{HostsHere}
 use Rattle.nbt_host.specs.declared.arguments.HostArguments.{HostArguments}
-use Rattle.nbt_keep.specs.Running.{RunsServer}
-use Rattle.nbt_keep.specs.declared.arguments.ServerArguments.{ServerArguments}
+use Rattle.nbt_state.specs.Running.{RunsServer}
+use Rattle.nbt_state.specs.declared.arguments.ServerArguments.{ServerArguments}
 use Rattle.nbt_admin.specs.Arguments.{AskGiven, AsksServer, AskFails, HostGiven, HostFails, ReleaseGiven, ReleaseFails, ServerGiven, ServerFails}
 use Rattle.nbt_admin.specs.Fronts.{GivesFixed, FixedFails}
 use Rattle.nbt_front.specs.FixedNames.{FixedNames}

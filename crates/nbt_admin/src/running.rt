@@ -2,7 +2,7 @@
 
 ghost use Rattle.std.specs.Prelude.{◌≡◌, ◌≤◌, IfOk, OnOk, IfErr};
 ghost use Rattle.std.specs.Io.KnownBytes.{Appends};
-ghost use Rattle.nbt_keep.specs.Running.{RunsServer};
+ghost use Rattle.nbt_state.specs.Running.{RunsServer};
 ghost use Rattle.nbt_scan.specs.Plans.{IsPlan};
 ghost use Rattle.nbt_admin.specs.Running.{Runs, Refuses, Stops, AskedHere, HostedHere, ReleasedHere, ScannedHere};
 
@@ -16,7 +16,7 @@ use crate::statuses::ask_all;
 use nbt_args::AdminLine;
 use nbt_client::ask_here;
 use nbt_host::{HostArguments, run_host};
-use nbt_keep::{ServerArguments, run_server};
+use nbt_state::{ServerArguments, run_server};
 use nbt_lease::Config;
 use nbt_nbns::{Judged, judge, write_warning};
 use nbt_port::Fault;

@@ -13,7 +13,7 @@ use crate::fronting::networks_of;
 use crate::timing::{client_rows_of, config_of, ending_of, fit};
 use nbt_args::NbnsTexts;
 use nbt_front::{FixedNames, Front, Network};
-use nbt_keep::{ServerArguments, StateFolder};
+use nbt_state::{ServerArguments, StateFolder};
 use nbt_nbns::NbnsArguments;
 use std::alloc::Global;
 

@@ -104,7 +104,7 @@ Examples:
 Exit status:
   0  found
   1  not found
-  2  wrong usage, or an invalid argument; standard error says why
+  2  wrong usage, which standard output explains, or an invalid argument, which standard error explains
   3  no port or no clock, or a socket or the output failed; prints `device`, unless it was the output
   4  out of memory; prints `memory`
   5  no reply",
@@ -158,7 +158,7 @@ Examples:
 Exit status:
   0  done
   1  the host doesn't hold NAME; prints `not found`, with its reason
-  2  wrong usage, or an invalid argument; standard error says why
+  2  wrong usage, which standard output explains, or an invalid argument, which standard error explains
   3  no port or no clock, or a socket or the output failed; prints `device`, unless it was the output
   4  out of memory; prints `memory`
   5  no reply",
@@ -298,7 +298,8 @@ Examples:
 
 Exit status:
   0  done
-  2  wrong usage, an invalid argument, or a wrong line in the file of --fixed; standard error says why
+  2  wrong usage, which standard output explains; an invalid argument, or a wrong line in the file of --fixed, which standard
+     error explains
   3  no port or no clock, a socket failed 100 times in a row, FOLDER can't be read or written, the file of --fixed can't be read,
      or the output failed; prints `device`, unless it was the output
   4  out of memory at the start; prints `memory`",
@@ -356,7 +357,7 @@ Examples:
 
 Exit status:
   0  all names were held at the end
-  2  wrong usage, or an invalid argument; standard error says why
+  2  wrong usage, which standard output explains, or an invalid argument, which standard error explains
   3  no port or no clock, a socket failed 100 times in a row, or the output failed; prints `device`, unless it was the output
   4  out of memory; prints `memory`
   5  a name wasn't held at the end",
@@ -412,7 +413,7 @@ Examples:
 Exit status:
   0  all names were released, or not leased
   1  a release was refused, or got no reply
-  2  wrong usage, or an invalid argument; standard error says why
+  2  wrong usage, which standard output explains, or an invalid argument, which standard error explains
   3  a host runs there, no port or no clock, or a socket or the output failed; prints `device`, unless it was the output
   4  out of memory; prints `memory`",
 };

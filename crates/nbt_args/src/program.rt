@@ -29,7 +29,7 @@ Exit status:
   0  done
   1  of `lookup` and `status`: not found; of `release`: a name was not released; of `scan`: no host replied; of the bench: octets
      are refused, or an address, a hexadecimal text or the input can't be read (prints `unreadable`)
-  2  wrong usage, or an invalid argument of a command for people; standard error says why
+  2  wrong usage, which standard output explains, or an invalid argument of a command for people, which standard error explains
   3  a port, a clock, a socket, the input or the output failed; prints `device` where it can
   4  out of memory; prints `memory`
   5  of `lookup` and `status`: no reply; of `host`: a name wasn't held at the end";

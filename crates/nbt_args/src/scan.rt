@@ -112,7 +112,7 @@ Examples:
 Exit status:
   0  a host replied
   1  no host replied
-  2  wrong usage, or an invalid argument; standard error says why
+  2  wrong usage, which standard output explains, or an invalid argument, which standard error explains
   3  no port or no clock, or a socket or the output failed; prints `device`, unless it was the output
   4  out of memory; prints `memory`",
 };

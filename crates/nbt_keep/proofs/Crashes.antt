@@ -1,23 +1,22 @@
 -- What a crash leaves, call by call, of a server that keeps its leases.
-use Rattle.std.proofs.Common.{◌≡◌, ℕ, ◌+◌, ◌≤◌, ◌<◌, ◌⊎◌, inl, inr, Bool, true, false, not, ◌&&◌, List, [], ◌∷◌, ◌++◌, length, take, map, Option, Some, None, refl, sym, ap, ◌∙◌, subst, ⊎_elim, arith}
+use Rattle.std.proofs.Common.{◌≡◌, ℕ, ◌+◌, ◌≤◌, ◌<◌, Bool, true, false, not, ◌&&◌, List, [], ◌∷◌, ◌++◌, length, take, map, Option, Some, None, refl, sym, ap, ◌∙◌, subst, ⊎_elim, arith}
 use Rattle.std.specs.Prelude.{is_some}
-use Rattle.std.specs.List.{flat_map}
 use Rattle.std.proofs.lemmas.Bool.{cases_lt, false≢true}
 use Rattle.std.proofs.lemmas.List.{take_all, take-append-le, length-append, append_assoc, append-nil, map-append}
 use Rattle.std.proofs.lemmas.List.Concat.{flat_map-append}
 use Rattle.nbt_lease.specs.Lease.{Leases}
 use Rattle.nbt_port.specs.Memory.{DatagramValue}
-use Rattle.nbt_port.specs.PortCalls.{PortCall, nothing_came, came, receive_failed, sent, send_failed, Chain}
+use Rattle.nbt_port.specs.PortCalls.{sent, send_failed, Chain}
 use Rattle.nbt_port.proofs.Chains.{chain_on}
 use Rattle.nbt_server.specs.Serving.{ServerValue}
 use Rattle.nbt_store.specs.declared.change.Change.{Change}
-use Rattle.nbt_store.specs.Calls.{StoreCall, appended, append_failed, synced, sync_failed, renewed, renew_failed, Kept, after_call}
+use Rattle.nbt_store.specs.Calls.{appended, append_failed, renew_failed, Kept, after_call}
 use Rattle.nbt_store.specs.Changes.{after, after_all, no_leases}
 use Rattle.nbt_nbns.specs.Serving.{Turn, is_empty, is_taken, is_lost, Turns}
 use Rattle.nbt_keep.specs.Changing.{IsKept}
 use Rattle.nbt_keep.specs.Devices.{DeviceCall, on_port, on_store}
-use Rattle.nbt_keep.specs.Waiting.{WaitingValue, none_waits, syncs_of, sends_of, leaving}
-use Rattle.nbt_keep.specs.Turning.{Took, Takes, reply_in, receive_in, appends_of, taking, with_reply}
+use Rattle.nbt_keep.specs.Waiting.{syncs_of, sends_of, leaving}
+use Rattle.nbt_keep.specs.Turning.{Takes, reply_in, receive_in, taking}
 use Rattle.nbt_keep.specs.Runs.{IsEarlier, replies_in}
 
 -- ---- one call

@@ -1,11 +1,11 @@
 -- What waits leaves: the calls of a store and of a port as calls of both.
-use Rattle.std.proofs.Common.{◌≡◌, ℕ, Bool, true, false, List, [], ◌∷◌, ◌++◌, map, refl, sym, ap, subst, ◌∙◌}
-use Rattle.std.proofs.lemmas.List.{append-nil, append_assoc, map-append}
+use Rattle.std.proofs.Common.{◌≡◌, Bool, true, false, List, [], ◌∷◌, ◌++◌, map, refl, sym, ap, subst, ◌∙◌}
+use Rattle.std.proofs.lemmas.List.{append_assoc, map-append}
 use Rattle.nbt_port.specs.Memory.{DatagramValue}
 use Rattle.nbt_port.specs.PortCalls.{PortCall, sent, send_failed, Chain}
 use Rattle.nbt_port.proofs.Chains.{chain-append}
 use Rattle.nbt_store.specs.Calls.{StoreCall, sync_failed}
-use Rattle.nbt_keep.specs.Devices.{DeviceCall, on_port, on_store, Devices, DeviceDoes}
+use Rattle.nbt_keep.specs.Devices.{DeviceCall, on_port, on_store, DeviceDoes}
 use Rattle.nbt_keep.specs.Waiting.{WaitingValue, none_waits, dropped, syncs_of, sends_of, leaving, value_of}
 use Rattle.nbt_keep.specs.Turning.{LeavingFails, sync_fails, send_fails}
 use Rattle.nbt_keep.specs.declared.waiting.Reply.{Reply}

@@ -19,9 +19,3 @@ mod Renewed
 mod Crashes
 mod Runs
 mod WholeRuns
--- whether a server goes on with what was kept
-pub mod Deciding
--- such a server begins, over this machine
-mod Started
--- whether a lease that was kept outlasts its silence
-mod Outlasted

@@ -1,19 +1,19 @@
 -- One turn, by what its parts returned.
-use Rattle.std.proofs.Common.{◌≡◌, ℕ, Bool, true, false, not, ◌&&◌, ◌||◌, List, [], ◌∷◌, ◌++◌, length, map, refl, sym, ap, subst, ◌∙◌, Option, None, Some, Result, Ok, Err, ◌<◌, ◌≤◌, arith}
+use Rattle.std.proofs.Common.{◌≡◌, ℕ, Bool, true, false, not, ◌&&◌, ◌||◌, List, [], ◌∷◌, ◌++◌, length, refl, sym, ap, subst, ◌∙◌, Option, Some, Result, Ok, Err, ◌<◌, ◌≤◌, arith}
 use Rattle.std.specs.Prelude.{is_some, nat_le, OnOk, OnErr, IfErr}
 use Rattle.std.proofs.lemmas.Bool.{leb-false}
 use Rattle.std.proofs.lemmas.List.{append-nil, length-append}
 use Rattle.nbt_name.specs.declared.addr.Addr.{Addr}
 use Rattle.nbt_port.specs.Memory.{DatagramValue}
-use Rattle.nbt_port.specs.PortCalls.{PortCall, receive_failed, receiving, send_failed, Chain}
+use Rattle.nbt_port.specs.PortCalls.{PortCall, receive_failed, send_failed, Chain}
 use Rattle.nbt_port.proofs.Chains.{chain-append}
 use Rattle.nbt_store.specs.declared.change.Change.{Change}
 use Rattle.nbt_store.specs.declared.store.Broken.{Broken}
-use Rattle.nbt_store.specs.Calls.{StoreCall, appending, appended, append_failed}
+use Rattle.nbt_store.specs.Calls.{StoreCall, appending, append_failed}
 use Rattle.nbt_nbns.specs.Serving.{Turn}
-use Rattle.nbt_keep.specs.Devices.{DeviceCall, on_port, on_store, Devices, DeviceDoes}
+use Rattle.nbt_keep.specs.Devices.{DeviceCall, on_port, on_store, DeviceDoes}
 use Rattle.nbt_keep.specs.Waiting.{WaitingValue, batch, none_waits, dropped, sends_of, leaving}
-use Rattle.nbt_keep.specs.Turning.{Took, reply_in, receive_in, is_unanswered, appends_of, taking, with_reply, leaves, Passes, waits, all_leave, LeavingFails, sync_fails, send_fails, Fails, leaving_fails, append_fails}
+use Rattle.nbt_keep.specs.Turning.{Took, reply_in, receive_in, is_unanswered, appends_of, taking, with_reply, Passes, waits, all_leave, LeavingFails, sync_fails, send_fails, Fails, leaving_fails, append_fails}
 use Rattle.nbt_keep.specs.Inner.Passing.{is_due, Leaves, still_wait, now_leave, reply_to, behind, with_change}
 use Rattle.nbt_keep.specs.declared.fault.KeepFault.{KeepFault}
 use Rattle.nbt_keep.specs.declared.fault.KeepFault.TheVariants as fault

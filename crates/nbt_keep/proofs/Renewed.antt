@@ -1,5 +1,5 @@
 -- What is kept where a server's live leases are written in place of all.
-use Rattle.std.proofs.Common.{◌≡◌, ℕ, ◌≤◌, Bool, true, false, ◌&&◌, List, [], ◌∷◌, ◌++◌, map, refl, sym, ap, ◌∙◌, subst, ⊎_elim, arith}
+use Rattle.std.proofs.Common.{◌≡◌, ℕ, true, false, List, [], ◌∷◌, ◌++◌, map, refl, sym, ap, ◌∙◌, subst, ⊎_elim, arith}
 use Rattle.nbt_lease.specs.declared.lease.Lease.{Lease}
 use Rattle.nbt_lease.proofs.Common.{filter, cases_Bool, cond-true, cond-false, append-nil, append_assoc, NameValue, same_name, is_live, HasNone, AreApart, at_name, Leases, Rows}
 use Rattle.nbt_lease.specs.Lease.{leases_at}

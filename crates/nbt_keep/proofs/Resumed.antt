@@ -1,8 +1,8 @@
 -- A server that resumes with what was kept.
-use Rattle.std.proofs.Common.{◌≡◌, ℕ, ◌≤◌, [], refl, sym, ap, ◌∙◌, subst, arith}
-use Rattle.nbt_lease.specs.Lease.{Leases, Rows, is_live, leases_at, IsSound}
+use Rattle.std.proofs.Common.{◌≡◌, ℕ, ◌≤◌, refl, ◌∙◌}
+use Rattle.nbt_lease.specs.Lease.{Leases, Rows, is_live, leases_at}
 use Rattle.nbt_lease.proofs.Common.{filter, NameValue}
-use Rattle.nbt_lease.proofs.Rows.{later_is, same_leases}
+use Rattle.nbt_lease.proofs.Rows.{same_leases}
 use Rattle.nbt_server.specs.Serving.{ServerValue}
 use Rattle.nbt_server.specs.Calls.{ServerResumes, kept_server, limited}
 use Rattle.nbt_keep.specs.Changing.{IsKept}

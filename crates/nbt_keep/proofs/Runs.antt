@@ -1,28 +1,21 @@
 -- Steps and runs of a server that keeps its leases, with what a crash leaves at each call.
-use Rattle.std.proofs.Common.{◌≡◌, ℕ, ◌≤◌, Bool, true, false, not, ◌&&◌, List, [], ◌∷◌, ◌++◌, length, take, map, Option, Some, None, refl, sym, ap, ◌∙◌, subst, arith}
-use Rattle.std.specs.Prelude.{is_some}
-use Rattle.std.specs.List.{flat_map}
-use Rattle.std.proofs.lemmas.List.{take_all, append_assoc, append-nil}
-use Rattle.std.proofs.lemmas.List.Concat.{flat_map-append}
+use Rattle.std.proofs.Common.{◌≡◌, ℕ, Bool, true, not, List, [], ◌∷◌, ◌++◌, length, Option, refl, sym, subst}
+use Rattle.std.proofs.lemmas.List.{append_assoc, append-nil}
 use Rattle.nbt_name.specs.declared.addr.Addr.{Addr}
-use Rattle.nbt_lease.specs.Lease.{Rows}
 use Rattle.nbt_port.specs.Memory.{DatagramValue}
-use Rattle.nbt_port.specs.PortCalls.{PortCall, nothing_came, came, receive_failed, sent, send_failed, Chain}
-use Rattle.nbt_port.proofs.Chains.{chain-append}
+use Rattle.nbt_port.specs.PortCalls.{nothing_came, came, receive_failed, sent, send_failed, Chain}
 use Rattle.nbt_server.specs.Serving.{ServerValue}
 use Rattle.nbt_store.specs.declared.change.Change.{Change}
 use Rattle.nbt_store.specs.declared.header.Header.{Header}
-use Rattle.nbt_store.specs.Calls.{StoreCall, appended, append_failed, synced, sync_failed, renewed, renew_failed, Kept, kept_rows, after_call, after_calls, MayLeaveAfter, first_changes, new_leases}
-use Rattle.nbt_store.specs.Changes.{after_all, no_leases, begun_all, MayLeave}
-use Rattle.nbt_nbns.specs.Serving.{Turn, Turns}
-use Rattle.nbt_keep.specs.Changing.{IsKept}
+use Rattle.nbt_store.specs.Calls.{StoreCall, append_failed, sync_failed, renewed, renew_failed, Kept, kept_rows, after_call, after_calls, MayLeaveAfter, first_changes, new_leases}
+use Rattle.nbt_store.specs.Changes.{after_all, no_leases}
+use Rattle.nbt_nbns.specs.Serving.{Turn}
 use Rattle.nbt_keep.specs.Devices.{DeviceCall, on_port, on_store}
-use Rattle.nbt_keep.specs.Waiting.{WaitingValue, none_waits, dropped}
-use Rattle.nbt_keep.specs.Turning.{Took, Takes, TakesAny, with_reply, taking, receive_in, leaves, Passes, waits, all_leave, LeavingFails, sync_fails, send_fails, Fails, receive_fails, append_fails, leaving_fails}
-use Rattle.nbt_keep.specs.Runs.{Held, Seen, live_rows, Steps, takes_turn, port_fails, renews, Ends, store_fails, renewal_fails, Runs, goes_on, ends, calls_in, turn_of, turns_in, replies_in, stored_in, gone_in, Begins, IsEarlier, NoReplyPrecedesItsChange, CrashLeavesAnEarlierServer, ServersGoByTurns}
-use Rattle.nbt_keep.specs.declared.fault.KeepFault.{KeepFault}
+use Rattle.nbt_keep.specs.Waiting.{WaitingValue}
+use Rattle.nbt_keep.specs.Turning.{Took, Takes, TakesAny, with_reply, taking, receive_in, Passes, waits, all_leave, sync_fails, send_fails, Fails, receive_fails, append_fails, leaving_fails}
+use Rattle.nbt_keep.specs.Runs.{Held, Seen, live_rows, Steps, takes_turn, port_fails, renews, calls_in, turn_of, turns_in, stored_in, gone_in, IsEarlier}
 use Rattle.nbt_keep.specs.declared.fault.KeepFault.TheVariants as fault
-use Rattle.nbt_keep.proofs.Crashes.{by_call, gone_by, May, kept_after, gone_after, Safe, Along, Good, Goes, along_more, along-append, durable_good, joined, and_then, took, left, part_left, maybe_changed, received}
+use Rattle.nbt_keep.proofs.Crashes.{gone_by, May, Safe, Along, Good, Goes, along_more, along-append, durable_good, joined, and_then, took, left, part_left, maybe_changed, received}
 use Rattle.nbt_keep.proofs.Renewed.{renewed_kept}
 
 module _ (first : ServerValue) (turns : List Turn) (server : ServerValue) (replies : List DatagramValue) (is_synced : Bool) (kept : Kept) (gone : List DatagramValue) (g : Good first turns server replies is_synced kept gone) where

@@ -14,7 +14,7 @@ use Rattle.nbt_nbns.specs.declared.staying.Shown.{Shown}
 use Rattle.nbt_keep.specs.Waiting.{WaitingValue}
 use Rattle.nbt_keep.specs.Turning.{Keeping}
 use Rattle.nbt_keep.specs.Inner.Ending.{EndsSo, ComesTo}
-use Rattle.nbt_keep.specs.Staying.{Staying, LooksAfter, ShowsKeeping, WatchesOn, WatchesLast, BreaksStaying, StoreFails, after_turn, CutsStaying}
+use Rattle.nbt_keep.specs.Staying.{Staying, LooksAfter, ShowsKeeping, WatchesOn, WatchesLast, BreaksStaying, after_turn, CutsStaying}
 use Rattle.nbt_keep.specs.declared.fault.KeepFault.TheVariants as fault
 
 pub looked_so : {S D : Type 0} (keeps : S → StoreCall → S → Type 0) (days : D → ℕ → D → Type 0) (server : ServerValue) (waiting : WaitingValue) (until : Option ℕ) (at : ℕ) (store : S) (day : D) (header : Header) (new_store : S) (new_day : D) (new_header : Header)

@@ -1,5 +1,5 @@
 -- What a datagram that came makes of a server and of what waits.
-use Rattle.std.proofs.Common.{◌≡◌, ℕ, Bool, true, false, not, ◌&&◌, List, [], ◌∷◌, ◌++◌, length, refl, sym, ap, ◌∙◌, subst, Option, None, Some, Ok, Err, ◌≤◌, arith}
+use Rattle.std.proofs.Common.{◌≡◌, ℕ, Bool, true, false, not, ◌&&◌, List, [], ◌∷◌, length, refl, sym, ap, ◌∙◌, subst, Option, None, Some, Err, ◌≤◌, arith}
 use Rattle.std.specs.Prelude.{◌↔◌, ◌<◌, IsErrOf, is_some}
 use Rattle.std.proofs.lemmas.List.{length-append}
 use Rattle.nbt_name.specs.declared.addr.Addr.{Addr}
@@ -11,13 +11,13 @@ use Rattle.nbt_packet.specs.Spelling.{AreWritten}
 use Rattle.nbt_port.specs.PortCalls.{PortCall, nothing_came, came, Chain}
 use Rattle.nbt_store.specs.Calls.{StoreCall}
 use Rattle.nbt_server.specs.Serving.{ServerValue}
-use Rattle.nbt_server.specs.Outcomes.{has_reply, IsDone}
-use Rattle.nbt_server.specs.Calls.{ServerTakes, ServerHandles, ServerForgets}
+use Rattle.nbt_server.specs.Outcomes.{has_reply}
+use Rattle.nbt_server.specs.Calls.{ServerHandles, ServerForgets}
 use Rattle.nbt_server.specs.declared.fault.ServerFault.{ServerFault}
 use Rattle.nbt_server.specs.declared.fault.ServerFault.TheVariants as faults
 use Rattle.nbt_server.specs.declared.outcome.Outcome.{Outcome}
 use Rattle.nbt_store.specs.declared.change.Change.{Change}
-use Rattle.nbt_nbns.specs.Serving.{Turn, is_empty, is_taken, is_lost, moments_in, Turns, passes, takes, goes_back, has_no_memory, IsLogged}
+use Rattle.nbt_nbns.specs.Serving.{is_empty, is_taken, is_lost, moments_in, Turns, passes, takes, goes_back, has_no_memory, IsLogged}
 use Rattle.nbt_keep.specs.Changing.{IsKept, after_any, IsChange}
 use Rattle.nbt_keep.specs.Waiting.{WaitingValue, batch}
 use Rattle.nbt_keep.specs.Inner.Passing.{goes_where, goes_to, reply_to, behind, with_change}

@@ -1,12 +1,11 @@
 -- The laws of whole runs.
-use Rattle.std.proofs.Common.{◌≡◌, ℕ, Bool, true, false, ◌⊎◌, inl, inr, ⊎_elim, List, [], ◌∷◌, ◌++◌, length, Option, Some, None, refl, sym, ap, ◌∙◌, subst}
-use Rattle.std.specs.List.{flat_map}
-use Rattle.std.proofs.lemmas.List.{append_assoc, append-nil}
+use Rattle.std.proofs.Common.{◌≡◌, ℕ, ◌⊎◌, inl, inr, ⊎_elim, List, [], ◌∷◌, ◌++◌, Option, Some, None, refl, sym, ap, ◌∙◌, subst}
+use Rattle.std.proofs.lemmas.List.{append-nil}
 use Rattle.std.proofs.lemmas.List.Concat.{flat_map-append}
 use Rattle.nbt_name.specs.declared.addr.Addr.{Addr}
 use Rattle.nbt_lease.specs.Lease.{Rows}
 use Rattle.nbt_port.specs.Memory.{DatagramValue}
-use Rattle.nbt_port.specs.PortCalls.{PortCall, nothing_came, came, receive_failed, sent, send_failed, Chain}
+use Rattle.nbt_port.specs.PortCalls.{nothing_came, came, receive_failed, sent, send_failed, Chain}
 use Rattle.nbt_port.proofs.Chains.{chain-append}
 use Rattle.nbt_server.specs.Serving.{ServerValue}
 use Rattle.nbt_store.specs.declared.change.Change.{Change}
@@ -16,7 +15,7 @@ use Rattle.nbt_store.specs.Changes.{after_all, no_leases, begun_all, MayLeave}
 use Rattle.nbt_nbns.specs.Serving.{Turn, Turns}
 use Rattle.nbt_keep.specs.Changing.{IsKept}
 use Rattle.nbt_keep.specs.Devices.{DeviceCall, on_port, on_store}
-use Rattle.nbt_keep.specs.Waiting.{WaitingValue, none_waits}
+use Rattle.nbt_keep.specs.Waiting.{WaitingValue}
 use Rattle.nbt_keep.specs.Turning.{Took, TakesAny}
 use Rattle.nbt_keep.specs.Runs.{Held, Seen, live_rows, Steps, takes_turn, port_fails, renews, Ends, store_fails, renewal_fails, Runs, goes_on, ends, calls_in, turn_of, turns_in, replies_in, stored_in, gone_in, Begins, IsEarlier, NoReplyPrecedesItsChange, CrashLeavesAnEarlierServer, ServersGoByTurns}
 use Rattle.nbt_keep.proofs.Crashes.{gone_by, kept_after, gone_after, Along, Good, Goes, along_more, along-append, durable_good}

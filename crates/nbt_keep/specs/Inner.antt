@@ -2,4 +2,3 @@
 pub mod Telling
 pub mod Passing
 pub mod Ending
-pub mod Standing

@@ -1,14 +1,7 @@
-pub mod Begin
-pub mod Beginning
 pub mod Changing
 pub mod Devices
-pub mod Folders
-pub mod Opening
-pub mod Outlasting
 pub mod Waiting
 pub mod Turning
-pub mod Resuming
-pub mod Running
 pub mod Runs
 pub mod Staying
 pub mod Inner

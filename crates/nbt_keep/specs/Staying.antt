@@ -1,5 +1,5 @@
 -- A server that keeps its leases, stays up, and is watched (our profile).
-use Rattle.std.specs.Prelude.{◌≡◌, ◌≢◌, ℕ, ◌+◌, Bool, true, false, ◌&&◌, nat_le, List, [], Option}
+use Rattle.std.specs.Prelude.{◌≡◌, ◌≢◌, ℕ, ◌+◌, Bool, ◌&&◌, nat_le, List, Option}
 use Rattle.nbt_port.specs.PortCalls.{PortCall}
 use Rattle.nbt_port.specs.Until.{IsOver}
 use Rattle.nbt_port.specs.declared.fault.Fault.{Fault}

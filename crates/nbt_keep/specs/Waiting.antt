@@ -1,5 +1,5 @@
 -- Replies that wait until the changes that they rest on are durable (our profile).
-use Rattle.std.specs.Prelude.{◌≡◌, ℕ, Bool, true, false, ◌||◌, nat_le, List, [], ◌∷◌, ◌++◌, length, map}
+use Rattle.std.specs.Prelude.{ℕ, Bool, true, false, List, [], ◌∷◌, ◌++◌, map}
 use Rattle.nbt_port.specs.Memory.{DatagramValue}
 use Rattle.nbt_port.specs.PortCalls.{PortCall, sent}
 use Rattle.nbt_store.specs.Calls.{StoreCall, synced}

@@ -84,8 +84,8 @@ fn is_near(header: &Header, at: Moment, time: Moment) -> bool
     expected <= seen + NEAR && seen <= expected + NEAR
 }
 
-/// Lists the live leases of a server.
-pub(crate) fn list_live(server: &Server, rows: &mut Vec<(Name, Lease)>) -> Result<(), AllocError>
+/// Lists the live leases of a server, in place of what `rows` has. Refused where it is out of memory: `rows` may then be anything.
+pub fn list_live(server: &Server, rows: &mut Vec<(Name, Lease)>) -> Result<(), AllocError>
     ensures { OnOk result (rows.new.items ≡ live_rows server.now) }
 {
     rows.clear();

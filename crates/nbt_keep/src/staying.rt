@@ -68,6 +68,11 @@ pub fn keep_on<
         (record { keeping = record { port = port.new; store = store.new; clock = clock.new; server = server.new; waiting = waiting.new }; header = header.new; day = day.new; watcher = watcher.new; text = W.contents writer.new })) }
 {
     let mut rows = Vec::new(alloc);
+    let shown = Shown {
+        entry: None,
+        at: server.last(),
+        health: health_of(port, store),
+    };
     let mut turn = KeptTurn {
         port,
         store,
@@ -82,6 +87,7 @@ pub fn keep_on<
         rows: &mut rows,
         octets: ArrayVec::new(),
         reply: ArrayVec::new(),
+        shown,
     };
     stay_up(&mut turn, FOREVER, machine, errors)
 }
@@ -102,6 +108,7 @@ struct KeptTurn<'p, 't, 'c, 'd, 's, 'r, 'h, 'v, 'w, 'b, P, S, C, D, V, W> {
     rows: &'b mut Vec<(Name, Lease)>,
     octets: ArrayVec<u8, 2048>,
     reply: ArrayVec<u8, 576>,
+    shown: Shown,
     ghost room: { length waiting.now.replies < batch },
 }
 
@@ -132,7 +139,7 @@ impl<P: Port, S: Store, C: Clock, D: Clock, V: Watcher, W: Write> Turn
     ghost cuts = { λ _. CutsStaying P.does P.failures S.does C.tells D.tells V.sees };
 
     fn take<E: Write>(&mut self, errors: &mut E) -> Turned {
-        let shown = match turn_and_moment(
+        match turn_and_moment(
             self.port,
             self.store,
             self.clock,
@@ -140,8 +147,9 @@ impl<P: Port, S: Store, C: Clock, D: Clock, V: Watcher, W: Write> Turn
             self.waiting,
             &mut self.octets,
             &mut self.reply,
+            &mut self.shown,
         ) {
-            Ok(shown) => shown,
+            Ok(()) => {}
             Err(KeepFault::Port) => {
                 self.port.tell_changes(errors);
                 return Turned::Failed(self.port.cause());
@@ -150,9 +158,10 @@ impl<P: Port, S: Store, C: Clock, D: Clock, V: Watcher, W: Write> Turn
                 tell_store(self.store, errors);
                 return Turned::CutOff(Fault::Store);
             }
-        };
+        }
         self.port.tell_changes(errors);
-        self.watcher.see(self.server, &shown, self.writer, errors);
+        self.watcher
+            .see(self.server, &self.shown, self.writer, errors);
         after_turn(
             self.store,
             self.day,
@@ -161,7 +170,7 @@ impl<P: Port, S: Store, C: Clock, D: Clock, V: Watcher, W: Write> Turn
             self.server,
             self.waiting,
             &self.until,
-            shown.at,
+            self.shown.at,
             errors,
         )
     }
@@ -204,7 +213,7 @@ fn ending(until: &Option<Moment>, at: Moment, waiting: &Waiting) -> Turned
     }
 }
 
-/// One turn, and the moment after it.
+/// One turn, and the moment after it: `shown` is what it was, where it went well.
 fn turn_and_moment<P: Port, S: Store, C: Clock>(
     port: &mut P,
     store: &mut S,
@@ -213,25 +222,33 @@ fn turn_and_moment<P: Port, S: Store, C: Clock>(
     waiting: &mut Waiting,
     octets: &mut ArrayVec<u8, 2048>,
     reply: &mut ArrayVec<u8, 576>,
-) -> Result<Shown, KeepFault>
+    shown: &mut Shown,
+) -> Result<(), KeepFault>
     requires failure_count { P.failures port.old < 2 ^ 62 }
     requires room { length waiting.old.replies < batch }
-    ensures ok { IfOk result (λ shown. (turned : C) × KeepsTurn P.does S.does C.tells
-        (record { port = port.old; store = store.old; clock = clock.old; server = server.old; waiting = waiting.old }) shown.entry
+    ensures ok { OnOk result ((turned : C) × KeepsTurn P.does S.does C.tells
+        (record { port = port.old; store = store.old; clock = clock.old; server = server.old; waiting = waiting.old }) shown.new.entry
         (record { port = port.new; store = store.new; clock = turned; server = server.new; waiting = waiting.new })
-        × C.tells turned shown.at clock.new × (shown.health.failures ≡ P.failures port.new)) }
+        × C.tells turned shown.new.at clock.new × (shown.new.health.failures ≡ P.failures port.new)) }
     ensures err { IfErr result (λ why. BreaksKeeping P.does S.does C.tells why
         (record { port = port.old; store = store.old; clock = clock.old; server = server.old; waiting = waiting.old })
         (record { port = port.new; store = store.new; clock = clock.new; server = server.new; waiting = waiting.new })) }
     ensures room { length waiting.new.replies < batch }
     ensures count { P.failures port.new ≤ P.failures port.old + 1 }
 {
-    let entry = keep_turn(port, clock, store, server, waiting, octets, reply)?;
-    Ok(Shown {
-        entry,
-        at: clock.now(),
-        health: health_of(port, store),
-    })
+    keep_turn(
+        port,
+        clock,
+        store,
+        server,
+        waiting,
+        octets,
+        reply,
+        &mut shown.entry,
+    )?;
+    shown.at = clock.now();
+    shown.health = health_of(port, store);
+    Ok(())
 }
 
 /// How the port and the store are.

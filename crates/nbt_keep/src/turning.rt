@@ -23,11 +23,12 @@ use nbt_store::{Broken, Store};
 /// The server goes through one turn. It receives a datagram, and waits for it where no reply waits. Where one came, it reads the
 /// clock, handles the datagram at that time, has the store append what that changed, and the reply waits with those before it.
 /// Then all replies leave, where the turn has no reply, or all changes are durable, or 64 wait: changes that aren't durable first become
-/// so. Returns what the server did; `None` where nothing came, and where the datagram was lost as [`nbt_nbns::serve_turns`] says.
+/// so. `entry` is what the server did then; `None` where nothing came, and where the datagram was lost as [`nbt_nbns::serve_turns`] says.
 /// `octets` and `reply` are buffers of the turn.
 ///
 /// Refused with `Port` at a receive that fails, and at a send that fails: that reply is lost, and those behind it still wait.
-/// Refused with `Store` at an append or a sync that fails: all replies are dropped, and the caller must end the server.
+/// Refused with `Store` at an append or a sync that fails: all replies are dropped, and the caller must end the server. `entry` may
+/// then be anything.
 pub fn keep_turn<P: Port, C: Clock, S: Store>(
     port: &mut P,
     clock: &mut C,
@@ -36,11 +37,12 @@ pub fn keep_turn<P: Port, C: Clock, S: Store>(
     waiting: &mut Waiting,
     octets: &mut ArrayVec<u8, 2048>,
     reply: &mut ArrayVec<u8, 576>,
-) -> Result<Option<Entry>, KeepFault>
+    entry: &mut Option<Entry>,
+) -> Result<(), KeepFault>
     requires failure_count { P.failures port.old < 2 ^ 62 }
     requires room { length waiting.old.replies < batch }
-    ensures ok { IfOk result (λ entry. KeepsTurn P.does S.does C.tells
-        (record { port = port.old; store = store.old; clock = clock.old; server = server.old; waiting = waiting.old }) entry
+    ensures ok { OnOk result (KeepsTurn P.does S.does C.tells
+        (record { port = port.old; store = store.old; clock = clock.old; server = server.old; waiting = waiting.old }) entry.new
         (record { port = port.new; store = store.new; clock = clock.new; server = server.new; waiting = waiting.new })) }
     ensures err { IfErr result (λ why. BreaksKeeping P.does S.does C.tells why
         (record { port = port.old; store = store.old; clock = clock.old; server = server.old; waiting = waiting.old })
@@ -49,7 +51,7 @@ pub fn keep_turn<P: Port, C: Clock, S: Store>(
     ensures count { P.failures port.new ≤ P.failures port.old + 1 }
 {
     let came = receive(port, waiting.is_empty(), octets)?;
-    let entry = take_any(
+    take_any(
         clock,
         store,
         server,
@@ -57,9 +59,10 @@ pub fn keep_turn<P: Port, C: Clock, S: Store>(
         came,
         octets.as_slice(),
         reply,
+        entry,
     )?;
-    match waiting.pass(goes_to(&entry), reply, port, store) {
-        Ok(()) => Ok(entry),
+    match waiting.pass(goes_to(entry), reply, port, store) {
+        Ok(()) => Ok(()),
         Err(why) => Err(why),
     }
 }
@@ -100,22 +103,26 @@ fn take_any<C: Clock, S: Store>(
     came: Option<Addr>,
     octets: &[u8],
     reply: &mut ArrayVec<u8, 576>,
-) -> Result<Option<Entry>, Broken>
-    ensures ok { IfOk result (λ entry. (took : Took) × (takes : Takes server.old took server.new) × IsLogged takes.server entry × (is_some took.change ≡ changes_in entry)
-        × (receive_in took.turn ≡ receiving (Ok came) octets.now) × (is_unanswered took.turn ≡ not (is_some (goes_to entry))) × (reply_in took.turn ≡ reply_to (goes_to entry) reply.new.items)
+    entry: &mut Option<Entry>,
+) -> Result<(), Broken>
+    ensures ok { OnOk result ((took : Took) × (takes : Takes server.old took server.new) × IsLogged takes.server entry.new × (is_some took.change ≡ changes_in entry.new)
+        × (receive_in took.turn ≡ receiving (Ok came) octets.now) × (is_unanswered took.turn ≡ not (is_some (goes_to entry.new))) × (reply_in took.turn ≡ reply_to (goes_to entry.new) reply.new.items)
         × Chain S.does store.old (appends_of took.change) store.new × Chain C.tells clock.old (moments_in took.turn) clock.new × (waiting.new ≡ with_change took.change waiting.old)) }
     ensures err { OnErr result ((turn : Turn) × (change : ChangeValue) × Takes server.old (record { turn = turn; change = Some change }) server.new
         × (receive_in turn ≡ receiving (Ok came) octets.now) × S.does store.old (append_failed change) store.new × Chain C.tells clock.old (moments_in turn) clock.new
         × (waiting.new ≡ dropped)) }
 {
     match came {
-        Some(from) => take(clock, store, server, waiting, from, octets, reply),
-        None => Ok(None),
+        Some(from) => take(clock, store, server, waiting, from, octets, reply, entry),
+        None => {
+            *entry = None;
+            Ok(())
+        }
     }
 }
 
-/// Takes a datagram: handles it, and has the store append what that changed. Returns what the server did; `None` where the datagram was
-/// lost. `reply` then has the reply, if there is one. Refused with `Broken` if the store fails: the replies are dropped.
+/// Takes a datagram: handles it, and has the store append what that changed. `entry` is what the server did then; `None` where the
+/// datagram was lost. `reply` has the reply, if there is one. Refused with `Broken` if the store fails: the replies are dropped.
 fn take<C: Clock, S: Store>(
     clock: &mut C,
     store: &mut S,
@@ -124,9 +131,10 @@ fn take<C: Clock, S: Store>(
     from: Addr,
     octets: &[u8],
     reply: &mut ArrayVec<u8, 576>,
-) -> Result<Option<Entry>, Broken>
-    ensures ok { IfOk result (λ entry. (took : Took) × (takes : Takes server.old took server.new) × IsLogged takes.server entry × (is_some took.change ≡ changes_in entry)
-        × (receive_in took.turn ≡ came from octets.now) × (is_unanswered took.turn ≡ not (is_some (goes_to entry))) × (reply_in took.turn ≡ reply_to (goes_to entry) reply.new.items)
+    entry: &mut Option<Entry>,
+) -> Result<(), Broken>
+    ensures ok { OnOk result ((took : Took) × (takes : Takes server.old took server.new) × IsLogged takes.server entry.new × (is_some took.change ≡ changes_in entry.new)
+        × (receive_in took.turn ≡ came from octets.now) × (is_unanswered took.turn ≡ not (is_some (goes_to entry.new))) × (reply_in took.turn ≡ reply_to (goes_to entry.new) reply.new.items)
         × Chain S.does store.old (appends_of took.change) store.new × Chain C.tells clock.old (moments_in took.turn) clock.new × (waiting.new ≡ with_change took.change waiting.old)) }
     ensures err { OnErr result ((turn : Turn) × (change : ChangeValue) × Takes server.old (record { turn = turn; change = Some change }) server.new
         × (receive_in turn ≡ came from octets.now) × S.does store.old (append_failed change) store.new × Chain C.tells clock.old (moments_in turn) clock.new
@@ -136,9 +144,13 @@ fn take<C: Clock, S: Store>(
     match server.handle(now, from, octets, reply) {
         Ok(outcome) => {
             append_change(store, waiting, server, &outcome)?;
-            Ok(Some(Entry::of(from, octets, outcome)))
+            *entry = Some(Entry::of(from, octets, outcome));
+            Ok(())
         }
-        Err(_) => Ok(None),
+        Err(_) => {
+            *entry = None;
+            Ok(())
+        }
     }
 }
 

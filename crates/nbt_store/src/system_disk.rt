@@ -13,6 +13,10 @@ use std::io::{ErrorKind, Read, Write};
 use std::rt::Files;
 use std::{fs, io, time};
 
+/// What the file `lock` says (our profile): an empty file might be taken for one that may be replaced, and a lock whose file is
+/// replaced locks nobody out.
+const LOCK_LINE: &[u8] = b"# lock of nbt nbns\n";
+
 /// Where Linux has the id of the boot.
 const BOOT_ID: &str = "/proc/sys/kernel/random/boot_id";
 
@@ -41,15 +45,17 @@ pub struct SystemDisk<'a, R: Files> {
 }
 
 impl<'a, R: Files<File = File>> SystemDisk<'a, R> {
-    /// Opens a folder, which has to be there, and locks its file `lock`, which is made if it isn't there. Refused with an error of
-    /// the kind `WouldBlock` if another holds that lock, and with no such error otherwise; or if out of memory.
+    /// Opens a folder, which has to be there, and locks its file `lock`, which is made if it isn't there, and says then what it is.
+    /// Refused with an error of the kind `WouldBlock` if another holds that lock, and with no such error otherwise; or if out of
+    /// memory.
     pub fn open_folder(
         machine: &'a R,
         alloc: Global,
         folder: &'a str,
     ) -> io::Result<SystemDisk<'a, R>> {
-        let lock = open_lock(machine, alloc, folder)?;
+        let mut lock = open_lock(machine, alloc, folder)?;
         lock.try_lock()?;
+        lock.write_all(LOCK_LINE)?;
         Ok(SystemDisk {
             machine,
             folder,

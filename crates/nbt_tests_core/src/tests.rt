@@ -6,17 +6,13 @@ use std::test::Fail;
 
 mod calls;
 mod datagrams;
-mod disks;
 mod expect;
 mod leases;
 mod names;
 mod node;
 mod packets;
-mod restarts;
-mod resuming;
 mod server;
 mod sessions;
-mod store;
 mod world;
 
 /// The sixteen octets of names: FRED's and TEAM's, filled with spaces, and of the name that stands for all.

@@ -1,4 +1,4 @@
-//! Ports, and the server, lookups and hosts over them, tested from without by worked rows.
+//! Ports, and lookups, scans, releases and hosts over them, tested from without by worked rows.
 #![tactic(auto)]
 
 #[cfg(test)]

@@ -2,7 +2,7 @@ use Rattle.std.proofs.Common.{◌≡◌, ◌≢◌, ◌∙◌, ℕ, Bool, true, 
 use Rattle.std.specs.Prelude.{◌==◌}
 use Rattle.std.specs.Borrow.{Bor}
 use Rattle.std.specs.String.{string_bytes}
-use Rattle.nbt_keep.specs.declared.arguments.StateFolder.{StateFolder}
+use Rattle.nbt_state.specs.declared.arguments.StateFolder.{StateFolder}
 use Rattle.nbt_admin.specs.Arguments.{GivesState}
 use Rattle.nbt_admin.proofs.serving.state_of.Goals as goal
 

@@ -1,4 +1,4 @@
-use Rattle.std.proofs.Common.{◌≡◌, ◌++◌, refl, sym, ap, ◌∙◌, rules, tests}
+use Rattle.std.proofs.Common.{◌++◌, ap, ◌∙◌, rules, tests}
 use Rattle.std.specs.List.{filter}
 use Rattle.std.proofs.lemmas.Fn.{filter_same}
 use Rattle.nbt_name.specs.Wire.{NameValue}

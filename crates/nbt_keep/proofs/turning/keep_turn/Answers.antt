@@ -1,4 +1,4 @@
-use Rattle.std.proofs.Common.{◌≡◌, ℕ, ◌<◌, not, List, [], ◌∷◌, ◌++◌, length, refl, sym, ap, subst, ◌∙◌, Option, None, Some, Ok, Err, arith}
+use Rattle.std.proofs.Common.{ℕ, ◌<◌, not, List, [], ◌∷◌, ◌++◌, length, refl, sym, ap, subst, ◌∙◌, Option, None, Some, Ok}
 use Rattle.std.specs.Prelude.{is_some}
 use Rattle.nbt_name.specs.declared.addr.Addr.{Addr}
 use Rattle.std.proofs.lemmas.Result.{err_from_is_err_and}
@@ -24,10 +24,10 @@ returns-in_err-came-clause-err g c =
       clock_told = refl;
     })
 
-pub returns-in_err-entry-clause-err : goal.returns-in_err-entry-clause-err
-returns-in_err-entry-clause-err g c =
-    let p = err_from_is_err_and c.from_residual-in_err-entry.result c.from_residual-in_err-entry.ensures.1 in
-    let t = c.in_err-entry.ensures.err in
+pub returns-in_err-take_any-clause-err : goal.returns-in_err-take_any-clause-err
+returns-in_err-take_any-clause-err g c =
+    let p = err_from_is_err_and c.from_residual-in_err-take_any.result c.from_residual-in_err-take_any.ensures.1 in
+    let t = c.in_err-take_any.ensures.err in
     rw (p.1, p.2) (record {
       took = Some (record { turn = t.0; change = Some t.1 });
       calls = on_port (receive_in t.0) ∷ on_store (append_failed t.1) ∷ [];
@@ -40,7 +40,7 @@ returns-in_err-entry-clause-err g c =
 
 pub returns-in-Ok-clause-ok : goal.returns-in-Ok-clause-ok
 returns-in-Ok-clause-ok g c =
-    let t = c.in_ok-entry.ensures.ok in
+    let t = c.in_ok-take_any.ensures.ok in
     let to = sym c.goes_to.ensures in
     let idle = ap (λ (o : Option Addr). not (is_some o)) to in
     let all = joined t.0 c.args.waiting.now c.take_any.new.waiting c.goes_to.result c.take_any.new.reply.items (t.6 ∙ ap (λ (o : Option Addr). reply_to o c.take_any.new.reply.items) to) t.9 in
@@ -61,7 +61,7 @@ returns-in-Ok-clause-ok g c =
 
 pub returns-in-Err-clause-err : goal.returns-in-Err-clause-err
 returns-in-Err-clause-err g c =
-    let t = c.in_ok-entry.ensures.ok in
+    let t = c.in_ok-take_any.ensures.ok in
     let to = sym c.goes_to.ensures in
     let idle = ap (λ (o : Option Addr). not (is_some o)) to in
     let all = joined t.0 c.args.waiting.now c.take_any.new.waiting c.goes_to.result c.take_any.new.reply.items (t.6 ∙ ap (λ (o : Option Addr). reply_to o c.take_any.new.reply.items) to) t.9 in
@@ -79,11 +79,11 @@ returns-in-Err-clause-err g c =
     }
 
 pub pass-requires : goal.pass-requires
-pass-requires g c = record { failure_count = rw c.in_ok-came.ensures.count c.requires.failure_count; room = subst (λ (w : WaitingValue). length w.replies < batch) (sym c.in_ok-entry.ensures.ok.9) c.requires.room }
+pass-requires g c = record { failure_count = rw c.in_ok-came.ensures.count c.requires.failure_count; room = subst (λ (w : WaitingValue). length w.replies < batch) (sym c.in_ok-take_any.ensures.ok.9) c.requires.room }
 
 pub returns-in-Ok-clause-room : goal.returns-in-Ok-clause-room
 returns-in-Ok-clause-room g c = room_left (not (is_some c.goes_to.result)) (behind c.take_any.new.waiting c.goes_to.result c.take_any.new.reply.items) c.pass.new.self c.in-Ok.ensures.ok.0 c.in-Ok.ensures.ok.1
 
 pub returns-in-Err-clause-room : goal.returns-in-Err-clause-room
 returns-in-Err-clause-room g c = room_failed (behind c.take_any.new.waiting c.goes_to.result c.take_any.new.reply.items) c.pass.new.self c.in-Err.why c.in-Err.ensures.err.0 c.in-Err.ensures.err.2
-    (few_so c.take_any.new.waiting c.goes_to.result c.take_any.new.reply.items (subst (λ (w : WaitingValue). length w.replies < batch) (sym c.in_ok-entry.ensures.ok.9) c.requires.room))
+    (few_so c.take_any.new.waiting c.goes_to.result c.take_any.new.reply.items (subst (λ (w : WaitingValue). length w.replies < batch) (sym c.in_ok-take_any.ensures.ok.9) c.requires.room))

@@ -1,9 +1,7 @@
-use Rattle.std.proofs.Common.{◌≡◌, ℕ, ◌+◌, List, [], ◌∷◌, ◌++◌, map, refl, sym, ap, subst, ◌∙◌, append_assoc, arith}
+use Rattle.std.proofs.Common.{ℕ, ◌+◌, List, [], ◌∷◌, ◌++◌, map, refl, ap, subst, ◌∙◌}
 use Rattle.std.proofs.lemmas.Result.{err_from_is_err_and}
-use Rattle.nbt_port.specs.Memory.{DatagramValue}
 use Rattle.nbt_port.specs.PortCalls.{sent, send_failed}
 use Rattle.nbt_keep.specs.Waiting.{value_of}
-use Rattle.nbt_keep.specs.declared.waiting.Reply.{Reply}
 use Rattle.nbt_keep.proofs.Leaving.{sent_more, sent_failed, one_further, one_lost}
 use Rattle.nbt_keep.proofs.waiting.send_each.Goals as goal
 

@@ -1,0 +1,36 @@
+-- Whether a lease that was kept outlasts the silence of a server that begins anew (our profile).
+use Rattle.std.specs.Prelude.{◌≡◌, ◌↔◌, ℕ, ◌+◌, ◌<◌, ◌≤◌, Bool, false, IsTrue, List, Any, Some, None, Result, Ok, Err}
+use Rattle.std.specs.Borrow.{Bor}
+use Rattle.nbt_lease.specs.Config.{ConfigValue, milliseconds}
+use Rattle.nbt_lease.specs.Lease.{Rows}
+use Rattle.nbt_store.specs.Lines.{HasFault}
+use Rattle.nbt_store.specs.Reading.{IsLoaded}
+use Rattle.nbt_store.specs.Silence.{going_on}
+use Rattle.nbt_store.specs.declared.fault.Fault.{Fault}
+use Rattle.nbt_store.specs.declared.header.Header.{Header}
+use Rattle.nbt_store.specs.declared.silence.Silence.{Silence}
+use Rattle.nbt_resume.specs.declared.resuming.Found.{Found}
+
+-- the same header, as if it were of these limits
+abbrev pub with_limits : ConfigValue → Header → Header
+with_limits config h = record h { life = config.life; longest = config.longest; rows = config.rows }
+
+-- by how much the server's clock is ahead now, whatever the limits and the boot of the header are; or that this isn't known
+abbrev pub ahead_now : Found → Header → Result ℕ Silence
+ahead_now f h = going_on (with_limits f.config h) f.config f.boot.now f.monotonic f.day false
+
+-- when the silence of a server ends that begins anew now, by a clock that is so much ahead
+abbrev pub speaks_anew : Found → (ahead : ℕ) → ℕ
+speaks_anew f ahead = f.monotonic + ahead + milliseconds f.config.longest
+
+-- With this header and these rows: the longest lease was longer, and one of the leases ends after that.
+pub data OutlastsWith (f : Found) (h : Header) (rows : Rows) : Bool → Type 0 where
+  not_longer : h.longest ≤ f.config.longest → OutlastsWith f h rows false
+  not_known : (why : Silence) → f.config.longest < h.longest → ahead_now f h ≡ Err why → OutlastsWith f h rows false
+  known : (ahead : ℕ) (is : Bool) → f.config.longest < h.longest → ahead_now f h ≡ Ok ahead → IsTrue is ↔ Any (λ row. speaks_anew f ahead < row.1.end) rows → OutlastsWith f h rows is
+
+-- What a server finds has such a lease, or has none.
+pub data OutlastsAs (f : Found) : Bool → Type 0 where
+  nothing_there : f.kept ≡ None → OutlastsAs f false
+  not_a_file : (octets : Bor (List ℕ)) (fault : Fault) → f.kept ≡ Some octets → HasFault octets.now fault → OutlastsAs f false
+  a_file : (octets : Bor (List ℕ)) (h : Header) (rows : Rows) (is : Bool) → f.kept ≡ Some octets → IsLoaded octets.now h rows → OutlastsWith f h rows is → OutlastsAs f is

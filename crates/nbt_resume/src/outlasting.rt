@@ -1,0 +1,96 @@
+//! Whether a lease that was kept outlasts the silence of a server that begins anew.
+
+ghost use Rattle.std.specs.Prelude.{◌≡◌, ◌<◌, ◌↔◌, Any, false, IsTrue, IfOk, Ok};
+ghost use Rattle.nbt_store.specs.declared.fault.Fault.{Fault as FaultSeen};
+ghost use Rattle.nbt_store.specs.declared.fault.ReadFault.TheVariants as read;
+ghost use Rattle.nbt_resume.specs.Outlasting.{ahead_now, speaks_anew, with_limits, OutlastsAs, OutlastsWith};
+
+use crate::beginning::copy_of;
+use crate::resuming::Found;
+use nbt_lease::{Config, Lease};
+use nbt_name::Name;
+use nbt_store::{Header, Loaded, ReadFault, load, why_silent};
+use std::alloc::{AllocError, Global};
+
+/// The milliseconds of a second.
+const SECOND: u64 = 1_000;
+
+/// Whether a lease of what is found ends after the silence of a server that begins anew now, with the limits of `found`: such a server
+/// could grant its name to another while it lives. It is said only of leases that were kept under a longer longest lease. Where nothing
+/// was kept, where the octets are no file of a store, and where the time since the file was written isn't known, it is said of none. Refused where it is out of memory.
+pub fn outlasts(alloc: Global, found: &Found<'_>) -> Result<bool, AllocError>
+    ensures { IfOk result (OutlastsAs found.now) }
+{
+    match found.kept {
+        Some(octets) => match load(alloc, octets) {
+            Ok(loaded) => Ok(outlasts_with(found, &loaded)),
+            Err(why) => without_leases(why),
+        },
+        None => Ok(false),
+    }
+}
+
+/// What is said of octets that aren't read for this reason.
+fn without_leases(why: ReadFault) -> Result<bool, AllocError>
+    ensures { IfOk result (λ is. (fault : FaultSeen) × (why ≡ read.File fault) × (is ≡ false)) }
+{
+    match why {
+        ReadFault::File(_) => Ok(false),
+        ReadFault::Memory => Err(AllocError),
+    }
+}
+
+/// The same, with the header and the leases that were loaded.
+fn outlasts_with(found: &Found<'_>, loaded: &Loaded) -> bool
+    ensures { OutlastsWith found.now loaded.now.header loaded.now.rows.items result }
+{
+    if loaded.header.longest <= u64::from(found.config.longest()) {
+        return false;
+    }
+    outlasts_by_time(found, loaded)
+}
+
+/// The same, where the longest lease was longer.
+fn outlasts_by_time(found: &Found<'_>, loaded: &Loaded) -> bool
+    requires { found.now.config.longest < loaded.now.header.longest }
+    ensures { OutlastsWith found.now loaded.now.header loaded.now.rows.items result }
+{
+    let header = with_limits(found.config, &loaded.header);
+    let monotonic = found.monotonic.get();
+    let day = found.day.get();
+    match why_silent(&header, found.config, found.boot, monotonic, day, false) {
+        Ok(ahead) => has_after(loaded.rows.as_slice(), speaks_anew(found, loaded, ahead)),
+        Err(_why) => false,
+    }
+}
+
+/// The same header, as if it were of these limits.
+fn with_limits(config: Config, header: &Header) -> Header
+    ensures { result ≡ with_limits config header.now }
+{
+    Header {
+        life: config.life(),
+        longest: u64::from(config.longest()),
+        rows: config.rows() as u64,
+        boot: copy_of(&header.boot),
+        ahead: header.ahead,
+        start: header.start,
+        last: header.last,
+        day: header.day,
+    }
+}
+
+/// When the silence of a server ends that begins anew now, by a clock that is so much ahead.
+fn speaks_anew(found: &Found<'_>, loaded: &Loaded, ahead: u64) -> u64
+    requires { ahead_now found.now loaded.now.header ≡ Ok ahead }
+    ensures { result ≡ speaks_anew found.now ahead }
+{
+    found.monotonic.get() + ahead + SECOND * u64::from(found.config.longest())
+}
+
+/// Whether one of the leases ends after this time.
+fn has_after(rows: &[(Name, Lease)], time: u64) -> bool
+    ensures { IsTrue result ↔ Any (λ row. time < row.1.end) rows.now }
+{
+    rows.iter().any(|row| time < row.1.end)
+}

@@ -1,0 +1,278 @@
+//! A name server that keeps its leases, over UDP, the system's clocks and its files.
+
+ghost use Rattle.std.specs.Prelude.{◌≡◌, ◌≤◌, ◌<◌, ◌^◌, ◌⊎◌, ℕ, List, length, Err, OnOk, OnErr, IfErr};
+ghost use Rattle.std.specs.Io.KnownBytes.{Appends};
+ghost use Rattle.nbt_nbns.specs.Running.{NbnsFails, PortDoes, PortFailures};
+ghost use Rattle.nbt_port.specs.Numbers.{forever};
+ghost use Rattle.nbt_port.specs.Staying.{StaysUntil, EndsEarly};
+ghost use Rattle.nbt_port.specs.Udp.{PortsValue};
+ghost use Rattle.nbt_front.specs.FrontPort.{Fronted};
+ghost use Rattle.nbt_state.specs.Begin.{IsBegin, manner_of};
+ghost use Rattle.nbt_state.specs.Running.{KeptFails, RunsKept, RunsServer};
+ghost use Rattle.nbt_keep.specs.Staying.{BreaksStaying, CutsStaying, WatchesLast, WatchesOn};
+ghost use Rattle.nbt_keep.specs.Waiting.{batch};
+ghost use Rattle.nbt_state.specs.Inner.Standing.{staying_of};
+ghost use Rattle.nbt_state.specs.declared.running.KeptServer.{KeptServer as Kept};
+ghost use Rattle.nbt_keep.specs.declared.fault.KeepFault.TheVariants as fault;
+
+use crate::arguments::{ServerArguments, StateFolder};
+use crate::first_line::{manner_of, write_begin};
+use crate::opening::{begin_in, open_disk, open_store};
+use nbt_front::{Desk, FrontPort};
+use nbt_keep::{Waiting, keep_on};
+use nbt_lease::Moment;
+use nbt_log::Dates;
+use nbt_name::Addr;
+use nbt_nbns::{NbnsArguments, SambaPort, Watcher, journal_of, run_nbns};
+use nbt_port::{
+    Ahead, Clock, Fault, MachineClock, Port, UdpPorts, print, readable_clock, steady_clock,
+    tell_end_of, until_of,
+};
+use nbt_resume::Begun;
+use nbt_server::Server;
+use nbt_store::{Header, Store};
+use std::alloc::Global;
+use std::fs::File;
+use std::io::Write;
+use std::net::Net;
+use std::rt::Files;
+use std::{io, time};
+
+/// Runs a name server on UDP ports of this system, over the monotonic clock. Without a state it is [`run_nbns`].
+///
+/// With one it binds the ports, locks the folder, reads the boot, the clocks and the file, and goes on with what was kept or begins
+/// anew, as [`nbt_resume::begin`] decides. It writes the file of its leases, prints where it serves, how many leases were kept, for how
+/// long it is silent and why, and stays up as [`keep_on`] does, by a clock that goes on over boots. Refused as [`run_nbns`]; and
+/// with `Store` where the folder can't be used, read or written at the start, or later: a line in `errors` says why.
+pub fn run_server<M: Net + time::Clock + Files<File = File>, W: Write, E: Write>(
+    machine: &M,
+    alloc: Global,
+    arguments: &ServerArguments,
+    writer: &mut W,
+    errors: &mut E,
+) -> Result<(), Fault>
+    ensures { OnOk result (RunsServer arguments.now (W.contents writer.old) (W.contents writer.new)) }
+{
+    match &arguments.state {
+        Some(state) => run_kept(machine, alloc, &arguments.nbns, state, writer, errors),
+        None => run_nbns(machine, alloc, &arguments.nbns, writer, errors),
+    }
+}
+
+/// Runs a name server that keeps its leases.
+fn run_kept<M: Net + time::Clock + Files<File = File>, W: Write, E: Write>(
+    machine: &M,
+    alloc: Global,
+    arguments: &NbnsArguments,
+    state: &StateFolder,
+    writer: &mut W,
+    errors: &mut E,
+) -> Result<(), Fault>
+    ensures ok { OnOk result (RunsKept arguments.now state.now (W.contents writer.old) (W.contents writer.new)) }
+    ensures device { result ≡ Err Fault.Device → KeptFails arguments.now state.now Fault.Device (W.contents writer.old) (W.contents writer.new) }
+    ensures store { result ≡ Err Fault.Store → (W.contents writer.new ≡ W.contents writer.old) ⊎ KeptFails arguments.now state.now Fault.Store (W.contents writer.old) (W.contents writer.new) }
+    ensures port { result ≡ Err Fault.NoPort → W.contents writer.new ≡ W.contents writer.old }
+    ensures clock { result ≡ Err Fault.NoClock → W.contents writer.new ≡ W.contents writer.old }
+{
+    let port = UdpPorts::bind(machine, alloc, &arguments.bind, errors)?;
+    let mut clock = steady_clock(machine, arguments.bind.first(), errors)?;
+    let mut day = readable_clock(machine, arguments.bind.first(), errors)?;
+    let folder = state.path.as_str();
+    let disk = open_disk(machine, alloc, folder, errors)?;
+    let monotonic = clock.now();
+    let time = day.now();
+    let begun = begin_in(
+        machine,
+        alloc,
+        &disk,
+        state,
+        arguments.config,
+        monotonic,
+        time,
+        errors,
+    )?;
+    let opened = open_store(disk, alloc, folder, &begun, errors)?;
+    let dates = Dates {
+        moment: begun.server.last(),
+        time,
+    };
+    let at_day = MachineClock::new(machine);
+    let journal = journal_of(
+        machine,
+        alloc,
+        arguments,
+        dates,
+        at_day,
+        begun.start,
+        errors,
+    )?;
+    let waiting = Waiting::new(alloc)?;
+    let at = port.addresses()?;
+    tell_begin(
+        alloc,
+        at.as_slice(),
+        arguments.config.longest(),
+        &begun,
+        &dates,
+        opened.count,
+        writer,
+        errors,
+    )?;
+    let until = until_of(dates.moment, arguments.time);
+    let mut server = begun.server;
+    server.limit_clients(arguments.rows_per_client);
+    let kept = KeptServer {
+        store: opened.store,
+        clock: Ahead {
+            clock,
+            by: begun.header.ahead,
+        },
+        day,
+        server,
+        waiting,
+        header: begun.header,
+        journal,
+    };
+    let desk = Desk::new(alloc, &arguments.front, MachineClock::new(machine));
+    keep_over(
+        port,
+        arguments.strict,
+        desk,
+        kept,
+        until,
+        alloc,
+        machine,
+        writer,
+        errors,
+    )
+}
+
+/// Prints how a server begins, and flushes. Refused: `Memory`, and then nothing is printed; `Output` where the line can't be
+/// written, and a line in `errors` says why.
+fn tell_begin<W: Write, E: Write>(
+    alloc: Global,
+    at: &[Addr],
+    longest: u32,
+    begun: &Begun,
+    dates: &Dates,
+    count: usize,
+    writer: &mut W,
+    errors: &mut E,
+) -> Result<(), Fault>
+    ensures ok { OnOk result ((line : List ℕ) × IsBegin at.now (manner_of longest begun.now.start dates.now count begun.now.reason) line × Appends (W.contents writer.old) (W.contents writer.new) line) }
+    ensures err { IfErr result (λ fault. (fault ≡ Fault.Output) ⊎ ((fault ≡ Fault.Memory) × (W.contents writer.new ≡ W.contents writer.old))) }
+{
+    let manner = manner_of(longest, begun.start, dates, count, begun.reason);
+    let mut line = String::new(alloc);
+    write_begin(at, manner, &mut line)?;
+    match print(line.as_str(), writer) {
+        Ok(()) => Ok(()),
+        Err(error) => {
+            let _ = complain(error, errors);
+            Err(Fault::Output)
+        }
+    }
+}
+
+fn complain<E: Write>(error: io::Error, errors: &mut E) -> io::Result<()> {
+    writeln!(errors, "nbt: the first line can't be written: {error}")?;
+    errors.flush()
+}
+
+/// What goes on of a server that keeps its leases, beside its port.
+#[derive(Drop)]
+struct KeptServer<S, C, D, V> {
+    store: S,
+    clock: C,
+    day: D,
+    server: Server,
+    waiting: Waiting,
+    header: Header,
+    journal: V,
+}
+
+/// Keeps a server up until it ends, over this port as it is where that is `strict`, else over one on which Samba's registrations
+/// come as registrations, and behind this front.
+fn keep_over<
+    F: Clock + Drop,
+    S: Store + Drop,
+    C: Clock + Drop,
+    D: Clock + Drop,
+    V: Watcher + Drop,
+    M: Net + time::Clock + Files,
+    W: Write,
+    E: Write,
+>(
+    port: UdpPorts<'_, M>,
+    strict: bool,
+    desk: Desk<'_, F>,
+    kept: KeptServer<S, C, D, V>,
+    until: Option<Moment>,
+    alloc: Global,
+    machine: &M,
+    writer: &mut W,
+    errors: &mut E,
+) -> Result<(), Fault>
+    requires failure_count { port.failures ≤ 2 ^ 61 }
+    requires room { length kept.waiting.replies < batch }
+    ensures ok { OnOk result ((last_port : Fronted PortsValue) × (last : Kept S C D V) × StaysUntil (WatchesOn (PortDoes strict) PortFailures S.does C.tells D.tells V.sees until)
+        (BreaksStaying (PortDoes strict) PortFailures S.does C.tells D.tells V.sees fault.Port) (WatchesLast (PortDoes strict) PortFailures S.does C.tells D.tells V.sees until) forever
+        (staying_of (record { port = port.entry; front = desk.entry }) kept (W.contents writer.old)) (staying_of last_port last (W.contents writer.new))) }
+    ensures err { IfErr result (λ why. (last_port : Fronted PortsValue) × (last : Kept S C D V) × EndsEarly (WatchesOn (PortDoes strict) PortFailures S.does C.tells D.tells V.sees until)
+        (BreaksStaying (PortDoes strict) PortFailures S.does C.tells D.tells V.sees fault.Port) (CutsStaying (PortDoes strict) PortFailures S.does C.tells D.tells V.sees) forever why
+        (staying_of (record { port = port.entry; front = desk.entry }) kept (W.contents writer.old)) (staying_of last_port last (W.contents writer.new))) }
+{
+    let mut kept = kept;
+    if strict {
+        let mut port = FrontPort::new(port, desk);
+        keep_to_its_end(&mut port, &mut kept, until, alloc, machine, writer, errors)
+    } else {
+        let mut port = FrontPort::new(SambaPort::new(port), desk);
+        keep_to_its_end(&mut port, &mut kept, until, alloc, machine, writer, errors)
+    }
+}
+
+/// Keeps a server up until it ends, as [`keep_on`] does. Where the port failed for good, a line in `errors` says why.
+fn keep_to_its_end<
+    P: Port,
+    S: Store,
+    C: Clock,
+    D: Clock,
+    V: Watcher,
+    M: time::Clock,
+    W: Write,
+    E: Write,
+>(
+    port: &mut P,
+    kept: &mut KeptServer<S, C, D, V>,
+    until: Option<Moment>,
+    alloc: Global,
+    machine: &M,
+    writer: &mut W,
+    errors: &mut E,
+) -> Result<(), Fault>
+    requires failure_count { P.failures port.old ≤ 2 ^ 61 }
+    requires room { length kept.old.waiting.replies < batch }
+    ensures ok { OnOk result (StaysUntil (WatchesOn P.does P.failures S.does C.tells D.tells V.sees until) (BreaksStaying P.does P.failures S.does C.tells D.tells V.sees fault.Port)
+        (WatchesLast P.does P.failures S.does C.tells D.tells V.sees until) forever (staying_of port.old kept.old (W.contents writer.old)) (staying_of port.new kept.new (W.contents writer.new))) }
+    ensures err { IfErr result (λ why. EndsEarly (WatchesOn P.does P.failures S.does C.tells D.tells V.sees until) (BreaksStaying P.does P.failures S.does C.tells D.tells V.sees fault.Port)
+        (CutsStaying P.does P.failures S.does C.tells D.tells V.sees) forever why (staying_of port.old kept.old (W.contents writer.old)) (staying_of port.new kept.new (W.contents writer.new))) }
+{
+    let ended = keep_on(
+        port,
+        &mut kept.store,
+        &mut kept.clock,
+        &mut kept.day,
+        &mut kept.server,
+        &mut kept.waiting,
+        &mut kept.header,
+        &mut kept.journal,
+        until,
+        alloc,
+        machine,
+        writer,
+        errors,
+    );
+    tell_end_of(ended.err(), port.cause(), errors);
+    ended
+}

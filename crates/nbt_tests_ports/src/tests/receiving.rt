@@ -1,0 +1,99 @@
+//! How long a receive waits, which lost datagram a port tells of, and of which end of a port something is said.
+
+use super::expect::{expect, expect_eq};
+use arrayvec::ArrayVec;
+use nbt_name::Addr;
+use nbt_port::{
+    Bind, Cause, Fault, MachineCall, Port, RECEIVE_WAIT, UdpPort, UdpPorts, tell_end_of,
+};
+use std::io;
+use std::process::Abort;
+use std::test::Fail;
+use std::time::{Clock, Duration};
+
+/// A port that no other test has.
+const HERE: Addr = Addr {
+    ip: 0x7F2A_1708,
+    port: 20_198,
+};
+
+const THERE: Addr = Addr {
+    ip: 0x7F2A_1709,
+    port: 20_198,
+};
+
+/// How long so many receives of nothing take.
+fn waited<R: Abort + Clock, P: Port>(
+    rt: &R,
+    port: &mut P,
+    waits: bool,
+    count: u32,
+) -> Result<Duration, Fail> {
+    let mut octets = ArrayVec::new();
+    let begin = rt.monotonic()?;
+    for _ in 0..count {
+        expect(rt, port.failures() < 1 << 62);
+        let from = if waits {
+            port.receive(&mut octets)?
+        } else {
+            port.receive_now(&mut octets)?
+        };
+        expect_eq(rt, &from, &None);
+    }
+    Ok(rt.monotonic()?.saturating_sub(begin))
+}
+
+/// A receive waits for 100 ms; one that doesn't wait takes much less. Which of them was before doesn't matter.
+fn expect_waits<R: Abort + Clock, P: Port>(rt: &R, port: &mut P) -> Result<(), Fail> {
+    for _ in 0..2 {
+        let one = waited(rt, port, true, 1)?;
+        expect(rt, one >= Duration::from_millis(RECEIVE_WAIT - 10));
+        let many = waited(rt, port, false, 20)?;
+        expect(rt, many < Duration::from_millis(RECEIVE_WAIT * 15));
+    }
+    Ok(())
+}
+
+#[test]
+fn how_long_a_receive_waits(rt: HostRuntime) -> Result<(), Fail> {
+    expect_waits(&rt, &mut UdpPort::bind(&rt, HERE)?)?;
+    let bind = Bind::To(vec![in rt.alloc(); HERE, THERE]?);
+    let mut errors = Vec::new(rt.alloc());
+    expect_waits(
+        &rt,
+        &mut UdpPorts::bind(&rt, rt.alloc(), &bind, &mut errors)?,
+    )
+}
+
+/// There is no way to port 0. What is lost to another host isn't told.
+#[test]
+fn a_port_watches_one_host(rt: HostRuntime) -> Result<(), Fail> {
+    let nowhere = Addr { port: 0, ..THERE };
+    let mut port = UdpPort::bind(&rt, Addr { port: 0, ..HERE })?;
+    port.watch(THERE);
+    port.send(nowhere, b"lost")?;
+    expect(&rt, port.lost().is_none());
+    port.watch(nowhere);
+    expect(&rt, port.failures() < 1 << 62);
+    port.send(nowhere, b"lost")?;
+    expect(&rt, port.lost().is_some());
+    expect(&rt, port.failures() < 1 << 62);
+    port.send(THERE, b"elsewhere")?;
+    expect(&rt, port.lost().is_some());
+    Ok(())
+}
+
+/// Why a port failed is said where that ended all, and at no other end.
+#[test]
+fn the_end_of_a_port(rt: HostRuntime) {
+    let error = io::Error::from(io::ErrorKind::ConnectionRefused);
+    let cause = Cause::new(MachineCall::Receive, HERE, error);
+    let mut errors = Vec::new(rt.alloc());
+    tell_end_of(Some(Fault::Output), Some(cause), &mut errors);
+    tell_end_of(None, Some(cause), &mut errors);
+    tell_end_of(Some(Fault::Device), None, &mut errors);
+    expect(&rt, errors.is_empty());
+    tell_end_of(Some(Fault::Device), Some(cause), &mut errors);
+    let said = b"nbt: 127.42.23.8:20198: receive: connection refused\n";
+    expect_eq(&rt, &errors.as_slice(), &said.as_slice());
+}

@@ -1,0 +1,281 @@
+//! Stores over a disk in memory: what a crash leaves of them, with trouble at each call.
+
+use super::expect::{expect, expect_eq_in, expect_in};
+use super::{fred, team};
+use nbt_lease::{Config, Lease};
+use nbt_name::{Kind, Name};
+use nbt_store::{
+    Boot, Broken, Change, DiskStore, Header, Loaded, MemoryDisk, ReadFault, Store, Trouble, load,
+};
+use nbt_testing::moment;
+use std::alloc::Global;
+use std::io;
+use std::process::Abort;
+use std::test::Fail;
+
+/// From which call on there is which trouble. The calls are 0 to 2 to open the store, 3 a change, 4 a change, 5 a sync, 6 a change,
+/// 7 to 9 to write the file anew, 10 a change, 11 a sync, 12 a change, 13 a change, 14 a sync.
+type Failing = (usize, Trouble);
+
+/// The number of the call at which the changes begin, and how many calls there are.
+const CHANGES: usize = 3;
+
+const CALLS: usize = 15;
+
+/// The calls that write.
+const WRITES: [usize; 7] = [3, 4, 6, 7, 10, 12, 13];
+
+/// How many octets the line of a change here has at most.
+const LINE: usize = 46;
+
+/// More than a crash can leave here in different ways.
+const MANY: usize = 2_000;
+
+/// The time at which the file was first written, and that at which it was written anew.
+const OLD: u64 = 77;
+
+const NEW: u64 = 88;
+
+fn header(last: u64) -> Result<Header, Fail> {
+    let boot = Boot::new(b"boot-1").ok_or("no boot")?;
+    let config = Config::new(1000, 60, 4096)?;
+    Ok(Header::new(config, boot, 7, moment(5)?, moment(last)?, 1_700_000_000_000))
+}
+
+/// The lease of this number: the first one is FRED's, and each other one TEAM's.
+fn row(number: u32) -> Result<(Name, Lease), Fail> {
+    let (name, kind) = match number {
+        0 => (fred(b"")?, Kind::Unique),
+        _ => (team(b"")?, Kind::Group),
+    };
+    let end = 60_077;
+    let addr = number;
+    Ok((name, Lease { addr, kind, end }))
+}
+
+/// The lease of this number begins.
+fn append(store: &mut DiskStore<MemoryDisk>, number: u32) -> Result<Result<(), Broken>, Fail> {
+    let (name, lease) = row(number)?;
+    Ok(store.append(&Change::Began { name, lease }))
+}
+
+/// The second, the fourth and the sixth change are synced, and the third is in a file that is written anew. Returns whether that
+/// is so of the change of this number.
+fn settle(
+    store: &mut DiskStore<MemoryDisk>,
+    header: &Header,
+    rows: &[(Name, Lease)],
+    number: u32,
+) -> Result<bool, Broken> {
+    match number {
+        3 => store.renew(header, rows)?,
+        2 | 4 | 6 => store.sync()?,
+        _ => return Ok(false),
+    }
+    Ok(true)
+}
+
+/// Makes six changes, up to the first call that fails. Returns how many are durable, and how many were tried.
+fn run(
+    store: &mut DiskStore<MemoryDisk>,
+    header: &Header,
+    rows: &[(Name, Lease)],
+) -> Result<(usize, usize), Fail> {
+    let mut durable = 0;
+    for number in 1..7u32 {
+        let tried = number as usize;
+        let Ok(()) = append(store, number)? else {
+            return Ok((durable, tried));
+        };
+        match settle(store, header, rows, number) {
+            Ok(true) => durable = tried,
+            Ok(false) => {}
+            Err(Broken) => return Ok((durable, tried)),
+        }
+    }
+    Ok((durable, 6))
+}
+
+/// The leases are the first ones, in order.
+fn see_rows(rt: &impl Abort, rows: &[(Name, Lease)]) -> Result<(), Fail> {
+    let mut number = 0u32;
+    for (name, lease) in rows {
+        let (wanted, wanted_lease) = row(number)?;
+        expect_in(rt, &number, *name == wanted && *lease == wanted_lease);
+        number = number.saturating_add(1);
+    }
+    Ok(())
+}
+
+/// Loads octets, once more if it was out of memory.
+fn load_again(alloc: Global, octets: &[u8]) -> Result<Loaded, ReadFault> {
+    match load(alloc, octets) {
+        Err(ReadFault::Memory) => load(alloc, octets),
+        loaded => loaded,
+    }
+}
+
+/// How many changes the octets of a file have, and the time at which it was written.
+fn loaded(rt: &(impl Abort + AllocGlobal), octets: &[u8]) -> Result<(usize, u64), Fail> {
+    let loaded = load_again(rt.alloc(), octets)?;
+    see_rows(rt, loaded.rows.as_slice())?;
+    let changes = loaded.rows.len().checked_sub(1).ok_or("no lease")?;
+    Ok((changes, loaded.header.last))
+}
+
+/// Octets that a crash may leave have the changes that are durable, and none that wasn't tried. Returns when they were written.
+fn see_octets(
+    rt: &(impl Abort + AllocGlobal),
+    failing: Failing,
+    octets: &[u8],
+    counts: (usize, usize),
+) -> Result<u64, Fail> {
+    let (durable, tried) = counts;
+    let (changes, last) = loaded(rt, octets)?;
+    let seen = (failing, octets.len(), durable, changes, tried);
+    expect_in(rt, &seen, durable <= changes && changes <= tried);
+    Ok(last)
+}
+
+/// The same of all octets that a crash may leave. Returns whether it may leave the file that was first written, and the one that was
+/// written anew.
+fn see_left(
+    rt: &(impl Abort + AllocGlobal),
+    failing: Failing,
+    disk: &MemoryDisk,
+    counts: (usize, usize),
+) -> Result<(bool, bool), Fail> {
+    let mut found = (false, false);
+    expect(rt, disk.left(MANY).is_none());
+    for number in 0..MANY {
+        let Some(octets) = disk.left(number) else {
+            return Ok(found);
+        };
+        let last = see_octets(rt, failing, octets, counts)?;
+        found = (found.0 || last == OLD, found.1 || last == NEW);
+    }
+    Ok(found)
+}
+
+/// Opens a store with these leases over a disk with this trouble.
+fn open(
+    alloc: Global,
+    failing: Failing,
+    header: &Header,
+    rows: &[(Name, Lease)],
+) -> io::Result<DiskStore<MemoryDisk>> {
+    let disk = MemoryDisk::new(alloc, Some(failing));
+    DiskStore::open(disk, alloc, header, rows)
+}
+
+/// The same, once more if it was refused: it may have been out of memory.
+fn open_again(
+    alloc: Global,
+    failing: Failing,
+    header: &Header,
+    rows: &[(Name, Lease)],
+) -> io::Result<DiskStore<MemoryDisk>> {
+    match open(alloc, failing, header, rows) {
+        Ok(store) => Ok(store),
+        Err(_) => open(alloc, failing, header, rows),
+    }
+}
+
+/// Makes the changes with this trouble. Returns the store, and how many changes are durable and how many were tried.
+fn make(alloc: Global, failing: Failing) -> Result<(DiskStore<MemoryDisk>, (usize, usize)), Fail> {
+    let rows = [row(0)?, row(1)?, row(2)?, row(3)?];
+    let mut store = open_again(alloc, failing, &header(OLD)?, &rows[..1])?;
+    let counts = run(&mut store, &header(NEW)?, &rows)?;
+    Ok((store, counts))
+}
+
+/// The same, and sees what a crash may leave. Returns how many changes are durable, and which files a crash may leave.
+fn crash(rt: &(impl Abort + AllocGlobal), failing: Failing) -> Result<(usize, (bool, bool)), Fail> {
+    let (store, counts) = make(rt.alloc(), failing)?;
+    let found = see_left(rt, failing, store.disk(), counts)?;
+    Ok((counts.0, found))
+}
+
+/// A write is torn behind each octet of its line: what is then there is what a crash may leave.
+fn tear(rt: &(impl Abort + AllocGlobal), call: usize) -> Result<(), Fail> {
+    for most in 0..LINE {
+        let failing = (call, Trouble::Torn(most));
+        let (store, counts) = make(rt.alloc(), failing)?;
+        see_octets(rt, failing, store.disk().octets(), counts)?;
+    }
+    Ok(())
+}
+
+#[test]
+fn crash_of_a_store_at_each_call(rt: HostRuntime) -> Result<(), Fail> {
+    for call in CHANGES..CALLS {
+        crash(&rt, (call, Trouble::Refused))?;
+        crash(&rt, (call, Trouble::Torn(0)))?;
+        crash(&rt, (call, Trouble::Full(20)))?;
+    }
+    Ok(())
+}
+
+#[test]
+fn crash_of_a_store_within_each_write(rt: HostRuntime) -> Result<(), Fail> {
+    for call in WRITES {
+        tear(&rt, call)?;
+    }
+    Ok(())
+}
+
+/// A trouble, how many changes are durable, and whether a crash may leave the old file and the new one.
+type Left = (Failing, usize, (bool, bool));
+
+const LEFT: &[Left] = &[
+    ((3, Trouble::Refused), 0, (true, false)),
+    ((5, Trouble::Refused), 0, (true, false)),
+    ((6, Trouble::Refused), 2, (true, false)),
+    // What is written anew is durable once it has taken its place: until then a crash leaves the old file.
+    ((7, Trouble::Full(20)), 2, (true, false)),
+    ((8, Trouble::Torn(0)), 2, (true, false)),
+    ((9, Trouble::Refused), 2, (true, false)),
+    ((9, Trouble::Torn(0)), 2, (true, true)),
+    ((10, Trouble::Refused), 3, (false, true)),
+    ((14, Trouble::Refused), 4, (false, true)),
+    ((15, Trouble::Refused), 6, (false, true)),
+    // A full disk has no trouble with a sync.
+    ((14, Trouble::Full(0)), 6, (false, true)),
+];
+
+/// Plays each row.
+fn see_each(rt: &(impl Abort + AllocGlobal), rows: &[Left]) -> Result<(), Fail> {
+    for row in rows {
+        let (failing, durable, files) = *row;
+        expect_eq_in(rt, row, &crash(rt, failing)?, &(durable, files));
+    }
+    Ok(())
+}
+
+#[test]
+fn crash_of_a_store_leaves_the_old_file_or_the_new_one(rt: HostRuntime) -> Result<(), Fail> {
+    see_each(&rt, LEFT)
+}
+
+/// A store isn't opened where its file can't be written, synced or put in its place.
+#[test]
+fn store_that_can_not_be_opened(rt: HostRuntime) -> Result<(), Fail> {
+    let rows = [row(0)?];
+    for call in 0..CHANGES {
+        let opened = open(rt.alloc(), (call, Trouble::Torn(20)), &header(OLD)?, &rows);
+        expect_in(&rt, &call, opened.is_err());
+    }
+    Ok(())
+}
+
+/// With `rt try --test --fail-alloc N` the Nth allocation is refused. A store that was refused memory loses no change that is
+/// durable, and one more has all changes.
+#[test]
+fn refused_memory_of_a_store(rt: HostRuntime) -> Result<(), Fail> {
+    let failing = (CALLS, Trouble::Refused);
+    let (durable, _) = crash(&rt, failing)?;
+    if durable < 6 {
+        expect_eq_in(&rt, &failing, &crash(&rt, failing)?, &(6, (false, true)));
+    }
+    Ok(())
+}

@@ -1,0 +1,426 @@
+//! Folders of this system that keep a server's leases: which file has them, who may use one, and what is said of one that can't be used.
+
+use super::expect::{expect, expect_eq, expect_eq_in};
+use nbt_front::{FixedNames, Front};
+use nbt_lease::{Config, Lease};
+use nbt_name::{Addr, Kind, Name};
+use nbt_nbns::NbnsArguments;
+use nbt_port::{Bind, Fault};
+use nbt_state::{FolderStore, ServerArguments, StateFolder, run_server};
+use nbt_store::{Boot, Broken, Change, DiskStore, Header, Store, SystemDisk, load, this_boot};
+use nbt_testing::{config, moment};
+use std::fs::File;
+use std::net::Net;
+use std::os::unix::fs::symlink;
+use std::process::Abort;
+use std::rt::Files;
+use std::test::Fail;
+use std::{env, fs, io, process, time};
+
+/// A path in the folder for temporary files that no other test has.
+fn path_for(rt: &HostRuntime, name: &str) -> Result<String, Fail> {
+    let folder = env::temp_dir(rt)?;
+    let folder = folder.as_path().to_str().ok_or("no text")?;
+    let id = process::id(rt.process());
+    Ok(format!(in rt.alloc(); "{folder}/nbt-{id}-{name}")?)
+}
+
+/// The path of a file of a folder.
+fn path_in<R: AllocGlobal + Files>(rt: &R, folder: &str, name: &str) -> Result<String, Fail> {
+    Ok(format!(in rt.alloc(); "{folder}/{name}")?)
+}
+
+/// The text of a file of a folder; none where there is no such file.
+fn text_in<R: AllocGlobal + Files>(
+    rt: &R,
+    folder: &str,
+    name: &str,
+) -> Result<Option<String>, Fail> {
+    let path = path_in(rt, folder, name)?;
+    Ok(fs::read_to_string(rt, path.as_str()).ok())
+}
+
+fn row() -> Result<(Name, Lease), Fail> {
+    let lease = Lease {
+        addr: 0x7F00_0002,
+        kind: Kind::Unique,
+        end: 60_000,
+    };
+    Ok((Name::new(b"FRED            ", b"")?, lease))
+}
+
+fn header() -> Result<Header, Fail> {
+    let boot = Boot::new(b"boot-1").ok_or("no boot")?;
+    let now = moment(5)?;
+    Ok(Header::new(Config::new(1_000, 60, 16)?, boot, 0, now, now, 1))
+}
+
+/// How many leases the file of a folder has.
+fn kept<R: AllocGlobal + Files>(rt: &R, folder: &str) -> Result<usize, Fail> {
+    let text = text_in(rt, folder, "leases")?.ok_or("no file")?;
+    Ok(load(rt.alloc(), text.as_bytes())?.rows.len())
+}
+
+/// More changes of a lease than a short file has.
+const MANY: usize = 1_100;
+
+/// The lease moves so often that the file is long. Where there is no room for a new file, the store says why it failed.
+fn expect_long<R: Abort + AllocGlobal + Files + time::Clock>(
+    rt: &R,
+    folder: &str,
+    store: &mut FolderStore<'_, R>,
+) -> Result<(), Fail> {
+    let rows = [row()?];
+    expect(rt, !store.is_long());
+    for _ in 0..MANY {
+        let (name, lease) = row()?;
+        let (addr, end) = (lease.addr, lease.end);
+        store.append(&Change::Moved { name, addr, end })?;
+    }
+    expect(rt, store.is_long());
+    expect(rt, store.error().is_none());
+    symlink(rt, "/dev/full", path_in(rt, folder, "leases.new")?.as_str())?;
+    expect_eq(rt, &store.renew(&header()?, &rows), &Err(Broken));
+    match store.error() {
+        Some(error) => expect(rt, error.kind() == io::ErrorKind::StorageFull),
+        None => expect(rt, false),
+    }
+    Ok(())
+}
+
+/// A store of a folder that has no file yet: a lease at first, which then goes, and begins again in a file that is written anew.
+fn expect_kept<R: Abort + AllocGlobal + Files<File = File> + time::Clock>(
+    rt: &R,
+    folder: &str,
+) -> Result<(), Fail> {
+    let disk = SystemDisk::open_folder(rt, rt.alloc(), folder)?;
+    expect(rt, disk.read(rt.alloc())?.is_none());
+    let (name, lease) = row()?;
+    let rows = [row()?];
+    let mut store = FolderStore::open(disk, rt.alloc(), &header()?, &rows)?;
+    expect_eq(rt, &kept(rt, folder)?, &1);
+    let addr = lease.addr;
+    store.append(&Change::Released { name, addr })?;
+    store.sync()?;
+    expect_eq(rt, &kept(rt, folder)?, &0);
+    store.renew(&header()?, &rows)?;
+    expect_eq(rt, &kept(rt, folder)?, &1);
+    expect(rt, text_in(rt, folder, "leases.new")?.is_none());
+    // Nobody else may use the folder meanwhile.
+    match SystemDisk::open_folder(rt, rt.alloc(), folder).err() {
+        Some(error) => expect(rt, error.kind() == io::ErrorKind::WouldBlock),
+        None => expect(rt, false),
+    }
+    expect_long(rt, folder, &mut store)
+}
+
+/// What can't be loaded is set aside, in place of what was set aside before.
+fn expect_aside<R: Abort + AllocGlobal + Files<File = File>>(
+    rt: &R,
+    folder: &str,
+) -> Result<(), Fail> {
+    let mut disk = SystemDisk::open_folder(rt, rt.alloc(), folder)?;
+    let path = path_in(rt, folder, "leases")?;
+    for text in ["one", "two"] {
+        fs::write(rt, path.as_str(), text)?;
+        disk.set_aside()?;
+        expect(rt, disk.read(rt.alloc())?.is_none());
+        let aside = text_in(rt, folder, "leases.bad")?.ok_or("nothing aside")?;
+        expect_eq(rt, &aside.as_str(), &text);
+    }
+    Ok(())
+}
+
+#[test]
+fn a_folder_keeps_leases(rt: HostRuntime) -> Result<(), Fail> {
+    let folder = path_for(&rt, "folder")?;
+    fs::create_dir(&rt, folder.as_str())?;
+    expect_kept(&rt, folder.as_str())?;
+    expect_aside(&rt, folder.as_str())?;
+    fs::remove_dir_all(&rt, folder.as_str())?;
+    Ok(())
+}
+
+/// The id is that of this boot, as long as it lasts.
+#[test]
+fn the_boot_of_this_machine(rt: HostRuntime) -> Result<(), Fail> {
+    let text = fs::read_to_string(&rt, "/proc/sys/kernel/random/boot_id")?;
+    for _ in 0..2 {
+        let boot = this_boot(&rt, rt.alloc())?.ok_or("no boot")?;
+        expect_eq(&rt, &boot.octets(), &text.as_str().trim_end().as_bytes());
+    }
+    Ok(())
+}
+
+/// What stands in a folder before a server starts over it.
+#[derive(Clone, Copy, Debug)]
+enum There {
+    /// There is no folder.
+    NoFolder,
+    /// Nothing does.
+    Nothing,
+    /// Another has it.
+    Used,
+    /// A folder of this name.
+    Folder(&'static str),
+    /// This is the text of its file of leases.
+    Leases(&'static str),
+    /// The same, and a folder is where it is to be set aside.
+    LeasesAndFolder(&'static str),
+}
+
+/// What comes of a server that starts over a folder.
+#[derive(Clone, Copy, Debug)]
+enum Comes {
+    /// It ends, and this is said, the path of the folder being between the two.
+    Ends(&'static str, &'static str),
+    /// It begins anew. Its first line ends so, and this text is set aside.
+    Begins(&'static str, Option<&'static str>),
+}
+
+const OTHER_VERSION: &str = "nbt leases, version 2\n1000 60\n";
+
+const NO_HEADER: &str = "nbt leases, version 1\n1000 60\n";
+
+const CUT: &str = "nbt leases, versi";
+
+static BEGINS: [(There, Comes); 10] = [
+    (
+        There::NoFolder,
+        Comes::Ends(
+            "nbt: ",
+            ": the folder can't be used: No such file or directory (os error 2)\n",
+        ),
+    ),
+    (
+        There::Folder("lock"),
+        Comes::Ends(
+            "nbt: ",
+            ": the folder can't be used: Is a directory (os error 21)\n",
+        ),
+    ),
+    (
+        There::Folder("leases"),
+        Comes::Ends(
+            "nbt: ",
+            ": the leases can't be read: Is a directory (os error 21)\n",
+        ),
+    ),
+    (
+        There::Folder("leases.new"),
+        Comes::Ends(
+            "nbt: ",
+            ": the leases can't be kept: Is a directory (os error 21)\n",
+        ),
+    ),
+    (
+        There::LeasesAndFolder(NO_HEADER),
+        Comes::Ends(
+            "nbt: ",
+            ": the old leases can't be set aside: Is a directory (os error 21)\n",
+        ),
+    ),
+    (There::Used, Comes::Ends("nbt: another server uses ", "\n")),
+    (
+        There::Nothing,
+        Comes::Begins("Z, since nothing was kept\n", None),
+    ),
+    (
+        There::Leases(CUT),
+        Comes::Begins("Z, since nothing was kept\n", None),
+    ),
+    (
+        There::Leases(OTHER_VERSION),
+        Comes::Begins("Z, since another version\n", Some(OTHER_VERSION)),
+    ),
+    (
+        There::Leases(NO_HEADER),
+        Comes::Begins("Z, since damaged at line 2\n", Some(NO_HEADER)),
+    ),
+];
+
+/// Puts what is to stand in a folder.
+fn put<R: AllocGlobal + Files>(rt: &R, folder: &str, there: There) -> Result<(), Fail> {
+    match there {
+        There::NoFolder => return Ok(()),
+        _ => fs::create_dir(rt, folder)?,
+    }
+    match there {
+        There::Folder(name) => fs::create_dir(rt, path_in(rt, folder, name)?.as_str())?,
+        There::Leases(text) => fs::write(rt, path_in(rt, folder, "leases")?.as_str(), text)?,
+        There::LeasesAndFolder(text) => {
+            fs::write(rt, path_in(rt, folder, "leases")?.as_str(), text)?;
+            fs::create_dir(rt, path_in(rt, folder, "leases.bad")?.as_str())?;
+        }
+        _ => {}
+    }
+    Ok(())
+}
+
+/// A server over a folder of this machine, at a port that no other test has, which ends after its first turn.
+fn arguments<R: AllocGlobal>(rt: &R, folder: &str) -> Result<ServerArguments, Fail> {
+    let here = Addr {
+        ip: 0x7F2A_1707,
+        port: 20_197,
+    };
+    let none = FixedNames::none(rt.alloc());
+    Ok(ServerArguments {
+        nbns: NbnsArguments {
+            bind: Bind::To(vec![in rt.alloc(); here]?),
+            config: config(16)?,
+            time: Some(0),
+            log: false,
+            broadcasts: false,
+            leases: None,
+            hosts: None,
+            stats: None,
+            strict: false,
+            rows_per_client: 64,
+            front: Front::new(Vec::new(rt.alloc()), none, config(16)?),
+        },
+        state: Some(StateFolder {
+            path: String::from_str(rt.alloc(), folder)?,
+            silent_after_boot: false,
+        }),
+    })
+}
+
+/// Runs it. Returns how it ended, what it printed, and what it said.
+fn run<R: AllocGlobal + Net + time::Clock + Files<File = File>>(
+    rt: &R,
+    folder: &str,
+) -> Result<(Result<(), Fault>, Vec<u8>, Vec<u8>), Fail> {
+    let mut printed = Vec::new(rt.alloc());
+    let mut errors = Vec::new(rt.alloc());
+    let arguments = arguments(rt, folder)?;
+    let ended = run_server(rt, rt.alloc(), &arguments, &mut printed, &mut errors);
+    Ok((ended, printed, errors))
+}
+
+/// The same, while another has the folder or not.
+fn run_at<R: AllocGlobal + Net + time::Clock + Files<File = File>>(
+    rt: &R,
+    folder: &str,
+    there: There,
+) -> Result<(Result<(), Fault>, Vec<u8>, Vec<u8>), Fail> {
+    match there {
+        There::Used => {
+            let _other = SystemDisk::open_folder(rt, rt.alloc(), folder)?;
+            run(rt, folder)
+        }
+        _ => run(rt, folder),
+    }
+}
+
+/// What was said has the path of the folder between these two, and nothing was printed.
+fn expect_end<R: Abort + AllocGlobal>(
+    rt: &R,
+    row: &(There, Comes),
+    folder: &str,
+    before: &str,
+    after: &str,
+    came: &(Result<(), Fault>, Vec<u8>, Vec<u8>),
+) -> Result<(), Fail> {
+    let said = format!(in rt.alloc(); "{before}{folder}{after}")?;
+    expect_eq_in(rt, row, &came.0, &Err(Fault::Store));
+    expect_eq_in(rt, row, &came.1.len(), &0);
+    expect_eq_in(rt, row, &came.2.as_slice(), &said.as_bytes());
+    Ok(())
+}
+
+fn expect_row<R: Abort + AllocGlobal + Net + time::Clock + Files<File = File>>(
+    rt: &R,
+    row: &(There, Comes),
+    folder: &str,
+) -> Result<(), Fail> {
+    put(rt, folder, row.0)?;
+    let came = run_at(rt, folder, row.0)?;
+    match row.1 {
+        Comes::Ends(before, after) => expect_end(rt, row, folder, before, after, &came),
+        Comes::Begins(since, aside) => {
+            expect_eq_in(rt, row, &came.0, &Ok(()));
+            expect(rt, came.1.as_slice().ends_with(since.as_bytes()));
+            expect_eq_in(rt, row, &came.2.len(), &0);
+            let text = text_in(rt, folder, "leases.bad")?;
+            expect_eq_in(rt, row, &text.as_ref().map(|text| text.as_str()), &aside);
+            Ok(())
+        }
+    }
+}
+
+#[test]
+fn what_a_server_finds_in_a_folder(rt: HostRuntime) -> Result<(), Fail> {
+    let folder = path_for(&rt, "found")?;
+    for row in &BEGINS {
+        expect_row(&rt, row, folder.as_str())?;
+        // (a row may have no folder)
+        let _ = fs::remove_dir_all(&rt, folder.as_str());
+    }
+    Ok(())
+}
+
+#[test]
+fn a_first_line_of_a_kept_server_that_can_not_be_written(rt: HostRuntime) -> Result<(), Fail> {
+    let folder = path_for(&rt, "unwritten")?;
+    fs::create_dir(&rt, folder.as_str())?;
+    let arguments = arguments(&rt, folder.as_str())?;
+    let mut room = [0; 8];
+    let mut errors = Vec::new(rt.alloc());
+    let ended = run_server(&rt, rt.alloc(), &arguments, &mut &mut room[..], &mut errors);
+    expect_eq(&rt, &ended, &Err(Fault::Output));
+    let said = b"nbt: the first line can't be written: failed to write whole buffer\n";
+    expect_eq(&rt, &errors.as_slice(), &said.as_slice());
+    fs::remove_dir_all(&rt, folder.as_str())?;
+    Ok(())
+}
+
+/// Runs a server whose statistics go to the file `lock` of its folder. Returns how it ended, and what it said.
+fn run_over_lock<R: AllocGlobal + Net + time::Clock + Files<File = File>>(
+    rt: &R,
+    folder: &str,
+) -> Result<(Result<(), Fault>, Vec<u8>), Fail> {
+    let mut arguments = arguments(rt, folder)?;
+    arguments.nbns.stats = Some(path_in(rt, folder, "lock")?);
+    let mut printed = Vec::new(rt.alloc());
+    let mut errors = Vec::new(rt.alloc());
+    let ended = run_server(rt, rt.alloc(), &arguments, &mut printed, &mut errors);
+    Ok((ended, errors))
+}
+
+/// A lock that something else replaced would let a second server in.
+#[test]
+fn nothing_is_put_in_place_of_a_lock(rt: HostRuntime) -> Result<(), Fail> {
+    let folder = path_for(&rt, "locked")?;
+    let folder = folder.as_str();
+    fs::create_dir(&rt, folder)?;
+    let (ended, errors) = run_over_lock(&rt, folder)?;
+    expect_eq(&rt, &ended, &Err(Fault::Output));
+    let why = b"its first line isn't '# statistics of nbt nbns': remove that file first\n";
+    expect(&rt, errors.as_slice().ends_with(why));
+    let text = text_in(&rt, folder, "lock")?;
+    let text = text.as_ref().map(|text| text.as_str());
+    expect_eq(&rt, &text, &Some("# lock of nbt nbns\n"));
+    fs::remove_dir_all(&rt, folder)?;
+    Ok(())
+}
+
+/// Whether a store in this folder, which is opened and then synced once more, counts two syncs, and the time that each took.
+fn counts_syncs(rt: &HostRuntime, folder: &str) -> Result<bool, Fail> {
+    let disk = SystemDisk::open_folder(rt, rt.alloc(), folder)?;
+    let mut store = DiskStore::open(disk, rt.alloc(), &header()?, &[])?;
+    let first = store.syncs();
+    store.sync()?;
+    let second = store.syncs();
+    let counts = first.count == 1 && second.count == 2;
+    let lasts = 0 < first.nanoseconds && first.nanoseconds < second.nanoseconds;
+    Ok(counts && lasts && second.milliseconds() == second.nanoseconds / 1_000_000)
+}
+
+#[test]
+fn a_folder_counts_its_syncs(rt: HostRuntime) -> Result<(), Fail> {
+    let folder = path_for(&rt, "syncs")?;
+    fs::create_dir(&rt, folder.as_str())?;
+    expect(&rt, counts_syncs(&rt, folder.as_str())?);
+    fs::remove_dir_all(&rt, folder.as_str())?;
+    Ok(())
+}

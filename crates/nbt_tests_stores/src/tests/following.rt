@@ -1,0 +1,523 @@
+//! A port that follows the addresses of its machine: those in a list that a test writes, by a clock that it sets.
+
+use super::expect::{expect, expect_eq, expect_eq_in};
+use arrayvec::ArrayVec;
+use nbt_front::{FixedNames, Front};
+use nbt_name::Addr;
+use nbt_nbns::{NbnsArguments, SambaPort};
+use nbt_port::{Bind, Device, Fault, Port, UdpPort, UdpPorts};
+use nbt_state::{ServerArguments, StateFolder, run_server};
+use nbt_testing::config;
+use std::alloc::Allocator;
+use std::cell::Cell;
+use std::fs::{File, Metadata, OpenOptions};
+use std::net::{Net, SocketAddr, UdpSocket};
+use std::process::Abort;
+use std::rt::Files;
+use std::test::Fail;
+use std::time::Duration;
+use std::{env, fs, io, process, time};
+
+/// Where Linux lists the addresses of a machine.
+const LIST: &str = "/proc/net/fib_trie";
+
+/// The time of day at which its monotonic clock shows 0, in milliseconds since 1970.
+const DAY: u64 = 1_795_511_463_000;
+
+/// This machine with other lists of its addresses: one when it is read first, and another one from then on. Its monotonic clock shows so
+/// many milliseconds, and at each reading so many more. It has memory for sockets or not.
+#[derive(Drop)]
+struct Machine<'a, N> {
+    host: &'a N,
+    first: &'a str,
+    list: &'a str,
+    is_read: Cell<bool>,
+    since_boot: Cell<u64>,
+    step: u64,
+    has_memory: Cell<bool>,
+}
+
+/// A machine whose list is in one file, and whose clock a test sets.
+fn machine_of<'a, N>(host: &'a N, list: &'a str, since_boot: u64) -> Machine<'a, N> {
+    Machine {
+        host,
+        first: list,
+        list,
+        is_read: Cell::new(false),
+        since_boot: Cell::new(since_boot),
+        step: 0,
+        has_memory: Cell::new(true),
+    }
+}
+
+impl<'a, N> time::Clock for Machine<'a, N> {
+    fn monotonic(&self) -> io::Result<Duration> {
+        let now = self.since_boot.get();
+        self.since_boot.set(now.saturating_add(self.step));
+        Ok(Duration::from_millis(now))
+    }
+
+    fn since_1970(&self) -> io::Result<Duration> {
+        Ok(Duration::from_millis(DAY.saturating_add(self.since_boot.get())))
+    }
+}
+
+impl<'a, N: Net> Net for Machine<'a, N> {
+    type Stream = N::Stream;
+
+    type Listener = N::Listener;
+
+    fn bind(&self, addr: SocketAddr) -> io::Result<N::Listener> {
+        self.host.bind(addr)
+    }
+
+    fn connect(&self, addr: SocketAddr) -> io::Result<N::Stream> {
+        self.host.connect(addr)
+    }
+
+    fn bind_udp(&self, addr: SocketAddr) -> io::Result<UdpSocket> {
+        if !self.has_memory.get() {
+            return Err(io::Error::from(io::ErrorKind::OutOfMemory));
+        }
+        self.host.bind_udp(addr)
+    }
+}
+
+impl<'a, N: Files> Files for Machine<'a, N> {
+    type File = N::File;
+
+    type Dir = N::Dir;
+
+    fn open_file(&self, how: &OpenOptions, path: &str) -> io::Result<N::File> {
+        if path != LIST {
+            return self.host.open_file(how, path);
+        }
+        let path = if self.is_read.get() {
+            self.list
+        } else {
+            self.first
+        };
+        self.is_read.set(true);
+        self.host.open_file(how, path)
+    }
+
+    fn open_dir(&self, path: &str) -> io::Result<N::Dir> {
+        self.host.open_dir(path)
+    }
+
+    fn metadata(&self, path: &str) -> io::Result<Metadata> {
+        self.host.metadata(path)
+    }
+
+    fn symlink_metadata(&self, path: &str) -> io::Result<Metadata> {
+        self.host.symlink_metadata(path)
+    }
+
+    fn copy(&self, from: &str, to: &str) -> io::Result<u64> {
+        self.host.copy(from, to)
+    }
+
+    fn rename(&self, from: &str, to: &str) -> io::Result<()> {
+        self.host.rename(from, to)
+    }
+
+    fn remove_file(&self, path: &str) -> io::Result<()> {
+        self.host.remove_file(path)
+    }
+
+    fn create_dir(&self, path: &str) -> io::Result<()> {
+        self.host.create_dir(path)
+    }
+
+    fn remove_dir(&self, path: &str) -> io::Result<()> {
+        self.host.remove_dir(path)
+    }
+
+    fn remove_dir_all<B: Allocator>(&self, alloc: B, path: &str) -> io::Result<()> {
+        self.host.remove_dir_all(alloc, path)
+    }
+}
+
+/// A path in the folder for temporary files that no other test has.
+fn path_for(rt: &HostRuntime, name: &str) -> Result<String, Fail> {
+    let folder = env::temp_dir(rt)?;
+    let folder = folder.as_path().to_str().ok_or("no text")?;
+    let id = process::id(rt.process());
+    Ok(format!(in rt.alloc(); "{folder}/nbt-{id}-{name}")?)
+}
+
+/// The port of the first test, and that of the second one.
+const PORT: u16 = 20_195;
+
+const BEGUN: u16 = 20_196;
+
+/// An address of the port.
+const fn at(last: u32) -> Addr {
+    Addr {
+        ip: 0x7F2A_2000 | last,
+        port: PORT,
+    }
+}
+
+const ONE: &str = "|-- 127.42.32.1\n/32 host LOCAL\n";
+
+const ONE_AND_TWO: &str = "|-- 127.42.32.1\n/32 host LOCAL\n|-- 127.42.32.2\n/32 host LOCAL\n";
+
+const TWO_AND_THREE: &str = "|-- 127.42.32.2\n/32 host LOCAL\n|-- 127.42.32.3\n/32 host LOCAL\n";
+
+/// 192.0.2.1 is for documents alone (RFC 5737), so no machine can serve it.
+const WITH_ANOTHERS: &str =
+    "|-- 127.42.32.2\n/32 host LOCAL\n|-- 192.0.2.1\n/32 host LOCAL\n|-- 127.42.32.3\n/32 host LOCAL\n";
+
+const THREE_TWICE: &str =
+    "|-- 127.42.32.3\n/32 host LOCAL\nLocal:\n|-- 127.42.32.3\n/32 host LOCAL\n";
+
+const ONE_FOR_THREE: &str =
+    "nbt: 127.42.32.3:20195 is gone, not served any more\nnbt: serving 127.42.32.1:20195 too\n";
+
+const REFUSED: &str = "nbt: 192.0.2.1:20195: Cannot assign requested address (os error 99)\n";
+
+/// What the clock shows at a receive, which addresses the machine has then, which are served afterwards, by their last parts, and what
+/// is said of it.
+type Look = (u64, &'static str, &'static [u32], &'static str);
+
+/// The first look was at 1,000 ms.
+const LOOKS: [Look; 12] = [
+    (1_999, TWO_AND_THREE, &[1, 2], ""),
+    (
+        2_000,
+        TWO_AND_THREE,
+        &[2, 3],
+        "nbt: 127.42.32.1:20195 is gone, not served any more\nnbt: serving 127.42.32.3:20195 too\n",
+    ),
+    // What was said isn't said again.
+    (2_000, TWO_AND_THREE, &[2, 3], ""),
+    (2_999, ONE, &[2, 3], ""),
+    (3_000, TWO_AND_THREE, &[2, 3], ""),
+    // One that can't be served is told once, as long as the machine has it.
+    (4_000, WITH_ANOTHERS, &[2, 3], REFUSED),
+    (5_000, WITH_ANOTHERS, &[2, 3], ""),
+    (6_000, TWO_AND_THREE, &[2, 3], ""),
+    (7_000, WITH_ANOTHERS, &[2, 3], REFUSED),
+    // A list without an address is none.
+    (8_000, "Main:\n", &[2, 3], ""),
+    (
+        9_000,
+        THREE_TWICE,
+        &[3],
+        "nbt: 127.42.32.2:20195 is gone, not served any more\n",
+    ),
+    (10_000, THREE_TWICE, &[3], ""),
+];
+
+/// These addresses are served, by their last parts.
+fn expect_served<R: Abort + AllocGlobal, M: Net + Files + time::Clock>(
+    rt: &R,
+    about: &Look,
+    port: &UdpPorts<'_, M>,
+    served: &[u32],
+) -> Result<(), Fail> {
+    let mut wanted = Vec::new(rt.alloc());
+    for last in served {
+        wanted.push(at(*last))?;
+    }
+    expect_eq_in(rt, about, &port.addresses()?.as_slice(), &wanted.as_slice());
+    Ok(())
+}
+
+/// Receives without waiting.
+fn receive<R: Abort, P: Port>(
+    rt: &R,
+    port: &mut P,
+    octets: &mut ArrayVec<u8, 2048>,
+) -> Result<Option<Addr>, Device> {
+    expect(rt, port.failures() < 1 << 62);
+    port.receive_now(octets)
+}
+
+fn expect_looks<R: Abort + AllocGlobal, N: Net + Files>(
+    rt: &R,
+    machine: &Machine<'_, N>,
+    port: &mut UdpPorts<'_, Machine<'_, N>>,
+    looks: &[Look],
+) -> Result<(), Fail> {
+    let mut octets = ArrayVec::new();
+    for look in looks {
+        let (now, list, served, said) = *look;
+        machine.since_boot.set(now);
+        fs::write(machine.host, machine.list, list)?;
+        expect_eq_in(rt, look, &receive(rt, port, &mut octets)?, &None);
+        let mut errors = Vec::new(rt.alloc());
+        port.tell_changes(&mut errors);
+        expect_eq_in(rt, look, &errors.as_slice(), &said.as_bytes());
+        expect_served(rt, look, port, served)?;
+    }
+    Ok(())
+}
+
+/// A host.
+const HOST: Addr = Addr {
+    ip: 0x7F2A_2009,
+    port: PORT,
+};
+
+/// What a host sends to an address that came comes, and the reply leaves from there.
+fn expect_reply<R: Abort, P: Port>(
+    rt: &R,
+    port: &mut P,
+    host: &mut UdpPort,
+    to: Addr,
+) -> Result<(), Fail> {
+    let mut octets = ArrayVec::new();
+    expect(rt, host.failures() < 1 << 62);
+    host.send(to, b"hello")?;
+    expect_eq(rt, &receive(rt, port, &mut octets)?, &Some(HOST));
+    expect(rt, port.failures() < 1 << 62);
+    port.send(HOST, b"reply")?;
+    expect_eq(rt, &receive(rt, host, &mut octets)?, &Some(to));
+    expect_eq(rt, &octets.as_slice(), &b"reply".as_slice());
+    Ok(())
+}
+
+#[test]
+fn addresses_that_come_and_go(rt: HostRuntime) -> Result<(), Fail> {
+    let list = path_for(&rt, "come-and-go")?;
+    let machine = machine_of(&rt, list.as_str(), 1_000);
+    let bind = Bind::Every(PORT);
+    let mut errors = Vec::new(rt.alloc());
+    let mut host = UdpPort::bind(&rt, HOST)?;
+    fs::write(&rt, list.as_str(), ONE_AND_TWO)?;
+    let mut port = UdpPorts::bind(&machine, rt.alloc(), &bind, &mut errors)?;
+    expect(&rt, errors.is_empty());
+    expect_looks(&rt, &machine, &mut port, &LOOKS)?;
+    expect_reply(&rt, &mut port, &mut host, at(3))?;
+    // Without the list it keeps what it has.
+    fs::remove_file(&rt, list.as_str())?;
+    machine.since_boot.set(20_000);
+    expect_reply(&rt, &mut port, &mut host, at(3))?;
+    // A port over it says what changed, too.
+    fs::write(&rt, list.as_str(), ONE)?;
+    machine.since_boot.set(30_000);
+    let mut port = SambaPort::new(port);
+    expect_eq(&rt, &receive(&rt, &mut port, &mut ArrayVec::new())?, &None);
+    port.tell_changes(&mut errors);
+    expect_eq(&rt, &errors.as_slice(), &ONE_FOR_THREE.as_bytes());
+    fs::remove_file(&rt, list.as_str())?;
+    Ok(())
+}
+
+/// Which addresses a machine has, behind so many empty lines; what comes of a port that is to have them all, as the number of those that
+/// it has, or why it is refused; and what is said. `None` in place of a list: there is none.
+type Begin = (
+    Option<&'static str>,
+    usize,
+    Result<&'static [u32], Fault>,
+    &'static str,
+);
+
+const NOBODYS: &str = "|-- 192.0.2.1\n/32 host LOCAL\n";
+
+const NOT_BOUND: &str = "nbt: 192.0.2.1:20196: Cannot assign requested address (os error 99)\n";
+
+const BEGINS: [Begin; 6] = [
+    (Some(ONE_AND_TWO), 0, Ok(&[0x7F2A_2001, 0x7F2A_2002]), ""),
+    // A machine with many routes has a long list.
+    (
+        Some(ONE_AND_TWO),
+        200_000,
+        Ok(&[0x7F2A_2001, 0x7F2A_2002]),
+        "",
+    ),
+    (
+        Some("|-- 192.0.2.1\n/32 host LOCAL\n|-- 127.42.32.1\n/32 host LOCAL\n"),
+        0,
+        Ok(&[0x7F2A_2001]),
+        NOT_BOUND,
+    ),
+    (Some(NOBODYS), 0, Err(Fault::NoPort), NOT_BOUND),
+    (
+        Some("Main:\n"),
+        0,
+        Ok(&[0]),
+        "nbt: /proc/net/fib_trie: it has no address; one socket serves all addresses\n",
+    ),
+    (
+        None,
+        0,
+        Ok(&[0]),
+        "nbt: /proc/net/fib_trie: No such file or directory (os error 2); one socket serves all addresses\n",
+    ),
+];
+
+/// Writes a list behind empty lines, or removes it.
+fn put_list<R: AllocGlobal + Files>(
+    rt: &R,
+    path: &str,
+    list: Option<&str>,
+    lines: usize,
+) -> Result<(), Fail> {
+    let Some(list) = list else {
+        fs::remove_file(rt, path)?;
+        return Ok(());
+    };
+    let mut octets = Vec::from_elem(rt.alloc(), b'\n', lines)?;
+    octets.extend_from_slice(list.as_bytes())?;
+    fs::write(rt, path, octets.as_slice())?;
+    Ok(())
+}
+
+/// The 32-bit addresses that a port has at first.
+fn begun<R: AllocGlobal, M: Net + Files + time::Clock>(
+    rt: &R,
+    machine: &M,
+    bind: &Bind,
+    errors: &mut Vec<u8>,
+) -> Result<Result<Vec<u32>, Fault>, Fail> {
+    let port = match UdpPorts::bind(machine, rt.alloc(), bind, errors) {
+        Ok(port) => port,
+        Err(fault) => return Ok(Err(fault)),
+    };
+    // It said what there was to say.
+    port.tell_changes(errors);
+    let mut found = Vec::new(rt.alloc());
+    for addr in port.addresses()?.iter() {
+        found.push(addr.ip)?;
+    }
+    Ok(Ok(found))
+}
+
+fn expect_begun<R: Abort>(
+    rt: &R,
+    row: &Begin,
+    found: &Result<Vec<u32>, Fault>,
+    wanted: &Result<&'static [u32], Fault>,
+) {
+    match (found, wanted) {
+        (Ok(found), Ok(wanted)) => expect_eq_in(rt, row, &found.as_slice(), wanted),
+        (Err(found), Err(wanted)) => expect_eq_in(rt, row, found, wanted),
+        _ => expect(rt, false),
+    }
+}
+
+#[test]
+fn every_address_that_a_machine_lists(rt: HostRuntime) -> Result<(), Fail> {
+    let path = path_for(&rt, "every-address")?;
+    let machine = machine_of(&rt, path.as_str(), 0);
+    let bind = Bind::Every(BEGUN);
+    for row in &BEGINS {
+        let (list, lines, wanted, said) = row;
+        put_list(&rt, path.as_str(), *list, *lines)?;
+        let mut errors = Vec::new(rt.alloc());
+        let found = begun(&rt, &machine, &bind, &mut errors)?;
+        expect_begun(&rt, row, &found, wanted);
+        expect_eq_in(&rt, row, &errors.as_slice(), &said.as_bytes());
+    }
+    expect_no_memory(&rt, &machine, path.as_str(), &bind)
+}
+
+/// Where there is no memory for a socket, that is why there is none.
+fn expect_no_memory<R: Abort + AllocGlobal + Net + Files>(
+    rt: &R,
+    machine: &Machine<'_, R>,
+    path: &str,
+    bind: &Bind,
+) -> Result<(), Fail> {
+    put_list(rt, path, Some(ONE), 0)?;
+    machine.has_memory.set(false);
+    let mut errors = Vec::new(rt.alloc());
+    let found = begun(rt, machine, bind, &mut errors)?;
+    expect_eq(rt, &found.err(), &Some(Fault::Memory));
+    expect_eq(
+        rt,
+        &errors.as_slice(),
+        &b"nbt: 127.42.32.1:20196: out of memory\n".as_slice(),
+    );
+    fs::remove_file(rt, path)?;
+    Ok(())
+}
+
+/// The address that a line names which names one.
+#[test]
+fn the_first_of_the_addresses(rt: HostRuntime) -> Result<(), Fail> {
+    let all = Addr { ip: 0, port: 137 };
+    expect_eq(&rt, &Bind::Every(137).first(), &all);
+    let some = Bind::To(vec![in rt.alloc(); at(2), at(1)]?);
+    expect_eq(&rt, &some.first(), &at(2));
+    Ok(())
+}
+
+/// A server of every address that ends 2.5 s after its start, which keeps its leases in this folder, if there is one.
+fn arguments<R: AllocGlobal>(rt: &R, folder: Option<&str>) -> Result<ServerArguments, Fail> {
+    let state = match folder {
+        Some(folder) => Some(StateFolder {
+            path: String::from_str(rt.alloc(), folder)?,
+            silent_after_boot: false,
+        }),
+        None => None,
+    };
+    let none = FixedNames::none(rt.alloc());
+    Ok(ServerArguments {
+        nbns: NbnsArguments {
+            bind: Bind::Every(SERVED),
+            config: config(16)?,
+            time: Some(2_500),
+            log: false,
+            broadcasts: false,
+            leases: None,
+            hosts: None,
+            stats: None,
+            strict: folder.is_none(),
+            rows_per_client: 64,
+            front: Front::new(Vec::new(rt.alloc()), none, config(16)?),
+        },
+        state,
+    })
+}
+
+/// The port of the third test.
+const SERVED: u16 = 20_199;
+
+const CAME: &str = "nbt: serving 127.42.32.2:20199 too\n";
+
+/// Runs it, while another address comes.
+fn expect_told<R: Abort + AllocGlobal + Net + Files<File = File>>(
+    rt: &R,
+    machine: &Machine<'_, R>,
+    folder: Option<&str>,
+) -> Result<(), Fail> {
+    let mut printed = Vec::new(rt.alloc());
+    let mut errors = Vec::new(rt.alloc());
+    let arguments = arguments(rt, folder)?;
+    machine.is_read.set(false);
+    let ended = run_server(machine, rt.alloc(), &arguments, &mut printed, &mut errors);
+    expect_eq(rt, &ended, &Ok(()));
+    expect(
+        rt,
+        printed
+            .as_slice()
+            .starts_with(b"serving 127.42.32.1:20199, "),
+    );
+    expect_eq(rt, &errors.as_slice(), &CAME.as_bytes());
+    Ok(())
+}
+
+#[test]
+fn a_server_says_which_address_came(rt: HostRuntime) -> Result<(), Fail> {
+    let first = path_for(&rt, "served-first")?;
+    let list = path_for(&rt, "served")?;
+    let folder = path_for(&rt, "served-state")?;
+    fs::write(&rt, first.as_str(), ONE)?;
+    fs::write(&rt, list.as_str(), ONE_AND_TWO)?;
+    fs::create_dir(&rt, folder.as_str())?;
+    let machine = Machine {
+        first: first.as_str(),
+        step: 1_000,
+        ..machine_of(&rt, list.as_str(), 0)
+    };
+    expect_told(&rt, &machine, None)?;
+    expect_told(&rt, &machine, Some(folder.as_str()))?;
+    fs::remove_file(&rt, first.as_str())?;
+    fs::remove_file(&rt, list.as_str())?;
+    fs::remove_dir_all(&rt, folder.as_str())?;
+    Ok(())
+}
