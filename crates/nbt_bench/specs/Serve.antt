@@ -6,10 +6,10 @@ use Rattle.nbt_lease.specs.Config.{ConfigValue}
 use Rattle.nbt_server.specs.Serving.{ServerValue}
 use Rattle.nbt_server.specs.Calls.{ServerStarts}
 use Rattle.nbt_port.specs.PortCalls.{PortCall}
-use Rattle.nbt_nbns.specs.Serving.{Runs, Breaks}
+use Rattle.nbt_serve.specs.Serving.{Runs, Breaks}
 use Rattle.nbt_port.specs.Clocks.{MachineTells}
 use Rattle.nbt_port.specs.Udp.{UdpDoes}
-use Rattle.nbt_nbns.specs.declared.serving.Counts.{Counts}
+use Rattle.nbt_serve.specs.declared.serving.Counts.{Counts}
 use Rattle.nbt_bench.specs.Here.{Here}
 use Rattle.nbt_text.specs.Lines.{one_line}
 use Rattle.nbt_port.specs.Staying.{StaysUp, GivesUp}

@@ -2,8 +2,8 @@
 
 ghost use Rattle.std.specs.Prelude.{◌≡◌, ◌<◌, OnOk, IsErr};
 ghost use Rattle.nbt_port.specs.PortCalls.{receiving, sending};
-ghost use Rattle.nbt_nbns.specs.Serving.{Runs};
-ghost use Rattle.nbt_nbns.specs.declared.serving.Counts.{Counts};
+ghost use Rattle.nbt_serve.specs.Serving.{Runs};
+ghost use Rattle.nbt_serve.specs.declared.serving.Counts.{Counts};
 ghost use Rattle.nbt_bench.specs.Counting.{CountsOn};
 ghost use Rattle.nbt_bench.specs.Numbers.{loop_begin};
 
@@ -12,7 +12,7 @@ use arrayvec::ArrayVec;
 use nbt_dgram::Joiner;
 use nbt_lease::{Config, Moment};
 use nbt_name::Addr;
-use nbt_nbns::serve_turns;
+use nbt_serve::serve_turns;
 use nbt_node::Node;
 use nbt_port::{Cause, Clock, Device, Port};
 use nbt_server::Server;

@@ -8,7 +8,7 @@ ghost use Rattle.nbt_bench.specs.Serve.{ServesTurn, BreaksServing, RunsServer, S
 use crate::port::bound_port;
 use nbt_lease::Config;
 use nbt_name::Addr;
-use nbt_nbns::{Counts, serve_turns};
+use nbt_serve::{Counts, serve_turns};
 use nbt_port::{Clock, FOREVER, Fault, Port, Turn, Turned, readable_clock, stay_up, tell_end_of};
 use nbt_server::Server;
 use std::alloc::Global;
@@ -145,7 +145,7 @@ struct ServerTurn<'a, P, C> {
 
 impl<P: Port, C: Clock> Turn for ServerTurn<'_, P, C> {
     ghost use Rattle.std.specs.Prelude.{List, [], ◌∷◌};
-    ghost use Rattle.nbt_nbns.specs.declared.serving.Counts.{Counts};
+    ghost use Rattle.nbt_serve.specs.declared.serving.Counts.{Counts};
     ghost use Rattle.nbt_bench.specs.Serve.{Serving};
 
     ghost State = { Serving P C };

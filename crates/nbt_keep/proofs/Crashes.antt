@@ -12,7 +12,7 @@ use Rattle.nbt_server.specs.Serving.{ServerValue}
 use Rattle.nbt_store.specs.declared.change.Change.{Change}
 use Rattle.nbt_store.specs.Calls.{appended, append_failed, renew_failed, Kept, after_call}
 use Rattle.nbt_store.specs.Changes.{after, after_all, no_leases}
-use Rattle.nbt_nbns.specs.Serving.{Turn, is_empty, is_taken, is_lost, Turns}
+use Rattle.nbt_serve.specs.Serving.{Turn, is_empty, is_taken, is_lost, Turns}
 use Rattle.nbt_keep.specs.Changing.{IsKept}
 use Rattle.nbt_keep.specs.Devices.{DeviceCall, on_port, on_store}
 use Rattle.nbt_keep.specs.Waiting.{syncs_of, sends_of, leaving}

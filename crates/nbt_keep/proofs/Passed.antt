@@ -10,7 +10,7 @@ use Rattle.nbt_port.proofs.Chains.{chain-append}
 use Rattle.nbt_store.specs.declared.change.Change.{Change}
 use Rattle.nbt_store.specs.declared.store.Broken.{Broken}
 use Rattle.nbt_store.specs.Calls.{StoreCall, appending, append_failed}
-use Rattle.nbt_nbns.specs.Serving.{Turn}
+use Rattle.nbt_serve.specs.Serving.{Turn}
 use Rattle.nbt_keep.specs.Devices.{DeviceCall, on_port, on_store, DeviceDoes}
 use Rattle.nbt_keep.specs.Waiting.{WaitingValue, batch, none_waits, dropped, sends_of, leaving}
 use Rattle.nbt_keep.specs.Turning.{Took, reply_in, receive_in, is_unanswered, appends_of, taking, with_reply, Passes, waits, all_leave, LeavingFails, sync_fails, send_fails, Fails, leaving_fails, append_fails}

@@ -9,7 +9,7 @@ use Rattle.nbt_store.specs.declared.change.Change.{Change}
 use Rattle.nbt_store.specs.declared.header.Header.{Header}
 use Rattle.nbt_store.specs.Calls.{StoreCall, append_failed, sync_failed, renewed, renew_failed, Kept, kept_rows, after_call, after_calls, MayLeaveAfter, first_changes, new_leases}
 use Rattle.nbt_store.specs.Changes.{after_all, no_leases}
-use Rattle.nbt_nbns.specs.Serving.{Turn}
+use Rattle.nbt_serve.specs.Serving.{Turn}
 use Rattle.nbt_keep.specs.Devices.{DeviceCall, on_port, on_store}
 use Rattle.nbt_keep.specs.Waiting.{WaitingValue}
 use Rattle.nbt_keep.specs.Turning.{Took, Takes, TakesAny, with_reply, taking, receive_in, Passes, waits, all_leave, sync_fails, send_fails, Fails, receive_fails, append_fails, leaving_fails}

@@ -17,7 +17,7 @@ use Rattle.nbt_server.specs.declared.fault.ServerFault.{ServerFault}
 use Rattle.nbt_server.specs.declared.fault.ServerFault.TheVariants as faults
 use Rattle.nbt_server.specs.declared.outcome.Outcome.{Outcome}
 use Rattle.nbt_store.specs.declared.change.Change.{Change}
-use Rattle.nbt_nbns.specs.Serving.{is_empty, is_taken, is_lost, moments_in, Turns, passes, takes, goes_back, has_no_memory, IsLogged}
+use Rattle.nbt_serve.specs.Serving.{is_empty, is_taken, is_lost, moments_in, Turns, passes, takes, goes_back, has_no_memory, IsLogged}
 use Rattle.nbt_keep.specs.Changing.{IsKept, after_any, IsChange}
 use Rattle.nbt_keep.specs.Waiting.{WaitingValue, batch}
 use Rattle.nbt_keep.specs.Inner.Passing.{goes_where, goes_to, reply_to, behind, with_change}

@@ -10,7 +10,7 @@ use Rattle.nbt_store.specs.declared.change.Change.{Change}
 use Rattle.nbt_store.specs.declared.header.Header.{Header}
 use Rattle.nbt_store.specs.Calls.{StoreCall, renewed, renew_failed, Kept, after_calls, MayLeaveAfter}
 use Rattle.nbt_store.specs.Changes.{after_all, no_leases}
-use Rattle.nbt_nbns.specs.Serving.{Turn, Turns}
+use Rattle.nbt_serve.specs.Serving.{Turn, Turns}
 use Rattle.nbt_keep.specs.Changing.{IsKept}
 use Rattle.nbt_keep.specs.Devices.{DeviceCall, on_port, on_store}
 use Rattle.nbt_keep.specs.Waiting.{WaitingValue, none_waits}

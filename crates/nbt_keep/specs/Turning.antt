@@ -8,7 +8,7 @@ use Rattle.nbt_port.specs.PortCalls.{PortCall, nothing_came, came, receive_faile
 use Rattle.nbt_server.specs.Serving.{ServerValue}
 use Rattle.nbt_store.specs.declared.change.Change.{Change}
 use Rattle.nbt_store.specs.Calls.{StoreCall, appended, append_failed, sync_failed}
-use Rattle.nbt_nbns.specs.Serving.{Turn, is_empty, is_taken, is_lost, moments_in, Turns, IsLogged}
+use Rattle.nbt_serve.specs.Serving.{Turn, is_empty, is_taken, is_lost, moments_in, Turns, IsLogged}
 use Rattle.nbt_keep.specs.Changing.{IsKept, after_any, changes_leases}
 use Rattle.nbt_keep.specs.Devices.{DeviceCall, on_port, on_store, Devices, DeviceDoes}
 use Rattle.nbt_keep.specs.Waiting.{WaitingValue, batch, none_waits, dropped, syncs_of, sends_of, leaving}

@@ -4,7 +4,7 @@ ghost use Rattle.std.specs.Prelude.{◌≡◌, ◌<◌, ◌≤◌, ◌+◌, ◌^
 ghost use Rattle.nbt_port.specs.PortCalls.{came, receiving, CountsFailure, Chain};
 ghost use Rattle.nbt_store.specs.Calls.{append_failed};
 ghost use Rattle.nbt_store.specs.declared.change.Change.{Change as ChangeValue};
-ghost use Rattle.nbt_nbns.specs.Serving.{Turn, moments_in, IsLogged};
+ghost use Rattle.nbt_serve.specs.Serving.{Turn, moments_in, IsLogged};
 ghost use Rattle.nbt_keep.specs.Changing.{IsChange};
 ghost use Rattle.nbt_keep.specs.Waiting.{batch, dropped};
 ghost use Rattle.nbt_keep.specs.Inner.Passing.{goes_to, reply_to, with_change};
@@ -23,7 +23,7 @@ use nbt_store::{Broken, Store};
 /// The server goes through one turn. It receives a datagram, and waits for it where no reply waits. Where one came, it reads the
 /// clock, handles the datagram at that time, has the store append what that changed, and the reply waits with those before it.
 /// Then all replies leave, where the turn has no reply, or all changes are durable, or 64 wait: changes that aren't durable first become
-/// so. `entry` is what the server did then; `None` where nothing came, and where the datagram was lost as [`nbt_nbns::serve_turns`] says.
+/// so. `entry` is what the server did then; `None` where nothing came, and where the datagram was lost as [`nbt_serve::serve_turns`] says.
 /// `octets` and `reply` are buffers of the turn.
 ///
 /// Refused with `Port` at a receive that fails, and at a send that fails: that reply is lost, and those behind it still wait.

@@ -1,5 +1,5 @@
 -- A name server and its journal begin, over this machine.
-use Rattle.std.proofs.Common.{◌≡◌, ℕ, ◌+◌, List, [], Bool, Option, Some, refl, subst}
+use Rattle.std.proofs.Common.{◌≡◌, ℕ, ◌+◌, List, Option, Some, refl, subst}
 use Rattle.std.specs.Io.KnownBytes.{Appends}
 use Rattle.nbt_name.specs.declared.addr.Addr.{Addr}
 use Rattle.nbt_lease.specs.Config.{milliseconds}
@@ -8,7 +8,6 @@ use Rattle.nbt_server.specs.Calls.{ServerStarts, limited}
 use Rattle.nbt_port.specs.Clocks.{MachineTells, SteadyTells, SteadyBegins, SystemShows}
 use Rattle.nbt_port.specs.Udp.{PortsValue}
 use Rattle.nbt_log.specs.Dates.{second_at}
-use Rattle.nbt_log.specs.declared.dates.Dates.{Dates}
 use Rattle.nbt_front.specs.Deciding.{FrontValue}
 use Rattle.nbt_nbns.specs.Begin.{IsBegin}
 use Rattle.nbt_nbns.specs.Running.{Nbns, Begins, new_journal}

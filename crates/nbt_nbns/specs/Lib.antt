@@ -1,16 +1,11 @@
 pub mod Begin
 pub mod Contents
-pub mod Inner
 pub mod Journaling
 pub mod Keeping
 pub mod Limits
 pub mod Logging
-pub mod OneAnswer
 pub mod Outboxes
 pub mod Places
 pub mod Reports
 pub mod Running
-pub mod Samba
-pub mod SambaPort
-pub mod Serving
 pub mod Watching

@@ -1,5 +1,5 @@
 -- What `nbns` does and prints over this machine (our profile).
-use Rattle.std.specs.Prelude.{◌≡◌, ℕ, ◌+◌, Bool, true, false, if◌then◌else◌, List, [], Option, Some, None, String}
+use Rattle.std.specs.Prelude.{ℕ, ◌+◌, Bool, true, false, if◌then◌else◌, List, Option, Some, None, String}
 use Rattle.std.specs.String.{string_bytes}
 use Rattle.std.specs.Io.KnownBytes.{Appends}
 use Rattle.nbt_name.specs.declared.addr.Addr.{Addr}
@@ -16,7 +16,7 @@ use Rattle.nbt_port.specs.Until.{until_of}
 use Rattle.nbt_front.specs.FrontPort.{Fronted, FrontDoes}
 use Rattle.nbt_report.specs.Tallies.{no_tally}
 use Rattle.nbt_report.specs.declared.origin.Origin.{Origin}
-use Rattle.nbt_nbns.specs.SambaPort.{HandsOn}
+use Rattle.nbt_serve.specs.SambaPort.{HandsOn}
 use Rattle.nbt_nbns.specs.Begin.{IsBegin}
 use Rattle.nbt_nbns.specs.Journaling.{Journals}
 use Rattle.nbt_nbns.specs.Keeping.{KeeperValue, new_keeper}

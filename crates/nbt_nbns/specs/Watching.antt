@@ -2,11 +2,11 @@
 use Rattle.std.specs.Prelude.{◌≡◌, ℕ, List, Option}
 use Rattle.nbt_server.specs.Serving.{ServerValue}
 use Rattle.nbt_port.specs.PortCalls.{PortCall}
-use Rattle.nbt_nbns.specs.Serving.{Breaks}
+use Rattle.nbt_serve.specs.Serving.{Breaks}
 use Rattle.nbt_port.specs.Staying.{StaysUntil, GivesUp}
 use Rattle.nbt_port.specs.Until.{IsOver}
 use Rattle.nbt_port.specs.Numbers.{forever}
-use Rattle.nbt_nbns.specs.Serving.{WatchesTurn}
+use Rattle.nbt_serve.specs.Serving.{WatchesTurn}
 use Rattle.nbt_nbns.specs.declared.staying.Shown.{Shown}
 
 -- a port, a clock and a server, what watches the server, and what is printed

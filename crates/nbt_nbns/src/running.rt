@@ -17,7 +17,6 @@ use crate::journal::Journal;
 use crate::keeper::Keeper;
 use crate::logger::Logger;
 use crate::place::FilePlace;
-use crate::samba_port::SambaPort;
 use crate::staying::{Watcher, watch_on};
 use nbt_front::{Desk, Front, FrontPort};
 use nbt_lease::{Config, Moment};
@@ -28,6 +27,7 @@ use nbt_port::{
     tell_end_of, until_of,
 };
 use nbt_report::{Origin, Tally};
+use nbt_serve::SambaPort;
 use nbt_server::Server;
 use std::alloc::Global;
 use std::io::Write;

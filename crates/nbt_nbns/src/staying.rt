@@ -3,18 +3,18 @@
 ghost use Rattle.std.specs.Prelude.{ℕ, List, Option, ◌<◌, ◌≤◌, ◌^◌, IfOk, IfErr, OnOk, OnErr};
 ghost use Rattle.nbt_server.specs.Serving.{ServerValue};
 ghost use Rattle.nbt_port.specs.PortCalls.{CountsFailure};
-ghost use Rattle.nbt_nbns.specs.Serving.{Breaks};
+ghost use Rattle.nbt_serve.specs.Serving.{Breaks};
 ghost use Rattle.nbt_nbns.specs.declared.staying.Shown.{Shown};
 ghost use Rattle.nbt_port.specs.Numbers.{forever};
 ghost use Rattle.nbt_port.specs.Staying.{StaysUntil, EndsEarly};
 ghost use Rattle.nbt_nbns.specs.Watching.{ShowsTurn, WatchesOn, WatchesLast, BreaksWatching};
 
-use crate::serving::serve_turn;
 use arrayvec::ArrayVec;
 use nbt_lease::Moment;
 use nbt_log::Entry;
 use nbt_port::{Clock, Device, FOREVER, Fault, Port, Turn, Turned, is_over, stay_up};
 use nbt_report::Health;
+use nbt_serve::serve_turn;
 use nbt_server::Server;
 use std::io::Write;
 use std::time;

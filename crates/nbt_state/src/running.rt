@@ -23,7 +23,8 @@ use nbt_keep::{Waiting, keep_on};
 use nbt_lease::Moment;
 use nbt_log::Dates;
 use nbt_name::Addr;
-use nbt_nbns::{NbnsArguments, SambaPort, Watcher, journal_of, run_nbns};
+use nbt_nbns::{NbnsArguments, Watcher, journal_of, run_nbns};
+use nbt_serve::SambaPort;
 use nbt_port::{
     Ahead, Clock, Fault, MachineClock, Port, UdpPorts, print, readable_clock, steady_clock,
     tell_end_of, until_of,

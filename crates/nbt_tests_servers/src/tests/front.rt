@@ -6,7 +6,7 @@ use super::stage::{Scene, play_on};
 use arrayvec::ArrayVec;
 use nbt_front::{Desk, FileFault, FixedNames, Front, FrontPort, Network, read_fixed, read_network};
 use nbt_name::{Addr, Kind};
-use nbt_nbns::{Counts, serve_turns};
+use nbt_serve::{Counts, serve_turns};
 use nbt_port::{Device, MemoryClock, MemoryPort, OwnReplies, Port};
 use nbt_server::Server;
 use nbt_testing::{Row, clock as clock_of, config, expect_sent, port as port_of};

@@ -5,7 +5,7 @@ use super::expect::{expect, expect_eq, expect_eq_in, expect_in};
 use super::stage::{Scene, play_on};
 use arrayvec::ArrayVec;
 use nbt_name::Addr;
-use nbt_nbns::{Counts, SambaPort, serve_turns, take_registration};
+use nbt_serve::{Counts, SambaPort, serve_turns, take_registration};
 use nbt_port::{Device, MemoryClock, MemoryPort, Port, UdpPort};
 use nbt_server::Server;
 use nbt_testing::{EVERY_KIND, expect_sent, octets, port as port_of};

@@ -6,7 +6,7 @@ use arrayvec::ArrayVec;
 use nbt_client::{Seen, Want, node_turn};
 use nbt_lease::Moment;
 use nbt_name::{Addr, Kind, Name};
-use nbt_nbns::{Counts, serve_turns};
+use nbt_serve::{Counts, serve_turns};
 use nbt_node::{AskFault, Node};
 use nbt_port::{Datagram, Device, MemoryClock, MemoryPort, Port};
 use nbt_server::Server;

@@ -1,7 +1,7 @@
 use Rattle.std.proofs.Common.{refl, ap, Some}
 use Rattle.std.proofs.lemmas.Result.{err_from_is_err_and}
 use Rattle.nbt_log.specs.declared.entry.Entry.{Entry}
-use Rattle.nbt_nbns.specs.Serving.{is_taken}
+use Rattle.nbt_serve.specs.Serving.{is_taken}
 use Rattle.nbt_keep.proofs.Taking.{taken_so, takes_one, lost_one}
 use Rattle.nbt_keep.proofs.turning.take.Goals as goal
 

@@ -1,9 +1,9 @@
-use Rattle.std.proofs.Common.{◌≡◌, ℕ, List, Option, Result, Err, OnErr, refl, sym, subst}
+use Rattle.std.proofs.Common.{◌≡◌, Result, Err, OnErr, refl, subst}
 use Rattle.nbt_port.specs.Clocks.{MachineTells, SteadyTells, SystemShows}
 use Rattle.nbt_port.proofs.Printed.{on_ok}
 use Rattle.nbt_port.specs.Until.{until_of}
 use Rattle.nbt_port.specs.declared.fault.Fault.TheVariants as f
-use Rattle.nbt_nbns.specs.Running.{Nbns, PortDoes, PortFailures}
+use Rattle.nbt_nbns.specs.Running.{PortDoes, PortFailures}
 use Rattle.nbt_nbns.specs.Journaling.{Journals}
 use Rattle.nbt_nbns.specs.Places.{Stays}
 use Rattle.nbt_nbns.specs.Watching.{WatchesUntil, WatchFails}

@@ -1,0 +1,5 @@
+pub mod Inner
+pub mod OneAnswer
+pub mod Samba
+pub mod SambaPort
+pub mod Serving
