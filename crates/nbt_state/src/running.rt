@@ -24,12 +24,12 @@ use nbt_lease::Moment;
 use nbt_log::Dates;
 use nbt_name::Addr;
 use nbt_nbns::{NbnsArguments, Watcher, journal_of, run_nbns};
-use nbt_serve::SambaPort;
 use nbt_port::{
     Ahead, Clock, Fault, MachineClock, Port, UdpPorts, print, readable_clock, steady_clock,
     tell_end_of, until_of,
 };
 use nbt_resume::Begun;
+use nbt_serve::SambaPort;
 use nbt_server::Server;
 use nbt_store::{Header, Store};
 use std::alloc::Global;
