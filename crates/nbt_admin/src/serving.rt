@@ -13,8 +13,8 @@ use crate::fronting::networks_of;
 use crate::timing::{client_rows_of, config_of, ending_of, fit};
 use nbt_args::NbnsTexts;
 use nbt_front::{FixedNames, Front, Network};
-use nbt_state::{ServerArguments, StateFolder};
 use nbt_nbns::NbnsArguments;
+use nbt_state::{ServerArguments, StateFolder};
 use std::alloc::Global;
 
 /// Reads the arguments of `nbns`. Refused: the first text that is no network; and then as [`nbns_arguments`] has it. No name is fixed yet.

@@ -12,9 +12,9 @@ use arrayvec::ArrayVec;
 use nbt_dgram::Joiner;
 use nbt_lease::{Config, Moment};
 use nbt_name::Addr;
-use nbt_serve::serve_turns;
 use nbt_node::Node;
 use nbt_port::{Cause, Clock, Device, Port};
+use nbt_serve::serve_turns;
 use nbt_server::Server;
 use std::alloc::Global;
 

@@ -8,8 +8,8 @@ ghost use Rattle.nbt_bench.specs.Serve.{ServesTurn, BreaksServing, RunsServer, S
 use crate::port::bound_port;
 use nbt_lease::Config;
 use nbt_name::Addr;
-use nbt_serve::{Counts, serve_turns};
 use nbt_port::{Clock, FOREVER, Fault, Port, Turn, Turned, readable_clock, stay_up, tell_end_of};
+use nbt_serve::{Counts, serve_turns};
 use nbt_server::Server;
 use std::alloc::Global;
 use std::io::Write;

@@ -6,9 +6,9 @@ use arrayvec::ArrayVec;
 use nbt_client::{Seen, Want, node_turn};
 use nbt_lease::Moment;
 use nbt_name::{Addr, Kind, Name};
-use nbt_serve::{Counts, serve_turns};
 use nbt_node::{AskFault, Node};
 use nbt_port::{Datagram, Device, MemoryClock, MemoryPort, Port};
+use nbt_serve::{Counts, serve_turns};
 use nbt_server::Server;
 use nbt_testing::{
     FOUND, GRANTED, NOT_FOUND, QUERY, REFRESH, REFUSED, REGISTRATION, RIVAL, Row, config,

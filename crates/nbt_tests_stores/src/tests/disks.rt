@@ -39,7 +39,14 @@ const NEW: u64 = 88;
 fn header(last: u64) -> Result<Header, Fail> {
     let boot = Boot::new(b"boot-1").ok_or("no boot")?;
     let config = Config::new(1000, 60, 4096)?;
-    Ok(Header::new(config, boot, 7, moment(5)?, moment(last)?, 1_700_000_000_000))
+    Ok(Header::new(
+        config,
+        boot,
+        7,
+        moment(5)?,
+        moment(last)?,
+        1_700_000_000_000,
+    ))
 }
 
 /// The lease of this number: the first one is FRED's, and each other one TEAM's.
