@@ -11,9 +11,11 @@ _nbt() {
     elif [[ $word == = ]]; then
         word=''
     fi
+    # --hosts has a file as its value with nbns, and none with scan.
+    [[ $before != --hosts || ${COMP_WORDS[1]} != nbns ]] || before=--leases
     case $before in
     --at | --rate | --port | --server | --bind | --scope | --wait | --life | --longest | --for | --rows-per-client | --allow | --group | --also) return ;;
-    --leases | --hosts | --stats | --fixed)
+    --leases | --stats | --fixed)
         compopt -o filenames 2>/dev/null
         mapfile -t COMPREPLY < <(compgen -f -- "$word")
         return
