@@ -98,6 +98,8 @@ impl Ending {
             → self.now.printed.octets.items ≡ case.now.printed.items }
         ensures said { result ≡ true → IfSome case.now.said (λ wanted. IfSome self.now.said (λ said.
             IsExact wanted.items → said.octets.items ≡ wanted.items)) }
+        ensures flushed { result ≡ true → self.now.printed.flushed ≡ vec_len self.now.printed.octets }
+        ensures said_flushed { result ≡ true → IfSome case.now.said (λ _. IfSome self.now.said (λ said. said.flushed ≡ vec_len said.octets)) }
         ensures passes { case.now.status ≡ Some self.now.status → IsExact case.now.printed.items
             → self.now.printed.octets.items ≡ case.now.printed.items
             → self.now.printed.flushed ≡ vec_len self.now.printed.octets

@@ -1,6 +1,6 @@
 //! The rows of the command `host`: what it holds and tells over UDP and clocks that are set.
 
-use super::serving::{NO_CLOCK, Row};
+use super::serving::{GIVES_UP, NO_CLOCK, Row};
 
 /// The requests of the host, each for its longest lease, 60 s: for FRED alone, for TEAM as a group; and its releases. Their ids count from the
 /// last 16 bits of what both clocks show at START together: START, and START without BOOT.
@@ -49,12 +49,15 @@ const ASK: u64 = START + 2_005;
 
 const LATER: u64 = ASK + 1;
 
+/// When a request without a reply is sent again.
+const RETRY: u64 = ASK + 5_000;
+
 /// The readings of a host: five at its start, and seven a turn, three at each look, and one after it.
 const ASKING: &[u64] = &[
     START, START, START, START, START, ASK, ASK, ASK, ASK, ASK, ASK, ASK, LATER,
 ];
 
-pub static HOSTS: [Row; 10] = [
+pub static HOSTS: [Row; 12] = [
     Row {
         about: "a name and a group, which are granted, held at the end and given back",
         words: "nbt host fred --group TEAM --server 127.42.22.3:20139 --bind 127.42.22.2:20138 --longest 60s --for 2006ms",
@@ -260,6 +263,41 @@ host 127.42.22.2:20138 asks 127.42.22.3:20139 for 2 names
         readings: 1,
         text: "device\n",
         errors: NO_CLOCK,
+        sent: &[],
+    },
+    Row {
+        about: "its first request has no route, and the next one has",
+        words: "nbt host fred --server 127.42.22.3:20139 --bind 127.42.22.2:20138 --longest 60s --for 7005ms",
+        moments: &[
+            START, START, START, START, START, ASK, ASK, ASK, ASK, ASK, ASK, ASK, RETRY,
+        ],
+        sends: &[],
+        breaks_at: 8,
+        sets: &[],
+        status: 5,
+        readings: 29,
+        text: "\
+host 127.42.22.2:20138 asks 127.42.22.3:20139 for 1 name
+2026-11-24T09:11:10Z not held FRED#20
+",
+        errors: "\
+nbt: 127.42.22.3:20139: send: Connection refused (os error 111); going on
+nbt: 127.42.22.3:20139 has a route again
+",
+        sent: &[ASKS],
+    },
+    // (a turn that fails has one look at the clocks, and a reading after it)
+    Row {
+        about: "it goes on until its port fails 100 times in a row, and says why it failed",
+        words: "nbt host FRED --server 127.42.22.3:20139 --bind 127.42.22.2:20138",
+        moments: &[START],
+        sends: &[],
+        breaks_at: 5,
+        sets: &[],
+        status: 3,
+        readings: 405,
+        text: "host 127.42.22.2:20138 asks 127.42.22.3:20139 for 1 name\ndevice\n",
+        errors: GIVES_UP,
         sent: &[],
     },
 ];

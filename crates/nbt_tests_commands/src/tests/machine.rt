@@ -28,7 +28,7 @@ pub const BOOT: u64 = 500_000;
 /// breaks: its next call fails, and the first one after each sleep. After `well_after` sleeps it is well again, for the other
 /// end alone, which sends then what is to be sent at [`WELL`]; and it breaks again at the reading `breaks_again_at`. Where `port` is,
 /// whoever binds a UDP port is given that one. TCP, and strangers, are as `street` says. Where it has no memory, none of its sockets
-/// is bound or connected. Its files are the host's.
+/// is bound or connected, and no file is opened. Its files are the host's.
 #[derive(Drop)]
 pub struct Machine<'a, N> {
     pub host: &'a N,
@@ -192,12 +192,13 @@ impl<'a, N: Net<Stream = TcpStream, Listener = TcpListener>> Net for Machine<'a,
     }
 }
 
-impl<'a, N: Files> Files for Machine<'a, N> {
+impl<'a, N: Files + Net<Stream = TcpStream, Listener = TcpListener>> Files for Machine<'a, N> {
     type File = N::File;
 
     type Dir = N::Dir;
 
     fn open_file(&self, how: &OpenOptions, path: &str) -> io::Result<N::File> {
+        self.memory()?;
         self.host.open_file(how, path)
     }
 

@@ -1,7 +1,7 @@
 //! The command `nbns`: what it serves, logs and keeps over UDP and clocks that are set.
 
 use super::expect::expect_eq;
-use super::serving::{NO_CLOCK, NO_TIME, Row, expect_row};
+use super::serving::{GIVES_UP, NO_CLOCK, NO_TIME, Row, expect_row};
 use std::{env, fs, process};
 
 /// The other end's requests: for FRED, unique; its refresh, its release, and a query for it.
@@ -74,7 +74,7 @@ const AGAIN: u64 = END + 1;
 /// What is said of the longest lease that is not long, and of one that is.
 const LONG: &str = "nbt: longest lease 3601 s: after each start the server is silent for as long\n";
 
-pub static NAME_SERVERS: [Row; 10] = [
+pub static NAME_SERVERS: [Row; 11] = [
     Row {
         about: "silent for the longest lease, and then it serves, until its time is over",
         words: "nbt nbns --bind 127.42.22.2:20138 --longest 60s --for 60001ms",
@@ -233,6 +233,19 @@ serving 127.42.22.2:20138, silent for 60 s until 2026-11-24T09:12:03Z
         errors: NO_TIME,
         sent: &[],
     },
+    Row {
+        about: "it goes on until a port fails 100 times in a row, and says which, and why it failed",
+        words: "nbt nbns --bind 127.42.22.5:20138 --bind 127.42.22.2:20138 --longest 60s",
+        moments: &[START],
+        sends: &[],
+        breaks_at: 4,
+        sets: &[],
+        status: 3,
+        readings: 4,
+        text: "serving 127.42.22.5:20138, 127.42.22.2:20138, silent for 60 s until 2026-11-24T09:12:03Z\ndevice\n",
+        errors: GIVES_UP,
+        sent: &[],
+    },
 ];
 
 /// A server that keeps its leases, at a path that is its last word. One is granted, and then another: a second isn't over yet, so the list has the first alone.
@@ -345,9 +358,9 @@ fn fixed_names_and_networks(rt: HostRuntime) {
     expect_row(&rt, &NOT_FIXED[1], "/proc/version", 0);
 }
 
-/// Servers over one state, whose folder is the last word: the first grants two leases, the second goes on with them, and the third has
-/// another limit. Each sync reads the clock twice: at the start there is one, and one for the first two leases.
-static STATES: [Row; 3] = [
+/// Servers over one state, whose folder is the last word: the first grants two leases, the second and the third go on with them, the
+/// fourth has another limit, the port of the fifth breaks, and of the long silence of the sixth nothing is said: it is no silence at a restart.
+static STATES: [Row; 6] = [
     Row {
         about: "nothing was kept",
         words: "nbt nbns --bind 127.42.22.2:20138 --longest 60s --for 60001ms --state",
@@ -378,6 +391,19 @@ static STATES: [Row; 3] = [
         sent: &[FOUND],
     },
     Row {
+        about: "they were kept once more",
+        words: "nbt nbns --bind 127.42.22.2:20138 --longest 60s --for 0ms --state",
+        moments: &[AGAIN],
+        sends: &[(1, QUERIES)],
+        breaks_at: 0,
+        sets: &[],
+        status: 0,
+        readings: 10,
+        text: "serving 127.42.22.2:20138, with 2 leases kept\n",
+        errors: "",
+        sent: &[FOUND],
+    },
+    Row {
         about: "they were kept under another limit",
         words: "nbt nbns --bind 127.42.22.2:20138 --longest 61s --for 0ms --state",
         moments: &[AGAIN],
@@ -387,6 +413,32 @@ static STATES: [Row; 3] = [
         status: 0,
         readings: 9,
         text: "serving 127.42.22.2:20138, silent for 61 s until 2026-11-24T09:13:04Z, since another LONGEST\n",
+        errors: "",
+        sent: &[],
+    },
+    Row {
+        about: "it goes on until its port fails 100 times in a row, and says why it failed",
+        words: "nbt nbns --bind 127.42.22.2:20138 --longest 61s --state",
+        moments: &[AGAIN],
+        sends: &[],
+        breaks_at: 6,
+        sets: &[],
+        status: 3,
+        readings: 6,
+        text: "serving 127.42.22.2:20138, with 0 leases kept, silent for 61 s until 2026-11-24T09:13:04Z\ndevice\n",
+        errors: GIVES_UP,
+        sent: &[],
+    },
+    Row {
+        about: "a longest lease above an hour, of which nothing is said",
+        words: "nbt nbns --bind 127.42.22.2:20138 --longest 3601s --for 0ms --state",
+        moments: &[AGAIN],
+        sends: &[],
+        breaks_at: 0,
+        sets: &[],
+        status: 0,
+        readings: 9,
+        text: "serving 127.42.22.2:20138, silent for 3601 s until 2026-11-24T10:12:04Z, since another LONGEST\n",
         errors: "",
         sent: &[],
     },

@@ -181,7 +181,7 @@ static BINDING: [(&str, &str, u8, &[u8]); 7] = [
         "nbt nbns",
         "memory\n",
         4,
-        b":137: out of memory\nnbt: memory was refused\n",
+        b"nbt: /proc/net/fib_trie: out of memory; one socket serves all addresses\nnbt: 0.0.0.0:137: out of memory\nnbt: memory was refused\n",
     ),
 ];
 

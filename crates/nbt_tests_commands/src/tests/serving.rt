@@ -83,7 +83,7 @@ const CONFLICT: &str = "0002_ad87_0000_0001_0000_0000_{FRED}_0020_0001_00000000_
 /// What is said of a port that fails for good; of one that fails where there is no end; and of a clock.
 pub const FAILED: &str = "nbt: 127.42.22.2:20138: receive: Connection refused (os error 111)\n";
 
-const GIVES_UP: &str = "\
+pub const GIVES_UP: &str = "\
 nbt: 127.42.22.2:20138: receive: Connection refused (os error 111); going on
 nbt: 127.42.22.2:20138: receive: Connection refused (os error 111)
 ";
@@ -381,17 +381,14 @@ where
 }
 
 /// Runs a row's command, with this last word if it isn't empty, while the other end sends. Where its port breaks again at a reading,
-/// it is well after three failures before. With no end the command waits after each failure but the last: 99 times, and those three.
+/// it is well after three failures before. A command that goes on waits after each failure but the last: 99 times, and those three.
 pub fn expect_row<R>(rt: &R, row: &Row, last: &str, breaks_again_at: usize)
 where
     R: Abort + AllocGlobal + Net<Stream = TcpStream, Listener = TcpListener> + Files<File = File>,
 {
     let well_after = if breaks_again_at == 0 { 0 } else { 3 };
-    let waits = if row.words.ends_with("--forever") {
-        99
-    } else {
-        0
-    };
+    let goes_on = row.errors.split_once("; going on").is_some();
+    let waits = if goes_on && row.status == 3 { 99 } else { 0 };
     let port = UdpSocket::bind(rt, OWN).expect(rt, "its port");
     let other = UdpSocket::bind(rt, OTHER).expect(rt, "the other end's port");
     let street = Street::new();

@@ -22,34 +22,44 @@ const THERE: Addr = Addr {
     port: 20_198,
 };
 
-/// How long so many receives of nothing take.
-fn waited<R: Abort + Clock, P: Port>(
+/// How long a receive of nothing takes.
+fn waited<R: Abort + Clock, P: Port>(rt: &R, port: &mut P, waits: bool) -> Result<Duration, Fail> {
+    let mut octets = ArrayVec::new();
+    let begin = rt.monotonic()?;
+    expect(rt, port.failures() < 1 << 62);
+    let from = if waits {
+        port.receive(&mut octets)?
+    } else {
+        port.receive_now(&mut octets)?
+    };
+    expect_eq(rt, &from, &None);
+    Ok(rt.monotonic()?.saturating_sub(begin))
+}
+
+/// How long the shortest of three receives of nothing takes: other work on the machine makes one longer, and hardly all.
+fn shortest<R: Abort + Clock, P: Port>(
     rt: &R,
     port: &mut P,
     waits: bool,
-    count: u32,
 ) -> Result<Duration, Fail> {
-    let mut octets = ArrayVec::new();
-    let begin = rt.monotonic()?;
-    for _ in 0..count {
-        expect(rt, port.failures() < 1 << 62);
-        let from = if waits {
-            port.receive(&mut octets)?
-        } else {
-            port.receive_now(&mut octets)?
-        };
-        expect_eq(rt, &from, &None);
+    let mut least = waited(rt, port, waits)?;
+    for _ in 0..2 {
+        let next = waited(rt, port, waits)?;
+        if next < least {
+            least = next;
+        }
     }
-    Ok(rt.monotonic()?.saturating_sub(begin))
+    Ok(least)
 }
 
 /// A receive waits for 100 ms; one that doesn't wait takes much less. Which of them was before doesn't matter.
 fn expect_waits<R: Abort + Clock, P: Port>(rt: &R, port: &mut P) -> Result<(), Fail> {
     for _ in 0..2 {
-        let one = waited(rt, port, true, 1)?;
-        expect(rt, one >= Duration::from_millis(RECEIVE_WAIT - 10));
-        let many = waited(rt, port, false, 20)?;
-        expect(rt, many < Duration::from_millis(RECEIVE_WAIT * 15));
+        let least = shortest(rt, port, true)?;
+        expect(rt, least >= Duration::from_millis(RECEIVE_WAIT - 10));
+        expect(rt, least < Duration::from_millis(RECEIVE_WAIT * 8));
+        let least = shortest(rt, port, false)?;
+        expect(rt, least < Duration::from_millis(RECEIVE_WAIT / 2));
     }
     Ok(())
 }
