@@ -1,57 +1,66 @@
 -- A server that keeps its leases begins, over this machine.
-use Rattle.std.proofs.Common.{◌≡◌, ℕ, List, Bool, false, length, Option, Some, refl, subst}
-use Rattle.std.specs.Io.KnownBytes.{Appends}
-use Rattle.nbt_name.specs.declared.addr.Addr.{Addr}
-use Rattle.nbt_port.specs.Clocks.{MachineTells, SteadyTells, SteadyBegins, SystemShows}
+use Rattle.std.proofs.Common.{◌≡◌, ◌⊎◌, ℕ, List, Bool, false, Option, refl, subst, inl, inr}
 use Rattle.nbt_port.specs.Udp.{PortsValue}
-use Rattle.nbt_server.specs.Calls.{limited}
-use Rattle.nbt_server.specs.Serving.{ServerValue}
+use Rattle.nbt_port.specs.declared.ahead.Ahead.{Ahead}
+use Rattle.nbt_port.specs.declared.fault.Fault.{Fault}
+use Rattle.nbt_port.specs.declared.fault.Fault.TheVariants.{Memory, Output}
 use Rattle.nbt_front.specs.Deciding.{FrontValue}
 use Rattle.nbt_nbns.specs.Places.{FileValue}
 use Rattle.nbt_nbns.specs.Running.{new_journal}
 use Rattle.nbt_nbns.specs.declared.journal.Journal.{Journal}
 use Rattle.nbt_nbns.specs.declared.running.NbnsArguments.{NbnsArguments}
-use Rattle.nbt_state.specs.Begin.{IsBegin}
-use Rattle.nbt_state.specs.Begin.{manner_of}
-use Rattle.nbt_state.specs.Opening.{IsFoundHere}
-use Rattle.nbt_state.specs.Running.{KeptNbns, BeginsKept, at_first, dates_of}
-use Rattle.nbt_keep.specs.Runs.{live_rows}
+use Rattle.nbt_state.specs.Inner.Standing.{staying_of}
+use Rattle.nbt_state.specs.Inner.Starting.{AreRead, Starts, StartsNot, first_kept, kept_of}
+use Rattle.nbt_state.specs.Running.{KeptNbns, BeginsKept, dates_of}
 use Rattle.nbt_keep.specs.Waiting.{WaitingValue, none_waits}
 use Rattle.nbt_state.specs.declared.arguments.StateFolder.{StateFolder}
+use Rattle.nbt_state.specs.declared.starting.KeptServer.{KeptServer}
 use Rattle.nbt_resume.specs.declared.beginning.Begun.{Begun}
 
-pub is_at_first : (a : NbnsArguments) (begun : Begun) (monotonic time : ℕ) (text : Option (List ℕ)) (port : PortsValue) (front : FrontValue) (store : Bool) (clock : ℕ) (server : ServerValue) (waiting : WaitingValue) (day shown moment : ℕ) (journal : Journal ℕ FileValue)
-    → port ≡ record { bind = a.bind; failures = 0 } → front ≡ a.front → store ≡ false → clock ≡ monotonic → server ≡ limited (Some a.rows_per_client) begun.server → waiting ≡ none_waits → day ≡ time → shown ≡ 0 → moment ≡ begun.server.last
-    → journal ≡ new_journal a (record { moment = moment; time = time }) shown begun.start
-    → ◌≡◌ {A = KeptNbns} (record {
-      keeping = record { port = record { port = port; front = front }; store = store; clock = record { clock = clock; by = begun.header.ahead }; server = server; waiting = waiting };
-      header = begun.header;
-      day = day;
-      watcher = journal;
-      text = text;
-    }) (at_first a begun monotonic time text)
-is_at_first a begun monotonic time text port front store clock server waiting day shown moment journal p f s c v w d n m j = cc
+-- both clocks stay at what they told
+pub are_read : (steady monotonic day time : ℕ) → AreRead steady monotonic day time → AreRead monotonic monotonic time time
+are_read steady monotonic day time r = record {
+  boot = r.boot;
+  day_before = r.day_before;
+  begins = r.begins;
+  monotonic_told = let t = r.monotonic_told in record { reading = t.reading; shown = t.shown; moment_is = t.moment_is; never_back = t.never_back; keeps = refl };
+  time_told = (refl, r.time_told.1);
+}
 
-pub begins : (a : NbnsArguments) (state : StateFolder) (goes : (start : ℕ) → KeptNbns → KeptNbns → Type 0) (old_text begun_text text : Option (List ℕ)) (boot monotonic day time : ℕ) (begun : Begun) (here new : KeptNbns)
-    → SteadyBegins SystemShows boot → ((read : ℕ) × SteadyTells SystemShows boot monotonic read) → MachineTells day time time → IsFoundHere a.config monotonic time state.silent_after_boot begun
-    → ((at : List Addr) × (line : List ℕ) × IsBegin at (manner_of a.config.longest begun.start (dates_of begun time) (length (live_rows begun.server)) begun.reason) line × Appends old_text begun_text line)
-    → here ≡ at_first a begun monotonic time begun_text → new.text ≡ text → goes begun.server.last here new → BeginsKept a state goes old_text text
-begins a state goes old_text begun_text text boot monotonic day time begun here new begun_clock told time_told found is_first is text_is run = record {
-  at = is_first.0;
-  boot = boot;
-  monotonic = monotonic;
-  day = day;
-  time = time;
-  begun = begun;
-  line = is_first.1;
+pub is_first_kept : (a : NbnsArguments) (begun : Begun) (monotonic time : ℕ) (store : Bool) (clock day : ℕ) (waiting : WaitingValue) (journal : Journal ℕ FileValue)
+    → store ≡ false → clock ≡ monotonic → day ≡ time → waiting ≡ none_waits → journal ≡ new_journal a (dates_of begun time) 0 begun.start
+    → kept_of begun store clock day waiting journal a.rows_per_client ≡ first_kept a begun monotonic time
+is_first_kept a begun monotonic time store clock day waiting journal s c d w j = cc
+
+-- what isn't for the device, of these faults
+pub for_memory : (text : Option (List ℕ)) (r : Fault) → r ≡ Memory → StartsNot text text r
+for_memory text r is = inr ((λ was. cc), refl)
+
+pub not_told : (old_text text : Option (List ℕ)) (r : Fault) → (r ≡ Output) ⊎ ((r ≡ Memory) × (text ≡ old_text)) → StartsNot old_text text r
+not_told old_text text r (inl is) = inl is
+not_told old_text text r (inr (is, same)) = inr ((λ was. cc), same)
+
+pub begins : (a : NbnsArguments) (state : StateFolder) (goes : (start : ℕ) → KeptNbns → KeptNbns → Type 0) (old_text begun_text text : Option (List ℕ)) (port : PortsValue) (front : FrontValue) (kept : KeptServer Bool (Ahead ℕ) ℕ (Journal ℕ FileValue)) (new : KeptNbns)
+    → Starts a state old_text begun_text kept → port ≡ record { bind = a.bind; failures = 0 } → front ≡ a.front → new.text ≡ text
+    → goes kept.server.last (staying_of (record { port = port; front = front }) kept begun_text) new → BeginsKept a state goes old_text text
+begins a state goes old_text begun_text text port front kept new s port_is front_is text_is run = record {
+  at = s.at;
+  boot = s.read.boot;
+  monotonic = s.monotonic;
+  day = s.read.day_before;
+  time = s.time;
+  begun = s.begun;
+  line = s.line;
   begun_text = begun_text;
   last = new;
-  begins = begun_clock;
-  monotonic_told = let t = told.1 in record { reading = t.reading; shown = t.shown; moment_is = t.moment_is; never_back = t.never_back; keeps = refl };
-  time_told = time_told;
-  found = found;
-  is_first = is_first.2;
-  printed = is_first.3;
-  goes_on = subst (λ (n : KeptNbns). goes begun.server.last n new) is run;
+  begins = s.read.begins;
+  monotonic_told = s.read.monotonic_told;
+  time_told = s.read.time_told;
+  found = s.found;
+  is_first = s.is_first;
+  printed = s.printed;
+  goes_on = subst (λ (k : KeptServer Bool (Ahead ℕ) ℕ (Journal ℕ FileValue)). goes k.server.last (staying_of (record { port = record { bind = a.bind; failures = 0 }; front = a.front }) k begun_text) new) s.kept_is
+      (subst (λ (p : PortsValue). goes kept.server.last (staying_of (record { port = p; front = a.front }) kept begun_text) new) port_is
+      (subst (λ (f : FrontValue). goes kept.server.last (staying_of (record { port = port; front = f }) kept begun_text) new) front_is run));
   text_is = text_is;
 }

@@ -7,6 +7,7 @@ mod first_line;
 mod folder;
 mod opening;
 mod running;
+mod starting;
 
 pub use arguments::{ServerArguments, StateFolder};
 pub use first_line::{Manner, manner_of, write_begin, write_reason};

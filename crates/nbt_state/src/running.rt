@@ -1,43 +1,33 @@
 //! A name server that keeps its leases, over UDP, the system's clocks and its files.
 
-ghost use Rattle.std.specs.Prelude.{◌≡◌, ◌≤◌, ◌<◌, ◌^◌, ◌⊎◌, ℕ, List, length, Err, OnOk, OnErr, IfErr};
-ghost use Rattle.std.specs.Io.KnownBytes.{Appends};
-ghost use Rattle.nbt_nbns.specs.Running.{NbnsFails, PortDoes, PortFailures};
+ghost use Rattle.std.specs.Prelude.{◌≡◌, ◌≤◌, ◌<◌, ◌^◌, ◌⊎◌, length, Err, OnOk, IfErr};
+ghost use Rattle.nbt_nbns.specs.Running.{PortDoes, PortFailures};
 ghost use Rattle.nbt_port.specs.Numbers.{forever};
 ghost use Rattle.nbt_port.specs.Staying.{StaysUntil, EndsEarly};
 ghost use Rattle.nbt_port.specs.Udp.{PortsValue};
 ghost use Rattle.nbt_front.specs.FrontPort.{Fronted};
-ghost use Rattle.nbt_state.specs.Begin.{IsBegin, manner_of};
 ghost use Rattle.nbt_state.specs.Running.{KeptFails, RunsKept, RunsServer};
 ghost use Rattle.nbt_keep.specs.Staying.{BreaksStaying, CutsStaying, WatchesLast, WatchesOn};
 ghost use Rattle.nbt_keep.specs.Waiting.{batch};
 ghost use Rattle.nbt_state.specs.Inner.Standing.{staying_of};
-ghost use Rattle.nbt_state.specs.declared.running.KeptServer.{KeptServer as Kept};
+ghost use Rattle.nbt_state.specs.declared.starting.KeptServer.{KeptServer as Kept};
 ghost use Rattle.nbt_keep.specs.declared.fault.KeepFault.TheVariants as fault;
 
 use crate::arguments::{ServerArguments, StateFolder};
-use crate::first_line::{manner_of, write_begin};
-use crate::opening::{begin_in, open_disk, open_store};
+use crate::starting::{KeptServer, start};
 use nbt_front::{Desk, FrontPort};
-use nbt_keep::{Waiting, keep_on};
+use nbt_keep::keep_on;
 use nbt_lease::Moment;
-use nbt_log::Dates;
-use nbt_name::Addr;
-use nbt_nbns::{NbnsArguments, Watcher, journal_of, run_nbns};
-use nbt_port::{
-    Ahead, Clock, Fault, MachineClock, Port, UdpPorts, print, readable_clock, steady_clock,
-    tell_end_of, until_of,
-};
-use nbt_resume::Begun;
+use nbt_nbns::{NbnsArguments, Watcher, run_nbns};
+use nbt_port::{Clock, Fault, MachineClock, Port, UdpPorts, tell_end_of, until_of};
 use nbt_serve::SambaPort;
-use nbt_server::Server;
-use nbt_store::{Header, Store};
+use nbt_store::Store;
 use std::alloc::Global;
 use std::fs::File;
 use std::io::Write;
 use std::net::Net;
 use std::rt::Files;
-use std::{io, time};
+use std::time;
 
 /// Runs a name server on UDP ports of this system, over the monotonic clock. Without a state it is [`run_nbns`].
 ///
@@ -76,64 +66,8 @@ fn run_kept<M: Net + time::Clock + Files<File = File>, W: Write, E: Write>(
     ensures clock { result ≡ Err Fault.NoClock → W.contents writer.new ≡ W.contents writer.old }
 {
     let port = UdpPorts::bind(machine, alloc, &arguments.bind, errors)?;
-    let mut clock = steady_clock(machine, arguments.bind.first(), errors)?;
-    let mut day = readable_clock(machine, arguments.bind.first(), errors)?;
-    let folder = state.path.as_str();
-    let disk = open_disk(machine, alloc, folder, errors)?;
-    let monotonic = clock.now();
-    let time = day.now();
-    let begun = begin_in(
-        machine,
-        alloc,
-        &disk,
-        state,
-        arguments.config,
-        monotonic,
-        time,
-        errors,
-    )?;
-    let opened = open_store(disk, alloc, folder, &begun, errors)?;
-    let dates = Dates {
-        moment: begun.server.last(),
-        time,
-    };
-    let at_day = MachineClock::new(machine);
-    let journal = journal_of(
-        machine,
-        alloc,
-        arguments,
-        dates,
-        at_day,
-        begun.start,
-        errors,
-    )?;
-    let waiting = Waiting::new(alloc)?;
-    let at = port.addresses()?;
-    tell_begin(
-        alloc,
-        at.as_slice(),
-        arguments.config.longest(),
-        &begun,
-        &dates,
-        opened.count,
-        writer,
-        errors,
-    )?;
-    let until = until_of(dates.moment, arguments.time);
-    let mut server = begun.server;
-    server.limit_clients(arguments.rows_per_client);
-    let kept = KeptServer {
-        store: opened.store,
-        clock: Ahead {
-            clock,
-            by: begun.header.ahead,
-        },
-        day,
-        server,
-        waiting,
-        header: begun.header,
-        journal,
-    };
+    let kept = start(machine, alloc, arguments, state, &port, writer, errors)?;
+    let until = until_of(kept.server.last(), arguments.time);
     let desk = Desk::new(alloc, &arguments.front, MachineClock::new(machine));
     keep_over(
         port,
@@ -146,50 +80,6 @@ fn run_kept<M: Net + time::Clock + Files<File = File>, W: Write, E: Write>(
         writer,
         errors,
     )
-}
-
-/// Prints how a server begins, and flushes. Refused: `Memory`, and then nothing is printed; `Output` where the line can't be
-/// written, and a line in `errors` says why.
-fn tell_begin<W: Write, E: Write>(
-    alloc: Global,
-    at: &[Addr],
-    longest: u32,
-    begun: &Begun,
-    dates: &Dates,
-    count: usize,
-    writer: &mut W,
-    errors: &mut E,
-) -> Result<(), Fault>
-    ensures ok { OnOk result ((line : List ℕ) × IsBegin at.now (manner_of longest begun.now.start dates.now count begun.now.reason) line × Appends (W.contents writer.old) (W.contents writer.new) line) }
-    ensures err { IfErr result (λ fault. (fault ≡ Fault.Output) ⊎ ((fault ≡ Fault.Memory) × (W.contents writer.new ≡ W.contents writer.old))) }
-{
-    let manner = manner_of(longest, begun.start, dates, count, begun.reason);
-    let mut line = String::new(alloc);
-    write_begin(at, manner, &mut line)?;
-    match print(line.as_str(), writer) {
-        Ok(()) => Ok(()),
-        Err(error) => {
-            let _ = complain(error, errors);
-            Err(Fault::Output)
-        }
-    }
-}
-
-fn complain<E: Write>(error: io::Error, errors: &mut E) -> io::Result<()> {
-    writeln!(errors, "nbt: the first line can't be written: {error}")?;
-    errors.flush()
-}
-
-/// What goes on of a server that keeps its leases, beside its port.
-#[derive(Drop)]
-struct KeptServer<S, C, D, V> {
-    store: S,
-    clock: C,
-    day: D,
-    server: Server,
-    waiting: Waiting,
-    header: Header,
-    journal: V,
 }
 
 /// Keeps a server up until it ends, over this port as it is where that is `strict`, else over one on which Samba's registrations

@@ -1,7 +1,7 @@
 -- A server that keeps its leases, beside its port (private functions alone).
 use Rattle.std.specs.Prelude.{ℕ, List, Option}
 use Rattle.nbt_keep.specs.Staying.{Staying}
-use Rattle.nbt_state.specs.declared.running.KeptServer.{KeptServer}
+use Rattle.nbt_state.specs.declared.starting.KeptServer.{KeptServer}
 
 -- with its port, and what was printed
 abbrev pub staying_of : {P S C D V : Type 0} → P → KeptServer S C D V → Option (List ℕ) → Staying P S C D V

@@ -6,6 +6,7 @@ use Does::{
     Advance, Ask, Crash, Deliver, Join, NameStatus, Poll, Release, Resolve, Resume, Start,
     Stranger, Tick,
 };
+use nbt_lease::Config;
 use nbt_name::{Addr, Kind, Name};
 use nbt_testing::{EVERY_KIND, REGISTRATION, config, octets, registration_of_many};
 use nbt_world::Outcome::{self, Done, Down, Lost, Nobody, Nothing, Refused, Sent, Taken};
@@ -746,10 +747,15 @@ const SAME: [Addr; 2] = [
 #[test]
 fn addresses_are_two_to_nine_and_apart_in_their_32_bits(rt: HostRuntime) -> Result<(), Fail> {
     let config = config(4096)?;
-    expect(&rt, World::new(rt.alloc(), config, &SAME).is_err());
-    expect(&rt, World::new(rt.alloc(), config, &ENDS[..1]).is_err());
-    expect(&rt, World::new(rt.alloc(), config, &ENDS[..2]).is_ok());
+    expect(&rt, !begins(&rt, config, &SAME));
+    expect(&rt, !begins(&rt, config, &ENDS[..1]));
+    expect(&rt, begins(&rt, config, &ENDS[..2]));
     Ok(())
+}
+
+/// Whether there is a world with these ends.
+fn begins<R: AllocGlobal>(rt: &R, config: Config, ends: &[Addr]) -> bool {
+    World::new(rt.alloc(), config, ends).is_ok()
 }
 
 /// Events of all kinds, over and over.
@@ -837,26 +843,36 @@ fn round<R: AllocGlobal>(rt: &R, world: &mut World, list: &mut Vec<Event>) -> Re
     Ok(())
 }
 
-/// What a world did one by one, a new one does in one run.
+/// Hundreds of events happen, one by one. They are put into the list.
+fn rounds<R: AllocGlobal>(rt: &R, world: &mut World, list: &mut Vec<Event>) -> Result<(), Fail> {
+    for _ in 0..12 {
+        round(rt, world, list)?;
+    }
+    Ok(())
+}
+
+/// In one run of a new world the same comes of these events as in one where they happened one by one.
 fn expect_same_run<R: Abort + AllocGlobal>(
     rt: &R,
     stepped: &mut World,
-    run: &mut World,
-    list: &mut Vec<Event>,
+    events: &[Event],
 ) -> Result<(), Fail> {
-    for _ in 0..12 {
-        round(rt, stepped, list)?;
-    }
-    expect(rt, list.len() > 300);
-    expect_eq(rt, &run.run(list.as_slice()), &Ok(()));
-    expect_same(rt, run, stepped)
+    expect(rt, events.len() > 300);
+    let mut run = world(rt)?;
+    expect_eq(rt, &run.run(events), &Ok(()));
+    expect_same(rt, &mut run, stepped)
+}
+
+/// In a world that is new the events happen one by one, and then in one run of another.
+fn expect_same_in_a_run<R: Abort + AllocGlobal>(rt: &R, stepped: &mut World) -> Result<(), Fail> {
+    let mut list = Vec::new(rt.alloc());
+    rounds(rt, stepped, &mut list)?;
+    expect_same_run(rt, stepped, list.as_slice())
 }
 
 #[test]
 fn a_run_of_hundreds_of_events_ends_where_they_do_one_by_one(rt: HostRuntime) -> Result<(), Fail> {
-    let mut stepped = world(&rt)?;
-    let mut run = world(&rt)?;
-    expect_same_run(&rt, &mut stepped, &mut run, &mut Vec::new(rt.alloc()))
+    expect_same_in_a_run(&rt, &mut world(&rt)?)
 }
 
 /// The registrations of 4,096 names by the stranger at 127.0.0.2.

@@ -1,0 +1,62 @@
+-- How a server begins that keeps its leases, before its port serves (private functions alone).
+use Rattle.std.specs.Prelude.{◌≡◌, ◌≢◌, ◌⊎◌, ℕ, Bool, false, List, length, Option, Some}
+use Rattle.std.specs.Io.KnownBytes.{Appends}
+use Rattle.nbt_name.specs.declared.addr.Addr.{Addr}
+use Rattle.nbt_port.specs.Clocks.{MachineTells, SteadyTells, SteadyBegins, SystemShows}
+use Rattle.nbt_port.specs.declared.ahead.Ahead.{Ahead}
+use Rattle.nbt_port.specs.declared.fault.Fault.{Fault}
+use Rattle.nbt_port.specs.declared.fault.Fault.TheVariants.{Device, Output}
+use Rattle.nbt_server.specs.Calls.{limited}
+use Rattle.nbt_nbns.specs.Places.{FileValue}
+use Rattle.nbt_nbns.specs.Running.{new_journal}
+use Rattle.nbt_nbns.specs.declared.journal.Journal.{Journal}
+use Rattle.nbt_nbns.specs.declared.running.NbnsArguments.{NbnsArguments}
+use Rattle.nbt_state.specs.Begin.{IsBegin, manner_of}
+use Rattle.nbt_state.specs.Opening.{IsFoundHere}
+use Rattle.nbt_state.specs.Running.{dates_of}
+use Rattle.nbt_keep.specs.Runs.{live_rows}
+use Rattle.nbt_keep.specs.Waiting.{WaitingValue, none_waits}
+use Rattle.nbt_state.specs.declared.arguments.StateFolder.{StateFolder}
+use Rattle.nbt_state.specs.declared.starting.KeptServer.{KeptServer}
+use Rattle.nbt_resume.specs.declared.beginning.Begun.{Begun}
+
+-- The steady clock and that of the day were begun, and each told its first time.
+pub record AreRead (steady monotonic day time : ℕ) : Type 0 where
+  pub boot : ℕ
+  pub day_before : ℕ
+  pub begins : SteadyBegins SystemShows boot
+  pub monotonic_told : SteadyTells SystemShows boot monotonic steady
+  pub time_told : MachineTells day_before time day
+
+-- what goes on of a server that begins so, beside its port, with this store, these clocks and this journal: it limits its clients
+abbrev pub kept_of : Begun → (store : Bool) → (clock day : ℕ) → WaitingValue → Journal ℕ FileValue → (rows_per_client : ℕ) → KeptServer Bool (Ahead ℕ) ℕ (Journal ℕ FileValue)
+kept_of begun store clock day waiting journal rows_per_client = record {
+  store = store;
+  clock = record { clock = clock; by = begun.header.ahead };
+  day = day;
+  server = limited (Some rows_per_client) begun.server;
+  waiting = waiting;
+  header = begun.header;
+  journal = journal;
+}
+
+-- what it is at first, at these times
+abbrev pub first_kept : NbnsArguments → Begun → (monotonic time : ℕ) → KeptServer Bool (Ahead ℕ) ℕ (Journal ℕ FileValue)
+first_kept a begun monotonic time = kept_of begun false monotonic time none_waits (new_journal a (dates_of begun time) 0 begun.start) a.rows_per_client
+
+-- The clocks are read, a server begins with what is found, and the first line is printed.
+pub record Starts (a : NbnsArguments) (state : StateFolder) (old_text text : Option (List ℕ)) (kept : KeptServer Bool (Ahead ℕ) ℕ (Journal ℕ FileValue)) : Type 0 where
+  pub monotonic : ℕ
+  pub time : ℕ
+  pub begun : Begun
+  pub at : List Addr
+  pub line : List ℕ
+  pub read : AreRead monotonic monotonic time time
+  pub found : IsFoundHere a.config monotonic time state.silent_after_boot begun
+  pub is_first : IsBegin at (manner_of a.config.longest begun.start (dates_of begun time) (length (live_rows begun.server)) begun.reason) line
+  pub printed : Appends old_text text line
+  pub kept_is : kept ≡ first_kept a begun monotonic time
+
+-- It doesn't: the line can't be written, or nothing was printed, and it isn't for the device.
+abbrev pub StartsNot : (old_text text : Option (List ℕ)) → Fault → Type 0
+StartsNot old_text text why = (why ≡ Output) ⊎ ((why ≢ Device) × (text ≡ old_text))

@@ -1,0 +1,229 @@
+//! How a name server begins that keeps its leases, over a machine: its clocks, its folder, and its first line.
+
+ghost use Rattle.std.specs.Prelude.{◌≡◌, ◌⊎◌, ℕ, List, OnOk, IfOk, IfErr};
+ghost use Rattle.std.specs.Io.KnownBytes.{Appends};
+ghost use Rattle.nbt_nbns.specs.Running.{new_journal};
+ghost use Rattle.nbt_state.specs.Begin.{IsBegin, manner_of};
+ghost use Rattle.nbt_state.specs.Running.{dates_of};
+ghost use Rattle.nbt_state.specs.Inner.Starting.{AreRead, Starts, StartsNot, kept_of};
+
+use crate::arguments::StateFolder;
+use crate::first_line::{Manner, manner_of, write_begin};
+use crate::folder::FolderStore;
+use crate::opening::{begin_in, open_disk, open_store};
+use nbt_keep::Waiting;
+use nbt_lease::Moment;
+use nbt_log::Dates;
+use nbt_name::Addr;
+use nbt_nbns::{FilePlace, Journal, NbnsArguments, journal_of};
+use nbt_port::{
+    Ahead, Clock, Fault, MachineClock, SteadyClock, UdpPorts, print, readable_clock, steady_clock,
+};
+use nbt_resume::Begun;
+use nbt_server::Server;
+use nbt_store::Header;
+use std::alloc::Global;
+use std::fs::File;
+use std::io::Write;
+use std::net::Net;
+use std::rt::Files;
+use std::{io, time};
+
+/// What goes on of a server that keeps its leases, beside its port.
+#[derive(Drop)]
+pub(crate) struct KeptServer<S, C, D, V> {
+    /// Where it keeps its leases.
+    pub store: S,
+    /// The clock by which it serves.
+    pub clock: C,
+    /// The time of day.
+    pub day: D,
+    /// The server.
+    pub server: Server,
+    /// The replies that wait until what they rest on is kept.
+    pub waiting: Waiting,
+    /// The header of its file.
+    pub header: Header,
+    /// What sees each turn.
+    pub journal: V,
+}
+
+/// Such a server over a machine.
+pub(crate) type Started<'a, M> = KeptServer<
+    FolderStore<'a, M>,
+    Ahead<SteadyClock<'a, M>>,
+    MachineClock<'a, M>,
+    MachineJournal<'a, M>,
+>;
+
+/// What sees its turns.
+type MachineJournal<'a, M> = Journal<MachineClock<'a, M>, FilePlace<'a, M>>;
+
+/// Reads the clocks and the folder, and prints how a server begins with what is found. Refused with `Output`, and else with another
+/// fault than `Device`, before anything is printed; a line in `errors` says why.
+pub(crate) fn start<'a, M: Net + time::Clock + Files<File = File>, W: Write, E: Write>(
+    machine: &'a M,
+    alloc: Global,
+    arguments: &NbnsArguments,
+    state: &'a StateFolder,
+    port: &UdpPorts<'_, M>,
+    writer: &mut W,
+    errors: &mut E,
+) -> Result<Started<'a, M>, Fault>
+    ensures ok { IfOk result (λ kept. Starts arguments.now state.now (W.contents writer.old) (W.contents writer.new) kept) }
+    ensures err { IfErr result (StartsNot (W.contents writer.old) (W.contents writer.new)) }
+{
+    let clocks = clocks_of(machine, arguments.bind.first(), errors)?;
+    let monotonic = clocks.monotonic;
+    let time = clocks.time;
+    let folder = state.path.as_str();
+    let disk = open_disk(machine, alloc, folder, errors)?;
+    let begun = begin_in(
+        machine,
+        alloc,
+        &disk,
+        state,
+        arguments.config,
+        monotonic,
+        time,
+        errors,
+    )?;
+    let opened = open_store(disk, alloc, folder, &begun, errors)?;
+    let waiting = Waiting::new(alloc)?;
+    let journal = tell_begin(
+        machine,
+        alloc,
+        arguments,
+        port,
+        &begun,
+        time,
+        opened.count,
+        writer,
+        errors,
+    )?;
+    Ok(kept_of(
+        begun,
+        opened.store,
+        clocks,
+        waiting,
+        journal,
+        arguments.rows_per_client,
+    ))
+}
+
+/// What goes on of a server that begins so. It limits its clients to so many rows.
+fn kept_of<'a, M: Net + time::Clock + Files>(
+    begun: Begun,
+    store: FolderStore<'a, M>,
+    clocks: Clocks<'a, M>,
+    waiting: Waiting,
+    journal: MachineJournal<'a, M>,
+    rows_per_client: u32,
+) -> Started<'a, M>
+    ensures { result ≡ kept_of begun store.entry clocks.entry.steady clocks.entry.day waiting journal.entry rows_per_client }
+{
+    let Clocks { steady, day, .. } = clocks;
+    let Begun { server, header, .. } = begun;
+    let mut server = server;
+    server.limit_clients(rows_per_client);
+    KeptServer {
+        store,
+        clock: Ahead {
+            clock: steady,
+            by: header.ahead,
+        },
+        day,
+        server,
+        waiting,
+        header,
+        journal,
+    }
+}
+
+/// Both clocks of a machine, and what they told.
+#[derive(Drop)]
+struct Clocks<'a, M: time::Clock> {
+    steady: SteadyClock<'a, M>,
+    day: MachineClock<'a, M>,
+    monotonic: Moment,
+    time: Moment,
+}
+
+/// Reads both clocks of a machine. Refused with `NoClock` where one can't be read: a line in `errors` says why.
+fn clocks_of<'a, M: Net + time::Clock, E: Write>(
+    machine: &'a M,
+    addr: Addr,
+    errors: &mut E,
+) -> Result<Clocks<'a, M>, Fault>
+    ensures ok { IfOk result (λ clocks. AreRead clocks.steady clocks.monotonic clocks.day clocks.time) }
+    ensures err { IfErr result (λ fault. fault ≡ Fault.NoClock) }
+{
+    let mut steady = steady_clock(machine, addr, errors)?;
+    let mut day = readable_clock(machine, addr, errors)?;
+    let monotonic = steady.now();
+    let time = day.now();
+    Ok(Clocks {
+        steady,
+        day,
+        monotonic,
+        time,
+    })
+}
+
+/// The journal of a server that begins so, at this time of the day, with so many leases: once it is there, the first line is printed,
+/// and flushed. Refused as [`start`].
+fn tell_begin<'a, M: Net + time::Clock + Files, W: Write, E: Write>(
+    machine: &'a M,
+    alloc: Global,
+    arguments: &NbnsArguments,
+    port: &UdpPorts<'_, M>,
+    begun: &Begun,
+    time: Moment,
+    count: usize,
+    writer: &mut W,
+    errors: &mut E,
+) -> Result<MachineJournal<'a, M>, Fault>
+    ensures journal { IfOk result (λ journal. journal ≡ new_journal arguments.now (dates_of begun.now time) 0 begun.now.start) }
+    ensures line { OnOk result ((at : List Addr) × (line : List ℕ) × IsBegin at (manner_of arguments.now.config.longest begun.now.start (dates_of begun.now time) count begun.now.reason) line × Appends (W.contents writer.old) (W.contents writer.new) line) }
+    ensures err { IfErr result (StartsNot (W.contents writer.old) (W.contents writer.new)) }
+{
+    let dates = Dates {
+        moment: begun.server.last(),
+        time,
+    };
+    let day = MachineClock::new(machine);
+    let journal = journal_of(machine, alloc, arguments, dates, day, begun.start, errors)?;
+    let longest = arguments.config.longest();
+    let manner = manner_of(longest, begun.start, &dates, count, begun.reason);
+    print_begin(alloc, port, manner, writer, errors)?;
+    Ok(journal)
+}
+
+/// Prints where a server serves, and how it begins, and flushes. Refused: `Memory`, and then nothing is printed; `Output` where the
+/// line can't be written, and a line in `errors` says why.
+fn print_begin<M: Net + time::Clock + Files, W: Write, E: Write>(
+    alloc: Global,
+    port: &UdpPorts<'_, M>,
+    manner: Manner,
+    writer: &mut W,
+    errors: &mut E,
+) -> Result<(), Fault>
+    ensures ok { OnOk result ((at : List Addr) × (line : List ℕ) × IsBegin at manner line × Appends (W.contents writer.old) (W.contents writer.new) line) }
+    ensures err { IfErr result (λ fault. (fault ≡ Fault.Output) ⊎ ((fault ≡ Fault.Memory) × (W.contents writer.new ≡ W.contents writer.old))) }
+{
+    let at = port.addresses()?;
+    let mut line = String::new(alloc);
+    write_begin(at.as_slice(), manner, &mut line)?;
+    match print(line.as_str(), writer) {
+        Ok(()) => Ok(()),
+        Err(error) => {
+            let _ = complain(error, errors);
+            Err(Fault::Output)
+        }
+    }
+}
+
+fn complain<E: Write>(error: io::Error, errors: &mut E) -> io::Result<()> {
+    writeln!(errors, "nbt: the first line can't be written: {error}")?;
+    errors.flush()
+}
