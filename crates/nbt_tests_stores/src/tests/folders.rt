@@ -88,47 +88,77 @@ fn expect_long<R: Abort + AllocGlobal + Files + time::Clock>(
     Ok(())
 }
 
-/// A store of a folder that has no file yet: a lease at first, which then goes, and begins again in a file that is written anew.
-fn expect_kept<R: Abort + AllocGlobal + Files<File = File> + time::Clock>(
+/// The lease of a store goes, and begins again in a file that is written anew.
+fn expect_changes<R: Abort + AllocGlobal + Files<File = File> + time::Clock>(
     rt: &R,
     folder: &str,
+    store: &mut FolderStore<'_, R>,
+    rows: &[(Name, Lease)],
 ) -> Result<(), Fail> {
-    let disk = SystemDisk::open_folder(rt, rt.alloc(), folder)?;
-    expect(rt, disk.read(rt.alloc())?.is_none());
     let (name, lease) = row()?;
-    let rows = [row()?];
-    let mut store = FolderStore::open(disk, rt.alloc(), &header()?, &rows)?;
-    expect_eq(rt, &kept(rt, folder)?, &1);
     let addr = lease.addr;
+    expect_eq(rt, &kept(rt, folder)?, &1);
     store.append(&Change::Released { name, addr })?;
     store.sync()?;
     expect_eq(rt, &kept(rt, folder)?, &0);
-    store.renew(&header()?, &rows)?;
+    store.renew(&header()?, rows)?;
     expect_eq(rt, &kept(rt, folder)?, &1);
     expect(rt, text_in(rt, folder, "leases.new")?.is_none());
-    // Nobody else may use the folder meanwhile.
+    Ok(())
+}
+
+/// Nobody else may use the folder.
+fn expect_used<R: Abort + AllocGlobal + Files<File = File>>(rt: &R, folder: &str) {
     match SystemDisk::open_folder(rt, rt.alloc(), folder).err() {
         Some(error) => expect(rt, error.kind() == io::ErrorKind::WouldBlock),
         None => expect(rt, false),
     }
+}
+
+/// A store of a folder that has no file yet, with a lease.
+fn open_new<'a, R: Abort + AllocGlobal + Files<File = File> + time::Clock>(
+    rt: &'a R,
+    folder: &'a str,
+    rows: &[(Name, Lease)],
+) -> Result<FolderStore<'a, R>, Fail> {
+    let disk = SystemDisk::open_folder(rt, rt.alloc(), folder)?;
+    expect(rt, disk.read(rt.alloc())?.is_none());
+    Ok(FolderStore::open(disk, rt.alloc(), &header()?, rows)?)
+}
+
+fn expect_kept<R: Abort + AllocGlobal + Files<File = File> + time::Clock>(
+    rt: &R,
+    folder: &str,
+) -> Result<(), Fail> {
+    let rows = [row()?];
+    let mut store = open_new(rt, folder, &rows)?;
+    expect_changes(rt, folder, &mut store, &rows)?;
+    expect_used(rt, folder);
     expect_long(rt, folder, &mut store)
 }
 
-/// What can't be loaded is set aside, in place of what was set aside before.
+/// This text of a file can't be loaded, and is set aside, in place of what was set aside before.
+fn set_aside<R: Abort + AllocGlobal + Files<File = File>>(
+    rt: &R,
+    folder: &str,
+    disk: &mut SystemDisk<'_, R>,
+    text: &str,
+) -> Result<(), Fail> {
+    fs::write(rt, path_in(rt, folder, "leases")?.as_str(), text)?;
+    disk.set_aside()?;
+    expect(rt, disk.read(rt.alloc())?.is_none());
+    let aside = text_in(rt, folder, "leases.bad")?.ok_or("nothing aside")?;
+    expect_eq(rt, &aside.as_str(), &text);
+    Ok(())
+}
+
 fn expect_aside<R: Abort + AllocGlobal + Files<File = File>>(
     rt: &R,
     folder: &str,
 ) -> Result<(), Fail> {
     let mut disk = SystemDisk::open_folder(rt, rt.alloc(), folder)?;
-    let path = path_in(rt, folder, "leases")?;
-    for text in ["one", "two"] {
-        fs::write(rt, path.as_str(), text)?;
-        disk.set_aside()?;
-        expect(rt, disk.read(rt.alloc())?.is_none());
-        let aside = text_in(rt, folder, "leases.bad")?.ok_or("nothing aside")?;
-        expect_eq(rt, &aside.as_str(), &text);
-    }
-    Ok(())
+    set_aside(rt, folder, &mut disk, "one")?;
+    set_aside(rt, folder, &mut disk, "two")
 }
 
 #[test]
@@ -246,15 +276,24 @@ fn put<R: AllocGlobal + Files>(rt: &R, folder: &str, there: There) -> Result<(),
         _ => fs::create_dir(rt, folder)?,
     }
     match there {
-        There::Folder(name) => fs::create_dir(rt, path_in(rt, folder, name)?.as_str())?,
-        There::Leases(text) => fs::write(rt, path_in(rt, folder, "leases")?.as_str(), text)?,
+        There::Folder(name) => put_folder(rt, folder, name),
+        There::Leases(text) => put_leases(rt, folder, text),
         There::LeasesAndFolder(text) => {
-            fs::write(rt, path_in(rt, folder, "leases")?.as_str(), text)?;
-            fs::create_dir(rt, path_in(rt, folder, "leases.bad")?.as_str())?;
+            put_leases(rt, folder, text)?;
+            put_folder(rt, folder, "leases.bad")
         }
-        _ => {}
+        _ => Ok(()),
     }
-    Ok(())
+}
+
+/// Puts a folder into a folder.
+fn put_folder<R: AllocGlobal + Files>(rt: &R, folder: &str, name: &str) -> Result<(), Fail> {
+    Ok(fs::create_dir(rt, path_in(rt, folder, name)?.as_str())?)
+}
+
+/// Puts a file of leases there.
+fn put_leases<R: AllocGlobal + Files>(rt: &R, folder: &str, text: &str) -> Result<(), Fail> {
+    Ok(fs::write(rt, path_in(rt, folder, "leases")?.as_str(), text)?)
 }
 
 /// A server over a folder of this machine, at a port that no other test has, which ends after its first turn.
@@ -359,18 +398,28 @@ fn what_a_server_finds_in_a_folder(rt: HostRuntime) -> Result<(), Fail> {
     Ok(())
 }
 
+/// The first line of a server over this folder can't be written, and it says so.
+fn expect_unwritten<R: Abort + AllocGlobal + Net + time::Clock + Files<File = File>>(
+    rt: &R,
+    folder: &str,
+    errors: &mut Vec<u8>,
+) -> Result<(), Fail> {
+    let mut room = [0; 8];
+    let arguments = arguments(rt, folder)?;
+    let ended = run_server(rt, rt.alloc(), &arguments, &mut &mut room[..], errors);
+    expect_eq(rt, &ended, &Err(Fault::Output));
+    let said = b"nbt: the first line can't be written: failed to write whole buffer\n";
+    expect_eq(rt, &errors.as_slice(), &said.as_slice());
+    Ok(())
+}
+
 #[test]
 fn a_first_line_of_a_kept_server_that_can_not_be_written(rt: HostRuntime) -> Result<(), Fail> {
     let folder = path_for(&rt, "unwritten")?;
-    fs::create_dir(&rt, folder.as_str())?;
-    let arguments = arguments(&rt, folder.as_str())?;
-    let mut room = [0; 8];
-    let mut errors = Vec::new(rt.alloc());
-    let ended = run_server(&rt, rt.alloc(), &arguments, &mut &mut room[..], &mut errors);
-    expect_eq(&rt, &ended, &Err(Fault::Output));
-    let said = b"nbt: the first line can't be written: failed to write whole buffer\n";
-    expect_eq(&rt, &errors.as_slice(), &said.as_slice());
-    fs::remove_dir_all(&rt, folder.as_str())?;
+    let folder = folder.as_str();
+    fs::create_dir(&rt, folder)?;
+    expect_unwritten(&rt, folder, &mut Vec::new(rt.alloc()))?;
+    fs::remove_dir_all(&rt, folder)?;
     Ok(())
 }
 

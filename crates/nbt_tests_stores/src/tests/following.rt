@@ -242,18 +242,27 @@ fn expect_looks<R: Abort + AllocGlobal, N: Net + Files>(
     port: &mut UdpPorts<'_, Machine<'_, N>>,
     looks: &[Look],
 ) -> Result<(), Fail> {
-    let mut octets = ArrayVec::new();
     for look in looks {
         let (now, list, served, said) = *look;
         machine.since_boot.set(now);
         fs::write(machine.host, machine.list, list)?;
-        expect_eq_in(rt, look, &receive(rt, port, &mut octets)?, &None);
-        let mut errors = Vec::new(rt.alloc());
-        port.tell_changes(&mut errors);
-        expect_eq_in(rt, look, &errors.as_slice(), &said.as_bytes());
+        expect_eq_in(rt, look, &receive(rt, port, &mut ArrayVec::new())?, &None);
+        expect_said(rt, look, port, said);
         expect_served(rt, look, port, served)?;
     }
     Ok(())
+}
+
+/// This is said of what changed.
+fn expect_said<R: Abort + AllocGlobal, M: Net + Files + time::Clock>(
+    rt: &R,
+    about: &Look,
+    port: &mut UdpPorts<'_, M>,
+    said: &str,
+) {
+    let mut errors = Vec::new(rt.alloc());
+    port.tell_changes(&mut errors);
+    expect_eq_in(rt, about, &errors.as_slice(), &said.as_bytes());
 }
 
 /// A host.
@@ -286,24 +295,44 @@ fn addresses_that_come_and_go(rt: HostRuntime) -> Result<(), Fail> {
     let machine = machine_of(&rt, list.as_str(), 1_000);
     let bind = Bind::Every(PORT);
     let mut errors = Vec::new(rt.alloc());
-    let mut host = UdpPort::bind(&rt, HOST)?;
     fs::write(&rt, list.as_str(), ONE_AND_TWO)?;
     let mut port = UdpPorts::bind(&machine, rt.alloc(), &bind, &mut errors)?;
     expect(&rt, errors.is_empty());
-    expect_looks(&rt, &machine, &mut port, &LOOKS)?;
-    expect_reply(&rt, &mut port, &mut host, at(3))?;
+    expect_followed(&rt, &machine, &mut port, list.as_str())?;
+    expect_told_over_another(&rt, &machine, SambaPort::new(port), list.as_str())
+}
+
+/// A port follows its machine's addresses.
+fn expect_followed<R: Abort + AllocGlobal + Net + Files>(
+    rt: &R,
+    machine: &Machine<'_, R>,
+    port: &mut UdpPorts<'_, Machine<'_, R>>,
+    list: &str,
+) -> Result<(), Fail> {
+    let mut host = UdpPort::bind(rt, HOST)?;
+    expect_looks(rt, machine, port, &LOOKS)?;
+    expect_reply(rt, port, &mut host, at(3))?;
     // Without the list it keeps what it has.
-    fs::remove_file(&rt, list.as_str())?;
+    fs::remove_file(rt, list)?;
     machine.since_boot.set(20_000);
-    expect_reply(&rt, &mut port, &mut host, at(3))?;
-    // A port over it says what changed, too.
-    fs::write(&rt, list.as_str(), ONE)?;
+    expect_reply(rt, port, &mut host, at(3))
+}
+
+/// A port over another one says what changed, too.
+fn expect_told_over_another<R: Abort + AllocGlobal + Net + Files>(
+    rt: &R,
+    machine: &Machine<'_, R>,
+    port: SambaPort<UdpPorts<'_, Machine<'_, R>>>,
+    list: &str,
+) -> Result<(), Fail> {
+    let mut port = port;
+    fs::write(rt, list, ONE)?;
     machine.since_boot.set(30_000);
-    let mut port = SambaPort::new(port);
-    expect_eq(&rt, &receive(&rt, &mut port, &mut ArrayVec::new())?, &None);
+    expect_eq(rt, &receive(rt, &mut port, &mut ArrayVec::new())?, &None);
+    let mut errors = Vec::new(rt.alloc());
     port.tell_changes(&mut errors);
-    expect_eq(&rt, &errors.as_slice(), &ONE_FOR_THREE.as_bytes());
-    fs::remove_file(&rt, list.as_str())?;
+    expect_eq(rt, &errors.as_slice(), &ONE_FOR_THREE.as_bytes());
+    fs::remove_file(rt, list)?;
     Ok(())
 }
 
@@ -374,17 +403,23 @@ fn begun<R: AllocGlobal, M: Net + Files + time::Clock>(
     bind: &Bind,
     errors: &mut Vec<u8>,
 ) -> Result<Result<Vec<u32>, Fault>, Fail> {
-    let port = match UdpPorts::bind(machine, rt.alloc(), bind, errors) {
-        Ok(port) => port,
-        Err(fault) => return Ok(Err(fault)),
-    };
-    // It said what there was to say.
-    port.tell_changes(errors);
+    match UdpPorts::bind(machine, rt.alloc(), bind, errors) {
+        Ok(mut port) => {
+            // It said what there was to say.
+            port.tell_changes(errors);
+            Ok(Ok(numbers_of(rt, port.addresses()?.as_slice())?))
+        }
+        Err(fault) => Ok(Err(fault)),
+    }
+}
+
+/// The 32 bits of each address.
+fn numbers_of<R: AllocGlobal>(rt: &R, addresses: &[Addr]) -> Result<Vec<u32>, Fail> {
     let mut found = Vec::new(rt.alloc());
-    for addr in port.addresses()?.iter() {
+    for addr in addresses {
         found.push(addr.ip)?;
     }
-    Ok(Ok(found))
+    Ok(found)
 }
 
 fn expect_begun<R: Abort>(
@@ -406,14 +441,26 @@ fn every_address_that_a_machine_lists(rt: HostRuntime) -> Result<(), Fail> {
     let machine = machine_of(&rt, path.as_str(), 0);
     let bind = Bind::Every(BEGUN);
     for row in &BEGINS {
-        let (list, lines, wanted, said) = row;
-        put_list(&rt, path.as_str(), *list, *lines)?;
-        let mut errors = Vec::new(rt.alloc());
-        let found = begun(&rt, &machine, &bind, &mut errors)?;
-        expect_begun(&rt, row, &found, wanted);
-        expect_eq_in(&rt, row, &errors.as_slice(), &said.as_bytes());
+        expect_begin(&rt, &machine, path.as_str(), &bind, row)?;
     }
     expect_no_memory(&rt, &machine, path.as_str(), &bind)
+}
+
+/// A port begins as the row says.
+fn expect_begin<R: Abort + AllocGlobal + Net + Files>(
+    rt: &R,
+    machine: &Machine<'_, R>,
+    path: &str,
+    bind: &Bind,
+    row: &Begin,
+) -> Result<(), Fail> {
+    let (list, lines, wanted, said) = row;
+    put_list(rt, path, *list, *lines)?;
+    let mut errors = Vec::new(rt.alloc());
+    let found = begun(rt, machine, bind, &mut errors)?;
+    expect_begun(rt, row, &found, wanted);
+    expect_eq_in(rt, row, &errors.as_slice(), &said.as_bytes());
+    Ok(())
 }
 
 /// Where there is no memory for a socket, that is why there is none.
@@ -507,18 +554,28 @@ fn a_server_says_which_address_came(rt: HostRuntime) -> Result<(), Fail> {
     let first = path_for(&rt, "served-first")?;
     let list = path_for(&rt, "served")?;
     let folder = path_for(&rt, "served-state")?;
-    fs::write(&rt, first.as_str(), ONE)?;
-    fs::write(&rt, list.as_str(), ONE_AND_TWO)?;
-    fs::create_dir(&rt, folder.as_str())?;
+    expect_came(&rt, first.as_str(), list.as_str(), folder.as_str())
+}
+
+/// A server says so without a folder, and with this one.
+fn expect_came<R: Abort + AllocGlobal + Net + Files<File = File>>(
+    rt: &R,
+    first: &str,
+    list: &str,
+    folder: &str,
+) -> Result<(), Fail> {
+    fs::write(rt, first, ONE)?;
+    fs::write(rt, list, ONE_AND_TWO)?;
+    fs::create_dir(rt, folder)?;
     let machine = Machine {
-        first: first.as_str(),
+        first,
         step: 1_000,
-        ..machine_of(&rt, list.as_str(), 0)
+        ..machine_of(rt, list, 0)
     };
-    expect_told(&rt, &machine, None)?;
-    expect_told(&rt, &machine, Some(folder.as_str()))?;
-    fs::remove_file(&rt, first.as_str())?;
-    fs::remove_file(&rt, list.as_str())?;
-    fs::remove_dir_all(&rt, folder.as_str())?;
+    expect_told(rt, &machine, None)?;
+    expect_told(rt, &machine, Some(folder))?;
+    fs::remove_file(rt, first)?;
+    fs::remove_file(rt, list)?;
+    fs::remove_dir_all(rt, folder)?;
     Ok(())
 }

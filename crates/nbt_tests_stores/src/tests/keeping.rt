@@ -396,20 +396,25 @@ fn expect_known<R: Abort + AllocGlobal>(
     octets: &[u8],
     sent: &[Datagram],
 ) -> Result<(), Fail> {
-    let loaded = load(rt.alloc(), octets)?;
     let now = moment(61_000)?;
-    let mut server = Server::resume(
+    let mut server = resumed(rt, octets, now)?;
+    for datagram in sent {
+        expect_found(rt, &mut server, now, datagram.octets.as_slice())?;
+    }
+    Ok(())
+}
+
+/// The server that goes on with what these octets of a file keep.
+fn resumed<R: AllocGlobal>(rt: &R, octets: &[u8], now: Moment) -> Result<Server, Fail> {
+    let loaded = load(rt.alloc(), octets)?;
+    Ok(Server::resume(
         rt.alloc(),
         config(4096)?,
         moment(loaded.header.start)?,
         moment(loaded.header.last)?,
         now,
         loaded.rows.as_slice(),
-    )?;
-    for datagram in sent {
-        expect_found(rt, &mut server, now, datagram.octets.as_slice())?;
-    }
-    Ok(())
+    )?)
 }
 
 /// The server finds the name of this grant.
@@ -559,10 +564,10 @@ fn stay<R: Abort + AllocGlobal + time::Clock>(
     header: &mut Header,
     until: u64,
 ) -> Result<(Result<(), Fault>, Vec<u8>), Fail> {
+    let until = Some(moment(until)?);
     let mut watcher = journal(rt)?;
     let mut printed: Vec<u8> = Vec::new(rt.alloc());
     let mut errors: Vec<u8> = Vec::new(rt.alloc());
-    let until = Some(moment(until)?);
     expect(rt, stage.port.failures() <= 1 << 61);
     expect(rt, stage.waiting.len() < BATCH);
     let came = keep_on(
@@ -726,16 +731,30 @@ impl Scene for Long {
             store: &mut store,
             waiting: &mut waiting,
         };
-        let (came, _) = stay(rt, &mut stage, &mut day, &mut header, 60_003)?;
-        expect_eq(rt, &came, &Ok(()));
-        expect_eq(rt, &stage.port.sent().len(), &MANY);
-        // 17 batches of 64, 12 more, and 3 calls to write the file anew.
-        expect_eq(rt, &stage.store.disk().calls(), &(3 + MANY + 17 + 1 + 3));
-        expect_eq(rt, &header.last, &60_000);
-        let loaded = load(rt.alloc(), stage.store.disk().octets())?;
-        expect_eq(rt, &loaded.rows.len(), &1);
-        Ok(())
+        stay_long(rt, &mut stage, &mut day, &mut header)
     }
+}
+
+/// Goes on until the file is written anew.
+fn stay_long<R: Abort + AllocGlobal + time::Clock>(
+    rt: &R,
+    stage: &mut Stage,
+    day: &mut MemoryClock,
+    header: &mut Header,
+) -> Result<(), Fail> {
+    let (came, _) = stay(rt, stage, day, header, 60_003)?;
+    expect_eq(rt, &came, &Ok(()));
+    expect_eq(rt, &stage.port.sent().len(), &MANY);
+    // 17 batches of 64, 12 more, and 3 calls to write the file anew.
+    expect_eq(rt, &stage.store.disk().calls(), &(3 + MANY + 17 + 1 + 3));
+    expect_eq(rt, &header.last, &60_000);
+    expect_eq(rt, &rows_in(rt, stage.store.disk().octets())?, &1);
+    Ok(())
+}
+
+/// How many leases these octets of a file have.
+fn rows_in<R: AllocGlobal>(rt: &R, octets: &[u8]) -> Result<usize, Fail> {
+    Ok(load(rt.alloc(), octets)?.rows.len())
 }
 
 #[test]

@@ -249,7 +249,17 @@ fn begin_as(rt: &(impl Abort + AllocGlobal), row: &Start<'_>) -> Result<(), Fail
         day: moment(DAY.saturating_add(later))?,
         silent_after_boot,
     };
-    let begun = begin(rt.alloc(), &found)?;
+    expect_begun(rt, row, &found, &wanted)
+}
+
+/// A server begins so with what is found.
+fn expect_begun(
+    rt: &(impl Abort + AllocGlobal),
+    row: &Start<'_>,
+    found: &Found<'_>,
+    wanted: &Result<(u64, usize), Reason>,
+) -> Result<(), Fail> {
+    let begun = begin(rt.alloc(), found)?;
     let count = begun
         .server
         .table()
@@ -259,7 +269,7 @@ fn begin_as(rt: &(impl Abort + AllocGlobal), row: &Start<'_>) -> Result<(), Fail
         Some(reason) => Err(reason),
         None => Ok((begun.header.ahead, count)),
     };
-    expect_eq_in(rt, row, &got, &wanted);
+    expect_eq_in(rt, row, &got, wanted);
     Ok(())
 }
 

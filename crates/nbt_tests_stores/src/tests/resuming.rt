@@ -148,20 +148,42 @@ fn expect_leases(
 
 /// A case of a table that is restored.
 fn restore<R: Abort + AllocGlobal>(rt: &R, case: &Restoring<'_>) -> Result<(), Fail> {
-    let (what, kept, wanted) = case;
+    let (_, kept, _) = case;
     let rows = rows_of(rt, kept)?;
+    restore_rows(rt, case, rows.as_slice())
+}
+
+fn restore_rows<R: Abort + AllocGlobal>(
+    rt: &R,
+    case: &Restoring<'_>,
+    rows: &[(Name, Lease)],
+) -> Result<(), Fail> {
+    let (what, _, wanted) = case;
     let config = Config::new(1000, 60, 4)?;
-    match Table::restore(rt.alloc(), config, moment(60_000)?, rows.as_slice()) {
+    match Table::restore(rt.alloc(), config, moment(60_000)?, rows) {
         Ok(mut table) => {
             expect_in(rt, what, wanted.is_ok());
-            if let Ok((fred, team)) = wanted {
-                expect_leases(rt, what, &mut table, FRED, fred)?;
-                expect_leases(rt, what, &mut table, TEAM, team)?;
+            match wanted {
+                Ok(leases) => expect_both(rt, what, &mut table, leases),
+                Err(_) => Ok(()),
             }
         }
-        Err(fault) => expect_eq_in(rt, what, &Err(fault), &wanted.map(|_| ())),
+        Err(fault) => {
+            expect_eq_in(rt, what, &Err(fault), &wanted.map(|_| ()));
+            Ok(())
+        }
     }
-    Ok(())
+}
+
+/// The table has these leases of both names.
+fn expect_both(
+    rt: &impl Abort,
+    what: &str,
+    table: &mut Table,
+    (fred, team): &(Leases<'_>, Leases<'_>),
+) -> Result<(), Fail> {
+    expect_leases(rt, what, table, FRED, fred)?;
+    expect_leases(rt, what, table, TEAM, team)
 }
 
 #[test]
