@@ -3,6 +3,7 @@
 use nbt_name::Name;
 use std::test::Fail;
 
+mod counting;
 mod disks;
 mod expect;
 mod folders;

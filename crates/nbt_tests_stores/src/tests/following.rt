@@ -26,20 +26,37 @@ const LIST: &str = "/proc/net/fib_trie";
 const DAY: u64 = 1_795_511_463_000;
 
 /// This machine with other lists of its addresses: one when it is read first, and another one from then on. Its monotonic clock shows so
-/// many milliseconds, and at each reading so many more. It has memory for sockets or not.
+/// many milliseconds, and at each reading so many more, and a client sends, if there is one. It has memory for sockets or not.
 #[derive(Drop)]
-struct Machine<'a, N> {
-    host: &'a N,
-    first: &'a str,
-    list: &'a str,
-    is_read: Cell<bool>,
-    since_boot: Cell<u64>,
-    step: u64,
-    has_memory: Cell<bool>,
+pub(super) struct Machine<'a, N> {
+    pub host: &'a N,
+    pub first: &'a str,
+    pub list: &'a str,
+    pub is_read: Cell<bool>,
+    pub since_boot: Cell<u64>,
+    pub step: u64,
+    pub client: Option<&'a Client>,
+    pub has_memory: Cell<bool>,
+}
+
+/// A client that sends two packets to a server.
+#[derive(Drop)]
+pub(super) struct Client {
+    pub socket: UdpSocket,
+    pub to: SocketAddr,
+    pub packets: [Vec<u8>; 2],
+}
+
+impl Client {
+    fn send(&self) {
+        for packet in &self.packets {
+            let _ = self.socket.send_to(packet.as_slice(), self.to);
+        }
+    }
 }
 
 /// A machine whose list is in one file, and whose clock a test sets.
-fn machine_of<'a, N>(host: &'a N, list: &'a str, since_boot: u64) -> Machine<'a, N> {
+pub(super) fn machine_of<'a, N>(host: &'a N, list: &'a str, since_boot: u64) -> Machine<'a, N> {
     Machine {
         host,
         first: list,
@@ -47,12 +64,16 @@ fn machine_of<'a, N>(host: &'a N, list: &'a str, since_boot: u64) -> Machine<'a,
         is_read: Cell::new(false),
         since_boot: Cell::new(since_boot),
         step: 0,
+        client: None,
         has_memory: Cell::new(true),
     }
 }
 
 impl<'a, N> time::Clock for Machine<'a, N> {
     fn monotonic(&self) -> io::Result<Duration> {
+        if let Some(client) = self.client {
+            client.send();
+        }
         let now = self.since_boot.get();
         self.since_boot.set(now.saturating_add(self.step));
         Ok(Duration::from_millis(now))
@@ -140,7 +161,7 @@ impl<'a, N: Files> Files for Machine<'a, N> {
 }
 
 /// A path in the folder for temporary files that no other test has.
-fn path_for(rt: &HostRuntime, name: &str) -> Result<String, Fail> {
+pub(super) fn path_for(rt: &HostRuntime, name: &str) -> Result<String, Fail> {
     let folder = env::temp_dir(rt)?;
     let folder = folder.as_path().to_str().ok_or("no text")?;
     let id = process::id(rt.process());
@@ -495,7 +516,10 @@ fn the_first_of_the_addresses(rt: HostRuntime) -> Result<(), Fail> {
 }
 
 /// A server of every address that ends 2.5 s after its start, which keeps its leases in this folder, if there is one.
-fn arguments<R: AllocGlobal>(rt: &R, folder: Option<&str>) -> Result<ServerArguments, Fail> {
+pub(super) fn arguments<R: AllocGlobal>(
+    rt: &R,
+    folder: Option<&str>,
+) -> Result<ServerArguments, Fail> {
     let state = match folder {
         Some(folder) => Some(StateFolder {
             path: String::from_str(rt.alloc(), folder)?,
