@@ -649,21 +649,6 @@ fn desk_of<'a, R: AllocGlobal>(
     Ok(Desk::new(rt.alloc(), front, clock_of(rt, moments)?))
 }
 
-/// A port in memory behind a front.
-type MemoryFront<'a> = FrontPort<'a, MemoryPort, MemoryClock>;
-
-/// The port that hands out what this one did, behind this front, by a clock that tells these moments.
-fn front_port<'a, R: AllocGlobal>(
-    rt: &R,
-    port: &mut MemoryPort,
-    front: &'a Front,
-    moments: &[u64],
-) -> Result<MemoryFront<'a>, Fail> {
-    let desk = desk_of(rt, front, moments)?;
-    let beneath = mem::replace(port, port_of(rt, &[])?);
-    Ok(FrontPort::new(beneath, desk))
-}
-
 /// `serve_turns` at a port of which few calls have failed.
 fn serve<R: Abort, P: Port>(
     rt: &R,
@@ -693,20 +678,9 @@ impl Scene for Behind<'_> {
         clock: &mut MemoryClock,
         server: &mut Server,
     ) -> Result<(), Fail> {
-        let mut over = front_port(rt, port, self.front, &[])?;
-        self.serve_behind(rt, &mut over, clock, server)
-    }
-}
-
-impl Behind<'_> {
-    fn serve_behind<R: Abort + AllocGlobal>(
-        &self,
-        rt: &R,
-        over: &mut MemoryFront<'_>,
-        clock: &mut MemoryClock,
-        server: &mut Server,
-    ) -> Result<(), Fail> {
-        let counts = serve(rt, over, clock, server, self.turns)?;
+        let beneath = mem::replace(port, port_of(rt, &[])?);
+        let mut over = FrontPort::new(beneath, desk_of(rt, self.front, &[])?);
+        let counts = serve(rt, &mut over, clock, server, self.turns)?;
         expect_eq(rt, &counts.receives, &self.turns);
         expect_eq(rt, &counts.replies, &self.by_the_server);
         expect_sent(rt, over.beneath(), self.sent)
@@ -768,20 +742,12 @@ fn play_all<R: Abort + AllocGlobal + time::Clock>(
 
 #[test]
 fn a_front_decides_and_the_server_never_sees_it(rt: HostRuntime) -> Result<(), Fail> {
-    expect_decided(&rt, &front_of(&rt)?, BY_THE_FRONT, BY_THE_SERVER)
-}
-
-/// The front decides these rows, while the server is silent, and once it speaks; those are the server's.
-fn expect_decided<R: Abort + AllocGlobal + time::Clock>(
-    rt: &R,
-    front: &Front,
-    decided: &[(Row, Row)],
-    others: &[(Row, Option<Row>)],
-) -> Result<(), Fail> {
-    play_rows(rt, front, decided, 0)?;
-    play_rows(rt, front, decided, 60_000)?;
-    play_all(rt, front, decided, others, 59_999, true)?;
-    play_all(rt, front, decided, others, 60_000, false)
+    let front = front_of(&rt)?;
+    // While the server is silent, and once it speaks.
+    play_rows(&rt, &front, BY_THE_FRONT, 0)?;
+    play_rows(&rt, &front, BY_THE_FRONT, 60_000)?;
+    play_all(&rt, &front, BY_THE_FRONT, BY_THE_SERVER, 59_999, true)?;
+    play_all(&rt, &front, BY_THE_FRONT, BY_THE_SERVER, 60_000, false)
 }
 
 // ---- without networks, or without names
@@ -853,10 +819,11 @@ const SAID: &[Row] = &[
 fn receive_and_tell<R: Abort + AllocGlobal, P: Port>(
     rt: &R,
     port: &mut P,
+    octets: &mut ArrayVec<u8, 2048>,
     said: &str,
 ) -> Result<(), Fail> {
     expect(rt, port.failures() < 1 << 62);
-    port.receive(&mut ArrayVec::new())?;
+    port.receive(octets)?;
     let mut errors = Vec::new(rt.alloc());
     port.tell_changes(&mut errors);
     expect_eq(rt, &errors.as_slice(), &said.as_bytes());
@@ -877,33 +844,28 @@ impl Scene for Says<'_> {
         _clock: &mut MemoryClock,
         _server: &mut Server,
     ) -> Result<(), Fail> {
-        let mut over = front_port(rt, port, self.front, &[])?;
-        expect_each_said(rt, &mut over)
+        let beneath = mem::replace(port, port_of(rt, &[])?);
+        let mut over = FrontPort::new(beneath, desk_of(rt, self.front, &[])?);
+        let mut octets = ArrayVec::new();
+        for said in [
+            "",
+            "nbt: refused FRED#20 127.0.0.3: a fixed name\n",
+            "nbt: refused NODEB#20 198.18.137.3: not allowed\n",
+            "",
+            "",
+            "",
+        ] {
+            receive_and_tell(rt, &mut over, &mut octets, said)?;
+        }
+        let replied = OwnReplies {
+            not_allowed: 1,
+            fixed_refused: 1,
+            fixed_confirmed: 1,
+            fixed_found: 1,
+        };
+        expect_eq(rt, &over.own_replies(), &replied);
+        Ok(())
     }
-}
-
-fn expect_each_said<R: Abort + AllocGlobal>(
-    rt: &R,
-    over: &mut MemoryFront<'_>,
-) -> Result<(), Fail> {
-    for said in [
-        "",
-        "nbt: refused FRED#20 127.0.0.3: a fixed name\n",
-        "nbt: refused NODEB#20 198.18.137.3: not allowed\n",
-        "",
-        "",
-        "",
-    ] {
-        receive_and_tell(rt, over, said)?;
-    }
-    let replied = OwnReplies {
-        not_allowed: 1,
-        fixed_refused: 1,
-        fixed_confirmed: 1,
-        fixed_found: 1,
-    };
-    expect_eq(rt, &over.own_replies(), &replied);
-    Ok(())
 }
 
 /// Ten lines of a kind in a second: of 13 that are refused at 0, ten are said; at 999 still none, and at 1,000 the three, and the one
@@ -921,22 +883,20 @@ impl Scene for SaysFew<'_> {
         _clock: &mut MemoryClock,
         _server: &mut Server,
     ) -> Result<(), Fail> {
+        let beneath = mem::replace(port, port_of(rt, &[])?);
         let times = [0, 0, 0, 0, 0, 0, 0, 0, 0, 0, 0, 0, 0, 999, 1_000];
-        let mut over = front_port(rt, port, self.front, &times)?;
-        expect_few_said(rt, &mut over)
+        let mut over = FrontPort::new(beneath, desk_of(rt, self.front, &times)?);
+        let mut octets = ArrayVec::new();
+        for place in 0..15 {
+            let said = match place {
+                0..10 => "nbt: refused NODEB#20 198.18.137.3: not allowed\n",
+                14 => "nbt: refused NODEB#20 198.18.137.3: not allowed, 4 left out before\n",
+                _ => "",
+            };
+            receive_and_tell(rt, &mut over, &mut octets, said)?;
+        }
+        Ok(())
     }
-}
-
-fn expect_few_said<R: Abort + AllocGlobal>(rt: &R, over: &mut MemoryFront<'_>) -> Result<(), Fail> {
-    for place in 0..15 {
-        let said = match place {
-            0..10 => "nbt: refused NODEB#20 198.18.137.3: not allowed\n",
-            14 => "nbt: refused NODEB#20 198.18.137.3: not allowed, 4 left out before\n",
-            _ => "",
-        };
-        receive_and_tell(rt, over, said)?;
-    }
-    Ok(())
 }
 
 #[test]
@@ -962,26 +922,15 @@ impl Scene for Fails<'_> {
         server: &mut Server,
     ) -> Result<(), Fail> {
         port.fail_after(self.call);
-        let mut over = front_port(rt, port, self.front, &[])?;
-        self.expect_failed(rt, &mut over, clock, server)
-    }
-}
-
-impl Fails<'_> {
-    fn expect_failed<R: Abort>(
-        &self,
-        rt: &R,
-        over: &mut MemoryFront<'_>,
-        clock: &mut MemoryClock,
-        server: &mut Server,
-    ) -> Result<(), Fail> {
-        let served = serve(rt, over, clock, server, 5);
+        let beneath = mem::replace(port, port_of(rt, &[])?);
+        let mut over = FrontPort::new(beneath, desk_of(rt, self.front, &[])?);
+        let served = serve(rt, &mut over, clock, server, 5);
         expect_eq_in(rt, &self.call, &served, &Err(Device));
         expect_eq_in(rt, &self.call, &over.failures(), &1);
         expect_eq_in(rt, &self.call, &over.beneath().failures(), &1);
         expect_in(rt, &self.call, over.beneath().sent().is_empty());
         // And the next turn goes on with what comes next.
-        let counts = serve(rt, over, clock, server, 1)?;
+        let counts = serve(rt, &mut over, clock, server, 1)?;
         expect_eq_in(rt, &self.call, &counts.receives, &1);
         expect_eq_in(rt, &self.call, &over.failures(), &1);
         expect_eq_in(rt, &self.call, &over.beneath().sent().len(), &1);

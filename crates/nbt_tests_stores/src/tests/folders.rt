@@ -436,19 +436,31 @@ fn run_over_lock<R: AllocGlobal + Net + time::Clock + Files<File = File>>(
     Ok((ended, errors))
 }
 
-/// A lock that something else replaced would let a second server in.
+/// Statistics aren't put in place of the lock of this folder, which says what it is.
+fn expect_locked<R: Abort + AllocGlobal + Net + time::Clock + Files<File = File>>(
+    rt: &R,
+    folder: &str,
+) -> Result<(), Fail> {
+    let (ended, errors) = run_over_lock(rt, folder)?;
+    expect_eq(rt, &ended, &Err(Fault::Output));
+    let why = b"its first line isn't '# statistics of nbt nbns': remove that file first\n";
+    expect(rt, errors.as_slice().ends_with(why));
+    let text = text_in(rt, folder, "lock")?;
+    let text = text.as_ref().map(|text| text.as_str());
+    expect_eq(rt, &text, &Some("# lock of nbt nbns\n"));
+    Ok(())
+}
+
+/// A lock that something else replaced would let a second server in: one that wasn't there before, and an empty one, as an earlier
+/// version left it.
 #[test]
 fn nothing_is_put_in_place_of_a_lock(rt: HostRuntime) -> Result<(), Fail> {
     let folder = path_for(&rt, "locked")?;
     let folder = folder.as_str();
     fs::create_dir(&rt, folder)?;
-    let (ended, errors) = run_over_lock(&rt, folder)?;
-    expect_eq(&rt, &ended, &Err(Fault::Output));
-    let why = b"its first line isn't '# statistics of nbt nbns': remove that file first\n";
-    expect(&rt, errors.as_slice().ends_with(why));
-    let text = text_in(&rt, folder, "lock")?;
-    let text = text.as_ref().map(|text| text.as_str());
-    expect_eq(&rt, &text, &Some("# lock of nbt nbns\n"));
+    expect_locked(&rt, folder)?;
+    fs::write(&rt, path_in(&rt, folder, "lock")?.as_str(), "")?;
+    expect_locked(&rt, folder)?;
     fs::remove_dir_all(&rt, folder)?;
     Ok(())
 }
