@@ -171,6 +171,7 @@ class Report:
         found = [reply for reply in own if reply.addresses]
         say(f"rival nmbd: the server told who has {Nmbd.OWN} in {len(found)} of {len(own)} answers")
         say(f"rival nmbd: meanwhile the server told of another holder, or of none, in {len(apart)} answers")
+        say(f"rival nmbd: it ended by itself {self.book.counts['ends of nmbd']} times")
         for pair in pairs[:SHOWN]:
             say(f"    {self.tell_pair(pair)}")
 

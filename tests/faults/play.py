@@ -117,6 +117,8 @@ class Play:
                 status = program.end(time.monotonic())
                 if gave_back and status in (0, 5):
                     self.book.counts["ends"] += 1
+                elif isinstance(program, Nmbd):
+                    self.book.counts["ends of nmbd"] += 1
                 else:
                     self.book.wrong["ended"].append(f"{program.name} ended with {status}")
                 self.after(random.Random(f"{self.seed} {program.name} {program.life}").uniform(0.1, 6), program.start)
