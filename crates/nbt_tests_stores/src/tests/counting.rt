@@ -1,7 +1,7 @@
 //! The statistics of a server over a folder of this machine: they go on counting what its devices do.
 
 use super::expect::expect;
-use super::following::{Client, Machine, arguments, machine_of, path_for};
+use super::following::{Client, arguments, machine_beside, path_for};
 use nbt_front::{Front, read_fixed};
 use nbt_name::Addr;
 use nbt_port::Bind;
@@ -52,12 +52,15 @@ fn run_counted<R: Abort + AllocGlobal + Net + time::Clock + Files<File = File>>(
     rt: &R,
     arguments: &ServerArguments,
 ) -> Result<(), Fail> {
-    let client = client(rt)?;
-    let machine = Machine {
-        step: 10_000,
-        client: Some(&client),
-        ..machine_of(rt, "", 0)
-    };
+    run_beside(rt, &client(rt)?, arguments)
+}
+
+fn run_beside<'a, R: Abort + AllocGlobal + Net + time::Clock + Files<File = File>>(
+    rt: &'a R,
+    client: &'a Client,
+    arguments: &ServerArguments,
+) -> Result<(), Fail> {
+    let machine = machine_beside(rt, client);
     let mut printed = Vec::new(rt.alloc());
     let mut errors = Vec::new(rt.alloc());
     let ended = run_server(&machine, rt.alloc(), arguments, &mut printed, &mut errors);

@@ -56,7 +56,7 @@ impl Client {
 }
 
 /// A machine whose list is in one file, and whose clock a test sets.
-pub(super) fn machine_of<'a, N>(host: &'a N, list: &'a str, since_boot: u64) -> Machine<'a, N> {
+fn machine_of<'a, N>(host: &'a N, list: &'a str, since_boot: u64) -> Machine<'a, N> {
     Machine {
         host,
         first: list,
@@ -65,6 +65,20 @@ pub(super) fn machine_of<'a, N>(host: &'a N, list: &'a str, since_boot: u64) -> 
         since_boot: Cell::new(since_boot),
         step: 0,
         client: None,
+        has_memory: Cell::new(true),
+    }
+}
+
+/// A machine whose clock shows ten seconds more at each reading, at which this client sends.
+pub(super) fn machine_beside<'a, N>(host: &'a N, client: &'a Client) -> Machine<'a, N> {
+    Machine {
+        host,
+        first: "",
+        list: "",
+        is_read: Cell::new(false),
+        since_boot: Cell::new(0),
+        step: 10_000,
+        client: Some(client),
         has_memory: Cell::new(true),
     }
 }
@@ -582,10 +596,10 @@ fn a_server_says_which_address_came(rt: HostRuntime) -> Result<(), Fail> {
 }
 
 /// A server says so without a folder, and with this one.
-fn expect_came<R: Abort + AllocGlobal + Net + Files<File = File>>(
-    rt: &R,
-    first: &str,
-    list: &str,
+fn expect_came<'a, R: Abort + AllocGlobal + Net + Files<File = File>>(
+    rt: &'a R,
+    first: &'a str,
+    list: &'a str,
     folder: &str,
 ) -> Result<(), Fail> {
     fs::write(rt, first, ONE)?;
