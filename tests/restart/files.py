@@ -94,20 +94,16 @@ def goes_on(start, leases):
 
 
 def cut_well(start, place):
-    """Whether it did as it has to over a file that is cut: nothing of it stands where it has no header, and else all whole lines do."""
+    """Whether it did as it has to over a file that is cut: it was written with all its leases, so nothing of it stands unless all do."""
     whole = lines_of(start.octets)
     if whole == 0:
         return start.is_silent("nothing was kept")
-    if whole == 1:
-        return start.is_silent("damaged at line 2") and start.aside == start.octets
-    return goes_on(start, whole - 2)
+    return start.is_silent(f"damaged at line {whole + 1}") and start.aside == start.octets
 
 
 def changed_well(start, place):
-    """Whether it did as it has to over a file with another octet: it is damaged there, but at its very end a line is torn."""
+    """Whether it did as it has to over a file with another octet: it is damaged in that line; at its very end the line has no end."""
     line = lines_of(start.octets[:place]) + 1
-    if place == len(start.octets) - 1:
-        return goes_on(start, line - 3)
     return start.is_silent("another version" if line == 1 else f"damaged at line {line}") and start.aside == start.octets
 
 
@@ -122,7 +118,7 @@ def sealed(words):
 def forged(good, **changes):
     """The file with other words in its header, by their names, and leases with an expiry that is so much later."""
     version, header, *leases = good.decode().splitlines()
-    names = ["life", "longest", "rows", "boot", "ahead", "start", "last", "day"]
+    names = ["life", "longest", "rows", "boot", "ahead", "start", "last", "day", "leases"]
     words = dict(zip(names, header.split(), strict=False))
     later = changes.pop("later", 0)
     for name, change in changes.items():
@@ -135,7 +131,15 @@ def with_many(good, count):
     """The file with so many leases, of names of their own."""
     version, header, lease, *_ = good.decode().splitlines()
     began, _, host, kind, end, _ = lease.split()
-    return "".join([f"{version}\n{header}\n", *(sealed([began, f"N{number}", host, kind, end]) for number in range(count))]).encode()
+    words = header.split()[:-2]
+    return "".join([f"{version}\n", sealed([*words, count]), *(sealed([began, f"N{number}", host, kind, end]) for number in range(count))]).encode()
+
+
+def with_one_appended(good):
+    """The file with one more lease, that was appended since it was written."""
+    *_, lease = good.decode().splitlines()
+    began, _, host, kind, end, _ = lease.split()
+    return good + sealed([began, "LATER", host, kind, end]).encode()
 
 
 def files_of(good):
@@ -144,7 +148,9 @@ def files_of(good):
     return [
         ("as it was", good, None),
         ("with the same checksums", forged(good), None),
-        ("of another version", good.replace(b"version 1", b"version 2"), "another version"),
+        ("of another version", good.replace(b"version 2", b"version 1"), "another version"),
+        ("of one lease more than it says, cut at its end", with_one_appended(good)[:-1], None),
+        ("of one lease less than it says", forged(good, leases=1), f"damaged at line {lines_of(good) + 1}"),
         ("of another LIFE", forged(good, life=1), "another LIFE"),
         ("of another LONGEST", forged(good, longest=1), "another LONGEST"),
         ("of fewer rows", forged(good, rows=-1), "another number of rows"),

@@ -4,11 +4,11 @@ use Rattle.std.specs.Prelude.{◌↔◌, IsSomeAnd, MatchOption}
 use Rattle.nbt_store.specs.declared.change.Change.{Change}
 use Rattle.nbt_store.specs.declared.verb.Verb.{Verb}
 use Rattle.nbt_text.specs.Number.{SpellsNumber}
-use Rattle.nbt_store.specs.declared.header.Header.{Header}
+use Rattle.nbt_store.specs.declared.header.Head.{Head}
 use Rattle.nbt_store.specs.Boot.{SpellsBoot}
 use Rattle.nbt_text.specs.Lines.{words as words_of}
 use Rattle.nbt_store.specs.Checksum.{sealed}
-use Rattle.nbt_store.specs.Lines.{IsHead, SpellsHeader}
+use Rattle.nbt_store.specs.Lines.{IsHead, SpellsHead}
 use Rattle.nbt_store.proofs.Seals.{same_body}
 use Rattle.nbt_store.specs.Words.{Then, NoMore}
 use Rattle.nbt_store.specs.Records.{IsRecord, Makes, Says, says, SaysOf, verb_word}
@@ -49,46 +49,49 @@ by_verb ws rest word found_verb v None whole tells there reads = λ i s.
     absurd cc
 by_verb ws rest word found_verb v (Some i) whole tells there reads = rw (whole, (tells v).0 there) (says v rest i ((reads i).0 refl))
 
--- ---- headers
+-- ---- heads
 
-abbrev pub Eight : Type 0
-Eight = ℕ × (ℕ × (ℕ × (List ℕ × (ℕ × (ℕ × (ℕ × (ℕ × Unit {0})))))))
+abbrev pub Nine : Type 0
+Nine = ℕ × (ℕ × (ℕ × (List ℕ × (ℕ × (ℕ × (ℕ × (ℕ × (ℕ × Unit {0}))))))))
 
-abbrev pub header_from : Eight → Header
-header_from v = record {
-  life = v.0;
-  longest = v.1.0;
-  rows = v.1.1.0;
-  boot = v.1.1.1.0;
-  ahead = v.1.1.1.1.0;
-  start = v.1.1.1.1.1.0;
-  last = v.1.1.1.1.1.1.0;
-  day = v.1.1.1.1.1.1.1.0;
+abbrev pub head_from : Nine → Head
+head_from v = record {
+  header = record {
+    life = v.0;
+    longest = v.1.0;
+    rows = v.1.1.0;
+    boot = v.1.1.1.0;
+    ahead = v.1.1.1.1.0;
+    start = v.1.1.1.1.1.0;
+    last = v.1.1.1.1.1.1.0;
+    day = v.1.1.1.1.1.1.1.0;
+  };
+  leases = v.1.1.1.1.1.1.1.1.0;
 }
 
-abbrev pub SpellEight : List (List ℕ) → Eight → Type 0
-SpellEight = Then SpellsNumber (Then SpellsNumber (Then SpellsNumber (Then SpellsBoot (Then SpellsNumber (Then SpellsNumber (Then SpellsNumber (Then SpellsNumber NoMore)))))))
+abbrev pub SpellNine : List (List ℕ) → Nine → Type 0
+SpellNine = Then SpellsNumber (Then SpellsNumber (Then SpellsNumber (Then SpellsBoot (Then SpellsNumber (Then SpellsNumber (Then SpellsNumber (Then SpellsNumber (Then SpellsNumber NoMore))))))))
 
-pub header_made : (ws : List (List ℕ)) (found : Option Eight) (r : Option Header) (Gives : Eight → Header → Type 0) (h : Header)
-    → Reads Eight found (SpellEight ws) → MatchOption found (r ≡ None) (λ x. IsSomeAnd r (Gives x))
-    → ((x : Eight) (j : Header) → Gives x j → j ≡ header_from x) → (r ≡ Some h) ↔ SpellsHeader ws h
-header_made ws None r Gives h reads none given = (
+pub head_made : (ws : List (List ℕ)) (found : Option Nine) (r : Option Head) (Gives : Nine → Head → Type 0) (h : Head)
+    → Reads Nine found (SpellNine ws) → MatchOption found (r ≡ None) (λ x. IsSomeAnd r (Gives x))
+    → ((x : Nine) (j : Head) → Gives x j → j ≡ head_from x) → (r ≡ Some h) ↔ SpellsHead ws h
+head_made ws None r Gives h reads none given = (
   λ same. absurd cc,
   λ m. let there = (reads m.values).1 m.spelled in absurd cc,
 )
-header_made ws (Some x) (Some j) Gives h reads one given = (
-  λ same. let is : h ≡ header_from x = sym (ap (λ (k : Option Header). or_header j k) same) ∙ given x j one in record { values = x; spelled = (reads x).0 refl; header_is = is },
-  λ m. let there = (reads m.values).1 m.spelled in let same : x ≡ m.values = cc in let is = given x j one in ap Some (is ∙ ap header_from same ∙ sym m.header_is),
+head_made ws (Some x) (Some j) Gives h reads one given = (
+  λ same. let is : h ≡ head_from x = sym (ap (λ (k : Option Head). or_head j k) same) ∙ given x j one in record { values = x; spelled = (reads x).0 refl; head_is = is },
+  λ m. let there = (reads m.values).1 m.spelled in let same : x ≡ m.values = cc in let is = given x j one in ap Some (is ∙ ap head_from same ∙ sym m.head_is),
 ) where
-  or_header : Header → Option Header → Header
-  or_header c None = c
-  or_header c (Some k) = k
-header_made ws (Some x) None Gives h reads one given = absurd one
+  or_head : Head → Option Head → Head
+  or_head c None = c
+  or_head c (Some k) = k
+head_made ws (Some x) None Gives h reads one given = absurd one
 
-pub head_read : (line body : List ℕ) (ws : List (List ℕ)) (found : Option Header) (h : Header) → line ≡ sealed body → ws ≡ words_of body → Reads Header found (SpellsHeader ws) → (found ≡ Some h) ↔ IsHead line h
+pub head_read : (line body : List ℕ) (ws : List (List ℕ)) (found : Option Head) (h : Head) → line ≡ sealed body → ws ≡ words_of body → Reads Head found (SpellsHead ws) → (found ≡ Some h) ↔ IsHead line h
 head_read line body ws found h e are reads = (
-  λ some. record { body = body; line_is = e; words_say = subst (λ (xs : List (List ℕ)). SpellsHeader xs h) are ((reads h).0 some) },
-  λ is. (reads h).1 (subst (λ (xs : List (List ℕ)). SpellsHeader xs h) (sym (are ∙ ap words_of (same_body line body is.body e is.line_is))) is.words_say),
+  λ some. record { body = body; line_is = e; words_say = subst (λ (xs : List (List ℕ)). SpellsHead xs h) are ((reads h).0 some) },
+  λ is. (reads h).1 (subst (λ (xs : List (List ℕ)). SpellsHead xs h) (sym (are ∙ ap words_of (same_body line body is.body e is.line_is))) is.words_say),
 )
 
 pub record_is : (line : List ℕ) (o : Option Change) (c : Change) → o ≡ Some c → MatchOption o ((x : Change) → ¬ IsRecord line x) (IsRecord line) → IsRecord line c

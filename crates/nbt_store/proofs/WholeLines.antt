@@ -1,12 +1,13 @@
 -- The lines of a file that have their end: what a cut, a line more and a reading line by line make of them.
 use Rattle.std.proofs.Common.{◌≡◌, ◌∙◌, ℕ, zero, suc, ◌+◌, ◌-◌, ◌^◌, ◌<◌, ◌≤◌, ◌==◌, List, [], ◌∷◌, ◌++◌, length, take, inl, inr, ap, sym, subst, refl, append_assoc, arith, lit<}
 use Rattle.std.proofs.lemmas.Bool.{cases_Bool, ne_eqb, cond-true, cond-false}
-use Rattle.std.proofs.lemmas.List.{length-append, length-take}
+use Rattle.std.proofs.lemmas.List.{length-append, length-take, take_all, take-append-le}
 use Rattle.nbt_text.specs.Lines.{line_feed, newline, one_line, HasNo}
 use Rattle.nbt_store.specs.declared.change.Change.{Change}
+use Rattle.nbt_store.specs.declared.header.Head.{Head}
 use Rattle.nbt_store.specs.declared.header.Header.{Header}
 use Rattle.nbt_store.specs.Changes.{MayLeave, after, after_all, no_leases}
-use Rattle.nbt_store.specs.Lines.{in_front, whole_lines, IsLine, IsClosed, AreRecords, IsFile, IsHead, HasFault, bad_record, version}
+use Rattle.nbt_store.specs.Lines.{in_front, whole_lines, IsLine, IsClosed, AreRecords, HaveLines, IsFile, IsHead, HasFault, bad_record, cut_off, version}
 use Rattle.std.specs.Prelude.{min}
 use Rattle.std.specs.List.{IsDistinct}
 use Rattle.std.specs.Map.{keys_of}
@@ -17,7 +18,7 @@ use Rattle.nbt_store.specs.declared.fault.ReadFault.{ReadFault}
 use Rattle.nbt_store.specs.declared.fault.ReadFault.TheVariants as read
 use Rattle.nbt_store.specs.Records.{IsRecord}
 use Rattle.nbt_store.specs.Loading.{AreRowsOf}
-use Rattle.nbt_store.specs.Reading.{HaveRead, HasFront, IsLoaded, IsBadLine, IsRefused}
+use Rattle.nbt_store.specs.Reading.{HaveRead, HasFront, IsLoaded, IsBadRest, IsRefused, counted}
 use Rattle.nbt_store.proofs.Members.{changes_append, rows_of_changes}
 
 -- ---- a line that has no line feed
@@ -141,23 +142,30 @@ more_records (l ∷ ls) ms [] ds h k = absurd h
 
 -- ---- files
 
-pub one_more_change : (octets line : List ℕ) (h : Header) (cs : List Change) (c : Change) → IsFile octets h cs → IsClosed octets → IsLine line → IsRecord line c → IsFile (octets ++ one_line line) h (cs ++ c ∷ [])
-one_more_change octets line h cs c file closed is says = record {
-  head = file.head;
-  records = file.records ++ line ∷ [];
-  lines_are = behind_closed octets (one_line line) closed ∙ ap (λ (ls : List (List ℕ)). whole_lines octets ++ ls) (one_line_is line is) ∙ ap (λ (ls : List (List ℕ)). ls ++ line ∷ []) file.lines_are;
-  head_is = file.head_is;
-  records_are = more_records file.records (line ∷ []) cs (c ∷ []) file.records_are (says, tt);
+pub one_more_line : (octets line : List ℕ) (head : Head) (cs : List Change) (c : Change) → HaveLines octets head cs → IsClosed octets → IsLine line → IsRecord line c → HaveLines (octets ++ one_line line) head (cs ++ c ∷ [])
+one_more_line octets line head cs c lines closed is says = record {
+  line = lines.line;
+  records = lines.records ++ line ∷ [];
+  lines_are = behind_closed octets (one_line line) closed ∙ ap (λ (ls : List (List ℕ)). whole_lines octets ++ ls) (one_line_is line is) ∙ ap (λ (ls : List (List ℕ)). ls ++ line ∷ []) lines.lines_are;
+  head_is = lines.head_is;
+  records_are = more_records lines.records (line ∷ []) cs (c ∷ []) lines.records_are (says, tt);
 }
 
--- cut where the first two lines are whole, it is a file of the first changes
-pub cut_file : (octets : List ℕ) (h : Header) (cs : List Change) (k n : ℕ) → IsFile octets h cs → length (whole_lines (take k octets)) ≡ suc (suc n) → IsFile (take k octets) h (take n cs)
-cut_file octets h cs k n file size = record {
-  head = file.head;
-  records = take n file.records;
-  lines_are = cut_lines k octets ∙ ap (λ (m : ℕ). take m (whole_lines octets)) size ∙ ap (take (suc (suc n))) file.lines_are;
-  head_is = file.head_is;
-  records_are = first_records n file.records cs file.records_are;
+pub one_more_change : (octets line : List ℕ) (h : Header) (cs : List Change) (c : Change) → IsFile octets h cs → IsClosed octets → IsLine line → IsRecord line c → IsFile (octets ++ one_line line) h (cs ++ c ∷ [])
+one_more_change octets line h cs c file closed is says = record {
+  leases = file.leases;
+  lines = one_more_line octets line _ cs c file.lines closed is says;
+  enough = let few = file.enough in let size = length-append cs (c ∷ []) in omega arith;
+}
+
+-- cut where the first two lines are whole, it has the lines of the first changes
+cut_file : (octets : List ℕ) (head : Head) (cs : List Change) (k n : ℕ) → HaveLines octets head cs → length (whole_lines (take k octets)) ≡ suc (suc n) → HaveLines (take k octets) head (take n cs)
+cut_file octets head cs k n lines size = record {
+  line = lines.line;
+  records = take n lines.records;
+  lines_are = cut_lines k octets ∙ ap (λ (m : ℕ). take m (whole_lines octets)) size ∙ ap (take (suc (suc n))) lines.lines_are;
+  head_is = lines.head_is;
+  records_are = first_records n lines.records cs lines.records_are;
 }
 
 one_longer : (a b : ℕ) → suc a + b ≡ suc (a + b)
@@ -167,8 +175,28 @@ behind_front : (xs ys : List ℕ) (j : ℕ) → take (length xs + j) (xs ++ ys) 
 behind_front [] ys j = ap (λ (m : ℕ). take m ys) (omega arith)
 behind_front (x ∷ xs) ys j = ap (λ (m : ℕ). take m ((x ∷ xs) ++ ys)) (one_longer (length xs) j) ∙ ap (λ (zs : List ℕ). x ∷ zs) (behind_front xs ys j)
 
-file_size : (octets : List ℕ) (h : Header) (cs : List Change) → IsFile octets h cs → length (whole_lines octets) ≡ length cs + 2
-file_size octets h cs file = let many = as_many file.records cs file.records_are in omega (arith, ap length file.lines_are, many)
+file_size : (octets : List ℕ) (head : Head) (cs : List Change) → HaveLines octets head cs → length (whole_lines octets) ≡ length cs + 2
+file_size octets head cs lines = let many = as_many lines.records cs lines.records_are in omega (arith, ap length lines.lines_are, many)
+
+-- the second line, if there is one
+second_of : List (List ℕ) → List ℕ
+second_of [] = []
+second_of (first ∷ []) = []
+second_of (first ∷ second ∷ lines) = second
+
+second_of_cut : (j : ℕ) (first second : List ℕ) (lines : List (List ℕ)) → second_of (take (suc (suc j)) (first ∷ second ∷ lines)) ≡ second
+second_of_cut j first second lines = refl
+
+-- what grew has the head that it had
+same_head : (octets more : List ℕ) (old now : Head) (kept all : List Change) → (before : HaveLines octets old kept) → (after : HaveLines (octets ++ more) now all) → before.line ≡ after.line
+same_head octets more old now kept all before after =
+    let whole : take (length octets) (octets ++ more) ≡ octets = take-append-le (length octets) octets more (omega arith) ∙ take_all (length octets) octets (omega arith) in
+    let size = file_size octets old kept before in
+    let cut : whole_lines octets ≡ take (length (whole_lines octets)) (whole_lines (octets ++ more)) = subst (λ (xs : List ℕ). whole_lines xs ≡ take (length (whole_lines xs)) (whole_lines (octets ++ more))) whole (cut_lines (length octets) (octets ++ more)) in
+    sym (ap second_of before.lines_are) ∙ ap second_of cut ∙ ap second_of (ap (λ (m : ℕ). take m (whole_lines (octets ++ more))) size ∙ ap (take (length kept + 2)) after.lines_are)
+    ∙ ap (λ (m : ℕ). second_of (take m (version ∷ after.line ∷ after.records))) (two_more (length kept)) ∙ second_of_cut (length kept) version after.line after.records where
+      two_more : (n : ℕ) → n + 2 ≡ suc (suc n)
+      two_more n = omega arith
 
 -- of a file that grew, what a crash leaves has the changes that were there
 pub after_crash : (octets more : List ℕ) (h : Header) (kept all : List Change) (k : ℕ) → IsFile octets h kept → IsFile (octets ++ more) h all → length octets ≤ k
@@ -178,9 +206,20 @@ after_crash octets more h kept all k before now low =
     let parts : take k (octets ++ more) ≡ octets ++ take (k - length octets) more = ap (λ (m : ℕ). take m (octets ++ more)) (omega arith) ∙ behind_front octets more (k - length octets) in
     let many : length (whole_lines octets) ≤ length (whole_lines (take k (octets ++ more))) = subst (λ (xs : List ℕ). length (whole_lines octets) ≤ length (whole_lines xs)) (sym parts) (more_lines octets (take (k - length octets) more)) in
     let few : length (whole_lines (take k (octets ++ more))) ≤ length (whole_lines (octets ++ more)) = omega (arith, ap length (cut_lines k (octets ++ more)), length-take (length (whole_lines (take k (octets ++ more)))) (whole_lines (octets ++ more))) in
-    let was = file_size octets h kept before in
-    let is = file_size (octets ++ more) h all now in
-    (take n all, cut_file (octets ++ more) h all k n now (omega arith), record { count = n; at_least = omega arith; at_most = omega arith; left_is = refl })
+    let was = file_size octets _ kept before.lines in
+    let is = file_size (octets ++ more) _ all now.lines in
+    let lines = cut_file (octets ++ more) _ all k n now.lines (omega arith) in
+    let same = same_head octets more _ _ kept all before.lines now.lines in
+    let enough = before.enough in
+    let few = length-take n all in (
+      take n all,
+      record {
+        leases = before.leases;
+        lines = record { line = lines.line; records = lines.records; lines_are = lines.lines_are; head_is = subst (λ (line : List ℕ). IsHead line (record { header = h; leases = before.leases })) same before.lines.head_is; records_are = lines.records_are };
+        enough = omega arith;
+      },
+      record { count = n; at_least = omega arith; at_most = omega arith; left_is = refl },
+    )
 
 -- ---- line by line
 
@@ -192,21 +231,25 @@ one_more_read all left more line old mid new count next c have is says made coun
   lines_are = have.lines_are ∙ ap (λ (ls : List (List ℕ)). have.before ++ ls) is ∙ sym (append_assoc have.before (line ∷ []) more);
   before_are = more_records have.before (line ∷ []) have.changes (c ∷ []) have.before_are (says, tt);
   made = made ∙ ap (after c) have.made ∙ sym (changes_append have.changes (c ∷ []) old);
-  counted = let was = have.counted in let size = length-append have.before (line ∷ []) in counts ∙ omega arith;
+  count_is = let was = have.count_is in let size = length-append have.before (line ∷ []) in counts ∙ omega arith;
 }
 
-pub front_is : (octets first behind second rest : List ℕ) (h : Header) → whole_lines octets ≡ first ∷ whole_lines behind → first ≡ version → whole_lines behind ≡ second ∷ whole_lines rest → IsHead second h → HasFront octets h rest
-front_is octets first behind second rest h one is two says = record { head = second; lines_are = one ∙ ap (λ (l : List ℕ). l ∷ whole_lines behind) is ∙ ap (λ (ls : List (List ℕ)). version ∷ ls) two; head_is = says }
+pub front_is : (octets first behind second rest : List ℕ) (head : Head) → whole_lines octets ≡ first ∷ whole_lines behind → first ≡ version → whole_lines behind ≡ second ∷ whole_lines rest → IsHead second head → HasFront octets head rest
+front_is octets first behind second rest head one is two says = record { line = second; lines_are = one ∙ ap (λ (l : List ℕ). l ∷ whole_lines behind) is ∙ ap (λ (ls : List (List ℕ)). version ∷ ls) two; head_is = says }
+
+front_lines : (octets rest : List ℕ) (head : Head) (cs : List Change) → HasFront octets head rest → AreRecords (whole_lines rest) cs → HaveLines octets head cs
+front_lines octets rest head cs front are = record { line = front.line; records = whole_lines rest; lines_are = front.lines_are; head_is = front.head_is; records_are = are }
 
 -- the lines of changes behind the first two
-pub file_loaded : (octets rest : List ℕ) (h : Header) (cs : List Change) (es : Entries) (old : Leases) (rows : Rows) → HasFront octets h rest → AreRecords (whole_lines rest) cs → members_of es ≡ after_all cs old → old ≡ no_leases → IsDistinct same_name (keys_of es) → rows ≡ rows_of es → IsLoaded octets h rows
-file_loaded octets rest h cs es old rows front are made none distinct is = record {
+pub file_loaded : (octets rest : List ℕ) (head : Head) (cs : List Change) (es : Entries) (old : Leases) (rows : Rows) → HasFront octets head rest → AreRecords (whole_lines rest) cs → head.leases ≤ length cs → members_of es ≡ after_all cs old → old ≡ no_leases → IsDistinct same_name (keys_of es) → rows ≡ rows_of es → IsLoaded octets head.header rows
+file_loaded octets rest head cs es old rows front are enough made none distinct is = record {
   changes = cs;
-  file = record { head = front.head; records = whole_lines rest; lines_are = front.lines_are; head_is = front.head_is; records_are = are };
+  file = record { leases = head.leases; lines = front_lines octets rest head cs front are; enough = enough };
   rows_are = subst (λ (xs : Rows). AreRowsOf xs (after_all cs no_leases)) (sym is) (rows_of_changes es cs no_leases distinct (made ∙ ap (after_all cs) none));
 }
 
-pub bad_line_refused : (octets rest : List ℕ) (h : Header) (e : ReadFault) → HasFront octets h rest → IsBadLine (whole_lines rest) e → IsRefused octets e
-bad_line_refused octets rest h read.Memory front bad = tt
-bad_line_refused octets rest h (read.File fault) front bad = subst (HasFault octets) (sym bad.fault_is)
-    (bad_record front.head h bad.before bad.behind bad.changes bad.bad (front.lines_are ∙ ap (λ (ls : List (List ℕ)). version ∷ front.head ∷ ls) bad.lines_are) front.head_is bad.before_are bad.none_is)
+pub bad_rest_refused : (octets rest : List ℕ) (head : Head) (e : ReadFault) → HasFront octets head rest → IsBadRest (whole_lines rest) head.leases e → IsRefused octets e
+bad_rest_refused octets rest head read.Memory front bad = tt
+bad_rest_refused octets rest head (read.File fault) front (inl bad) = subst (HasFault octets) (sym bad.fault_is)
+    (bad_record front.line head bad.before bad.behind bad.changes bad.bad (front.lines_are ∙ ap (λ (ls : List (List ℕ)). version ∷ front.line ∷ ls) bad.lines_are) front.head_is bad.before_are bad.none_is)
+bad_rest_refused octets rest head (read.File fault) front (inr short) = subst (HasFault octets) (sym short.fault_is) (cut_off head short.changes (front_lines octets rest head short.changes front short.lines_are) short.few)

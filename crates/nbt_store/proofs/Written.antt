@@ -10,10 +10,11 @@ use Rattle.nbt_text.specs.NameText.{SpellsName}
 use Rattle.nbt_text.specs.Number.{SpellsNumber}
 use Rattle.nbt_store.specs.declared.change.Change.{Change}
 use Rattle.nbt_store.specs.declared.change.Change.TheVariants as change
+use Rattle.nbt_store.specs.declared.header.Head.{Head}
 use Rattle.nbt_store.specs.declared.header.Header.{Header}
 use Rattle.nbt_store.specs.declared.verb.Verb.TheVariants as verbs
 use Rattle.nbt_store.specs.Boot.{SpellsBoot}
-use Rattle.nbt_store.specs.Lines.{IsLine, IsHead, SpellsHeader, IsFile, IsClosed, whole_lines, version}
+use Rattle.nbt_store.specs.Lines.{IsLine, IsHead, SpellsHead, HaveLines, IsClosed, whole_lines, version}
 use Rattle.nbt_store.specs.Records.{IsRecord, Says, says}
 use Rattle.nbt_store.specs.Words.{Then, SpellsHost, kind_word}
 use Rattle.nbt_store.specs.Writing.{AddsWord}
@@ -22,7 +23,7 @@ use Rattle.std.proofs.lemmas.List.{map-append}
 use Rattle.std.specs.Prelude.{take}
 use Rattle.nbt_lease.specs.Lease.{Rows}
 use Rattle.nbt_store.specs.Changes.{begun_all}
-use Rattle.nbt_store.proofs.WholeLines.{behind_closed, one_line_is, closed_by, one_more_change}
+use Rattle.nbt_store.proofs.WholeLines.{behind_closed, one_line_is, closed_by, one_more_line}
 
 pub spells_number : (n : ℕ) → n < 2 ^ 64 → SpellsNumber (decimal n) n
 spells_number n h = let known = decimal_is_IsNumeral n h in (known.0, sym known.1, h)
@@ -72,38 +73,38 @@ released_says t0 t1 t2 n h name addr is sn an sh ah =
       ah.line (an.line (subst IsLine (sym is) (lit≤ tt, (lit≤ tt, (lit≤ tt, (lit≤ tt, (lit≤ tt, (lit≤ tt, (lit≤ tt, (lit≤ tt, tt)))))))))),
     )
 
-pub header_says : (t1 t2 t3 t4 t5 t6 t7 t8 a b c d e f g i : List ℕ) (h : Header) → SpellsNumber a h.life → words_of t1 ≡ a ∷ [] → IsLine t1 → SpellsNumber b h.longest → AddsWord t1 t2 b → SpellsNumber c h.rows → AddsWord t2 t3 c
+pub head_says : (t1 t2 t3 t4 t5 t6 t7 t8 t9 a b c d e f g i j : List ℕ) (h : Header) (leases : ℕ) → SpellsNumber a h.life → words_of t1 ≡ a ∷ [] → IsLine t1 → SpellsNumber b h.longest → AddsWord t1 t2 b → SpellsNumber c h.rows → AddsWord t2 t3 c
     → SpellsBoot d h.boot → AddsWord t3 t4 d → SpellsNumber e h.ahead → AddsWord t4 t5 e → SpellsNumber f h.start → AddsWord t5 t6 f → SpellsNumber g h.last → AddsWord t6 t7 g → SpellsNumber i h.day → AddsWord t7 t8 i
-    → SpellsHeader (words_of t8) h × IsLine t8
-header_says t1 t2 t3 t4 t5 t6 t7 t8 a b c d e f g i h sa w1 l1 sb ab sc ac sd ad se ae sf af sg ag si ai =
-    let w8 : words_of t8 ≡ a ∷ b ∷ c ∷ d ∷ e ∷ f ∷ g ∷ i ∷ [] = more_words t7 t8 i _ ai (more_words t6 t7 g _ ag (more_words t5 t6 f _ af (more_words t4 t5 e _ ae (more_words t3 t4 d _ ad (more_words t2 t3 c _ ac (more_words t1 t2 b _ ab w1)))))) in (
-      subst (λ (ws : List (List ℕ)). SpellsHeader ws h) (sym w8) (record {
-        values = (h.life, (h.longest, (h.rows, (h.boot, (h.ahead, (h.start, (h.last, (h.day, tt))))))));
-        spelled = one _ _ a _ h.life _ sa (one _ _ b _ h.longest _ sb (one _ _ c _ h.rows _ sc (one _ _ d _ h.boot _ sd (one _ _ e _ h.ahead _ se (one _ _ f _ h.start _ sf (one _ _ g _ h.last _ sg (one _ _ i _ h.day tt si refl)))))));
-        header_is = refl;
+    → SpellsNumber j leases → AddsWord t8 t9 j → SpellsHead (words_of t9) (record { header = h; leases = leases }) × IsLine t9
+head_says t1 t2 t3 t4 t5 t6 t7 t8 t9 a b c d e f g i j h leases sa w1 l1 sb ab sc ac sd ad se ae sf af sg ag si ai sj aj =
+    let w9 : words_of t9 ≡ a ∷ b ∷ c ∷ d ∷ e ∷ f ∷ g ∷ i ∷ j ∷ [] = more_words t8 t9 j _ aj (more_words t7 t8 i _ ai (more_words t6 t7 g _ ag (more_words t5 t6 f _ af (more_words t4 t5 e _ ae (more_words t3 t4 d _ ad (more_words t2 t3 c _ ac (more_words t1 t2 b _ ab w1))))))) in (
+      subst (λ (ws : List (List ℕ)). SpellsHead ws (record { header = h; leases = leases })) (sym w9) (record {
+        values = (h.life, (h.longest, (h.rows, (h.boot, (h.ahead, (h.start, (h.last, (h.day, (leases, tt)))))))));
+        spelled = one _ _ a _ h.life _ sa (one _ _ b _ h.longest _ sb (one _ _ c _ h.rows _ sc (one _ _ d _ h.boot _ sd (one _ _ e _ h.ahead _ se (one _ _ f _ h.start _ sf (one _ _ g _ h.last _ sg (one _ _ i _ h.day _ si (one _ _ j _ leases tt sj refl))))))));
+        head_is = refl;
       }),
-      ai.line (ag.line (af.line (ae.line (ad.line (ac.line (ab.line l1)))))),
+      aj.line (ai.line (ag.line (af.line (ae.line (ad.line (ac.line (ab.line l1))))))),
     )
 
 -- the first two lines
-pub front_file : (octets head : List ℕ) (h : Header) → IsHead head h → IsLine head → octets ≡ one_line version ++ one_line head → IsFile octets h [] × IsClosed octets
-front_file octets head h is line e = (
+pub front_lines : (octets line : List ℕ) (head : Head) → IsHead line head → IsLine line → octets ≡ one_line version ++ one_line line → HaveLines octets head [] × IsClosed octets
+front_lines octets line head is closed e = (
   record {
-    head = head;
+    line = line;
     records = [];
-    lines_are = ap whole_lines e ∙ behind_closed (one_line version) (one_line head) (version, refl) ∙ ap (λ (ls : List (List ℕ)). whole_lines (one_line version) ++ ls) (one_line_is head line);
+    lines_are = ap whole_lines e ∙ behind_closed (one_line version) (one_line line) (version, refl) ∙ ap (λ (ls : List (List ℕ)). whole_lines (one_line version) ++ ls) (one_line_is line closed);
     head_is = is;
     records_are = tt;
   },
-  subst IsClosed (sym e) (closed_by (one_line version) head),
+  subst IsClosed (sym e) (closed_by (one_line version) line),
 )
 
 -- a lease more
-pub lease_written : (before after : List ℕ) (h : Header) (rows : Rows) (i : ℕ) (row : NameValue × Lease) (line : List ℕ) → IsFile before h (begun_all (take i rows)) → IsClosed before → IsRecord line (change.Began row.0 row.1) → IsLine line
-    → after ≡ before ++ one_line line → take (i + 1) rows ≡ take i rows ++ row ∷ [] → IsFile after h (begun_all (take (i + 1) rows)) × IsClosed after
-lease_written before after h rows i row line file closed stated is e more = (
-  subst (λ (xs : List ℕ). IsFile xs h (begun_all (take (i + 1) rows))) (sym e)
-      (subst (λ (cs : List Change). IsFile (before ++ one_line line) h cs) (sym (ap begun_all more ∙ map-append (λ (r : NameValue × Lease). change.Began r.0 r.1) (take i rows) (row ∷ [])))
-      (one_more_change before line h (begun_all (take i rows)) (change.Began row.0 row.1) file closed is stated)),
+pub lease_written : (before after : List ℕ) (head : Head) (rows : Rows) (i : ℕ) (row : NameValue × Lease) (line : List ℕ) → HaveLines before head (begun_all (take i rows)) → IsClosed before → IsRecord line (change.Began row.0 row.1) → IsLine line
+    → after ≡ before ++ one_line line → take (i + 1) rows ≡ take i rows ++ row ∷ [] → HaveLines after head (begun_all (take (i + 1) rows)) × IsClosed after
+lease_written before after head rows i row line lines closed stated is e more = (
+  subst (λ (xs : List ℕ). HaveLines xs head (begun_all (take (i + 1) rows))) (sym e)
+      (subst (λ (cs : List Change). HaveLines (before ++ one_line line) head cs) (sym (ap begun_all more ∙ map-append (λ (r : NameValue × Lease). change.Began r.0 r.1) (take i rows) (row ∷ [])))
+      (one_more_line before line head (begun_all (take i rows)) (change.Began row.0 row.1) lines closed is stated)),
   subst IsClosed (sym e) (closed_by before line),
 )

@@ -2,8 +2,8 @@
 
 ghost use Rattle.std.specs.Prelude.{◌≡◌, ◌↔◌, Some, IfOk};
 ghost use Rattle.nbt_text.specs.Texts.{texts};
-ghost use Rattle.nbt_store.specs.declared.header.Header.{Header as HeaderSeen};
-ghost use Rattle.nbt_store.specs.Lines.{IsHead, SpellsHeader};
+ghost use Rattle.nbt_store.specs.declared.header.Head.{Head as HeadSeen};
+ghost use Rattle.nbt_store.specs.Lines.{IsHead, SpellsHead};
 
 use crate::boot::Boot;
 use crate::sealing::unsealed;
@@ -62,30 +62,51 @@ impl Header {
     }
 }
 
+/// What the second line says.
+#[derive(Drop)]
+pub(crate) struct Head {
+    /// Under which limits leases are kept, and at which times.
+    pub header: Header,
+    /// With how many leases the file was written.
+    pub leases: u64,
+}
+
 /// Reads the second line, without its line feed: `None` if it is no such line.
-pub(crate) fn read_head(alloc: Global, line: &[u8]) -> Result<Option<Header>, AllocError>
-    ensures { IfOk result (λ found. (h : HeaderSeen) → (found ≡ Some h) ↔ IsHead line.now h) }
+pub(crate) fn read_head(alloc: Global, line: &[u8]) -> Result<Option<Head>, AllocError>
+    ensures { IfOk result (λ found. (head : HeadSeen) → (found ≡ Some head) ↔ IsHead line.now head) }
 {
     let Some(body) = unsealed(line) else {
         return Ok(None);
     };
     let words = words_of(alloc, body)?;
-    Ok(header_in(words.as_slice()))
+    Ok(head_in(words.as_slice()))
 }
 
-/// The header that words spell.
-fn header_in(words: &[&[u8]]) -> Option<Header>
-    ensures { (h : HeaderSeen) → (result ≡ Some h) ↔ SpellsHeader (texts words.now) h }
+/// The words of the second line.
+type HeadWords = (
+    u64,
+    (u64, (u64, (Boot, (u64, (u64, (u64, (u64, (u64, ())))))))),
+);
+
+/// The head that words spell.
+fn head_in(words: &[&[u8]]) -> Option<Head>
+    ensures { (head : HeadSeen) → (result ≡ Some head) ↔ SpellsHead (texts words.now) head }
 {
-    let values = <(u64, (u64, (u64, (Boot, (u64, (u64, (u64, (u64, ()))))))))>::read_all(words);
-    values.map(|(life, (longest, (rows, (boot, (ahead, (start, (last, (day, ()))))))))| Header {
+    let values = HeadWords::read_all(words);
+    values.map(|(
         life,
-        longest,
-        rows,
-        boot,
-        ahead,
-        start,
-        last,
-        day,
+        (longest, (rows, (boot, (ahead, (start, (last, (day, (leases, ())))))))),
+    )| Head {
+        header: Header {
+            life,
+            longest,
+            rows,
+            boot,
+            ahead,
+            start,
+            last,
+            day,
+        },
+        leases,
     })
 }

@@ -17,6 +17,9 @@ use std::{fs, io, time};
 /// replaced locks nobody out.
 const LOCK_LINE: &[u8] = b"# lock of nbt nbns\n";
 
+/// The most octets of a file that are read: more than any store writes (our profile).
+const FILE_MOST: u64 = 1 << 26;
+
 /// Where Linux has the id of the boot.
 const BOOT_ID: &str = "/proc/sys/kernel/random/boot_id";
 
@@ -46,8 +49,8 @@ pub struct SystemDisk<'a, R: Files> {
 
 impl<'a, R: Files<File = File>> SystemDisk<'a, R> {
     /// Opens a folder, which has to be there, and locks its file `lock`, which is made if it isn't there, and says then what it is.
-    /// Refused with an error of the kind `WouldBlock` if another holds that lock, and with no such error otherwise; or if out of
-    /// memory.
+    /// Refused with an error of the kind `WouldBlock` if another holds that lock, and with no such error otherwise, as where `lock` is
+    /// no regular file; or if out of memory.
     pub fn open_folder(
         machine: &'a R,
         alloc: Global,
@@ -68,8 +71,13 @@ impl<'a, R: Files<File = File>> SystemDisk<'a, R> {
         })
     }
 
-    /// The octets of the file; `None` where there is none.
+    /// The octets of the file; `None` where there is none. Refused where it is no regular file, or has 64 MiB or more; or if out of memory.
     pub fn read(&self, alloc: Global) -> io::Result<Option<Vec<u8>>> {
+        check_kind(
+            self.machine,
+            self.path.as_str(),
+            "leases is no regular file",
+        )?;
         match octets_of(self.machine, alloc, self.path.as_str()) {
             Ok(octets) => Ok(Some(octets)),
             Err(why) if why.kind() == ErrorKind::NotFound => Ok(None),
@@ -85,16 +93,33 @@ impl<'a, R: Files<File = File>> SystemDisk<'a, R> {
     }
 }
 
-/// The octets of a file.
+/// The octets of a file, which has less than 64 MiB.
 fn octets_of<R: Files>(machine: &R, alloc: Global, path: &str) -> io::Result<Vec<u8>> {
     let mut octets = Vec::new(alloc);
-    File::open(machine, path)?.read_to_end(&mut octets)?;
+    File::open(machine, path)?
+        .take(FILE_MOST)
+        .read_to_end(&mut octets)?;
+    if octets.len() as u64 >= FILE_MOST {
+        return Err(io::Error::other("the file is too long"));
+    }
     Ok(octets)
+}
+
+/// Refused, with these words, where something stands that is no regular file and no link to one: who opens a pipe may wait for ever, and a
+/// device keeps nothing or has no end.
+fn check_kind<R: Files>(machine: &R, path: &str, why_not: &'static str) -> io::Result<()> {
+    match fs::metadata(machine, path) {
+        Ok(metadata) if metadata.is_file() => Ok(()),
+        Ok(_) => Err(io::Error::other(why_not)),
+        Err(error) if error.kind() == ErrorKind::NotFound => Ok(()),
+        Err(error) => Err(error),
+    }
 }
 
 /// Opens the file `lock` of a folder, and makes it if it isn't there.
 fn open_lock<R: Files>(machine: &R, alloc: Global, folder: &str) -> io::Result<R::File> {
     let path = format!(in alloc; "{folder}/lock")?;
+    check_kind(machine, path.as_str(), "lock is no regular file")?;
     let mut how = File::options();
     how.write(true);
     how.create(true);
@@ -115,6 +140,11 @@ impl<'a, R: Files + time::Clock> Disk for SystemDisk<'a, R> {
     ghost does = { λ _ _ _. ⊤ };
 
     fn create(&mut self, octets: &[u8]) -> io::Result<()> {
+        check_kind(
+            self.machine,
+            self.new_path.as_str(),
+            "leases.new is no regular file",
+        )?;
         let mut file = File::create(self.machine, self.new_path.as_str())?;
         file.write_all(octets)?;
         self.open = Some(file);

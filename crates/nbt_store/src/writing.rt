@@ -9,7 +9,7 @@ ghost use Rattle.nbt_text.specs.Number.{SpellsNumber};
 ghost use Rattle.nbt_store.specs.declared.change.Change.TheVariants as changes;
 ghost use Rattle.nbt_store.specs.Boot.{AreMarks, SpellsBoot};
 ghost use Rattle.nbt_store.specs.Checksum.{sealed};
-ghost use Rattle.nbt_store.specs.Lines.{IsClosed, IsFile, IsHead, IsLine, SpellsHeader, version};
+ghost use Rattle.nbt_store.specs.Lines.{HaveLines, IsClosed, IsFile, IsHead, IsLine, SpellsHead, version};
 ghost use Rattle.nbt_store.specs.Changes.{begun_all};
 ghost use Rattle.nbt_store.specs.Records.{IsRecord, Says};
 ghost use Rattle.nbt_store.specs.Words.{SpellsHost, kind_word};
@@ -58,31 +58,41 @@ pub fn write_file(
     ensures file { OnOk result (IsFile (string_bytes out.new) header.now (begun_all rows.now)) }
     ensures closed { OnOk result (IsClosed (string_bytes out.new)) }
 {
-    write_front(alloc, header, out)?;
+    write_front(alloc, header, rows.len() as u64, out)?;
     for row in rows {
         write_row(alloc, row, out)?;
     }
     Ok(())
 }
 
-/// Appends the line of the version and that of the header.
-fn write_front(alloc: Global, header: &Header, out: &mut String) -> Result<(), AllocError>
+/// Appends the line of the version, and that of the header of a file of so many leases.
+fn write_front(
+    alloc: Global,
+    header: &Header,
+    leases: u64,
+    out: &mut String,
+) -> Result<(), AllocError>
     requires { string_bytes out.old ≡ [] }
-    ensures file { OnOk result (IsFile (string_bytes out.new) header.now []) }
+    ensures lines { OnOk result (HaveLines (string_bytes out.new) (record { header = header.now; leases = leases }) []) }
     ensures closed { OnOk result (IsClosed (string_bytes out.new)) }
 {
-    out.push_str("nbt leases, version 1")?;
+    out.push_str("nbt leases, version 2")?;
     end_line(out)?;
-    write_head(alloc, header, out)?;
+    write_head(alloc, header, leases, out)?;
     Ok(())
 }
 
-/// Appends the line of the header.
-fn write_head(alloc: Global, header: &Header, out: &mut String) -> Result<(), AllocError>
-    ensures { OnOk result ((line : List ℕ) × IsHead line header.now × IsLine line × (string_bytes out.new ≡ string_bytes out.old ++ one_line line)) }
+/// Appends the line of the header of a file of so many leases.
+fn write_head(
+    alloc: Global,
+    header: &Header,
+    leases: u64,
+    out: &mut String,
+) -> Result<(), AllocError>
+    ensures { OnOk result ((line : List ℕ) × IsHead line (record { header = header.now; leases = leases }) × IsLine line × (string_bytes out.new ≡ string_bytes out.old ++ one_line line)) }
 {
     let mut body = String::new(alloc);
-    write_header(header, &mut body)?;
+    write_header(header, leases, &mut body)?;
     write_sealed(&body, out)?;
     Ok(())
 }
@@ -149,10 +159,10 @@ fn write_released(name: &Name, addr: u32, out: &mut String) -> Result<(), AllocE
     Ok(())
 }
 
-/// Puts the words of a header.
-fn write_header(header: &Header, out: &mut String) -> Result<(), AllocError>
+/// Puts the words of a header, and of how many leases its file is.
+fn write_header(header: &Header, leases: u64, out: &mut String) -> Result<(), AllocError>
     requires { string_bytes out.old ≡ [] }
-    ensures says { OnOk result (SpellsHeader (words_spoken (string_bytes out.new)) header.now) }
+    ensures says { OnOk result (SpellsHead (words_spoken (string_bytes out.new)) (record { header = header.now; leases = leases })) }
     ensures line { OnOk result (IsLine (string_bytes out.new)) }
 {
     put_number(header.life, out)?;
@@ -163,6 +173,7 @@ fn write_header(header: &Header, out: &mut String) -> Result<(), AllocError>
     add_number(header.start, out)?;
     add_number(header.last, out)?;
     add_number(header.day, out)?;
+    add_number(leases, out)?;
     Ok(())
 }
 

@@ -64,7 +64,7 @@ fn kept<R: AllocGlobal + Files>(rt: &R, folder: &str) -> Result<usize, Fail> {
 /// More changes of a lease than a short file has.
 const MANY: usize = 1_100;
 
-/// The lease moves so often that the file is long. Where there is no room for a new file, the store says why it failed.
+/// The lease moves so often that the file is long. Where a new file can't be written, since a device is there, the store says why it failed.
 fn expect_long<R: Abort + AllocGlobal + Files + time::Clock>(
     rt: &R,
     folder: &str,
@@ -82,7 +82,10 @@ fn expect_long<R: Abort + AllocGlobal + Files + time::Clock>(
     symlink(rt, "/dev/full", path_in(rt, folder, "leases.new")?.as_str())?;
     expect_eq(rt, &store.renew(&header()?, &rows), &Err(Broken));
     match store.error() {
-        Some(error) => expect(rt, error.kind() == io::ErrorKind::StorageFull),
+        Some(error) => {
+            let said = format!(in rt.alloc(); "{error}")?;
+            expect_eq(rt, &said.as_str(), &"leases.new is no regular file");
+        }
         None => expect(rt, false),
     }
     Ok(())
@@ -193,6 +196,8 @@ enum There {
     Used,
     /// A folder of this name.
     Folder(&'static str),
+    /// A link of this name, to a device that has no end.
+    Link(&'static str),
     /// This is the text of its file of leases.
     Leases(&'static str),
     /// The same, and a folder is where it is to be set aside.
@@ -208,13 +213,13 @@ enum Comes {
     Begins(&'static str, Option<&'static str>),
 }
 
-const OTHER_VERSION: &str = "nbt leases, version 2\n1000 60\n";
+const OTHER_VERSION: &str = "nbt leases, version 1\n1000 60\n";
 
-const NO_HEADER: &str = "nbt leases, version 1\n1000 60\n";
+const NO_HEADER: &str = "nbt leases, version 2\n1000 60\n";
 
 const CUT: &str = "nbt leases, versi";
 
-static BEGINS: [(There, Comes); 10] = [
+static BEGINS: [(There, Comes); 13] = [
     (
         There::NoFolder,
         Comes::Ends(
@@ -226,21 +231,42 @@ static BEGINS: [(There, Comes); 10] = [
         There::Folder("lock"),
         Comes::Ends(
             "nbt: ",
-            ": the folder can't be used: Is a directory (os error 21)\n",
+            ": the folder can't be used: lock is no regular file\n",
+        ),
+    ),
+    (
+        There::Link("lock"),
+        Comes::Ends(
+            "nbt: ",
+            ": the folder can't be used: lock is no regular file\n",
         ),
     ),
     (
         There::Folder("leases"),
         Comes::Ends(
             "nbt: ",
-            ": the leases can't be read: Is a directory (os error 21)\n",
+            ": the leases can't be read: leases is no regular file\n",
+        ),
+    ),
+    (
+        There::Link("leases"),
+        Comes::Ends(
+            "nbt: ",
+            ": the leases can't be read: leases is no regular file\n",
         ),
     ),
     (
         There::Folder("leases.new"),
         Comes::Ends(
             "nbt: ",
-            ": the leases can't be kept: Is a directory (os error 21)\n",
+            ": the leases can't be kept: leases.new is no regular file\n",
+        ),
+    ),
+    (
+        There::Link("leases.new"),
+        Comes::Ends(
+            "nbt: ",
+            ": the leases can't be kept: leases.new is no regular file\n",
         ),
     ),
     (
@@ -277,6 +303,7 @@ fn put<R: AllocGlobal + Files>(rt: &R, folder: &str, there: There) -> Result<(),
     }
     match there {
         There::Folder(name) => put_folder(rt, folder, name),
+        There::Link(name) => Ok(symlink(rt, "/dev/zero", path_in(rt, folder, name)?.as_str())?),
         There::Leases(text) => put_leases(rt, folder, text),
         There::LeasesAndFolder(text) => {
             put_leases(rt, folder, text)?;

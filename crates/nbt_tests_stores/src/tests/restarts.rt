@@ -56,7 +56,7 @@ const STARTS: &[Start<'static>] = &[
     ),
     (
         "another version",
-        File::Octets("nbt leases, version 2\n"),
+        File::Octets("nbt leases, version 1\n"),
         true,
         70,
         0,
@@ -65,7 +65,7 @@ const STARTS: &[Start<'static>] = &[
     ),
     (
         "no header",
-        File::Octets("nbt leases, version 1\n"),
+        File::Octets("nbt leases, version 2\n"),
         true,
         70,
         0,
@@ -367,7 +367,7 @@ const SHORTER: &[Shorter<'static>] = &[
     (
         "another version",
         1,
-        File::Octets("nbt leases, version 2\n"),
+        File::Octets("nbt leases, version 1\n"),
         true,
         70,
         0,

@@ -19,9 +19,9 @@ const SECOND: u32 = 0xC000_0208;
 /// The time of day when the file was written.
 const DAY: u64 = 1_700_000_000_000;
 
-/// A file of four changes. The checksums were computed apart from this program.
-const FILE: &str = "nbt leases, version 1\n\
-1000 60 4096 boot-1 7 5 77 1700000000000 649305e6\n\
+/// A file that was written with one lease, and three more changes. The checksums were computed apart from this program.
+const FILE: &str = "nbt leases, version 2\n\
+1000 60 4096 boot-1 7 5 77 1700000000000 1 9086ee05\n\
 began FRED 192.0.2.7:137 unique 60077 f11427eb\n\
 began TEAM 192.0.2.8:137 group 60078 eb6be340\n\
 moved FRED 192.0.2.7:137 65000 bc0d448f\n\
@@ -97,11 +97,11 @@ fn feeds(octets: &[u8]) -> usize {
     octets.iter().filter(|octet| **octet == b'\n').count()
 }
 
-/// What is loaded of this many lines that have their end.
+/// What is loaded of this many lines that have their end. The first three were written together.
 fn of_lines(lines: usize) -> Result<usize, ReadFault> {
     match lines {
         0 => Err(ReadFault::File(Fault::Empty)),
-        1 => Err(ReadFault::File(Fault::Damaged(2))),
+        1 | 2 => Err(ReadFault::File(Fault::Damaged(lines + 1))),
         _ => Ok(ROWS[(lines - 2).min(4)]),
     }
 }
@@ -161,13 +161,36 @@ fn file_of_a_store_with_each_octet_changed(rt: HostRuntime) -> Result<(), Fail> 
 /// Octets that are no file, and why.
 const FAULTS: &[(&[u8], Fault)] = &[
     (b"", Fault::Empty),
-    (b"nbt leases, version 1", Fault::Empty),
+    (b"nbt leases, version 2", Fault::Empty),
     (b"\n", Fault::Version),
-    (b"nbt leases, version 2\n", Fault::Version),
-    (b"nbt leases, version 1\n", Fault::Damaged(2)),
+    (b"nbt leases, version 1\n", Fault::Version),
+    (b"nbt leases, version 2\n", Fault::Damaged(2)),
     (
-        b"nbt leases, version 1\n1000 60 4096 boot-1 5 77 2cf8e45b\n",
+        b"nbt leases, version 2\n1000 60 4096 boot-1 5 77 2cf8e45b\n",
         Fault::Damaged(2),
+    ),
+    // It doesn't say with how many leases it was written.
+    (
+        b"nbt leases, version 2\n1000 60 4096 boot-1 7 5 77 1700000000000 649305e6\n",
+        Fault::Damaged(2),
+    ),
+    // It was written with two leases, of which one is there; or with more than there are lines in the world.
+    (
+        b"nbt leases, version 2\n1000 60 4096 boot-1 7 5 77 1700000000000 2 9086ee06\nbegan FRED 192.0.2.7:137 unique 60077 f11427eb\n",
+        Fault::Damaged(4),
+    ),
+    (
+        b"nbt leases, version 2\n1000 60 4096 boot-1 7 5 77 1700000000000 18446744073709551615 c328c7c3\n",
+        Fault::Damaged(3),
+    ),
+    (
+        b"nbt leases, version 2\n1000 60 4096 boot-1 7 5 77 1700000000000 18446744073709551616 c328c7c4\n",
+        Fault::Damaged(2),
+    ),
+    // A damaged line comes before one that is missing.
+    (
+        b"nbt leases, version 2\n1000 60 4096 boot-1 7 5 77 1700000000000 2 9086ee06\nbegan FRED 192.0.2.7:137 unique 60077 f11427ea\n",
+        Fault::Damaged(3),
     ),
 ];
 

@@ -6,7 +6,7 @@ use Rattle.nbt_store.proofs.WholeLines.{one_more_read}
 use Rattle.nbt_store.proofs.reading.read_changes.Goals as goal
 
 pub lines-init : goal.lines-init
-lines-init c = record { so_far = record { before = []; changes = []; lines_are = refl; before_are = tt; made = refl; counted = refl }; names = c.requires.names }
+lines-init c = record { so_far = record { before = []; changes = []; lines_are = refl; before_are = tt; made = refl; count_is = refl }; names = c.requires.names }
 
 pub lines-preserved : goal.lines-preserved
 lines-preserved c = record {

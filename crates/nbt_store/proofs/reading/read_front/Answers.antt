@@ -20,8 +20,8 @@ returns-in_default-2-clause-refused c =
     let is : c.in-Some.first.now ≡ version = c.is_version.ensures.0 (search rules) in
     bad_head c.in-Some-next_line.second.now (whole_lines c.in-Some-next_line.rest.now)
     (c.in-Some.ensures.line ∙ ap (λ (l : List ℕ). l ∷ whole_lines c.in-Some.behind.now) is ∙ ap (λ (ls : List (List ℕ)). version ∷ ls) c.in-Some-next_line.ensures.line)
-    (λ h says. let there = (c.in_ok-header.ensures h).1 says in let none = c.in_default-2.is in absurd cc)
+    (λ head says. let there = (c.in_ok-head.ensures head).1 says in let none = c.in_default-2.is in absurd cc)
 
 pub returns-clause-front : goal.returns-clause-front
-returns-clause-front c = front_is c.args.octets.now c.in-Some.first.now c.in-Some.behind.now c.in-Some-next_line.second.now c.in-Some-next_line.rest.now c.in-Some-2.header c.in-Some.ensures.line (c.is_version.ensures.0 (search rules)) c.in-Some-next_line.ensures.line
-    ((c.in_ok-header.ensures c.in-Some-2.header).0 c.in-Some-2.is)
+returns-clause-front c = front_is c.args.octets.now c.in-Some.first.now c.in-Some.behind.now c.in-Some-next_line.second.now c.in-Some-next_line.rest.now c.in-Some-2.head c.in-Some.ensures.line (c.is_version.ensures.0 (search rules)) c.in-Some-next_line.ensures.line
+    ((c.in_ok-head.ensures c.in-Some-2.head).0 c.in-Some-2.is)
