@@ -1,5 +1,5 @@
 -- The lines of a file that have their end: what a cut, a line more and a reading line by line make of them.
-use Rattle.std.proofs.Common.{◌≡◌, ◌∙◌, ℕ, zero, suc, ◌+◌, ◌-◌, ◌^◌, ◌<◌, ◌≤◌, ◌==◌, List, [], ◌∷◌, ◌++◌, length, take, inl, inr, ap, sym, subst, refl, append_assoc, arith, lit<}
+use Rattle.std.proofs.Common.{◌≡◌, ◌∙◌, ℕ, zero, suc, ◌+◌, ◌-◌, ◌^◌, ◌<◌, ◌≤◌, ◌==◌, List, [], ◌∷◌, ◌++◌, length, take, inl, inr, ap, sym, subst, refl, append_assoc, append-nil, arith, lit<}
 use Rattle.std.proofs.lemmas.Bool.{cases_Bool, ne_eqb, cond-true, cond-false}
 use Rattle.std.proofs.lemmas.List.{length-append, length-take, take_all, take-append-le}
 use Rattle.nbt_text.specs.Lines.{line_feed, newline, one_line, HasNo}
@@ -179,24 +179,25 @@ file_size : (octets : List ℕ) (head : Head) (cs : List Change) → HaveLines o
 file_size octets head cs lines = let many = as_many lines.records cs lines.records_are in omega (arith, ap length lines.lines_are, many)
 
 -- the second line, if there is one
-second_of : List (List ℕ) → List ℕ
+abbrev second_of : List (List ℕ) → List ℕ
 second_of [] = []
 second_of (first ∷ []) = []
 second_of (first ∷ second ∷ lines) = second
 
-second_of_cut : (j : ℕ) (first second : List ℕ) (lines : List (List ℕ)) → second_of (take (suc (suc j)) (first ∷ second ∷ lines)) ≡ second
-second_of_cut j first second lines = refl
+two_more : (n : ℕ) → n + 2 ≡ suc (suc n)
+two_more n = omega arith
 
--- what grew has the head that it had
-same_head : (octets more : List ℕ) (old now : Head) (kept all : List Change) → (before : HaveLines octets old kept) → (after : HaveLines (octets ++ more) now all) → before.line ≡ after.line
-same_head octets more old now kept all before after =
+-- what grew has the second line that it had
+same_line : (octets more : List ℕ) (old now : Head) (kept all : List Change) → (was : HaveLines octets old kept) → (is : HaveLines (octets ++ more) now all) → was.line ≡ is.line
+same_line octets more old now kept all was is =
     let whole : take (length octets) (octets ++ more) ≡ octets = take-append-le (length octets) octets more (omega arith) ∙ take_all (length octets) octets (omega arith) in
-    let size = file_size octets old kept before in
     let cut : whole_lines octets ≡ take (length (whole_lines octets)) (whole_lines (octets ++ more)) = subst (λ (xs : List ℕ). whole_lines xs ≡ take (length (whole_lines xs)) (whole_lines (octets ++ more))) whole (cut_lines (length octets) (octets ++ more)) in
-    sym (ap second_of before.lines_are) ∙ ap second_of cut ∙ ap second_of (ap (λ (m : ℕ). take m (whole_lines (octets ++ more))) size ∙ ap (take (length kept + 2)) after.lines_are)
-    ∙ ap (λ (m : ℕ). second_of (take m (version ∷ after.line ∷ after.records))) (two_more (length kept)) ∙ second_of_cut (length kept) version after.line after.records where
-      two_more : (n : ℕ) → n + 2 ≡ suc (suc n)
-      two_more n = omega arith
+    let size : length (whole_lines octets) ≡ suc (suc (length kept)) = file_size octets old kept was ∙ two_more (length kept) in
+    sym (ap second_of was.lines_are) ∙ ap second_of (cut ∙ ap (λ (m : ℕ). take m (whole_lines (octets ++ more))) size ∙ ap (take (suc (suc (length kept)))) is.lines_are)
+
+-- the same lines, with what else the second of them says
+with_head : (octets : List ℕ) (head other : Head) (cs : List Change) → (lines : HaveLines octets head cs) → IsHead lines.line other → HaveLines octets other cs
+with_head octets head other cs lines is = record { line = lines.line; records = lines.records; lines_are = lines.lines_are; head_is = is; records_are = lines.records_are }
 
 -- of a file that grew, what a crash leaves has the changes that were there
 pub after_crash : (octets more : List ℕ) (h : Header) (kept all : List Change) (k : ℕ) → IsFile octets h kept → IsFile (octets ++ more) h all → length octets ≤ k
@@ -208,18 +209,11 @@ after_crash octets more h kept all k before now low =
     let few : length (whole_lines (take k (octets ++ more))) ≤ length (whole_lines (octets ++ more)) = omega (arith, ap length (cut_lines k (octets ++ more)), length-take (length (whole_lines (take k (octets ++ more)))) (whole_lines (octets ++ more))) in
     let was = file_size octets _ kept before.lines in
     let is = file_size (octets ++ more) _ all now.lines in
-    let lines = cut_file (octets ++ more) _ all k n now.lines (omega arith) in
-    let same = same_head octets more _ _ kept all before.lines now.lines in
+    let first : Head = record { header = h; leases = before.leases } in
+    let lines = with_head (octets ++ more) _ first all now.lines (subst (λ (line : List ℕ). IsHead line first) (same_line octets more _ _ kept all before.lines now.lines) before.lines.head_is) in
     let enough = before.enough in
-    let few = length-take n all in (
-      take n all,
-      record {
-        leases = before.leases;
-        lines = record { line = lines.line; records = lines.records; lines_are = lines.lines_are; head_is = subst (λ (line : List ℕ). IsHead line (record { header = h; leases = before.leases })) same before.lines.head_is; records_are = lines.records_are };
-        enough = omega arith;
-      },
-      record { count = n; at_least = omega arith; at_most = omega arith; left_is = refl },
-    )
+    let taken = length-take n all in
+    (take n all, record { leases = before.leases; lines = cut_file (octets ++ more) first all k n lines (omega arith); enough = omega arith }, record { count = n; at_least = omega arith; at_most = omega arith; left_is = refl })
 
 -- ---- line by line
 
@@ -233,6 +227,14 @@ one_more_read all left more line old mid new count next c have is says made coun
   made = made ∙ ap (after c) have.made ∙ sym (changes_append have.changes (c ∷ []) old);
   count_is = let was = have.count_is in let size = length-append have.before (line ∷ []) in counts ∙ omega arith;
 }
+
+pub all_read : (all left : List (List ℕ)) (old new : Leases) (count : ℕ) → HaveRead all left old new count → left ≡ [] → (cs : List Change) × AreRecords all cs × (count ≡ counted (length cs)) × (new ≡ after_all cs old)
+all_read all left old new count have none = (
+  have.changes,
+  subst (λ (ls : List (List ℕ)). AreRecords ls have.changes) (sym (have.lines_are ∙ ap (λ (ls : List (List ℕ)). have.before ++ ls) none ∙ append-nil have.before)) have.before_are,
+  have.count_is ∙ ap counted (as_many have.before have.changes have.before_are),
+  have.made,
+)
 
 pub front_is : (octets first behind second rest : List ℕ) (head : Head) → whole_lines octets ≡ first ∷ whole_lines behind → first ≡ version → whole_lines behind ≡ second ∷ whole_lines rest → IsHead second head → HasFront octets head rest
 front_is octets first behind second rest head one is two says = record { line = second; lines_are = one ∙ ap (λ (l : List ℕ). l ∷ whole_lines behind) is ∙ ap (λ (ls : List (List ℕ)). version ∷ ls) two; head_is = says }

@@ -2,7 +2,7 @@ use Rattle.std.proofs.Common.{[], refl, rules}
 use Rattle.nbt_lease.specs.Inner.Index.{members_of}
 use Rattle.nbt_store.specs.Lines.{whole_lines}
 use Rattle.nbt_store.proofs.Saying.{record_is}
-use Rattle.nbt_store.proofs.WholeLines.{one_more_read}
+use Rattle.nbt_store.proofs.WholeLines.{all_read, one_more_read}
 use Rattle.nbt_store.proofs.reading.read_changes.Goals as goal
 
 pub lines-init : goal.lines-init
@@ -14,3 +14,6 @@ lines-preserved c = record {
       c.lines.count _ c.in-Some-2.change c.lines.invariant.so_far c.in-Some.ensures.line (record_is c.in-Some.line.now c.in_ok-change.field-0 c.in-Some-2.change c.in-Some-2.is c.in_ok-change.ensures) c.in_ok-apply.ensures.members (search rules);
   names = c.apply.ensures.names;
 }
+
+pub returns-clause-changes : goal.returns-clause-changes
+returns-clause-changes c = all_read (whole_lines c.args.octets.now) (whole_lines c.lines.rest.now) (members_of c.args.members.now.entries) (members_of c.lines.members.entries) c.lines.count c.lines.invariant.so_far (search rules)
