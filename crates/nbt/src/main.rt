@@ -1,7 +1,7 @@
 //! Runs one command of `nbt`, with the program's arguments and over its standard input, output and error.
 #![tactic(auto)]
 
-use nbt_admin::LossyWriter;
+use nbt_admin::{FirstLineWriter, LossyWriter};
 use std::env::Env;
 use std::io::{IsTerminal, Write};
 use std::os::fd::AsFd;
@@ -57,11 +57,14 @@ fn run<W: Write>(rt: &HostRuntime, arguments: &[String], writer: &mut W) -> u8 {
     nbt_prog::command_telling(rt, rt.alloc(), arguments, &mut reader, writer, &mut errors)
 }
 
-/// The same of a command that goes on while the reader of what it prints is slow.
+/// The same of a command that goes on while the reader of what it prints is slow. What waits for that reader at its end is handed on, as
+/// far as there is room.
 fn run_on<W: Write>(rt: &HostRuntime, arguments: &[String], writer: &mut W) -> u8 {
     let _ = never_wait(&rt.stdout());
     let _ = never_wait(&rt.stderr());
-    run(rt, arguments, writer)
+    let status = run(rt, arguments, writer);
+    let _ = writer.flush();
+    status
 }
 
 fn main(rt: HostRuntime) -> ExitCode {
@@ -79,7 +82,11 @@ fn main(rt: HostRuntime) -> ExitCode {
     let arguments = arguments.as_slice();
     let status = match word_of(arguments) {
         // Its log drops lines itself.
-        "nbns" => run_on(&rt, arguments, &mut writer),
+        "nbns" => run_on(
+            &rt,
+            arguments,
+            &mut FirstLineWriter::new(rt.alloc(), writer),
+        ),
         "host" => run_on(&rt, arguments, &mut LossyWriter::new(rt.alloc(), writer)),
         _ => run(&rt, arguments, &mut writer),
     };

@@ -6,6 +6,7 @@
 mod asking;
 mod binding;
 mod failure;
+mod first_line;
 mod fronting;
 mod hosting;
 mod lossy;
@@ -20,6 +21,7 @@ mod timing;
 
 pub use asking::{AskArguments, HostAsked};
 pub use failure::{ArgumentFault, BadArgument, BadLine, Complaint, Failure};
+pub use first_line::FirstLineWriter;
 pub use hosting::NAMES_MOST;
 pub use lossy::LossyWriter;
 pub use running::{check, run};

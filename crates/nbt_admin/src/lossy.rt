@@ -29,6 +29,11 @@ impl<W: Write + Drop> LossyWriter<W> {
         &mut self.writer
     }
 
+    /// Whether something of a line waits for the writer.
+    pub(crate) fn is_waiting(&self) -> bool {
+        !self.outbox.is_empty()
+    }
+
     /// Hands on the line that ended.
     fn send_line(&mut self) -> io::Result<()> {
         let sent = match str::from_utf8(self.line.as_slice()) {

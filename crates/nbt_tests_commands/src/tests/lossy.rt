@@ -1,24 +1,37 @@
-//! What a writer that waits for no reader hands on.
+//! What writers that wait for no reader hand on.
 
-use super::expect::expect_eq;
-use nbt_admin::LossyWriter;
+use super::expect::{expect, expect_eq};
+use nbt_admin::{FirstLineWriter, LossyWriter};
 use std::alloc::Global;
 use std::io;
 use std::io::{ErrorKind, Write};
 use std::process::Abort;
 
-/// A pipe with this much room, to which a write that would wait is refused; a closed one refuses each.
+/// A pipe with this much room, to which a write that would wait is refused. Where it fails, it refuses each write so. It counts how often
+/// it was flushed.
 #[derive(Drop)]
 struct Pipe {
     room: usize,
-    is_closed: bool,
+    failure: Option<ErrorKind>,
     text: Vec<u8>,
+    flushes: usize,
+}
+
+impl Pipe {
+    fn full(alloc: Global) -> Pipe {
+        Pipe {
+            room: 0,
+            failure: None,
+            text: Vec::new(alloc),
+            flushes: 0,
+        }
+    }
 }
 
 impl Write for Pipe {
     fn write(&mut self, buf: &[u8]) -> io::Result<usize> {
-        if self.is_closed {
-            return Err(io::Error::from(ErrorKind::BrokenPipe));
+        if let Some(kind) = self.failure {
+            return Err(io::Error::from(kind));
         }
         if self.room == 0 {
             return Err(io::Error::from(ErrorKind::WouldBlock));
@@ -30,6 +43,7 @@ impl Write for Pipe {
     }
 
     fn flush(&mut self) -> io::Result<()> {
+        self.flushes += 1;
         Ok(())
     }
 }
@@ -68,7 +82,7 @@ fn expect_refused<R: Abort>(rt: &R, lines: &mut LossyWriter<Pipe>) {
         &other.err(),
         &Some(ErrorKind::InvalidData),
     );
-    lines.get_mut().is_closed = true;
+    lines.get_mut().failure = Some(ErrorKind::BrokenPipe);
     let closed = lines.write_all(b"seven\n").map_err(|error| error.kind());
     expect_eq(rt, &"closed", &closed.err(), &Some(ErrorKind::BrokenPipe));
 }
@@ -76,12 +90,78 @@ fn expect_refused<R: Abort>(rt: &R, lines: &mut LossyWriter<Pipe>) {
 #[test]
 fn lines_that_a_slow_reader_leaves_are_dropped_whole(rt: HostRuntime) {
     let alloc: Global = rt.alloc();
-    let pipe = Pipe {
-        room: 0,
-        is_closed: false,
-        text: Vec::new(alloc),
-    };
-    let mut lines = LossyWriter::new(alloc, pipe);
+    let mut lines = LossyWriter::new(alloc, Pipe::full(alloc));
     write_all(&rt, &mut lines);
     expect_refused(&rt, &mut lines);
+}
+
+/// What is written behind a first line that has no room, with how much room; how many octets are taken, or how they are refused; and all
+/// that the reader has then. Nothing written is a flush.
+type Handing = (&'static str, usize, Result<usize, ErrorKind>, &'static str);
+
+/// The first line is taken in two parts. While it waits, lines are refused, and it alone is handed on. Then each write is that of the pipe.
+static HANDED: [Handing; 10] = [
+    ("serving ", 0, Ok(8), ""),
+    ("here\none\n", 0, Ok(5), ""),
+    ("two\n", 0, Err(ErrorKind::WouldBlock), ""),
+    ("", 3, Ok(0), "ser"),
+    ("three\n", 4, Err(ErrorKind::WouldBlock), "serving"),
+    ("four\nfive\n", 100, Ok(10), "serving here\nfour\nfive\n"),
+    ("", 0, Ok(0), "serving here\nfour\nfive\n"),
+    (
+        "six\n",
+        0,
+        Err(ErrorKind::WouldBlock),
+        "serving here\nfour\nfive\n",
+    ),
+    ("seven\n", 2, Ok(2), "serving here\nfour\nfive\nse"),
+    ("ven", 100, Ok(3), "serving here\nfour\nfive\nseven"),
+];
+
+/// Writes a text, or flushes, and returns how many octets were taken, or how they were refused.
+fn hand(lines: &mut FirstLineWriter<Pipe>, text: &str) -> Result<usize, ErrorKind> {
+    let handed = if text.is_empty() {
+        lines.flush().map(|()| 0)
+    } else {
+        lines.write(text.as_bytes())
+    };
+    handed.map_err(|error| error.kind())
+}
+
+/// Each flush comes to the pipe, also while something waits.
+fn expect_flushed<R: Abort>(rt: &R, lines: &mut FirstLineWriter<Pipe>, room: usize) {
+    let before = lines.get_mut().flushes;
+    lines.get_mut().room = room;
+    expect_eq(rt, &"flush", &hand(lines, ""), &Ok(0));
+    expect(rt, &"flush", before < lines.get_mut().flushes);
+}
+
+#[test]
+fn a_first_line_without_room_stands_before_all_others(rt: HostRuntime) {
+    let alloc: Global = rt.alloc();
+    let mut lines = FirstLineWriter::new(alloc, Pipe::full(alloc));
+    for (text, room, taken, expected) in &HANDED {
+        lines.get_mut().room = *room;
+        expect_eq(&rt, text, &hand(&mut lines, text), taken);
+        let got = lines.get_mut().text.as_slice();
+        expect_eq(&rt, text, &got, &expected.as_bytes());
+    }
+}
+
+/// A pipe that fails otherwise refuses the first line at once, and each write after it. One that fails later refuses what waits.
+#[test]
+fn a_first_line_that_can_not_be_written_is_refused(rt: HostRuntime) {
+    let alloc: Global = rt.alloc();
+    let mut lines = FirstLineWriter::new(alloc, Pipe::full(alloc));
+    lines.get_mut().failure = Some(ErrorKind::StorageFull);
+    let refused = Err(ErrorKind::StorageFull);
+    expect_eq(&rt, &"first", &hand(&mut lines, "serving\n"), &refused);
+    expect_eq(&rt, &"next", &hand(&mut lines, "one\n"), &refused);
+    let mut later = FirstLineWriter::new(alloc, Pipe::full(alloc));
+    expect_eq(&rt, &"taken", &hand(&mut later, "serving\n"), &Ok(8));
+    expect_flushed(&rt, &mut later, 0);
+    later.get_mut().failure = Some(ErrorKind::BrokenPipe);
+    let closed = Err(ErrorKind::BrokenPipe);
+    expect_eq(&rt, &"closed", &hand(&mut later, "one\n"), &closed);
+    expect_eq(&rt, &"flush", &hand(&mut later, ""), &closed);
 }
