@@ -20,6 +20,7 @@ mod network;
 mod printing;
 mod release;
 mod replies;
+mod scans;
 mod scripts;
 mod serving;
 mod street;

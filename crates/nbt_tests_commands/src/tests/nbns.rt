@@ -1,6 +1,6 @@
 //! The command `nbns`: what it serves, logs and keeps over UDP and clocks that are set.
 
-use super::expect::expect_eq;
+use super::expect::{expect, expect_eq};
 use super::serving::{GIVES_UP, NO_CLOCK, NO_TIME, Row, expect_row};
 use std::{env, fs, process};
 
@@ -249,7 +249,7 @@ serving 127.42.22.2:20138, silent for 60 s until 2026-11-24T09:12:03Z
 ];
 
 /// A server that keeps its leases, at a path that is its last word. One is granted, and then another: a second isn't over yet, so the list has the first alone.
-static KEPT: Row = Row {
+const KEPT: Row = Row {
     about: "the list of leases",
     words: "nbt nbns --bind 127.42.22.2:20138 --longest 60s --for 60001ms --leases",
     moments: &[START, START, START, START, OPEN, OPEN, OPEN, OPEN, END],
@@ -279,6 +279,41 @@ fn a_list_of_leases(rt: HostRuntime) {
         &"# live leases of nbt nbns\nFRED#20 unique 127.42.22.3 2026-11-24T09:13:03Z\n",
     );
     fs::remove_file(&rt, path.as_str()).expect(&rt, "the list of leases");
+}
+
+/// Servers with a file that is read elsewhere, at a path that is their last word, and what it has, or the line that it begins with.
+static SHOWN: [(Row, &str); 2] = [
+    (
+        Row {
+            about: "the hosts",
+            words: "nbt nbns --bind 127.42.22.2:20138 --longest 60s --for 60001ms --hosts",
+            ..KEPT
+        },
+        "# hosts of nbt nbns\n127.42.22.3 FRED\n",
+    ),
+    (
+        Row {
+            about: "the statistics",
+            words: "nbt nbns --bind 127.42.22.2:20138 --longest 60s --for 60001ms --stats",
+            ..KEPT
+        },
+        "# statistics of nbt nbns\n# HELP nbt_nbns_requests_total ",
+    ),
+];
+
+/// The files are in the folder for temporary files, where no other run of the tests has them.
+#[test]
+fn files_that_are_read_elsewhere(rt: HostRuntime) {
+    let folder = env::temp_dir(&rt).expect(&rt, "a folder for temporary files");
+    let folder = folder.as_path().to_str().expect(&rt, "a folder as text");
+    let id = process::id(rt.process());
+    let path = format!(in rt.alloc(); "{folder}/nbt-tests-{id}-shown").expect(&rt, "memory");
+    for (row, begin) in &SHOWN {
+        expect_row(&rt, row, path.as_str(), 0);
+        let text = fs::read_to_string(&rt, path.as_str()).expect(&rt, "the file");
+        expect(&rt, &row.about, text.as_str().starts_with(*begin));
+        fs::remove_file(&rt, path.as_str()).expect(&rt, "the file");
+    }
 }
 
 /// Servers with a file of fixed names, whose path is the last word: a query and a registration while it is silent, by a machine that may

@@ -7,6 +7,7 @@ use super::hosts::HOSTS;
 use super::lookups::{LOOKUPS, STATUSES};
 use super::machine::{Machine, Set, WELL};
 use super::nbns::NAME_SERVERS;
+use super::scans::{RELEASING, SCANS};
 use super::street::Street;
 use super::terminal::octets_of;
 use std::fs::File;
@@ -441,6 +442,8 @@ fn commands_with_another_end(rt: HostRuntime) {
     expect_rows(&rt, &STATUSES);
     expect_rows(&rt, &HOSTS);
     expect_rows(&rt, &NAME_SERVERS);
+    expect_rows(&rt, &SCANS);
+    expect_rows(&rt, &RELEASING);
     for (row, breaks_again_at) in &OUTLASTING {
         expect_row(&rt, row, "", *breaks_again_at);
     }
