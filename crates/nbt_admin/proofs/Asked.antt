@@ -6,7 +6,8 @@ use Rattle.std.proofs.lemmas.List.{append-nil, append_assoc, take_more, take_all
 use Rattle.nbt_args.specs.declared.texts.LookupTexts.{LookupTexts}
 use Rattle.nbt_text.specs.Lines.{line_feed}
 use Rattle.nbt_admin.specs.Failures.{out_of_memory}
-use Rattle.nbt_admin.specs.Statuses.{IsAsked, AreAsked, none_asked, one_asked, HostFails, OthersFail, fronted, fronted_octet, AskedOf, AskedInTurn, asked_next}
+use Rattle.nbt_admin.specs.Arguments.{AskHostFails}
+use Rattle.nbt_admin.specs.Statuses.{IsAsked, AreAsked, none_asked, one_asked, OthersFail, fronted, fronted_octet, AskedOf, AskedInTurn, asked_next}
 use Rattle.nbt_admin.specs.declared.asking.HostAsked.{HostAsked}
 use Rattle.nbt_admin.specs.declared.failure.Failure.{Failure}
 
@@ -38,7 +39,7 @@ all_asked first hosts rest old requests none x = (
 )
 
 pub next_fails : (first : LookupTexts) (hosts rest others : List (Bor (List ℕ))) (host : Bor (List ℕ)) (old requests : List HostAsked) (failure : Failure) → rest ≡ host ∷ others
-    → SoFar first hosts rest old requests → HostFails (record first { to = host }) failure → OthersFail first hosts failure
+    → SoFar first hosts rest old requests → AskHostFails (record first { to = host }) failure → OthersFail first hosts failure
 next_fails first hosts rest others host old requests failure parts x fails =
     inr (x.0, others, (host, (x.1, x.2 ∙ ap (λ (r : List (Bor (List ℕ))). x.0 ++ r) parts, x.3, fails)))
 

@@ -2,6 +2,7 @@
 mod Addresses
 mod Asked
 pub mod Ends
+mod Named
 mod Networks
 pub mod Reading
 mod States

@@ -10,11 +10,17 @@ use Rattle.nbt_admin.specs.Failures.{ComplainsOf, out_of_memory}
 use Rattle.nbt_admin.specs.declared.failure.ArgumentFault.{ArgumentFault}
 use Rattle.nbt_admin.specs.declared.failure.ArgumentFault.TheVariants as w
 use Rattle.nbt_admin.specs.declared.failure.Failure.{Failure}
-use Rattle.nbt_admin.specs.Scans.{SpellSpans, no_span, one_more, SpanFails, SpansFail, UpToFails, WaitFails}
+use Rattle.nbt_admin.specs.Scans.{SpellsAsked, SpellSpans, no_span, one_more, SpanFails, SpansFail, UpToFails, WaitFails, fault_of_run}
+use Rattle.nbt_admin.specs.Texts.{AreOfOne}
 
 pub bad_span : (text : List ℕ) (fault : ArgumentFault) (failure : Failure) → ((span : Span) → ¬ SpellsSpan text span) → ((failure ≡ out_of_memory) ⊎ ComplainsOf text fault failure) → SpanFails text failure
 bad_span text fault failure none (inl short) = inl short
-bad_span text fault failure none (inr tells) = inr (fault, none, tells)
+bad_span text fault failure none (inr tells) = inr (inl (fault, none, tells))
+
+-- a run that has an address that isn't of one machine
+pub bad_run : (text : List ℕ) (span : Span) (failure : Failure) → SpellsSpan text span → ¬ AreOfOne span.first span.last → ((failure ≡ out_of_memory) ⊎ ComplainsOf text (fault_of_run span) failure) → SpanFails text failure
+bad_run text span failure spelled other (inl short) = inl short
+bad_run text span failure spelled other (inr tells) = inr (inr (span, spelled, other, tells))
 
 -- of some texts the rest is left, and those before it have these runs
 abbrev pub SoFar : (texts rest : List (Bor (List ℕ))) → (spans : List Span) → Type 0
@@ -23,7 +29,7 @@ SoFar texts rest spans = (done : List (Bor (List ℕ))) × (texts ≡ done ++ re
 pub begun : (texts : List (Bor (List ℕ))) (spans : List Span) → spans ≡ [] → SoFar texts texts spans
 begun texts spans none = rw none ([], refl, no_span)
 
-pub one_on : (texts rest others : List (Bor (List ℕ))) (text : Bor (List ℕ)) (spans new : List Span) (span : Span) → rest ≡ text ∷ others → SoFar texts rest spans → SpellsSpan text.now span → new ≡ spans ++ span ∷ [] → SoFar texts others new
+pub one_on : (texts rest others : List (Bor (List ℕ))) (text : Bor (List ℕ)) (spans new : List Span) (span : Span) → rest ≡ text ∷ others → SoFar texts rest spans → SpellsAsked text.now span → new ≡ spans ++ span ∷ [] → SoFar texts others new
 one_on texts rest others text spans new span parts x spelled more = rw more (
   x.0 ++ text ∷ [],
   x.1 ∙ ap (λ (r : List (Bor (List ℕ))). x.0 ++ r) parts ∙ sym (append_assoc x.0 (text ∷ []) others),

@@ -8,10 +8,10 @@ use Rattle.nbt_args.specs.declared.texts.LookupTexts.{LookupTexts}
 use Rattle.nbt_admin.specs.Binds.{GivesBind, IsBind, BindFails}
 use Rattle.nbt_admin.specs.Fronts.{AreNetworks, AllowFails}
 use Rattle.nbt_front.specs.Networks.{NetworkValue}
-use Rattle.nbt_admin.specs.Files.{AreFiles, FilesFail, GivesFiles}
+use Rattle.nbt_admin.specs.Files.{AreBeside, AreFiles, BesideFails, FilesFail, GivesFiles, fixed_in}
 use Rattle.nbt_admin.specs.Failures.{IsUsage, out_of_memory, ComplainsOf}
 use Rattle.nbt_admin.specs.Times.{IsWait, SpellsPatience, IsConfigOf, AreLimits, LimitsFail, SpellsEnding, IsEnding, EndingFails, SpellsClientRows, ClientRowsFail, AreFitLimits, ShortFails}
-use Rattle.nbt_admin.specs.Texts.{IsAddress, AddressFails, SpellsAsked, SpellsSought, SpellsOwn, IsOwn, OwnFails, SoughtFails, SourceFails, SpellsPeer, SpellEnds, AreEnds, EndsFail}
+use Rattle.nbt_admin.specs.Texts.{IsAddress, AddressFails, AddressInstead, IsPath, PathFails, SpellsAsked, SpellsSought, SpellsOwn, IsOwn, OwnFails, NameFails, SoughtFails, SourceFails, SpellsPeer, SpellEnds, AreEnds, EndsFail}
 use Rattle.nbt_admin.specs.declared.asking.AskArguments.{AskArguments}
 use Rattle.nbt_admin.specs.declared.failure.Failure.{Failure}
 use Rattle.std.specs.String.{string_bytes}
@@ -29,6 +29,7 @@ use Rattle.nbt_name.specs.declared.addr.Kind.{Kind}
 use Rattle.nbt_name.specs.declared.addr.Kind.TheVariants.{Unique, Group}
 use Rattle.nbt_host.specs.declared.arguments.HostArguments.{HostArguments}
 use Rattle.nbt_args.specs.declared.texts.HostTexts.{HostTexts}
+use Rattle.nbt_admin.specs.declared.failure.ArgumentFault.{ArgumentFault}
 use Rattle.nbt_admin.specs.declared.failure.ArgumentFault.TheVariants as w
 
 -- ---- `lookup` and `status`
@@ -43,19 +44,29 @@ abbrev pub AsksHost : LookupTexts → Question → Type 0
 AsksHost texts (q.Holders server name) = ⊥
 AsksHost texts (q.Names host name) = SpellsPeer texts.to.now host × SpellsAsked texts.exact texts.scope.now texts.name.now name
 
--- the question comes from the texts too
+-- The question comes from the texts too, and no name is an address.
 pub record AskGiven (Asks : LookupTexts → Question → Type 0) (texts : LookupTexts) (a : AskArguments) : Type 0 where
   pub question : Asks texts a.question
   pub bind : SpellsSource texts.bind.now a.bind
   pub apart : end_of a.question ≢ a.bind
+  pub named : ¬ IsAddress texts.name.now
   pub patience : SpellsPatience texts.tries.now texts.wait.now a.patience
 
--- A wait beyond its limits comes first, and is wrong usage; then the texts in their order. Memory may be out at any step.
-abbrev pub AskFails : (Failure → Type 0) → LookupTexts → Failure → Type 0
-AskFails NameIsBad texts failure = (failure ≡ out_of_memory)
+-- A wait beyond its limits comes first, and is wrong usage; then the texts in their order. Of a name that is an address this fault is said.
+-- Memory may be out at any step.
+abbrev pub AskFails : ArgumentFault → (Failure → Type 0) → LookupTexts → Failure → Type 0
+AskFails instead NameIsBad texts failure = (failure ≡ out_of_memory)
     ⊎ ((¬ IsWait texts.wait.now × IsUsage failure)
     ⊎ ((IsWait texts.wait.now × EndsFail SpellsSource SourceFails texts.to.now texts.bind.now failure)
-    ⊎ (IsWait texts.wait.now × AreEnds SpellsSource texts.to.now texts.bind.now × NameIsBad failure)))
+    ⊎ ((IsWait texts.wait.now × AreEnds SpellsSource texts.to.now texts.bind.now × AddressInstead instead texts.name.now failure)
+    ⊎ (IsWait texts.wait.now × AreEnds SpellsSource texts.to.now texts.bind.now × ¬ IsAddress texts.name.now × NameIsBad failure))))
+
+-- a name that a server or a host is asked for
+abbrev pub LookupFails : LookupTexts → Failure → Type 0
+LookupFails texts failure = AskFails w.NameWanted (SoughtFails texts.exact texts.scope.now texts.name.now) texts failure
+
+abbrev pub AskHostFails : LookupTexts → Failure → Type 0
+AskHostFails texts failure = AskFails w.OtherHost (NameFails texts.exact texts.scope.now texts.name.now) texts failure
 
 -- ---- `nbns`
 
@@ -82,6 +93,7 @@ pub record NbnsGiven (texts : NbnsTexts) (a : ServerArguments) : Type 0 where
   pub log_is : a.nbns.log ≡ texts.log
   pub broadcasts_are : a.nbns.broadcasts ≡ texts.broadcasts
   pub files_are : GivesFiles texts a.nbns.leases a.nbns.hosts a.nbns.stats
+  pub beside : AreBeside texts
   pub strict_is : a.nbns.strict ≡ texts.strict
   pub client_rows_are : SpellsClientRows texts.rows_per_client a.nbns.rows_per_client
   pub state_is : GivesState texts.state texts.silent_after_boot a.state
@@ -99,21 +111,25 @@ NbnsFails texts failure = (failure ≡ out_of_memory)
     ⊎ ((IsEnding texts.time × AreFit texts × BindFails texts.binds.items failure)
     ⊎ ((IsEnding texts.time × AreFit texts × IsBind texts.binds.items × StateFails texts.state failure)
     ⊎ ((IsEnding texts.time × AreFit texts × IsBind texts.binds.items × IsState texts.state × FilesFail texts failure)
-    ⊎ (IsEnding texts.time × AreFit texts × IsBind texts.binds.items × IsState texts.state × AreFiles texts × ClientRowsFail texts.rows_per_client failure)))))))
+    ⊎ ((IsEnding texts.time × AreFit texts × IsBind texts.binds.items × IsState texts.state × AreFiles texts × BesideFails texts failure)
+    ⊎ (IsEnding texts.time × AreFit texts × IsBind texts.binds.items × IsState texts.state × AreFiles texts × AreBeside texts × ClientRowsFail texts.rows_per_client failure))))))))
 
--- The same, and who may register; no name is fixed yet.
+-- The same, and who may register; no name is fixed yet, and the path of the file of fixed names isn't empty.
 pub record ServerGiven (texts : NbnsTexts) (a : ServerArguments) : Type 0 where
   pub nbns : NbnsGiven texts a
+  pub fixed_is : IsPath (fixed_in texts)
   pub allowed : AreNetworks texts.allow.items a.nbns.front.allowed
   pub none_fixed : a.nbns.front.fixed ≡ []
   pub longest : a.nbns.front.longest ≡ a.nbns.config.longest
 
--- the networks are read first
+-- the networks are read first, and then the path of the file of fixed names
 abbrev pub AreAllowed : NbnsTexts → Type 0
 AreAllowed texts = (networks : List NetworkValue) × AreNetworks texts.allow.items networks
 
 abbrev pub ServerFails : NbnsTexts → Failure → Type 0
-ServerFails texts failure = AllowFails texts.allow.items failure ⊎ (AreAllowed texts × NbnsFails texts failure)
+ServerFails texts failure = AllowFails texts.allow.items failure
+    ⊎ ((AreAllowed texts × PathFails w.NoFixed (fixed_in texts) failure)
+    ⊎ (AreAllowed texts × IsPath (fixed_in texts) × NbnsFails texts failure))
 
 -- ---- `host`
 

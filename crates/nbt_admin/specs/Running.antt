@@ -10,7 +10,7 @@ use Rattle.nbt_host.specs.Running.{HostsHere}
 use Rattle.nbt_host.specs.declared.arguments.HostArguments.{HostArguments}
 use Rattle.nbt_state.specs.Running.{RunsServer}
 use Rattle.nbt_state.specs.declared.arguments.ServerArguments.{ServerArguments}
-use Rattle.nbt_admin.specs.Arguments.{AskGiven, AsksServer, AskFails, HostGiven, HostFails, ReleaseGiven, ReleaseFails, ServerGiven, ServerFails}
+use Rattle.nbt_admin.specs.Arguments.{AskGiven, AsksServer, LookupFails, HostGiven, HostFails, ReleaseGiven, ReleaseFails, ServerGiven, ServerFails}
 use Rattle.nbt_admin.specs.Fronts.{GivesFixed, FixedFails}
 use Rattle.nbt_front.specs.FixedNames.{FixedNames}
 use Rattle.nbt_release.specs.Running.{ReleasesHere}
@@ -19,7 +19,6 @@ use Rattle.nbt_admin.specs.Scans.{ScanGiven, ScanFails}
 use Rattle.nbt_admin.specs.declared.scanning.ScanArguments.{ScanArguments}
 use Rattle.nbt_scan.specs.Running.{ScansHere}
 use Rattle.nbt_admin.specs.Statuses.{StatusGiven, StatusFails, AskedInTurn}
-use Rattle.nbt_admin.specs.Texts.{SoughtFails}
 use Rattle.nbt_admin.specs.declared.asking.AskArguments.{AskArguments}
 use Rattle.nbt_admin.specs.declared.asking.HostAsked.{HostAsked}
 use Rattle.nbt_admin.specs.declared.failure.Failure.{Failure}
@@ -65,7 +64,7 @@ Runs (Scan texts) status old_text text = (a : ScanArguments) × ScanGiven texts 
 
 -- the first argument that is wrong is reported
 abbrev pub Refuses : AdminLine → Failure → Type 0
-Refuses (Lookup texts) failure = AskFails (SoughtFails texts.exact texts.scope.now texts.name.now) texts failure
+Refuses (Lookup texts) failure = LookupFails texts failure
 Refuses (Status texts) failure = StatusFails texts failure
 Refuses (Nbns texts) failure = ServerFails texts failure
 Refuses (Host texts) failure = HostFails texts failure

@@ -1,5 +1,5 @@
 -- The arguments of `scan` (our profile).
-use Rattle.std.specs.Prelude.{◌≡◌, ◌⊎◌, ℕ, ◌≤◌, ◌↔◌, Bool, true, false, List, [], ◌∷◌, ◌++◌, codes}
+use Rattle.std.specs.Prelude.{◌≡◌, ◌⊎◌, ℕ, ◌≤◌, ◌↔◌, nat_eq, if◌then◌else◌, Bool, true, false, List, [], ◌∷◌, ◌++◌, codes}
 use Rattle.std.specs.Borrow.{Bor}
 use Rattle.nbt_text.specs.Address.{SpellsSource}
 use Rattle.nbt_scan.specs.declared.form.Form.{Form}
@@ -9,7 +9,7 @@ use Rattle.nbt_scan.specs.Spans.{AreFew, AreOf}
 use Rattle.nbt_scan.specs.Words.{SpellsSpan, SpellsWithin, IsWithin}
 use Rattle.nbt_args.specs.declared.scan.ScanTexts.{ScanTexts}
 use Rattle.nbt_admin.specs.Failures.{ComplainsOf, out_of_memory}
-use Rattle.nbt_admin.specs.Texts.{IsSource, SourceFails}
+use Rattle.nbt_admin.specs.Texts.{AreOfOne, IsSource, SourceFails}
 use Rattle.nbt_admin.specs.Times.{SpellsWait, IsWait}
 use Rattle.nbt_admin.specs.declared.failure.ArgumentFault.{ArgumentFault}
 use Rattle.nbt_admin.specs.declared.failure.ArgumentFault.TheVariants as w
@@ -20,13 +20,23 @@ use Rattle.nbt_admin.specs.declared.scanning.ScanArguments.{ScanArguments}
 
 -- ---- the words of a scan
 
+-- a network, a range or an address, of which each address is of one machine
+abbrev pub SpellsAsked : List ℕ → Span → Type 0
+SpellsAsked text span = SpellsSpan text span × AreOfOne span.first span.last
+
 pub data SpellSpans : List (Bor (List ℕ)) → List Span → Type 0 where
   no_span : SpellSpans [] []
-  one_more : (texts : List (Bor (List ℕ))) (text : Bor (List ℕ)) (spans : List Span) (span : Span) → SpellSpans texts spans → SpellsSpan text.now span → SpellSpans (texts ++ text ∷ []) (spans ++ span ∷ [])
+  one_more : (texts : List (Bor (List ℕ))) (text : Bor (List ℕ)) (spans : List Span) (span : Span) → SpellSpans texts spans → SpellsAsked text.now span → SpellSpans (texts ++ text ∷ []) (spans ++ span ∷ [])
 
--- a word that is none
+-- what is said of one address that isn't of one machine, and of several of which one isn't
+abbrev pub fault_of_run : Span → ArgumentFault
+fault_of_run span = if nat_eq span.first span.last then w.NotOne else w.NotEachOne
+
+-- a word that is none, and one that has an address that isn't of one machine
 abbrev pub SpanFails : List ℕ → Failure → Type 0
-SpanFails text failure = (failure ≡ out_of_memory) ⊎ ((fault : ArgumentFault) × ((span : Span) → ¬ SpellsSpan text span) × ComplainsOf text fault failure)
+SpanFails text failure = (failure ≡ out_of_memory)
+    ⊎ (((fault : ArgumentFault) × ((span : Span) → ¬ SpellsSpan text span) × ComplainsOf text fault failure)
+    ⊎ ((span : Span) × SpellsSpan text span × (¬ AreOfOne span.first span.last) × ComplainsOf text (fault_of_run span) failure))
 
 -- The first words are right, and the next is not.
 abbrev pub SpansFail : List (Bor (List ℕ)) → Failure → Type 0

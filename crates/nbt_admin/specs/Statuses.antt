@@ -8,9 +8,8 @@ use Rattle.nbt_client.specs.Answers.{answer_status}
 use Rattle.nbt_client.specs.Asking.{AsksHere}
 use Rattle.nbt_client.specs.declared.answer.Answer.{Answer}
 use Rattle.nbt_text.specs.Lines.{line_feed}
-use Rattle.nbt_admin.specs.Arguments.{AskGiven, AsksHost, AskFails}
+use Rattle.nbt_admin.specs.Arguments.{AskGiven, AsksHost, AskHostFails}
 use Rattle.nbt_admin.specs.Failures.{out_of_memory}
-use Rattle.nbt_admin.specs.Texts.{NameFails}
 use Rattle.nbt_admin.specs.declared.asking.HostAsked.{HostAsked}
 use Rattle.nbt_admin.specs.declared.failure.Failure.{Failure}
 
@@ -33,19 +32,15 @@ pub record StatusGiven (texts : StatusTexts) (requests : List HostAsked) : Type 
   pub first_is : IsAsked texts.first texts.first.to request
   pub others_are : AreAsked texts.first texts.others.items others
 
--- one host can't be asked so
-abbrev pub HostFails : LookupTexts → Failure → Type 0
-HostFails texts failure = AskFails (NameFails texts.exact texts.scope.now texts.name.now) texts failure
-
 -- The first of these hosts can be asked, and the next can't.
 abbrev pub OthersFail : LookupTexts → List (Bor (List ℕ)) → Failure → Type 0
 OthersFail first hosts failure = (failure ≡ out_of_memory)
     ⊎ ((before after : List (Bor (List ℕ))) × ((host : Bor (List ℕ)) × ((requests : List HostAsked)
-    × (hosts ≡ before ++ host ∷ after) × AreAsked first before requests × HostFails (record first { to = host }) failure)))
+    × (hosts ≡ before ++ host ∷ after) × AreAsked first before requests × AskHostFails (record first { to = host }) failure)))
 
 -- the first host comes first
 abbrev pub StatusFails : StatusTexts → Failure → Type 0
-StatusFails texts failure = HostFails texts.first failure ⊎ OthersFail texts.first texts.others.items failure
+StatusFails texts failure = AskHostFails texts.first failure ⊎ OthersFail texts.first texts.others.items failure
 
 -- ---- the answers
 

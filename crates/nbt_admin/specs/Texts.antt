@@ -33,6 +33,10 @@ SourceFails text failure = (failure ≡ out_of_memory) ⊎ (¬ IsSource text × 
 abbrev pub IsOfOne : (ip : ℕ) → Type 0
 IsOfOne ip = (ip ≢ 0) × (((ip < 0xE0000000) ⊎ (0xF0000000 ≤ ip)) × (ip ≢ 0xFFFFFFFF))
 
+-- each address from the first to the last is of one machine
+abbrev pub AreOfOne : (first last : ℕ) → Type 0
+AreOfOne first last = (ip : ℕ) → first ≤ ip → ip ≤ last → IsOfOne ip
+
 -- an address to which requests can be sent: of one machine, and not at port 0
 abbrev pub SpellsPeer : List ℕ → Addr → Type 0
 SpellsPeer text peer = SpellsEnd text peer × IsOfOne peer.ip × (peer.port ≢ 0)
@@ -92,6 +96,10 @@ SpellsSought exact scope text name = SpellsAsked exact scope text name × (¬ Is
 abbrev pub SoughtFails : (exact : Bool) → (scope text : List ℕ) → Failure → Type 0
 SoughtFails exact scope text failure = NameFails exact scope text failure
     ⊎ ((name : NameValue) × SpellsAsked exact scope text name × IsStar name × ComplainsOf text w.Star failure)
+
+-- Where a name is wanted, the text is an address.
+abbrev pub AddressInstead : ArgumentFault → (text : List ℕ) → Failure → Type 0
+AddressInstead fault text failure = (failure ≡ out_of_memory) ⊎ (IsAddress text × ComplainsOf text fault failure)
 
 -- ---- paths
 

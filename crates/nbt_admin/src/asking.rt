@@ -4,14 +4,14 @@ ghost use Rattle.std.specs.Prelude.{◌≡◌, ◌≤◌, ◌↔◌, ◌++◌, L
 ghost use Rattle.nbt_client.specs.Asking.{tries_most};
 ghost use Rattle.nbt_admin.specs.Times.{IsWait, SpellsPatience};
 ghost use Rattle.nbt_admin.specs.Failures.{UsageFails};
-ghost use Rattle.nbt_admin.specs.Arguments.{AskGiven, AsksServer, AsksHost, AskFails};
+ghost use Rattle.nbt_admin.specs.Arguments.{AskGiven, AsksServer, AsksHost, AskHostFails, LookupFails};
 ghost use Rattle.nbt_admin.specs.Statuses.{AreAsked, OthersFail, StatusGiven, StatusFails};
 ghost use Rattle.nbt_admin.specs.declared.asking.HostAsked.{HostAsked as Asked};
 ghost use Rattle.nbt_text.specs.Address.{SpellsSource};
-ghost use Rattle.nbt_admin.specs.Texts.{SourceFails, SpellEnds, EndsFail, SoughtFails, NameFails};
+ghost use Rattle.nbt_admin.specs.Texts.{SourceFails, SpellEnds, EndsFail};
 
-use crate::failure::Failure;
-use crate::naming::{apart, name_of, name_to_ask, peer_of, source_of};
+use crate::failure::{ArgumentFault, Failure};
+use crate::naming::{apart, expect_no_address, name_of, name_to_ask, peer_of, source_of};
 use crate::timing::parse_between;
 use nbt_args::{LimitedArgument, LimitedCommand, LookupTexts, StatusTexts};
 use nbt_client::{Question, TRIES_MOST, patience_of};
@@ -34,13 +34,14 @@ pub struct HostAsked<'a> {
 }
 
 /// Reads the arguments of `lookup`. Refused, in this order: a wait beyond its limits, which is wrong usage, the server's address, which is of
-/// one machine and has a port, the own address, one that is both, and the name, which doesn't begin with `*`.
+/// one machine and has a port, the own address, one that is both, a name that is an address, and the name, which doesn't begin with `*`.
 pub fn lookup_arguments(alloc: Global, texts: &LookupTexts<'_>) -> Result<AskArguments, Failure>
     ensures given { IfOk result (AskGiven AsksServer texts.now) }
-    ensures failure { IfErr result (AskFails (SoughtFails texts.now.exact texts.now.scope.now texts.now.name.now) texts.now) }
+    ensures failure { IfErr result (LookupFails texts.now) }
 {
     let patience = patience(alloc, LimitedCommand::Lookup, texts.tries, texts.wait)?;
     let (server, bind) = ends_of(alloc, texts.to, texts.bind)?;
+    expect_no_address(alloc, texts.name, ArgumentFault::NameWanted)?;
     let name = name_to_ask(alloc, texts.exact, texts.name, texts.scope)?;
     let question = Question::Holders(server, name);
     Ok(AskArguments {
@@ -92,13 +93,14 @@ fn add_requests<'a>(
 }
 
 /// Reads the arguments of a status request to one host. Refused as those of `lookup` are, with the host's address in place of the server's. Any
-/// name is valid.
+/// name is valid that is no address.
 fn status_arguments(alloc: Global, texts: &LookupTexts<'_>) -> Result<AskArguments, Failure>
     ensures given { IfOk result (AskGiven AsksHost texts.now) }
-    ensures failure { IfErr result (AskFails (NameFails texts.now.exact texts.now.scope.now texts.now.name.now) texts.now) }
+    ensures failure { IfErr result (AskHostFails texts.now) }
 {
     let patience = patience(alloc, LimitedCommand::Status, texts.tries, texts.wait)?;
     let (host, bind) = ends_of(alloc, texts.to, texts.bind)?;
+    expect_no_address(alloc, texts.name, ArgumentFault::OtherHost)?;
     let name = name_of(alloc, texts.exact, texts.name, texts.scope)?;
     let question = Question::Names(host, name);
     Ok(AskArguments {

@@ -37,6 +37,10 @@ pub enum ArgumentFault {
     Star,
     /// A name that an earlier argument has too.
     Twice,
+    /// An address where a name is wanted.
+    NameWanted,
+    /// The same, where it may be a further host's.
+    OtherHost,
     /// Not a life of a datagram.
     Life,
     /// Not a longest lease.
@@ -53,6 +57,10 @@ pub enum ArgumentFault {
     NoStats,
     /// A path that an earlier argument has too.
     PathTwice,
+    /// A path whose last component is the name of a file that the folder of a state has for itself.
+    Stores,
+    /// An empty path of the file of fixed names.
+    NoFixed,
     /// Not a number of live leases for a client.
     ClientRows,
     /// Not a network.
@@ -63,6 +71,8 @@ pub enum ArgumentFault {
     Bits,
     /// A range whose last address is before its first.
     Backwards,
+    /// A network or a range with an address that isn't of one machine.
+    NotEachOne,
     /// Not a number of requests in a second.
     Rate,
     /// Not a time to wait for replies.
@@ -82,7 +92,11 @@ impl ArgumentFault {
             | ArgumentFault::Anywhere
             | ArgumentFault::AnyPort
             | ArgumentFault::AddressTwice => "address",
-            ArgumentFault::Name(_) | ArgumentFault::Star | ArgumentFault::Twice => "name",
+            ArgumentFault::Name(_)
+            | ArgumentFault::Star
+            | ArgumentFault::Twice
+            | ArgumentFault::NameWanted
+            | ArgumentFault::OtherHost => "name",
             ArgumentFault::Life => "life",
             ArgumentFault::Longest => "longest lease",
             ArgumentFault::Time => "time",
@@ -90,10 +104,11 @@ impl ArgumentFault {
             ArgumentFault::NoPath => "list of leases",
             ArgumentFault::NoHosts => "hosts",
             ArgumentFault::NoStats => "statistics",
-            ArgumentFault::PathTwice => "file",
+            ArgumentFault::PathTwice | ArgumentFault::Stores => "file",
+            ArgumentFault::NoFixed => "fixed names",
             ArgumentFault::ClientRows => "rows per client",
             ArgumentFault::Network => "network",
-            ArgumentFault::Addresses => "address",
+            ArgumentFault::Addresses | ArgumentFault::NotEachOne => "address",
             ArgumentFault::Bits => "network",
             ArgumentFault::Backwards => "range",
             ArgumentFault::Rate => "rate",
@@ -114,8 +129,10 @@ impl fmt::Display for ArgumentFault {
                 f.write_str("not an address at which others find this machine")
             }
             ArgumentFault::AnyPort => f.write_str("not the port of a host"),
-            ArgumentFault::Name(fault) => write!(f, "{fault}"),
+            ArgumentFault::Name(fault) => write_name_fault(*fault, f),
             ArgumentFault::Star => f.write_str("no server is asked for a name that begins with *"),
+            ArgumentFault::NameWanted => f.write_str("an address; a name is wanted"),
+            ArgumentFault::OtherHost => f.write_str("an address; --also asks further hosts"),
             ArgumentFault::Twice | ArgumentFault::AddressTwice | ArgumentFault::PathTwice => {
                 f.write_str("given twice")
             }
@@ -129,9 +146,13 @@ impl fmt::Display for ArgumentFault {
             }
             ArgumentFault::Time => f.write_str("not a time, as 1500ms, 300s or 5m"),
             ArgumentFault::Folder => f.write_str("an empty text names no folder"),
-            ArgumentFault::NoPath | ArgumentFault::NoHosts | ArgumentFault::NoStats => {
-                f.write_str("no path of a file")
-            }
+            ArgumentFault::NoPath
+            | ArgumentFault::NoHosts
+            | ArgumentFault::NoStats
+            | ArgumentFault::NoFixed => f.write_str("no path of a file"),
+            ArgumentFault::Stores => f.write_str(
+                "a file of that name belongs to the folder of --state",
+            ),
             ArgumentFault::ClientRows => {
                 let most = ROWS_MOST;
                 write!(f, "not a whole number from 1 to {most}")
@@ -144,11 +165,24 @@ impl fmt::Display for ArgumentFault {
             ),
             ArgumentFault::Bits => f.write_str("not from /16 to /32"),
             ArgumentFault::Backwards => f.write_str("its last address is before its first"),
+            ArgumentFault::NotEachOne => f.write_str("it has an address that isn't of one machine"),
             ArgumentFault::Rate => f.write_str("not a whole number from 1 to 10000"),
             ArgumentFault::Wait => f.write_str("not a time from 1ms to 5s"),
             ArgumentFault::Port => f.write_str("not a whole number from 1 to 65535"),
         }
     }
+}
+
+/// What is wrong with a name. Of its scope it says how one looks.
+fn write_name_fault<W: fmt::Write>(
+    fault: nbt_text::Fault,
+    f: &mut fmt::Formatter<W>,
+) -> fmt::Result {
+    write!(f, "{fault}")?;
+    if fault == nbt_text::Fault::Scope {
+        f.write_str("; it is as NETBIOS.COM: parts of 1 to 63 characters between dots")?;
+    }
+    Ok(())
 }
 
 /// An invalid argument, and what is wrong with it. It prints as

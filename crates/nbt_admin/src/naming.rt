@@ -1,9 +1,9 @@
 //! Reads addresses and names.
 
-ghost use Rattle.std.specs.Prelude.{◌≡◌, ◌≢◌, ◌⊎◌, ◌↔◌, IfOk, IfErr, IsTrue};
+ghost use Rattle.std.specs.Prelude.{◌≡◌, ◌≢◌, ◌⊎◌, ◌↔◌, IfOk, IfErr, IsTrue, OnOk};
 ghost use Rattle.nbt_text.specs.Address.{SpellsEnd, SpellsSource};
 ghost use Rattle.nbt_admin.specs.Failures.{ComplainsOf, out_of_memory};
-ghost use Rattle.nbt_admin.specs.Texts.{case_of, AddressFails, SourceFails, IsOfOne, SpellsPeer, PeerFails, SpellsOwn, OwnFails, SpellsAsked, NameFails, SpellsSought, SoughtFails};
+ghost use Rattle.nbt_admin.specs.Texts.{case_of, AddressFails, AddressInstead, IsAddress, SourceFails, IsOfOne, AreOfOne, SpellsPeer, PeerFails, SpellsOwn, OwnFails, SpellsAsked, NameFails, SpellsSought, SoughtFails};
 
 use crate::failure::{ArgumentFault, Failure};
 use nbt_name::{Addr, Name};
@@ -67,12 +67,32 @@ pub fn apart(alloc: Global, text: &str, peer: Addr, own: Addr) -> Result<(), Fai
     Ok(())
 }
 
+/// Refuses, with this fault, an address where a name is wanted.
+pub fn expect_no_address(alloc: Global, text: &str, fault: ArgumentFault) -> Result<(), Failure>
+    ensures named { OnOk result (¬ IsAddress text.now) }
+    ensures failure { IfErr result (AddressInstead fault text.now) }
+{
+    match read_address(alloc, text)? {
+        Some(_) => Err(Failure::of_argument(alloc, text, fault)),
+        None => Ok(()),
+    }
+}
+
 /// Returns whether an address is of one machine: not 0.0.0.0, no multicast address, and not 255.255.255.255.
 fn is_of_one(ip: u32) -> bool
     ensures { IsTrue result ↔ IsOfOne ip }
 {
     let is_multicast = MULTICAST_FIRST <= ip && ip < MULTICAST_END;
     ip != 0 && !is_multicast && ip != ALL
+}
+
+/// Returns whether each address from the first to the last is of one machine.
+#[tactic(auto, using(crate::proofs::Ends::below_multicast, crate::proofs::Ends::above_multicast, crate::proofs::Ends::over_multicast, crate::proofs::Ends::from_zero, crate::proofs::Ends::to_all))]
+pub fn are_of_one(first: u32, last: u32) -> bool
+    requires { first ≤ last }
+    ensures { IsTrue result ↔ AreOfOne first last }
+{
+    first != 0 && (last < MULTICAST_FIRST || (MULTICAST_END <= first && last < ALL))
 }
 
 /// Reads an address at which other hosts reach this machine: that of one machine.

@@ -1,11 +1,11 @@
 //! Reads the arguments of `nbns`.
 
-ghost use Rattle.std.specs.Prelude.{◌≡◌, [], IfOk, IfErr, OnOk};
+ghost use Rattle.std.specs.Prelude.{◌≡◌, ◌↔◌, [], IsTrue, IfOk, IfErr, OnOk};
 ghost use Rattle.std.specs.Option.{option_map};
 ghost use Rattle.std.specs.String.{string_bytes};
 ghost use Rattle.nbt_admin.specs.Arguments.{NbnsGiven, NbnsFails, ServerGiven, ServerFails, GivesState, StateFails};
 ghost use Rattle.nbt_admin.specs.Texts.{IsPath, PathFails};
-ghost use Rattle.nbt_admin.specs.Files.{GivesFiles, FilesFail, AreApart, TwiceFails};
+ghost use Rattle.nbt_admin.specs.Files.{GivesFiles, FilesFail, AreApart, TwiceFails, AreBeside, BesideFails, AreFree, NotFree, IsFree, FreeFails, IsNamed, IsStores};
 
 use crate::binding::bind_of;
 use crate::failure::{ArgumentFault, Failure};
@@ -17,17 +17,20 @@ use nbt_nbns::NbnsArguments;
 use nbt_state::{ServerArguments, StateFolder};
 use std::alloc::Global;
 
-/// Reads the arguments of `nbns`. Refused: the first text that is no network; and then as [`nbns_arguments`] has it. No name is fixed yet.
+/// Reads the arguments of `nbns`. Refused, in this order: the first text that is no network, an empty path of the file of fixed names, and then
+/// as [`nbns_arguments`] has it. No name is fixed yet.
 pub fn server_arguments(alloc: Global, texts: &NbnsTexts<'_>) -> Result<ServerArguments, Failure>
     ensures given { IfOk result (ServerGiven texts.now) }
     ensures failure { IfErr result (ServerFails texts.now) }
 {
     let allowed = networks_of(alloc, texts.allow.as_slice())?;
+    expect_path(alloc, texts.fixed, ArgumentFault::NoFixed)?;
     nbns_arguments(alloc, texts, allowed)
 }
 
 /// Reads all of them but the networks, which these are. Refused, in this order: the life, the longest lease, the time, a longest lease that is
-/// too short for a network, the addresses, the folder of the state, the files as [`files_of`] has them, and the leases of a client.
+/// too short for a network, the addresses, the folder of the state, the files as [`files_of`] has them, one that the state has for itself, and
+/// the leases of a client.
 fn nbns_arguments(
     alloc: Global,
     texts: &NbnsTexts<'_>,
@@ -43,6 +46,7 @@ fn nbns_arguments(
     let bind = bind_of(alloc, &texts.binds)?;
     let state = state_of(alloc, texts.state, texts.silent_after_boot)?;
     let files = files_of(alloc, texts)?;
+    expect_beside(alloc, texts)?;
     let rows_per_client = client_rows_of(alloc, texts.rows_per_client)?;
     Ok(ServerArguments {
         nbns: NbnsArguments {
@@ -120,6 +124,69 @@ fn apart(alloc: Global, one: Option<&str>, other: Option<&str>) -> Result<(), Fa
         (Some(one), Some(other)) if one == other => {
             Err(Failure::of_argument(alloc, other, ArgumentFault::PathTwice))
         }
+        _ => Ok(()),
+    }
+}
+
+/// Refuses a file that the folder of the state has for itself, where there is that folder: the list of leases, the hosts, or the statistics,
+/// the first of them.
+fn expect_beside(alloc: Global, texts: &NbnsTexts<'_>) -> Result<(), Failure>
+    ensures beside { OnOk result (AreBeside texts.now) }
+    ensures failure { IfErr result (BesideFails texts.now) }
+{
+    if texts.state.is_none() {
+        return Ok(());
+    }
+    expect_all_free(alloc, texts)
+}
+
+/// The same, whether or not there is that folder.
+fn expect_all_free(alloc: Global, texts: &NbnsTexts<'_>) -> Result<(), Failure>
+    ensures free { OnOk result (AreFree texts.now) }
+    ensures failure { IfErr result (NotFree texts.now) }
+{
+    expect_free(alloc, texts.leases)?;
+    expect_free(alloc, texts.hosts)?;
+    expect_free(alloc, texts.stats)
+}
+
+/// Refuses a path, if there is one, whose last component is the name of a file that the folder of a state has for itself.
+fn expect_free(alloc: Global, path: Option<&str>) -> Result<(), Failure>
+    ensures free { OnOk result (IsFree (option_map (λ t. t.now) path.entry)) }
+    ensures failure { IfErr result (FreeFails (option_map (λ t. t.now) path.entry)) }
+{
+    match path {
+        Some(path) if is_stores(path.as_bytes()) => {
+            Err(Failure::of_argument(alloc, path, ArgumentFault::Stores))
+        }
+        _ => Ok(()),
+    }
+}
+
+/// Whether the last component of a path is the name of a file that the folder of a state has for itself.
+fn is_stores(path: &[u8]) -> bool
+    ensures { IsTrue result ↔ IsStores path.now }
+{
+    is_named(b"leases.new", path) || is_named(b"leases.bad", path)
+}
+
+/// Whether the last component of a path is this name.
+fn is_named(name: &[u8], path: &[u8]) -> bool
+    ensures { IsTrue result ↔ IsNamed name.now path.now }
+{
+    match path.strip_suffix(name) {
+        Some(folder) => folder.is_empty() || folder.ends_with(b"/"),
+        None => false,
+    }
+}
+
+/// Refuses an empty path of a file, if there is one, with this fault.
+fn expect_path(alloc: Global, text: Option<&str>, fault: ArgumentFault) -> Result<(), Failure>
+    ensures path { OnOk result (IsPath (option_map (λ t. t.now) text.entry)) }
+    ensures failure { IfErr result (PathFails fault (option_map (λ t. t.now) text.entry)) }
+{
+    match text {
+        Some(text) if text.is_empty() => Err(Failure::of_argument(alloc, text, fault)),
         _ => Ok(()),
     }
 }

@@ -1,14 +1,14 @@
 //! Reads networks, ranges and addresses.
 
-ghost use Rattle.std.specs.Prelude.{IfOk, IfErr};
-ghost use Rattle.nbt_scan.specs.Words.{SpellsSpan};
-ghost use Rattle.nbt_admin.specs.Scans.{SpellSpans, SpanFails, SpansFail};
+ghost use Rattle.std.specs.Prelude.{◌≡◌, IfOk, IfErr};
+ghost use Rattle.nbt_admin.specs.Scans.{SpellsAsked, SpellSpans, SpanFails, SpansFail, fault_of_run};
 
 use crate::failure::{ArgumentFault, Failure};
+use crate::naming::are_of_one;
 use nbt_scan::{Span, SpanFault, span_of};
 use std::alloc::Global;
 
-/// Reads networks, ranges and addresses. Refused at the first text that is none.
+/// Reads networks, ranges and addresses. Refused at the first text that is none, or has an address that isn't of one machine.
 pub fn spans_of(alloc: Global, texts: &[&str]) -> Result<Vec<Span>, Failure>
     ensures read { IfOk result (λ spans. SpellSpans texts.now spans.items) }
     ensures failure { IfErr result (SpansFail texts.now) }
@@ -21,14 +21,29 @@ pub fn spans_of(alloc: Global, texts: &[&str]) -> Result<Vec<Span>, Failure>
     Ok(spans)
 }
 
-/// Reads a network, a range or an address, and says what is wrong with another text.
+/// Reads a network, a range or an address, each of whose addresses is of one machine, and says what is wrong with another text.
 fn told_span(alloc: Global, text: &str) -> Result<Span, Failure>
-    ensures read { IfOk result (SpellsSpan text.now) }
+    ensures read { IfOk result (SpellsAsked text.now) }
     ensures failure { IfErr result (SpanFails text.now) }
 {
-    match span_of(text) {
-        Ok(span) => Ok(span),
-        Err(fault) => Err(Failure::of_argument(alloc, text, fault_of(fault))),
+    let span = match span_of(text) {
+        Ok(span) => span,
+        Err(fault) => return Err(Failure::of_argument(alloc, text, fault_of(fault))),
+    };
+    if !are_of_one(span.first, span.last) {
+        return Err(Failure::of_argument(alloc, text, fault_of_run(span)));
+    }
+    Ok(span)
+}
+
+/// Returns what is said of a run that has an address that isn't of one machine.
+fn fault_of_run(span: Span) -> ArgumentFault
+    ensures { result ≡ fault_of_run span }
+{
+    if span.first == span.last {
+        ArgumentFault::NotOne
+    } else {
+        ArgumentFault::NotEachOne
     }
 }
 

@@ -10,4 +10,9 @@ returns-in_err-host-clause-failure c =
 pub returns-in_err-name-clause-failure : goal.returns-in_err-name-clause-failure
 returns-in_err-name-clause-failure c =
     let p = err_from_is_err_and c.from_residual-in_err-name.result c.from_residual-in_err-name.ensures.1 in
-    rw (p.1, p.2) (inr (inr (inr (c.in_ok-patience.ensures.limits, (_, _, c.in_ok-host.ensures.read), c.in_err-name.ensures.failure))))
+    rw (p.1, p.2) (inr (inr (inr (inr (c.in_ok-patience.ensures.limits, (_, _, c.in_ok-host.ensures.read), c.in_ok-expect_no_address.ensures.named, c.in_err-name.ensures.failure)))))
+
+pub returns-in_err-expect_no_address-clause-failure : goal.returns-in_err-expect_no_address-clause-failure
+returns-in_err-expect_no_address-clause-failure c =
+    let p = err_from_is_err_and c.from_residual-in_err-expect_no_address.result c.from_residual-in_err-expect_no_address.ensures.1 in
+    rw (p.1, p.2) (inr (inr (inr (inl (c.in_ok-patience.ensures.limits, (_, _, c.in_ok-host.ensures.read), c.in_err-expect_no_address.ensures.failure)))))

@@ -23,4 +23,10 @@ pub returns-in_err-rows_per_client-clause-failure : goal.returns-in_err-rows_per
 returns-in_err-rows_per_client-clause-failure c =
     let p = err_from_is_err_and c.from_residual-in_err-rows_per_client.result c.from_residual-in_err-rows_per_client.ensures.1 in
     rw (p.1, p.2)
-    (inr (inr (inr (inr (inr (inr (inr (c.in_ok-time.ensures.ends, (c.in_ok-config.config, c.in_ok-config.ensures.read, c.in_ok-fit.ensures.fits), (c.in_ok-bind.bind, c.in_ok-bind.ensures.read), is_state c.args.texts.now.state c.args.texts.now.silent_after_boot c.in_ok-state.state c.in_ok-state.ensures.given, c.in_ok-files.ensures.given.files, c.in_err-rows_per_client.ensures.failure))))))))
+    (inr (inr (inr (inr (inr (inr (inr (inr (c.in_ok-time.ensures.ends, (c.in_ok-config.config, c.in_ok-config.ensures.read, c.in_ok-fit.ensures.fits), (c.in_ok-bind.bind, c.in_ok-bind.ensures.read), is_state c.args.texts.now.state c.args.texts.now.silent_after_boot c.in_ok-state.state c.in_ok-state.ensures.given, c.in_ok-files.ensures.given.files, c.in_ok-expect_beside.ensures.beside, c.in_err-rows_per_client.ensures.failure)))))))))
+
+pub returns-in_err-expect_beside-clause-failure : goal.returns-in_err-expect_beside-clause-failure
+returns-in_err-expect_beside-clause-failure c =
+    let p = err_from_is_err_and c.from_residual-in_err-expect_beside.result c.from_residual-in_err-expect_beside.ensures.1 in
+    rw (p.1, p.2)
+    (inr (inr (inr (inr (inr (inr (inr (inl (c.in_ok-time.ensures.ends, (c.in_ok-config.config, c.in_ok-config.ensures.read, c.in_ok-fit.ensures.fits), (c.in_ok-bind.bind, c.in_ok-bind.ensures.read), is_state c.args.texts.now.state c.args.texts.now.silent_after_boot c.in_ok-state.state c.in_ok-state.ensures.given, c.in_ok-files.ensures.given.files, c.in_err-expect_beside.ensures.failure)))))))))
