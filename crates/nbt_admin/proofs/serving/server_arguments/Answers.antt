@@ -6,7 +6,7 @@ use Rattle.nbt_admin.proofs.serving.server_arguments.Goals as goal
 
 pub returns-in_err-allowed-clause-failure : goal.returns-in_err-allowed-clause-failure
 returns-in_err-allowed-clause-failure c =
-    let p = err_from_is_err_and c.from_residual-in_err-allowed.result c.from_residual-in_err-allowed.ensures.1 in
+    let p = err_from_is_err_and c.from_residual.result c.from_residual.ensures.1 in
     rw (p.1, p.2) (inl (subst (λ texts. AllowFails texts c.in_err-allowed.field-0.0) c.as_slice.ensures.value c.in_err-allowed.ensures.failure))
 
 pub returns-in_err-expect_path-clause-failure : goal.returns-in_err-expect_path-clause-failure
