@@ -15,7 +15,7 @@ use crate::scanning::scan_all;
 use crate::sheet::{Kept, write_kept};
 use arrayvec::ArrayVec;
 use nbt_name::Addr;
-use nbt_port::{Cause, Clock, Fault, Port, bound_port, print, steady_clock, tell_end_of};
+use nbt_port::{Cause, Clock, Fault, Port, UdpPort, bound_port, print, steady_clock, tell_end_of};
 use std::alloc::Global;
 use std::io::Write;
 use std::net::Net;
@@ -27,7 +27,8 @@ const IDS: u64 = 0x1_0000;
 /// Asks the addresses of a plan from a UDP port of this system, over its monotonic clock, and prints the hosts that reply. `bind` is the
 /// own address; for 0.0.0.0:0 the system chooses both. Where `shows`, a line in `errors` says once a second how far it is, and is hidden
 /// at the end. Returns whether any host replied. A request that has no route, or that
-/// the system refuses to send, is lost; of the latter a line in `errors` says how many there were, and why the last was. Refused:
+/// the system refuses to send, is lost; of the latter a line in `errors` says how many there were, and why the last was. If there were
+/// none, and the last request to the first address had no route, a line there says so. Refused:
 /// `NoPort` where the port can't be bound; then `NoClock` where the clock can't be read; then as [`scan_over`] is. Of each but `Memory` and
 /// `Output` a line in `errors` says which call of the system failed, for which address, and why; a failure to write it is ignored.
 pub fn run_scan<M: Net + time::Clock, W: Write, E: Write>(
@@ -45,6 +46,7 @@ pub fn run_scan<M: Net + time::Clock, W: Write, E: Write>(
 {
     let mut port = bound_port(machine, bind, errors)?;
     let mut clock = steady_clock(machine, bind, errors)?;
+    watch_first(&mut port, plan);
     let mut meter = Meter::new(shows);
     let scanned = scan_over(
         &mut port, &mut clock, alloc, plan, layout, writer, &mut meter, errors,
@@ -52,15 +54,35 @@ pub fn run_scan<M: Net + time::Clock, W: Write, E: Write>(
     meter.hide(errors);
     tell_end_of(scanned.err(), port.cause(), errors);
     if scanned.is_ok() {
-        tell_lost(port.failures(), port.cause(), errors);
+        tell_lost(&port, errors);
     }
     scanned
 }
 
-/// Says how many requests were lost since the port failed, if any were, and why the last was. A failure to write it is ignored.
-fn tell_lost<E: Write>(count: u64, cause: Option<Cause>, errors: &mut E) {
-    if let Some(cause) = cause {
-        let _ = write_lost(count, cause, errors);
+/// From now on the port keeps why the last request to the first address was lost, if it was.
+fn watch_first(port: &mut UdpPort, plan: &Plan)
+    ensures { port.new ≡ port.old }
+{
+    if let Some(ip) = plan.ips.first() {
+        port.watch(Addr {
+            ip: *ip,
+            port: plan.port,
+        });
+    }
+}
+
+/// Says how many requests were lost since the port failed, if any were, and why the last was. If none was, it says why the last one to the
+/// first address had no route, if it had none. A failure to write it is ignored.
+fn tell_lost<E: Write>(port: &UdpPort, errors: &mut E) {
+    match port.cause() {
+        Some(cause) => {
+            let _ = write_lost(port.failures(), cause, errors);
+        }
+        None => {
+            if let Some(cause) = port.lost() {
+                cause.tell("", errors);
+            }
+        }
     }
 }
 

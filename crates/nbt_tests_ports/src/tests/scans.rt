@@ -754,6 +754,43 @@ fn a_scan_over_this_machine(rt: HostRuntime) -> Result<(), Fail> {
     Ok(())
 }
 
+/// There is no way to port 0, which is said once, of the first address. All requests are lost, and none is a failure.
+#[test]
+fn a_scan_without_a_route(rt: HostRuntime) -> Result<(), Fail> {
+    let plan = Plan {
+        ips: Vec::from_slice(rt.alloc(), &[0x7F2A1706, 0x7F2A1707])?,
+        port: 0,
+        rate: 500,
+        tries: 2,
+        wait: 50,
+    };
+    expect(&rt, plan.is_sound());
+    let here = Addr {
+        ip: 0x7F2A1705,
+        port: 20_196,
+    };
+    let mut printed = Vec::new(rt.alloc());
+    let mut errors = Vec::new(rt.alloc());
+    let any = run_scan(
+        &rt,
+        rt.alloc(),
+        here,
+        &plan,
+        AT_ONCE,
+        false,
+        &mut printed,
+        &mut errors,
+    );
+    expect_eq(&rt, &any, &Ok(false));
+    expect(&rt, printed.is_empty());
+    expect_eq(
+        &rt,
+        &str::from_utf8(errors.as_slice())?,
+        &"nbt: 127.42.23.6:0: send: Invalid argument (os error 22)\n",
+    );
+    Ok(())
+}
+
 #[test]
 fn a_scan_from_an_address_in_use(rt: HostRuntime) -> Result<(), Fail> {
     let plan = Plan {
