@@ -1,6 +1,7 @@
 //! Runs a command line on a machine.
 
 ghost use Rattle.std.specs.Prelude.{◌≤◌, IfOk, IfErr};
+ghost use Rattle.nbt_prog.specs.Inner.Failure.{prints_objects};
 ghost use Rattle.nbt_prog.specs.Inner.Refusals.{FailsOn};
 ghost use Rattle.nbt_prog.specs.Running.{EndsOn};
 
@@ -9,7 +10,7 @@ use crate::failure::Failure;
 use crate::network::{node_arguments, serve_arguments};
 use crate::numbers::ports_of;
 use crate::running::{reported, run};
-use nbt_args::CommandLine;
+use nbt_args::{AdminLine, CommandLine};
 use std::alloc::Global;
 use std::fs::File;
 use std::io::{Read, Write};
@@ -18,7 +19,7 @@ use std::rt::Files;
 use std::time;
 
 /// Runs a command line on this machine, and returns the exit status. The commands that open sockets write to `writer` while they run, `lookup` and
-/// `status` at their end; the others as [`run`] does. `errors` gets the lines of [`command_telling`](crate::command_telling), except the one
+/// `status` at their end; the others as [`run`] does. The word of a failure is printed in an object where `scan --json` fails. `errors` gets the lines of [`command_telling`](crate::command_telling), except the one
 /// for memory that is out.
 pub fn run_on<M: Net + time::Clock + Files<File = File>, R: Read, W: Write, E: Write>(
     machine: &M,
@@ -33,7 +34,17 @@ pub fn run_on<M: Net + time::Clock + Files<File = File>, R: Read, W: Write, E: W
 {
     match done_on(machine, alloc, line, reader, writer, errors) {
         Ok(status) => status,
-        Err(failure) => conclude_failed(failure, writer),
+        Err(failure) => conclude_failed(failure, prints_objects(line), writer),
+    }
+}
+
+/// Whether each line that the command prints is an object of JSON.
+fn prints_objects(line: &CommandLine<'_>) -> bool
+    ensures { result ≡ prints_objects line.now }
+{
+    match line {
+        CommandLine::Admin(AdminLine::Scan(texts)) => texts.json,
+        _ => false,
     }
 }
 

@@ -137,8 +137,17 @@ static NOT_BOUND: [(&str, &str); 10] = [
     ),
 ];
 
+/// Scans whose port another program has, and what they print: with --json each line is an object.
+static NOT_SCANNED: [(&str, &str); 2] = [
+    ("nbt scan 127.42.24.2 --bind 127.42.24.1:22337", "device\n"),
+    (
+        "nbt scan 127.42.24.2 --bind 127.42.24.1:22337 --json",
+        "{\"error\":\"device\"}\n",
+    ),
+];
+
 /// Commands that bind a port first, what they print and end with where the machine has no memory for it, and what is said at last.
-static BINDING: [(&str, &str, u8, &[u8]); 7] = [
+static BINDING: [(&str, &str, u8, &[u8]); 8] = [
     (
         "nbt serve 127.42.24.1:22337 1000 60 --forever",
         "device\n",
@@ -178,6 +187,12 @@ static BINDING: [(&str, &str, u8, &[u8]); 7] = [
         b"nbt: 0.0.0.0:0: out of memory\n",
     ),
     (
+        "nbt scan 127.42.24.2 --json",
+        "{\"error\":\"memory\"}\n",
+        4,
+        b"nbt: 0.0.0.0:0: out of memory\nnbt: memory was refused\n",
+    ),
+    (
         "nbt nbns",
         "memory\n",
         4,
@@ -189,6 +204,11 @@ fn expect_not_bound<R: Abort + AllocGlobal + Net + Clock + Files<File = File>>(r
     for row in &NOT_BOUND {
         let (line, said) = *row;
         expect_ending(rt, rt, "", line, "", 3, "device\n", said);
+    }
+    let said = "nbt: 127.42.24.1:22337: Address already in use (os error 98)\n";
+    for row in &NOT_SCANNED {
+        let (line, text) = *row;
+        expect_ending(rt, rt, "", line, "", 3, text, said);
     }
 }
 
