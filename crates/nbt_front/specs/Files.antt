@@ -1,5 +1,6 @@
 -- The file of fixed names: a line for each name and address, as in the list of leases (our profile).
 use Rattle.std.specs.Prelude.{◌≡◌, ◌≢◌, ℕ, ◌+◌, ◌<◌, ◌≤◌, ◌⊎◌, List, [], ◌∷◌, ◌++◌, length, Option, Some, None, Contains, if◌then◌else◌}
+use Rattle.std.specs.Str.Lines.{strip_carriage_return}
 use Rattle.nbt_name.specs.Wire.{NameValue, IsStar, same_name}
 use Rattle.nbt_name.specs.declared.addr.Kind.{Kind}
 use Rattle.nbt_name.specs.declared.addr.Kind.TheVariants.{Unique, Group}
@@ -73,14 +74,18 @@ pub record Adds (old : FixedNames) (line : FixedLine) (new : FixedNames) : Type 
   pub room : fixed_of old line.name ≡ None → length old < names_most
   pub names_are : (name : NameValue) → fixed_of new name ≡ (if same_name line.name name then Some fixed else fixed_of old name)
 
+-- what a line says: a carriage return before its line feed is a part of what ends it
+abbrev pub said : (text : List ℕ) → List ℕ
+said text = strip_carriage_return text
+
 -- A line adds what its words say; a remark, and a line of spaces alone, adds nothing.
 pub data Takes (old : FixedNames) (text : List ℕ) : FixedNames → Type 0 where
-  passed_over : IsPassedOver text → Takes old text old
-  added : (line : FixedLine) (new : FixedNames) → ¬ IsPassedOver text → SpellsLine (words text) line → Adds old line new → Takes old text new
+  passed_over : IsPassedOver (said text) → Takes old text old
+  added : (line : FixedLine) (new : FixedNames) → ¬ IsPassedOver (said text) → SpellsLine (words (said text)) line → Adds old line new → Takes old text new
 
 pub data LineFails (old : FixedNames) (text : List ℕ) : LineFault → Type 0 where
-  misspelled : (fault : LineFault) → ¬ IsPassedOver text → Misspells (words text) fault → LineFails old text fault
-  barred : (line : FixedLine) (fault : LineFault) → ¬ IsPassedOver text → SpellsLine (words text) line → IsBarred (length old) (fixed_of old line.name) line fault
+  misspelled : (fault : LineFault) → ¬ IsPassedOver (said text) → Misspells (words (said text)) fault → LineFails old text fault
+  barred : (line : FixedLine) (fault : LineFault) → ¬ IsPassedOver (said text) → SpellsLine (words (said text)) line → IsBarred (length old) (fixed_of old line.name) line fault
       → LineFails old text fault
 
 -- ---- the whole file

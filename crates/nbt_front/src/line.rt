@@ -4,7 +4,7 @@ ghost use Rattle.std.specs.Prelude.{◌≡◌, ◌↔◌, ℕ, List, [], ◌∷�
 ghost use Rattle.nbt_text.specs.Texts.{texts};
 ghost use Rattle.nbt_text.specs.ScopedNames.{SpellsScopedName, MisspellsScopedName};
 ghost use Rattle.nbt_name.specs.declared.addr.Kind.{Kind as KindValue};
-ghost use Rattle.nbt_front.specs.Files.{IsOfOne, LineFails, Misspells, SpellsAddr, SpellsFixedName, SpellsKind, SpellsLine, Takes};
+ghost use Rattle.nbt_front.specs.Files.{IsOfOne, LineFails, Misspells, SpellsAddr, SpellsFixedName, SpellsKind, SpellsLine, Takes, said};
 ghost use Rattle.nbt_front.specs.Inner.Refusals.{IsRefusedBy};
 
 use crate::fault::{LineFault, Refused};
@@ -39,13 +39,20 @@ pub(crate) fn take_line(alloc: Global, text: &[u8], names: &mut FixedNames) -> R
     ensures ok { OnOk result (Takes names.old text.now names.new) }
     ensures err { IfErr result (IsRefusedBy (LineFails names.old text.now)) }
 {
-    let Some(words) = words_said(alloc, text)? else {
+    let Some(words) = words_said(alloc, said(text))? else {
         return Ok(());
     };
     match line_of(words.as_slice()) {
         Ok(line) => names.add(line),
         Err(fault) => Err(Refused::Line(fault)),
     }
+}
+
+/// What a line says: a carriage return at its end is a part of what ends it.
+fn said(text: &[u8]) -> &[u8]
+    ensures { result.now ≡ said text.now }
+{
+    text.strip_suffix(b"\r").unwrap_or(text)
 }
 
 /// What the words of a line say.

@@ -124,6 +124,17 @@ const FILES: &[(&str, usize, (&str, Kind, &[u32]))] = &[
         2,
         ("OFFICE#00", Kind::Group, &[0xC0000209, 0xC0000208]),
     ),
+    // Lines as other systems end them.
+    (
+        "# printers\r\n\r\n  \r\nFILER unique 192.0.2.7\r\nDESK unique 192.0.2.8 \r\n",
+        2,
+        ("FILER#20", Kind::Unique, &[0xC0000207]),
+    ),
+    (
+        "FILER unique 192.0.2.7\nDESK unique 192.0.2.8\r",
+        2,
+        ("DESK#20", Kind::Unique, &[0xC0000208]),
+    ),
     (
         "hex:66696c6572202020202020202020201f unique 192.0.2.7",
         1,
@@ -203,9 +214,20 @@ const WRONG_FILES: &[(&str, usize, &str)] = &[
         1,
         "address: no A.B.C.D in decimal",
     ),
+    // One carriage return belongs to the end of a line, and no other.
     (
-        "FILER#20 unique 192.0.2.7\r\n",
+        "FILER#20 unique 192.0.2.7\r\r\n",
         1,
+        "address: no A.B.C.D in decimal",
+    ),
+    (
+        "FILER#20 unique\r 192.0.2.7\r\n",
+        1,
+        "kind: unique or group is wanted",
+    ),
+    (
+        "# one\r\n\r\nFILER#20 unique x\r\n",
+        3,
         "address: no A.B.C.D in decimal",
     ),
     (
