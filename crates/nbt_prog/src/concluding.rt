@@ -34,8 +34,6 @@ fn conclude_in_object<W: Write>(fault: Fault, writer: &mut W) -> u8
     ensures bound { result ≤ 4 }
     ensures printed { (result ≡ 3) ⊎ ((result ≡ fault_status fault)
         × Appends (W.contents writer.old) (W.contents writer.new) (fault_object fault)) }
-    ensures memory { result ≡ 4
-        → Appends (W.contents writer.old) (W.contents writer.new) (fault_object Memory) }
 {
     match print_object(fault, writer) {
         Ok(()) => fault.status(),
