@@ -35,10 +35,10 @@ fn conclude_in_object<W: Write>(fault: Fault, writer: &mut W) -> u8
     ensures printed { (result ≡ 3) ⊎ ((result ≡ fault_status fault)
         × Appends (W.contents writer.old) (W.contents writer.new) (fault_object fault)) }
 {
-    match print_object(fault, writer) {
-        Ok(()) => fault.status(),
-        Err(_) => Fault::Output.status(),
+    if print_object(fault, writer).is_err() {
+        return Fault::Output.status();
     }
+    fault.status()
 }
 
 /// Writes the word of a fault in an object of JSON.
