@@ -1,6 +1,6 @@
 //! Runs a command line on a machine.
 
-ghost use Rattle.std.specs.Prelude.{◌≤◌, IfOk, IfErr};
+ghost use Rattle.std.specs.Prelude.{◌≡◌, ◌≤◌, IfOk, IfErr};
 ghost use Rattle.nbt_prog.specs.Inner.Failure.{prints_objects};
 ghost use Rattle.nbt_prog.specs.Inner.Refusals.{FailsOn};
 ghost use Rattle.nbt_prog.specs.Running.{EndsOn};
