@@ -1,6 +1,6 @@
 //! Reads addresses and names.
 
-ghost use Rattle.std.specs.Prelude.{◌≡◌, ◌≢◌, ◌⊎◌, ◌↔◌, IfOk, IfErr, IsTrue, OnOk};
+ghost use Rattle.std.specs.Prelude.{◌≡◌, ◌≢◌, ◌⊎◌, ◌↔◌, ◌≤◌, IfOk, IfErr, IsTrue, OnOk};
 ghost use Rattle.nbt_text.specs.Address.{SpellsEnd, SpellsSource};
 ghost use Rattle.nbt_admin.specs.Failures.{ComplainsOf, out_of_memory};
 ghost use Rattle.nbt_admin.specs.Texts.{case_of, AddressFails, AddressInstead, IsAddress, SourceFails, IsOfOne, AreOfOne, SpellsPeer, PeerFails, SpellsOwn, OwnFails, SpellsAsked, NameFails, SpellsSought, SoughtFails};

@@ -7,11 +7,12 @@ use std::io;
 use std::io::{ErrorKind, Write};
 use std::process::Abort;
 
-/// A pipe with this much room, to which a write that would wait is refused. Where it fails, it refuses each write so. It counts how often
-/// it was flushed.
+/// A pipe with this much room, to which a write that would wait is refused; then it has the room that its reader made meanwhile. Where it
+/// fails, it refuses each write so. It counts how often it was flushed.
 #[derive(Drop)]
 struct Pipe {
     room: usize,
+    made: usize,
     failure: Option<ErrorKind>,
     text: Vec<u8>,
     flushes: usize,
@@ -21,6 +22,7 @@ impl Pipe {
     fn full(alloc: Global) -> Pipe {
         Pipe {
             room: 0,
+            made: 0,
             failure: None,
             text: Vec::new(alloc),
             flushes: 0,
@@ -34,6 +36,7 @@ impl Write for Pipe {
             return Err(io::Error::from(kind));
         }
         if self.room == 0 {
+            self.room = self.made;
             return Err(io::Error::from(ErrorKind::WouldBlock));
         }
         let count = self.room.min(buf.len());
@@ -146,6 +149,21 @@ fn a_first_line_without_room_stands_before_all_others(rt: HostRuntime) {
         let got = lines.get_mut().text.as_slice();
         expect_eq(&rt, text, &got, &expected.as_bytes());
     }
+}
+
+/// A reader makes room between a write of the first line and that of the next one, which is refused all the same, and the one after it is
+/// written behind the first line.
+#[test]
+fn a_line_that_comes_as_room_is_made_waits_for_the_first(rt: HostRuntime) {
+    let alloc: Global = rt.alloc();
+    let mut lines = FirstLineWriter::new(alloc, Pipe::full(alloc));
+    expect_eq(&rt, &"first", &hand(&mut lines, "serving\n"), &Ok(8));
+    lines.get_mut().made = 100;
+    let refused = Err(ErrorKind::WouldBlock);
+    expect_eq(&rt, &"one", &hand(&mut lines, "one\n"), &refused);
+    expect_eq(&rt, &"two", &hand(&mut lines, "two\n"), &Ok(4));
+    let got = lines.get_mut().text.as_slice();
+    expect_eq(&rt, &"in order", &got, &"serving\ntwo\n".as_bytes());
 }
 
 /// A pipe that fails otherwise refuses the first line at once, and each write after it. One that fails later refuses what waits.
