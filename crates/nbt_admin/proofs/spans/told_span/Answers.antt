@@ -1,4 +1,4 @@
-use Rattle.std.proofs.Common.{◌≡◌}
+use Rattle.std.proofs.Common.{◌≡◌, rules}
 use Rattle.std.specs.Prelude.{◌⊎◌}
 use Rattle.nbt_admin.specs.Failures.{ComplainsOf, out_of_memory}
 use Rattle.nbt_admin.specs.Scans.{fault_of_run}
@@ -13,3 +13,6 @@ returns-then-not-are_of_one-clause-failure c =
     let failure = c.of_argument-then-not-are_of_one.result in
     let tells : (failure ≡ out_of_memory) ⊎ ComplainsOf c.args.text.now (fault_of_run c.in-Ok.span) failure = rw (← c.fault_of_run.ensures) c.of_argument-then-not-are_of_one.ensures in
     bad_run c.args.text.now c.in-Ok.span failure c.in-Ok.ensures (λ all. let yes = c.are_of_one.ensures.1 all in let no = c.if-not-are_of_one.true in absurd cc) tells
+
+pub returns-clause-read : goal.returns-clause-read
+returns-clause-read c = (c.in-Ok.ensures, c.are_of_one.ensures.0 (search rules))
