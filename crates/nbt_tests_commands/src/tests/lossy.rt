@@ -46,7 +46,7 @@ impl Write for Pipe {
     }
 
     fn flush(&mut self) -> io::Result<()> {
-        self.flushes += 1;
+        self.flushes = self.flushes.saturating_add(1);
         Ok(())
     }
 }
