@@ -41,13 +41,14 @@ fn say_progress(rt: &impl AllocGlobal, arguments: &mut Vec<String>) {
     }
 }
 
-/// Has what this stream is open on refuse a write that would wait for its reader. A terminal stays as it is: a shell has it open too.
-fn never_wait<S: AsFd + IsTerminal>(stream: &S) -> io::Result<()> {
+/// Has a write to what this stream is open on wait for its reader, or be refused if it would. A terminal stays as it is: a shell has it
+/// open too.
+fn set_waiting<S: AsFd + IsTerminal>(stream: &S, waits: bool) -> io::Result<()> {
     if stream.is_terminal() {
         return Ok(());
     }
     let same = stream.as_fd().try_clone_to_owned()?;
-    UnixStream::from(same).set_nonblocking(true)
+    UnixStream::from(same).set_nonblocking(!waits)
 }
 
 /// Runs the command, and prints its output here.
@@ -58,12 +59,14 @@ fn run<W: Write>(rt: &HostRuntime, arguments: &[String], writer: &mut W) -> u8 {
 }
 
 /// The same of a command that goes on while the reader of what it prints is slow. What waits for that reader at its end is handed on, as
-/// far as there is room.
+/// far as there is room. Both streams wait again then, since another program may write there next.
 fn run_on<W: Write>(rt: &HostRuntime, arguments: &[String], writer: &mut W) -> u8 {
-    let _ = never_wait(&rt.stdout());
-    let _ = never_wait(&rt.stderr());
+    let _ = set_waiting(&rt.stdout(), false);
+    let _ = set_waiting(&rt.stderr(), false);
     let status = run(rt, arguments, writer);
     let _ = writer.flush();
+    let _ = set_waiting(&rt.stdout(), true);
+    let _ = set_waiting(&rt.stderr(), true);
     status
 }
 

@@ -301,7 +301,7 @@ Exit status:
   2  wrong usage, which standard output explains; an invalid argument, or a wrong line in the file of --fixed, which standard
      error explains
   3  no port or no clock, a socket failed 100 times in a row, FOLDER can't be read or written, the file of --fixed can't be read,
-     or the output failed; prints `device`, unless it was the output
+     a FILE can't be replaced, or the output failed; prints `device`, unless it was FILE or the output
   4  out of memory at the start; prints `memory`",
 };
 
@@ -401,11 +401,12 @@ pub static RELEASE: Description = Description {
     help: "\
 Sends a release request for each name from the address and the port of the host. While a host runs there, that port can't be
 bound, and nothing is sent. Each request is sent up to three times, one every 5 s, until its reply comes. At the end prints one
-line per name: `released FILER#20`; `not leased FILER#20` if the server has no such name; `refused FILER#20: held by another (6)`,
-with the server's own reason; or `no reply for FILER#20`.
+line per name: `released FILER#20`; `not leased FILER#20` if the server says that it has no such name, which `nbt nbns` doesn't: it
+confirms that too; `refused FILER#20: held by another (6)`, with the server's own reason; or `no reply for FILER#20`.
 
 The arguments are those of `nbt host`, so that the same settings serve both. --life, --longest, --for and --log have no effect.
-The port of --bind is the host's, and so not 0.
+The port of --bind is the host's, and so not 0. From another port a host that runs isn't noticed, and loses its names: a server
+knows a host by its address alone.
 
 Examples:
   nbt release FILER 'FILER<00>' --group 'WORKGROUP<00>' --server 192.0.2.1 --bind 192.0.2.7

@@ -96,11 +96,11 @@ in a second pass, --tries passes in all. The first reply of a host counts.
 
 ADDRESSES is a network as 192.0.2.0/24, of 16 to 32 bits and without its own address and its broadcast address if it has less
 than 31; a range as 192.0.2.10-192.0.2.20 or 192.0.2.10-20; or A.B.C.D: in decimal with no leading zeros, and 65536 addresses in
-all. Each is asked once, also if it is given twice. TIME is a number and its unit, as 500ms or 2s.
+all. Each is asked once, also if it is given twice. TIME is a whole number and its unit, as 500ms or 2s.
 
 --hosts prints `192.0.2.7 FILER`, with the name of the file server, or else of the computer. A name that isn't a host's, of
 letters, digits and hyphens, is left out. --json prints an object with the members address, computer, workgroup, user, server,
-unit_id and names; what a host doesn't tell is null.
+unit_id and names; what a host doesn't tell is null. With --json `device` and `memory` stand in an object too, as its member error.
 
 --progress says once a second `nbt: asked 1500 of 65534 addresses, pass 1 of 2, 12 replied` on standard error, in one line, which
 is hidden at the end.

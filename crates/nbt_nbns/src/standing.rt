@@ -36,10 +36,12 @@ pub(crate) fn check_place<R: Files>(machine: &R, path: &str, content: Content) -
 fn why_not(content: Content) -> &'static str {
     match content {
         Content::Leases => {
-            "its first line isn't '# live leases of nbt nbns': remove that file first"
+            "its first line isn't '# live leases of nbt nbns': choose another path, or remove that file"
         }
-        Content::Hosts => "its first line isn't '# hosts of nbt nbns': remove that file first",
-        Content::Stats => "its first line isn't '# statistics of nbt nbns': remove that file first",
+        Content::Hosts =>
+            "its first line isn't '# hosts of nbt nbns': choose another path, or remove that file",
+        Content::Stats =>
+            "its first line isn't '# statistics of nbt nbns': choose another path, or remove that file",
     }
 }
 

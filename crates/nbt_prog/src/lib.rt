@@ -41,7 +41,7 @@ const OUT_OF_MEMORY: &str = "nbt: memory was refused\n";
 /// - 1: an address, a hexadecimal text or the input can't be read; prints `unreadable`. Or `show` found a fault, which it
 ///   prints, or `check` a vector that failed, or `sim` a line that can't be read.
 /// - 2: wrong usage; prints what is wrong and the usage. Or an argument of a command for people who run a network (`lookup`, `status`,
-///   `nbns`, `host`) is invalid; prints nothing: see [`command_telling`].
+///   `nbns`, `host`, `release`, `scan`) is invalid; prints nothing: see [`command_telling`].
 /// - 3: `reader` or `writer` failed; prints `device`, unless it was the writer. The commands for people who run a network, `serve`,
 ///   `node` and `loop` end so too, since they need a machine: see [`command_telling`].
 /// - 4: out of memory; prints `memory`.
@@ -62,10 +62,10 @@ pub fn command<S: AsStr, R: Read, W: Write>(
 }
 
 /// Runs the command that `arguments` name, as [`command`] does, and on this machine also those that open sockets: `lookup`, `status`,
-/// `nbns`, `host`, `serve`, `node` and `loop`. The first two write to `writer` at their end, with the status 0, 1 if the name isn't
-/// found, or 5 if no reply came; the others write while they run, `host` with the status 5 if a name wasn't held at its end. If an
-/// argument of the first four is invalid, a line in `errors` says what is wrong, and the status is 2. A line in `errors` also explains
-/// `unreadable` and `memory`. The status is 3 too if a port can't be bound, if a clock can't be read at the start, or if a socket
+/// `nbns`, `host`, `release`, `scan`, `serve`, `node` and `loop`. The first two write to `writer` at their end, with the status 0, 1 if
+/// the name isn't found, or 5 if no reply came; the others write while they run, `host` with the status 5 if a name wasn't held at its
+/// end. If an argument of the first six is invalid, a line in `errors` says what is wrong, and the status is 2. A line in `errors` also
+/// explains `unreadable` and `memory`. `scan --json` prints `device` and `memory` in an object of JSON. The status is 3 too if a port can't be bound, if a clock can't be read at the start, or if a socket
 /// failed. Then a line in `errors` says which call of the system failed, for which address, and why. With `--forever` a line in `errors`
 /// reports a socket that failed, and only the hundredth failed turn in a row ends the command. Failures to write to `errors` are ignored.
 pub fn command_telling<

@@ -1,10 +1,10 @@
 -- Whether a lease that was kept outlasts the silence of a server that begins anew (our profile).
-use Rattle.std.specs.Prelude.{◌≡◌, ◌↔◌, ℕ, ◌+◌, ◌<◌, ◌≤◌, Bool, false, IsTrue, List, Any, Some, None, Result, Ok, Err}
+use Rattle.std.specs.Prelude.{◌≡◌, ◌↔◌, ℕ, ◌+◌, ◌<◌, ◌≤◌, Bool, false, IsTrue, List, length, Any, Some, None, Result, Ok, Err}
 use Rattle.std.specs.Borrow.{Bor}
 use Rattle.nbt_lease.specs.Config.{ConfigValue, milliseconds}
 use Rattle.nbt_lease.specs.Lease.{Rows}
 use Rattle.nbt_store.specs.Lines.{HasFault}
-use Rattle.nbt_store.specs.Reading.{IsLoaded}
+use Rattle.nbt_store.specs.Reading.{HasHeader, IsLoaded}
 use Rattle.nbt_store.specs.Silence.{going_on}
 use Rattle.nbt_store.specs.declared.fault.Fault.{Fault}
 use Rattle.nbt_store.specs.declared.header.Header.{Header}
@@ -23,14 +23,20 @@ ahead_now f h = going_on (with_limits f.config h) f.config f.boot.now f.monotoni
 abbrev pub speaks_anew : Found → (ahead : ℕ) → ℕ
 speaks_anew f ahead = f.monotonic + ahead + milliseconds f.config.longest
 
--- With this header and these rows: the longest lease was longer, and one of the leases ends after that.
+-- With this header and these rows: the longest lease was longer, and one of the leases ends after that, or may, since the time isn't
+-- known.
 pub data OutlastsWith (f : Found) (h : Header) (rows : Rows) : Bool → Type 0 where
   not_longer : h.longest ≤ f.config.longest → OutlastsWith f h rows false
-  not_known : (why : Silence) → f.config.longest < h.longest → ahead_now f h ≡ Err why → OutlastsWith f h rows false
+  not_known : (why : Silence) (is : Bool) → f.config.longest < h.longest → ahead_now f h ≡ Err why → IsTrue is ↔ (0 < length rows) → OutlastsWith f h rows is
   known : (ahead : ℕ) (is : Bool) → f.config.longest < h.longest → ahead_now f h ≡ Ok ahead → IsTrue is ↔ Any (λ row. speaks_anew f ahead < row.1.end) rows → OutlastsWith f h rows is
 
--- What a server finds has such a lease, or has none.
+-- Octets that are no file have lost such a lease, as far as their header tells: the longest lease was longer.
+pub data MayHaveLost (f : Found) (octets : List ℕ) : Bool → Type 0 where
+  no_header : ((h : Header) → ¬ HasHeader octets h) → MayHaveLost f octets false
+  by_header : (h : Header) (is : Bool) → HasHeader octets h → IsTrue is ↔ (f.config.longest < h.longest) → MayHaveLost f octets is
+
+-- What a server finds has such a lease, or may have lost one; or has none.
 pub data OutlastsAs (f : Found) : Bool → Type 0 where
   nothing_there : f.kept ≡ None → OutlastsAs f false
-  not_a_file : (octets : Bor (List ℕ)) (fault : Fault) → f.kept ≡ Some octets → HasFault octets.now fault → OutlastsAs f false
+  not_a_file : (octets : Bor (List ℕ)) (fault : Fault) (is : Bool) → f.kept ≡ Some octets → HasFault octets.now fault → MayHaveLost f octets.now is → OutlastsAs f is
   a_file : (octets : Bor (List ℕ)) (h : Header) (rows : Rows) (is : Bool) → f.kept ≡ Some octets → IsLoaded octets.now h rows → OutlastsWith f h rows is → OutlastsAs f is

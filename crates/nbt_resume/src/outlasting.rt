@@ -1,43 +1,66 @@
 //! Whether a lease that was kept outlasts the silence of a server that begins anew.
 
-ghost use Rattle.std.specs.Prelude.{◌≡◌, ◌<◌, ◌↔◌, Any, false, IsTrue, IfOk, Ok};
+ghost use Rattle.std.specs.Prelude.{◌≡◌, ◌<◌, ◌↔◌, length, Any, IsTrue, IfOk, Ok};
 ghost use Rattle.nbt_store.specs.declared.fault.Fault.{Fault as FaultSeen};
 ghost use Rattle.nbt_store.specs.declared.fault.ReadFault.TheVariants as read;
-ghost use Rattle.nbt_resume.specs.Outlasting.{ahead_now, speaks_anew, with_limits, OutlastsAs, OutlastsWith};
+ghost use Rattle.nbt_resume.specs.Outlasting.{ahead_now, speaks_anew, with_limits, MayHaveLost, OutlastsAs, OutlastsWith};
 
 use crate::beginning::copy_of;
 use crate::resuming::Found;
 use nbt_lease::{Config, Lease};
 use nbt_name::Name;
-use nbt_store::{Header, Loaded, ReadFault, load, why_silent};
+use nbt_store::{Header, Loaded, ReadFault, load, load_header, why_silent};
 use std::alloc::{AllocError, Global};
 
 /// The milliseconds of a second.
 const SECOND: u64 = 1_000;
 
-/// Whether a lease of what is found ends after the silence of a server that begins anew now, with the limits of `found`: such a server
-/// could grant its name to another while it lives. It is said only of leases that were kept under a longer longest lease. Where nothing
-/// was kept, where the octets are no file of a store, and where the time since the file was written isn't known, it is said of none. Refused where it is out of memory.
+/// Whether a lease of what is found may end after the silence of a server that begins anew now, with the limits of `found`: such a
+/// server could grant its name to another while it lives. It is said only of what was kept under a longer longest lease: of a lease
+/// that ends later; of any where the time since the file was written isn't known; and of a file that can't be loaded, as far as its
+/// header can, since a lease of it may be lost. Refused where it is out of memory.
 pub fn outlasts(alloc: Global, found: &Found<'_>) -> Result<bool, AllocError>
     ensures { IfOk result (OutlastsAs found.now) }
 {
     match found.kept {
         Some(octets) => match load(alloc, octets) {
             Ok(loaded) => Ok(outlasts_with(found, &loaded)),
-            Err(why) => without_leases(why),
+            Err(why) => without_leases(alloc, found, octets, why),
         },
         None => Ok(false),
     }
 }
 
-/// What is said of octets that aren't read for this reason.
-fn without_leases(why: ReadFault) -> Result<bool, AllocError>
-    ensures { IfOk result (λ is. (fault : FaultSeen) × (why ≡ read.File fault) × (is ≡ false)) }
+/// What is said of octets that aren't loaded for this reason.
+fn without_leases(
+    alloc: Global,
+    found: &Found<'_>,
+    octets: &[u8],
+    why: ReadFault,
+) -> Result<bool, AllocError>
+    ensures { IfOk result (λ is. (fault : FaultSeen) × (why ≡ read.File fault) × MayHaveLost found.now octets.now is) }
 {
     match why {
-        ReadFault::File(_) => Ok(false),
+        ReadFault::File(_) => may_have_lost(alloc, found, octets),
         ReadFault::Memory => Err(AllocError),
     }
+}
+
+/// The same, where they are no file.
+fn may_have_lost(alloc: Global, found: &Found<'_>, octets: &[u8]) -> Result<bool, AllocError>
+    ensures { IfOk result (MayHaveLost found.now octets.now) }
+{
+    match load_header(alloc, octets)? {
+        Some(header) => Ok(was_longer(found, &header)),
+        None => Ok(false),
+    }
+}
+
+/// Whether the longest lease was longer.
+fn was_longer(found: &Found<'_>, header: &Header) -> bool
+    ensures { IsTrue result ↔ (found.now.config.longest < header.now.longest) }
+{
+    u64::from(found.config.longest()) < header.longest
 }
 
 /// The same, with the header and the leases that were loaded.
@@ -60,7 +83,7 @@ fn outlasts_by_time(found: &Found<'_>, loaded: &Loaded) -> bool
     let day = found.day.get();
     match why_silent(&header, found.config, found.boot, monotonic, day, false) {
         Ok(ahead) => has_after(loaded.rows.as_slice(), speaks_anew(found, loaded, ahead)),
-        Err(_why) => false,
+        Err(_why) => has_lease(loaded.rows.as_slice()),
     }
 }
 
@@ -86,6 +109,13 @@ fn speaks_anew(found: &Found<'_>, loaded: &Loaded, ahead: u64) -> u64
     ensures { result ≡ speaks_anew found.now ahead }
 {
     found.monotonic.get() + ahead + SECOND * u64::from(found.config.longest())
+}
+
+/// Whether there is a lease.
+fn has_lease(rows: &[(Name, Lease)]) -> bool
+    ensures { IsTrue result ↔ (0 < length rows.now) }
+{
+    !rows.is_empty()
 }
 
 /// Whether one of the leases ends after this time.

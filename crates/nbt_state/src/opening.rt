@@ -47,8 +47,8 @@ pub(crate) fn open_disk<'a, M: Files<File = File>, E: Write>(
 }
 
 /// Reads the boot and the file of a folder, and a server begins with what is found, at these times. Refused with `Memory`; with
-/// `Store` where they can't be read, and where a lease that was kept outlasts the silence of a server that begins anew, as [`outlasts`]
-/// says: a line in `errors` says which.
+/// `Store` where they can't be read, and where a lease that was kept may outlast the silence of a server that begins anew, as
+/// [`outlasts`] says: a line in `errors` says which.
 pub(crate) fn begin_in<M: Files<File = File>, E: Write>(
     machine: &M,
     alloc: Global,
@@ -166,7 +166,7 @@ fn tell_outlasted<E: Write>(folder: &str, config: Config, errors: &mut E) -> io:
     let silent = config.longest();
     writeln!(
         errors,
-        "nbt: {folder}: a lease that was kept under a longer LONGEST outlasts a silence of {silent} s: start again when it is over"
+        "nbt: {folder}: a lease that was kept under a longer LONGEST may outlast a silence of {silent} s: start with that LONGEST, or remove leases there when it has passed"
     )?;
     errors.flush()
 }

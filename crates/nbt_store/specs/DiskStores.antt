@@ -9,14 +9,15 @@ use Rattle.nbt_store.specs.declared.header.Header.{Header}
 use Rattle.nbt_store.specs.Calls.{StoreCall, appended, append_failed, synced, sync_failed, renewed, renew_failed, has_failed}
 use Rattle.nbt_store.specs.Changes.{begun_all}
 use Rattle.nbt_store.specs.DiskCalls.{DiskCall, created, create_failed, added, add_failed, flushed, flush_failed, installed, install_failed}
-use Rattle.nbt_store.specs.Lines.{IsClosed, IsFile, IsLine}
+use Rattle.nbt_store.specs.Lines.{HaveLines, IsClosed, IsFile, IsLine}
 use Rattle.nbt_store.specs.Records.{IsRecord}
 
 -- ---- what a call asks of the disk
 
--- a whole file of these leases
+-- a whole file of these leases, which its second line counts
 pub record IsNewFile (text : List ℕ) (header : Header) (rows : Rows) : Type 0 where
   pub file : IsFile text header (begun_all rows)
+  pub counted : HaveLines text (record { header = header; leases = length rows }) (begun_all rows)
   pub closed : IsClosed text
 
 -- a change's line, with its line feed

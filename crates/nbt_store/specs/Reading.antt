@@ -30,6 +30,15 @@ pub record HasFront (octets : List ℕ) (head : Head) (rest : List ℕ) : Type 0
   pub lines_are : whole_lines octets ≡ version ∷ line ∷ whole_lines rest
   pub head_is : IsHead line head
 
+-- The second line is the head of this header, whatever stands behind it: a later line may be damaged.
+abbrev pub HasHeader : List ℕ → Header → Type 0
+HasHeader octets h = (head : Head) × (rest : List ℕ) × HasFront octets head rest × (head.header ≡ h)
+
+-- out of memory, or there is no such line
+abbrev pub HasNone : List ℕ → ReadFault → Type 0
+HasNone octets read.Memory = ⊤
+HasNone octets (read.File fault) = (h : Header) → ¬ HasHeader octets h
+
 -- one of these lines, of which the first is that of the first change, is no change's
 pub record HasBadLine (lines : List (List ℕ)) (fault : Fault) : Type 0 where
   pub before : List (List ℕ)

@@ -16,7 +16,7 @@ pub enum Fault {
     /// 2: the first line is of another version.
     #[error("another version")]
     Version,
-    /// 3: this line, counted from 1, isn't what it should be.
+    /// 3: this line, counted from 1, is not what it should be, or is missing.
     #[error("damaged at line {0}")]
     Damaged(usize),
 }

@@ -28,7 +28,7 @@ pub use disk_store::DiskStore;
 pub use fault::{Fault, ReadFault};
 pub use header::Header;
 pub use memory_disk::{MemoryDisk, Trouble};
-pub use reading::{Loaded, load};
+pub use reading::{Loaded, load, load_header};
 pub use sealing::checksum;
 pub use silence::{Silence, why_silent};
 pub use store::{Broken, Store};

@@ -6,9 +6,10 @@ ghost use Rattle.std.specs.Map.{keys_of};
 ghost use Rattle.nbt_name.specs.Wire.{same_name};
 ghost use Rattle.nbt_lease.specs.Inner.Index.{members_of};
 ghost use Rattle.nbt_store.specs.declared.change.Change.{Change as ChangeValue};
+ghost use Rattle.nbt_store.specs.declared.header.Header.{Header as HeaderValue};
 ghost use Rattle.nbt_store.specs.Changes.{after_all};
 ghost use Rattle.nbt_store.specs.Lines.{AreRecords, line_number, version, whole_lines};
-ghost use Rattle.nbt_store.specs.Reading.{HasFront, IsBadLine, IsBadRest, IsLoaded, IsRefused, counted};
+ghost use Rattle.nbt_store.specs.Reading.{HasFront, HasHeader, HasNone, IsBadLine, IsBadRest, IsLoaded, IsRefused, counted};
 
 use crate::fault::{Fault, ReadFault};
 use crate::header::{Head, Header, read_head};
@@ -18,7 +19,7 @@ use indexmap::IndexMap;
 use nbt_lease::Lease;
 use nbt_name::Name;
 use nbt_text::{NEWLINE, split_at_first};
-use std::alloc::Global;
+use std::alloc::{AllocError, Global};
 
 /// The first line (our profile).
 const VERSION: &[u8] = b"nbt leases, version 2";
@@ -56,10 +57,23 @@ pub fn load(alloc: Global, octets: &[u8]) -> Result<Loaded, ReadFault>
     })
 }
 
+/// The header of a file, whatever stands behind its line; `None` where the first two lines can't be read. Refused where it is out of
+/// memory.
+pub fn load_header(alloc: Global, octets: &[u8]) -> Result<Option<Header>, AllocError>
+    ensures { IfOk result (λ found. MatchOption found ((h : HeaderValue) → ¬ HasHeader octets.now h) (HasHeader octets.now)) }
+{
+    match read_front(alloc, octets) {
+        Ok((head, _rest)) => Ok(Some(head.header)),
+        Err(ReadFault::File(_)) => Ok(None),
+        Err(ReadFault::Memory) => Err(AllocError),
+    }
+}
+
 /// Reads the first two lines; returns the head, and what stands behind them.
 fn read_front(alloc: Global, octets: &[u8]) -> Result<(Head, &[u8]), ReadFault>
     ensures front { IfOk result (λ p. HasFront octets.now p.0 p.1.now) }
     ensures refused { IfErr result (IsRefused octets.now) }
+    ensures none { IfErr result (HasNone octets.now) }
 {
     let Some((first, behind)) = next_line(octets) else {
         return Err(ReadFault::File(Fault::Empty));

@@ -17,7 +17,7 @@ use std::{fs, io, time};
 /// replaced locks nobody out.
 const LOCK_LINE: &[u8] = b"# lock of nbt nbns\n";
 
-/// The most octets of a file that are read: more than any store writes (our profile).
+/// A file has fewer octets: this is more than any store writes (our profile).
 const FILE_MOST: u64 = 1 << 26;
 
 /// Where Linux has the id of the boot.
@@ -93,7 +93,7 @@ impl<'a, R: Files<File = File>> SystemDisk<'a, R> {
     }
 }
 
-/// The octets of a file, which has less than 64 MiB.
+/// The octets of a file. Refused where it has 64 MiB or more.
 fn octets_of<R: Files>(machine: &R, alloc: Global, path: &str) -> io::Result<Vec<u8>> {
     let mut octets = Vec::new(alloc);
     File::open(machine, path)?
@@ -105,10 +105,10 @@ fn octets_of<R: Files>(machine: &R, alloc: Global, path: &str) -> io::Result<Vec
     Ok(octets)
 }
 
-/// Refused, with these words, where something stands that is no regular file and no link to one: who opens a pipe may wait for ever, and a
-/// device keeps nothing or has no end.
+/// Refused, with these words, where something stands that is no regular file: who opens a pipe may wait for ever, a device keeps nothing
+/// or has no end, and what a link leads to is somebody else's.
 fn check_kind<R: Files>(machine: &R, path: &str, why_not: &'static str) -> io::Result<()> {
-    match fs::metadata(machine, path) {
+    match fs::symlink_metadata(machine, path) {
         Ok(metadata) if metadata.is_file() => Ok(()),
         Ok(_) => Err(io::Error::other(why_not)),
         Err(error) if error.kind() == ErrorKind::NotFound => Ok(()),

@@ -1,6 +1,6 @@
 //! Lines as they are written.
 
-ghost use Rattle.std.specs.Prelude.{◌≡◌, ◌++◌, List, ℕ, [], ◌∷◌, OnOk, codes, map};
+ghost use Rattle.std.specs.Prelude.{◌≡◌, ◌++◌, List, ℕ, [], ◌∷◌, OnOk, codes, length, map};
 ghost use Rattle.std.specs.Fmt.{decimal};
 ghost use Rattle.std.specs.String.{string_bytes};
 ghost use Rattle.nbt_text.specs.Lines.{one_line, words as words_spoken};
@@ -56,6 +56,7 @@ pub fn write_file(
 ) -> Result<(), AllocError>
     requires { string_bytes out.old ≡ [] }
     ensures file { OnOk result (IsFile (string_bytes out.new) header.now (begun_all rows.now)) }
+    ensures counted { OnOk result (HaveLines (string_bytes out.new) (record { header = header.now; leases = length rows.now }) (begun_all rows.now)) }
     ensures closed { OnOk result (IsClosed (string_bytes out.new)) }
 {
     write_front(alloc, header, rows.len() as u64, out)?;

@@ -217,9 +217,13 @@ const OTHER_VERSION: &str = "nbt leases, version 1\n1000 60\n";
 
 const NO_HEADER: &str = "nbt leases, version 2\n1000 60\n";
 
+/// A file of a server with a longest lease of 300 s, of which the third line is none.
+const LONGER: &str =
+    "nbt leases, version 2\n1000 300 4096 dc20cc8a-d62e-419a-bf2b-a765f4dedd69 0 3070565 3070565 1795823748362 0 8d3c3b38\ngarbage\n";
+
 const CUT: &str = "nbt leases, versi";
 
-static BEGINS: [(There, Comes); 13] = [
+static BEGINS: [(There, Comes); 14] = [
     (
         There::NoFolder,
         Comes::Ends(
@@ -276,6 +280,13 @@ static BEGINS: [(There, Comes); 13] = [
             ": the old leases can't be set aside: Is a directory (os error 21)\n",
         ),
     ),
+    (
+        There::Leases(LONGER),
+        Comes::Ends(
+            "nbt: ",
+            ": a lease that was kept under a longer LONGEST may outlast a silence of 60 s: start with that LONGEST, or remove leases there when it has passed\n",
+        ),
+    ),
     (There::Used, Comes::Ends("nbt: another server uses ", "\n")),
     (
         There::Nothing,
@@ -303,7 +314,7 @@ fn put<R: AllocGlobal + Files>(rt: &R, folder: &str, there: There) -> Result<(),
     }
     match there {
         There::Folder(name) => put_folder(rt, folder, name),
-        There::Link(name) => Ok(symlink(rt, "/dev/zero", path_in(rt, folder, name)?.as_str())?),
+        There::Link(name) => Ok(symlink(rt, "nowhere", path_in(rt, folder, name)?.as_str())?),
         There::Leases(text) => put_leases(rt, folder, text),
         There::LeasesAndFolder(text) => {
             put_leases(rt, folder, text)?;
@@ -470,7 +481,8 @@ fn expect_locked<R: Abort + AllocGlobal + Net + time::Clock + Files<File = File>
 ) -> Result<(), Fail> {
     let (ended, errors) = run_over_lock(rt, folder)?;
     expect_eq(rt, &ended, &Err(Fault::Output));
-    let why = b"its first line isn't '# statistics of nbt nbns': remove that file first\n";
+    let why =
+        b"its first line isn't '# statistics of nbt nbns': choose another path, or remove that file\n";
     expect(rt, errors.as_slice().ends_with(why));
     let text = text_in(rt, folder, "lock")?;
     let text = text.as_ref().map(|text| text.as_str());

@@ -12,13 +12,15 @@ use std::alloc::Global;
 use std::process::Abort;
 use std::test::Fail;
 
-/// What is found: no file, these octets, or the file of a group whose members' leases end at these times. That was written at 77 by
-/// the server's clock, which was 7 ms ahead, when the time of day was `DAY`; the server began at 5.
+/// What is found: no file, these octets, or the file of a group whose members' leases end at these times, as it was written or with a
+/// line behind it that is none. It was written at 77 by the server's clock, which was 7 ms ahead, when the time of day was `DAY`; the
+/// server began at 5.
 #[derive(Clone, Copy, Debug)]
 enum File<'a> {
     None,
     Octets(&'a str),
     Ends(&'a [u64]),
+    Damaged(&'a [u64]),
 }
 
 /// Which case it is, what is found, whether in the same boot, what the clock reads and how much the time of day is later, whether it
@@ -210,24 +212,32 @@ fn write_found(
     match file {
         File::None => {}
         File::Octets(text) => out.push_str(text)?,
-        File::Ends(ends) => {
-            let mut rows = Vec::new(alloc);
-            let mut addr: u32 = 0x7F00_0001;
-            for end in ends {
-                addr = addr.saturating_add(1);
-                let lease = Lease {
-                    addr,
-                    kind: Kind::Group,
-                    end: *end,
-                };
-                rows.push((team()?, lease))?;
-            }
-            let header = Header::new(config, boot_of(true)?, 7, moment(5)?, moment(77)?, DAY);
-            let mut text = String::new(alloc);
-            write_file(alloc, &header, rows.as_slice(), &mut text)?;
-            out.push_str(text.as_str())?;
+        File::Ends(ends) => write_ends(alloc, config, ends, out)?,
+        File::Damaged(ends) => {
+            write_ends(alloc, config, ends, out)?;
+            out.push_str("garbage\n")?;
         }
     }
+    Ok(())
+}
+
+/// Writes the file of a group whose members' leases end at these times.
+fn write_ends(alloc: Global, config: Config, ends: &[u64], out: &mut String) -> Result<(), Fail> {
+    let mut rows = Vec::new(alloc);
+    let mut addr: u32 = 0x7F00_0001;
+    for end in ends {
+        addr = addr.saturating_add(1);
+        let lease = Lease {
+            addr,
+            kind: Kind::Group,
+            end: *end,
+        };
+        rows.push((team()?, lease))?;
+    }
+    let header = Header::new(config, boot_of(true)?, 7, moment(5)?, moment(77)?, DAY);
+    let mut text = String::new(alloc);
+    write_file(alloc, &header, rows.as_slice(), &mut text)?;
+    out.push_str(text.as_str())?;
     Ok(())
 }
 
@@ -286,7 +296,7 @@ fn servers_that_start_over_a_state(rt: HostRuntime) -> Result<(), Fail> {
 }
 
 /// Which case it is, the longest lease now, what is found, whether in the same boot, what the clock reads and how much the time of day
-/// is later; and whether a lease outlasts the silence of a server that begins then. The file is of a longest lease of 60 s.
+/// is later; and whether a lease may outlast the silence of a server that begins then. The file is of a longest lease of 60 s.
 type Shorter<'a> = (&'a str, u32, File<'a>, bool, u64, u64, bool);
 
 const SHORTER: &[Shorter<'static>] = &[
@@ -360,6 +370,42 @@ const SHORTER: &[Shorter<'static>] = &[
         File::Ends(&[60_077]),
         true,
         69,
+        0,
+        true,
+    ),
+    (
+        "a clock that went back, and no lease",
+        1,
+        File::Ends(&[]),
+        true,
+        69,
+        0,
+        false,
+    ),
+    (
+        "a file that is damaged behind its header",
+        59,
+        File::Damaged(&[]),
+        true,
+        3_600_000,
+        0,
+        true,
+    ),
+    (
+        "the same longest lease, and a damaged file",
+        60,
+        File::Damaged(&[60_077]),
+        true,
+        70,
+        0,
+        false,
+    ),
+    (
+        "a header that can't be read",
+        1,
+        File::Octets("nbt leases, version 2\ngarbage\n"),
+        true,
+        70,
         0,
         false,
     ),

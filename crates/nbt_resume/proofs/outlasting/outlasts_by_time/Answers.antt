@@ -11,5 +11,5 @@ returns-in-Ok c =
 pub returns-in-Err : goal.returns-in-Err
 returns-in-Err c =
     let loaded = c.args.loaded.now in
-    no_time c.args.found.now loaded.header c.with_limits-header.result loaded.rows.items c.get-monotonic.result c.get-day.result c.in-Err._why
-    c.requires c.with_limits-header.ensures c.get-monotonic.ensures.value c.get-day.ensures.value (sym c.why_silent.ensures ∙ c.in-Err.is)
+    no_time c.args.found.now loaded.header c.with_limits-header.result loaded.rows.items c.as_slice-in-Err.result.now c.get-monotonic.result c.get-day.result c.in-Err._why c.has_lease.result
+    c.requires c.with_limits-header.ensures c.get-monotonic.ensures.value c.get-day.ensures.value (sym c.why_silent.ensures ∙ c.in-Err.is) c.as_slice-in-Err.ensures.value c.has_lease.ensures
