@@ -8,7 +8,7 @@ use std::io::{ErrorKind, Write};
 use std::process::Abort;
 
 /// A pipe with this much room, to which a write that would wait is refused; then it has the room that its reader made meanwhile. Where it
-/// fails, it refuses each write so. It counts how often it was flushed.
+/// fails, it refuses each write and flush so. It counts how often it was flushed.
 #[derive(Drop)]
 struct Pipe {
     room: usize,
@@ -47,7 +47,10 @@ impl Write for Pipe {
 
     fn flush(&mut self) -> io::Result<()> {
         self.flushes = self.flushes.saturating_add(1);
-        Ok(())
+        match self.failure {
+            Some(kind) => Err(io::Error::from(kind)),
+            None => Ok(()),
+        }
     }
 }
 
@@ -105,7 +108,7 @@ type Handing = (&'static str, usize, Result<usize, ErrorKind>, &'static str);
 /// The first line is taken in two parts. While it waits, lines are refused, and it alone is handed on. Then each write is that of the pipe.
 static HANDED: [Handing; 10] = [
     ("serving ", 0, Ok(8), ""),
-    ("here\none\n", 0, Ok(5), ""),
+    ("here\none", 0, Ok(5), ""),
     ("two\n", 0, Err(ErrorKind::WouldBlock), ""),
     ("", 3, Ok(0), "ser"),
     ("three\n", 4, Err(ErrorKind::WouldBlock), "serving"),
@@ -152,7 +155,7 @@ fn a_first_line_without_room_stands_before_all_others(rt: HostRuntime) {
 }
 
 /// A reader makes room between a write of the first line and that of the next one, which is refused all the same, and the one after it is
-/// written behind the first line.
+/// written behind the first line. Then nothing waits, and a flush that fails is a failure.
 #[test]
 fn a_line_that_comes_as_room_is_made_waits_for_the_first(rt: HostRuntime) {
     let alloc: Global = rt.alloc();
@@ -164,6 +167,9 @@ fn a_line_that_comes_as_room_is_made_waits_for_the_first(rt: HostRuntime) {
     expect_eq(&rt, &"two", &hand(&mut lines, "two\n"), &Ok(4));
     let got = lines.get_mut().text.as_slice();
     expect_eq(&rt, &"in order", &got, &"serving\ntwo\n".as_bytes());
+    lines.get_mut().failure = Some(ErrorKind::BrokenPipe);
+    let closed = Err(ErrorKind::BrokenPipe);
+    expect_eq(&rt, &"flush", &hand(&mut lines, ""), &closed);
 }
 
 /// A pipe that fails otherwise refuses the first line at once, and each write after it. One that fails later refuses what waits.

@@ -1181,8 +1181,7 @@ fn is_content_refused(
     )
 }
 
-const ANOTHER: &str =
-    "its first line isn't '# live leases of nbt nbns': choose another path, or remove that file";
+const ANOTHER: &str = "its first line isn't '# live leases of nbt nbns': name another file";
 
 /// Whether a file of this text, which stands at a list's path or at that of the new file beside it, stays as it is.
 fn stays(rt: &HostRuntime, name: &str, end: &str, text: &str) -> Result<bool, Fail> {
@@ -1226,19 +1225,19 @@ const FIRST_LINES: [(Content, &str, &str, &str); 3] = [
         Content::Leases,
         "# live leases of nbt nbns\n",
         "# hosts of nbt nbns\n",
-        "its first line isn't '# live leases of nbt nbns': choose another path, or remove that file",
+        "its first line isn't '# live leases of nbt nbns': name another file",
     ),
     (
         Content::Hosts,
         "# hosts of nbt nbns\n",
         "# live leases of nbt nbns\n",
-        "its first line isn't '# hosts of nbt nbns': choose another path, or remove that file",
+        "its first line isn't '# hosts of nbt nbns': name another file",
     ),
     (
         Content::Stats,
         "# statistics of nbt nbns\n",
         "# hosts of nbt nbns\n192.0.2.7 FILER\n",
-        "its first line isn't '# statistics of nbt nbns': choose another path, or remove that file",
+        "its first line isn't '# statistics of nbt nbns': name another file",
     ),
 ];
 

@@ -61,8 +61,8 @@ fn kept<R: AllocGlobal + Files>(rt: &R, folder: &str) -> Result<usize, Fail> {
     Ok(load(rt.alloc(), text.as_bytes())?.rows.len())
 }
 
-/// More changes of a lease than a short file has.
-const MANY: usize = 1_100;
+/// More changes of a lease than a short file has, and than 64 KiB hold.
+const MANY: usize = 2_000;
 
 /// The lease moves so often that the file is long. Where a new file can't be written, since a device is there, the store says why it failed.
 fn expect_long<R: Abort + AllocGlobal + Files + time::Clock>(
@@ -155,11 +155,24 @@ fn set_aside<R: Abort + AllocGlobal + Files<File = File>>(
     Ok(())
 }
 
+/// All of a long file is read.
+fn expect_read<R: Abort + AllocGlobal + Files<File = File>>(
+    rt: &R,
+    disk: &SystemDisk<'_, R>,
+) -> Result<(), Fail> {
+    let octets = disk.read(rt.alloc())?.ok_or("no file")?;
+    expect(rt, octets.len() > 65_536);
+    let loaded = load(rt.alloc(), octets.as_slice())?;
+    expect_eq(rt, &loaded.rows.len(), &1);
+    Ok(())
+}
+
 fn expect_aside<R: Abort + AllocGlobal + Files<File = File>>(
     rt: &R,
     folder: &str,
 ) -> Result<(), Fail> {
     let mut disk = SystemDisk::open_folder(rt, rt.alloc(), folder)?;
+    expect_read(rt, &disk)?;
     set_aside(rt, folder, &mut disk, "one")?;
     set_aside(rt, folder, &mut disk, "two")
 }
@@ -190,13 +203,15 @@ fn the_boot_of_this_machine(rt: HostRuntime) -> Result<(), Fail> {
 enum There {
     /// There is no folder.
     NoFolder,
+    /// A file is there.
+    File,
     /// Nothing does.
     Nothing,
     /// Another has it.
     Used,
     /// A folder of this name.
     Folder(&'static str),
-    /// A link of this name, to a device that has no end.
+    /// A link of this name, to what isn't there.
     Link(&'static str),
     /// This is the text of its file of leases.
     Leases(&'static str),
@@ -223,12 +238,19 @@ const LONGER: &str =
 
 const CUT: &str = "nbt leases, versi";
 
-static BEGINS: [(There, Comes); 14] = [
+static BEGINS: [(There, Comes); 15] = [
     (
         There::NoFolder,
         Comes::Ends(
             "nbt: ",
             ": the folder can't be used: No such file or directory (os error 2)\n",
+        ),
+    ),
+    (
+        There::File,
+        Comes::Ends(
+            "nbt: ",
+            ": the folder can't be used: Not a directory (os error 20)\n",
         ),
     ),
     (
@@ -310,6 +332,7 @@ static BEGINS: [(There, Comes); 14] = [
 fn put<R: AllocGlobal + Files>(rt: &R, folder: &str, there: There) -> Result<(), Fail> {
     match there {
         There::NoFolder => return Ok(()),
+        There::File => return Ok(fs::write(rt, folder, "a file")?),
         _ => fs::create_dir(rt, folder)?,
     }
     match there {
@@ -430,8 +453,9 @@ fn what_a_server_finds_in_a_folder(rt: HostRuntime) -> Result<(), Fail> {
     let folder = path_for(&rt, "found")?;
     for row in &BEGINS {
         expect_row(&rt, row, folder.as_str())?;
-        // (a row may have no folder)
+        // (a row may have no folder, or a file there)
         let _ = fs::remove_dir_all(&rt, folder.as_str());
+        let _ = fs::remove_file(&rt, folder.as_str());
     }
     Ok(())
 }
@@ -481,8 +505,7 @@ fn expect_locked<R: Abort + AllocGlobal + Net + time::Clock + Files<File = File>
 ) -> Result<(), Fail> {
     let (ended, errors) = run_over_lock(rt, folder)?;
     expect_eq(rt, &ended, &Err(Fault::Output));
-    let why =
-        b"its first line isn't '# statistics of nbt nbns': choose another path, or remove that file\n";
+    let why = b"its first line isn't '# statistics of nbt nbns': name another file\n";
     expect(rt, errors.as_slice().ends_with(why));
     let text = text_in(rt, folder, "lock")?;
     let text = text.as_ref().map(|text| text.as_str());
