@@ -35,7 +35,7 @@ pub(crate) fn check_place<R: Files>(machine: &R, path: &str, content: Content) -
 /// Why a file with another first line stays.
 fn why_not(content: Content) -> &'static str {
     match content {
-        Content::Leases => { "its first line isn't '# live leases of nbt nbns': name another file" }
+        Content::Leases => "its first line isn't '# live leases of nbt nbns': name another file",
         Content::Hosts => "its first line isn't '# hosts of nbt nbns': name another file",
         Content::Stats => "its first line isn't '# statistics of nbt nbns': name another file",
     }
