@@ -1,5 +1,5 @@
 -- Whether a lease that was kept outlasts the silence of a server that begins anew (our profile).
-use Rattle.std.specs.Prelude.{◌≡◌, ◌↔◌, ℕ, ◌+◌, ◌<◌, ◌≤◌, Bool, false, IsTrue, List, length, Any, Some, None, Result, Ok, Err}
+use Rattle.std.specs.Prelude.{◌≡◌, ◌↔◌, ◌⊎◌, ℕ, ◌+◌, ◌<◌, ◌≤◌, Bool, true, false, IsTrue, List, Any, Some, None, Result, Ok, Err}
 use Rattle.std.specs.Borrow.{Bor}
 use Rattle.nbt_lease.specs.Config.{ConfigValue, milliseconds}
 use Rattle.nbt_lease.specs.Lease.{Rows}
@@ -23,12 +23,17 @@ ahead_now f h = going_on (with_limits f.config h) f.config f.boot.now f.monotoni
 abbrev pub speaks_anew : Found → (ahead : ℕ) → ℕ
 speaks_anew f ahead = f.monotonic + ahead + milliseconds f.config.longest
 
--- With this header and these rows: the longest lease was longer, and one of the leases ends after that, or may, since the time isn't
--- known.
+-- when the silence was over of the server that kept it; what was leased before that silence is in no file
+abbrev pub silent_until : Header → ℕ
+silent_until h = h.start + milliseconds h.longest
+
+-- With this header and these rows: the longest lease was longer, and one of the leases ends after that, or one from before its silence
+-- may; or the time isn't known.
 pub data OutlastsWith (f : Found) (h : Header) (rows : Rows) : Bool → Type 0 where
   not_longer : h.longest ≤ f.config.longest → OutlastsWith f h rows false
-  not_known : (why : Silence) (is : Bool) → f.config.longest < h.longest → ahead_now f h ≡ Err why → IsTrue is ↔ (0 < length rows) → OutlastsWith f h rows is
-  known : (ahead : ℕ) (is : Bool) → f.config.longest < h.longest → ahead_now f h ≡ Ok ahead → IsTrue is ↔ Any (λ row. speaks_anew f ahead < row.1.end) rows → OutlastsWith f h rows is
+  not_known : (why : Silence) → f.config.longest < h.longest → ahead_now f h ≡ Err why → OutlastsWith f h rows true
+  known : (ahead : ℕ) (is : Bool) → f.config.longest < h.longest → ahead_now f h ≡ Ok ahead
+      → IsTrue is ↔ ((speaks_anew f ahead < silent_until h) ⊎ Any (λ row. speaks_anew f ahead < row.1.end) rows) → OutlastsWith f h rows is
 
 -- Octets that are no file have lost such a lease, as far as their header tells: the longest lease was longer.
 pub data MayHaveLost (f : Found) (octets : List ℕ) : Bool → Type 0 where

@@ -1,9 +1,9 @@
 //! Whether a lease that was kept outlasts the silence of a server that begins anew.
 
-ghost use Rattle.std.specs.Prelude.{◌≡◌, ◌<◌, ◌↔◌, length, Any, IsTrue, IfOk, Ok};
+ghost use Rattle.std.specs.Prelude.{◌≡◌, ◌<◌, ◌≤◌, ◌↔◌, ◌⊎◌, Any, IsTrue, IfOk, Ok};
 ghost use Rattle.nbt_store.specs.declared.fault.Fault.{Fault as FaultSeen};
 ghost use Rattle.nbt_store.specs.declared.fault.ReadFault.TheVariants as read;
-ghost use Rattle.nbt_resume.specs.Outlasting.{ahead_now, speaks_anew, with_limits, MayHaveLost, OutlastsAs, OutlastsWith};
+ghost use Rattle.nbt_resume.specs.Outlasting.{ahead_now, silent_until, speaks_anew, with_limits, MayHaveLost, OutlastsAs, OutlastsWith};
 
 use crate::beginning::copy_of;
 use crate::resuming::Found;
@@ -16,9 +16,10 @@ use std::alloc::{AllocError, Global};
 const SECOND: u64 = 1_000;
 
 /// Whether a lease of what is found may end after the silence of a server that begins anew now, with the limits of `found`: such a
-/// server could grant its name to another while it lives. It is said only of what was kept under a longer longest lease: of a lease
-/// that ends later; of any where the time since the file was written isn't known; and of a file that can't be loaded, as far as its
-/// header can, since a lease of it may be lost. Refused where it is out of memory.
+/// server could grant its name to another while it lives. It is said only of what was kept under a longer longest lease: where a lease
+/// ends later; where the silence of the server that kept it does, since what was leased before that is in no file; where the time since
+/// the file was written isn't known; and where the file can't be loaded, but its header can, since a lease of it may be lost. Refused
+/// where it is out of memory.
 pub fn outlasts(alloc: Global, found: &Found<'_>) -> Result<bool, AllocError>
     ensures { IfOk result (OutlastsAs found.now) }
 {
@@ -82,8 +83,8 @@ fn outlasts_by_time(found: &Found<'_>, loaded: &Loaded) -> bool
     let monotonic = found.monotonic.get();
     let day = found.day.get();
     match why_silent(&header, found.config, found.boot, monotonic, day, false) {
-        Ok(ahead) => has_after(loaded.rows.as_slice(), speaks_anew(found, loaded, ahead)),
-        Err(_why) => has_lease(loaded.rows.as_slice()),
+        Ok(ahead) => outlasts_at(loaded, speaks_anew(found, loaded, ahead)),
+        Err(_why) => true,
     }
 }
 
@@ -106,16 +107,26 @@ fn with_limits(config: Config, header: &Header) -> Header
 /// When the silence of a server ends that begins anew now, by a clock that is so much ahead.
 fn speaks_anew(found: &Found<'_>, loaded: &Loaded, ahead: u64) -> u64
     requires { ahead_now found.now loaded.now.header ≡ Ok ahead }
-    ensures { result ≡ speaks_anew found.now ahead }
+    ensures speaks { result ≡ speaks_anew found.now ahead }
+    ensures begun { loaded.now.header.start ≤ result }
 {
     found.monotonic.get() + ahead + SECOND * u64::from(found.config.longest())
 }
 
-/// Whether there is a lease.
-fn has_lease(rows: &[(Name, Lease)]) -> bool
-    ensures { IsTrue result ↔ (0 < length rows.now) }
+/// Whether a lease may end after this time: one that was loaded, or one from before the silence of the server that kept it.
+fn outlasts_at(loaded: &Loaded, time: u64) -> bool
+    requires { loaded.now.header.start ≤ time }
+    ensures { IsTrue result ↔ ((time < silent_until loaded.now.header) ⊎ Any (λ row. time < row.1.end) loaded.now.rows.items) }
 {
-    !rows.is_empty()
+    is_silent_after(&loaded.header, time) || has_after(loaded.rows.as_slice(), time)
+}
+
+/// Whether the silence of the server that kept it ended after this time.
+fn is_silent_after(header: &Header, time: u64) -> bool
+    requires { header.now.start ≤ time }
+    ensures { IsTrue result ↔ (time < silent_until header.now) }
+{
+    (time - header.start) / SECOND < header.longest
 }
 
 /// Whether one of the leases ends after this time.
